@@ -1,0 +1,36 @@
+-- Imprints as lists of bytes.
+use Rattle.std.specs.Prelude.{◌≡◌, ◌≢◌, ℕ, ◌%◌, List, [], ◌∷◌, ◌++◌, length, replicate, slice_index, sum, refl}
+use Rattle.std.proofs.Common.{arith}
+use Rattle.sha2.specs.Sha256.{sha256}
+use Rattle.sha2.proofs.Facts256.{length-sha256}
+use Rattle.ksi_imprint.specs.declared.clash.Clash.{Clash}
+
+-- 33 bytes, the first of them that of SHA-256
+pub record IsImprint (bytes : List ℕ) : Type 0 where
+  pub algorithm : slice_index bytes 0 ≡ 1
+  pub size : length bytes ≡ 33
+
+-- SHA-256 (FIPS 180-4) of bytes, behind its algorithm byte
+abbrev pub imprint_of : List ℕ → List ℕ
+imprint_of bytes = 1 ∷ sha256 bytes
+
+-- 32 zero bytes behind the algorithm byte
+abbrev pub zero_imprint : List ℕ
+zero_imprint = 1 ∷ replicate 32 0
+
+-- what is hashed where two parts are joined at a level: the one, the other and the level in one byte
+abbrev pub join_text : List ℕ → List ℕ → ℕ → List ℕ
+join_text left right level = left ++ right ++ level ∷ []
+
+-- the sum of the bytes, modulo 256, as a digest whose other bytes are zero
+abbrev pub tiny_imprint : List ℕ → List ℕ
+tiny_imprint bytes = 1 ∷ sum bytes % 256 ∷ replicate 31 0
+
+-- two different strings with one image
+pub record IsClash (image : List ℕ → List ℕ) (clash : Clash) : Type 0 where
+  pub differ : clash.one ≢ clash.two
+  pub same : image clash.one ≡ image clash.two
+
+-- SHA-256 gives imprints: its digests have 32 bytes
+pub IsImprint-imprint_of : (bytes : List ℕ) → IsImprint (imprint_of bytes)
+IsImprint-imprint_of bytes = record { algorithm = refl; size = omega (arith, length-sha256 bytes) }

@@ -1,0 +1,2 @@
+pub mod Imprints
+pub mod Reading

@@ -1,0 +1,8 @@
+use crate::bytes::Bytes;
+
+/// Two different strings with one imprint. Each answer that has a clash says by `IsClash` of which hash function.
+#[derive(Drop, Debug)]
+pub struct Clash {
+    pub one: Bytes,
+    pub two: Bytes,
+}
