@@ -1,14 +1,14 @@
 -- Decoding pairs of digits, against the definition of an imprint in hex.
-use Rattle.std.proofs.Common.{◌≡◌, ◌≢◌, ℕ, zero, suc, ◌+◌, ◌*◌, ◌/◌, ◌%◌, Bool, true, false, not, List, [], ◌∷◌, length, drop, slice_index, Option, Some, None, Result, Ok, Err, unwrap_or, is_some, refl, sym, ap, ◌∙◌, arith}
+use Rattle.std.proofs.Common.{◌≡◌, ◌≢◌, ℕ, ◌+◌, ◌*◌, ◌%◌, Bool, not, List, [], ◌∷◌, length, drop, slice_index, Option, Some, None, Result, Ok, Err, refl, sym, ap, ◌∙◌, arith}
 use Rattle.std.proofs.lemmas.Bool.{ne_eqb}
 use Rattle.std.specs.Prelude.{MatchResult}
 use Rattle.std.specs.List.{position_from}
-use Rattle.hex.specs.Hex.{IsBytes, decode_pairs, decode_sized, digit_or_error, encode_lower, hex_digit_value, is_hex_digit, lower_digits, pair_value, value_at, ◌>>=◌}
+use Rattle.hex.specs.Hex.{IsBytes, decode_pairs, decode_sized, encode_lower, hex_digit_value, is_hex_digit, lower_digits, ◌>>=◌}
 use Rattle.hex.specs.declared.error.FromHexError.{FromHexError}
 use Rattle.hex.specs.declared.error.FromHexError.TheVariants.{InvalidHexCharacter, OddLength, InvalidStringLength, OutOfMemory}
 use Rattle.hex.proofs.HexLemmas.{decode_pairs-encode_with, IsDigits-lower_digits, length-encode_with}
 use Rattle.hex.proofs.Pairs.{decode_sized-pairs}
-use Rattle.ksi_imprint.specs.Reading.{digit_value, hex_bytes, digits_at, hex_at, digit_fault_of}
+use Rattle.ksi_imprint.specs.Reading.{hex_bytes, digits_at, hex_at, digit_fault_of}
 use Rattle.ksi_imprint.specs.declared.fault.HexFault.{HexFault}
 use Rattle.ksi_imprint.specs.declared.fault.HexFault.TheVariants.{Digit, Length}
 

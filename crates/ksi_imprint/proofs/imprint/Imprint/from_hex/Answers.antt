@@ -1,5 +1,4 @@
-use Rattle.std.proofs.Common.{◌∙◌, sym, ap, arith, length, ℕ, List, ◌≡◌, Ok, Err, Result}
-use Rattle.hex.specs.Hex.{decode_sized}
+use Rattle.std.proofs.Common.{◌∙◌, sym, ap, Ok, Err}
 use Rattle.ksi_imprint.proofs.HexDigits.{hex_at-length, hex_at-decoded, hex_at-refused, decoded_by, refused_by_decoder}
 use Rattle.ksi_imprint.proofs.imprint.Imprint.from_hex.Goals as goal
 
