@@ -1,8 +1,6 @@
 -- Imprints as lists of bytes.
-use Rattle.std.specs.Prelude.{◌≡◌, ◌≢◌, ℕ, ◌%◌, List, [], ◌∷◌, ◌++◌, length, replicate, slice_index, sum, refl}
-use Rattle.std.proofs.Common.{arith}
+use Rattle.std.specs.Prelude.{◌≡◌, ◌≢◌, ℕ, ◌%◌, List, [], ◌∷◌, ◌++◌, length, replicate, slice_index, sum}
 use Rattle.sha2.specs.Sha256.{sha256}
-use Rattle.sha2.proofs.Facts256.{length-sha256}
 use Rattle.ksi_imprint.specs.declared.clash.Clash.{Clash}
 
 -- 33 bytes, the first of them that of SHA-256
@@ -30,7 +28,3 @@ tiny_imprint bytes = 1 ∷ sum bytes % 256 ∷ replicate 31 0
 pub record IsClash (image : List ℕ → List ℕ) (clash : Clash) : Type 0 where
   pub differ : clash.one ≢ clash.two
   pub same : image clash.one ≡ image clash.two
-
--- SHA-256 gives imprints: its digests have 32 bytes
-pub IsImprint-imprint_of : (bytes : List ℕ) → IsImprint (imprint_of bytes)
-IsImprint-imprint_of bytes = record { algorithm = refl; size = omega (arith, length-sha256 bytes) }

@@ -1,5 +1,7 @@
-ghost use Rattle.std.specs.Prelude.{◌≡◌, ◌∷◌, ◌+◌, ◌%◌, ℕ, List, replicate, sum, refl};
-ghost use Rattle.ksi_imprint.specs.Imprints.{IsImprint, imprint_of, join_text, tiny_imprint, IsImprint-imprint_of};
+ghost use Rattle.std.specs.Prelude.{◌≡◌, ◌∷◌, ◌+◌, ◌%◌, ℕ, suc, List, replicate, sum, refl};
+ghost use Rattle.std.proofs.Common.{ap};
+ghost use Rattle.sha2.proofs.Facts256.{length-sha256};
+ghost use Rattle.ksi_imprint.specs.Imprints.{IsImprint, imprint_of, join_text, tiny_imprint};
 
 use crate::imprint::Imprint;
 use sha2::{Digest, Sha256};
@@ -40,7 +42,7 @@ impl Compress for Sha {
         Imprint::of_digest(&Sha256::digest(bytes))
     }
 
-    ghost gives_imprints = { IsImprint-imprint_of };
+    ghost gives_imprints = { λ bytes. record { algorithm = refl; size = ap suc (length-sha256 bytes) } };
 }
 
 /// The sum of the bytes, modulo 256, and 31 zero bytes: a function whose clashes a test can find.
