@@ -1,0 +1,5 @@
+pub mod Powers
+pub mod Ways
+pub mod Parts
+pub mod Trees
+pub mod Layout
