@@ -4,7 +4,7 @@ use Rattle.std.proofs.lemmas.List.{length-take-le, take-append-drop}
 use Rattle.ksi_split.specs.declared.side.Side.{Side}
 use Rattle.ksi_split.specs.declared.side.Side.TheVariants.{Left, Right}
 use Rattle.ksi_split.specs.Powers.{split_of}
-use Rattle.ksi_split.specs.Trees.{way_of}
+use Rattle.ksi_split.specs.Ways.{way_of}
 use Rattle.ksi_split.specs.Ways.{IsWay, Begins, LeadsTo, IsSecond, PassesLeaf}
 use Rattle.ksi_split.specs.Parts.{Part, half_of, part_at}
 use Rattle.ksi_split.proofs.Powers.{eq_cases, below_power, split_is}
@@ -161,7 +161,7 @@ passed_right sides place n at some r =
       leaf = r.leaf + split_of n;
       within = omega (arith, r.within, s.below);
       way = way_right (r.leaf + split_of n) n some (omega arith) ∙ ap (λ (i : ℕ). Right ∷ way_of i (n - split_of n)) less
-        ∙ ap (λ (w : List Side). Right ∷ w) r.way ∙ ap (λ (i : ℕ). take i (Right ∷ sides)) (sym one);
+          ∙ ap (λ (w : List Side). Right ∷ w) r.way ∙ ap (λ (i : ℕ). take i (Right ∷ sides)) (sym one);
     }
 
 is_passed : (sides : List Side) (place first n at : ℕ) → 0 < n → part_at place (part_of first n) sides ≡ passed at → IsPassed place n sides at

@@ -3,7 +3,7 @@ use Rattle.std.proofs.Common.{◌≡◌, ℕ, zero, suc, ◌-◌, ◌^◌, ◌<�
 use Rattle.ksi_split.specs.declared.side.Side.{Side}
 use Rattle.ksi_split.specs.declared.side.Side.TheVariants.{Left, Right}
 use Rattle.ksi_split.specs.Powers.{split_of}
-use Rattle.ksi_split.specs.Trees.{way_of}
+use Rattle.ksi_split.specs.Ways.{way_of}
 use Rattle.ksi_split.specs.Ways.{IsWay}
 use Rattle.ksi_split.proofs.Powers.{lt_cases, below_power, split_is, split_some, split_only}
 use Rattle.ksi_split.proofs.Ways.{way_one, way_left, way_right, parts_fit}

@@ -4,7 +4,7 @@ use Rattle.std.proofs.lemmas.Bool.{ltb-false, ltb-true, eqb-true, eqb-false}
 use Rattle.std.proofs.lemmas.Nat.{mul-le, shr-shr}
 use Rattle.std.proofs.Math.Nat.{pow-suc, pow-le-pow_right}
 use Rattle.ksi_split.specs.Powers.{split_within, split_of, high_bit_of, IsSplit, IsHighBit}
-use Rattle.ksi_split.specs.Trees.{halves}
+use Rattle.ksi_split.specs.Upward.{halves}
 
 -- a test and its meaning
 pub lt_cases : (a b : ℕ) → ((ltb a b ≡ true) × (a < b)) ⊎ ((ltb a b ≡ false) × (b ≤ a))

@@ -2,7 +2,7 @@
 use Rattle.std.proofs.Common.{◌≡◌, ℕ, ◌+◌, ◌-◌, ◌≤◌, List, ◌++◌, Result, Ok, Err, refl, ap, ◌∙◌, arith, inl, inr, append-nil}
 use Rattle.ksi_split.specs.declared.side.Side.{Side}
 use Rattle.ksi_split.specs.declared.fault.ShapeFault.{ShapeFault}
-use Rattle.ksi_split.specs.Trees.{way_of}
+use Rattle.ksi_split.specs.Ways.{way_of}
 use Rattle.ksi_split.specs.Parts.{Part, part_at, second_in, second_at}
 use Rattle.ksi_split.proofs.Powers.{eq_cases, below_power}
 use Rattle.ksi_split.proofs.Ways.{part_of, way_leads, way_one}

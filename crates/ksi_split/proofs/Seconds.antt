@@ -1,15 +1,15 @@
 -- The second that sides name, or why they name none, by their ways.
-use Rattle.std.proofs.Common.{◌≡◌, ◌≢◌, ℕ, ◌+◌, ◌-◌, ◌<◌, ◌≤◌, ◌⊎◌, ◌↔◌, List, Result, Ok, Err, refl, sym, ap, ◌∙◌, subst, arith, inl, inr}
+use Rattle.std.proofs.Common.{◌≡◌, ◌≢◌, ℕ, ◌+◌, ◌-◌, ◌<◌, ◌≤◌, ◌⊎◌, ◌↔◌, List, [], ◌∷◌, ◌++◌, Result, Ok, Err, refl, sym, ap, ◌∙◌, subst, arith, inl, inr, append-nil}
 use Rattle.ksi_split.specs.declared.side.Side.{Side}
 use Rattle.ksi_split.specs.declared.fault.ShapeFault.{ShapeFault}
 use Rattle.ksi_split.specs.declared.fault.ShapeFault.TheVariants.{TooMany, TooFew}
-use Rattle.ksi_split.specs.Ways.{IsWay, LeadsTo, IsSecond, PassesLeaf, EndsAbove}
+use Rattle.ksi_split.specs.Ways.{IsWay, Begins, LeadsTo, IsSecond, PassesLeaf, EndsAbove}
 use Rattle.ksi_split.specs.Parts.{Part, part_at, second_in, second_at}
 use Rattle.ksi_split.proofs.Powers.{eq_cases}
 use Rattle.ksi_split.proofs.Ways.{part_of}
 use Rattle.ksi_split.proofs.Second.{second_names, second_is}
 use Rattle.ksi_split.proofs.Leaves.{word_is, way_is}
-use Rattle.ksi_split.proofs.Fronts.{passes, passed_at, part_leaves, part_is}
+use Rattle.ksi_split.proofs.Fronts.{found, passed, passes, passed_at, part_leaves, part_is, ends_there, stays_passed, way_to}
 
 abbrev pub named : ℕ → Result ℕ ShapeFault
 named t = Ok t
@@ -80,6 +80,35 @@ some_answer p sides = of (second_at p sides) refl
     of (Ok t) e = inl (t, is_second p t sides e)
     of (Err (TooMany place)) e = inr (inl (place, is_passing p place sides e))
     of (Err (TooFew rest)) e = inr (inr (rest, is_above p rest sides e))
+
+-- ---- fronts of ways
+
+pub some_goes_on : (p rest : ℕ) (sides : List Side) → EndsAbove p sides rest → (t : ℕ) × (side : Side) × (more : List Side) × IsWay t (p + 1) (sides ++ side ∷ more)
+some_goes_on p rest sides h = of one.0 one.1
+  where
+    one : Begins h.first (p + 1) sides
+    one = (h.part.leaves h.first).1 (omega arith, omega arith)
+
+    apart : (t : ℕ) → second_at p sides ≡ named t → second_at p sides ≡ too_few rest → ⊥
+    apart t e f = cc
+
+    of : (more : List Side) → IsWay h.first (p + 1) (sides ++ more) → (t : ℕ) × (side : Side) × (more : List Side) × IsWay t (p + 1) (sides ++ side ∷ more)
+    of [] way =
+        let whole = subst (IsWay h.first (p + 1)) (append-nil sides) way in
+        let t = h.first in
+        let w = word_is sides h.first (p + 1) whole in
+        absurd (apart h.first (second_found p h.first sides (record { within = omega (arith, w.within); way = whole })) (above_found p rest sides h))
+    of (side ∷ more) way = (h.first, side, more, way)
+
+pub front_above : (p t : ℕ) (side : Side) (sides more : List Side) → IsWay t (p + 1) (sides ++ side ∷ more) → (rest : ℕ) × EndsAbove p sides rest
+front_above p t side sides more way = elim (some_answer p sides) [
+  | inl s ↦ (let none = ends_there s.0 t (p + 1) sides (side ∷ more) s.1.way way in absurd cc)
+  | inr (inl q) ↦ absurd (apart q.0 (stays_passed sides (side ∷ more) 0 (part_of 0 (p + 1)) q.0 (passed_at p q.0 sides q.1)) (way_to t (p + 1) (sides ++ side ∷ more) way))
+  | inr (inr above) ↦ above
+]
+  where
+    apart : (place : ℕ) → part_at 0 (part_of 0 (p + 1)) (sides ++ side ∷ more) ≡ passed place → part_at 0 (part_of 0 (p + 1)) (sides ++ side ∷ more) ≡ found (part_of t 1) → ⊥
+    apart place e f = cc
 
 -- ---- both ways, for any value that is the computed one
 

@@ -5,7 +5,8 @@ use Rattle.std.proofs.lemmas.List.{drop_more}
 use Rattle.std.proofs.Math.ListN.{drop_of_length-le}
 use Rattle.ksi_split.specs.declared.side.Side.{Side}
 use Rattle.ksi_split.specs.declared.side.Side.TheVariants.{Left, Right}
-use Rattle.ksi_split.specs.Trees.{way_within, way_of, tree, node_in}
+use Rattle.ksi_split.specs.Trees.{tree, node_in}
+use Rattle.ksi_split.specs.Ways.{way_within, way_of}
 use Rattle.ksi_split.specs.Powers.{split_of}
 use Rattle.ksi_split.specs.Parts.{Part, half_of, part_at, second_in}
 use Rattle.ksi_split.proofs.Powers.{lt_cases, le_cases, eq_cases, below_power, doubled, split_at, split_is, split_exponent, exponents}

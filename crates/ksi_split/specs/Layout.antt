@@ -26,5 +26,5 @@ way_with-sides_in way h =
     let count : length (take way.count way.sides) ≡ way.count = length-take-le way.count way.sides (omega (arith, h.few, h.room)) in
     let left : replicate (63 - length (take way.count way.sides)) Left ≡ drop way.count way.sides = ap (λ (k : ℕ). replicate (63 - k) Left) count ∙ sym h.filled in
     let sides : take way.count way.sides ++ replicate (63 - length (take way.count way.sides)) Left ≡ way.sides
-        = ap (λ (more : List Side). take way.count way.sides ++ more) left ∙ take-append-drop way.count way.sides in
+    = ap (λ (more : List Side). take way.count way.sides ++ more) left ∙ take-append-drop way.count way.sides in
     λ i. record { sides = sides i; count = count i }

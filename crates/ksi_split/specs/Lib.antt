@@ -2,4 +2,5 @@ pub mod Powers
 pub mod Ways
 pub mod Parts
 pub mod Trees
+pub mod Upward
 pub mod Layout

@@ -1,5 +1,5 @@
 -- Ways: the sides from the top of a tree to its leaves, and what sides tell that are not a way.
-use Rattle.std.specs.Prelude.{◌≡◌, ℕ, ◌+◌, ◌-◌, ◌<◌, ◌≤◌, ◌↔◌, List, [], ◌∷◌, ◌++◌, take, length}
+use Rattle.std.specs.Prelude.{◌≡◌, ℕ, zero, suc, ◌+◌, ◌-◌, ◌^◌, ◌<◌, ◌≤◌, ◌↔◌, nat_lt, if◌then◌else◌, List, [], ◌∷◌, ◌++◌, take, length}
 use Rattle.ksi_split.specs.Powers.{IsSplit}
 use Rattle.ksi_split.specs.declared.side.Side.{Side}
 use Rattle.ksi_split.specs.declared.side.Side.TheVariants.{Left, Right}
@@ -10,6 +10,15 @@ abbrev pub IsWay : ℕ → ℕ → List Side → Type 0
 IsWay t n [] = (n ≡ 1) × (t ≡ 0)
 IsWay t n (Left ∷ sides) = (k : ℕ) × IsSplit n k × (t < k) × IsWay t k sides
 IsWay t n (Right ∷ sides) = (k : ℕ) × IsSplit n k × (k ≤ t) × IsWay (t - k) (n - k) sides
+
+-- the way to leaf t of n leaves, computed: there are at most 2 ^ k leaves
+unfoldable pub way_within : ℕ → ℕ → ℕ → List Side
+way_within zero t n = []
+way_within (suc k) t n = if nat_lt (2 ^ k) n then (if nat_lt t (2 ^ k) then Left ∷ way_within k t (2 ^ k) else Right ∷ way_within k (t - 2 ^ k) (n - 2 ^ k)) else way_within k t n
+
+-- the way to leaf t of n leaves, computed
+unfoldable pub way_of : ℕ → ℕ → List Side
+way_of t n = way_within n t n
 
 -- the way to leaf t of n leaves begins with the sides
 abbrev pub Begins : ℕ → ℕ → List Side → Type 0

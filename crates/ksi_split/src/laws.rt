@@ -2,7 +2,7 @@
 //! does anything.
 ghost use Rattle.std.specs.Prelude.{◌≡◌, ◌<◌, ◌≤◌, ◌+◌, ◌-◌, ◌^◌, ◌↔◌, ◌⊎◌, ℕ, List, [], ◌∷◌, ◌++◌, length, Result};
 ghost use Rattle.ksi_split.specs.Powers.{IsSplit, IsHighBit, split_of, high_bit_of};
-ghost use Rattle.ksi_split.specs.Trees.{way_of};
+ghost use Rattle.ksi_split.specs.Ways.{way_of};
 ghost use Rattle.ksi_split.specs.Ways.{IsWay, Begins, LeadsTo, IsSecond, PassesLeaf, EndsAbove};
 ghost use Rattle.ksi_split.specs.Parts.{Part, part_at, second_at};
 ghost use Rattle.ksi_split.specs.declared.side.Side.{Side};
@@ -40,13 +40,21 @@ pub fn short_ways()
     ensures { (t n k : ℕ) (sides : List Side) → n ≤ 2 ^ k → IsWay t n sides → length sides ≤ k }
 {}
 
-/// The part that sides lead to, going down from the top, has exactly the leaves whose ways begin with the sides. So
-/// has it where they are known to lead to a part.
+/// The part that `part_at` comes to, going down from the top, has exactly the leaves whose ways begin with the sides;
+/// and where some leaves have such ways, it comes to their part.
 pub fn parts()
     ensures leaves { (n : ℕ) (sides : List Side) (part : Part) → 0 < n →
         part_at 0 (record { first = 0; count = n }) sides ≡ Ok part → LeadsTo n sides part.first part.count }
     ensures only { (n first count : ℕ) (sides : List Side) → LeadsTo n sides first count →
         part_at 0 (record { first = 0; count = n }) sides ≡ Ok (record { first = first; count = count }) }
+{}
+
+/// Sides end above a second exactly where some way goes on from them.
+pub fn proper_fronts()
+    ensures goes_on { (p rest : ℕ) (sides : List Side) → EndsAbove p sides rest →
+        (t : ℕ) × (side : Side) × (more : List Side) × IsWay t (p + 1) (sides ++ side ∷ more) }
+    ensures ends_above { (p t : ℕ) (side : Side) (sides more : List Side) → IsWay t (p + 1) (sides ++ side ∷ more) →
+        (rest : ℕ) × EndsAbove p sides rest }
 {}
 
 /// Any sides are the way to a second, or pass one, or end above one, and `second_at` says which.

@@ -25,6 +25,7 @@ mod sides;
 mod step;
 #[cfg(test)]
 mod tests;
+pub mod trees;
 mod walk;
 
 pub use fault::ShapeFault;

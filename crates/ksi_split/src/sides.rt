@@ -3,9 +3,6 @@ ghost use Rattle.std.specs.Prelude.{◌≡◌, ◌+◌, ◌<◌, [], ◌∷◌, 
 use crate::side::Side;
 use std::marker::Model;
 
-/// The most sides that a way has.
-pub(crate) const MOST: usize = 63;
-
 /// The sides from the top of a tree to a leaf, at most 63. A contract sees a way as the list of its sides.
 #[derive(Clone, Copy, PartialEq, Eq, Debug)]
 pub struct Way {

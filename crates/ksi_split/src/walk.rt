@@ -1,5 +1,5 @@
 ghost use Rattle.std.specs.Prelude.{◌≡◌, ◌<◌, ◌≤◌, ◌+◌, ◌^◌, ◌↔◌, ℕ, length};
-ghost use Rattle.ksi_split.specs.Trees.{way_of};
+ghost use Rattle.ksi_split.specs.Ways.{way_of};
 ghost use Rattle.ksi_split.specs.Ways.{IsWay, IsSecond, PassesLeaf, EndsAbove};
 ghost use Rattle.ksi_split.specs.Parts.{second_at};
 ghost use Rattle.ksi_split.specs.declared.fault.ShapeFault.TheVariants.{TooMany, TooFew};

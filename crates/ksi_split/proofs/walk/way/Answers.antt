@@ -2,7 +2,7 @@ use Rattle.std.proofs.Common.{◌≡◌, ◌+◌, ◌-◌, ◌^◌, ◌<◌, ◌
 use Rattle.ksi_split.specs.declared.side.Side.{Side}
 use Rattle.ksi_split.specs.declared.side.Side.TheVariants.{Left, Right}
 use Rattle.ksi_split.specs.Ways.{IsWay}
-use Rattle.ksi_split.specs.Trees.{way_of}
+use Rattle.ksi_split.specs.Ways.{way_of}
 use Rattle.ksi_split.specs.Powers.{split_of}
 use Rattle.ksi_split.proofs.Powers.{split_is}
 use Rattle.ksi_split.proofs.Ways.{way_one, way_left, way_right, parts_fit}
@@ -30,7 +30,7 @@ loop-size-preserved-then-at-half c =
     let less : 63 - length sides - 1 ≡ 63 - length new = omega arith in
     record {
       so_far = rw half (goes_on sides new Left (way_of at (split_of size)) (way_of at size) (way_of c.args.t c.args.n) c.push.ensures inv.so_far
-        (way_left at size c.loop-size-test.true (omega (arith, c.if-at-half.true))));
+          (way_left at size c.loop-size-test.true (omega (arith, c.if-at-half.true))));
       within = c.if-at-half.true;
       few = rw (← less, half) fit.1;
       count = omega (arith, fit.0);
@@ -49,7 +49,7 @@ loop-size-preserved c =
     let less : 63 - length sides - 1 ≡ 63 - length new = omega arith in
     record {
       so_far = rw half (goes_on sides new Right (way_of (at - split_of size) (size - split_of size)) (way_of at size) (way_of c.args.t c.args.n) c.push-else-at-half.ensures inv.so_far
-        (way_right at size c.loop-size-test.true (omega (arith, c.if-at-half.false))));
+          (way_right at size c.loop-size-test.true (omega (arith, c.if-at-half.false))));
       within = omega (arith, inv.within, c.if-at-half.false, c.split-half.ensures.below);
       few = rw (← less, half) fit.2;
       count = omega (arith, fit.0);

@@ -1,5 +1,5 @@
 use Rattle.std.proofs.Common.{◌-◌, ◌^◌, ◌<◌, ◌≤◌, ◌++◌, length, ◌≡◌}
-use Rattle.ksi_split.specs.Trees.{way_of}
+use Rattle.ksi_split.specs.Ways.{way_of}
 use Rattle.ksi_split.proofs.walk.way.Given as goal
 
 abbrev pub invariant-loop-size : goal.invariant-loop-size

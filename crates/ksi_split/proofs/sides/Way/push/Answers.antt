@@ -15,5 +15,5 @@ invariant_of-self c =
       few = omega arith;
       room = length-set sides count c.args.side ∙ h.room;
       filled = drop-set-lt (count + 1) sides count c.args.side (omega arith) ∙ sym (drop-drop 1 count sides) ∙ ap (drop 1) h.filled
-        ∙ drop-replicate 1 (63 - count) Left ∙ ap (λ (k : ℕ). replicate k Left) (let e : 63 - count - 1 ≡ 63 - (count + 1) = omega arith in e);
+          ∙ drop-replicate 1 (63 - count) Left ∙ ap (λ (k : ℕ). replicate k Left) (let e : 63 - count - 1 ≡ 63 - (count + 1) = omega arith in e);
     }
