@@ -29,11 +29,12 @@ path_within join leaf (suc k) lo t n =
 unfoldable pub path_of : {A : Type 0} → (A → A → A) → (ℕ → A) → ℕ → ℕ → ℕ → List (Step A)
 path_of join leaf lo t n = path_within join leaf n lo t n
 
--- where steps lead from a node
+-- where one step leads from a node, by the side that the node has
 abbrev pub step_from : {A : Type 0} → (A → A → A) → A → Step A → Side → A
 step_from join x s Left = join x s.sibling
 step_from join x s Right = join s.sibling x
 
+-- where steps lead from a node, the lowest first
 abbrev pub climb_steps : {A : Type 0} → (A → A → A) → A → List (Step A) → A
 climb_steps join x [] = x
 climb_steps join x (s ∷ steps) = climb_steps join (step_from join x s s.side) steps

@@ -1,13 +1,11 @@
 //! What holds of splits, ways and the second that sides name, for the layers above to cite. None of these functions
 //! does anything.
-ghost use Rattle.std.specs.Prelude.{◌≡◌, ◌<◌, ◌≤◌, ◌+◌, ◌-◌, ◌^◌, ◌↔◌, ◌⊎◌, ℕ, List, [], ◌∷◌, ◌++◌, length, Result};
+ghost use Rattle.std.specs.Prelude.{◌≡◌, ◌<◌, ◌≤◌, ◌+◌, ◌-◌, ◌^◌, ◌↔◌, ◌⊎◌, ℕ, List, [], ◌∷◌, ◌++◌, length};
 ghost use Rattle.ksi_split.specs.Powers.{IsSplit, IsHighBit, split_of, high_bit_of};
-ghost use Rattle.ksi_split.specs.Ways.{way_of};
-ghost use Rattle.ksi_split.specs.Ways.{IsWay, Begins, LeadsTo, IsSecond, PassesLeaf, EndsAbove};
+ghost use Rattle.ksi_split.specs.Ways.{IsWay, way_of, LeadsTo, IsSecond, PassesLeaf, EndsAbove};
 ghost use Rattle.ksi_split.specs.Parts.{Part, part_at, second_at};
 ghost use Rattle.ksi_split.specs.declared.side.Side.{Side};
 ghost use Rattle.ksi_split.specs.declared.side.Side.TheVariants.{Left, Right};
-ghost use Rattle.ksi_split.specs.declared.fault.ShapeFault.{ShapeFault};
 ghost use Rattle.ksi_split.specs.declared.fault.ShapeFault.TheVariants.{TooMany, TooFew};
 
 /// A number above 1 has one split, and a number above 0 one high bit: those that `split_of` and `high_bit_of` compute.

@@ -5,9 +5,10 @@
 //! Infrastructure", 2013). In the calendar the leaves are the seconds from 0, and a calendar published for second `p`
 //! has `p + 1` of them.
 //!
-//! The layer above may rely on this: `split` and `high_bit` give the powers that their names say; `way` gives the
-//! sides from the top to a leaf; `second_of` gives the one second whose way the sides are, or says at which side they
-//! pass a leaf, or how many leaves more than one they leave open. No call takes memory. The laws are in `laws`.
+//! The layer above may rely on this: `split` and `high_bit` give exactly these powers of two; `way` gives the one way
+//! to a leaf; `second_of` gives the one second whose way the sides are, or says at which side they pass a second, or
+//! how many seconds more than one they leave open. No call takes memory. What holds of ways is in `laws`, and what
+//! holds of trees, whatever joins their nodes, in `trees`.
 //!
 //! ```
 //! let sides = way(2, 6);

@@ -9,7 +9,7 @@ use crate::power::{high_bit, split};
 use crate::side::Side;
 use crate::sides::Way;
 
-/// The way to leaf `t` of `n` leaves, both counted from 0.
+/// The sides from the top of a tree of `n` leaves to leaf `t`, the first one being leaf 0.
 pub fn way(t: u64, n: u64) -> Way
     requires within { t < n }
     requires few { n ≤ 2 ^ 63 }
@@ -34,10 +34,12 @@ pub fn way(t: u64, n: u64) -> Way
     sides
 }
 
-/// The second from 0 to `p` that the sides, from the top, are the way to.
+/// The second that the sides of a calendar hash chain name, from its top link down, where the calendar is that of the
+/// seconds from 0 to `p`.
 ///
 /// # Errors
-/// `TooMany` where the sides pass a second, `TooFew` where they end above one.
+/// `TooMany(place)` where the sides before the one at `place` are already the way to a second, and `TooFew(rest)`
+/// where the sides end at a part that has `rest` seconds more than one.
 pub fn second_of(p: u64, sides: &[Side]) -> Result<u64, ShapeFault>
     requires { p < 2 ^ 63 }
     ensures second { (t : ℕ) → (result ≡ Ok t) ↔ IsSecond p sides.now t }
