@@ -5,7 +5,7 @@ use Rattle.ksi_split.specs.declared.side.Side.{Side}
 use Rattle.ksi_split.specs.declared.side.Side.TheVariants.{Left, Right}
 use Rattle.ksi_split.specs.Powers.{split_of}
 use Rattle.ksi_split.specs.Ways.{way_of}
-use Rattle.ksi_split.specs.Ways.{IsWay, Begins, LeadsTo, IsSecond, PassesLeaf}
+use Rattle.ksi_split.specs.Ways.{IsWay, Begins, LeadsTo, PassesLeaf}
 use Rattle.ksi_split.specs.Parts.{Part, half_of, part_at}
 use Rattle.ksi_split.proofs.Powers.{eq_cases, below_power, split_is}
 use Rattle.ksi_split.proofs.Ways.{part_of, part_next, part_ends, way_leads, way_one, way_left, way_right}

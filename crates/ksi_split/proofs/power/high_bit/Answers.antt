@@ -1,4 +1,4 @@
-use Rattle.std.proofs.Common.{◌≡◌, ◌^◌, ◌∙◌, sym, subst, arith}
+use Rattle.std.proofs.Common.{◌∙◌, sym}
 use Rattle.std.proofs.lemmas.Nat.{one_shl}
 use Rattle.ksi_split.proofs.Powers.{high_bit_at}
 use Rattle.ksi_split.proofs.power.high_bit.Goals as goal

@@ -1,4 +1,4 @@
-use Rattle.std.proofs.Common.{◌≡◌, ◌+◌, ◌*◌, ◌/◌, ◌^◌, ◌<◌, ℕ, refl, sym, ap, ◌∙◌, arith}
+use Rattle.std.proofs.Common.{◌≡◌, ◌+◌, ◌*◌, ◌^◌, ◌<◌, ℕ, refl, sym, ◌∙◌, arith}
 use Rattle.std.proofs.lemmas.Nat.{shl-shr}
 use Rattle.ksi_split.specs.Trees.{tree}
 use Rattle.ksi_split.specs.Upward.{halves, whole}

@@ -1,5 +1,5 @@
-use Rattle.std.proofs.Common.{◌≡◌, ℕ, ◌+◌, ◌-◌, sym, ap, ◌∙◌, subst}
-use Rattle.ksi_split.specs.Powers.{IsSplit, split_of}
+use Rattle.std.proofs.Common.{◌≡◌, ℕ, ◌+◌, ◌-◌, sym, ap, ◌∙◌}
+use Rattle.ksi_split.specs.Powers.{IsSplit}
 use Rattle.ksi_split.specs.Trees.{tree}
 use Rattle.ksi_split.proofs.Powers.{split_some, split_only}
 use Rattle.ksi_split.proofs.Levels.{tree_one, tree_cut}

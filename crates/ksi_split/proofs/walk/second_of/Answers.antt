@@ -1,4 +1,4 @@
-use Rattle.std.proofs.Common.{◌≡◌, ◌≢◌, ◌+◌, ◌-◌, ◌<◌, ◌≤◌, Result, Ok, [], ℕ, List, drop, length, refl, sym, ap, ◌∙◌, arith}
+use Rattle.std.proofs.Common.{◌≡◌, ◌≢◌, ◌+◌, ◌-◌, ◌<◌, ◌≤◌, Ok, [], ℕ, List, drop, length, refl, sym, ap, ◌∙◌, arith}
 use Rattle.ksi_split.specs.Parts.{second_at, second_in, part_at}
 use Rattle.ksi_split.proofs.Powers.{split_is}
 use Rattle.ksi_split.specs.Powers.{split_of}
@@ -6,7 +6,6 @@ use Rattle.ksi_split.specs.declared.side.Side.TheVariants.{Left, Right}
 use Rattle.ksi_split.proofs.Ways.{part_of, part_ends, side_taken, some_left}
 use Rattle.std.proofs.Math.ListN.{drop_of_length-le}
 use Rattle.ksi_split.specs.declared.side.Side.{Side}
-use Rattle.ksi_split.specs.declared.fault.ShapeFault.{ShapeFault}
 use Rattle.ksi_split.proofs.Seconds.{named, too_many, too_few, whole, open_part, second_both, many_both, few_both}
 use Rattle.ksi_split.proofs.walk.second_of.Goals as goal
 use Rattle.ksi_split.proofs.walk.second_of.Goals.{in-Left, in-Right}

@@ -1,10 +1,9 @@
-use Rattle.std.proofs.Common.{◌≡◌, ◌+◌, ◌-◌, ◌^◌, ◌<◌, ◌≤◌, ℕ, List, [], ◌∷◌, ◌++◌, length, sym, ap, ◌∙◌, subst, arith, append_assoc, append-nil, length-append}
+use Rattle.std.proofs.Common.{◌≡◌, ◌+◌, ◌-◌, ℕ, List, [], ◌∷◌, ◌++◌, length, sym, ap, ◌∙◌, subst, arith, append_assoc, append-nil, length-append}
 use Rattle.ksi_split.specs.declared.side.Side.{Side}
 use Rattle.ksi_split.specs.declared.side.Side.TheVariants.{Left, Right}
 use Rattle.ksi_split.specs.Ways.{IsWay}
 use Rattle.ksi_split.specs.Ways.{way_of}
 use Rattle.ksi_split.specs.Powers.{split_of}
-use Rattle.ksi_split.proofs.Powers.{split_is}
 use Rattle.ksi_split.proofs.Ways.{way_one, way_left, way_right, parts_fit}
 use Rattle.ksi_split.proofs.Leaves.{way_is}
 use Rattle.ksi_split.proofs.walk.way.Goals as goal

@@ -1,7 +1,6 @@
-use Rattle.std.proofs.Common.{◌≡◌, ◌+◌, ◌-◌, ◌<◌, ℕ, List, take, drop, length, replicate, slice_set, sym, ap, ◌∙◌, arith}
-use Rattle.std.proofs.lemmas.List.{take_more_set, length-set, length-take-le, drop-set-lt, drop-drop, drop-replicate}
+use Rattle.std.proofs.Common.{◌≡◌, ◌+◌, ◌-◌, ◌<◌, ℕ, take, drop, length, replicate, sym, ap, ◌∙◌, arith}
+use Rattle.std.proofs.lemmas.List.{length-set, length-take-le, drop-set-lt, drop-drop, drop-replicate}
 use Rattle.ksi_split.specs.declared.side.Side.TheVariants.{Left}
-use Rattle.ksi_split.specs.Layout.{IsFilled}
 use Rattle.ksi_split.proofs.sides.Way.push.Goals as goal
 
 pub invariant_of-self : goal.invariant_of-self
