@@ -3,7 +3,7 @@
 use Rattle.std.specs.Prelude.{ℕ, zero, suc, ◌+◌, ◌-◌, ◌^◌, nat_lt, Option, Some, None, Result, Ok, Err, List, [], ◌∷◌, ◌++◌, if◌then◌else◌}
 use Rattle.ksi_split.specs.declared.side.Side.{Side}
 use Rattle.ksi_split.specs.declared.side.Side.TheVariants.{Left, Right}
-use Rattle.ksi_split.specs.declared.step.Step.{Step}
+use Rattle.ksi_split.specs.declared.tree_link.TreeLink.{TreeLink}
 use Rattle.ksi_split.specs.Parts.{Part, part_at}
 
 -- the tree over the n leaves from lo, of which there are at most 2 ^ k
@@ -15,8 +15,8 @@ tree_within join leaf (suc k) lo n = if nat_lt (2 ^ k) n then join (tree_within 
 unfoldable pub tree : {A : Type 0} → (A → A → A) → (ℕ → A) → ℕ → ℕ → A
 tree join leaf lo n = tree_within join leaf n lo n
 
--- the steps from leaf lo + t up, among the n leaves from lo, of which there are at most 2 ^ k
-unfoldable pub path_within : {A : Type 0} → (A → A → A) → (ℕ → A) → ℕ → ℕ → ℕ → ℕ → List (Step A)
+-- the links from leaf lo + t up, among the n leaves from lo, of which there are at most 2 ^ k
+unfoldable pub path_within : {A : Type 0} → (A → A → A) → (ℕ → A) → ℕ → ℕ → ℕ → ℕ → List (TreeLink A)
 path_within join leaf zero lo t n = []
 path_within join leaf (suc k) lo t n =
     if nat_lt (2 ^ k) n
@@ -25,19 +25,19 @@ path_within join leaf (suc k) lo t n =
     else path_within join leaf k (lo + 2 ^ k) (t - 2 ^ k) (n - 2 ^ k) ++ record { side = Right; sibling = tree join leaf lo (2 ^ k) } ∷ [])
     else path_within join leaf k lo t n
 
--- the steps from leaf lo + t up, among the n leaves from lo
-unfoldable pub path_of : {A : Type 0} → (A → A → A) → (ℕ → A) → ℕ → ℕ → ℕ → List (Step A)
+-- the links from leaf lo + t up, among the n leaves from lo
+unfoldable pub path_of : {A : Type 0} → (A → A → A) → (ℕ → A) → ℕ → ℕ → ℕ → List (TreeLink A)
 path_of join leaf lo t n = path_within join leaf n lo t n
 
--- where one step leads from a node, by the side that the node has
-abbrev pub step_from : {A : Type 0} → (A → A → A) → A → Step A → Side → A
-step_from join x s Left = join x s.sibling
-step_from join x s Right = join s.sibling x
+-- where one link leads from a node, by the side that the node has
+abbrev pub link_from : {A : Type 0} → (A → A → A) → A → TreeLink A → Side → A
+link_from join x s Left = join x s.sibling
+link_from join x s Right = join s.sibling x
 
--- where steps lead from a node, the lowest first
-abbrev pub climb_steps : {A : Type 0} → (A → A → A) → A → List (Step A) → A
-climb_steps join x [] = x
-climb_steps join x (s ∷ steps) = climb_steps join (step_from join x s s.side) steps
+-- where links lead from a node, the lowest first
+abbrev pub climb_links : {A : Type 0} → (A → A → A) → A → List (TreeLink A) → A
+climb_links join x [] = x
+climb_links join x (s ∷ links) = climb_links join (link_from join x s s.side) links
 
 -- ---- nodes
 

@@ -1,7 +1,7 @@
 -- The same trees from the bottom up, by the places of the parts that have 2 ^ k leaves.
 use Rattle.std.specs.Prelude.{ℕ, zero, suc, ◌+◌, ◌-◌, ◌*◌, ◌/◌, ◌%◌, ◌==◌, nat_lt, List, [], ◌∷◌, ◌++◌, if◌then◌else◌}
 use Rattle.ksi_split.specs.declared.side.Side.TheVariants.{Left, Right}
-use Rattle.ksi_split.specs.declared.step.Step.{Step}
+use Rattle.ksi_split.specs.declared.tree_link.TreeLink.{TreeLink}
 
 -- n halved k times
 abbrev pub halves : ℕ → ℕ → ℕ
@@ -18,14 +18,14 @@ unfoldable pub node : {A : Type 0} → (A → A → A) → (ℕ → A) → ℕ �
 node join leaf last zero j = leaf j
 node join leaf last (suc k) j = if nat_lt (2 * j) (halves k last) then join (node join leaf last k (2 * j)) (node join leaf last k (2 * j + 1)) else node join leaf last k (2 * j)
 
--- the step up from part j of 2 ^ k leaves: none from a last part that stands alone
-unfoldable pub step_up : {A : Type 0} → (A → A → A) → (ℕ → A) → ℕ → ℕ → ℕ → List (Step A)
-step_up join leaf last k j =
+-- the link up from part j of 2 ^ k leaves: none from a last part that stands alone
+unfoldable pub link_up : {A : Type 0} → (A → A → A) → (ℕ → A) → ℕ → ℕ → ℕ → List (TreeLink A)
+link_up join leaf last k j =
     if j % 2 == 1 then record { side = Right; sibling = node join leaf last k (j - 1) } ∷ []
     else if nat_lt j (halves k last) then record { side = Left; sibling = node join leaf last k (j + 1) } ∷ []
     else []
 
--- the steps from leaf t up to the parts of 2 ^ k leaves
-unfoldable pub steps_up : {A : Type 0} → (A → A → A) → (ℕ → A) → ℕ → ℕ → ℕ → List (Step A)
-steps_up join leaf last zero t = []
-steps_up join leaf last (suc k) t = steps_up join leaf last k t ++ step_up join leaf last k (halves k t)
+-- the links from leaf t up to the parts of 2 ^ k leaves
+unfoldable pub links_up : {A : Type 0} → (A → A → A) → (ℕ → A) → ℕ → ℕ → ℕ → List (TreeLink A)
+links_up join leaf last zero t = []
+links_up join leaf last (suc k) t = links_up join leaf last k t ++ link_up join leaf last k (halves k t)

@@ -12,9 +12,9 @@
 //!
 //! ```
 //! let sides = way(2, 6);
-//! assert!(sides.as_slice() == [Side::Left, Side::Right, Side::Left]);
-//! assert!(second_of(5, sides.as_slice()) == Ok(2));
-//! assert!(second_of(5, &[Side::Left]) == Err(ShapeFault::TooFew(3)));
+//! assert_eq!(sides.as_slice(), [Side::Left, Side::Right, Side::Left].as_slice());
+//! assert_eq!(second_of(5, sides.as_slice()), Ok(2));
+//! assert_eq!(second_of(5, &[Side::Left]), Err(ShapeFault::TooFew(3)));
 //! ```
 #![tactic(auto)]
 
@@ -23,9 +23,9 @@ pub mod laws;
 mod power;
 mod side;
 mod sides;
-mod step;
 #[cfg(test)]
 mod tests;
+mod tree_link;
 pub mod trees;
 mod walk;
 
@@ -33,5 +33,5 @@ pub use fault::ShapeFault;
 pub use power::{high_bit, split};
 pub use side::Side;
 pub use sides::Way;
-pub use step::Step;
+pub use tree_link::TreeLink;
 pub use walk::{second_of, way};

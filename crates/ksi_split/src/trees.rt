@@ -3,8 +3,8 @@
 ghost use Rattle.std.specs.Prelude.{◌≡◌, ◌<◌, ◌≤◌, ◌+◌, ◌-◌, ◌*◌, ◌^◌, ℕ, List, Some, None, map, reverse, length};
 ghost use Rattle.ksi_split.specs.Powers.{IsSplit};
 ghost use Rattle.ksi_split.specs.Ways.{way_of, LeadsTo, PassesLeaf};
-ghost use Rattle.ksi_split.specs.Trees.{tree, path_of, climb_steps, node_at};
-ghost use Rattle.ksi_split.specs.Upward.{halves, whole, node, steps_up};
+ghost use Rattle.ksi_split.specs.Trees.{tree, path_of, climb_links, node_at};
+ghost use Rattle.ksi_split.specs.Upward.{halves, whole, node, links_up};
 ghost use Rattle.ksi_split.specs.declared.side.Side.{Side};
 
 /// The tree of one leaf is the leaf. The tree of more is the join of both parts' trees. A tree depends on its own
@@ -18,10 +18,10 @@ pub fn one_tree<N>()
 {}
 
 /// The path of a leaf leads from it to the root. Its sides are the way to the leaf, from the bottom. Among at most
-/// `2 ^ k` leaves it has at most `k` steps. It depends on its own tree's leaves alone.
+/// `2 ^ k` leaves it has at most `k` links. It depends on its own tree's leaves alone.
 pub fn one_path<N>()
     ensures climbs { (join : N → N → N) (leaf : ℕ → N) (last t : ℕ) → t ≤ last →
-        climb_steps join (leaf t) (path_of join leaf 0 t (last + 1)) ≡ tree join leaf 0 (last + 1) }
+        climb_links join (leaf t) (path_of join leaf 0 t (last + 1)) ≡ tree join leaf 0 (last + 1) }
     ensures sides { (join : N → N → N) (leaf : ℕ → N) (lo t n : ℕ) →
         map (λ s. s.side) (path_of join leaf lo t n) ≡ reverse (way_of t n) }
     ensures length { (join : N → N → N) (leaf : ℕ → N) (lo t n k : ℕ) → n ≤ 2 ^ k →
@@ -39,7 +39,7 @@ pub fn one_node<N>()
 {}
 
 /// The same from the bottom up: a complete part is the tree of its leaves, the part over all of them is the root, and
-/// the steps up from a leaf are its path, which leads to the part of any level that the leaf is in.
+/// the links up from a leaf are its path, which leads to the part of any level that the leaf is in.
 pub fn from_below<N>()
     ensures complete { (join : N → N → N) (leaf : ℕ → N) (k j : ℕ) → whole join leaf k j ≡ tree join leaf (j * 2 ^ k) (2 ^ k) }
     ensures before_last { (join : N → N → N) (leaf : ℕ → N) (last k j : ℕ) → j < halves k last →
@@ -47,7 +47,7 @@ pub fn from_below<N>()
     ensures root { (join : N → N → N) (leaf : ℕ → N) (last k : ℕ) → last < 2 ^ k →
         node join leaf last k 0 ≡ tree join leaf 0 (last + 1) }
     ensures path { (join : N → N → N) (leaf : ℕ → N) (last k t : ℕ) → t ≤ last → last < 2 ^ k →
-        steps_up join leaf last k t ≡ path_of join leaf 0 t (last + 1) }
+        links_up join leaf last k t ≡ path_of join leaf 0 t (last + 1) }
     ensures climbs { (join : N → N → N) (leaf : ℕ → N) (last k t : ℕ) → t ≤ last →
-        climb_steps join (leaf t) (steps_up join leaf last k t) ≡ node join leaf last k (halves k t) }
+        climb_links join (leaf t) (links_up join leaf last k t) ≡ node join leaf last k (halves k t) }
 {}
