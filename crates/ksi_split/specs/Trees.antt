@@ -9,7 +9,10 @@ use Rattle.ksi_split.specs.Parts.{Part, part_at}
 -- the tree over the n leaves from lo, of which there are at most 2 ^ k
 unfoldable pub tree_within : {A : Type 0} → (A → A → A) → (ℕ → A) → ℕ → ℕ → ℕ → A
 tree_within join leaf zero lo n = leaf lo
-tree_within join leaf (suc k) lo n = if nat_lt (2 ^ k) n then join (tree_within join leaf k lo (2 ^ k)) (tree_within join leaf k (lo + 2 ^ k) (n - 2 ^ k)) else tree_within join leaf k lo n
+tree_within join leaf (suc k) lo n =
+    if nat_lt (2 ^ k) n
+    then join (tree_within join leaf k lo (2 ^ k)) (tree_within join leaf k (lo + 2 ^ k) (n - 2 ^ k))
+    else tree_within join leaf k lo n
 
 -- the tree over the n leaves from lo
 unfoldable pub tree : {A : Type 0} → (A → A → A) → (ℕ → A) → ℕ → ℕ → A

@@ -16,7 +16,10 @@ whole join leaf (suc k) j = join (whole join leaf k (2 * j)) (whole join leaf k 
 -- part j of 2 ^ k leaves, where the leaves end at `last`
 unfoldable pub node : {A : Type 0} → (A → A → A) → (ℕ → A) → ℕ → ℕ → ℕ → A
 node join leaf last zero j = leaf j
-node join leaf last (suc k) j = if nat_lt (2 * j) (halves k last) then join (node join leaf last k (2 * j)) (node join leaf last k (2 * j + 1)) else node join leaf last k (2 * j)
+node join leaf last (suc k) j =
+    if nat_lt (2 * j) (halves k last)
+    then join (node join leaf last k (2 * j)) (node join leaf last k (2 * j + 1))
+    else node join leaf last k (2 * j)
 
 -- the link up from part j of 2 ^ k leaves: none from a last part that stands alone
 unfoldable pub link_up : {A : Type 0} → (A → A → A) → (ℕ → A) → ℕ → ℕ → ℕ → List (TreeLink A)

@@ -14,7 +14,10 @@ IsWay t n (Right ∷ sides) = (k : ℕ) × IsSplit n k × (k ≤ t) × IsWay (t 
 -- the way to leaf t of n leaves, of which there are at most 2 ^ k
 unfoldable pub way_within : ℕ → ℕ → ℕ → List Side
 way_within zero t n = []
-way_within (suc k) t n = if nat_lt (2 ^ k) n then (if nat_lt t (2 ^ k) then Left ∷ way_within k t (2 ^ k) else Right ∷ way_within k (t - 2 ^ k) (n - 2 ^ k)) else way_within k t n
+way_within (suc k) t n =
+    if nat_lt (2 ^ k) n
+    then (if nat_lt t (2 ^ k) then Left ∷ way_within k t (2 ^ k) else Right ∷ way_within k (t - 2 ^ k) (n - 2 ^ k))
+    else way_within k t n
 
 -- the way to leaf t of n leaves as a list: the only one that `IsWay` holds of
 unfoldable pub way_of : ℕ → ℕ → List Side

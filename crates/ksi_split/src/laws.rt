@@ -20,7 +20,8 @@ pub fn one_way()
     ensures way { (t n : ℕ) (sides : List Side) → IsWay t n sides ↔ ((t < n) × (sides ≡ way_of t n)) }
     ensures one_leaf { way_of 0 1 ≡ [] }
     ensures left { (t n : ℕ) → 1 < n → t < split_of n → way_of t n ≡ Left ∷ way_of t (split_of n) }
-    ensures right { (t n : ℕ) → 1 < n → split_of n ≤ t → way_of t n ≡ Right ∷ way_of (t - split_of n) (n - split_of n) }
+    ensures right { (t n : ℕ) → 1 < n → split_of n ≤ t →
+        way_of t n ≡ Right ∷ way_of (t - split_of n) (n - split_of n) }
 {}
 
 /// Different leaves have different ways.
@@ -30,7 +31,8 @@ pub fn different_ways()
 
 /// No way goes on as another.
 pub fn no_way_goes_on()
-    ensures { (t u n : ℕ) (sides more : List Side) → IsWay t n sides → IsWay u n (sides ++ more) → more ≡ [] }
+    ensures { (t u n : ℕ) (sides more : List Side) →
+        IsWay t n sides → IsWay u n (sides ++ more) → more ≡ [] }
 {}
 
 /// A way among at most `2 ^ k` leaves has at most `k` sides.
@@ -51,26 +53,36 @@ pub fn parts()
 pub fn proper_fronts()
     ensures goes_on { (p rest : ℕ) (sides : List Side) → EndsAbove p sides rest →
         (t : ℕ) × (side : Side) × (more : List Side) × IsWay t (p + 1) (sides ++ side ∷ more) }
-    ensures ends_above { (p t : ℕ) (side : Side) (sides more : List Side) → IsWay t (p + 1) (sides ++ side ∷ more) →
-        (rest : ℕ) × EndsAbove p sides rest }
+    ensures ends_above { (p t : ℕ) (side : Side) (sides more : List Side) →
+        IsWay t (p + 1) (sides ++ side ∷ more) → (rest : ℕ) × EndsAbove p sides rest }
 {}
 
 /// Any sides are the way to a second, or pass one, or end above one, and `second_at` says which.
 pub fn one_answer()
     ensures some { (p : ℕ) (sides : List Side) →
-        ((t : ℕ) × IsSecond p sides t) ⊎ (((place : ℕ) × PassesLeaf p sides place) ⊎ ((rest : ℕ) × EndsAbove p sides rest)) }
-    ensures second { (p t : ℕ) (sides : List Side) → (second_at p sides ≡ Ok t) ↔ IsSecond p sides t }
-    ensures too_many { (p place : ℕ) (sides : List Side) → (second_at p sides ≡ Err (TooMany place)) ↔ PassesLeaf p sides place }
-    ensures too_few { (p rest : ℕ) (sides : List Side) → (second_at p sides ≡ Err (TooFew rest)) ↔ EndsAbove p sides rest }
+        ((t : ℕ) × IsSecond p sides t) ⊎
+        (((place : ℕ) × PassesLeaf p sides place) ⊎ ((rest : ℕ) × EndsAbove p sides rest)) }
+    ensures second { (p t : ℕ) (sides : List Side) →
+        (second_at p sides ≡ Ok t) ↔ IsSecond p sides t }
+    ensures too_many { (p place : ℕ) (sides : List Side) →
+        (second_at p sides ≡ Err (TooMany place)) ↔ PassesLeaf p sides place }
+    ensures too_few { (p rest : ℕ) (sides : List Side) →
+        (second_at p sides ≡ Err (TooFew rest)) ↔ EndsAbove p sides rest }
 {}
 
 /// Sides that are the way to a second pass none and end above none, and sides that pass one end above none. There is
 /// one second, one place and one rest.
 pub fn only_one_answer()
-    ensures second_or_place { (p t place : ℕ) (sides : List Side) → IsSecond p sides t → ¬ PassesLeaf p sides place }
-    ensures second_or_rest { (p t rest : ℕ) (sides : List Side) → IsSecond p sides t → ¬ EndsAbove p sides rest }
-    ensures place_or_rest { (p place rest : ℕ) (sides : List Side) → PassesLeaf p sides place → ¬ EndsAbove p sides rest }
-    ensures one_second { (p t u : ℕ) (sides : List Side) → IsSecond p sides t → IsSecond p sides u → t ≡ u }
-    ensures one_place { (p place other : ℕ) (sides : List Side) → PassesLeaf p sides place → PassesLeaf p sides other → place ≡ other }
-    ensures one_rest { (p rest other : ℕ) (sides : List Side) → EndsAbove p sides rest → EndsAbove p sides other → rest ≡ other }
+    ensures second_or_place { (p t place : ℕ) (sides : List Side) →
+        IsSecond p sides t → ¬ PassesLeaf p sides place }
+    ensures second_or_rest { (p t rest : ℕ) (sides : List Side) →
+        IsSecond p sides t → ¬ EndsAbove p sides rest }
+    ensures place_or_rest { (p place rest : ℕ) (sides : List Side) →
+        PassesLeaf p sides place → ¬ EndsAbove p sides rest }
+    ensures one_second { (p t u : ℕ) (sides : List Side) →
+        IsSecond p sides t → IsSecond p sides u → t ≡ u }
+    ensures one_place { (p place other : ℕ) (sides : List Side) →
+        PassesLeaf p sides place → PassesLeaf p sides other → place ≡ other }
+    ensures one_rest { (p rest other : ℕ) (sides : List Side) →
+        EndsAbove p sides rest → EndsAbove p sides other → rest ≡ other }
 {}

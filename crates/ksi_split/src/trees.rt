@@ -41,7 +41,8 @@ pub fn one_node<N>()
 /// The same from the bottom up: a complete part is the tree of its leaves, the part over all of them is the root, and
 /// the links up from a leaf are its path, which leads to the part of any level that the leaf is in.
 pub fn from_below<N>()
-    ensures complete { (join : N → N → N) (leaf : ℕ → N) (k j : ℕ) → whole join leaf k j ≡ tree join leaf (j * 2 ^ k) (2 ^ k) }
+    ensures complete { (join : N → N → N) (leaf : ℕ → N) (k j : ℕ) →
+        whole join leaf k j ≡ tree join leaf (j * 2 ^ k) (2 ^ k) }
     ensures before_last { (join : N → N → N) (leaf : ℕ → N) (last k j : ℕ) → j < halves k last →
         node join leaf last k j ≡ whole join leaf k j }
     ensures root { (join : N → N → N) (leaf : ℕ → N) (last k : ℕ) → last < 2 ^ k →
