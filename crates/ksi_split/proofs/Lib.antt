@@ -1,0 +1,12 @@
+pub mod Powers
+pub mod Levels
+pub mod Upward
+pub mod Ways
+pub mod Leaves
+pub mod Converse
+pub mod Fronts
+pub mod Sized
+pub mod Second
+pub mod Seconds
+pub mod Along
+pub mod Same

@@ -1,0 +1,6 @@
+pub mod Powers
+pub mod Ways
+pub mod Parts
+pub mod Trees
+pub mod Upward
+pub mod Layout

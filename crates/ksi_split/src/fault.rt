@@ -1,0 +1,8 @@
+/// Why sides from the top are the way to no second.
+#[derive(Clone, Copy, PartialEq, Eq, Debug)]
+pub enum ShapeFault {
+    /// A second is reached before the side at this place, the first one's place being 0.
+    TooMany(usize),
+    /// The sides end at a part with so many seconds more than one.
+    TooFew(u64),
+}
