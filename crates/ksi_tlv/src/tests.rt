@@ -28,18 +28,19 @@ fn reads_one_element(rt: HostRuntime) {
         (&[0x88, 0x00, 0x01, 0x00], Err(TlvFault::Short(260, 4))),
     ];
     for (bytes, want) in cases {
-        match (read_one(bytes), want) {
-            (Ok((element, size)), Ok((kind, non_critical, forward, body, takes))) => {
-                assert_eq!(rt; element.kind, kind);
-                assert_eq!(rt; element.non_critical, non_critical);
-                assert_eq!(rt; element.forward, forward);
-                assert_eq!(rt; element.body, body);
-                assert_eq!(rt; size, takes);
-            }
-            (Err(fault), Err(short)) => assert_eq!(rt; fault, short),
-            _ => assert!(rt; false),
-        }
+        assert_eq!(rt; front(bytes), want);
     }
+}
+
+fn front(bytes: &[u8]) -> Result<(u16, bool, bool, &[u8], usize), TlvFault> {
+    let (element, size) = read_one(bytes)?;
+    Ok((
+        element.kind,
+        element.non_critical,
+        element.forward,
+        element.body,
+        size,
+    ))
 }
 
 #[test]
@@ -64,35 +65,40 @@ fn walks_to_the_element_that_is_cut_off(rt: HostRuntime) {
         0x01, 0x01, 0xaa, 0x88, 0x01, 0x00, 0x02, 0xbb, 0xbb, 0x02, 0x03, 0xcc,
     ];
     let mut walk = Elements::at(100, &bytes);
-    for (place, inside, kind, size) in [(100, 102, 1, 1), (103, 107, 0x801, 2)] {
-        match walk.next() {
-            Some(Ok(at)) => {
-                assert_eq!(rt; (at.place, at.inside), (place, inside));
-                assert_eq!(rt; (at.element.kind, at.element.body.len()), (kind, size));
-            }
-            _ => assert!(rt; false),
-        }
+    let items = [
+        Some(Ok((100, 102, 1, 1))),
+        Some(Ok((103, 107, 0x801, 2))),
+        Some(Err((109, TlvFault::Short(5, 3)))),
+        None,
+        None,
+    ];
+    for want in items {
+        assert_eq!(rt; next_of(&mut walk), want);
     }
-    match walk.next() {
-        Some(Err(cut)) => assert_eq!(rt; cut, (109, TlvFault::Short(5, 3))),
-        _ => assert!(rt; false),
-    }
-    assert!(rt; walk.next().is_none());
-    assert!(rt; walk.next().is_none());
 }
 
 #[test]
 fn walks_three_elements(rt: HostRuntime) {
-    let mut places = [0; 3];
-    let mut count = 0;
-    for item in Elements::new(&[0x01, 0x00, 0x7e, 0x01, 0x00, 0x80, 0x20, 0x00, 0x00]) {
-        match item {
-            Ok(at) if count < 3 => places[count] = at.place,
-            _ => assert!(rt; false),
-        }
-        count += 1;
+    let mut walk = Elements::new(&[0x01, 0x00, 0x7e, 0x01, 0x00, 0x80, 0x20, 0x00, 0x00]);
+    let items = [
+        Some(Ok((0, 2, 1, 0))),
+        Some(Ok((2, 4, 0x1e, 1))),
+        Some(Ok((5, 9, 0x20, 0))),
+        None,
+    ];
+    for want in items {
+        assert_eq!(rt; next_of(&mut walk), want);
     }
-    assert_eq!(rt; (count, places), (3, [0, 2, 5]));
+}
+
+/// The next element's place, the place of its body, its kind and its body's length.
+fn next_of(
+    walk: &mut Elements<'_>,
+) -> Option<Result<(usize, usize, u16, usize), (usize, TlvFault)>> {
+    match walk.next()? {
+        Ok(at) => Some(Ok((at.place, at.inside, at.element.kind, at.element.body.len()))),
+        Err(cut) => Some(Err(cut)),
+    }
 }
 
 #[test]
