@@ -1,12 +1,12 @@
 -- A walk is the reading of its bytes.
-use Rattle.std.proofs.Common.{◌≡◌, ℕ, zero, suc, ◌+◌, ◌<◌, ◌≤◌, false, eqb, List, [], ◌∷◌, ◌++◌, length, get_or, take, drop, Result, Ok, Err, refl, sym, ap, subst, ◌∙◌, arith, length-append, length-drop, add-zero}
-use Rattle.std.specs.List.{AllByRecursion, All}
-use Rattle.std.proofs.lemmas.List.{take-append-drop, append_assoc, length-take-le, drop_at, get_or_past}
+use Rattle.std.proofs.Common.{◌≡◌, ℕ, zero, suc, ◌+◌, ◌<◌, ◌≤◌, List, [], ◌∷◌, ◌++◌, length, take, drop, Result, Ok, Err, refl, sym, ap, subst, ◌∙◌, arith, length-append, length-drop, add-zero}
+use Rattle.std.specs.List.{AllByRecursion}
+use Rattle.std.proofs.lemmas.List.{take-append-drop, append_assoc, length-take-le, drop_at}
 use Rattle.std.proofs.lemmas.List.Elements.{All-drop}
 use Rattle.ksi_tlv.specs.Spelling.{Tlv, Spells, AreBytes}
-use Rattle.ksi_tlv.specs.Front.{size_at, header_at, element_at}
-use Rattle.ksi_tlv.specs.Walking.{Cut, placed_at, Items, elements, joined, laid, items_of, BeginsNone, end_at, IsReading}
-use Rattle.ksi_tlv.proofs.FrontLaws.{IsBytes, bytes_of, element_at-found, element_at-spelled, element_at-err}
+use Rattle.ksi_tlv.specs.Front.{header_at, element_at}
+use Rattle.ksi_tlv.specs.Walking.{placed_at, Items, elements, joined, laid, items_of, BeginsNone, end_at, IsReading}
+use Rattle.ksi_tlv.proofs.FrontLaws.{bytes_of, element_at-found, element_at-spelled, element_at-err}
 use Rattle.ksi_tlv.proofs.WalkLaws.{element_at-takes, elements-nil, elements-cons, elements-cut}
 use Rattle.ksi_tlv.proofs.WriteLaws.{elements-spelled}
 

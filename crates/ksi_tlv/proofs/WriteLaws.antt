@@ -1,9 +1,8 @@
 -- What is written is read again, element by element.
-use Rattle.std.proofs.Common.{◌≡◌, ℕ, zero, suc, ◌+◌, ◌≤◌, List, [], ◌∷◌, ◌++◌, length, Ok, refl, ap, ◌∙◌, arith}
+use Rattle.std.proofs.Common.{◌≡◌, ℕ, ◌+◌, List, [], ◌∷◌, ◌++◌, length, Ok, refl, ap, ◌∙◌}
 use Rattle.std.proofs.lemmas.List.{drop_at}
 use Rattle.std.specs.List.{AllByRecursion}
-use Rattle.ksi_tlv.specs.Spelling.{Tlv, FitsLong, Spells, canonical}
-use Rattle.ksi_tlv.specs.Front.{element_at}
+use Rattle.ksi_tlv.specs.Spelling.{Tlv, FitsLong, Spells}
 use Rattle.ksi_tlv.specs.Walking.{placed_at, Items, elements, joined, laid, items_of}
 use Rattle.ksi_tlv.specs.Writing.{written, texts, placed}
 use Rattle.ksi_tlv.proofs.FrontLaws.{element_at-spelled, Spells-canonical}

@@ -1,5 +1,5 @@
 -- What the readers give, seen as the definitions' elements.
-use Rattle.std.specs.Prelude.{ℕ, List, Result, Ok, Err}
+use Rattle.std.specs.Prelude.{ℕ, Result, Ok, Err}
 use Rattle.ksi_tlv.specs.Spelling.{Tlv}
 use Rattle.ksi_tlv.specs.Front.{Front}
 use Rattle.ksi_tlv.specs.Walking.{PlacedTlv, Cut, Items, elements}

@@ -85,18 +85,7 @@ impl Writer {
         if size > LIMIT {
             return Err(PutRefusal::TooLong(size));
         }
-        let flags = flags(non_critical, forward);
-        if kind <= 0x1f && size <= 0xff {
-            append(&mut self.bytes, &[flags + kind as u8, size as u8], body)?;
-        } else {
-            let header = [
-                0x80 + flags + (kind / 0x100) as u8,
-                (kind % 0x100) as u8,
-                (size / 0x100) as u8,
-                (size % 0x100) as u8,
-            ];
-            append(&mut self.bytes, &header, body)?;
-        }
+        self.append(kind, non_critical, forward, body)?;
         Ok(())
     }
 
@@ -108,9 +97,33 @@ impl Writer {
         ensures err { OnErr result (self.new ≡ self.old) }
     {
         let bytes = n.to_be_bytes();
-        match self.put(kind, false, false, significant(&bytes)) {
-            Ok(()) => Ok(()),
-            Err(_) => Err(NoMemory),
+        self.append(kind, false, false, significant(&bytes))
+    }
+
+    fn append(
+        &mut self,
+        kind: u16,
+        non_critical: bool,
+        forward: bool,
+        body: &[u8],
+    ) -> Result<(), NoMemory>
+        requires kind { kind ≤ 0x1fff }
+        requires body { length body.now ≤ 65535 }
+        ensures ok { OnOk result (self.new ≡ self.old ++ canonical (element_of kind non_critical forward body.now)) }
+        ensures err { OnErr result (self.new ≡ self.old) }
+    {
+        let size = body.len();
+        let flags = flags(non_critical, forward);
+        if kind <= 0x1f && size <= 0xff {
+            append_both(&mut self.bytes, &[flags + kind as u8, size as u8], body)
+        } else {
+            let header = [
+                0x80 + flags + (kind / 0x100) as u8,
+                (kind % 0x100) as u8,
+                (size / 0x100) as u8,
+                (size % 0x100) as u8,
+            ];
+            append_both(&mut self.bytes, &header, body)
         }
     }
 }
@@ -126,7 +139,7 @@ fn flags(non_critical: bool, forward: bool) -> u8
 }
 
 /// Appends both parts or neither.
-fn append(out: &mut Vec<u8>, header: &[u8], body: &[u8]) -> Result<(), NoMemory>
+fn append_both(out: &mut Vec<u8>, header: &[u8], body: &[u8]) -> Result<(), NoMemory>
     ensures ok { OnOk result (out.new.items ≡ out.old.items ++ (header.now ++ body.now)) }
     ensures err { OnErr result (out.new.items ≡ out.old.items) }
 {
@@ -141,7 +154,8 @@ fn append(out: &mut Vec<u8>, header: &[u8], body: &[u8]) -> Result<(), NoMemory>
 
 /// The bytes from the first that is not zero on.
 fn significant(bytes: &[u8]) -> &[u8]
-    ensures { result.now ≡ without_zeros bytes.now }
+    ensures exact { result.now ≡ without_zeros bytes.now }
+    ensures short { length result.now ≤ length bytes.now }
 {
     let mut rest = bytes;
     while let [0, others @ ..] = rest {
