@@ -1,11 +1,14 @@
--- The element at the front of bytes, from left to right.
+-- The element at the front of bytes, from left to right. The law `front_by_spelling` says that it is the one that
+-- is spelled there.
 use Rattle.std.specs.Prelude.{ℕ, ◌+◌, ◌*◌, ◌/◌, ◌%◌, nat_lt, ◌==◌, List, [], ◌∷◌, length, take, drop, Result, Ok, Err, if◌then◌else◌}
 use Rattle.ksi_tlv.specs.Spelling.{Tlv}
 
+-- behind the first byte of a short form
 abbrev pub short_size : List ℕ → ℕ
 short_size [] = 2
 short_size (count ∷ body) = 2 + count
 
+-- behind the first byte of a long form
 abbrev pub long_size : List ℕ → ℕ
 long_size [] = 4
 long_size (low ∷ []) = 4

@@ -7,6 +7,7 @@ abbrev pub number_of : List ℕ → ℕ
 number_of [] = 0
 number_of (b ∷ bytes) = b * 256 ^ length bytes + number_of bytes
 
+-- bytes from the first that is not zero on
 abbrev pub without_zeros : List ℕ → List ℕ
 without_zeros [] = []
 without_zeros (zero ∷ bytes) = without_zeros bytes

@@ -14,6 +14,7 @@ use Rattle.ksi_tlv.specs.declared.walk.Elements.{Elements}
 abbrev pub view : Element → Tlv
 view e = record { kind = e.kind; non_critical = e.non_critical; forward = e.forward; body = e.body.now }
 
+-- a header, or how many bytes it takes
 abbrev pub view_header : Result Header ℕ → Result Front ℕ
 view_header (Ok h) = Ok (record { first = h.first; kind = h.kind; size = h.size; count = h.count })
 view_header (Err need) = Err need
@@ -23,9 +24,11 @@ abbrev pub view_front : Result (Element × ℕ) TlvFault → Result (Tlv × ℕ)
 view_front (Ok found) = Ok (view found.0, found.1)
 view_front (Err (Short need have)) = Err need
 
+-- an element with its places
 abbrev pub view_placed : Placed → PlacedTlv
 view_placed p = record { place = p.place; inside = p.inside; element = view p.element }
 
+-- the fault of an element that is cut off at a place
 abbrev pub view_cut : ℕ → TlvFault → Cut
 view_cut place (Short need have) = record { place = place; need = need; have = have }
 

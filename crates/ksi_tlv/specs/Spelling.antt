@@ -8,6 +8,7 @@ pub record Tlv : Type 0 where
   pub forward : Bool
   pub body : List ℕ
 
+-- the element with these parts
 abbrev pub element_of : ℕ → Bool → Bool → List ℕ → Tlv
 element_of kind non_critical forward body = record { kind = kind; non_critical = non_critical; forward = forward; body = body }
 
@@ -23,6 +24,7 @@ flags e = (if e.non_critical then 64 else 0) + (if e.forward then 32 else 0)
 abbrev pub short_form : Tlv → List ℕ
 short_form e = (flags e + e.kind) ∷ length e.body ∷ e.body
 
+-- the short form can hold the element
 pub record FitsShort (e : Tlv) : Type 0 where
   pub kind : e.kind < 32
   pub body : length e.body < 256
@@ -31,6 +33,7 @@ pub record FitsShort (e : Tlv) : Type 0 where
 abbrev pub long_form : Tlv → List ℕ
 long_form e = (128 + flags e + e.kind / 256) ∷ (e.kind % 256) ∷ (length e.body / 256) ∷ (length e.body % 256) ∷ e.body
 
+-- the long form can hold the element, as it can each that has a spelling
 pub record FitsLong (e : Tlv) : Type 0 where
   pub kind : e.kind < 8192
   pub body : length e.body < 65536

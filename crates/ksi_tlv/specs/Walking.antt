@@ -24,7 +24,7 @@ Items = List (Result PlacedTlv Cut)
 abbrev pub placed_at : ℕ → Tlv → ℕ → PlacedTlv
 placed_at place e n = record { place = place; inside = place + (n - length e.body); element = e }
 
--- ---- as they are found from left to right
+-- ---- as they are found from left to right: the law `reading_is_elements` says that this is the reading below
 
 abbrev pub items_after : (ℕ → List ℕ → Items) → ℕ → List ℕ → Result (Tlv × ℕ) ℕ → Items
 items_after others place bytes (Err need) = Err (record { place = place; need = need; have = length bytes }) ∷ []
@@ -41,12 +41,12 @@ elements place bytes = items_within (length bytes) place bytes
 
 -- ---- as they stand
 
--- texts, each with the element that it spells, one after the other
+-- elements, each with the text that spells it: the texts one after the other
 abbrev pub joined : List (Tlv × List ℕ) → List ℕ
 joined [] = []
 joined (part ∷ parts) = part.1 ++ joined parts
 
--- where they then stand
+-- the elements, each where its text then stands
 abbrev pub laid : ℕ → List (Tlv × List ℕ) → List PlacedTlv
 laid place [] = []
 laid place (part ∷ parts) = placed_at place part.0 (length part.1) ∷ laid (place + length part.1) parts
