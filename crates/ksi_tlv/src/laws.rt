@@ -1,10 +1,10 @@
 //! Laws of spellings and numerals, for the proofs of the layers above. No code calls them.
 
-ghost use Rattle.std.specs.Prelude.{◌≡◌, ◌↔◌, ◌<◌, ◌≤◌, ◌^◌, ◌∷◌, ◌++◌, ℕ, zero, List, length, Ok, Err, All};
+ghost use Rattle.std.specs.Prelude.{◌≡◌, ◌↔◌, ◌<◌, ◌≤◌, ◌^◌, ◌∷◌, ◌++◌, ◌+◌, [], ℕ, zero, List, length, drop, Ok, Err, All};
 ghost use Rattle.std.specs.List.{AllByRecursion};
 ghost use Rattle.ksi_tlv.specs.Spelling.{Tlv, FitsLong, Spells, AreBytes, IsFront, canonical};
 ghost use Rattle.ksi_tlv.specs.Front.{size_at, element_at};
-ghost use Rattle.ksi_tlv.specs.Walking.{Items, IsReading, elements, joined, laid, items_of};
+ghost use Rattle.ksi_tlv.specs.Walking.{Items, placed_at, IsReading, elements, joined, laid, items_of};
 ghost use Rattle.ksi_tlv.specs.Numerals.{number_of, numeral};
 ghost use Rattle.ksi_tlv.specs.Writing.{texts, placed};
 
@@ -21,11 +21,13 @@ pub fn canonical_is_shortest()
     ensures shortest { (e : Tlv) (text : List ℕ) → Spells e text → length (canonical e) ≤ length text }
 {}
 
-/// The element that is found at the front of bytes is the one that is spelled there, and none is found exactly where
-/// fewer bytes stand than it takes.
+/// The element that is found at the front of bytes is the one that is spelled there, whatever follows, and none is
+/// found exactly where fewer bytes stand than it takes.
 pub fn front_by_spelling()
     ensures found { (bytes : List ℕ) (e : Tlv) (n : ℕ) → AreBytes bytes →
         (element_at bytes ≡ Ok (e, n)) ↔ IsFront bytes e n }
+    ensures spelled { (e : Tlv) (text rest : List ℕ) → Spells e text →
+        element_at (text ++ rest) ≡ Ok (e, length text) }
     ensures cut { (bytes : List ℕ) (need : ℕ) →
         (element_at bytes ≡ Err need) ↔ ((need ≡ size_at bytes) × (length bytes < need)) }
 {}
@@ -34,6 +36,16 @@ pub fn front_by_spelling()
 pub fn reading_is_elements()
     ensures { (place : ℕ) (bytes : List ℕ) (items : Items) → AreBytes bytes →
         (items ≡ elements place bytes) ↔ IsReading place bytes items }
+{}
+
+/// A walk gives nothing of no bytes; else the element at the front and then the walk behind it, or the one that is
+/// cut off alone.
+pub fn walk_by_fronts()
+    ensures nothing { (place : ℕ) → elements place [] ≡ [] }
+    ensures found { (place : ℕ) (bytes : List ℕ) (e : Tlv) (n : ℕ) → element_at bytes ≡ Ok (e, n) →
+        elements place bytes ≡ Ok (placed_at place e n) ∷ elements (place + n) (drop n bytes) }
+    ensures cut { (place b : ℕ) (bytes : List ℕ) (need : ℕ) → element_at (b ∷ bytes) ≡ Err need →
+        elements place (b ∷ bytes) ≡ Err (record { place = place; need = need; have = length (b ∷ bytes) }) ∷ [] }
 {}
 
 /// Elements that are spelled one after the other are read again, each where it stands: in any spelling, and as the
