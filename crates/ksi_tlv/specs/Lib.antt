@@ -1,0 +1,6 @@
+pub mod Spelling
+pub mod Front
+pub mod Walking
+pub mod Numerals
+pub mod Writing
+pub mod Seen

@@ -1,0 +1,40 @@
+//! Elements in the type-length-value encoding of Keyless Signatures' Infrastructure, read from bytes and written.
+//! An element has a kind, two flags and a body. Its short form takes two bytes before the body, its long form four:
+//!
+//! ```text
+//! short: 0 non_critical forward kind(5)    length(8)   body
+//! long:  1 non_critical forward kind(13)   length(16)  body
+//! ```
+//!
+//! The layer above may rely on this: no spelling of an element begins another; a reader takes both forms and
+//! nothing else; a walk gives every element with its place, or the first that is cut off; the writer takes the
+//! short form where it can hold the element, and what it wrote is read again as it was put. The readers take no
+//! memory.
+//!
+//! ```text
+//! let mut writer = Writer::new(alloc);
+//! writer.put(0x01, false, false, b"abc")?;
+//! writer.put_number(0x02, 1_700_000_000)?;
+//! for item in Elements::new(writer.bytes()) {
+//!     let Ok(at) = item else { break }; // at.place, at.element.kind, at.element.body
+//! }
+//! ```
+#![tactic(auto)]
+
+mod element;
+mod laws;
+mod numbers;
+#[cfg(test)]
+mod tests;
+mod walk;
+mod write;
+
+pub use element::{Element, TlvFault, read_one};
+pub use laws::{
+    canonical_is_shortest, front_by_spelling, no_spelling_begins_another, numeral_is_read,
+    reading_is_elements, walk_by_fronts, written_is_read,
+};
+pub use numbers::{NumberFault, number};
+pub use std::alloc::AllocError as NoMemory;
+pub use walk::{Elements, Placed};
+pub use write::{PutRefusal, Writer};
