@@ -13,7 +13,8 @@ use Rattle.ksi_ports.specs.Outside.{count_up}
 abbrev pub is_listed : List ℕ → ℕ → Bool
 is_listed failing call = list_any (λ listed. listed == call) failing
 
--- files in memory: the newest first, the numbers of the calls that are to fail, how many calls there were, how many of them failed, and how many bytes were taken
+-- files in memory: the files, the newest first; the numbers of the calls that are to fail, counted from 0;
+-- how many calls there were; how many of them failed; how many bytes were taken
 pub record StoredFiles : Type 0 where
   pub entries : List Entry
   pub failing : List ℕ
@@ -39,7 +40,7 @@ up_to most (Some bytes) = if nat_le (length bytes) most then Ok bytes else Err T
 abbrev pub load_answer : StoredFiles → List ℕ → ℕ → Result (List ℕ) LoadRefusal
 load_answer files name most = if is_listed files.failing files.calls then Err Failed else up_to most (held_in files.entries name)
 
--- the files after a load with this answer
+-- the files after a load with this answer: want of memory changes nothing
 abbrev pub after_load : StoredFiles → ℕ → Result (List ℕ) LoadRefusal → StoredFiles
 after_load files most (Ok bytes) = record files { calls = count_up 1 files.calls; taken = count_up (length bytes) files.taken }
 after_load files most (Err Failed) = record files { calls = count_up 1 files.calls; faults = count_up 1 files.faults }
@@ -63,13 +64,14 @@ SaveAnswers listed (Err saves.NoMemory) = IsFalse listed
 abbrev pub with_newest : StoredFiles → List ℕ → List ℕ → StoredFiles
 with_newest files name bytes = record files { entries = record { name = name; bytes = bytes } ∷ files.entries }
 
--- the files after a save with this answer
+-- the files after a save with this answer: one that fails leaves the name's content too
 abbrev pub after_save : StoredFiles → List ℕ → List ℕ → Result (Unit {0}) SaveRefusal → StoredFiles
 after_save files name bytes (Ok u) = record (with_newest files name bytes) { calls = count_up 1 files.calls }
 after_save files name bytes (Err saves.Failed) = record files { calls = count_up 1 files.calls; faults = count_up 1 files.faults }
 after_save files name bytes (Err saves.NoMemory) = files
 
--- output in memory: what was written, for how many bytes there is room, the numbers of the puts that are to fail, how many puts there were, and how many of them failed
+-- output in memory: what was written; for how many bytes there is room; the numbers of the puts that are to fail,
+-- counted from 0; how many puts there were; how many of them failed
 pub record StoredOutput : Type 0 where
   pub written : List ℕ
   pub room : ℕ

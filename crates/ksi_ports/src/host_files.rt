@@ -1,6 +1,6 @@
 ghost use Rattle.std.specs.Prelude.{◌≡◌, ◌≤◌, false, length, Some, None, IfOk, IfSome, if◌then◌else◌, is_ok};
 ghost use Rattle.ksi_ports.specs.Outside.{count_up, LoadCounts, LoadTells, SaveCounts};
-ghost use Rattle.ksi_ports.specs.Host.{ReadTakes, load_faults};
+ghost use Rattle.ksi_ports.specs.Host.{ReadTakes, faults_after};
 
 use crate::{Files, LoadRefusal, SaveRefusal};
 use ksi_imprint::Bytes;
@@ -56,7 +56,7 @@ impl<R: rt::Files> Files for HostFiles<'_, R> {
     fn load(&mut self, alloc: Global, name: &str, most: usize) -> Result<Bytes, LoadRefusal>
         ensures counted { LoadCounts self.old.faults self.new.faults result }
         ensures within { IfOk result (λ bytes. length bytes ≤ most) }
-        ensures faults { self.new.faults ≡ load_faults self.old.faults result }
+        ensures faults { self.new.faults ≡ faults_after self.old.faults result }
         ensures takes { ReadTakes most self.old.taken self.new.taken result }
     {
         let result = open_and_read(self.runtime, alloc, name, most, &mut self.taken);

@@ -1,11 +1,11 @@
-ghost use Rattle.std.specs.Prelude.{◌≡◌, false, [], IsTrue};
+ghost use Rattle.std.specs.Prelude.{◌≡◌, false, [], OnOk, OnErr};
 ghost use Rattle.std.specs.Bool.{OnTrue, OnFalse};
 ghost use Rattle.std.specs.Io.KnownBytes.{Appends};
-ghost use Rattle.ksi_ports.specs.Host.{AppendsFront};
+ghost use Rattle.ksi_ports.specs.Outside.{Raises, count_up};
+ghost use Rattle.ksi_ports.specs.Host.{AppendsFront, faults_of, writer_of};
 
 use crate::{Sink, SinkFailed};
 use std::io::Write;
-use std::marker::Model;
 
 /// Output over a writer. Nothing is told of what was written.
 #[derive(Drop)]
@@ -14,24 +14,17 @@ pub struct HostSink<W: Write> {
     faults: u64,
 }
 
-impl<W: Write> Model for HostSink<W> {
-    ghost use Rattle.std.specs.Prelude.{ℕ};
-
-    ghost Value = { ℕ };
-
-    ghost view = { λ sink. sink.faults };
-}
-
 impl<W: Write> HostSink<W> {
     pub fn new(writer: W) -> Self
-        ensures { result ≡ 0 }
+        ensures faults { faults_of result ≡ 0 }
+        ensures writer { writer_of result ≡ writer }
     {
         HostSink { writer, faults: 0 }
     }
 
     /// How many puts failed.
     pub fn faults(&self) -> u64
-        ensures { result ≡ self.now }
+        ensures { result ≡ faults_of self.now }
     {
         self.faults
     }
@@ -42,9 +35,15 @@ impl<W: Write> Sink for HostSink<W> {
 
     ghost written = { λ _. [] };
 
-    ghost faults = { λ faults. faults };
+    ghost faults = { faults_of };
 
-    fn put(&mut self, piece: &[u8]) -> Result<(), SinkFailed> {
+    fn put(&mut self, piece: &[u8]) -> Result<(), SinkFailed>
+        ensures counted { OnOk result (faults_of self.new ≡ faults_of self.old) }
+        ensures failed { OnErr result (Raises (faults_of self.old) (faults_of self.new)) }
+        ensures once { OnErr result (faults_of self.new ≡ count_up 1 (faults_of self.old)) }
+        ensures writes { OnOk result (Appends (W.contents (writer_of self.old)) (W.contents (writer_of self.new)) piece.now) }
+        ensures front { OnErr result (AppendsFront (W.contents (writer_of self.old)) (W.contents (writer_of self.new)) piece.now) }
+    {
         if write_whole(&mut self.writer, piece) {
             return Ok(());
         }
@@ -54,9 +53,10 @@ impl<W: Write> Sink for HostSink<W> {
 }
 
 /// Writes the piece, and says whether it was taken. A write that takes nothing is a fault.
-#[tactic(auto, using(crate::proofs::WriteLemmas::appends_more))]
+#[tactic(auto, using(crate::proofs::WriteLemmas::appends_more, crate::proofs::WriteLemmas::front, crate::proofs::WriteLemmas::front_kept))]
 pub(crate) fn write_whole<W: Write>(writer: &mut W, piece: &[u8]) -> bool
-    ensures { OnTrue result (Appends (W.contents writer.old) (W.contents writer.new) piece.now) }
+    ensures whole { OnTrue result (Appends (W.contents writer.old) (W.contents writer.new) piece.now) }
+    ensures front { OnFalse result (AppendsFront (W.contents writer.old) (W.contents writer.new) piece.now) }
 {
     let mut taken = 0;
     'writing: while taken < piece.len() {

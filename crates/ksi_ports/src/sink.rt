@@ -20,6 +20,6 @@ pub trait Sink {
     fn put(&mut self, piece: &[u8]) -> Result<(), SinkFailed>
         ensures counted { OnOk result (faults self.new ≡ faults self.old) }
         ensures failed { OnErr result (Raises (faults self.old) (faults self.new)) }
-        ensures appended { OnOk result (IsTrue tells → written self.new ≡ written self.old ++ piece.now) }
-        ensures cut { OnErr result (IsTrue tells → ExtendsByFront (written self.old) piece.now (written self.new)) };
+        ensures appended { IsTrue tells → OnOk result (written self.new ≡ written self.old ++ piece.now) }
+        ensures front { IsTrue tells → OnErr result (ExtendsByFront (written self.old) piece.now (written self.new)) };
 }
