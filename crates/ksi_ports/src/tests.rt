@@ -96,7 +96,7 @@ fn the_system_saves_loads_and_writes(rt: HostRuntime) -> Result<(), Fail> {
     Ok(())
 }
 
-// Gives or takes one byte at each call, and then ends or fails.
+// Gives or takes one byte at each of so many calls, and then ends or fails.
 #[derive(Drop)]
 struct Stream {
     calls: usize,
@@ -109,10 +109,15 @@ impl Stream {
             self.calls -= 1;
             return Ok(1);
         }
+        self.end()?;
+        Ok(0)
+    }
+
+    fn end(&self) -> io::Result<()> {
         if self.fails {
             return Err(Error::from(ErrorKind::Other));
         }
-        Ok(0)
+        Ok(())
     }
 }
 
@@ -128,24 +133,28 @@ impl Write for Stream {
     }
 
     fn flush(&mut self) -> io::Result<()> {
-        Ok(())
+        self.end()
     }
 }
 
+// Where all three bytes are taken, it is the flush that fails.
 #[test]
 fn an_error_in_mid_stream_ends_the_call(rt: HostRuntime) -> Result<(), Fail> {
     let alloc = rt.alloc();
-    let mut taken = 0;
-    for (fails, want) in [
-        (true, Err(LoadRefusal::Failed)),
-        (false, Ok([0, 0].as_slice())),
+    for (calls, fails, load, put) in [
+        (2, true, Err(LoadRefusal::Failed), Err(SinkFailed)),
+        (2, false, Ok([0; 2].as_slice()), Err(SinkFailed)),
+        (3, true, Err(LoadRefusal::Failed), Err(SinkFailed)),
+        (3, false, Ok([0; 3].as_slice()), Ok(())),
     ] {
-        let mut source = Stream { calls: 2, fails };
-        assert_eq!(rt; told(&read_up_to(alloc, &mut source, 9, &mut taken)), want);
-        let mut sink = HostSink::new(Stream { calls: 2, fails });
-        assert_eq!(rt; sink.put(b"abc"), Err(SinkFailed));
-        assert_eq!(rt; sink.faults(), 1);
+        let mut taken = 0;
+        let mut source = Stream { calls, fails };
+        let read = read_up_to(alloc, &mut source, 9, &mut taken);
+        assert_eq!(rt; told(&read), load, "{calls} {fails}");
+        assert_eq!(rt; taken, calls as u64);
+        let mut sink = HostSink::new(Stream { calls, fails });
+        assert_eq!(rt; sink.put(b"abc"), put, "{calls} {fails}");
+        assert_eq!(rt; sink.faults(), u64::from(put.is_err()));
     }
-    assert_eq!(rt; taken, 4);
     Ok(())
 }
