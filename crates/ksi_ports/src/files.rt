@@ -1,4 +1,4 @@
-ghost use Rattle.std.specs.Prelude.{◌≡◌, ℕ, ◌≤◌, Bool, IsTrue, List, length, IfOk, IfErr};
+ghost use Rattle.std.specs.Prelude.{◌≡◌, ℕ, ◌≤◌, Bool, IsTrue, List, length, IfOk};
 ghost use Rattle.ksi_ports.specs.Stored.{Held};
 ghost use Rattle.ksi_ports.specs.Outside.{LoadCounts, LoadTakes, LoadTells, SaveCounts, SaveLeaves};
 

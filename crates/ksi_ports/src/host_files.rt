@@ -26,6 +26,7 @@ impl<'a, R: rt::Files> Model for HostFiles<'a, R> {
 }
 
 impl<'a, R: rt::Files> HostFiles<'a, R> {
+    /// The files of this runtime. No call failed so far, and no byte was taken.
     pub fn new(runtime: &'a R) -> Self
         ensures { result ≡ record { faults = 0; taken = 0 } }
     {

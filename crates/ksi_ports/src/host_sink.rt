@@ -15,6 +15,7 @@ pub struct HostSink<W: Write> {
 }
 
 impl<W: Write> HostSink<W> {
+    /// Output to this writer. No put failed so far.
     pub fn new(writer: W) -> Self
         ensures faults { faults_of result ≡ 0 }
         ensures writer { writer_of result ≡ writer }
@@ -41,8 +42,10 @@ impl<W: Write> Sink for HostSink<W> {
         ensures counted { OnOk result (faults_of self.new ≡ faults_of self.old) }
         ensures failed { OnErr result (Raises (faults_of self.old) (faults_of self.new)) }
         ensures once { OnErr result (faults_of self.new ≡ count_up 1 (faults_of self.old)) }
-        ensures writes { OnOk result (Appends (W.contents (writer_of self.old)) (W.contents (writer_of self.new)) piece.now) }
-        ensures front { OnErr result (AppendsFront (W.contents (writer_of self.old)) (W.contents (writer_of self.new)) piece.now) }
+        ensures writes { OnOk result (Appends (W.contents (writer_of self.old))
+            (W.contents (writer_of self.new)) piece.now) }
+        ensures front { OnErr result (AppendsFront (W.contents (writer_of self.old))
+            (W.contents (writer_of self.new)) piece.now) }
     {
         if write_whole(&mut self.writer, piece) {
             return Ok(());

@@ -31,7 +31,13 @@ impl Model for MemFiles {
 
     ghost Value = { StoredFiles };
 
-    ghost view = { λ files. record { entries = files.entries.items; failing = files.failing.items; calls = files.calls; faults = files.faults; taken = files.taken } };
+    ghost view = { λ files. record {
+      entries = files.entries.items;
+      failing = files.failing.items;
+      calls = files.calls;
+      faults = files.faults;
+      taken = files.taken;
+    } };
 }
 
 impl MemFiles {

@@ -23,7 +23,13 @@ impl Model for MemSink {
 
     ghost Value = { StoredOutput };
 
-    ghost view = { λ sink. record { written = sink.written.items; room = sink.room; failing = sink.failing.items; puts = sink.puts; faults = sink.faults } };
+    ghost view = { λ sink. record {
+      written = sink.written.items;
+      room = sink.room;
+      failing = sink.failing.items;
+      puts = sink.puts;
+      faults = sink.faults;
+    } };
 
     ghost invariant = { λ sink. (vec_len sink.written ≤ sink.room) × (sink.room ≤ vec_capacity sink.written) };
 }
