@@ -1,0 +1,16 @@
+-- What the trait asks, by the clauses of these files. Nothing is told of what they hold.
+use Rattle.std.proofs.Common.{refl}
+use Rattle.ksi_ports.proofs.ReadLemmas.{load_takes}
+use Rattle.ksi_ports.proofs.host_files.HostFilesFiles.TheImpl.Goals as goal
+
+pub load-tells : goal.load-tells
+load-tells g c = record {
+  counted = c.ensures.counted;
+  taken = load_takes c.args.most c.args.self.now.taken c.new.self.now.taken c.result c.ensures.takes;
+  within = c.ensures.within;
+  told = λ told. cc;
+  stays = refl;
+}
+
+pub save-tells : goal.save-tells
+save-tells g c = record { counted = c.ensures.counted; taken = c.ensures.taken; leaves = λ told. cc }

@@ -1,0 +1,5 @@
+-- What the trait asks, by the clauses of this sink. Nothing is told of what was written.
+use Rattle.ksi_ports.proofs.host_sink.HostSinkSink.TheImpl.Goals as goal
+
+pub put-tells : goal.put-tells
+put-tells g c = record { counted = c.ensures.counted; failed = c.ensures.failed; appended = λ told. cc; front = λ told. cc }

@@ -1,0 +1,44 @@
+-- What is known of files and output of the system: how often a call failed, and how many bytes were taken.
+use Rattle.std.specs.Prelude.{ℕ, ◌+◌, ◌≤◌, List, length, take, Option, Result, Ok, Err}
+use Rattle.std.specs.Io.KnownBytes.{Appends}
+use Rattle.ksi_ports.specs.declared.files.LoadRefusal.{LoadRefusal}
+use Rattle.ksi_ports.specs.declared.files.LoadRefusal.TheVariants.{Failed, TooLong, NoMemory}
+use Rattle.ksi_ports.specs.declared.host_sink.HostSink.{HostSink}
+use Rattle.ksi_ports.specs.Outside.{count_up, RoseBy, Raises}
+
+-- how often a call failed, and how many bytes were taken
+pub record Counted : Type 0 where
+  pub faults : ℕ
+  pub taken : ℕ
+
+-- the count of faults after a load with this answer
+abbrev pub faults_after : {T : Type 0} → ℕ → Result T LoadRefusal → ℕ
+faults_after before (Ok bytes) = before
+faults_after before (Err Failed) = count_up 1 before
+faults_after before (Err TooLong) = before
+faults_after before (Err NoMemory) = before
+
+-- a tally of bytes taken has risen by so many and by no more, up to 2 ^ 64 - 1
+pub record TakesExactly (n before now : ℕ) : Type 0 where
+  pub later : before ≤ now
+  pub rose : RoseBy n before now
+  pub no_more : now ≤ before + n
+
+-- the tally after a source was read: each byte that it gave is counted, and memory wants only for bytes that it gave
+abbrev pub ReadTakes : ℕ → ℕ → ℕ → Result (List ℕ) LoadRefusal → Type 0
+ReadTakes most before now (Ok bytes) = TakesExactly (length bytes) before now
+ReadTakes most before now (Err Failed) = before ≤ now
+ReadTakes most before now (Err TooLong) = TakesExactly (most + 1) before now
+ReadTakes most before now (Err NoMemory) = Raises before now
+
+-- the writer of a sink
+abbrev pub writer_of : {W : Type 0} → HostSink W → W
+writer_of sink = sink.writer
+
+-- how often a put of a sink failed
+abbrev pub faults_of : {W : Type 0} → HostSink W → ℕ
+faults_of sink = sink.faults
+
+-- known bytes have grown by a front of the piece
+abbrev pub AppendsFront : Option (List ℕ) → Option (List ℕ) → List ℕ → Type 0
+AppendsFront old new piece = (k : ℕ) × Appends old new (take k piece)

@@ -1,0 +1,4 @@
+pub mod Host
+pub mod Memory
+pub mod Outside
+pub mod Stored

@@ -1,0 +1,95 @@
+-- Files and output in memory, and what each call of theirs answers and leaves.
+use Rattle.std.specs.Prelude.{◌≡◌, ℕ, ◌+◌, Bool, IsTrue, IsFalse, IsOk, ◌||◌, nat_le, nat_lt, ◌==◌, List, [], ◌∷◌, ◌++◌, length, Option, Some, None, Result, Ok, Err, if◌then◌else◌, bytes_eq}
+use Rattle.std.specs.List.{list_any}
+use Rattle.ksi_ports.specs.declared.files.LoadRefusal.{LoadRefusal}
+use Rattle.ksi_ports.specs.declared.files.LoadRefusal.TheVariants.{Failed, TooLong, NoMemory}
+use Rattle.ksi_ports.specs.declared.files.SaveRefusal.{SaveRefusal}
+use Rattle.ksi_ports.specs.declared.files.SaveRefusal.TheVariants as saves
+use Rattle.ksi_ports.specs.declared.mem_files.Entry.{Entry}
+use Rattle.ksi_ports.specs.Stored.{Held}
+use Rattle.ksi_ports.specs.Outside.{count_up}
+
+-- the number of a call is one of those that are to fail
+abbrev pub is_listed : List ℕ → ℕ → Bool
+is_listed failing call = list_any (λ listed. listed == call) failing
+
+-- files in memory: the files, the newest first; the numbers of the calls that are to fail, counted from 0;
+-- how many calls there were; how many of them failed; how many bytes were taken
+pub record StoredFiles : Type 0 where
+  pub entries : List Entry
+  pub failing : List ℕ
+  pub calls : ℕ
+  pub faults : ℕ
+  pub taken : ℕ
+
+-- no files, and no call so far
+abbrev pub no_files : List ℕ → StoredFiles
+no_files failing = record { entries = []; failing = failing; calls = 0; faults = 0; taken = 0 }
+
+-- the bytes of the newest file of each name
+abbrev pub held_in : List Entry → Held
+held_in [] = λ name. None
+held_in (e ∷ es) = λ name. if bytes_eq e.name name then Some e.bytes else held_in es name
+
+-- the bytes where they are at most `most`
+abbrev pub up_to : ℕ → Option (List ℕ) → Result (List ℕ) LoadRefusal
+up_to most None = Err Failed
+up_to most (Some bytes) = if nat_le (length bytes) most then Ok bytes else Err TooLong
+
+-- what a load answers with ample memory: it fails exactly where the call is listed or the name is not held
+abbrev pub load_answer : StoredFiles → List ℕ → ℕ → Result (List ℕ) LoadRefusal
+load_answer files name most = if is_listed files.failing files.calls then Err Failed else up_to most (held_in files.entries name)
+
+-- the files after a load with this answer: want of memory changes nothing
+abbrev pub after_load : StoredFiles → ℕ → Result (List ℕ) LoadRefusal → StoredFiles
+after_load files most (Ok bytes) = record files { calls = count_up 1 files.calls; taken = count_up (length bytes) files.taken }
+after_load files most (Err Failed) = record files { calls = count_up 1 files.calls; faults = count_up 1 files.faults }
+after_load files most (Err TooLong) = record files { calls = count_up 1 files.calls; taken = count_up (most + 1) files.taken }
+after_load files most (Err NoMemory) = files
+
+-- the answer with ample memory, or want of memory in the place of bytes
+abbrev pub LoadAnswers : Result (List ℕ) LoadRefusal → Result (List ℕ) LoadRefusal → Type 0
+LoadAnswers ample (Ok bytes) = ample ≡ Ok bytes
+LoadAnswers ample (Err Failed) = ample ≡ Err Failed
+LoadAnswers ample (Err TooLong) = ample ≡ Err TooLong
+LoadAnswers ample (Err NoMemory) = IsOk ample
+
+-- a save fails exactly where the call is listed, and lacks memory only where it is not
+abbrev pub SaveAnswers : Bool → Result (Unit {0}) SaveRefusal → Type 0
+SaveAnswers listed (Ok u) = IsFalse listed
+SaveAnswers listed (Err saves.Failed) = IsTrue listed
+SaveAnswers listed (Err saves.NoMemory) = IsFalse listed
+
+-- the files with one more, which is the newest
+abbrev pub with_newest : StoredFiles → List ℕ → List ℕ → StoredFiles
+with_newest files name bytes = record files { entries = record { name = name; bytes = bytes } ∷ files.entries }
+
+-- the files after a save with this answer: one that fails leaves the name's content too
+abbrev pub after_save : StoredFiles → List ℕ → List ℕ → Result (Unit {0}) SaveRefusal → StoredFiles
+after_save files name bytes (Ok u) = record (with_newest files name bytes) { calls = count_up 1 files.calls }
+after_save files name bytes (Err saves.Failed) = record files { calls = count_up 1 files.calls; faults = count_up 1 files.faults }
+after_save files name bytes (Err saves.NoMemory) = files
+
+-- output in memory: what was written; for how many bytes there is room; the numbers of the puts that are to fail,
+-- counted from 0; how many puts there were; how many of them failed
+pub record StoredOutput : Type 0 where
+  pub written : List ℕ
+  pub room : ℕ
+  pub failing : List ℕ
+  pub puts : ℕ
+  pub faults : ℕ
+
+-- nothing written, and no put so far
+abbrev pub no_output : ℕ → List ℕ → StoredOutput
+no_output room failing = record { written = []; room = room; failing = failing; puts = 0; faults = 0 }
+
+-- a put fails exactly where it is listed or its piece passes the room
+abbrev pub put_fails : StoredOutput → List ℕ → Bool
+put_fails output piece = is_listed output.failing output.puts || nat_lt output.room (length output.written + length piece)
+
+-- the output after a put: one that fails writes nothing
+abbrev pub after_put : StoredOutput → List ℕ → StoredOutput
+after_put output piece =
+    if put_fails output piece
+    then record output { puts = count_up 1 output.puts; faults = count_up 1 output.faults }
+    else record output { puts = count_up 1 output.puts; written = output.written ++ piece }

@@ -1,0 +1,64 @@
+-- What the calls of files and of a sink answer, and what they leave.
+use Rattle.std.specs.Prelude.{◌≡◌, ◌≢◌, ℕ, ◌+◌, ◌-◌, ◌^◌, ◌≤◌, ◌<◌, min, List, ◌++◌, length, take, Option, Some, Result, Ok, Err}
+use Rattle.ksi_ports.specs.declared.files.LoadRefusal.{LoadRefusal}
+use Rattle.ksi_ports.specs.declared.files.LoadRefusal.TheVariants.{Failed, TooLong, NoMemory}
+use Rattle.ksi_ports.specs.declared.files.SaveRefusal.{SaveRefusal}
+use Rattle.ksi_ports.specs.declared.files.SaveRefusal.TheVariants as saves
+use Rattle.ksi_ports.specs.Stored.{Held, with_file}
+
+-- a count that goes up by so much, and stops at 2 ^ 64 - 1
+abbrev pub count_up : ℕ → ℕ → ℕ
+count_up n before = min (before + n) (2 ^ 64 - 1)
+
+-- A count has risen by so much or more. One that stands at 2 ^ 64 - 1 counts as risen by any number.
+abbrev pub RoseBy : ℕ → ℕ → ℕ → Type 0
+RoseBy n before now = count_up n before ≤ now
+
+abbrev pub Rose : ℕ → ℕ → Type 0
+Rose before now = RoseBy 1 before now
+
+-- a count did not fall, and has risen
+pub record Raises (before now : ℕ) : Type 0 where
+  pub later : before ≤ now
+  pub rose : Rose before now
+
+-- a load's count of faults: it rises where the load failed, and stays where it did not
+abbrev pub LoadCounts : {T : Type 0} → ℕ → ℕ → Result T LoadRefusal → Type 0
+LoadCounts before now (Ok bytes) = now ≡ before
+LoadCounts before now (Err Failed) = Raises before now
+LoadCounts before now (Err TooLong) = now ≡ before
+LoadCounts before now (Err NoMemory) = now ≡ before
+
+-- a load's tally of bytes taken: it does not fall, and where the file was too long it rises by more than `most`
+abbrev pub LoadTakes : {T : Type 0} → ℕ → ℕ → ℕ → Result T LoadRefusal → Type 0
+LoadTakes most before now (Ok bytes) = before ≤ now
+LoadTakes most before now (Err Failed) = before ≤ now
+LoadTakes most before now (Err TooLong) = (before ≤ now) × RoseBy (most + 1) before now
+LoadTakes most before now (Err NoMemory) = before ≤ now
+
+-- what a load answers, by what is held under the name: the bytes where they are at most `most`, too long where they are more
+abbrev pub LoadTells : ℕ → Option (List ℕ) → Result (List ℕ) LoadRefusal → Type 0
+LoadTells most held (Ok bytes) = (held ≡ Some bytes) × (length bytes ≤ most)
+LoadTells most held (Err Failed) = Unit {0}
+LoadTells most held (Err TooLong) = (bytes : List ℕ) × (held ≡ Some bytes) × (most < length bytes)
+LoadTells most held (Err NoMemory) = Unit {0}
+
+-- a save's count of faults
+abbrev pub SaveCounts : ℕ → ℕ → Result (Unit {0}) SaveRefusal → Type 0
+SaveCounts before now (Ok u) = now ≡ before
+SaveCounts before now (Err saves.Failed) = Raises before now
+SaveCounts before now (Err saves.NoMemory) = now ≡ before
+
+-- all names but this one hold what they held
+abbrev pub OthersStay : List ℕ → Held → Held → Type 0
+OthersStay name old new = (other : List ℕ) → other ≢ name → new other ≡ old other
+
+-- what a save leaves: the bytes under the name, or what no one knows under the name alone, or what was
+abbrev pub SaveLeaves : List ℕ → List ℕ → Held → Held → Result (Unit {0}) SaveRefusal → Type 0
+SaveLeaves name bytes old new (Ok u) = new ≡ with_file old name bytes
+SaveLeaves name bytes old new (Err saves.Failed) = OthersStay name old new
+SaveLeaves name bytes old new (Err saves.NoMemory) = new ≡ old
+
+-- the second is the first and a front of the piece, which may be none of it or all
+abbrev pub ExtendsByFront : List ℕ → List ℕ → List ℕ → Type 0
+ExtendsByFront old piece new = (k : ℕ) × (new ≡ old ++ take k piece)

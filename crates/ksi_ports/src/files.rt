@@ -1,0 +1,77 @@
+ghost use Rattle.std.specs.Prelude.{◌≡◌, ℕ, ◌≤◌, Bool, IsTrue, List, length, IfOk};
+ghost use Rattle.ksi_ports.specs.Stored.{Held};
+ghost use Rattle.ksi_ports.specs.Outside.{LoadCounts, LoadTakes, LoadTells, SaveCounts, SaveLeaves};
+
+use ksi_imprint::{Bytes, NoMemory};
+use std::alloc::Global;
+
+/// Why a load gave no bytes.
+#[derive(Clone, Copy, Debug, PartialEq, Eq)]
+pub enum LoadRefusal {
+    /// The file could not be read, and the count of faults rose.
+    Failed,
+    /// The file has more bytes than were allowed.
+    TooLong,
+    /// Memory was wanting.
+    NoMemory,
+}
+
+impl From<NoMemory> for LoadRefusal {
+    ghost use Rattle.std.specs.Prelude.{◌≡◌};
+    ghost use Rattle.ksi_ports.specs.declared.files.LoadRefusal.TheVariants.{NoMemory};
+
+    ghost from_gives = { λ _ refusal. refusal ≡ NoMemory };
+
+    fn from(_: NoMemory) -> Self {
+        LoadRefusal::NoMemory
+    }
+}
+
+/// Why a save did not save.
+#[derive(Clone, Copy, Debug, PartialEq, Eq)]
+pub enum SaveRefusal {
+    /// The file could not be written, and the count of faults rose. What it holds is unknown.
+    Failed,
+    /// Memory was wanting. Nothing changed.
+    NoMemory,
+}
+
+impl From<NoMemory> for SaveRefusal {
+    ghost use Rattle.std.specs.Prelude.{◌≡◌};
+    ghost use Rattle.ksi_ports.specs.declared.files.SaveRefusal.TheVariants.{NoMemory};
+
+    ghost from_gives = { λ _ refusal. refusal ≡ NoMemory };
+
+    fn from(_: NoMemory) -> Self {
+        SaveRefusal::NoMemory
+    }
+}
+
+/// Files by their names.
+pub trait Files {
+    /// Whether this kind of files tells what it holds.
+    ghost tells: { Bool };
+
+    /// What is held under each name.
+    ghost held: { Self → Held };
+
+    /// How often a call failed.
+    ghost faults: { Self → ℕ };
+
+    /// How many bytes were taken from files.
+    ghost taken: { Self → ℕ };
+
+    /// The bytes of a file that has at most `most` of them.
+    fn load(&mut self, alloc: Global, name: &str, most: usize) -> Result<Bytes, LoadRefusal>
+        ensures counted { LoadCounts (faults self.old) (faults self.new) result }
+        ensures taken { LoadTakes most (taken self.old) (taken self.new) result }
+        ensures within { IfOk result (λ bytes. length bytes ≤ most) }
+        ensures told { IsTrue tells → LoadTells most (held self.old name.now) result }
+        ensures stays { held self.new ≡ held self.old };
+
+    /// Makes these the bytes of the file, which need not have been there.
+    fn save(&mut self, alloc: Global, name: &str, bytes: &[u8]) -> Result<(), SaveRefusal>
+        ensures counted { SaveCounts (faults self.old) (faults self.new) result }
+        ensures taken { taken self.new ≡ taken self.old }
+        ensures leaves { IsTrue tells → SaveLeaves name.now bytes.now (held self.old) (held self.new) result };
+}

@@ -1,0 +1,130 @@
+ghost use Rattle.std.specs.Prelude.{◌≡◌, ◌≤◌, false, length, Some, None, IfOk, IfSome, if◌then◌else◌, is_ok};
+ghost use Rattle.ksi_ports.specs.Outside.{count_up, LoadCounts, LoadTells, SaveCounts};
+ghost use Rattle.ksi_ports.specs.Host.{ReadTakes, faults_after};
+
+use crate::{Files, LoadRefusal, SaveRefusal};
+use ksi_imprint::Bytes;
+use std::alloc::Global;
+use std::io::Read;
+use std::marker::Model;
+use std::{fs, rt};
+
+/// The files of a system. Nothing is told of what they hold.
+#[derive(Drop)]
+pub struct HostFiles<'a, R: rt::Files> {
+    runtime: &'a R,
+    faults: u64,
+    taken: u64,
+}
+
+impl<'a, R: rt::Files> Model for HostFiles<'a, R> {
+    ghost use Rattle.ksi_ports.specs.Host.{Counted};
+
+    ghost Value = { Counted };
+
+    ghost view = { λ files. record { faults = files.faults; taken = files.taken } };
+}
+
+impl<'a, R: rt::Files> HostFiles<'a, R> {
+    /// The files of this runtime. No call failed so far, and no byte was taken.
+    pub fn new(runtime: &'a R) -> Self
+        ensures { result ≡ record { faults = 0; taken = 0 } }
+    {
+        HostFiles {
+            runtime,
+            faults: 0,
+            taken: 0,
+        }
+    }
+
+    /// How many calls failed.
+    pub fn faults(&self) -> u64
+        ensures { result ≡ self.now.faults }
+    {
+        self.faults
+    }
+}
+
+impl<R: rt::Files> Files for HostFiles<'_, R> {
+    ghost tells = { false };
+
+    ghost held = { λ _ _. None };
+
+    ghost faults = { λ files. files.faults };
+
+    ghost taken = { λ files. files.taken };
+
+    fn load(&mut self, alloc: Global, name: &str, most: usize) -> Result<Bytes, LoadRefusal>
+        ensures counted { LoadCounts self.old.faults self.new.faults result }
+        ensures within { IfOk result (λ bytes. length bytes ≤ most) }
+        ensures faults { self.new.faults ≡ faults_after self.old.faults result }
+        ensures takes { ReadTakes most self.old.taken self.new.taken result }
+    {
+        let result = open_and_read(self.runtime, alloc, name, most, &mut self.taken);
+        if matches!(&result, Err(LoadRefusal::Failed)) {
+            self.faults = self.faults.saturating_add(1);
+        }
+        result
+    }
+
+    fn save(&mut self, _alloc: Global, name: &str, bytes: &[u8]) -> Result<(), SaveRefusal>
+        ensures counted { SaveCounts self.old.faults self.new.faults result }
+        ensures faults { self.new.faults ≡ (if is_ok result then self.old.faults else count_up 1 self.old.faults) }
+        ensures taken { self.new.taken ≡ self.old.taken }
+    {
+        match fs::write(self.runtime, name, bytes) {
+            Ok(()) => Ok(()),
+            Err(_) => {
+                self.faults = self.faults.saturating_add(1);
+                Err(SaveRefusal::Failed)
+            }
+        }
+    }
+}
+
+fn open_and_read<R: rt::Files>(
+    runtime: &R,
+    alloc: Global,
+    name: &str,
+    most: usize,
+    taken: &mut u64,
+) -> Result<Bytes, LoadRefusal>
+    ensures taken { ReadTakes most taken.old taken.new result }
+    ensures within { IfOk result (λ bytes. length bytes ≤ most) }
+{
+    match fs::open(runtime, name) {
+        Ok(mut file) => read_up_to(alloc, &mut file, most, taken),
+        Err(_) => Err(LoadRefusal::Failed),
+    }
+}
+
+/// Reads to the end, or to the first byte past `most`. Each turn takes at least one byte.
+pub(crate) fn read_up_to<S: Read>(
+    alloc: Global,
+    source: &mut S,
+    most: usize,
+    taken: &mut u64,
+) -> Result<Bytes, LoadRefusal>
+    ensures taken { ReadTakes most taken.old taken.new result }
+    ensures within { IfOk result (λ bytes. length bytes ≤ most) }
+    ensures told { IfSome (S.remaining source.old) (λ bytes. LoadTells most (Some bytes) result) }
+{
+    let mut bytes = Vec::new(alloc);
+    let mut buffer = [0; 4096];
+    'reading: while bytes.len() <= most {
+        let left = most - bytes.len();
+        let room = if left < buffer.len() {
+            left + 1
+        } else {
+            buffer.len()
+        };
+        let count = match source.read(&mut buffer[..room]) {
+            Ok(0) => return Ok(Bytes::from_vec(bytes)),
+            Ok(count) => count,
+            Err(_) => return Err(LoadRefusal::Failed),
+        };
+        *taken = taken.saturating_add(count as u64);
+        bytes.extend_from_slice(&buffer[..count])?;
+    }
+    Err(LoadRefusal::TooLong)
+}

@@ -1,0 +1,30 @@
+//! The files and the output that a run is lent: traits that count faults, and implementations in memory and over std.
+//!
+//! The layers above rely on three things. Where content is told, a load gives exactly what is held under the name, a save
+//! changes what is held under that name alone, and a put appends its piece. `Failed` and `SinkFailed` come only where the
+//! count of faults rose, and every other answer leaves it. `TooLong` comes only where more bytes were taken than allowed.
+//!
+//! ```text
+//! let mut files = MemFiles::new(alloc, failing);
+//! files.save(alloc, "name", b"content")?;
+//! let bytes = files.load(alloc, "name", 7)?;
+//! let mut out = MemSink::new(alloc, 32_767, failing_puts)?;
+//! out.put(bytes.as_slice())?;
+//! ```
+#![tactic(auto)]
+
+mod files;
+mod host_files;
+mod host_sink;
+mod mem_files;
+mod mem_sink;
+mod sink;
+#[cfg(test)]
+mod tests;
+
+pub use files::{Files, LoadRefusal, SaveRefusal};
+pub use host_files::HostFiles;
+pub use host_sink::HostSink;
+pub use mem_files::MemFiles;
+pub use mem_sink::MemSink;
+pub use sink::{Sink, SinkFailed};
