@@ -1,0 +1,36 @@
+//! The program: one command over the files and the output of the system.
+//!
+//! `ksi verify SIGNATURE HASH PUBLICATIONS` prints one line and ends with the run's status.
+#![tactic(auto)]
+
+use ksi_ports::{HostFiles, HostSink};
+use ksi_top::{Status, ksi};
+use std::alloc::AllocError;
+use std::process::ExitCode;
+use std::{env, io};
+
+fn main(rt: HostRuntime) -> ExitCode {
+    let status = match words(&rt) {
+        Ok(words) => run(&rt, &words),
+        Err(AllocError) => Status::NoMemory,
+    };
+    ExitCode::from(status as u8)
+}
+
+fn run(rt: &HostRuntime, words: &[String]) -> Status {
+    let mut files = HostFiles::new(rt);
+    let mut out = HostSink::new(io::writer(rt));
+    ksi(rt.alloc(), words, &mut files, &mut out)
+}
+
+/// The words after the program's name: none where one of them is not UTF-8.
+fn words(rt: &HostRuntime) -> Result<Vec<String>, AllocError> {
+    let mut words = Vec::new(rt.alloc());
+    let Ok(args) = env::args(rt) else {
+        return Ok(words);
+    };
+    for word in args.skip(1) {
+        words.push(word)?;
+    }
+    Ok(words)
+}

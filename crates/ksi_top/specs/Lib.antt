@@ -1,0 +1,13 @@
+pub mod Answers
+pub mod Causes
+pub mod Lines
+pub mod Loading
+pub mod Printed
+pub mod Publications
+pub mod Reading
+pub mod Run
+pub mod Signature
+pub mod Top
+pub mod Verdict
+pub mod Verify
+pub mod Words

@@ -1,0 +1,98 @@
+ghost use Rattle.std.specs.Prelude.{◌≡◌, ℕ, string_bytes};
+ghost use Rattle.ksi_top.specs.declared.answer.Halt.TheVariants.{NoMemory};
+ghost use Rattle.ksi_top.specs.Answers.{answer, saving};
+
+use crate::line::Line;
+use crate::status::Status;
+use ksi_imprint::{Bytes, NoMemory};
+use std::marker::Model;
+
+/// A file that is to be saved. A contract sees its name and its bytes.
+#[derive(Drop)]
+pub struct Saved {
+    pub name: String,
+    pub bytes: Bytes,
+}
+
+impl Model for Saved {
+    ghost use Rattle.std.specs.Prelude.{ℕ, List, string_bytes};
+
+    ghost Value = { List ℕ × List ℕ };
+
+    ghost view = { λ saved. (string_bytes saved.name, saved.bytes) };
+}
+
+impl Saved {
+    pub fn new(name: String, bytes: Bytes) -> Self
+        ensures { result ≡ (string_bytes name, bytes) }
+    {
+        Saved { name, bytes }
+    }
+
+    pub fn name(&self) -> &str
+        ensures { result.now ≡ self.now.0 }
+    {
+        self.name.as_str()
+    }
+
+    pub fn bytes(&self) -> &[u8]
+        ensures { result.now ≡ self.now.1 }
+    {
+        self.bytes.as_slice()
+    }
+}
+
+/// What a run answers, prints and saves.
+#[derive(Drop)]
+pub struct Answer {
+    pub status: Status,
+    pub line: Line,
+    pub saved: Option<Saved>,
+}
+
+impl Answer {
+    /// A status and a line, and nothing to save.
+    pub fn new(status: Status, line: Line) -> Self
+        ensures { result ≡ answer status line }
+    {
+        Answer {
+            status,
+            line,
+            saved: None,
+        }
+    }
+
+    /// The result's line, and a file to save.
+    pub fn saving(line: Line, saved: Saved) -> Self
+        ensures { result ≡ saving line saved.0 saved.1 }
+    {
+        Answer {
+            status: Status::Done,
+            line,
+            saved: Some(saved),
+        }
+    }
+}
+
+/// What ends a command before its result.
+#[derive(Drop)]
+pub enum Halt {
+    Answered(Answer),
+    Fault,
+    NoMemory,
+}
+
+impl From<NoMemory> for Halt {
+    ghost from_gives = { λ _ halt. halt ≡ NoMemory };
+
+    fn from(_: NoMemory) -> Self {
+        Halt::NoMemory
+    }
+}
+
+/// What cuts a run short.
+#[derive(Clone, Copy, Debug, PartialEq, Eq)]
+pub enum Cut {
+    Fault,
+    NoMemory,
+}

@@ -1,0 +1,51 @@
+// The file words that a command reads.
+ghost use Rattle.std.specs.Prelude.{◌≡◌, ℕ, IsTrue};
+ghost use Rattle.ksi_top.specs.Answers.{Gives};
+ghost use Rattle.ksi_top.specs.Causes.{LoadCaused, HaltsJudged, counts};
+ghost use Rattle.ksi_top.specs.Loading.{loaded, or_malformed};
+
+use crate::answer::{Answer, Halt};
+use crate::printed::Word::{Number, Text};
+use crate::printed::print;
+use crate::status::Status;
+use ksi_imprint::Bytes;
+use ksi_ports::{Files, LoadRefusal};
+use std::alloc::Global;
+
+/// The bytes of file word `n`, at most `limit` of them.
+#[tactic(auto, unfolding(crate::specs::Loading::loaded))]
+pub(crate) fn load_file<F: Files>(
+    alloc: Global,
+    files: &mut F,
+    limit: usize,
+    n: usize,
+    name: &str,
+) -> Result<Bytes, Halt>
+    ensures told { IsTrue F.tells → Gives (loaded limit n (F.held files.old) name.now) result }
+    ensures stays { IsTrue F.tells → F.held files.new ≡ F.held files.old }
+    ensures causes { LoadCaused limit (counts (F.faults files.old) (F.taken files.old)) (counts (F.faults files.new) (F.taken files.new)) result }
+{
+    match files.load(alloc, name, limit) {
+        Ok(bytes) => Ok(bytes),
+        Err(LoadRefusal::Failed) => Err(Halt::Fault),
+        Err(LoadRefusal::NoMemory) => Err(Halt::NoMemory),
+        Err(LoadRefusal::TooLong) => {
+            let line = print(alloc, &[Text("too long"), Number(n as u64)])?;
+            Err(Halt::Answered(Answer::new(Status::TooLong, line)))
+        }
+    }
+}
+
+/// What file word `n` was read as, or that it is not in its grammar.
+pub(crate) fn or_malformed<T: Drop>(alloc: Global, n: usize, read: Option<T>) -> Result<T, Halt>
+    ensures told { Gives (or_malformed n read) result }
+    ensures judged { HaltsJudged result }
+{
+    match read {
+        Some(value) => Ok(value),
+        None => {
+            let line = print(alloc, &[Text("malformed"), Number(n as u64)])?;
+            Err(Halt::Answered(Answer::new(Status::Malformed, line)))
+        }
+    }
+}
