@@ -27,11 +27,21 @@ abbrev pub NamesStay : Option (List ℕ × List ℕ) → Held → Held → Type 
 NamesStay None old new = new ≡ old
 NamesStay (Some file) old new = OthersStay file.0 old new
 
--- What a fault leaves: nothing saved and put; or the one name unknown, and nothing put; or the file saved, and a front of the line put.
-pub data FaultLeaves (files_tell sink_tells : Bool) (ran : Answer) (old new : Held) (faults faults' : ℕ) (before after : List ℕ) (puts puts' : ℕ) : Type 0 where
-  at_load : Rose faults faults' → (IsTrue files_tell → new ≡ old) → (IsTrue sink_tells → after ≡ before) → FaultLeaves files_tell sink_tells ran old new faults faults' before after puts puts'
-  at_save : Rose faults faults' → (IsTrue files_tell → NamesStay ran.saved old new) → (IsTrue sink_tells → after ≡ before) → FaultLeaves files_tell sink_tells ran old new faults faults' before after puts puts'
-  at_put : Rose puts puts' → (IsTrue files_tell → new ≡ saved_into ran.saved old) → (IsTrue files_tell → IsTrue sink_tells → ExtendsByFront before ran.line after) → FaultLeaves files_tell sink_tells ran old new faults faults' before after puts puts'
+-- files and output at a moment: what is held, how often a call on the files failed, what was written, how often a put failed
+pub record Outside : Type 0 where
+  pub held : Held
+  pub faults : ℕ
+  pub written : List ℕ
+  pub failed_puts : ℕ
+
+abbrev pub outside : Held → ℕ → List ℕ → ℕ → Outside
+outside held faults written failed_puts = record { held = held; faults = faults; written = written; failed_puts = failed_puts }
+
+-- What a fault leaves: nothing saved and nothing put; or the one name unknown and nothing put; or the file saved and a front of the line put.
+pub data FaultLeaves (files_tell sink_tells : Bool) (ran : Answer) (old new : Outside) : Type 0 where
+  at_load : Rose old.faults new.faults → (IsTrue files_tell → new.held ≡ old.held) → (IsTrue sink_tells → new.written ≡ old.written) → FaultLeaves files_tell sink_tells ran old new
+  at_save : Rose old.faults new.faults → (IsTrue files_tell → NamesStay ran.saved old.held new.held) → (IsTrue sink_tells → new.written ≡ old.written) → FaultLeaves files_tell sink_tells ran old new
+  at_put : Rose old.failed_puts new.failed_puts → (IsTrue files_tell → new.held ≡ saved_into ran.saved old.held) → (IsTrue files_tell → IsTrue sink_tells → ExtendsByFront old.written ran.line new.written) → FaultLeaves files_tell sink_tells ran old new
 
 -- `Words` is answered exactly where the words are no command
 abbrev pub WordsStatus : Result Asked WordsRefusal → Status → Type 0

@@ -1,6 +1,6 @@
 // The top call.
 ghost use Rattle.std.specs.Prelude.{◌≡◌, ◌≢◌, ℕ, ◌+◌, ◌<◌, ◌≤◌, ◌++◌, List, length, IsTrue, None};
-ghost use Rattle.ksi_top.specs.Top.{UnlessCut, FaultLeaves, WordsStatus, WordsLine, TookTooMuch};
+ghost use Rattle.ksi_top.specs.Top.{UnlessCut, FaultLeaves, outside, WordsStatus, WordsLine, TookTooMuch};
 ghost use Rattle.ksi_top.specs.Run.{run, saved_into};
 ghost use Rattle.ksi_top.specs.Words.{texts, command_of};
 
@@ -27,8 +27,8 @@ pub fn ksi<F: Files, K: Sink>(alloc: Global, words: &[String], files: &mut F, ou
     // A fault is answered only where a count rose, and always where one is greater at the end.
     ensures fault { result ≡ Status.Fault →
         FaultLeaves F.tells K.tells (run (texts words.now) (F.held files.old))
-        (F.held files.old) (F.held files.new) (F.faults files.old) (F.faults files.new)
-        (K.written out.old) (K.written out.new) (K.faults out.old) (K.faults out.new) }
+        (outside (F.held files.old) (F.faults files.old) (K.written out.old) (K.faults out.old))
+        (outside (F.held files.new) (F.faults files.new) (K.written out.new) (K.faults out.new)) }
     ensures files_fault { F.faults files.old < F.faults files.new → result ≡ Status.Fault }
     ensures sink_fault { K.faults out.old < K.faults out.new → result ≡ Status.Fault }
 
@@ -63,7 +63,10 @@ fn finish<F: Files, K: Sink>(alloc: Global, answer: &Answer, files: &mut F, out:
     ensures put { IsTrue K.tells → UnlessCut result (K.written out.new ≡ K.written out.old ++ answer.now.line) }
     ensures fits { IsTrue K.tells → length (K.written out.new) ≤ length (K.written out.old) + 32767 }
     ensures taken { F.taken files.old ≤ F.taken files.new }
-    ensures fault { result ≡ Status.Fault → FaultLeaves F.tells K.tells answer.now (F.held files.old) (F.held files.new) (F.faults files.old) (F.faults files.new) (K.written out.old) (K.written out.new) (K.faults out.old) (K.faults out.new) }
+    ensures fault { result ≡ Status.Fault →
+        FaultLeaves F.tells K.tells answer.now
+        (outside (F.held files.old) (F.faults files.old) (K.written out.old) (K.faults out.old))
+        (outside (F.held files.new) (F.faults files.new) (K.written out.new) (K.faults out.new)) }
     ensures files_fault { F.faults files.old < F.faults files.new → result ≡ Status.Fault }
     ensures sink_fault { K.faults out.old < K.faults out.new → result ≡ Status.Fault }
     ensures unsaved { result ≢ Status.Done → result ≢ Status.Fault → IsTrue F.tells → F.held files.new ≡ F.held files.old }
