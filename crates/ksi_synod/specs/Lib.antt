@@ -1,0 +1,7 @@
+pub mod Voters
+pub mod Flags
+pub mod Ballots
+pub mod VoteState
+pub mod Rows
+pub mod Instance
+pub mod History

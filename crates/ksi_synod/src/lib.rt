@@ -1,0 +1,12 @@
+//! The vote of the cores on one second.
+#![tactic(auto)]
+
+mod hand;
+mod instance;
+pub mod laws;
+mod messages;
+mod voters;
+
+pub use instance::Instance;
+pub use messages::{Begun, LastVote, SynodMessage, Took, Vote};
+pub use voters::Voters;
