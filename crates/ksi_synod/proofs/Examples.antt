@@ -1,7 +1,9 @@
 -- Runs of whole histories, computed.
 use Rattle.std.specs.Prelude.{◌≡◌, ℕ, List, [], ◌∷◌, length, refl, Option, Some, None}
 use Rattle.ksi_synod.specs.Voters.{cores_below}
-use Rattle.ksi_synod.specs.History.{SetUp, Event, Seal, Ballot, Tell, Deliver, Restart, Moment, after, held_by}
+use Rattle.ksi_synod.specs.VoteState.{fresh_vote}
+use Rattle.ksi_synod.specs.Rows.{try_ballot, on_next, on_last, on_begin, on_voted, receive}
+use Rattle.ksi_synod.specs.History.{SetUp, Event, Seal, Ballot, Deliver, Restart, Moment, seal, happens, first_moment, after, held_by}
 
 -- three cores, which all vote
 abbrev three : SetUp
@@ -43,17 +45,17 @@ abbrev restarted_core : List Event
 restarted_core = Seal 0 a ∷ Ballot 0 ∷ Deliver 0 ∷ Deliver 1 ∷ Deliver 3 ∷ Restart 0 ∷ Deliver 4 ∷ []
 
 decided_is : seen decided ≡ record { held = Some (5 ∷ []) ∷ None ∷ None ∷ []; messages = 13 }
-unfolding a b
+unfolding a b happens first_moment fresh_vote seal try_ballot on_next on_last on_begin on_voted receive
 decided_is = refl
 
 taken_over_is : seen taken_over ≡ record { held = Some (5 ∷ []) ∷ None ∷ Some (5 ∷ []) ∷ []; messages = 26 }
-unfolding a b
+unfolding a b happens first_moment fresh_vote seal try_ballot on_next on_last on_begin on_voted receive
 taken_over_is = refl
 
 repeated_is : seen repeated ≡ record { held = None ∷ None ∷ None ∷ []; messages = 4 }
-unfolding a b
+unfolding a b happens first_moment fresh_vote seal try_ballot on_next on_last on_begin on_voted receive
 repeated_is = refl
 
 restarted_core_is : seen restarted_core ≡ record { held = None ∷ None ∷ None ∷ []; messages = 5 }
-unfolding a b
+unfolding a b happens first_moment fresh_vote seal try_ballot on_next on_last on_begin on_voted receive
 restarted_core_is = refl

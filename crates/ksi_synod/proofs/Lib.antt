@@ -5,3 +5,4 @@ pub mod Keeping
 pub mod Steps
 pub mod Histories
 pub mod Examples
+pub mod Staying

@@ -9,10 +9,10 @@ use Rattle.ksi_synod.specs.declared.messages.SynodMessage.{SynodMessage}
 use Rattle.ksi_synod.specs.declared.messages.SynodMessage.TheVariants as message
 use Rattle.ksi_synod.specs.declared.messages.Took.{Took}
 use Rattle.ksi_synod.specs.declared.messages.Begun.{Begun}
-use Rattle.ksi_synod.specs.Voters.{is_flagged, no_flags, is_majority}
+use Rattle.ksi_synod.specs.Voters.{is_voter, is_flagged, no_flags, is_majority}
 use Rattle.ksi_synod.specs.VoteState.{VoteState, Hand, fresh_vote, new_hand}
 use Rattle.ksi_synod.specs.Ballots.{last_round}
-use Rattle.ksi_synod.specs.Rows.{sealed_with, greater_round, next_ballot, try_ballot, try_ballot_of, on_next, greater_vote, counts_last, with_last, decree_of, decree_now, begun_with, on_last, on_last_of, is_older, on_begin, counts_voted, with_voted, completes, voted_added, on_voted, on_voted_of, on_voted_begun, on_success, on_success_of, restarted, promise_told, decree_begun, vote_told, decree_told, receive}
+use Rattle.ksi_synod.specs.Rows.{sealed_with, greater_round, next_ballot, try_ballot, try_ballot_of, on_next, greater_vote, counts_last, with_last, decree_of, decree_now, begun_with, on_last, on_last_of, is_older, on_begin, voted_for, with_voted, completes, on_voted, on_voted_of, on_voted_for, on_success, on_success_of, restarted, promise_told, decree_begun, vote_told, decree_told, receive}
 use Rattle.ksi_synod.specs.History.{seal, seal_of, ballot_told, held_told}
 use Rattle.ksi_synod.proofs.Majorities.{IsMajority}
 use Rattle.ksi_synod.proofs.Invariant.{Said, says, Has, here, Has-cases, BegunIn, Covers, Chosen, AtMost, Keeps, LastIn, IsHand, IsVoteState, IsLast, IsSafe, IsBegin, IsMessage, Holds}
@@ -493,7 +493,7 @@ module _ (voters : List ℕ) (states : ℕ → VoteState) (said : List Said) (j 
 
       by : (o : Option Hand) → (states j).hand ≡ o → Keeps_on voters states said j ((on_last_of o (states j) from l.ballot l.vote).0, decree_begun l.ballot (on_last_of o (states j) from l.ballot l.vote).1)
       by None e = λ states' others mine. stay voters states states' said j ok others mine
-      by (Some h) e = cond_both (counts_last (states j).voters h from l.ballot) _ _ (λ (r : VoteState × Took). Keeps_on voters states said j (r.0, decree_begun l.ballot r.1))
+      by (Some h) e = cond_both (counts_last (states j).voters (Some h) from l.ballot) _ _ (λ (r : VoteState × Took). Keeps_on voters states said j (r.0, decree_begun l.ballot r.1))
           (λ t.
           let tests = and_parts _ _ t in
           let at : h.ballot ≡ l.ballot = eqb-true _ _ tests.0 in
@@ -513,11 +513,15 @@ module _ (voters : List ℕ) (states : ℕ → VoteState) (said : List Said) (j 
       or_chosen None d chosen old e is = let same : d ≡ e = cc is in subst (λ z. Chosen voters said z) same chosen
       or_chosen (Some h) d chosen old e is = old e is
 
-      begun_by : (h : Hand) → (states j).hand ≡ Some h → (o : Option (List ℕ)) → h.decree ≡ o → Keeps_on voters states said j ((on_voted_begun o h (states j) from b).0, decree_told (on_voted_begun o h (states j) from b).1)
-      begun_by h in_hand None e = λ states' others mine. stay voters states states' said j ok others mine
-      begun_by h in_hand (Some d) e = cond_both (counts_voted (states j).voters h from b) _ _ (λ (r : VoteState × Took). Keeps_on voters states said j (r.0, decree_told r.1))
-          (λ t.
-          let at : h.ballot ≡ b = eqb-true _ _ (and_parts _ _ t).0 in
+      for_is : (h : Hand) (d : List ℕ) → voted_for (states j).voters (Some h) from b ≡ Some d → (h.ballot ≡ b) × (h.decree ≡ Some d)
+      for_is h d is = cond_both (eqb h.ballot b && (is_voter (states j).voters from && not (is_flagged h.voted from))) h.decree None (λ (o : Option (List ℕ)). o ≡ Some d → (h.ballot ≡ b) × (h.decree ≡ Some d))
+          (λ t e. (eqb-true _ _ (and_parts _ _ t).0, e)) (λ _ e. absurd (cc e)) is
+
+      for_by : (h : Hand) → (states j).hand ≡ Some h → (o : Option (List ℕ)) → voted_for (states j).voters (Some h) from b ≡ o → Keeps_on voters states said j ((on_voted_for o h (states j) from).0, decree_told (on_voted_for o h (states j) from).1)
+      for_by h in_hand None counts = λ states' others mine. stay voters states states' said j ok others mine
+      for_by h in_hand (Some d) counts =
+          let at : h.ballot ≡ b = (for_is h d counts).0 in
+          let e : h.decree ≡ Some d = (for_is h d counts).1 in
           let told : Has said (says from (message.Voted h.ballot)) = subst (λ b. Has said (says from (message.Voted b))) (sym at) has in
           let h_ok : IsHand said j (states j).tried h = (ok.state j).in_hand h in_hand in
           let new_ok : IsHand said j (states j).tried (with_voted h from) = hand_with_voted said j (states j).tried h from told h_ok in
@@ -533,12 +537,11 @@ module _ (voters : List ℕ) (states : ℕ → VoteState) (said : List Said) (j 
           let holds : (e : List ℕ) → Some (unwrap_or (states j).held d) ≡ Some e → Chosen voters said e = or_chosen (states j).held d chosen (ok.state j).held in
           let now : Holds voters states' said = hand_taken voters states states' said j ok others h (with_voted h from) (Some (unwrap_or (states j).held d)) in_hand new_ok refl holds mine in
           say voters states' said j now (message.Success d) (λ _ m. absurd (cc m)) (λ _ m. absurd (cc m)) (λ _ _ m. absurd (cc m)) chosen)
-          (λ _ states' others mine. hand_taken voters states states' said j ok others h (with_voted h from) (states j).held in_hand new_ok refl (ok.state j).held mine))
-          (λ _ states' others mine. stay voters states states' said j ok others mine)
+          (λ _ states' others mine. hand_taken voters states states' said j ok others h (with_voted h from) (states j).held in_hand new_ok refl (ok.state j).held mine)
 
       by : (o : Option Hand) → (states j).hand ≡ o → Keeps_on voters states said j ((on_voted_of o (states j) from b).0, decree_told (on_voted_of o (states j) from b).1)
       by None e = λ states' others mine. stay voters states states' said j ok others mine
-      by (Some h) e = begun_by h e h.decree refl
+      by (Some h) e = for_by h e (voted_for (states j).voters (Some h) from b) refl
 
   -- a delivered message that was said
   pub keeps_receive : (from : ℕ) (m : SynodMessage) → Has said (says from m) → Keeps_on voters states said j (receive (states j) from m)

@@ -47,9 +47,10 @@ on_next s ballot =
 
 -- LASTVOTE(b, v) from a core
 
--- it counts where the hand is of this ballot, nothing is begun, and the sender is a voter that did not count yet
-abbrev pub counts_last : (voters : List ℕ) → Hand → (from ballot : ℕ) → Bool
-counts_last voters h from ballot = (h.ballot == ballot) && (is_none h.decree && (is_voter voters from && not (is_flagged h.last from)))
+-- whether it counts: the hand is of this ballot, nothing is begun, and the sender is a voter that did not count yet
+abbrev pub counts_last : (voters : List ℕ) → Option Hand → (from ballot : ℕ) → Bool
+counts_last voters None from ballot = false
+counts_last voters (Some h) from ballot = (h.ballot == ballot) && (is_none h.decree && (is_voter voters from && not (is_flagged h.last from)))
 
 -- the vote of the greater ballot; of equal ballots the one that came first
 abbrev pub greater_vote : (old new : Option Vote) → Option Vote
@@ -81,7 +82,7 @@ begun_with s h decree = (record s { hand = Some (record h { decree = decree }) }
 abbrev pub on_last_of : Option Hand → VoteState → (from ballot : ℕ) (vote : Option Vote) → VoteState × Took
 on_last_of None s from ballot vote = (s, Nothing)
 on_last_of (Some h) s from ballot vote =
-    if counts_last s.voters h from ballot
+    if counts_last s.voters (Some h) from ballot
     then begun_with s (with_last h from vote) (decree_now s.voters s.candidate (with_last h from vote))
     else (s, Nothing)
 
@@ -103,9 +104,11 @@ on_begin s ballot decree =
 
 -- VOTED(b) from a core
 
--- it counts where the hand is of this ballot, and the sender is a voter that did not count yet
-abbrev pub counts_voted : (voters : List ℕ) → Hand → (from ballot : ℕ) → Bool
-counts_voted voters h from ballot = (h.ballot == ballot) && (is_voter voters from && not (is_flagged h.voted from))
+-- the decree that it counts for: the one that is begun, where the hand is of this ballot, and the sender is a voter that
+-- did not count yet
+abbrev pub voted_for : (voters : List ℕ) → Option Hand → (from ballot : ℕ) → Option (List ℕ)
+voted_for voters None from ballot = None
+voted_for voters (Some h) from ballot = if (h.ballot == ballot) && (is_voter voters from && not (is_flagged h.voted from)) then h.decree else None
 
 -- the sender counts
 abbrev pub with_voted : Hand → (from : ℕ) → Hand
@@ -122,17 +125,13 @@ voted_added s before after decree =
     then (record s { held = Some (unwrap_or s.held decree); hand = Some after }, Decree decree)
     else (record s { hand = Some after }, Added)
 
--- nothing counts before the decree is begun
-abbrev pub on_voted_begun : (decree : Option (List ℕ)) → Hand → VoteState → (from ballot : ℕ) → VoteState × Took
-on_voted_begun None h s from ballot = (s, Nothing)
-on_voted_begun (Some decree) h s from ballot =
-    if counts_voted s.voters h from ballot
-    then voted_added s h (with_voted h from) decree
-    else (s, Nothing)
+abbrev pub on_voted_for : (decree : Option (List ℕ)) → Hand → VoteState → (from : ℕ) → VoteState × Took
+on_voted_for None h s from = (s, Nothing)
+on_voted_for (Some decree) h s from = voted_added s h (with_voted h from) decree
 
 abbrev pub on_voted_of : Option Hand → VoteState → (from ballot : ℕ) → VoteState × Took
 on_voted_of None s from ballot = (s, Nothing)
-on_voted_of (Some h) s from ballot = on_voted_begun h.decree h s from ballot
+on_voted_of (Some h) s from ballot = on_voted_for (voted_for s.voters (Some h) from ballot) h s from
 
 unfoldable pub on_voted : VoteState → (from ballot : ℕ) → VoteState × Took
 on_voted s from ballot = on_voted_of s.hand s from ballot
@@ -179,10 +178,14 @@ receive s from (message.BeginBallot b d) = ((on_begin s b d).0, vote_told b (on_
 receive s from (message.Voted b) = ((on_voted s from b).0, decree_told (on_voted s from b).1)
 receive s from (message.Success d) = ((on_success s d).0, None)
 
--- the ballot that a message names is one
+-- the ballot that a message names, if any, is one
 abbrev pub OfBallot : SynodMessage → Type 0
 OfBallot (message.NextBallot b) = IsBallot b
 OfBallot (message.LastVote l) = IsBallot l.ballot
 OfBallot (message.BeginBallot b d) = IsBallot b
 OfBallot (message.Voted b) = IsBallot b
 OfBallot (message.Success d) = Unit {0}
+
+abbrev pub OfReply : Option SynodMessage → Type 0
+OfReply None = Unit {0}
+OfReply (Some message) = OfBallot message

@@ -1,6 +1,6 @@
-ghost use Rattle.std.specs.Prelude.{◌≡◌, ◌<◌, ℕ};
+ghost use Rattle.std.specs.Prelude.{◌≡◌, ◌<◌, Some};
 ghost use Rattle.ksi_synod.specs.VoteState.{Hand, new_hand};
-ghost use Rattle.ksi_synod.specs.Rows.{counts_last, with_last, decree_now, took_of, counts_voted, with_voted, completes, greater_vote, decree_of};
+ghost use Rattle.ksi_synod.specs.Rows.{counts_last, with_last, decree_now, took_of, voted_for, with_voted, completes, greater_vote, decree_of};
 
 use crate::messages::{Took, Vote};
 use crate::voters::Voters;
@@ -39,17 +39,10 @@ impl InHand {
         }
     }
 
-    /// The decree, once it is begun.
-    pub fn decree(&self) -> Option<Imprint>
-        ensures { result ≡ self.now.decree }
-    {
-        self.decree
-    }
-
     /// Whether a LastVote of the core in the ballot counts.
     pub fn counts_last(&self, voters: &Voters, from: u8, ballot: u64) -> bool
         requires { from < 9 }
-        ensures { result ≡ counts_last voters.now self.now from ballot }
+        ensures { result ≡ counts_last voters.now (Some self.now) from ballot }
     {
         self.ballot == ballot
             && self.decree.is_none()
@@ -82,12 +75,16 @@ impl InHand {
         }
     }
 
-    /// Whether a Voted of the core in the ballot counts.
-    pub fn counts_voted(&self, voters: &Voters, from: u8, ballot: u64) -> bool
+    /// The decree that a Voted of the core in the ballot counts for, where it counts.
+    pub fn voted_for(&self, voters: &Voters, from: u8, ballot: u64) -> Option<Imprint>
         requires { from < 9 }
-        ensures { result ≡ counts_voted voters.now self.now from ballot }
+        ensures { result ≡ voted_for voters.now (Some self.now) from ballot }
     {
-        self.ballot == ballot && voters.contains(from) && !self.voted[from as usize]
+        if self.ballot == ballot && voters.contains(from) && !self.voted[from as usize] {
+            self.decree
+        } else {
+            None
+        }
     }
 
     /// Counts a Voted of the core: whether it completes a majority.

@@ -1,8 +1,10 @@
-ghost use Rattle.std.specs.Prelude.{◌≡◌, ℕ, ◌+◌, ◌*◌, ◌^◌, ◌<◌, ◌≤◌, length, Some, None};
-ghost use Rattle.ksi_synod.specs.Ballots.{IsBallot, some_ballot};
+ghost use Rattle.std.specs.Prelude.{◌≡◌, ℕ, ◌+◌, ◌*◌, ◌^◌, ◌<◌, ◌≤◌, ◌↔◌, IsTrue, IsNone, IsSome, IfSome, false};
+ghost use Rattle.ksi_synod.specs.Ballots.{IsBallot, last_round, some_ballot};
+ghost use Rattle.ksi_synod.specs.declared.messages.Begun.TheVariants.{Unsealed, Last, Next};
+ghost use Rattle.ksi_synod.specs.declared.messages.Took.TheVariants.{Nothing};
 ghost use Rattle.ksi_synod.specs.Voters.{cores_below};
 ghost use Rattle.ksi_synod.specs.VoteState.{fresh_vote};
-ghost use Rattle.ksi_synod.specs.Rows.{sealed_with, try_ballot, on_next, on_last, on_begin, on_voted, on_success, restarted, receive, OfBallot};
+ghost use Rattle.ksi_synod.specs.Rows.{sealed_with, greater_round, try_ballot, on_next, counts_last, on_last, is_older, on_begin, voted_for, on_voted, on_success, restarted, receive, OfBallot, OfReply};
 
 use crate::hand::InHand;
 use crate::messages::{Begun, LastVote, SynodMessage, Took, Vote};
@@ -61,7 +63,7 @@ impl Instance {
     /// Sets the candidate.
     #[tactic(auto, unfolding(crate::specs::Instance::state_of))]
     pub fn candidate(&mut self, imprint: Imprint)
-        requires { self.old.candidate ≡ None }
+        requires { IsNone self.old.candidate }
         ensures { self.new ≡ sealed_with self.old imprint }
     {
         self.candidate = Some(imprint);
@@ -72,6 +74,9 @@ impl Instance {
     pub fn try_ballot(&mut self) -> Begun
         ensures after { self.new ≡ (try_ballot self.old).0 }
         ensures answer { result ≡ (try_ballot self.old).1 }
+        ensures unsealed { (result ≡ Unsealed) ↔ IsNone self.old.candidate }
+        ensures last { (result ≡ Last) ↔ (IsSome self.old.candidate × (greater_round self.old ≡ last_round)) }
+        ensures ballot { (ballot : ℕ) → result ≡ Next ballot → IsBallot ballot }
     {
         if self.candidate.is_none() {
             return Begun::Unsealed;
@@ -92,6 +97,8 @@ impl Instance {
         requires { IsBallot ballot }
         ensures after { self.new ≡ (on_next self.old ballot).0 }
         ensures answer { result ≡ (on_next self.old ballot).1 }
+        ensures refused { IsNone result ↔ (ballot ≤ self.old.promised) }
+        ensures told { IfSome result (λ last. (last.ballot ≡ ballot) × (last.vote ≡ self.old.vote)) }
     {
         if self.promised < ballot {
             self.promised = ballot;
@@ -111,6 +118,7 @@ impl Instance {
         requires ballot { IsBallot ballot }
         ensures after { self.new ≡ (on_last self.old from ballot vote).0 }
         ensures answer { result ≡ (on_last self.old from ballot vote).1 }
+        ensures nothing { (result ≡ Nothing) ↔ (counts_last self.old.voters self.old.hand from ballot ≡ false) }
     {
         let Some(hand) = &mut self.hand else {
             return Took::Nothing;
@@ -128,6 +136,7 @@ impl Instance {
         requires { IsBallot ballot }
         ensures after { self.new ≡ (on_begin self.old ballot decree).0 }
         ensures answer { result ≡ (on_begin self.old ballot decree).1 }
+        ensures votes { IsTrue result ↔ ((ballot ≡ self.old.promised) × IsTrue (is_older self.old.vote ballot)) }
     {
         let older = match self.vote {
             None => true,
@@ -151,16 +160,14 @@ impl Instance {
         requires ballot { IsBallot ballot }
         ensures after { self.new ≡ (on_voted self.old from ballot).0 }
         ensures answer { result ≡ (on_voted self.old from ballot).1 }
+        ensures nothing { (result ≡ Nothing) ↔ IsNone (voted_for self.old.voters self.old.hand from ballot) }
     {
         let Some(hand) = &mut self.hand else {
             return Took::Nothing;
         };
-        let Some(decree) = hand.decree() else {
+        let Some(decree) = hand.voted_for(&self.voters, from, ballot) else {
             return Took::Nothing;
         };
-        if !hand.counts_voted(&self.voters, from, ballot) {
-            return Took::Nothing;
-        }
         if !hand.add_voted(&self.voters, from) {
             return Took::Added;
         }
@@ -173,6 +180,7 @@ impl Instance {
     pub fn on_success(&mut self, decree: Imprint) -> bool
         ensures after { self.new ≡ (on_success self.old decree).0 }
         ensures answer { result ≡ (on_success self.old decree).1 }
+        ensures holds { IsTrue result ↔ IsNone self.old.held }
     {
         match self.held {
             None => {
@@ -198,9 +206,13 @@ impl Instance {
         requires ballot { OfBallot message.now }
         ensures after { self.new ≡ (receive self.old from message.now).0 }
         ensures sends { result ≡ (receive self.old from message.now).1 }
+        ensures reply { OfReply result }
     {
         match *message {
-            SynodMessage::NextBallot(ballot) => self.on_next(ballot).map(SynodMessage::LastVote),
+            SynodMessage::NextBallot(ballot) => {
+                let last = self.on_next(ballot)?;
+                Some(SynodMessage::LastVote(last))
+            }
             SynodMessage::LastVote(last) => match self.on_last(from, last.ballot, last.vote) {
                 Took::Decree(decree) => Some(SynodMessage::BeginBallot(last.ballot, decree)),
                 _ => None,
