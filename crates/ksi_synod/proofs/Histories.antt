@@ -1,11 +1,13 @@
 -- What holds of the vote on one second after any history.
 use Rattle.std.proofs.Common.{◌≡◌, ◌≢◌, ℕ, zero, suc, ◌<◌, ◌≤◌, Bool, List, [], ◌∷◌, ◌++◌, eqb, refl, sym, ap, subst, ◌∙◌, arith, ◌⊎◌, inl, inr, Option, Some, None}
-use Rattle.std.specs.Prelude.{slice_get, map, All}
-use Rattle.std.proofs.lemmas.Bool.{cond-true, cond-false, eq-eqb, ne_eqb}
+use Rattle.std.specs.Prelude.{slice_get, map, IsTrue}
+use Rattle.std.specs.List.{list_all}
+use Rattle.std.proofs.lemmas.Bool.{and_parts, ltb-true, cond-true, cond-false, eq-eqb, ne_eqb}
 use Rattle.ksi_synod.specs.declared.messages.SynodMessage.{SynodMessage}
 use Rattle.ksi_synod.specs.VoteState.{VoteState}
 use Rattle.ksi_synod.specs.Rows.{receive, try_ballot, restarted}
-use Rattle.ksi_synod.specs.History.{SetUp, Event, Seal, Ballot, Tell, Deliver, Restart, Message, Moment, addressees, posted, sends_of, put, stepped, seal, ballot_told, held_told, delivered, happens, first_moment, run, after, IsEvent, IsHistory, held_by, candidate_of}
+use Rattle.ksi_synod.specs.History.{SetUp, Event, Seal, Ballot, Tell, Deliver, Restart, Message, Moment, addressees, posted, sends_of, put, stepped, seal, ballot_told, held_told, delivered, happens, first_moment, run, after, is_event, IsHistory, held_by, candidate_of}
+use Rattle.ksi_synod.proofs.Lasting.{after_within}
 use Rattle.ksi_synod.proofs.Invariant.{Said, says, Has, here, there, Holds, same_held, held_proposed}
 use Rattle.ksi_synod.proofs.Steps.{more, Keeps_on, keeps_receive, keeps_try, keeps_seal, keeps_tell, keeps_restart, holds_first}
 
@@ -60,17 +62,17 @@ deliver_keeps set_up m k (Some x) at kept =
     step_keeps set_up m x.addressee x.sender (receive (m.states x.addressee) x.sender x.what)
     (λ kept. keeps_receive set_up.voters m.states kept.said x.addressee kept.holds x.sender x.what (kept.heard k x at)) kept
 
-happens_keeps : (set_up : SetUp) (m : Moment) (e : Event) → set_up.cores ≤ 9 → IsEvent set_up.cores e → Kept set_up.voters m → Kept set_up.voters (happens set_up m e)
+happens_keeps : (set_up : SetUp) (m : Moment) (e : Event) → set_up.cores ≤ 9 → IsTrue (is_event set_up.cores e) → Kept set_up.voters m → Kept set_up.voters (happens set_up m e)
 unfolding happens
 happens_keeps set_up m (Seal core candidate) few is kept = step_keeps set_up m core core (seal (m.states core) candidate, None) (λ kept. keeps_seal set_up.voters m.states kept.said core kept.holds candidate) kept
-happens_keeps set_up m (Ballot core) few is kept = step_keeps set_up m core core ((try_ballot (m.states core)).0, ballot_told (try_ballot (m.states core)).1) (λ kept. keeps_try set_up.voters m.states kept.said core kept.holds (omega arith)) kept
+happens_keeps set_up m (Ballot core) few is kept = step_keeps set_up m core core ((try_ballot (m.states core)).0, ballot_told (try_ballot (m.states core)).1) (λ kept. keeps_try set_up.voters m.states kept.said core kept.holds (let below : core < set_up.cores = ltb-true core set_up.cores is in omega arith)) kept
 happens_keeps set_up m (Tell core) few is kept = step_keeps set_up m core core (m.states core, held_told (m.states core).held) (λ kept. keeps_tell set_up.voters m.states kept.said core kept.holds) kept
 happens_keeps set_up m (Deliver number) few is kept = deliver_keeps set_up m number (slice_get m.wire number) refl kept
 happens_keeps set_up m (Restart core) few is kept = step_keeps set_up m core core (restarted (m.states core), None) (λ kept. keeps_restart set_up.voters m.states kept.said core kept.holds) kept
 
-run_keeps : (set_up : SetUp) → set_up.cores ≤ 9 → (events : List Event) (m : Moment) → All (IsEvent set_up.cores) events → Kept set_up.voters m → Kept set_up.voters (run set_up m events)
+run_keeps : (set_up : SetUp) → set_up.cores ≤ 9 → (events : List Event) (m : Moment) → IsTrue (list_all (is_event set_up.cores) events) → Kept set_up.voters m → Kept set_up.voters (run set_up m events)
 run_keeps set_up few [] m theirs kept = kept
-run_keeps set_up few (e ∷ es) m theirs kept = run_keeps set_up few es (happens set_up m e) (λ k d below. theirs (suc k) d (omega arith)) (happens_keeps set_up m e few (theirs zero e (omega arith)) kept)
+run_keeps set_up few (e ∷ es) m theirs kept = run_keeps set_up few es (happens set_up m e) (and_parts _ _ theirs).1 (happens_keeps set_up m e few (and_parts _ _ theirs).0 kept)
 
 first_keeps : (set_up : SetUp) → Kept set_up.voters (first_moment set_up)
 unfolding first_moment
@@ -86,7 +88,8 @@ agreement_holds set_up events is one other d e holds_d holds_e =
     same_held set_up.voters (after set_up events).states kept.said kept.holds one other d e holds_d holds_e
 
 pub validity_holds : (set_up : SetUp) (events : List Event) → IsHistory set_up events → (core : ℕ) (d : List ℕ) →
-    held_by (after set_up events) core ≡ Some d → (owner : ℕ) × (candidate_of (after set_up events) owner ≡ Some d)
+    held_by (after set_up events) core ≡ Some d → (owner : ℕ) × (owner < set_up.cores) × (candidate_of (after set_up events) owner ≡ Some d)
 validity_holds set_up events is core d holds =
     let kept = after_keeps set_up events is in
-    held_proposed set_up.voters (after set_up events).states kept.said kept.holds core d holds
+    let owner = held_proposed set_up.voters (after set_up events).states kept.said kept.holds core d holds in
+    (owner.0, after_within set_up events is owner.0 d owner.1, owner.1)

@@ -145,9 +145,9 @@ module _ (voters : List ℕ) (states : ℕ → VoteState) (said : List Said) (ok
   later_same zero b lt d begun e chosen below = absurd (omega arith)
   later_same (suc n) b lt d begun e chosen below =
       let safe : IsSafe voters states said b d = (begin_ok b d begun).safe in
-      let shared : (x : ℕ) × (safe.who x ≡ true) × (chosen.who x ≡ true) = majorities_meet voters safe.who chosen.who safe.most chosen.most in
+      let shared = majorities_meet voters safe.who chosen.who safe.most chosen.most in
       same_by_greatest n b d e chosen (later_same n) lt safe.greatest
-      (safe.covers shared.0 shared.1 chosen.ballot (chosen.voted shared.0 shared.2) below) safe.begun
+      (safe.covers shared.0 shared.2 chosen.ballot (chosen.voted shared.0 shared.3) below) safe.begun
 
   -- what two majorities voted for is the same
   pub one_chosen : (d e : List ℕ) → Chosen voters said d → Chosen voters said e → d ≡ e

@@ -6,3 +6,4 @@ pub mod Steps
 pub mod Histories
 pub mod Examples
 pub mod Staying
+pub mod Lasting

@@ -1,5 +1,6 @@
 -- Histories of the vote on one second: what each core keeps, and all that was ever sent, after any list of events.
-use Rattle.std.specs.Prelude.{ℕ, ◌<◌, ◌≤◌, ◌==◌, if◌then◌else◌, List, [], ◌∷◌, ◌++◌, map, slice_get, All, Option, Some, None}
+use Rattle.std.specs.Prelude.{ℕ, ◌≤◌, Bool, true, ◌==◌, nat_lt, if◌then◌else◌, IsTrue, List, [], ◌∷◌, ◌++◌, map, slice_get, Option, Some, None}
+use Rattle.std.specs.List.{list_all}
 use Rattle.ksi_synod.specs.declared.messages.SynodMessage.{SynodMessage}
 use Rattle.ksi_synod.specs.declared.messages.SynodMessage.TheVariants as message
 use Rattle.ksi_synod.specs.declared.messages.Begun.{Begun}
@@ -103,18 +104,18 @@ run set_up m (e ∷ es) = run set_up (happens set_up m e) es
 abbrev pub after : SetUp → List Event → Moment
 after set_up events = run set_up (first_moment set_up) events
 
--- the event's core is one of the cores
-abbrev pub IsEvent : (cores : ℕ) → Event → Type 0
-IsEvent cores (Seal core candidate) = core < cores
-IsEvent cores (Ballot core) = core < cores
-IsEvent cores (Tell core) = core < cores
-IsEvent cores (Deliver number) = Unit {0}
-IsEvent cores (Restart core) = core < cores
+-- whether the event's core is one of the cores
+abbrev pub is_event : (cores : ℕ) → Event → Bool
+is_event cores (Seal core candidate) = nat_lt core cores
+is_event cores (Ballot core) = nat_lt core cores
+is_event cores (Tell core) = nat_lt core cores
+is_event cores (Deliver number) = true
+is_event cores (Restart core) = nat_lt core cores
 
 -- at most nine cores, whichever of them vote, and events of these cores
 pub record IsHistory (set_up : SetUp) (events : List Event) : Type 0 where
   pub few : set_up.cores ≤ 9
-  pub theirs : All (IsEvent set_up.cores) events
+  pub theirs : IsTrue (list_all (is_event set_up.cores) events)
 
 -- what a core holds, and what it sealed
 abbrev pub held_by : Moment → (core : ℕ) → Option (List ℕ)

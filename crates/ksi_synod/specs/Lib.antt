@@ -5,3 +5,4 @@ pub mod VoteState
 pub mod Rows
 pub mod Instance
 pub mod History
+pub mod Runs
