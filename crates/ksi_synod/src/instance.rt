@@ -15,7 +15,8 @@ use std::marker::Model;
 /// The greatest round of a ballot.
 const LAST_ROUND: u64 = 4_294_967_295;
 
-/// One core's part in the vote on one second.
+/// One core's part in the vote on one second. A ballot is `16 * round + core`, with rounds from 1 to 2^32 - 1; a message's
+/// sender is one of the cores 0 to 8.
 #[derive(Drop)]
 pub struct Instance {
     me: u8,
@@ -41,7 +42,7 @@ impl Model for Instance {
 }
 
 impl Instance {
-    /// A core's part, with nothing in it.
+    /// The part of core `me` where the cores 0 up to the last of the members vote, before anything came.
     #[tactic(auto, unfolding(crate::specs::Instance::state_of, crate::specs::VoteState::fresh_vote))]
     pub fn new(me: u8, members: u8) -> Self
         requires mine { me < members }
@@ -60,16 +61,64 @@ impl Instance {
         }
     }
 
-    /// Sets the candidate.
+    /// The decree that this core holds.
+    #[tactic(auto, unfolding(crate::specs::Instance::state_of))]
+    pub fn held(&self) -> Option<Imprint>
+        ensures { result ≡ self.now.held }
+    {
+        self.held
+    }
+
+    /// The last ballot that this core tried.
+    #[tactic(auto, unfolding(crate::specs::Instance::state_of))]
+    pub fn tried(&self) -> Option<u64>
+        ensures { result ≡ some_ballot self.now.tried }
+    {
+        if self.tried == 0 {
+            None
+        } else {
+            Some(self.tried)
+        }
+    }
+
+    /// The greatest ballot that this core promised.
+    #[tactic(auto, unfolding(crate::specs::Instance::state_of))]
+    pub fn promised(&self) -> Option<u64>
+        ensures { result ≡ some_ballot self.now.promised }
+    {
+        if self.promised == 0 {
+            None
+        } else {
+            Some(self.promised)
+        }
+    }
+
+    /// This core's vote of the greatest ballot.
+    #[tactic(auto, unfolding(crate::specs::Instance::state_of))]
+    pub fn voted(&self) -> Option<Vote>
+        ensures { result ≡ self.now.vote }
+    {
+        self.vote
+    }
+
+    /// This core's candidate.
+    #[tactic(auto, unfolding(crate::specs::Instance::state_of))]
+    pub fn sealed(&self) -> Option<Imprint>
+        ensures { result ≡ self.now.candidate }
+    {
+        self.candidate
+    }
+
+    /// Sets the candidate: the decree that this core begins where no vote was told to it. It is set once.
     #[tactic(auto, unfolding(crate::specs::Instance::state_of))]
     pub fn candidate(&mut self, imprint: Imprint)
-        requires { IsNone self.old.candidate }
+        requires unsealed { IsNone self.old.candidate }
         ensures { self.new ≡ sealed_with self.old imprint }
     {
         self.candidate = Some(imprint);
     }
 
-    /// Tries the next ballot.
+    /// Tries a ballot: its own of the next round beyond what it tried and promised. NextBallot is to be sent to all voters.
     #[tactic(auto, unfolding(crate::specs::Instance::state_of, crate::specs::Rows::try_ballot))]
     pub fn try_ballot(&mut self) -> Begun
         ensures after { self.new ≡ (try_ballot self.old).0 }
@@ -91,10 +140,10 @@ impl Instance {
         Begun::Next(ballot)
     }
 
-    /// NextBallot.
+    /// Takes NextBallot: promises a ballot that is above its promise. The LastVote is to be sent back.
     #[tactic(auto, unfolding(crate::specs::Instance::state_of, crate::specs::Rows::on_next))]
     pub fn on_next(&mut self, ballot: u64) -> Option<LastVote>
-        requires { IsBallot ballot }
+        requires ballot { IsBallot ballot }
         ensures after { self.new ≡ (on_next self.old ballot).0 }
         ensures answer { result ≡ (on_next self.old ballot).1 }
         ensures refused { IsNone result ↔ (ballot ≤ self.old.promised) }
@@ -111,7 +160,8 @@ impl Instance {
         }
     }
 
-    /// LastVote.
+    /// Takes LastVote: counts the sender, and begins a decree in the step in which a majority counts. BeginBallot with that
+    /// decree is to be sent to all voters.
     #[tactic(auto, unfolding(crate::specs::Instance::state_of, crate::specs::Rows::on_last))]
     pub fn on_last(&mut self, from: u8, ballot: u64, vote: Option<Vote>) -> Took
         requires member { from < 9 }
@@ -130,10 +180,11 @@ impl Instance {
         hand.begin(&self.voters, &self.candidate)
     }
 
-    /// BeginBallot: whether this core voted.
+    /// Takes BeginBallot: votes where the ballot is the one that it promised and it did not vote in it yet. Where it votes,
+    /// Voted is to be sent back.
     #[tactic(auto, unfolding(crate::specs::Instance::state_of, crate::specs::Rows::on_begin))]
     pub fn on_begin(&mut self, ballot: u64, decree: Imprint) -> bool
-        requires { IsBallot ballot }
+        requires ballot { IsBallot ballot }
         ensures after { self.new ≡ (on_begin self.old ballot decree).0 }
         ensures answer { result ≡ (on_begin self.old ballot decree).1 }
         ensures votes { IsTrue result ↔ ((ballot ≡ self.old.promised) × IsTrue (is_older self.old.vote ballot)) }
@@ -153,7 +204,8 @@ impl Instance {
         }
     }
 
-    /// Voted.
+    /// Takes Voted: counts the sender, and holds the decree in the step in which a majority counts for the first time.
+    /// Success with that decree is to be sent to all cores.
     #[tactic(auto, unfolding(crate::specs::Instance::state_of, crate::specs::Rows::on_voted))]
     pub fn on_voted(&mut self, from: u8, ballot: u64) -> Took
         requires member { from < 9 }
@@ -175,7 +227,7 @@ impl Instance {
         Took::Decree(decree)
     }
 
-    /// Success: whether it is held now.
+    /// Takes Success: holds the decree where it held none, and answers whether it does so now.
     #[tactic(auto, unfolding(crate::specs::Instance::state_of, crate::specs::Rows::on_success))]
     pub fn on_success(&mut self, decree: Imprint) -> bool
         ensures after { self.new ≡ (on_success self.old decree).0 }
@@ -191,7 +243,7 @@ impl Instance {
         }
     }
 
-    /// Forgets the ballot in hand.
+    /// Forgets the ballot in hand, as a restart does: its LastVotes and Voteds count no more. All else is stable.
     #[tactic(auto, unfolding(crate::specs::Instance::state_of))]
     pub fn restart(&mut self)
         ensures { self.new ≡ restarted self.old }
@@ -199,7 +251,8 @@ impl Instance {
         self.hand = None;
     }
 
-    /// A delivered message, by its step: what is to be sent.
+    /// Takes a message by its step: what is to be sent for it. LastVote and Voted go back to the sender, BeginBallot to all
+    /// voters, Success to all cores.
     #[tactic(auto, unfolding(crate::specs::Rows::receive))]
     pub fn receive(&mut self, from: u8, message: &SynodMessage) -> Option<SynodMessage>
         requires member { from < 9 }
@@ -233,40 +286,5 @@ impl Instance {
                 None
             }
         }
-    }
-
-    #[tactic(auto, unfolding(crate::specs::Instance::state_of))]
-    pub fn held(&self) -> Option<Imprint>
-        ensures { result ≡ self.now.held }
-    {
-        self.held
-    }
-
-    #[tactic(auto, unfolding(crate::specs::Instance::state_of))]
-    pub fn tried(&self) -> Option<u64>
-        ensures { result ≡ some_ballot self.now.tried }
-    {
-        if self.tried == 0 { None } else { Some(self.tried) }
-    }
-
-    #[tactic(auto, unfolding(crate::specs::Instance::state_of))]
-    pub fn promised(&self) -> Option<u64>
-        ensures { result ≡ some_ballot self.now.promised }
-    {
-        if self.promised == 0 { None } else { Some(self.promised) }
-    }
-
-    #[tactic(auto, unfolding(crate::specs::Instance::state_of))]
-    pub fn voted(&self) -> Option<Vote>
-        ensures { result ≡ self.now.vote }
-    {
-        self.vote
-    }
-
-    #[tactic(auto, unfolding(crate::specs::Instance::state_of))]
-    pub fn sealed(&self) -> Option<Imprint>
-        ensures { result ≡ self.now.candidate }
-    {
-        self.candidate
     }
 }

@@ -10,16 +10,14 @@ ghost use Rattle.ksi_synod.specs.Runs.{three, taken_over};
 pub fn agreement()
     ensures { (set_up : SetUp) (events : List Event) → IsHistory set_up events → (one other : ℕ) (d e : List ℕ) →
         held_by (after set_up events) one ≡ Some d → held_by (after set_up events) other ≡ Some e → d ≡ e }
-{
-}
+{}
 
 /// Validity: the decree that a core holds is the candidate that one of the cores sealed.
 pub fn validity()
     ensures { (set_up : SetUp) (events : List Event) → IsHistory set_up events → (core : ℕ) (d : List ℕ) →
         held_by (after set_up events) core ≡ Some d →
         (owner : ℕ) × (owner < set_up.cores) × (candidate_of (after set_up events) owner ≡ Some d) }
-{
-}
+{}
 
 /// Nothing is unsaid: what a core holds, and its candidate, stay for ever, over restarts too. With agreement, no two cores
 /// hold different decrees even at different moments.
@@ -28,15 +26,13 @@ pub fn stability()
         held_by (after set_up events) core ≡ Some d → held_by (after set_up (events ++ later)) core ≡ Some d }
     ensures candidate { (set_up : SetUp) (events later : List Event) (core : ℕ) (d : List ℕ) →
         candidate_of (after set_up events) core ≡ Some d → candidate_of (after set_up (events ++ later)) core ≡ Some d }
-{
-}
+{}
 
 /// Two majorities of the same voters share a voter.
 pub fn majorities_meet()
     ensures { (voters : List ℕ) (one other : List Bool) → IsTrue (is_majority voters one) → IsTrue (is_majority voters other) →
         (core : ℕ) × IsTrue (is_voter voters core) × IsTrue (is_flagged one core) × IsTrue (is_flagged other core) }
-{
-}
+{}
 
 /// The laws are not empty: in this history of three cores, core 0 comes to hold its candidate, its Success is lost, and
 /// core 2, which has another candidate, comes to hold the decree of core 0 by a ballot of its own.
@@ -45,5 +41,4 @@ pub fn decrees_are_taken_over()
     ensures candidate { (a b : List ℕ) → candidate_of (after three (taken_over a b)) 2 ≡ Some b }
     ensures first { (a b : List ℕ) → held_by (after three (taken_over a b)) 0 ≡ Some a }
     ensures second { (a b : List ℕ) → held_by (after three (taken_over a b)) 2 ≡ Some a }
-{
-}
+{}

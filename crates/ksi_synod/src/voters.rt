@@ -4,7 +4,7 @@ ghost use Rattle.ksi_synod.specs.Voters.{cores_below, is_voter, is_majority};
 use std::marker::Model;
 
 /// The cores that vote on a second: a set of the cores 0 to 8. A contract sees their rising list.
-#[derive(Clone, Copy)]
+#[derive(Clone, Copy, Debug)]
 pub struct Voters {
     flags: [bool; 9],
 }
@@ -26,7 +26,7 @@ impl Model for Voters {
 }
 
 impl Voters {
-    /// The cores 0 up to the last of some members.
+    /// The cores 0 up to the last of so many members.
     pub fn all(members: u8) -> Self
         requires { members ≤ 9 }
         ensures { result ≡ cores_below members }
@@ -38,6 +38,7 @@ impl Voters {
         Voters { flags }
     }
 
+    /// Whether a core votes.
     pub fn contains(&self, core: u8) -> bool
         ensures { result ≡ is_voter self.now core }
     {
@@ -45,7 +46,7 @@ impl Voters {
     }
 
     /// Whether the cores whose flag is set are more than half of the voters.
-    pub fn is_majority(&self, flags: &[bool; 9]) -> bool
+    pub(crate) fn is_majority(&self, flags: &[bool; 9]) -> bool
         ensures { result ≡ is_majority self.now flags.now }
     {
         let mut voters: u8 = 0;
