@@ -170,7 +170,8 @@ decree_told Nothing = None
 decree_told Added = None
 decree_told (Decree decree) = Some (message.Success decree)
 
--- a delivered message by its step: the state after it, and what is sent
+-- a delivered message by its step: the state after it, and what is sent. LastVote and Voted go back to the sender,
+-- BeginBallot to all voters, Success to all cores
 unfoldable pub receive : VoteState → (from : ℕ) → SynodMessage → VoteState × Option SynodMessage
 receive s from (message.NextBallot b) = ((on_next s b).0, promise_told (on_next s b).1)
 receive s from (message.LastVote l) = ((on_last s from l.ballot l.vote).0, decree_begun l.ballot (on_last s from l.ballot l.vote).1)
