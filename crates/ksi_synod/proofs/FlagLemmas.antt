@@ -1,5 +1,5 @@
 -- A set of cores as flags and as a rising list: what the calls of Voters use.
-use Rattle.std.proofs.Common.{◌≡◌, ℕ, zero, suc, ◌+◌, ◌<◌, ◌≤◌, Bool, false, ltb, List, [], ◌∷◌, ◌++◌, length, get_or, refl, sym, ap, ◌∙◌, arith, inl, inr}
+use Rattle.std.proofs.Common.{◌≡◌, ℕ, zero, suc, ◌<◌, ◌≤◌, Bool, false, ltb, List, [], ◌∷◌, ◌++◌, refl, sym, ap, ◌∙◌, arith, inl, inr}
 use Rattle.std.proofs.lemmas.Bool.{cases_eq, cond-true, cond-false, le-ltb, lt-ltb}
 use Rattle.ksi_synod.specs.Voters.{cores_below, is_voter, is_flagged}
 use Rattle.ksi_synod.specs.Flags.{flagged_below, flagged_cores, is_voter-past, is_voter-below}

@@ -1,6 +1,6 @@
 -- What holds of the vote on one second after any history.
-use Rattle.std.proofs.Common.{◌≡◌, ◌≢◌, ℕ, zero, suc, ◌<◌, ◌≤◌, Bool, List, [], ◌∷◌, ◌++◌, eqb, refl, sym, ap, subst, ◌∙◌, arith, ◌⊎◌, inl, inr, Option, Some, None}
-use Rattle.std.specs.Prelude.{slice_get, map, IsTrue}
+use Rattle.std.proofs.Common.{◌≡◌, ℕ, zero, suc, ◌<◌, ◌≤◌, List, [], ◌∷◌, ◌++◌, eqb, refl, sym, ap, subst, arith, ◌⊎◌, inl, inr, Option, Some, None}
+use Rattle.std.specs.Prelude.{slice_get, IsTrue}
 use Rattle.std.specs.List.{list_all}
 use Rattle.std.proofs.lemmas.Bool.{and_parts, ltb-true, cond-true, cond-false, eq-eqb, ne_eqb}
 use Rattle.ksi_synod.specs.declared.messages.SynodMessage.{SynodMessage}

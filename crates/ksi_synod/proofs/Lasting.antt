@@ -1,5 +1,5 @@
 -- What a history never loses: what a core holds, and its candidate. Only cores of the set-up have one.
-use Rattle.std.proofs.Common.{◌≡◌, ℕ, zero, suc, ◌<◌, List, [], ◌∷◌, ◌++◌, eqb, refl, sym, ap, subst, ◌∙◌, arith, inl, inr, Option, Some, None}
+use Rattle.std.proofs.Common.{◌≡◌, ℕ, ◌<◌, List, [], ◌∷◌, ◌++◌, eqb, refl, sym, subst, ◌∙◌, inl, inr, Option, Some, None}
 use Rattle.std.specs.Prelude.{slice_get, IsTrue}
 use Rattle.std.specs.List.{list_all}
 use Rattle.std.proofs.lemmas.Bool.{and_parts, ltb-true, cases_eq, cond-true, cond-false, eq-eqb, ne_eqb}
@@ -7,7 +7,7 @@ use Rattle.ksi_synod.specs.declared.messages.SynodMessage.{SynodMessage}
 use Rattle.ksi_synod.specs.VoteState.{VoteState, fresh_vote}
 use Rattle.ksi_synod.specs.Rows.{receive, try_ballot, restarted}
 use Rattle.ksi_synod.specs.History.{SetUp, Event, Seal, Ballot, Tell, Deliver, Restart, Message, Moment, put, stepped, seal, ballot_told, held_told, delivered, happens, first_moment, run, after, is_event, IsHistory, held_by, candidate_of}
-use Rattle.ksi_synod.proofs.Staying.{Stays, same, receive_stays, try_stays, seal_holds}
+use Rattle.ksi_synod.proofs.Staying.{Stays, receive_stays, try_stays, seal_holds}
 
 record Lasts (old new : VoteState) : Type 0 where
   held : (d : List ℕ) → old.held ≡ Some d → new.held ≡ Some d

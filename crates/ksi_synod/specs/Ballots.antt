@@ -1,5 +1,5 @@
 -- Ballot numbers: 16 * round + core, with rounds from 1 to 2^32 - 1.
-use Rattle.std.specs.Prelude.{ℕ, ◌+◌, ◌*◌, ◌-◌, ◌/◌, ◌^◌, ◌<◌, ◌≤◌, ◌==◌, if◌then◌else◌, Option, Some, None}
+use Rattle.std.specs.Prelude.{ℕ, ◌+◌, ◌*◌, ◌/◌, ◌^◌, ◌<◌, ◌≤◌, ◌==◌, if◌then◌else◌, Option, Some, None}
 
 -- the number of a core's ballot in a round
 abbrev pub ballot_number : (round core : ℕ) → ℕ

@@ -1,6 +1,6 @@
 -- The steps of the vote on one second (Lamport's Synod), in the order of the protocol. Each is a function from a core's
 -- state to its state after the step and its answer. Where the condition of a step does not hold, the state stays.
-use Rattle.std.specs.Prelude.{◌≡◌, ℕ, ◌+◌, ◌≤◌, max, Bool, true, false, not, ◌&&◌, ◌==◌, nat_lt, if◌then◌else◌, List, slice_set, is_none, unwrap_or, Option, Some, None}
+use Rattle.std.specs.Prelude.{ℕ, ◌+◌, max, Bool, true, false, not, ◌&&◌, ◌==◌, nat_lt, if◌then◌else◌, List, slice_set, is_none, unwrap_or, Option, Some, None}
 use Rattle.ksi_synod.specs.declared.messages.Vote.{Vote}
 use Rattle.ksi_synod.specs.declared.messages.LastVote.{LastVote}
 use Rattle.ksi_synod.specs.declared.messages.SynodMessage.{SynodMessage}

@@ -1,5 +1,5 @@
 -- Sets of cores, as rising lists and as flags, and what a majority is.
-use Rattle.std.specs.Prelude.{ℕ, zero, suc, ◌*◌, Bool, false, ◌==◌, nat_lt, if◌then◌else◌, List, [], ◌∷◌, ◌++◌, length, map, replicate, slice_index_or}
+use Rattle.std.specs.Prelude.{ℕ, zero, suc, ◌*◌, Bool, false, ◌==◌, nat_lt, List, [], ◌∷◌, ◌++◌, length, replicate, slice_index_or}
 use Rattle.std.specs.List.{list_any, count_by}
 
 -- the cores below n, rising

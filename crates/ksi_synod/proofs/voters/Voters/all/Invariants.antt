@@ -1,4 +1,4 @@
-use Rattle.std.proofs.Common.{◌≡◌, ℕ, ◌<◌, Bool, true, false, length}
+use Rattle.std.proofs.Common.{◌≡◌, ℕ, length}
 use Rattle.std.specs.Prelude.{nat_lt}
 use Rattle.ksi_synod.specs.Voters.{is_flagged}
 use Rattle.ksi_synod.proofs.voters.Voters.all.Given as goal

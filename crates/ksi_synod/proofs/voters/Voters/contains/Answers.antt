@@ -1,7 +1,6 @@
-use Rattle.std.proofs.Common.{◌≡◌, ap, ◌∙◌, arith}
+use Rattle.std.proofs.Common.{ap, ◌∙◌, arith}
 use Rattle.std.proofs.lemmas.Bool.{le-ltb}
 use Rattle.ksi_synod.specs.Voters.{is_voter}
-use Rattle.ksi_synod.specs.Flags.{flagged_cores}
 use Rattle.ksi_synod.proofs.FlagLemmas.{is_voter-flagged, is_voter-none}
 use Rattle.ksi_synod.proofs.voters.Voters.contains.Goals as goal
 

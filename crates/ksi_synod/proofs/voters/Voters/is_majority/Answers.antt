@@ -1,6 +1,6 @@
-use Rattle.std.proofs.Common.{◌≡◌, ℕ, ◌*◌, ltb, length, List, ap, sym, ◌∙◌, arith, subst}
+use Rattle.std.proofs.Common.{◌≡◌, ◌*◌, ltb, length, ap, ◌∙◌, arith}
 use Rattle.std.specs.List.{count_by}
-use Rattle.ksi_synod.specs.Voters.{is_flagged, is_majority}
+use Rattle.ksi_synod.specs.Voters.{is_flagged}
 use Rattle.ksi_synod.specs.Flags.{flagged_below, flagged_cores}
 use Rattle.ksi_synod.proofs.voters.Voters.is_majority.Goals as goal
 
