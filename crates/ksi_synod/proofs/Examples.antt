@@ -2,8 +2,8 @@
 use Rattle.std.specs.Prelude.{◌≡◌, ℕ, List, [], ◌∷◌, length, refl, Option, Some, None}
 use Rattle.std.proofs.Common.{arith}
 use Rattle.ksi_synod.specs.VoteState.{fresh_vote}
-use Rattle.ksi_synod.specs.Rows.{try_ballot, on_next, on_last, on_begin, on_voted, receive}
-use Rattle.ksi_synod.specs.History.{Event, Seal, Ballot, Deliver, Restart, Moment, seal, happens, first_moment, after, IsHistory, held_by, candidate_of}
+use Rattle.ksi_synod.specs.Rows.{try_ballot, on_next, on_last, on_begin, on_voted, receive, seal}
+use Rattle.ksi_synod.specs.History.{Event, Seal, Ballot, Deliver, Restart, Moment, happens, first_moment, after, IsHistory, held_by, candidate_of}
 use Rattle.ksi_synod.specs.Runs.{three, taken_over}
 
 -- what the three cores hold, and how many messages were sent

@@ -5,11 +5,12 @@ use Rattle.std.specs.List.{list_all}
 use Rattle.std.proofs.lemmas.Bool.{and_parts, ltb-true, cond-true, cond-false, eq-eqb, ne_eqb}
 use Rattle.ksi_synod.specs.declared.messages.SynodMessage.{SynodMessage}
 use Rattle.ksi_synod.specs.VoteState.{VoteState}
-use Rattle.ksi_synod.specs.Rows.{receive, try_ballot, restarted}
-use Rattle.ksi_synod.specs.History.{SetUp, Event, Seal, Ballot, Tell, Deliver, Restart, Message, Moment, addressees, posted, sends_of, put, stepped, seal, ballot_told, held_told, delivered, happens, first_moment, run, after, is_event, IsHistory, held_by, candidate_of}
+use Rattle.ksi_synod.specs.Rows.{receive, try_ballot, restarted, seal, ballot_told, held_told}
+use Rattle.ksi_synod.specs.History.{SetUp, Event, Seal, Ballot, Tell, Deliver, Restart, Message, Moment, addressees, posted, sends_of, put, stepped, delivered, happens, first_moment, run, after, is_event, IsHistory, held_by, candidate_of}
 use Rattle.ksi_synod.proofs.Lasting.{after_within}
-use Rattle.ksi_synod.proofs.Invariant.{Said, says, Has, here, there, Holds, same_held, held_proposed}
-use Rattle.ksi_synod.proofs.Steps.{more, Keeps_on, keeps_receive, keeps_try, keeps_seal, keeps_tell, keeps_restart, holds_first}
+use Rattle.ksi_synod.specs.Reached.{Said, says, Has, here, there, more}
+use Rattle.ksi_synod.proofs.Invariant.{Holds, same_held, held_proposed}
+use Rattle.ksi_synod.proofs.Steps.{Keeps_on, keeps_receive, keeps_try, keeps_seal, keeps_tell, keeps_restart, holds_first}
 
 -- an element of two lists end to end is in one of them
 get_in_either : {A : Type 0} (xs ys : List A) (k : ℕ) (x : A) → slice_get (xs ++ ys) k ≡ Some x → (slice_get xs k ≡ Some x) ⊎ ((i : ℕ) × (slice_get ys i ≡ Some x))

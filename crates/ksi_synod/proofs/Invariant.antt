@@ -7,20 +7,8 @@ use Rattle.ksi_synod.specs.declared.messages.SynodMessage.{SynodMessage}
 use Rattle.ksi_synod.specs.declared.messages.SynodMessage.TheVariants as message
 use Rattle.ksi_synod.specs.Voters.{is_flagged}
 use Rattle.ksi_synod.specs.VoteState.{VoteState, Hand}
+use Rattle.ksi_synod.specs.Reached.{Said, says, Has, here, there}
 use Rattle.ksi_synod.proofs.Majorities.{IsMajority, majorities_meet}
-
--- a message and who sent it
-pub record Said : Type 0 where
-  pub by : ℕ
-  pub what : SynodMessage
-
-abbrev pub says : ℕ → SynodMessage → Said
-says by what = record { by = by; what = what }
-
--- it was said
-pub data Has : List Said → Said → Type 0 where
-  here : {x : Said} {said : List Said} → Has (x ∷ said) x
-  there : {x y : Said} {said : List Said} → Has said y → Has (x ∷ said) y
 
 pub Has-cases : {x y : Said} {said : List Said} → Has (x ∷ said) y → (y ≡ x) ⊎ Has said y
 Has-cases here = inl refl

@@ -5,7 +5,8 @@ use Rattle.ksi_synod.specs.declared.messages.LastVote.{LastVote}
 use Rattle.ksi_synod.specs.declared.messages.SynodMessage.{SynodMessage}
 use Rattle.ksi_synod.specs.declared.messages.SynodMessage.TheVariants as message
 use Rattle.ksi_synod.specs.VoteState.{VoteState, Hand}
-use Rattle.ksi_synod.proofs.Invariant.{Said, says, Has, there, Has-cases, BegunIn, Covers, Chosen, Keeps, LastIn, IsHand, IsVoteState, IsLast, IsSafe, IsBegin, IsMessage, Holds}
+use Rattle.ksi_synod.specs.Reached.{Said, says, Has, there}
+use Rattle.ksi_synod.proofs.Invariant.{Has-cases, BegunIn, Covers, Chosen, Keeps, LastIn, IsHand, IsVoteState, IsLast, IsSafe, IsBegin, IsMessage, Holds}
 
 -- what a state never loses
 pub record Grows (old new : VoteState) : Type 0 where

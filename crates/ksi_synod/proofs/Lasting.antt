@@ -5,8 +5,8 @@ use Rattle.std.specs.List.{list_all}
 use Rattle.std.proofs.lemmas.Bool.{and_parts, ltb-true, cases_eq, cond-true, cond-false, eq-eqb, ne_eqb}
 use Rattle.ksi_synod.specs.declared.messages.SynodMessage.{SynodMessage}
 use Rattle.ksi_synod.specs.VoteState.{VoteState, fresh_vote}
-use Rattle.ksi_synod.specs.Rows.{receive, try_ballot, restarted}
-use Rattle.ksi_synod.specs.History.{SetUp, Event, Seal, Ballot, Tell, Deliver, Restart, Message, Moment, put, stepped, seal, ballot_told, held_told, delivered, happens, first_moment, run, after, is_event, IsHistory, held_by, candidate_of}
+use Rattle.ksi_synod.specs.Rows.{receive, try_ballot, restarted, seal, ballot_told, held_told}
+use Rattle.ksi_synod.specs.History.{SetUp, Event, Seal, Ballot, Tell, Deliver, Restart, Message, Moment, put, stepped, delivered, happens, first_moment, run, after, is_event, IsHistory, held_by, candidate_of}
 use Rattle.ksi_synod.proofs.Staying.{Stays, receive_stays, try_stays, seal_holds}
 
 record Lasts (old new : VoteState) : Type 0 where

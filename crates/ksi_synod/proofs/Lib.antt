@@ -7,3 +7,4 @@ pub mod Histories
 pub mod Examples
 pub mod Staying
 pub mod Lasting
+pub mod Reaching

@@ -10,8 +10,7 @@ use Rattle.ksi_synod.specs.declared.messages.Begun.{Begun}
 use Rattle.ksi_synod.specs.declared.messages.Took.{Took}
 use Rattle.ksi_synod.specs.VoteState.{VoteState, Hand}
 use Rattle.ksi_synod.specs.Ballots.{last_round}
-use Rattle.ksi_synod.specs.Rows.{greater_round, try_ballot, try_ballot_of, on_next, counts_last, on_last, on_last_of, is_older, on_begin, voted_for, with_voted, completes, on_voted, on_voted_of, on_voted_for, on_success, on_success_of, receive}
-use Rattle.ksi_synod.specs.History.{seal, seal_of}
+use Rattle.ksi_synod.specs.Rows.{greater_round, try_ballot, try_ballot_of, on_next, counts_last, on_last, on_last_of, is_older, on_begin, voted_for, with_voted, completes, on_voted, on_voted_of, on_voted_for, on_success, on_success_of, receive, seal, seal_of}
 
 pub record Stays (s s' : VoteState) : Type 0 where
   pub held : (d : List ℕ) → s.held ≡ Some d → s'.held ≡ Some d

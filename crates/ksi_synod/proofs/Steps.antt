@@ -12,10 +12,10 @@ use Rattle.ksi_synod.specs.declared.messages.Begun.{Begun}
 use Rattle.ksi_synod.specs.Voters.{is_voter, is_flagged, no_flags, is_majority}
 use Rattle.ksi_synod.specs.VoteState.{VoteState, Hand, fresh_vote, new_hand}
 use Rattle.ksi_synod.specs.Ballots.{last_round}
-use Rattle.ksi_synod.specs.Rows.{sealed_with, greater_round, next_ballot, try_ballot, try_ballot_of, on_next, greater_vote, counts_last, with_last, decree_of, decree_now, begun_with, on_last, on_last_of, is_older, on_begin, voted_for, with_voted, completes, on_voted, on_voted_of, on_voted_for, on_success, on_success_of, restarted, promise_told, decree_begun, vote_told, decree_told, receive}
-use Rattle.ksi_synod.specs.History.{seal, seal_of, ballot_told, held_told}
+use Rattle.ksi_synod.specs.Rows.{sealed_with, greater_round, next_ballot, try_ballot, try_ballot_of, on_next, greater_vote, counts_last, with_last, decree_of, decree_now, begun_with, on_last, on_last_of, is_older, on_begin, voted_for, with_voted, completes, on_voted, on_voted_of, on_voted_for, on_success, on_success_of, restarted, promise_told, decree_begun, vote_told, decree_told, receive, seal, seal_of, ballot_told, held_told}
 use Rattle.ksi_synod.proofs.Majorities.{IsMajority}
-use Rattle.ksi_synod.proofs.Invariant.{Said, says, Has, here, Has-cases, BegunIn, Covers, Chosen, AtMost, Keeps, LastIn, IsHand, IsVoteState, IsLast, IsSafe, IsBegin, IsMessage, Holds}
+use Rattle.ksi_synod.specs.Reached.{Said, says, Has, here, more}
+use Rattle.ksi_synod.proofs.Invariant.{Has-cases, BegunIn, Covers, Chosen, AtMost, Keeps, LastIn, IsHand, IsVoteState, IsLast, IsSafe, IsBegin, IsMessage, Holds}
 use Rattle.ksi_synod.proofs.Keeping.{Grows, grows_refl, IsVoteState-there, Chosen-there, BegunIn-there, IsHand-there, said_more, states_change}
 
 -- FLAGS
@@ -99,11 +99,6 @@ majority_is : (voters : List ℕ) (flags : List Bool) → is_majority voters fla
 majority_is voters flags t = ltb-true _ _ t
 
 -- ONE STEP OF CORE j, from the states to the states'
-
--- what is said after a step
-abbrev pub more : Option SynodMessage → ℕ → List Said → List Said
-more None j said = said
-more (Some m) j said = says j m ∷ said
 
 -- a message that is no BeginBallot is said, and the states stay
 say : (voters : List ℕ) (states : ℕ → VoteState) (said : List Said) (j : ℕ) → Holds voters states said → (m : SynodMessage) →

@@ -3,11 +3,9 @@ use Rattle.std.specs.Prelude.{ℕ, ◌≤◌, Bool, true, ◌==◌, nat_lt, if�
 use Rattle.std.specs.List.{list_all}
 use Rattle.ksi_synod.specs.declared.messages.SynodMessage.{SynodMessage}
 use Rattle.ksi_synod.specs.declared.messages.SynodMessage.TheVariants as message
-use Rattle.ksi_synod.specs.declared.messages.Begun.{Begun}
-use Rattle.ksi_synod.specs.declared.messages.Begun.TheVariants.{Unsealed, Last, Next}
 use Rattle.ksi_synod.specs.Voters.{cores_below}
 use Rattle.ksi_synod.specs.VoteState.{VoteState, fresh_vote}
-use Rattle.ksi_synod.specs.Rows.{sealed_with, try_ballot, restarted, receive}
+use Rattle.ksi_synod.specs.Rows.{seal, try_ballot, ballot_told, held_told, restarted, receive}
 
 -- how many cores there are, and which of them vote
 pub record SetUp : Type 0 where
@@ -60,23 +58,6 @@ put states core new k = if k == core then new else states k
 -- a step of a core: its new state, and what it sends
 abbrev pub stepped : SetUp → Moment → (core answered : ℕ) → VoteState × Option SynodMessage → Moment
 stepped set_up m core answered r = record { states = put m.states core r.0; wire = m.wire ++ sends_of set_up core answered r.1 }
-
--- a candidate is set once
-abbrev pub seal_of : (sealed : Option (List ℕ)) → VoteState → (candidate : List ℕ) → VoteState
-seal_of None s candidate = sealed_with s candidate
-seal_of (Some sealed) s candidate = s
-
-unfoldable pub seal : VoteState → (candidate : List ℕ) → VoteState
-seal s candidate = seal_of s.candidate s candidate
-
-abbrev pub ballot_told : Begun → Option SynodMessage
-ballot_told Unsealed = None
-ballot_told Last = None
-ballot_told (Next ballot) = Some (message.NextBallot ballot)
-
-abbrev pub held_told : (held : Option (List ℕ)) → Option SynodMessage
-held_told None = None
-held_told (Some held) = Some (message.Success held)
 
 -- the addressee takes the message, where there is one of the number
 abbrev pub delivered : SetUp → Moment → Option Message → Moment

@@ -6,3 +6,4 @@ pub mod Rows
 pub mod Instance
 pub mod History
 pub mod Runs
+pub mod Reached

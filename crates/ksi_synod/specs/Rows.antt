@@ -18,6 +18,14 @@ use Rattle.ksi_synod.specs.VoteState.{VoteState, Hand, new_hand}
 abbrev pub sealed_with : VoteState → (candidate : List ℕ) → VoteState
 sealed_with s candidate = record s { candidate = Some candidate }
 
+-- it is set once
+abbrev pub seal_of : (sealed : Option (List ℕ)) → VoteState → (candidate : List ℕ) → VoteState
+seal_of None s candidate = sealed_with s candidate
+seal_of (Some sealed) s candidate = s
+
+unfoldable pub seal : VoteState → (candidate : List ℕ) → VoteState
+seal s candidate = seal_of s.candidate s candidate
+
 -- BALLOT: NextBallot(b) is to go out for the core's ballot of the next round, which is now in hand
 
 -- the round to go beyond
@@ -169,6 +177,17 @@ abbrev pub decree_told : Took → Option SynodMessage
 decree_told Nothing = None
 decree_told Added = None
 decree_told (Decree decree) = Some (message.Success decree)
+
+-- the command to try a ballot
+abbrev pub ballot_told : Begun → Option SynodMessage
+ballot_told Unsealed = None
+ballot_told Last = None
+ballot_told (Next ballot) = Some (message.NextBallot ballot)
+
+-- the command to tell what is held
+abbrev pub held_told : (held : Option (List ℕ)) → Option SynodMessage
+held_told None = None
+held_told (Some held) = Some (message.Success held)
 
 -- a delivered message by its step: the state after it, and what is sent. LastVote and Voted go back to the sender,
 -- BeginBallot to all voters, Success to all cores

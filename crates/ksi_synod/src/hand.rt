@@ -1,5 +1,5 @@
 ghost use Rattle.std.specs.Prelude.{◌≡◌, ◌<◌, Some};
-ghost use Rattle.ksi_synod.specs.VoteState.{Hand, new_hand};
+ghost use Rattle.ksi_synod.specs.VoteState.{new_hand};
 ghost use Rattle.ksi_synod.specs.Rows.{counts_last, with_last, decree_now, took_of, voted_for, with_voted, completes, greater_vote, decree_of};
 
 use crate::messages::{Took, Vote};

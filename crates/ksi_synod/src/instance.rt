@@ -1,4 +1,4 @@
-ghost use Rattle.std.specs.Prelude.{◌≡◌, ℕ, ◌+◌, ◌*◌, ◌^◌, ◌<◌, ◌≤◌, ◌↔◌, IsTrue, IsNone, IsSome, IfSome, false};
+ghost use Rattle.std.specs.Prelude.{◌≡◌, ℕ, ◌<◌, ◌≤◌, ◌↔◌, IsTrue, IsNone, IsSome, IfSome, false};
 ghost use Rattle.ksi_synod.specs.Ballots.{IsBallot, last_round, some_ballot};
 ghost use Rattle.ksi_synod.specs.declared.messages.Begun.TheVariants.{Unsealed, Last, Next};
 ghost use Rattle.ksi_synod.specs.declared.messages.Took.TheVariants.{Nothing};

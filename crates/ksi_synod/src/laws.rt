@@ -3,6 +3,8 @@
 
 ghost use Rattle.std.specs.Prelude.{◌≡◌, ℕ, ◌<◌, ◌++◌, List, Bool, IsTrue, Some};
 ghost use Rattle.ksi_synod.specs.Voters.{is_voter, is_flagged, is_majority};
+ghost use Rattle.ksi_synod.specs.VoteState.{VoteState};
+ghost use Rattle.ksi_synod.specs.Reached.{Said, Reached};
 ghost use Rattle.ksi_synod.specs.History.{SetUp, Event, IsHistory, after, held_by, candidate_of};
 ghost use Rattle.ksi_synod.specs.Runs.{three, taken_over};
 
@@ -17,6 +19,15 @@ pub fn validity()
     ensures { (set_up : SetUp) (events : List Event) → IsHistory set_up events → (core : ℕ) (d : List ℕ) →
         held_by (after set_up events) core ≡ Some d →
         (owner : ℕ) × (owner < set_up.cores) × (candidate_of (after set_up events) owner ≡ Some d) }
+{}
+
+/// Agreement and validity of all that single steps can reach, whoever delivers the messages. The layers above, whose
+/// histories have more than one second, show each second to be reached.
+pub fn steps_agree()
+    ensures agreement { (voters : List ℕ) (states : ℕ → VoteState) (said : List Said) → Reached voters states said →
+        (one other : ℕ) (d e : List ℕ) → (states one).held ≡ Some d → (states other).held ≡ Some e → d ≡ e }
+    ensures validity { (voters : List ℕ) (states : ℕ → VoteState) (said : List Said) → Reached voters states said →
+        (core : ℕ) (d : List ℕ) → (states core).held ≡ Some d → (owner : ℕ) × ((states owner).candidate ≡ Some d) }
 {}
 
 /// Nothing is unsaid: what a core holds, and its candidate, stay for ever, over restarts too. With agreement, no two cores
