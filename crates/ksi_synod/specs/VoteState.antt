@@ -1,0 +1,34 @@
+-- What a core keeps of the vote on one second.
+use Rattle.std.specs.Prelude.{ℕ, Bool, List, Option, None}
+use Rattle.ksi_synod.specs.declared.messages.Vote.{Vote}
+use Rattle.ksi_synod.specs.Voters.{no_flags}
+
+-- the ballot in hand: the cores whose LastVote counted, the greatest vote that these told, the decree once it is begun,
+-- and the cores whose Voted counted
+pub record Hand : Type 0 where
+  pub ballot : ℕ
+  pub last : List Bool
+  pub greatest : Option Vote
+  pub decree : Option (List ℕ)
+  pub voted : List Bool
+
+-- a core's number, who votes, its candidate once it is sealed, the last ballot that it tried and the greatest that it
+-- promised (0 where none), its vote of the greatest ballot, the decree that it holds, and the ballot in hand. A restart
+-- forgets the ballot in hand alone
+pub record VoteState : Type 0 where
+  pub me : ℕ
+  pub voters : List ℕ
+  pub candidate : Option (List ℕ)
+  pub tried : ℕ
+  pub promised : ℕ
+  pub vote : Option Vote
+  pub held : Option (List ℕ)
+  pub hand : Option Hand
+
+-- the state of a core before anything came
+unfoldable pub fresh_vote : (me : ℕ) (voters : List ℕ) → VoteState
+fresh_vote me voters = record { me = me; voters = voters; candidate = None; tried = 0; promised = 0; vote = None; held = None; hand = None }
+
+-- a ballot of which nothing was heard yet
+abbrev pub new_hand : (ballot : ℕ) → Hand
+new_hand ballot = record { ballot = ballot; last = no_flags; greatest = None; decree = None; voted = no_flags }

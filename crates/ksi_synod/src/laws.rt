@@ -1,0 +1,55 @@
+//! What holds of the vote on one second after every history: whichever messages are lost, repeated, late or out of order,
+//! and whichever cores restart, at any moment. Each law is the contract of a function that does nothing.
+
+ghost use Rattle.std.specs.Prelude.{◌≡◌, ℕ, ◌<◌, ◌++◌, List, Bool, IsTrue, Some};
+ghost use Rattle.ksi_synod.specs.Voters.{is_voter, is_flagged, is_majority};
+ghost use Rattle.ksi_synod.specs.VoteState.{VoteState};
+ghost use Rattle.ksi_synod.specs.Reached.{Said, Reached};
+ghost use Rattle.ksi_synod.specs.History.{SetUp, Event, IsHistory, after, held_by, candidate_of};
+ghost use Rattle.ksi_synod.specs.Runs.{three, taken_over};
+
+/// Agreement: two cores that hold a decree hold the same.
+pub fn agreement()
+    ensures { (set_up : SetUp) (events : List Event) → IsHistory set_up events → (one other : ℕ) (d e : List ℕ) →
+        held_by (after set_up events) one ≡ Some d → held_by (after set_up events) other ≡ Some e → d ≡ e }
+{}
+
+/// Validity: the decree that a core holds is the candidate that one of the cores sealed.
+pub fn validity()
+    ensures { (set_up : SetUp) (events : List Event) → IsHistory set_up events → (core : ℕ) (d : List ℕ) →
+        held_by (after set_up events) core ≡ Some d →
+        (owner : ℕ) × (owner < set_up.cores) × (candidate_of (after set_up events) owner ≡ Some d) }
+{}
+
+/// Agreement and validity of all that single steps can reach, whoever delivers the messages. The layers above, whose
+/// histories have more than one second, show each second to be reached.
+pub fn steps_agree()
+    ensures agreement { (voters : List ℕ) (states : ℕ → VoteState) (said : List Said) → Reached voters states said →
+        (one other : ℕ) (d e : List ℕ) → (states one).held ≡ Some d → (states other).held ≡ Some e → d ≡ e }
+    ensures validity { (voters : List ℕ) (states : ℕ → VoteState) (said : List Said) → Reached voters states said →
+        (core : ℕ) (d : List ℕ) → (states core).held ≡ Some d → (owner : ℕ) × ((states owner).candidate ≡ Some d) }
+{}
+
+/// Nothing is unsaid: what a core holds, and its candidate, stay for ever, over restarts too. With agreement, no two cores
+/// hold different decrees even at different moments.
+pub fn stability()
+    ensures held { (set_up : SetUp) (events later : List Event) (core : ℕ) (d : List ℕ) →
+        held_by (after set_up events) core ≡ Some d → held_by (after set_up (events ++ later)) core ≡ Some d }
+    ensures candidate { (set_up : SetUp) (events later : List Event) (core : ℕ) (d : List ℕ) →
+        candidate_of (after set_up events) core ≡ Some d → candidate_of (after set_up (events ++ later)) core ≡ Some d }
+{}
+
+/// Two majorities of the same voters share a voter.
+pub fn majorities_meet()
+    ensures { (voters : List ℕ) (one other : List Bool) → IsTrue (is_majority voters one) → IsTrue (is_majority voters other) →
+        (core : ℕ) × IsTrue (is_voter voters core) × IsTrue (is_flagged one core) × IsTrue (is_flagged other core) }
+{}
+
+/// The laws are not empty: in this history of three cores, core 0 comes to hold its candidate, its Success is lost, and
+/// core 2, which has another candidate, comes to hold the decree of core 0 by a ballot of its own.
+pub fn decrees_are_taken_over()
+    ensures history { (a b : List ℕ) → IsHistory three (taken_over a b) }
+    ensures candidate { (a b : List ℕ) → candidate_of (after three (taken_over a b)) 2 ≡ Some b }
+    ensures first { (a b : List ℕ) → held_by (after three (taken_over a b)) 0 ≡ Some a }
+    ensures second { (a b : List ℕ) → held_by (after three (taken_over a b)) 2 ≡ Some a }
+{}

@@ -1,0 +1,28 @@
+//! The vote of the cores on one second: Lamport's Synod ("The Part-Time Parliament", section 2), whose decree is the root
+//! of the second.
+//!
+//! An [`Instance`] is one core's part. Each call takes one step, by a message or at a command, and answers what is to be
+//! sent; nothing is sent, stored or timed here, and no call takes memory. A contract sees an `Instance` as a `VoteState`,
+//! and each call's answer and state are those of its row in `specs/Rows`. The layers above rely on these rows and on the
+//! laws of [`laws`], over every history of steps: agreement, validity and stability.
+//!
+//! ```text
+//! let mut core = Instance::new(0, 3);
+//! core.candidate(root);
+//! let Begun::Next(ballot) = core.try_ballot() else { return };
+//! send_to_all(SynodMessage::NextBallot(ballot));
+//! if let Some(reply) = core.receive(from, &message) { send(reply) }
+//! ```
+#![tactic(auto)]
+
+mod hand;
+mod instance;
+pub mod laws;
+mod messages;
+#[cfg(test)]
+mod tests;
+mod voters;
+
+pub use instance::Instance;
+pub use messages::{Begun, LastVote, SynodMessage, Took, Vote};
+pub use voters::Voters;

@@ -1,0 +1,64 @@
+ghost use Rattle.std.specs.Prelude.{◌≡◌, ◌≤◌};
+ghost use Rattle.ksi_synod.specs.Voters.{cores_below, is_voter, is_majority};
+
+use std::marker::Model;
+
+/// The cores that vote on a second: a set of the cores 0 to 8. A contract sees their rising list.
+#[derive(Clone, Copy, Debug)]
+pub struct Voters {
+    flags: [bool; 9],
+}
+
+impl Model for Voters {
+    ghost use Rattle.std.specs.Prelude.{◌≡◌, ℕ, List, length};
+
+    ghost Value = { List ℕ };
+
+    ghost use Rattle.ksi_synod.specs.Flags.{flagged_cores, fields_of, fields_of-flagged_cores};
+
+    ghost view = { λ voters. flagged_cores voters.flags };
+
+    ghost invariant = { λ voters. length voters.flags ≡ 9 };
+
+    ghost inverse = { fields_of };
+
+    ghost inverse_ok = { fields_of-flagged_cores };
+}
+
+impl Voters {
+    /// The cores 0 up to the last of so many members.
+    pub fn all(members: u8) -> Self
+        requires { members ≤ 9 }
+        ensures { result ≡ cores_below members }
+    {
+        let mut flags = [false; 9];
+        for core in 0..members {
+            flags[core as usize] = true;
+        }
+        Voters { flags }
+    }
+
+    /// Whether a core votes.
+    pub fn contains(&self, core: u8) -> bool
+        ensures { result ≡ is_voter self.now core }
+    {
+        core < 9 && self.flags[core as usize]
+    }
+
+    /// Whether the cores whose flag is set are more than half of the voters.
+    pub(crate) fn is_majority(&self, flags: &[bool; 9]) -> bool
+        ensures { result ≡ is_majority self.now flags.now }
+    {
+        let mut voters: u8 = 0;
+        let mut among: u8 = 0;
+        for core in 0..9u8 {
+            if self.flags[core as usize] {
+                voters += 1;
+                if flags[core as usize] {
+                    among += 1;
+                }
+            }
+        }
+        voters < 2 * among
+    }
+}
