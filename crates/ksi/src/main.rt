@@ -14,7 +14,7 @@ fn main(rt: HostRuntime) -> ExitCode {
         Ok(words) => run(&rt, &words),
         Err(AllocError) => Status::NoMemory,
     };
-    ExitCode::from(status as u8)
+    ExitCode::from(status.code())
 }
 
 fn run(rt: &HostRuntime, words: &[String]) -> Status {

@@ -1,6 +1,6 @@
 -- Causes over one call after another.
 use Rattle.std.proofs.Common.{ℕ, List, Option}
-use Rattle.ksi_top.specs.declared.answer.Answer.{Answer}
+use Rattle.ksi_top.specs.declared.report.Report.{Report}
 use Rattle.ksi_top.specs.declared.status.Status.{Status}
 use Rattle.ksi_top.specs.declared.status.Status.TheVariants.{Done, Refused, Words, Malformed, Fault, NoMemory, TooLong}
 use Rattle.ksi_top.specs.Causes.{IsJudged, JudgedAs, CausedAs, Counts, Quiet, Caused}
@@ -14,9 +14,9 @@ judged_caused limit before now Fault saved judged = absurd judged
 judged_caused limit before now NoMemory saved judged = absurd judged
 judged_caused limit before now TooLong saved judged = absurd judged
 
--- an answer that what was read is the cause of needs no other
-pub caused_by_judgement : (limit : ℕ) (before now : Counts) (answer : Answer) → Quiet before now → IsJudged answer → Caused limit before now answer
-caused_by_judgement limit before now answer quiet judged = record {
+-- an report that what was read is the cause of needs no other
+pub caused_by_judgement : (limit : ℕ) (before now : Counts) (report : Report) → Quiet before now → IsJudged report → Caused limit before now report
+caused_by_judgement limit before now report quiet judged = record {
   quiet = quiet;
-  status = judged_caused limit before.taken now.taken answer.status answer.saved judged;
+  status = judged_caused limit before.taken now.taken report.status report.saved judged;
 }

@@ -1,5 +1,6 @@
-pub mod Answers
+pub mod Reports
 pub mod Causes
+pub mod Codes
 pub mod Lines
 pub mod Loading
 pub mod Printed

@@ -2,8 +2,10 @@
 use Rattle.std.specs.Prelude.{ℕ, List, [], ◌∷◌, ◌++◌, drop, codes}
 use Rattle.std.specs.Fmt.{decimal}
 use Rattle.hex.specs.Hex.{encode_lower}
+use Rattle.ksi_split.specs.declared.fault.ShapeFault.{ShapeFault}
+use Rattle.ksi_split.specs.declared.fault.ShapeFault.TheVariants.{TooMany, TooFew}
 use Rattle.ksi_top.specs.declared.verdict.Refusal.{Refusal}
-use Rattle.ksi_top.specs.declared.verdict.Refusal.TheVariants.{WrongHash, IndexShape, CalendarInput, MissedSecond, TooFewLinks, TimeField, NoPublication, PublicationDiffers}
+use Rattle.ksi_top.specs.declared.verdict.Refusal.TheVariants.{WrongHash, IndexShape, CalendarInput, MissedSecond, CalendarShape, TimeField, NoPublication, PublicationDiffers}
 
 -- each word behind a space, and a line feed
 abbrev pub spaced : List (List ℕ) → List ℕ
@@ -34,13 +36,20 @@ malformed_line n = line_of (codes "malformed" ∷ decimal n ∷ [])
 abbrev pub accepted_line : ℕ → List ℕ
 accepted_line t = line_of (codes "accepted" ∷ decimal t ∷ [])
 
+abbrev pub shape_words : ShapeFault → List (List ℕ)
+shape_words (TooMany place) = codes "many" ∷ decimal place ∷ []
+shape_words (TooFew rest) = codes "few" ∷ decimal rest ∷ []
+
+abbrev pub shape_line : ShapeFault → List ℕ
+shape_line fault = line_of (codes "refused" ∷ codes "V10" ∷ shape_words fault)
+
 -- the check's code and its values
 abbrev pub refusal_words : Refusal → List (List ℕ)
 refusal_words (WrongHash in_signature given) = codes "V1" ∷ digest_text in_signature ∷ digest_text given ∷ []
 refusal_words (IndexShape chain part shape) = codes "V3" ∷ decimal chain ∷ decimal part ∷ decimal shape ∷ []
 refusal_words (CalendarInput computed stated) = codes "V8" ∷ digest_text computed ∷ digest_text stated ∷ []
 refusal_words MissedSecond = codes "V9" ∷ []
-refusal_words (TooFewLinks rest) = codes "V10" ∷ codes "few" ∷ decimal rest ∷ []
+refusal_words (CalendarShape fault) = codes "V10" ∷ shape_words fault
 refusal_words (TimeField field second) = codes "V11" ∷ decimal field ∷ decimal second ∷ []
 refusal_words (NoPublication time) = codes "V13" ∷ decimal time ∷ []
 refusal_words (PublicationDiffers time in_file computed) = codes "V14" ∷ decimal time ∷ digest_text in_file ∷ digest_text computed ∷ []

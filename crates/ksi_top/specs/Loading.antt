@@ -1,23 +1,23 @@
 -- What a file word stands for.
 use Rattle.std.specs.Prelude.{ℕ, List, [], length, unwrap_or, nat_lt, Option, Some, None, Result, Ok, Err, if◌then◌else◌}
 use Rattle.ksi_ports.specs.Stored.{Held}
-use Rattle.ksi_top.specs.declared.answer.Answer.{Answer}
+use Rattle.ksi_top.specs.declared.report.Report.{Report}
 use Rattle.ksi_top.specs.declared.status.Status.TheVariants.{Malformed, TooLong}
-use Rattle.ksi_top.specs.Answers.{answer}
+use Rattle.ksi_top.specs.Reports.{report}
 use Rattle.ksi_top.specs.Lines.{too_long_line, malformed_line}
 
 -- what is held under a name, and no bytes where nothing is
 abbrev pub content : Held → List ℕ → List ℕ
 content held name = unwrap_or (held name) []
 
-abbrev pub within : ℕ → ℕ → List ℕ → Result (List ℕ) Answer
-within limit n bytes = if nat_lt limit (length bytes) then Err (answer TooLong (too_long_line n)) else Ok bytes
+abbrev pub within : ℕ → ℕ → List ℕ → Result (List ℕ) Report
+within limit n bytes = if nat_lt limit (length bytes) then Err (report TooLong (too_long_line n)) else Ok bytes
 
 -- the bytes of file word n, where they are within the limit
-unfoldable pub loaded : ℕ → ℕ → Held → List ℕ → Result (List ℕ) Answer
+unfoldable pub loaded : ℕ → ℕ → Held → List ℕ → Result (List ℕ) Report
 loaded limit n held name = within limit n (content held name)
 
 -- what file word n is, where it is in its grammar
-abbrev pub or_malformed : {T : Type 0} → ℕ → Option T → Result T Answer
+abbrev pub or_malformed : {T : Type 0} → ℕ → Option T → Result T Report
 or_malformed n (Some value) = Ok value
-or_malformed n None = Err (answer Malformed (malformed_line n))
+or_malformed n None = Err (report Malformed (malformed_line n))

@@ -1,33 +1,33 @@
--- What a run answers, as a function of the words and of the files held.
+-- What a run reports, as a function of the words and of the files held.
 use Rattle.std.specs.Prelude.{ℕ, List, Option, Some, None, Result, Ok, Err}
 use Rattle.ksi_ports.specs.Stored.{Held, with_file}
-use Rattle.ksi_top.specs.declared.answer.Answer.{Answer}
+use Rattle.ksi_top.specs.declared.report.Report.{Report}
 use Rattle.ksi_top.specs.declared.asked.WordsRefusal.{WordsRefusal}
 use Rattle.ksi_top.specs.declared.asked.WordsRefusal.TheVariants.{Words, BadWord}
 use Rattle.ksi_top.specs.declared.status.Status.TheVariants as statuses
-use Rattle.ksi_top.specs.Answers.{answer}
+use Rattle.ksi_top.specs.Reports.{report}
 use Rattle.ksi_top.specs.Lines.{words_refused_line, bad_word_line}
 use Rattle.ksi_top.specs.Words.{Asked, verify, command_of}
 use Rattle.ksi_top.specs.Verify.{verify_run}
 
--- what a command answers
-abbrev pub performed : Asked → Held → Answer
+-- what a command reports
+abbrev pub performed : Asked → Held → Report
 performed (verify signature hash publications) held = verify_run signature hash publications held
 
 -- the least limit of the files that a command reads
 abbrev pub least_limit : Asked → ℕ
 least_limit (verify signature hash publications) = 65539
 
--- what words that are no command answer
-abbrev pub refused : WordsRefusal → Answer
-refused Words = answer statuses.Words words_refused_line
-refused (BadWord n) = answer statuses.Words (bad_word_line n)
+-- what words that are no command report
+abbrev pub refused : WordsRefusal → Report
+refused Words = report statuses.Words words_refused_line
+refused (BadWord n) = report statuses.Words (bad_word_line n)
 
-abbrev pub run_of : Result Asked WordsRefusal → Held → Answer
+abbrev pub run_of : Result Asked WordsRefusal → Held → Report
 run_of (Ok command) held = performed command held
 run_of (Err refusal) held = refused refusal
 
-unfoldable pub run : List (List ℕ) → Held → Answer
+unfoldable pub run : List (List ℕ) → Held → Report
 run words held = run_of (command_of words) held
 
 -- what is held once the run's file is saved

@@ -2,9 +2,9 @@
 use Rattle.std.specs.Prelude.{◌≡◌, ◌≢◌, ℕ, ◌+◌, ◌++◌, Bool, IsTrue, List, Option, Some, None, Result, Ok, Err}
 use Rattle.ksi_ports.specs.Outside.{Rose, RoseBy, ExtendsByFront, OthersStay}
 use Rattle.ksi_ports.specs.Stored.{Held}
-use Rattle.ksi_top.specs.declared.answer.Answer.{Answer}
-use Rattle.ksi_top.specs.declared.answer.Cut.{Cut}
-use Rattle.ksi_top.specs.declared.answer.Cut.TheVariants as cuts
+use Rattle.ksi_top.specs.declared.report.Report.{Report}
+use Rattle.ksi_top.specs.declared.report.Cut.{Cut}
+use Rattle.ksi_top.specs.declared.report.Cut.TheVariants as cuts
 use Rattle.ksi_top.specs.declared.asked.WordsRefusal.{WordsRefusal}
 use Rattle.ksi_top.specs.declared.status.Status.{Status}
 use Rattle.ksi_top.specs.declared.status.Status.TheVariants.{Done, Refused, Words, Malformed, Fault, NoMemory, TooLong}
@@ -38,12 +38,12 @@ abbrev pub outside : Held → ℕ → List ℕ → ℕ → Outside
 outside held faults written failed_puts = record { held = held; faults = faults; written = written; failed_puts = failed_puts }
 
 -- What a fault leaves: nothing saved and nothing put; or the one name unknown and nothing put; or the file saved and a front of the line put.
-pub data FaultLeaves (files_tell sink_tells : Bool) (ran : Answer) (old new : Outside) : Type 0 where
+pub data FaultLeaves (files_tell sink_tells : Bool) (ran : Report) (old new : Outside) : Type 0 where
   at_load : Rose old.faults new.faults → (IsTrue files_tell → new.held ≡ old.held) → (IsTrue sink_tells → new.written ≡ old.written) → FaultLeaves files_tell sink_tells ran old new
   at_save : Rose old.faults new.faults → (IsTrue files_tell → NamesStay ran.saved old.held new.held) → (IsTrue sink_tells → new.written ≡ old.written) → FaultLeaves files_tell sink_tells ran old new
   at_put : Rose old.failed_puts new.failed_puts → (IsTrue files_tell → new.held ≡ saved_into ran.saved old.held) → (IsTrue files_tell → IsTrue sink_tells → ExtendsByFront old.written ran.line new.written) → FaultLeaves files_tell sink_tells ran old new
 
--- `Words` is answered exactly where the words are no command
+-- `Words` is reported exactly where the words are no command
 abbrev pub WordsStatus : Result Asked WordsRefusal → Status → Type 0
 WordsStatus (Ok command) status = status ≢ Words
 WordsStatus (Err refusal) status = status ≡ Words
@@ -53,9 +53,9 @@ abbrev pub WordsLine : Result Asked WordsRefusal → List ℕ → List ℕ → T
 WordsLine (Ok command) before after = Unit {0}
 WordsLine (Err refusal) before after = after ≡ before ++ (refused refusal).line
 
-abbrev pub WordsCaused : Result Asked WordsRefusal → Answer → Type 0
-WordsCaused (Ok command) answer = answer.status ≢ Words
-WordsCaused (Err refusal) answer = answer ≡ refused refusal
+abbrev pub WordsCaused : Result Asked WordsRefusal → Report → Type 0
+WordsCaused (Ok command) report = report.status ≢ Words
+WordsCaused (Err refusal) report = report ≡ refused refusal
 
 -- more bytes than a limit were taken from a file of the command
 abbrev pub TookTooMuch : Result Asked WordsRefusal → ℕ → ℕ → Type 0
@@ -63,20 +63,20 @@ TookTooMuch (Ok command) before now = RoseBy (least_limit command + 1) before no
 TookTooMuch (Err refusal) before now = ⊥
 
 -- what stands before anything is saved
-abbrev pub AnsweredAs : Answer → Result Answer Cut → Type 0
-AnsweredAs expected (Ok answer) = answer ≡ expected
-AnsweredAs expected (Err cut) = Unit {0}
+abbrev pub ReportedAs : Report → Result Report Cut → Type 0
+ReportedAs expected (Ok report) = report ≡ expected
+ReportedAs expected (Err cut) = Unit {0}
 
--- an answer has its cause in the words or in the files
-pub record HasCause (asked : Result Asked WordsRefusal) (before now : Counts) (answer : Answer) : Type 0 where
+-- an report has its cause in the words or in the files
+pub record HasCause (asked : Result Asked WordsRefusal) (before now : Counts) (report : Report) : Type 0 where
   pub quiet : Quiet before now
-  pub no_fault : answer.status ≢ Fault
-  pub no_want : answer.status ≢ NoMemory
-  pub words : WordsCaused asked answer
-  pub too_long : answer.status ≡ TooLong → TookTooMuch asked before.taken now.taken
-  pub unsaved : answer.status ≢ Done → answer.saved ≡ None
+  pub no_fault : report.status ≢ Fault
+  pub no_want : report.status ≢ NoMemory
+  pub words : WordsCaused asked report
+  pub too_long : report.status ≡ TooLong → TookTooMuch asked before.taken now.taken
+  pub unsaved : report.status ≢ Done → report.saved ≡ None
 
-abbrev pub RunCaused : Result Asked WordsRefusal → Counts → Counts → Result Answer Cut → Type 0
-RunCaused asked before now (Ok answer) = HasCause asked before now answer
+abbrev pub RunCaused : Result Asked WordsRefusal → Counts → Counts → Result Report Cut → Type 0
+RunCaused asked before now (Ok report) = HasCause asked before now report
 RunCaused asked before now (Err cuts.Fault) = Faulty before now
 RunCaused asked before now (Err cuts.NoMemory) = Quiet before now

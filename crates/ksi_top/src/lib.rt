@@ -1,7 +1,7 @@
 //! The top call: one run of a command over files and an output that are lent.
 //!
-//! [`ksi`] loads the files that the words name, computes the command's answer, saves its file and puts its line. What a
-//! run answers is the definition `run` of the words and the files held; which counts rose says when it may answer a fault.
+//! [`ksi`] loads the files that the words name, computes the command's report, saves its file and puts its line. What a
+//! run reports is the definition `run` of the words and the files held; which counts rose says when it may report a fault.
 //!
 //! ```text
 //! let mut files = HostFiles::new(&rt);
@@ -10,7 +10,6 @@
 //! ```
 #![tactic(auto)]
 
-mod answer;
 mod asked;
 mod line;
 mod loading;
@@ -18,15 +17,17 @@ mod perform;
 mod printed;
 mod publications;
 mod reading;
+mod refusal_line;
+mod report;
 mod signature;
+mod signature_file;
 mod status;
+mod time;
 mod top;
 mod verdict;
 mod verify;
 mod words;
 
-pub use answer::{Answer, Saved};
-pub use line::Line;
 pub use status::Status;
 pub use top::ksi;
 

@@ -1,16 +1,22 @@
 // The file words that a command reads.
 ghost use Rattle.std.specs.Prelude.{◌≡◌, ℕ, IsTrue};
-ghost use Rattle.ksi_top.specs.Answers.{Gives};
+ghost use Rattle.ksi_top.specs.Reports.{Gives};
 ghost use Rattle.ksi_top.specs.Causes.{LoadCaused, HaltsJudged, counts};
 ghost use Rattle.ksi_top.specs.Loading.{loaded, or_malformed};
 
-use crate::answer::{Answer, Halt};
 use crate::printed::Word::{Number, Text};
 use crate::printed::print;
+use crate::report::{Halt, Report};
 use crate::status::Status;
 use ksi_imprint::Bytes;
 use ksi_ports::{Files, LoadRefusal};
 use std::alloc::Global;
+
+/// The most bytes that a signature file may have.
+pub(crate) const SIGNATURE_LIMIT: usize = 65_539;
+
+/// The most bytes that any other file may have.
+pub(crate) const FILE_LIMIT: usize = 67_108_864;
 
 /// The bytes of file word `n`, at most `limit` of them.
 #[tactic(auto, unfolding(crate::specs::Loading::loaded))]
@@ -31,7 +37,7 @@ pub(crate) fn load_file<F: Files>(
         Err(LoadRefusal::NoMemory) => Err(Halt::NoMemory),
         Err(LoadRefusal::TooLong) => {
             let line = print(alloc, &[Text("too long"), Number(n as u64)])?;
-            Err(Halt::Answered(Answer::new(Status::TooLong, line)))
+            Err(Halt::Reported(Report::new(Status::TooLong, line)))
         }
     }
 }
@@ -45,7 +51,7 @@ pub(crate) fn or_malformed<T: Drop>(alloc: Global, n: usize, read: Option<T>) ->
         Some(value) => Ok(value),
         None => {
             let line = print(alloc, &[Text("malformed"), Number(n as u64)])?;
-            Err(Halt::Answered(Answer::new(Status::Malformed, line)))
+            Err(Halt::Reported(Report::new(Status::Malformed, line)))
         }
     }
 }

@@ -3,13 +3,14 @@ ghost use Rattle.std.specs.Prelude.{◌≡◌};
 ghost use Rattle.std.specs.Option.{option_copied};
 ghost use Rattle.ksi_top.specs.Publications.{behind_magic, header_at, publication_at, publications_at};
 
-use crate::reading::{front, imprint_of, number_of, only, time_of};
+use crate::reading::{imprint_in, number_in, only, piece, time_in};
+use crate::time::Time;
 use ksi_imprint::Imprint;
 
 /// A publication record: the root of the calendar to a time.
 #[derive(Drop)]
-pub struct Publication {
-    pub time: u64,
+pub struct PubRecord {
+    pub time: Time,
     pub hash: Imprint,
 }
 
@@ -23,13 +24,13 @@ const PUBLISHED_DATA: u16 = 0x10;
 
 /// The publication that the bytes of a file have.
 #[tactic(auto, unfolding(crate::specs::Publications::publications_at))]
-pub(crate) fn read_publications(bytes: &[u8]) -> Option<Publication>
+pub(crate) fn read_publications(bytes: &[u8]) -> Option<PubRecord>
     ensures { result ≡ publications_at bytes.now }
 {
     let elements = behind_magic(bytes)?;
-    let header = front(HEADER, elements)?;
+    let header = piece(HEADER, elements)?;
     let record = only(RECORD, header.behind)?;
-    read_header(header.content)?;
+    read_header(header.body)?;
     read_record(record)
 }
 
@@ -51,22 +52,22 @@ fn behind_magic(bytes: &[u8]) -> Option<&[u8]>
 fn read_header(bytes: &[u8]) -> Option<()>
     ensures { result ≡ header_at bytes.now }
 {
-    let version = front(0x01, bytes)?;
+    let version = piece(0x01, bytes)?;
     let creation = only(0x02, version.behind)?;
-    number_of(version.content)?;
-    time_of(creation)?;
+    number_in(version.body)?;
+    time_in(creation)?;
     Some(())
 }
 
 #[tactic(auto, unfolding(crate::specs::Publications::publication_at))]
-fn read_record(bytes: &[u8]) -> Option<Publication>
+fn read_record(bytes: &[u8]) -> Option<PubRecord>
     ensures { result ≡ publication_at bytes.now }
 {
     let published = only(PUBLISHED_DATA, bytes)?;
-    let time = front(0x02, published)?;
+    let time = piece(0x02, published)?;
     let hash = only(0x04, time.behind)?;
-    Some(Publication {
-        time: time_of(time.content)?,
-        hash: imprint_of(hash)?,
+    Some(PubRecord {
+        time: time_in(time.body)?,
+        hash: imprint_in(hash)?,
     })
 }

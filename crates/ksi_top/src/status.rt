@@ -1,18 +1,39 @@
-/// How a run ended. The program's exit status is its number.
+ghost use Rattle.std.specs.Prelude.{◌≡◌};
+
+/// How a run ended.
 #[derive(Clone, Copy, Debug, PartialEq, Eq)]
 pub enum Status {
     /// The command's result stands: its file is saved, its line is put.
-    Done = 0,
+    Done,
     /// A check, or another refusal of the command, stands; its line is put.
-    Refused = 1,
+    Refused,
     /// The words are no command's, or one of them is no number or hash where one must stand.
-    Words = 2,
+    Words,
     /// A loaded file is not in its grammar.
-    Malformed = 3,
+    Malformed,
     /// A call on the files or the output failed.
-    Fault = 4,
+    Fault,
     /// There was no memory; nothing is saved or put.
-    NoMemory = 5,
+    NoMemory,
     /// A file passes its limit.
-    TooLong = 7,
+    TooLong,
+}
+
+impl Status {
+    ghost use Rattle.ksi_top.specs.Codes.{code_of};
+
+    /// The program's exit status.
+    pub fn code(self) -> u8
+        ensures { result ≡ code_of self }
+    {
+        match self {
+            Status::Done => 0,
+            Status::Refused => 1,
+            Status::Words => 2,
+            Status::Malformed => 3,
+            Status::Fault => 4,
+            Status::NoMemory => 5,
+            Status::TooLong => 7,
+        }
+    }
 }

@@ -4,8 +4,8 @@ ghost use Rattle.ksi_top.specs.Top.{UnlessCut, FaultLeaves, outside, WordsStatus
 ghost use Rattle.ksi_top.specs.Run.{run, saved_into};
 ghost use Rattle.ksi_top.specs.Words.{texts, command_of};
 
-use crate::answer::{Answer, Cut};
-use crate::perform::answer_of;
+use crate::perform::report_of;
+use crate::report::{Cut, Report};
 use crate::status::Status;
 use ksi_ports::{Files, SaveRefusal, Sink, SinkFailed};
 use std::alloc::Global;
@@ -24,7 +24,7 @@ pub fn ksi<F: Files, K: Sink>(alloc: Global, words: &[String], files: &mut F, ou
         UnlessCut result (K.written out.new
         ≡ K.written out.old ++ (run (texts words.now) (F.held files.old)).line) }
 
-    // A fault is answered only where a count rose, and always where one is greater at the end.
+    // A fault is reported only where a count rose, and always where one is greater at the end.
     ensures fault { result ≡ Status.Fault →
         FaultLeaves F.tells K.tells (run (texts words.now) (F.held files.old))
         (outside (F.held files.old) (F.faults files.old) (K.written out.old) (K.faults out.old))
@@ -46,25 +46,25 @@ pub fn ksi<F: Files, K: Sink>(alloc: Global, words: &[String], files: &mut F, ou
     ensures one_line { IsTrue K.tells →
         length (K.written out.new) ≤ length (K.written out.old) + 32767 }
 {
-    match answer_of(alloc, words, files) {
-        Ok(answer) => finish(alloc, &answer, files, out),
+    match report_of(alloc, words, files) {
+        Ok(report) => finish(alloc, &report, files, out),
         Err(Cut::Fault) => Status::Fault,
         Err(Cut::NoMemory) => Status::NoMemory,
     }
 }
 
 /// Saves the result, then puts the line.
-fn finish<F: Files, K: Sink>(alloc: Global, answer: &Answer, files: &mut F, out: &mut K) -> Status
-    requires no_fault { answer.now.status ≢ Status.Fault }
-    requires no_want { answer.now.status ≢ Status.NoMemory }
-    requires unsaved { answer.now.status ≢ Status.Done → answer.now.saved ≡ None }
-    ensures status { UnlessCut result (result ≡ answer.now.status) }
-    ensures saved { IsTrue F.tells → UnlessCut result (F.held files.new ≡ saved_into answer.now.saved (F.held files.old)) }
-    ensures put { IsTrue K.tells → UnlessCut result (K.written out.new ≡ K.written out.old ++ answer.now.line) }
+fn finish<F: Files, K: Sink>(alloc: Global, report: &Report, files: &mut F, out: &mut K) -> Status
+    requires no_fault { report.now.status ≢ Status.Fault }
+    requires no_want { report.now.status ≢ Status.NoMemory }
+    requires unsaved { report.now.status ≢ Status.Done → report.now.saved ≡ None }
+    ensures status { UnlessCut result (result ≡ report.now.status) }
+    ensures saved { IsTrue F.tells → UnlessCut result (F.held files.new ≡ saved_into report.now.saved (F.held files.old)) }
+    ensures put { IsTrue K.tells → UnlessCut result (K.written out.new ≡ K.written out.old ++ report.now.line) }
     ensures fits { IsTrue K.tells → length (K.written out.new) ≤ length (K.written out.old) + 32767 }
     ensures taken { F.taken files.old ≤ F.taken files.new }
     ensures fault { result ≡ Status.Fault →
-        FaultLeaves F.tells K.tells answer.now
+        FaultLeaves F.tells K.tells report.now
         (outside (F.held files.old) (F.faults files.old) (K.written out.old) (K.faults out.old))
         (outside (F.held files.new) (F.faults files.new) (K.written out.new) (K.faults out.new)) }
     ensures files_fault { F.faults files.old < F.faults files.new → result ≡ Status.Fault }
@@ -72,15 +72,15 @@ fn finish<F: Files, K: Sink>(alloc: Global, answer: &Answer, files: &mut F, out:
     ensures unsaved { result ≢ Status.Done → result ≢ Status.Fault → IsTrue F.tells → F.held files.new ≡ F.held files.old }
     ensures unput { result ≡ Status.NoMemory → IsTrue K.tells → K.written out.new ≡ K.written out.old }
 {
-    if let Some(saved) = &answer.saved {
+    if let Some(saved) = &report.saved {
         match files.save(alloc, saved.name(), saved.bytes()) {
             Ok(()) => {}
             Err(SaveRefusal::Failed) => return Status::Fault,
             Err(SaveRefusal::NoMemory) => return Status::NoMemory,
         }
     }
-    match out.put(answer.line.as_bytes()) {
-        Ok(()) => answer.status,
+    match out.put(report.line.as_bytes()) {
+        Ok(()) => report.status,
         Err(SinkFailed) => Status::Fault,
     }
 }

@@ -1,10 +1,11 @@
-// The checks of a signature, in their order.
+// The checks of a signature whose chains have no links, in their order.
 ghost use Rattle.std.specs.Prelude.{◌≡◌, ◌==◌};
-ghost use Rattle.ksi_top.specs.Verdict.{verdict, second_without_links, published, need};
+ghost use Rattle.ksi_top.specs.Verdict.{need, second_named, published_checks, verdict};
 
-use crate::publications::Publication;
-use crate::signature::{Calendar, Signature};
+use crate::publications::PubRecord;
+use crate::signature::{CalChain, Signature};
 use ksi_imprint::Imprint;
+use ksi_split::{ShapeFault, second_of};
 
 /// The first check that a signature fails, with its values.
 #[derive(Drop)]
@@ -27,10 +28,8 @@ pub enum Refusal {
     },
     /// V9: that input hash is the zero imprint.
     MissedSecond,
-    /// V10: the calendar links end at a part of so many seconds and one.
-    TooFewLinks {
-        rest: u64,
-    },
+    /// V10: the calendar links name no second.
+    CalendarShape(ShapeFault),
     /// V11: a time field is not the second that the calendar links name.
     TimeField {
         field: u64,
@@ -53,7 +52,7 @@ pub enum Refusal {
 pub(crate) fn check(
     signature: &Signature,
     hash: &Imprint,
-    publication: &Publication,
+    publication: &PubRecord,
 ) -> Result<u64, Refusal>
     ensures { result ≡ verdict signature.now hash.now publication.now }
 {
@@ -81,21 +80,20 @@ pub(crate) fn check(
     if calendar.input.is_zero() {
         return Err(Refusal::MissedSecond);
     }
-    let second = second_without_links(calendar.publication)?;
-    check_time(calendar.time, second)?;
-    check_time(chain.time, second)?;
+    let second = second_named(calendar)?;
+    check_time(calendar.time.seconds(), second)?;
+    check_time(chain.time.seconds(), second)?;
     check_publication(calendar, publication)?;
     Ok(second)
 }
 
-/// The one second of a calendar without links is second 0.
-fn second_without_links(publication: u64) -> Result<u64, Refusal>
-    ensures { result ≡ second_without_links publication }
+/// The second that no links name among those to the publication time.
+fn second_named(calendar: &CalChain) -> Result<u64, Refusal>
+    ensures { result ≡ second_named calendar.now.publication }
 {
-    if publication == 0 {
-        Ok(0)
-    } else {
-        Err(Refusal::TooFewLinks { rest: publication })
+    match second_of(calendar.publication.seconds(), &[]) {
+        Ok(second) => Ok(second),
+        Err(fault) => Err(Refusal::CalendarShape(fault)),
     }
 }
 
@@ -109,17 +107,17 @@ fn check_time(field: u64, second: u64) -> Result<(), Refusal>
     }
 }
 
-fn check_publication(calendar: &Calendar, publication: &Publication) -> Result<(), Refusal>
-    ensures { result ≡ published calendar.now publication.now }
+fn check_publication(calendar: &CalChain, publication: &PubRecord) -> Result<(), Refusal>
+    ensures { result ≡ published_checks calendar.now publication.now }
 {
     if publication.time != calendar.publication {
         return Err(Refusal::NoPublication {
-            time: calendar.publication,
+            time: calendar.publication.seconds(),
         });
     }
     if publication.hash != calendar.input {
         return Err(Refusal::PublicationDiffers {
-            time: publication.time,
+            time: publication.time.seconds(),
             in_file: publication.hash,
             computed: calendar.input,
         });

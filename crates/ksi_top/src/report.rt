@@ -1,6 +1,6 @@
 ghost use Rattle.std.specs.Prelude.{◌≡◌, ℕ, string_bytes};
-ghost use Rattle.ksi_top.specs.declared.answer.Halt.TheVariants.{NoMemory};
-ghost use Rattle.ksi_top.specs.Answers.{answer, saving};
+ghost use Rattle.ksi_top.specs.declared.report.Halt.TheVariants.{NoMemory};
+ghost use Rattle.ksi_top.specs.Reports.{report, saving};
 
 use crate::line::Line;
 use crate::status::Status;
@@ -42,20 +42,20 @@ impl Saved {
     }
 }
 
-/// What a run answers, prints and saves.
+/// What a run reports, prints and saves.
 #[derive(Drop)]
-pub struct Answer {
+pub struct Report {
     pub status: Status,
     pub line: Line,
     pub saved: Option<Saved>,
 }
 
-impl Answer {
+impl Report {
     /// A status and a line, and nothing to save.
     pub fn new(status: Status, line: Line) -> Self
-        ensures { result ≡ answer status line }
+        ensures { result ≡ report status line }
     {
-        Answer {
+        Report {
             status,
             line,
             saved: None,
@@ -66,7 +66,7 @@ impl Answer {
     pub fn saving(line: Line, saved: Saved) -> Self
         ensures { result ≡ saving line saved.0 saved.1 }
     {
-        Answer {
+        Report {
             status: Status::Done,
             line,
             saved: Some(saved),
@@ -77,7 +77,7 @@ impl Answer {
 /// What ends a command before its result.
 #[derive(Drop)]
 pub enum Halt {
-    Answered(Answer),
+    Reported(Report),
     Fault,
     NoMemory,
 }

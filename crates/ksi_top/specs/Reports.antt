@@ -1,0 +1,34 @@
+-- Reports, and how one follows from what was read.
+use Rattle.std.specs.Prelude.{◌≡◌, ℕ, List, Some, None, Result, Ok, Err}
+use Rattle.ksi_top.specs.declared.report.Report.{Report}
+use Rattle.ksi_top.specs.declared.report.Halt.{Halt}
+use Rattle.ksi_top.specs.declared.report.Halt.TheVariants.{Reported, Fault, NoMemory}
+use Rattle.ksi_top.specs.declared.status.Status.{Status}
+use Rattle.ksi_top.specs.declared.status.Status.TheVariants.{Done}
+
+-- a status and a line, and nothing to save
+abbrev pub report : Status → List ℕ → Report
+report status line = record { status = status; line = line; saved = None }
+
+-- the result's line, and a file to save
+abbrev pub saving : List ℕ → List ℕ → List ℕ → Report
+saving line name bytes = record { status = Done; line = line; saved = Some (name, bytes) }
+
+-- what follows from a value, or the report that stands in its place
+abbrev pub on : {T : Type 0} → Result T Report → (T → Report) → Report
+on (Ok value) next = next value
+on (Err report) next = report
+
+-- A call gives what is expected, or a fault or want of memory ended it.
+abbrev pub Gives : {T : Type 0} → Result T Report → Result T Halt → Type 0
+Gives expected (Ok value) = expected ≡ Ok value
+Gives expected (Err (Reported report)) = expected ≡ Err report
+Gives expected (Err Fault) = Unit {0}
+Gives expected (Err NoMemory) = Unit {0}
+
+-- the same of a call whose value is the report itself
+abbrev pub Reports : Report → Result Report Halt → Type 0
+Reports expected (Ok report) = report ≡ expected
+Reports expected (Err (Reported report)) = report ≡ expected
+Reports expected (Err Fault) = Unit {0}
+Reports expected (Err NoMemory) = Unit {0}
