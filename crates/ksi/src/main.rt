@@ -6,6 +6,7 @@
 use ksi_ports::{HostFiles, HostSink};
 use ksi_top::{Status, ksi};
 use std::alloc::AllocError;
+use std::io::ErrorKind;
 use std::process::ExitCode;
 use std::{env, io};
 
@@ -23,14 +24,17 @@ fn run(rt: &HostRuntime, words: &[String]) -> Status {
     ksi(rt.alloc(), words, &mut files, &mut out)
 }
 
-/// The words after the program's name: none where one of them is not UTF-8.
+/// The words after the program's name: none where the system's words are not all UTF-8.
 fn words(rt: &HostRuntime) -> Result<Vec<String>, AllocError> {
     let mut words = Vec::new(rt.alloc());
-    let Ok(args) = env::args(rt) else {
-        return Ok(words);
-    };
-    for word in args.skip(1) {
-        words.push(word)?;
+    match env::args(rt) {
+        Ok(args) => {
+            for word in args.skip(1) {
+                words.push(word)?;
+            }
+        }
+        Err(error) if error.kind() == ErrorKind::OutOfMemory => return Err(AllocError),
+        Err(_) => {}
     }
     Ok(words)
 }

@@ -6,6 +6,13 @@ use Rattle.ksi_top.specs.declared.status.Status.TheVariants.{Malformed, TooLong}
 use Rattle.ksi_top.specs.Reports.{report}
 use Rattle.ksi_top.specs.Lines.{too_long_line, malformed_line}
 
+-- the most bytes that a signature file may have, and those of any other file
+abbrev pub signature_limit : ℕ
+signature_limit = 65539
+
+abbrev pub file_limit : ℕ
+file_limit = 67108864
+
 -- what is held under a name, and no bytes where nothing is
 abbrev pub content : Held → List ℕ → List ℕ
 content held name = unwrap_or (held name) []

@@ -19,6 +19,16 @@ abbrev pub on : {T : Type 0} → Result T Report → (T → Report) → Report
 on (Ok value) next = next value
 on (Err report) next = report
 
+-- what is read of a value, or the report that stands in its place
+abbrev pub and_then : {T U : Type 0} → Result T Report → (T → Result U Report) → Result U Report
+and_then (Ok value) next = next value
+and_then (Err report) next = Err report
+
+-- so many further loads where a value was read, and none where a report ends the run
+abbrev pub loads_behind : {T : Type 0} → Result T Report → ℕ → ℕ
+loads_behind (Ok value) more = more
+loads_behind (Err report) more = 0
+
 -- A call gives what is expected, or a fault or want of memory ended it.
 abbrev pub Gives : {T : Type 0} → Result T Report → Result T Halt → Type 0
 Gives expected (Ok value) = expected ≡ Ok value

@@ -1,5 +1,5 @@
 -- What a run reports, as a function of the words and of the files held.
-use Rattle.std.specs.Prelude.{ℕ, List, Option, Some, None, Result, Ok, Err}
+use Rattle.std.specs.Prelude.{ℕ, ◌+◌, List, Option, Some, None, Result, Ok, Err}
 use Rattle.ksi_ports.specs.Stored.{Held, with_file}
 use Rattle.ksi_top.specs.declared.report.Report.{Report}
 use Rattle.ksi_top.specs.declared.asked.WordsRefusal.{WordsRefusal}
@@ -8,15 +8,19 @@ use Rattle.ksi_top.specs.declared.status.Status.TheVariants as statuses
 use Rattle.ksi_top.specs.Reports.{report}
 use Rattle.ksi_top.specs.Lines.{words_refused_line, bad_word_line}
 use Rattle.ksi_top.specs.Words.{Asked, verify, command_of}
-use Rattle.ksi_top.specs.Verify.{verify_run}
+use Rattle.ksi_top.specs.Verify.{verify_run, verify_limits, verify_loads}
 
 -- what a command reports
 abbrev pub performed : Asked → Held → Report
 performed (verify signature hash publications) held = verify_run signature hash publications held
 
--- the least limit of the files that a command reads
-abbrev pub least_limit : Asked → ℕ
-least_limit (verify signature hash publications) = 65539
+-- the most bytes of the file of each word that a command reads
+abbrev pub limits_of : Asked → ℕ → ℕ
+limits_of (verify signature hash publications) = verify_limits
+
+-- how many files a command loads
+abbrev pub loads_of : Asked → Held → ℕ
+loads_of (verify signature hash publications) held = verify_loads signature held
 
 -- what words that are no command report
 abbrev pub refused : WordsRefusal → Report
@@ -34,3 +38,15 @@ run words held = run_of (command_of words) held
 abbrev pub saved_into : Option (List ℕ × List ℕ) → Held → Held
 saved_into None held = held
 saved_into (Some file) held = with_file held file.0 file.1
+
+-- how often the run calls on the files: words that are no command load none
+abbrev pub run_loads : Result Asked WordsRefusal → Held → ℕ
+run_loads (Ok command) held = loads_of command held
+run_loads (Err refusal) held = 0
+
+abbrev pub saves_of : Option (List ℕ × List ℕ) → ℕ
+saves_of None = 0
+saves_of (Some file) = 1
+
+abbrev pub run_calls : List (List ℕ) → Held → ℕ
+run_calls words held = run_loads (command_of words) held + saves_of (run words held).saved

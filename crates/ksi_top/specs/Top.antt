@@ -8,9 +8,9 @@ use Rattle.ksi_top.specs.declared.report.Cut.TheVariants as cuts
 use Rattle.ksi_top.specs.declared.asked.WordsRefusal.{WordsRefusal}
 use Rattle.ksi_top.specs.declared.status.Status.{Status}
 use Rattle.ksi_top.specs.declared.status.Status.TheVariants.{Done, Refused, Words, Malformed, Fault, NoMemory, TooLong}
-use Rattle.ksi_top.specs.Causes.{Counts, Quiet, Faulty}
+use Rattle.ksi_top.specs.Causes.{Counts, Quiet, Faulty, SomePasses}
 use Rattle.ksi_top.specs.Words.{Asked}
-use Rattle.ksi_top.specs.Run.{least_limit, refused, saved_into}
+use Rattle.ksi_top.specs.Run.{limits_of, refused, saved_into}
 
 -- a fact on a run that neither a fault nor want of memory cut short
 abbrev pub UnlessCut : Status → Type 0 → Type 0
@@ -57,10 +57,10 @@ abbrev pub WordsCaused : Result Asked WordsRefusal → Report → Type 0
 WordsCaused (Ok command) report = report.status ≢ Words
 WordsCaused (Err refusal) report = report ≡ refused refusal
 
--- more bytes than a limit were taken from a file of the command
-abbrev pub TookTooMuch : Result Asked WordsRefusal → ℕ → ℕ → Type 0
-TookTooMuch (Ok command) before now = RoseBy (least_limit command + 1) before now
-TookTooMuch (Err refusal) before now = ⊥
+-- the line says which file word passes its limit, and more bytes than that were taken
+abbrev pub TookTooMuch : Result Asked WordsRefusal → Counts → Counts → List ℕ → Type 0
+TookTooMuch (Ok command) before now line = SomePasses (limits_of command) before now line
+TookTooMuch (Err refusal) before now line = ⊥
 
 -- what stands before anything is saved
 abbrev pub ReportedAs : Report → Result Report Cut → Type 0
@@ -73,7 +73,7 @@ pub record HasCause (asked : Result Asked WordsRefusal) (before now : Counts) (r
   pub no_fault : report.status ≢ Fault
   pub no_want : report.status ≢ NoMemory
   pub words : WordsCaused asked report
-  pub too_long : report.status ≡ TooLong → TookTooMuch asked before.taken now.taken
+  pub too_long : report.status ≡ TooLong → TookTooMuch asked before now report.line
   pub unsaved : report.status ≢ Done → report.saved ≡ None
 
 abbrev pub RunCaused : Result Asked WordsRefusal → Counts → Counts → Result Report Cut → Type 0

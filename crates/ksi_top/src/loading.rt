@@ -1,5 +1,5 @@
 // The file words that a command reads.
-ghost use Rattle.std.specs.Prelude.{◌≡◌, ℕ, IsTrue};
+ghost use Rattle.std.specs.Prelude.{◌≡◌, ◌≤◌, ◌+◌, ℕ, IsTrue};
 ghost use Rattle.ksi_top.specs.Reports.{Gives};
 ghost use Rattle.ksi_top.specs.Causes.{LoadCaused, HaltsJudged, counts};
 ghost use Rattle.ksi_top.specs.Loading.{loaded, or_malformed};
@@ -29,7 +29,9 @@ pub(crate) fn load_file<F: Files>(
 ) -> Result<Bytes, Halt>
     ensures told { IsTrue F.tells → Gives (loaded limit n (F.held files.old) name.now) result }
     ensures stays { IsTrue F.tells → F.held files.new ≡ F.held files.old }
-    ensures causes { LoadCaused limit (counts (F.faults files.old) (F.taken files.old)) (counts (F.faults files.new) (F.taken files.new)) result }
+    ensures calls { F.calls files.new ≤ F.calls files.old + 1 }
+    ensures later { F.calls files.old ≤ F.calls files.new }
+    ensures causes { LoadCaused n limit (counts (F.faults files.old) (F.taken files.old)) (counts (F.faults files.new) (F.taken files.new)) result }
 {
     match files.load(alloc, name, limit) {
         Ok(bytes) => Ok(bytes),

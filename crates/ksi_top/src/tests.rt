@@ -1,3 +1,5 @@
+use crate::loading::load_file;
+use crate::report::Halt;
 use crate::{Status, ksi};
 use ksi_ports::{MemFiles, MemSink};
 use std::alloc::Global;
@@ -58,26 +60,40 @@ fn held(
 }
 
 #[test]
-fn each_answer_has_its_status_and_line(rt: HostRuntime) -> Result<(), Fail> {
+fn each_report_has_its_status_and_line(rt: HostRuntime) -> Result<(), Fail> {
     let alloc = rt.alloc();
     let late = "8800005b 8801002b 0200 030101 052101A 060101 88020028 0100 020105 052101A";
     let early = "8800005b 8801002c 020105 030101 052101A 060101 88020027 0100 0200 052101A";
-    let shape = "8800005a 8801002b 0200 030102 052101A 060101 88020027 0100 0200 052101A";
+    let shape =
+        "88000061 88010032 0200 0308ffffffffffffffff 052101A 060101 88020027 0100 0200 052101A";
     let torn = "8800005a 8801002b 0200 030101 052101A 060101 88020027 0100 0200 052101B";
     let missed = "8800005a 8801002b 0200 030101 052101Z 060101 88020027 0100 0200 052101Z";
-    let deep = "8800005b 8801002b 0200 030101 052101A 060101 88020028 010107 0200 052101A";
+    let deep =
+        "88000062 8801002b 0200 030101 052101A 060101 8802002f 01087fffffffffffffff 0200 052101A";
+    let past =
+        "88000062 8801002b 0200 030101 052101A 060101 8802002f 01088000000000000000 0200 052101A";
+    let long =
+        "88000062 88010033 0200 0309000000000000000001 052101A 060101 88020027 0100 0200 052101A";
     let md5 = "8800005a 8801002b 0200 030101 052101A 060102 88020027 0100 0200 052101A";
     let other_time = "4b53495055424c46 87010005 010101 0200 87030028 1026 020105 042101A";
     let other_hash = "4b53495055424c46 87010005 010101 0200 87030027 1025 0200 042101B";
     let rows = [
-        (S0, "verify s A p", P0, Status::Done, "accepted 0\n"),
-        (S0, "verify s B p", P0, Status::Refused, "refused V1 A B\n"),
+        (S0, "verify s A p", P0, Status::Done, "accepted 0\n", 2),
+        (
+            S0,
+            "verify s B p",
+            P0,
+            Status::Refused,
+            "refused V1 A B\n",
+            2,
+        ),
         (
             shape,
             "verify s A p",
             P0,
             Status::Refused,
-            "refused V3 0 2 1\n",
+            "refused V3 0 18446744073709551615 1\n",
+            2,
         ),
         (
             torn,
@@ -85,14 +101,23 @@ fn each_answer_has_its_status_and_line(rt: HostRuntime) -> Result<(), Fail> {
             P0,
             Status::Refused,
             "refused V8 A B\n",
+            2,
         ),
-        (missed, "verify s Z p", P0, Status::Refused, "refused V9\n"),
+        (
+            missed,
+            "verify s Z p",
+            P0,
+            Status::Refused,
+            "refused V9\n",
+            2,
+        ),
         (
             deep,
             "verify s A p",
             P0,
             Status::Refused,
-            "refused V10 few 7\n",
+            "refused V10 few 9223372036854775807\n",
+            2,
         ),
         (
             late,
@@ -100,6 +125,7 @@ fn each_answer_has_its_status_and_line(rt: HostRuntime) -> Result<(), Fail> {
             P0,
             Status::Refused,
             "refused V11 5 0\n",
+            2,
         ),
         (
             early,
@@ -107,6 +133,7 @@ fn each_answer_has_its_status_and_line(rt: HostRuntime) -> Result<(), Fail> {
             P0,
             Status::Refused,
             "refused V11 5 0\n",
+            2,
         ),
         (
             S0,
@@ -114,6 +141,7 @@ fn each_answer_has_its_status_and_line(rt: HostRuntime) -> Result<(), Fail> {
             other_time,
             Status::Refused,
             "refused V13 0\n",
+            2,
         ),
         (
             S0,
@@ -121,6 +149,7 @@ fn each_answer_has_its_status_and_line(rt: HostRuntime) -> Result<(), Fail> {
             other_hash,
             Status::Refused,
             "refused V14 0 B A\n",
+            2,
         ),
         (
             "88000000",
@@ -128,45 +157,84 @@ fn each_answer_has_its_status_and_line(rt: HostRuntime) -> Result<(), Fail> {
             P0,
             Status::Malformed,
             "malformed 1\n",
+            1,
         ),
-        ("", "verify s A p", P0, Status::Malformed, "malformed 1\n"),
-        (md5, "verify s A p", P0, Status::Malformed, "malformed 1\n"),
+        (
+            "",
+            "verify s A p",
+            P0,
+            Status::Malformed,
+            "malformed 1\n",
+            1,
+        ),
+        (
+            past,
+            "verify s A p",
+            P0,
+            Status::Malformed,
+            "malformed 1\n",
+            1,
+        ),
+        (
+            long,
+            "verify s A p",
+            P0,
+            Status::Malformed,
+            "malformed 1\n",
+            1,
+        ),
+        (
+            md5,
+            "verify s A p",
+            P0,
+            Status::Malformed,
+            "malformed 1\n",
+            1,
+        ),
         (
             S0,
             "verify s A p",
             "4b5349505542",
             Status::Malformed,
             "malformed 3\n",
+            2,
         ),
-        (S0, "verify s 12 p", P0, Status::Words, "bad word 2\n"),
-        (S0, "verify s A", P0, Status::Words, "words refused\n"),
-        (S0, "verify s A -", P0, Status::Words, "words refused\n"),
-        (S0, "", P0, Status::Words, "words refused\n"),
+        (S0, "verify s 12 p", P0, Status::Words, "bad word 2\n", 0),
+        (S0, "verify s A", P0, Status::Words, "words refused\n", 0),
+        (S0, "verify s A -", P0, Status::Words, "words refused\n", 0),
+        (S0, "", P0, Status::Words, "words refused\n", 0),
     ];
-    for (signature, line, publications, status, put) in rows {
+    for (signature, line, publications, status, put, calls) in rows {
         let mut files = held(alloc, &[], &bytes(alloc, signature)?, publications)?;
         let mut out = MemSink::new(alloc, 32_767, Vec::new(alloc))?;
         let words = words(alloc, line)?;
         assert_eq!(rt; ksi(alloc, &words, &mut files, &mut out), status);
         assert_eq!(rt; out.written(), expanded(alloc, put)?.as_bytes());
+        assert_eq!(rt; files.calls(), calls);
         assert_eq!(rt; files.faults(), 0);
     }
     Ok(())
 }
 
 #[test]
-fn a_signature_file_has_at_most_65539_bytes(rt: HostRuntime) -> Result<(), Fail> {
+fn a_file_that_passes_its_limit_is_too_long(rt: HostRuntime) -> Result<(), Fail> {
     let alloc = rt.alloc();
+    let words = words(alloc, "verify s A p")?;
     for (size, status, put) in [
         (65_539, Status::Malformed, b"malformed 1\n".as_slice()),
         (65_540, Status::TooLong, b"too long 1\n".as_slice()),
     ] {
         let mut files = held(alloc, &[], &vec![in alloc; 0; size]?, P0)?;
         let mut out = MemSink::new(alloc, 32_767, Vec::new(alloc))?;
-        let words = words(alloc, "verify s A p")?;
         assert_eq!(rt; ksi(alloc, &words, &mut files, &mut out), status);
         assert_eq!(rt; out.written(), put);
     }
+    let mut files = held(alloc, &[], b"", P0)?;
+    let Err(Halt::Reported(report)) = load_file(alloc, &mut files, 59, 3, "p") else {
+        return Err(Fail::from("the file of 60 bytes was loaded"));
+    };
+    assert_eq!(rt; report.status, Status::TooLong);
+    assert_eq!(rt; report.line.as_bytes(), b"too long 3\n".as_slice());
     Ok(())
 }
 
@@ -174,17 +242,29 @@ fn a_signature_file_has_at_most_65539_bytes(rt: HostRuntime) -> Result<(), Fail>
 fn each_failing_call_is_a_fault(rt: HostRuntime) -> Result<(), Fail> {
     let alloc = rt.alloc();
     let words = words(alloc, "verify s A p")?;
-    for call in 0..2 {
-        let mut files = held(alloc, &[call], &bytes(alloc, S0)?, P0)?;
-        let mut out = MemSink::new(alloc, 32_767, Vec::new(alloc))?;
+    for (loads, puts, faults, failed_puts) in [(0, 1, 1, 0), (1, 1, 1, 0), (2, 0, 0, 1)] {
+        let mut files = held(alloc, &[loads], &bytes(alloc, S0)?, P0)?;
+        let mut out = MemSink::new(alloc, 32_767, vec![in alloc; puts]?)?;
         assert_eq!(rt; ksi(alloc, &words, &mut files, &mut out), Status::Fault);
-        assert_eq!(rt; files.faults(), 1);
+        assert_eq!(rt; (files.faults(), out.faults()), (faults, failed_puts));
         assert_eq!(rt; out.written(), b"".as_slice());
     }
-    let mut files = held(alloc, &[], &bytes(alloc, S0)?, P0)?;
-    let mut out = MemSink::new(alloc, 32_767, vec![in alloc; 0]?)?;
-    assert_eq!(rt; ksi(alloc, &words, &mut files, &mut out), Status::Fault);
-    assert_eq!(rt; files.faults(), 0);
-    assert_eq!(rt; out.faults(), 1);
     Ok(())
+}
+
+#[test]
+fn each_status_has_its_number(rt: HostRuntime) {
+    let statuses = [
+        Status::Done,
+        Status::Refused,
+        Status::Words,
+        Status::Malformed,
+        Status::Fault,
+        Status::NoMemory,
+        Status::TooLong,
+    ];
+    let numbers = [0, 1, 2, 3, 4, 5, 7];
+    for (status, number) in statuses.iter().zip(numbers) {
+        assert_eq!(rt; status.code(), number);
+    }
 }

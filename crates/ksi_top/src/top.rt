@@ -1,7 +1,8 @@
 // The top call.
-ghost use Rattle.std.specs.Prelude.{◌≡◌, ◌≢◌, ℕ, ◌+◌, ◌<◌, ◌≤◌, ◌++◌, List, length, IsTrue, None};
+ghost use Rattle.std.specs.Prelude.{◌≡◌, ◌≢◌, ℕ, ◌+◌, ◌<◌, ◌≤◌, ◌++◌, List, length, IsTrue, IfErr, None};
 ghost use Rattle.ksi_top.specs.Top.{UnlessCut, FaultLeaves, outside, WordsStatus, WordsLine, TookTooMuch};
-ghost use Rattle.ksi_top.specs.Run.{run, saved_into};
+ghost use Rattle.ksi_top.specs.Causes.{counts};
+ghost use Rattle.ksi_top.specs.Run.{run, run_calls, saved_into, saves_of};
 ghost use Rattle.ksi_top.specs.Words.{texts, command_of};
 
 use crate::perform::report_of;
@@ -24,6 +25,12 @@ pub fn ksi<F: Files, K: Sink>(alloc: Global, words: &[String], files: &mut F, ou
         UnlessCut result (K.written out.new
         ≡ K.written out.old ++ (run (texts words.now) (F.held files.old)).line) }
 
+    // It calls on the files no more often than the run does: words that are no command load nothing, and a file is loaded
+    // only once those before it are read.
+    ensures calls { IsTrue F.tells →
+        F.calls files.new ≤ F.calls files.old + run_calls (texts words.now) (F.held files.old) }
+    ensures untouched { IfErr (command_of (texts words.now)) (λ _. F.calls files.new ≡ F.calls files.old) }
+
     // A fault is reported only where a count rose, and always where one is greater at the end.
     ensures fault { result ≡ Status.Fault →
         FaultLeaves F.tells K.tells (run (texts words.now) (F.held files.old))
@@ -42,9 +49,18 @@ pub fn ksi<F: Files, K: Sink>(alloc: Global, words: &[String], files: &mut F, ou
     ensures words_line { IsTrue K.tells →
         UnlessCut result (WordsLine (command_of (texts words.now)) (K.written out.old) (K.written out.new)) }
     ensures too_long { result ≡ Status.TooLong →
-        TookTooMuch (command_of (texts words.now)) (F.taken files.old) (F.taken files.new) }
+        (line : List ℕ) × (IsTrue K.tells → K.written out.new ≡ K.written out.old ++ line)
+        × TookTooMuch (command_of (texts words.now))
+        (counts (F.faults files.old) (F.taken files.old)) (counts (F.faults files.new) (F.taken files.new)) line }
     ensures one_line { IsTrue K.tells →
-        length (K.written out.new) ≤ length (K.written out.old) + 32767 }
+        (line : List ℕ) × (K.written out.new ≡ K.written out.old ++ line) × (length line ≤ 32767) }
+    ensures one_put { K.puts out.new ≤ K.puts out.old + 1 }
+
+    // No count falls, and those of faults stay where no fault is reported.
+    ensures quiet { result ≢ Status.Fault →
+        (F.faults files.new ≡ F.faults files.old) × (K.faults out.new ≡ K.faults out.old) }
+    ensures later { (F.faults files.old ≤ F.faults files.new) × (F.taken files.old ≤ F.taken files.new)
+        × (K.faults out.old ≤ K.faults out.new) }
 {
     match report_of(alloc, words, files) {
         Ok(report) => finish(alloc, &report, files, out),
@@ -61,7 +77,14 @@ fn finish<F: Files, K: Sink>(alloc: Global, report: &Report, files: &mut F, out:
     ensures status { UnlessCut result (result ≡ report.now.status) }
     ensures saved { IsTrue F.tells → UnlessCut result (F.held files.new ≡ saved_into report.now.saved (F.held files.old)) }
     ensures put { IsTrue K.tells → UnlessCut result (K.written out.new ≡ K.written out.old ++ report.now.line) }
-    ensures fits { IsTrue K.tells → length (K.written out.new) ≤ length (K.written out.old) + 32767 }
+    ensures calls { F.calls files.new ≤ F.calls files.old + saves_of report.now.saved }
+    ensures later_calls { F.calls files.old ≤ F.calls files.new }
+    ensures one_line { IsTrue K.tells →
+        (line : List ℕ) × (K.written out.new ≡ K.written out.old ++ line) × (length line ≤ 32767) }
+    ensures one_put { K.puts out.new ≤ K.puts out.old + 1 }
+    ensures quiet { result ≢ Status.Fault →
+        (F.faults files.new ≡ F.faults files.old) × (K.faults out.new ≡ K.faults out.old) }
+    ensures later { (F.faults files.old ≤ F.faults files.new) × (K.faults out.old ≤ K.faults out.new) }
     ensures taken { F.taken files.old ≤ F.taken files.new }
     ensures fault { result ≡ Status.Fault →
         FaultLeaves F.tells K.tells report.now

@@ -1,9 +1,9 @@
 // The command `verify`.
-ghost use Rattle.std.specs.Prelude.{◌≡◌, ℕ, IsTrue, IfOk};
+ghost use Rattle.std.specs.Prelude.{◌≡◌, ◌≤◌, ◌+◌, ℕ, IsTrue, IfOk};
 ghost use Rattle.ksi_top.specs.Reports.{Reports};
 ghost use Rattle.ksi_top.specs.Causes.{ReportCaused, IsJudged, counts};
 ghost use Rattle.ksi_top.specs.Verdict.{verdict};
-ghost use Rattle.ksi_top.specs.Verify.{judged, verify_run};
+ghost use Rattle.ksi_top.specs.Verify.{judged, verify_limits, verify_loads, verify_run};
 
 use crate::loading::{FILE_LIMIT, SIGNATURE_LIMIT, load_file, or_malformed};
 use crate::printed::Word::{Number, Text};
@@ -20,7 +20,7 @@ use ksi_ports::Files;
 use std::alloc::Global;
 
 /// Loads and reads the signature, then the publications, and checks the one against the hash and the other.
-#[tactic(auto, using(crate::proofs::CauseLemmas::caused_by_judgement), unfolding(crate::specs::Verify::verify_run))]
+#[tactic(auto, using(crate::proofs::CauseLemmas::caused_by_judgement, crate::proofs::CauseLemmas::caused_by_limit), unfolding(crate::specs::Verify::verify_run, crate::specs::Verify::verify_loads))]
 pub(crate) fn verify<F: Files>(
     alloc: Global,
     files: &mut F,
@@ -30,7 +30,9 @@ pub(crate) fn verify<F: Files>(
 ) -> Result<Report, Halt>
     ensures told { IsTrue F.tells → Reports (verify_run signature.now hash.now publications.now (F.held files.old)) result }
     ensures stays { IsTrue F.tells → F.held files.new ≡ F.held files.old }
-    ensures causes { ReportCaused 65539 (counts (F.faults files.old) (F.taken files.old)) (counts (F.faults files.new) (F.taken files.new)) result }
+    ensures calls { IsTrue F.tells → F.calls files.new ≤ F.calls files.old + verify_loads signature.now (F.held files.old) }
+    ensures later { F.calls files.old ≤ F.calls files.new }
+    ensures causes { ReportCaused verify_limits (counts (F.faults files.old) (F.taken files.old)) (counts (F.faults files.new) (F.taken files.new)) result }
 {
     let bytes = load_file(alloc, files, SIGNATURE_LIMIT, 1, signature)?;
     let signature = or_malformed(alloc, 1, read_signature(bytes.as_slice()))?;
