@@ -1,0 +1,29 @@
+-- Climbing along links of a calendar hash chain, the lowest first.
+use Rattle.std.specs.Prelude.{◌≡◌, ℕ, ◌+◌, List, length, slice_get, Some}
+use Rattle.ksi_imprint.specs.Imprints.{join_text}
+use Rattle.ksi_split.specs.declared.side.Side.{Side}
+use Rattle.ksi_split.specs.declared.side.Side.TheVariants.{Left, Right}
+use Rattle.ksi_split.specs.declared.tree_link.TreeLink.{TreeLink}
+
+-- what is hashed where a node on a side is joined with its sibling: the level byte is 0xff
+abbrev pub side_text : Side → List ℕ → List ℕ → List ℕ
+side_text Left node sibling = join_text node sibling 255
+side_text Right node sibling = join_text sibling node 255
+
+-- the string of a link: what its join hashes, from a node with this imprint
+abbrev pub cal_text : List ℕ → TreeLink (List ℕ) → List ℕ
+cal_text imprint link = side_text link.side imprint link.sibling
+
+-- links lead from `start` to `top`: there are imprints, one more than there are links, from `start` to `top`, and each
+-- link's join leads from one of them to the next
+pub record ClimbsCal (image : List ℕ → List ℕ) (start : List ℕ) (links : List (TreeLink (List ℕ))) (top : List ℕ) : Type 0 where
+  pub imprints : List (List ℕ)
+  pub count : length imprints ≡ length links + 1
+  pub first : slice_get imprints 0 ≡ Some start
+  pub last : slice_get imprints (length links) ≡ Some top
+  pub each : (k : ℕ) (link : TreeLink (List ℕ)) (below above : List ℕ) → slice_get links k ≡ Some link →
+      slice_get imprints k ≡ Some below → slice_get imprints (k + 1) ≡ Some above → above ≡ image (cal_text below link)
+
+-- how the calendar joins two nodes
+abbrev pub cal_join : (List ℕ → List ℕ) → List ℕ → List ℕ → List ℕ
+cal_join image left right = image (join_text left right 255)
