@@ -1,3 +1,6 @@
+ghost use Rattle.std.specs.Prelude.{◌≡◌};
+ghost use Rattle.ksi_aggchain.specs.Owned.{sibling_bytes};
+
 use ksi_imprint::{Bytes, Imprint};
 use ksi_split::Side;
 
@@ -21,4 +24,16 @@ pub enum Sibling {
     Legacy(Bytes),
     /// The raw bytes of metadata.
     Metadata(Bytes),
+}
+
+impl Sibling {
+    /// The bytes that a join has of it.
+    pub fn bytes(&self) -> &[u8]
+        ensures { result.now ≡ sibling_bytes self.now }
+    {
+        match self {
+            Sibling::Imprint(imprint) => imprint.bytes(),
+            Sibling::Legacy(bytes) | Sibling::Metadata(bytes) => bytes.as_slice(),
+        }
+    }
 }

@@ -1,8 +1,8 @@
 ghost use Rattle.std.specs.Prelude.{◌≡◌};
 ghost use Rattle.ksi_aggchain.specs.Links.{PlainLink};
-ghost use Rattle.ksi_aggchain.specs.Owned.{plain_link, sibling_bytes};
+ghost use Rattle.ksi_aggchain.specs.Owned.{plain_link};
 
-use crate::link::{Link, Sibling};
+use crate::link::Link;
 use ksi_split::Side;
 
 /// A link as climbing sees it, whoever owns its sibling's bytes.
@@ -32,17 +32,5 @@ impl SeenLink for Link {
 
     fn sibling(&self) -> &[u8] {
         self.sibling.bytes()
-    }
-}
-
-impl Sibling {
-    /// The bytes that a join has of it.
-    pub fn bytes(&self) -> &[u8]
-        ensures { result.now ≡ sibling_bytes self.now }
-    {
-        match self {
-            Sibling::Imprint(imprint) => imprint.bytes(),
-            Sibling::Legacy(bytes) | Sibling::Metadata(bytes) => bytes.as_slice(),
-        }
     }
 }

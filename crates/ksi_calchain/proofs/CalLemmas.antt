@@ -1,5 +1,5 @@
 -- Climbing in a calendar as a relation and as a value.
-use Rattle.std.proofs.Common.{◌≡◌, ℕ, zero, suc, ◌+◌, ◌<◌, ◌≤◌, ◌↔◌, List, [], ◌∷◌, ◌++◌, length, drop, get_or, Some, refl, sym, ap, ◌∙◌, subst, arith}
+use Rattle.std.proofs.Common.{◌≡◌, ℕ, zero, suc, ◌+◌, ◌<◌, ◌≤◌, List, [], ◌∷◌, ◌++◌, length, drop, get_or, Some, refl, sym, ap, ◌∙◌, arith}
 use Rattle.std.specs.List.{slice_get}
 use Rattle.std.proofs.Math.Seq.{drop-cons}
 use Rattle.std.proofs.Math.ListN.{drop_of_length-le}
@@ -7,10 +7,10 @@ use Rattle.ksi_split.specs.declared.side.Side.{Side}
 use Rattle.ksi_split.specs.declared.side.Side.TheVariants.{Left, Right}
 use Rattle.ksi_split.specs.declared.tree_link.TreeLink.{TreeLink}
 use Rattle.ksi_split.specs.Trees.{climb_links, link_from}
-use Rattle.ksi_calchain.specs.Climbing.{ClimbsCal, cal_join, cal_text, side_text}
+use Rattle.ksi_calchain.specs.Climbing.{ClimbsCal, cal_join, cal_join_text, cal_text}
 
 module _ (image : List ℕ → List ℕ) where
-  side_leads : (x : List ℕ) (link : TreeLink (List ℕ)) (side : Side) → link_from (cal_join image) x link side ≡ image (side_text side x link.sibling)
+  side_leads : (x : List ℕ) (link : TreeLink (List ℕ)) (side : Side) → link_from (cal_join image) x link side ≡ image (link_from cal_join_text x link side)
   side_leads x link Left = refl
   side_leads x link Right = refl
 

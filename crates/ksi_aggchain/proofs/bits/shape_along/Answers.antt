@@ -1,7 +1,6 @@
 use Rattle.std.proofs.Common.{◌≡◌, ◌+◌, ◌*◌, ◌%◌, ◌^◌, ◌<◌, ◌≤◌, List, length, map, sym, ap, ◌∙◌, arith, drop, subst, ℕ}
 use Rattle.std.proofs.lemmas.List.{length-map}
 use Rattle.ksi_split.specs.declared.side.Side.{Side}
-use Rattle.ksi_split.specs.declared.side.Side.TheVariants.{Left, Right}
 use Rattle.ksi_aggchain.specs.Shapes.{IsShape, left_powers, shape_of}
 use Rattle.ksi_aggchain.proofs.ClimbLemmas.{seen_at, seen_within, seen_past}
 use Rattle.ksi_aggchain.proofs.ShapeLemmas.{left_fits, left_goes, right_goes, shape_begins, shape_ends, shape_is}

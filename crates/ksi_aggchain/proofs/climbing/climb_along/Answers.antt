@@ -1,5 +1,5 @@
 use Rattle.std.proofs.Common.{◌≡◌, ◌+◌, List, map, Ok, Err, Result, arith}
-use Rattle.ksi_aggchain.specs.Links.{PlainLink, level_above}
+use Rattle.ksi_aggchain.specs.Links.{PlainLink}
 use Rattle.ksi_aggchain.specs.Climbing.{climbed}
 use Rattle.ksi_aggchain.specs.declared.item.Item.{Item}
 use Rattle.ksi_aggchain.specs.declared.climbing.LevelFault.{LevelFault}

@@ -1,4 +1,4 @@
-use Rattle.std.proofs.Common.{◌≡◌, ◌∙◌, ap, min, ℕ, length, List, arith, sym, Ok, Err}
+use Rattle.std.proofs.Common.{◌≡◌, ◌∙◌, ap, min, ℕ, length, List, sym, Ok, Err}
 use Rattle.ksi_split.specs.declared.side.Side.{Side}
 use Rattle.ksi_split.specs.declared.fault.ShapeFault.TheVariants.{TooMany, TooFew}
 use Rattle.ksi_split.specs.Ways.{IsSecond, PassesLeaf, EndsAbove}

@@ -1,4 +1,4 @@
-use Rattle.std.proofs.Common.{◌∙◌, ◌-◌, length, arith, get_or}
+use Rattle.std.proofs.Common.{◌∙◌, arith}
 use Rattle.std.proofs.Math.ListN.{length-set}
 use Rattle.ksi_calchain.proofs.SideLemmas.{next_side}
 use Rattle.ksi_calchain.proofs.seconds.uppermost.Goals as goal
