@@ -222,6 +222,9 @@ module _ (image : List ℕ → List ℕ) where
       of (Ok top) e = inl (top, climbs_from 0 x links top e)
       of (Err (Over place high)) e = (let p = passes_from 0 x links place high e in inr (p.0, high, p.2))
 
+  pub not_both : (x top : Item) (links : List PlainLink) (place high : ℕ) → Climbs image x links top → PassesLevels x.level links place high → ⊥
+  not_both x top links place high h k = let a = climbs_to 0 x links top h in let b = passes_to 0 x links place high k in cc
+
   -- ---- as a loop climbs
 
   module _ (place level high : ℕ) (imprint : List ℕ) (link : PlainLink) (links : List PlainLink) (all : Result Item LevelFault) (lt : place < length links) (is : link ≡ get_or links place link)
@@ -269,3 +272,13 @@ seen_past f xs place le = omega (arith, length-map xs f)
 pub level_rises : (level : ℕ) (links : List PlainLink) → level + length links ≤ level_after level links
 level_rises level [] = omega arith
 level_rises level (link ∷ links) = omega (arith, level_cons level link links, level_rises (level_above level link) links)
+
+pub one_fault : (start place high other_place other : ℕ) (links : List PlainLink) → PassesLevels start links place high → PassesLevels start links other_place other → (place ≡ other_place) × (high ≡ other)
+one_fault start place high other_place other links h k =
+    let image = λ (bytes : List ℕ). bytes in
+    let item : Item = record { imprint = []; level = start } in
+    let a = passes_to image 0 item links place high h in
+    let b = passes_to image 0 item links other_place other k in
+    let places : 0 + place ≡ 0 + other_place = cc in
+    let levels : high ≡ other = cc in
+    (omega arith, levels)

@@ -7,13 +7,19 @@ ghost use Rattle.ksi_aggchain.specs.Shapes.{IsShape, shape_of};
 ghost use Rattle.ksi_aggchain.specs.declared.item.Item.{Item};
 ghost use Rattle.ksi_aggchain.specs.declared.climbing.LevelFault.TheVariants.{Over};
 
-/// Links lead from an item to one other, or the level of one of them is the first to pass 255. `climbed` says which.
+/// Links lead from an item to one other, or the level of one of them is the first to pass 255, and not both. `climbed`
+/// says which.
 pub fn one_climb()
     ensures some { (image : List ℕ → List ℕ) (start : Item) (links : List PlainLink) →
         ((top : Item) × Climbs image start links top) ⊎
         ((place : ℕ) × (high : ℕ) × PassesLevels start.level links place high) }
     ensures one_top { (image : List ℕ → List ℕ) (start one other : Item) (links : List PlainLink) →
         Climbs image start links one → Climbs image start links other → one ≡ other }
+    ensures one_fault { (start place high other_place other : ℕ) (links : List PlainLink) →
+        PassesLevels start links place high → PassesLevels start links other_place other →
+        (place ≡ other_place) × (high ≡ other) }
+    ensures not_both { (image : List ℕ → List ℕ) (start top : Item) (links : List PlainLink) (place high : ℕ) →
+        Climbs image start links top → ¬ PassesLevels start.level links place high }
     ensures climbs { (image : List ℕ → List ℕ) (start top : Item) (links : List PlainLink) →
         (climbed image 0 start links ≡ Ok top) ↔ Climbs image start links top }
     ensures over { (image : List ℕ → List ℕ) (start : Item) (links : List PlainLink) (place high : ℕ) →
