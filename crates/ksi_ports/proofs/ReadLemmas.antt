@@ -6,7 +6,7 @@ use Rattle.ksi_ports.specs.Outside.{LoadTakes}
 use Rattle.ksi_ports.specs.Host.{ReadTakes}
 
 pub load_takes : (most before now : ℕ) (result : Result (List ℕ) LoadRefusal) → ReadTakes most before now result → LoadTakes most before now result
-load_takes most before now (Ok bytes) takes = takes.later
+load_takes most before now (Ok bytes) takes = (takes.later, takes.rose)
 load_takes most before now (Err Failed) takes = takes
 load_takes most before now (Err TooLong) takes = (takes.later, takes.rose)
 load_takes most before now (Err NoMemory) takes = takes.later

@@ -1,13 +1,14 @@
--- What is known of files and output of the system: how often a call failed, and how many bytes were taken.
+-- What is known of files and output of the system: how many calls there were, how many of them failed,
+-- how many bytes were taken, and where output goes.
 use Rattle.std.specs.Prelude.{ℕ, ◌+◌, ◌≤◌, List, length, take, Option, Result, Ok, Err}
 use Rattle.std.specs.Io.KnownBytes.{Appends}
 use Rattle.ksi_ports.specs.declared.files.LoadRefusal.{LoadRefusal}
 use Rattle.ksi_ports.specs.declared.files.LoadRefusal.TheVariants.{Failed, TooLong, NoMemory}
-use Rattle.ksi_ports.specs.declared.host_sink.HostSink.{HostSink}
 use Rattle.ksi_ports.specs.Outside.{count_up, RoseBy, Raises}
 
--- how often a call failed, and how many bytes were taken
+-- how many calls there were, how many of them failed, and how many bytes were taken
 pub record Counted : Type 0 where
+  pub calls : ℕ
   pub faults : ℕ
   pub taken : ℕ
 
@@ -31,13 +32,11 @@ ReadTakes most before now (Err Failed) = before ≤ now
 ReadTakes most before now (Err TooLong) = TakesExactly (most + 1) before now
 ReadTakes most before now (Err NoMemory) = Raises before now
 
--- the writer of a sink
-abbrev pub writer_of : {W : Type 0} → HostSink W → W
-writer_of sink = sink.writer
-
--- how often a put of a sink failed
-abbrev pub faults_of : {W : Type 0} → HostSink W → ℕ
-faults_of sink = sink.faults
+-- where output goes, how many puts there were, and how many of them failed
+pub record CountedOutput (W : Type 0) : Type 0 where
+  pub writer : W
+  pub puts : ℕ
+  pub faults : ℕ
 
 -- known bytes have grown by a front of the piece
 abbrev pub AppendsFront : Option (List ℕ) → Option (List ℕ) → List ℕ → Type 0

@@ -14,6 +14,7 @@ count_up n before = min (before + n) (2 ^ 64 - 1)
 abbrev pub RoseBy : ℕ → ℕ → ℕ → Type 0
 RoseBy n before now = count_up n before ≤ now
 
+-- the same, by one
 abbrev pub Rose : ℕ → ℕ → Type 0
 Rose before now = RoseBy 1 before now
 
@@ -22,6 +23,13 @@ pub record Raises (before now : ℕ) : Type 0 where
   pub later : before ≤ now
   pub rose : Rose before now
 
+-- a load's count of calls: it goes up by one, and by no more than one where memory was wanting
+abbrev pub LoadCalls : {T : Type 0} → ℕ → ℕ → Result T LoadRefusal → Type 0
+LoadCalls before now (Ok bytes) = now ≡ count_up 1 before
+LoadCalls before now (Err Failed) = now ≡ count_up 1 before
+LoadCalls before now (Err TooLong) = now ≡ count_up 1 before
+LoadCalls before now (Err NoMemory) = now ≤ count_up 1 before
+
 -- a load's count of faults: it rises where the load failed, and stays where it did not
 abbrev pub LoadCounts : {T : Type 0} → ℕ → ℕ → Result T LoadRefusal → Type 0
 LoadCounts before now (Ok bytes) = now ≡ before
@@ -29,9 +37,10 @@ LoadCounts before now (Err Failed) = Raises before now
 LoadCounts before now (Err TooLong) = now ≡ before
 LoadCounts before now (Err NoMemory) = now ≡ before
 
--- a load's tally of bytes taken: it does not fall, and where the file was too long it rises by more than `most`
-abbrev pub LoadTakes : {T : Type 0} → ℕ → ℕ → ℕ → Result T LoadRefusal → Type 0
-LoadTakes most before now (Ok bytes) = before ≤ now
+-- a load's tally of bytes taken: it does not fall, it rises by the bytes given or by more,
+-- and where the file was too long it rises by more than `most`
+abbrev pub LoadTakes : ℕ → ℕ → ℕ → Result (List ℕ) LoadRefusal → Type 0
+LoadTakes most before now (Ok bytes) = (before ≤ now) × RoseBy (length bytes) before now
 LoadTakes most before now (Err Failed) = before ≤ now
 LoadTakes most before now (Err TooLong) = (before ≤ now) × RoseBy (most + 1) before now
 LoadTakes most before now (Err NoMemory) = before ≤ now
@@ -42,6 +51,12 @@ LoadTells most held (Ok bytes) = (held ≡ Some bytes) × (length bytes ≤ most
 LoadTells most held (Err Failed) = Unit {0}
 LoadTells most held (Err TooLong) = (bytes : List ℕ) × (held ≡ Some bytes) × (most < length bytes)
 LoadTells most held (Err NoMemory) = Unit {0}
+
+-- a save's count of calls, as a load's
+abbrev pub SaveCalls : ℕ → ℕ → Result (Unit {0}) SaveRefusal → Type 0
+SaveCalls before now (Ok u) = now ≡ count_up 1 before
+SaveCalls before now (Err saves.Failed) = now ≡ count_up 1 before
+SaveCalls before now (Err saves.NoMemory) = now ≤ count_up 1 before
 
 -- a save's count of faults
 abbrev pub SaveCounts : ℕ → ℕ → Result (Unit {0}) SaveRefusal → Type 0

@@ -1,6 +1,6 @@
 ghost use Rattle.std.specs.Prelude.{◌≡◌, ℕ, ◌≤◌, Bool, IsTrue, List, length, IfOk};
 ghost use Rattle.ksi_ports.specs.Stored.{Held};
-ghost use Rattle.ksi_ports.specs.Outside.{LoadCounts, LoadTakes, LoadTells, SaveCounts, SaveLeaves};
+ghost use Rattle.ksi_ports.specs.Outside.{LoadCalls, LoadCounts, LoadTakes, LoadTells, SaveCalls, SaveCounts, SaveLeaves};
 
 use ksi_imprint::{Bytes, NoMemory};
 use std::alloc::Global;
@@ -32,7 +32,7 @@ impl From<NoMemory> for LoadRefusal {
 pub enum SaveRefusal {
     /// The file could not be written, and the count of faults rose. What it holds is unknown.
     Failed,
-    /// Memory was wanting. Nothing changed.
+    /// Memory was wanting. No file changed.
     NoMemory,
 }
 
@@ -48,12 +48,18 @@ impl From<NoMemory> for SaveRefusal {
 }
 
 /// Files by their names.
+///
+/// The counts of calls and of faults and the tally of bytes never fall. They stop at 2^64 - 1, where one counts as risen by
+/// any number.
 pub trait Files {
     /// Whether this kind of files tells what it holds.
     ghost tells: { Bool };
 
     /// What is held under each name.
     ghost held: { Self → Held };
+
+    /// How often a load or a save was called.
+    ghost calls: { Self → ℕ };
 
     /// How often a call failed.
     ghost faults: { Self → ℕ };
@@ -62,7 +68,14 @@ pub trait Files {
     ghost taken: { Self → ℕ };
 
     /// The bytes of a file that has at most `most` of them.
+    ///
+    /// # Errors
+    ///
+    /// `Failed` where the file could not be read: the count of faults rises. `TooLong` where it has more than `most` bytes:
+    /// at least `most + 1` were taken. `NoMemory` where memory was wanting: the call may be left out of the count of calls.
     fn load(&mut self, alloc: Global, name: &str, most: usize) -> Result<Bytes, LoadRefusal>
+        ensures later { calls self.old ≤ calls self.new }
+        ensures called { LoadCalls (calls self.old) (calls self.new) result }
         ensures counted { LoadCounts (faults self.old) (faults self.new) result }
         ensures taken { LoadTakes most (taken self.old) (taken self.new) result }
         ensures within { IfOk result (λ bytes. length bytes ≤ most) }
@@ -70,7 +83,14 @@ pub trait Files {
         ensures stays { held self.new ≡ held self.old };
 
     /// Makes these the bytes of the file, which need not have been there.
+    ///
+    /// # Errors
+    ///
+    /// `Failed` where the file could not be written: the count of faults rises, and what the file holds is unknown.
+    /// `NoMemory` where memory was wanting: nothing is written, and the call may be left out of the count of calls.
     fn save(&mut self, alloc: Global, name: &str, bytes: &[u8]) -> Result<(), SaveRefusal>
+        ensures later { calls self.old ≤ calls self.new }
+        ensures called { SaveCalls (calls self.old) (calls self.new) result }
         ensures counted { SaveCounts (faults self.old) (faults self.new) result }
         ensures taken { taken self.new ≡ taken self.old }
         ensures leaves { IsTrue tells → SaveLeaves name.now bytes.now (held self.old) (held self.new) result };

@@ -1,5 +1,6 @@
 ghost use Rattle.std.specs.Prelude.{◌≡◌, ◌≤◌, false, length, Some, None, IfOk, IfSome, if◌then◌else◌, is_ok};
-ghost use Rattle.ksi_ports.specs.Outside.{count_up, LoadCounts, LoadTells, SaveCounts};
+ghost use Rattle.std.specs.Bool.{OnTrue, OnFalse};
+ghost use Rattle.ksi_ports.specs.Outside.{count_up, LoadCalls, LoadCounts, LoadTells, Raises, SaveCalls, SaveCounts};
 ghost use Rattle.ksi_ports.specs.Host.{ReadTakes, faults_after};
 
 use crate::{Files, LoadRefusal, SaveRefusal};
@@ -13,6 +14,7 @@ use std::{fs, rt};
 #[derive(Drop)]
 pub struct HostFiles<'a, R: rt::Files> {
     runtime: &'a R,
+    calls: u64,
     faults: u64,
     taken: u64,
 }
@@ -22,16 +24,17 @@ impl<'a, R: rt::Files> Model for HostFiles<'a, R> {
 
     ghost Value = { Counted };
 
-    ghost view = { λ files. record { faults = files.faults; taken = files.taken } };
+    ghost view = { λ files. record { calls = files.calls; faults = files.faults; taken = files.taken } };
 }
 
 impl<'a, R: rt::Files> HostFiles<'a, R> {
-    /// The files of this runtime. No call failed so far, and no byte was taken.
+    /// The files of this runtime. There was no call so far, and no byte was taken.
     pub fn new(runtime: &'a R) -> Self
-        ensures { result ≡ record { faults = 0; taken = 0 } }
+        ensures { result ≡ record { calls = 0; faults = 0; taken = 0 } }
     {
         HostFiles {
             runtime,
+            calls: 0,
             faults: 0,
             taken: 0,
         }
@@ -43,6 +46,28 @@ impl<'a, R: rt::Files> HostFiles<'a, R> {
     {
         self.faults
     }
+
+    /// How many bytes were taken by loads.
+    pub fn taken(&self) -> u64
+        ensures { result ≡ self.now.taken }
+    {
+        self.taken
+    }
+
+    // Counts a call, and its fault where it failed.
+    fn count(&mut self, failed: bool)
+        ensures calls { self.new.calls ≡ count_up 1 self.old.calls }
+        ensures later { self.old.calls ≤ self.new.calls }
+        ensures failed { OnTrue failed (Raises self.old.faults self.new.faults) }
+        ensures once { OnTrue failed (self.new.faults ≡ count_up 1 self.old.faults) }
+        ensures passed { OnFalse failed (self.new.faults ≡ self.old.faults) }
+        ensures taken { self.new.taken ≡ self.old.taken }
+    {
+        self.calls = self.calls.saturating_add(1);
+        if failed {
+            self.faults = self.faults.saturating_add(1);
+        }
+    }
 }
 
 impl<R: rt::Files> Files for HostFiles<'_, R> {
@@ -50,35 +75,40 @@ impl<R: rt::Files> Files for HostFiles<'_, R> {
 
     ghost held = { λ _ _. None };
 
+    ghost calls = { λ files. files.calls };
+
     ghost faults = { λ files. files.faults };
 
     ghost taken = { λ files. files.taken };
 
     fn load(&mut self, alloc: Global, name: &str, most: usize) -> Result<Bytes, LoadRefusal>
+        ensures later { self.old.calls ≤ self.new.calls }
+        ensures called { LoadCalls self.old.calls self.new.calls result }
+        ensures calls { self.new.calls ≡ count_up 1 self.old.calls }
         ensures counted { LoadCounts self.old.faults self.new.faults result }
         ensures within { IfOk result (λ bytes. length bytes ≤ most) }
         ensures faults { self.new.faults ≡ faults_after self.old.faults result }
         ensures takes { ReadTakes most self.old.taken self.new.taken result }
     {
         let result = open_and_read(self.runtime, alloc, name, most, &mut self.taken);
-        if matches!(&result, Err(LoadRefusal::Failed)) {
-            self.faults = self.faults.saturating_add(1);
-        }
+        self.count(matches!(&result, Err(LoadRefusal::Failed)));
         result
     }
 
     fn save(&mut self, _alloc: Global, name: &str, bytes: &[u8]) -> Result<(), SaveRefusal>
+        ensures later { self.old.calls ≤ self.new.calls }
+        ensures called { SaveCalls self.old.calls self.new.calls result }
+        ensures calls { self.new.calls ≡ count_up 1 self.old.calls }
         ensures counted { SaveCounts self.old.faults self.new.faults result }
         ensures faults { self.new.faults ≡ (if is_ok result then self.old.faults else count_up 1 self.old.faults) }
         ensures taken { self.new.taken ≡ self.old.taken }
     {
-        match fs::write(self.runtime, name, bytes) {
-            Ok(()) => Ok(()),
-            Err(_) => {
-                self.faults = self.faults.saturating_add(1);
-                Err(SaveRefusal::Failed)
-            }
+        let failed = fs::write(self.runtime, name, bytes).is_err();
+        self.count(failed);
+        if failed {
+            return Err(SaveRefusal::Failed);
         }
+        Ok(())
     }
 }
 

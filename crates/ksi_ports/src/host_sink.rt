@@ -1,31 +1,44 @@
-ghost use Rattle.std.specs.Prelude.{◌≡◌, false, [], OnOk, OnErr};
+ghost use Rattle.std.specs.Prelude.{◌≡◌, ◌≤◌, false, [], OnOk, OnErr};
 ghost use Rattle.std.specs.Bool.{OnTrue, OnFalse};
 ghost use Rattle.std.specs.Io.KnownBytes.{Appends};
 ghost use Rattle.ksi_ports.specs.Outside.{Raises, count_up};
-ghost use Rattle.ksi_ports.specs.Host.{AppendsFront, faults_of, writer_of};
+ghost use Rattle.ksi_ports.specs.Host.{AppendsFront};
 
 use crate::{Sink, SinkFailed};
 use std::io::Write;
+use std::marker::Model;
 
 /// Output over a writer. Nothing is told of what was written.
 #[derive(Drop)]
 pub struct HostSink<W: Write> {
     writer: W,
+    puts: u64,
     faults: u64,
 }
 
+impl<W: Write> Model for HostSink<W> {
+    ghost use Rattle.ksi_ports.specs.Host.{CountedOutput};
+
+    ghost Value = { CountedOutput W };
+
+    ghost view = { λ sink. record { writer = sink.writer; puts = sink.puts; faults = sink.faults } };
+}
+
 impl<W: Write> HostSink<W> {
-    /// Output to this writer. No put failed so far.
+    /// Output to this writer. There was no put so far.
     pub fn new(writer: W) -> Self
-        ensures faults { faults_of result ≡ 0 }
-        ensures writer { writer_of result ≡ writer }
+        ensures { result ≡ record { writer = writer; puts = 0; faults = 0 } }
     {
-        HostSink { writer, faults: 0 }
+        HostSink {
+            writer,
+            puts: 0,
+            faults: 0,
+        }
     }
 
     /// How many puts failed.
     pub fn faults(&self) -> u64
-        ensures { result ≡ faults_of self.now }
+        ensures { result ≡ self.now.faults }
     {
         self.faults
     }
@@ -36,17 +49,22 @@ impl<W: Write> Sink for HostSink<W> {
 
     ghost written = { λ _. [] };
 
-    ghost faults = { faults_of };
+    ghost puts = { λ sink. sink.puts };
+
+    ghost faults = { λ sink. sink.faults };
 
     fn put(&mut self, piece: &[u8]) -> Result<(), SinkFailed>
-        ensures counted { OnOk result (faults_of self.new ≡ faults_of self.old) }
-        ensures failed { OnErr result (Raises (faults_of self.old) (faults_of self.new)) }
-        ensures once { OnErr result (faults_of self.new ≡ count_up 1 (faults_of self.old)) }
-        ensures writes { OnOk result (Appends (W.contents (writer_of self.old))
-            (W.contents (writer_of self.new)) piece.now) }
-        ensures front { OnErr result (AppendsFront (W.contents (writer_of self.old))
-            (W.contents (writer_of self.new)) piece.now) }
+        ensures later { self.old.puts ≤ self.new.puts }
+        ensures called { self.new.puts ≡ count_up 1 self.old.puts }
+        ensures counted { OnOk result (self.new.faults ≡ self.old.faults) }
+        ensures failed { OnErr result (Raises self.old.faults self.new.faults) }
+        ensures once { OnErr result (self.new.faults ≡ count_up 1 self.old.faults) }
+        ensures writes { OnOk result (Appends (W.contents self.old.writer)
+            (W.contents self.new.writer) piece.now) }
+        ensures front { OnErr result (AppendsFront (W.contents self.old.writer)
+            (W.contents self.new.writer) piece.now) }
     {
+        self.puts = self.puts.saturating_add(1);
         if write_whole(&mut self.writer, piece) {
             return Ok(());
         }

@@ -1,8 +1,11 @@
-//! The files and the output that a run is lent: traits that count faults, and implementations in memory and over std.
+//! The files and the output that a run is lent: traits that count calls and faults, and implementations in memory and over
+//! std.
 //!
-//! The layers above rely on three things. Where content is told, a load gives exactly what is held under the name, a save
+//! The layers above rely on four things. Where content is told, a load gives exactly what is held under the name, a save
 //! changes what is held under that name alone, and a put appends its piece. `Failed` and `SinkFailed` come only where the
-//! count of faults rose, and every other answer leaves it. `TooLong` comes only where more bytes were taken than allowed.
+//! count of faults rose, and every other answer leaves it. Bytes come only where as many were taken, and `TooLong` only
+//! where more were taken than allowed. Each load, save and put raises its count of calls by one; a load or save that lacks
+//! memory may leave it.
 //!
 //! ```text
 //! let mut files = MemFiles::new(alloc, failing);

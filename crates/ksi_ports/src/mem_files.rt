@@ -1,5 +1,5 @@
-ghost use Rattle.std.specs.Prelude.{◌≡◌, OnOk, OnErr, option_copied, ◌∷◌, true};
-ghost use Rattle.ksi_ports.specs.Outside.{LoadCounts, LoadTakes, SaveCounts};
+ghost use Rattle.std.specs.Prelude.{◌≡◌, ◌≤◌, OnOk, OnErr, option_copied, ◌∷◌, true};
+ghost use Rattle.ksi_ports.specs.Outside.{LoadCalls, LoadCounts, LoadTakes, SaveCalls, SaveCounts};
 ghost use Rattle.ksi_ports.specs.Memory.{held_in, no_files, is_listed, load_answer, LoadAnswers, after_load, SaveAnswers, after_save, with_newest};
 
 use crate::{Files, LoadRefusal, SaveRefusal};
@@ -65,11 +65,25 @@ impl MemFiles {
         }
     }
 
+    /// How many loads and saves there were, but for those that lacked memory.
+    pub fn calls(&self) -> u64
+        ensures { result ≡ self.now.calls }
+    {
+        self.calls
+    }
+
     /// How many calls failed.
     pub fn faults(&self) -> u64
         ensures { result ≡ self.now.faults }
     {
         self.faults
+    }
+
+    /// How many bytes were taken by loads.
+    pub fn taken(&self) -> u64
+        ensures { result ≡ self.now.taken }
+    {
+        self.taken
     }
 
     /// Makes these the bytes of the file. This is no call that is counted.
@@ -128,16 +142,21 @@ impl Files for MemFiles {
 
     ghost held = { λ files. held_in files.entries };
 
+    ghost calls = { λ files. files.calls };
+
     ghost faults = { λ files. files.faults };
 
     ghost taken = { λ files. files.taken };
 
     fn load(&mut self, alloc: Global, name: &str, most: usize) -> Result<Bytes, LoadRefusal>
+        ensures later { self.old.calls ≤ self.new.calls }
+        ensures called { LoadCalls self.old.calls self.new.calls result }
         ensures counted { LoadCounts self.old.faults self.new.faults result }
         ensures taken { LoadTakes most self.old.taken self.new.taken result }
         ensures answers { LoadAnswers (load_answer self.old name.now most) result }
         ensures after { self.new ≡ after_load self.old most result }
     {
+        let calls = self.calls.saturating_add(1);
         let result = self.look_up(alloc, name, most);
         match &result {
             Ok(bytes) => self.taken = self.taken.saturating_add(bytes.as_slice().len() as u64),
@@ -147,22 +166,25 @@ impl Files for MemFiles {
             }
             Err(LoadRefusal::NoMemory) => return result,
         }
-        self.calls = self.calls.saturating_add(1);
+        self.calls = calls;
         result
     }
 
     fn save(&mut self, alloc: Global, name: &str, bytes: &[u8]) -> Result<(), SaveRefusal>
+        ensures later { self.old.calls ≤ self.new.calls }
+        ensures called { SaveCalls self.old.calls self.new.calls result }
         ensures counted { SaveCounts self.old.faults self.new.faults result }
         ensures answers { SaveAnswers (is_listed self.old.failing self.old.calls) result }
         ensures after { self.new ≡ after_save self.old name.now bytes.now result }
     {
+        let calls = self.calls.saturating_add(1);
         if self.failing.contains(&self.calls) {
-            self.calls = self.calls.saturating_add(1);
+            self.calls = calls;
             self.faults = self.faults.saturating_add(1);
             return Err(SaveRefusal::Failed);
         }
         put_first(alloc, &mut self.entries, name, bytes)?;
-        self.calls = self.calls.saturating_add(1);
+        self.calls = calls;
         Ok(())
     }
 }

@@ -1,5 +1,5 @@
-ghost use Rattle.std.specs.Prelude.{◌≡◌, true, IfOk, OnErr, is_err};
-ghost use Rattle.ksi_ports.specs.Outside.{Raises};
+ghost use Rattle.std.specs.Prelude.{◌≡◌, ◌≤◌, true, IfOk, OnErr, is_err};
+ghost use Rattle.ksi_ports.specs.Outside.{count_up, Raises};
 ghost use Rattle.ksi_ports.specs.Memory.{no_output, put_fails, after_put};
 
 use crate::{Sink, SinkFailed};
@@ -55,6 +55,13 @@ impl MemSink {
         &self.written
     }
 
+    /// How many puts there were.
+    pub fn puts(&self) -> u64
+        ensures { result ≡ self.now.puts }
+    {
+        self.puts
+    }
+
     /// How many puts failed.
     pub fn faults(&self) -> u64
         ensures { result ≡ self.now.faults }
@@ -75,9 +82,13 @@ impl Sink for MemSink {
 
     ghost written = { λ sink. sink.written };
 
+    ghost puts = { λ sink. sink.puts };
+
     ghost faults = { λ sink. sink.faults };
 
     fn put(&mut self, piece: &[u8]) -> Result<(), SinkFailed>
+        ensures later { self.old.puts ≤ self.new.puts }
+        ensures called { self.new.puts ≡ count_up 1 self.old.puts }
         ensures failed { OnErr result (Raises self.old.faults self.new.faults) }
         ensures answers { is_err result ≡ put_fails self.old piece.now }
         ensures after { self.new ≡ after_put self.old piece.now }

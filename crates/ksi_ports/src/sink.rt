@@ -1,11 +1,13 @@
-ghost use Rattle.std.specs.Prelude.{◌≡◌, ℕ, Bool, IsTrue, List, ◌++◌, OnOk, OnErr};
-ghost use Rattle.ksi_ports.specs.Outside.{Raises, ExtendsByFront};
+ghost use Rattle.std.specs.Prelude.{◌≡◌, ℕ, ◌≤◌, Bool, IsTrue, List, ◌++◌, OnOk, OnErr};
+ghost use Rattle.ksi_ports.specs.Outside.{count_up, Raises, ExtendsByFront};
 
 /// A put failed, and the count of faults rose.
 #[derive(Clone, Copy, Debug, PartialEq, Eq)]
 pub struct SinkFailed;
 
 /// What takes a run's output.
+///
+/// The counts of puts and of faults never fall. They stop at 2^64 - 1, where one counts as risen by any number.
 pub trait Sink {
     /// Whether this kind of sink tells what was written.
     ghost tells: { Bool };
@@ -13,11 +15,21 @@ pub trait Sink {
     /// All bytes that were written.
     ghost written: { Self → List ℕ };
 
+    /// How often something was put.
+    ghost puts: { Self → ℕ };
+
     /// How often a put failed.
     ghost faults: { Self → ℕ };
 
-    /// Writes the piece behind what was written. A put that fails may have written a front of it. It takes no memory.
+    /// Writes the piece behind what was written. It takes no memory.
+    ///
+    /// # Errors
+    ///
+    /// `SinkFailed` where the piece could not be written: the count of faults rises, and a front of the piece may have been
+    /// written.
     fn put(&mut self, piece: &[u8]) -> Result<(), SinkFailed>
+        ensures later { puts self.old ≤ puts self.new }
+        ensures called { puts self.new ≡ count_up 1 (puts self.old) }
         ensures counted { OnOk result (faults self.new ≡ faults self.old) }
         ensures failed { OnErr result (Raises (faults self.old) (faults self.new)) }
         ensures appended { IsTrue tells → OnOk result (written self.new ≡ written self.old ++ piece.now) }

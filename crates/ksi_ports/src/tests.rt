@@ -31,6 +31,8 @@ fn a_load_gives_what_is_held_up_to_its_limit(rt: HostRuntime) -> Result<(), Fail
         assert_eq!(rt; told(&files.load(alloc, name, most)), want, "{name} {most}");
     }
     assert_eq!(rt; files.faults(), 1);
+    assert_eq!(rt; files.calls(), 5);
+    assert_eq!(rt; files.taken(), 9);
     assert_eq!(rt; files.bytes("c"), None);
     Ok(())
 }
@@ -60,9 +62,11 @@ fn puts_append_but_for_those_listed_or_past_the_room(rt: HostRuntime) -> Result<
         (b"c".as_slice(), Err(SinkFailed)),
         (b"cdef".as_slice(), Err(SinkFailed)),
         (b"cde".as_slice(), Ok(())),
+        (b"".as_slice(), Ok(())),
     ] {
         assert_eq!(rt; out.put(piece), want);
     }
+    assert_eq!(rt; out.puts(), 5);
     assert_eq!(rt; out.written(), b"abcde".as_slice());
     assert_eq!(rt; out.faults(), 2);
     Ok(())
@@ -82,6 +86,11 @@ fn the_system_saves_loads_and_writes(rt: HostRuntime) -> Result<(), Fail> {
     ] {
         assert_eq!(rt; told(&files.load(alloc, name, most)), want, "at {most}");
     }
+    assert_eq!(rt; files.taken(), 15_000);
+    assert_eq!(rt; files.save(alloc, name, b"by"), Ok(()));
+    let load = files.load(alloc, name, 5_000);
+    assert_eq!(rt; told(&load), Ok(b"by".as_slice()));
+    assert_eq!(rt; files.taken(), 15_002);
     assert_eq!(rt; files.faults(), 0);
     fs::remove_file(&rt, name)?;
     let load = files.load(alloc, name, 5_000);
@@ -90,6 +99,7 @@ fn the_system_saves_loads_and_writes(rt: HostRuntime) -> Result<(), Fail> {
     let mut written = Vec::new(alloc);
     let mut out = HostSink::new(&mut written);
     assert_eq!(rt; out.put(b"line "), Ok(()));
+    assert_eq!(rt; out.put(b""), Ok(()));
     assert_eq!(rt; out.put(b"one"), Ok(()));
     assert_eq!(rt; out.faults(), 0);
     assert_eq!(rt; written.as_slice(), b"line one".as_slice());
@@ -142,6 +152,7 @@ impl Write for Stream {
 fn an_error_in_mid_stream_ends_the_call(rt: HostRuntime) -> Result<(), Fail> {
     let alloc = rt.alloc();
     for (calls, fails, load, put) in [
+        (0, false, Ok([].as_slice()), Err(SinkFailed)),
         (2, true, Err(LoadRefusal::Failed), Err(SinkFailed)),
         (2, false, Ok([0; 2].as_slice()), Err(SinkFailed)),
         (3, true, Err(LoadRefusal::Failed), Err(SinkFailed)),

@@ -5,6 +5,8 @@ use Rattle.ksi_ports.proofs.host_files.HostFilesFiles.TheImpl.Goals as goal
 
 pub load-tells : goal.load-tells
 load-tells g c = record {
+  later = c.ensures.later;
+  called = c.ensures.called;
   counted = c.ensures.counted;
   taken = load_takes c.args.most c.args.self.now.taken c.new.self.now.taken c.result c.ensures.takes;
   within = c.ensures.within;
@@ -13,4 +15,4 @@ load-tells g c = record {
 }
 
 pub save-tells : goal.save-tells
-save-tells g c = record { counted = c.ensures.counted; taken = c.ensures.taken; leaves = λ told. cc }
+save-tells g c = record { later = c.ensures.later; called = c.ensures.called; counted = c.ensures.counted; taken = c.ensures.taken; leaves = λ told. cc }
