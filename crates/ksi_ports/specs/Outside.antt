@@ -14,6 +14,7 @@ count_up n before = min (before + n) (2 ^ 64 - 1)
 abbrev pub RoseBy : ℕ → ℕ → ℕ → Type 0
 RoseBy n before now = count_up n before ≤ now
 
+-- the same, by one
 abbrev pub Rose : ℕ → ℕ → Type 0
 Rose before now = RoseBy 1 before now
 
@@ -22,7 +23,7 @@ pub record Raises (before now : ℕ) : Type 0 where
   pub later : before ≤ now
   pub rose : Rose before now
 
--- a load's count of calls: it goes up by one, or by no more than one where memory was wanting
+-- a load's count of calls: it goes up by one, and by no more than one where memory was wanting
 abbrev pub LoadCalls : {T : Type 0} → ℕ → ℕ → Result T LoadRefusal → Type 0
 LoadCalls before now (Ok bytes) = now ≡ count_up 1 before
 LoadCalls before now (Err Failed) = now ≡ count_up 1 before

@@ -1,6 +1,6 @@
 ghost use Rattle.std.specs.Prelude.{◌≡◌, ◌≤◌, false, length, Some, None, IfOk, IfSome, if◌then◌else◌, is_ok};
-ghost use Rattle.ksi_ports.specs.Outside.{count_up, LoadCalls, LoadCounts, LoadTells, Raises, SaveCalls, SaveCounts};
 ghost use Rattle.std.specs.Bool.{OnTrue, OnFalse};
+ghost use Rattle.ksi_ports.specs.Outside.{count_up, LoadCalls, LoadCounts, LoadTells, Raises, SaveCalls, SaveCounts};
 ghost use Rattle.ksi_ports.specs.Host.{ReadTakes, faults_after};
 
 use crate::{Files, LoadRefusal, SaveRefusal};
