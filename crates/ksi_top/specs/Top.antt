@@ -1,6 +1,6 @@
 -- How a run ends, and what it leaves.
-use Rattle.std.specs.Prelude.{◌≡◌, ◌≢◌, ℕ, ◌+◌, ◌++◌, Bool, IsTrue, List, Option, Some, None, Result, Ok, Err}
-use Rattle.ksi_ports.specs.Outside.{Rose, RoseBy, ExtendsByFront, OthersStay}
+use Rattle.std.specs.Prelude.{◌≡◌, ◌≢◌, ℕ, ◌++◌, Bool, IsTrue, List, Option, Some, None, Result, Ok, Err}
+use Rattle.ksi_ports.specs.Outside.{Rose, ExtendsByFront, OthersStay}
 use Rattle.ksi_ports.specs.Stored.{Held}
 use Rattle.ksi_top.specs.declared.report.Report.{Report}
 use Rattle.ksi_top.specs.declared.report.Cut.{Cut}

@@ -1,6 +1,6 @@
 -- The checks of a signature whose chains have no links, in their order. The result of such a chain is its input hash, and
 -- its shape is 1.
-use Rattle.std.specs.Prelude.{ℕ, List, [], ◌==◌, Bool, true, false, not, Result, Ok, Err, if◌then◌else◌}
+use Rattle.std.specs.Prelude.{ℕ, List, [], ◌==◌, Bool, true, false, not, Result, Ok, Err}
 use Rattle.std.specs.Str.{bytes_eq}
 use Rattle.ksi_imprint.specs.Imprints.{zero_imprint}
 use Rattle.ksi_split.specs.Parts.{second_at}
