@@ -1,12 +1,12 @@
 -- Publications files: what is read is spelled, and what is spelled is read.
-use Rattle.std.proofs.Common.{◌≡◌, ℕ, List, [], ◌∷◌, ◌++◌, take, drop, codes, ◌<◌, Option, Some, None, refl, sym, ap, subst, ◌∙◌, take-append-drop}
+use Rattle.std.proofs.Common.{◌≡◌, ℕ, List, [], ◌∷◌, ◌++◌, take, drop, codes, ◌<◌, Some, refl, sym, ap, subst, ◌∙◌, take-append-drop}
 use Rattle.std.specs.Str.{bytes_eq}
 use Rattle.std.proofs.lemmas.Slice.Eq.{bytes_eq-Decides}
 use Rattle.std.proofs.lemmas.List.Elements.{All-drop}
 use Rattle.ksi_tlv.specs.Spelling.{AreBytes}
-use Rattle.ksi_top.specs.Reading.{◌>>=◌, piece_at, only_at, number_at, time_at, imprint_or_none}
+use Rattle.ksi_top.specs.Reading.{number_at, time_at, imprint_or_none}
 use Rattle.ksi_top.specs.Publications.{behind_magic, header_at, publication_at, publications_at}
-use Rattle.ksi_top.specs.Forms.{AreElements, IsNumber, IsTime, IsHeader, IsRecord, IsPublications}
+use Rattle.ksi_top.specs.Forms.{AreElements, IsHeader, IsRecord, IsPublications}
 use Rattle.ksi_top.specs.declared.publications.PubRecord.{PubRecord}
 use Rattle.ksi_top.proofs.FormLemmas.{from, next, before, last, first, only_read, element_of_one, one_element, guarded, some_is, number_found, number_read, time_found, time_read, imprint_found, imprint_read}
 
@@ -58,7 +58,7 @@ record_found bytes publication fits read =
       whole = element_of_one 16 published.body bytes published.elements;
       elements =
           subst (λ (hash : List ℕ). AreElements ((2, time.piece.body) ∷ (4, hash) ∷ []) published.body) imprint.0
-              (before 2 time.piece published.body ((4, hash.body) ∷ []) time.begins hash.elements);
+          (before 2 time.piece published.body ((4, hash.body) ∷ []) time.begins hash.elements);
       is_time = time_found _ t.0 t.1;
       is_hash = imprint.1;
     } in

@@ -1,10 +1,10 @@
 -- Signature files: what is read is spelled, and what is spelled is read.
-use Rattle.std.proofs.Common.{◌≡◌, ℕ, List, [], ◌∷◌, ◌++◌, Option, Some, None, refl, sym, ap, subst, ◌∙◌, eqb}
+use Rattle.std.proofs.Common.{◌≡◌, ℕ, List, [], ◌∷◌, Some, refl, sym, subst, ◌∙◌, eqb}
 use Rattle.std.proofs.lemmas.Bool.{eqb-true}
 use Rattle.ksi_tlv.specs.Spelling.{AreBytes}
-use Rattle.ksi_top.specs.Reading.{◌>>=◌, Piece, piece_at, only_at, number_at, time_at, imprint_or_none}
+use Rattle.ksi_top.specs.Reading.{number_at, time_at, imprint_or_none}
 use Rattle.ksi_top.specs.Signature.{is_sha_256, chain_at, calendar_at, signature_at}
-use Rattle.ksi_top.specs.Forms.{IsElement, AreElements, IsNumber, IsTime, IsAggChain, IsCalChain, IsSignature}
+use Rattle.ksi_top.specs.Forms.{AreElements, IsNumber, IsAggChain, IsCalChain, IsSignature}
 use Rattle.ksi_top.specs.declared.signature.AggChain.{AggChain}
 use Rattle.ksi_top.specs.declared.signature.CalChain.{CalChain}
 use Rattle.ksi_top.specs.declared.signature.Signature.{Signature}
@@ -30,9 +30,9 @@ chain_found bytes chain fits read =
       algorithm = algorithm.body;
       elements =
           subst (λ (hash : List ℕ). AreElements ((2, time.piece.body) ∷ (3, index.piece.body) ∷ (5, hash) ∷ (6, algorithm.body) ∷ []) bytes) hash.0
-              (before 2 time.piece bytes ((3, index.piece.body) ∷ (5, input.piece.body) ∷ (6, algorithm.body) ∷ []) time.begins
-              (before 3 index.piece time.piece.behind ((5, input.piece.body) ∷ (6, algorithm.body) ∷ []) index.begins
-              (before 5 input.piece index.piece.behind ((6, algorithm.body) ∷ []) input.begins algorithm.elements)));
+          (before 2 time.piece bytes ((3, index.piece.body) ∷ (5, input.piece.body) ∷ (6, algorithm.body) ∷ []) time.begins
+          (before 3 index.piece time.piece.behind ((5, input.piece.body) ∷ (6, algorithm.body) ∷ []) index.begins
+          (before 5 input.piece index.piece.behind ((6, algorithm.body) ∷ []) input.begins algorithm.elements)));
       is_time = time_found _ t.0 t.1;
       is_index = number_found _ i.0 i.1;
       is_input = hash.1;
@@ -64,8 +64,8 @@ calendar_found bytes chain fits read =
       time = time.piece.body;
       elements =
           subst (λ (hash : List ℕ). AreElements ((1, publication.piece.body) ∷ (2, time.piece.body) ∷ (5, hash) ∷ []) bytes) hash.0
-              (before 1 publication.piece bytes ((2, time.piece.body) ∷ (5, input.body) ∷ []) publication.begins
-              (before 2 time.piece publication.piece.behind ((5, input.body) ∷ []) time.begins input.elements));
+          (before 1 publication.piece bytes ((2, time.piece.body) ∷ (5, input.body) ∷ []) publication.begins
+          (before 2 time.piece publication.piece.behind ((5, input.body) ∷ []) time.begins input.elements));
       is_publication = time_found _ p.0 p.1;
       is_time = time_found _ t.0 t.1;
       is_input = hash.1;
