@@ -1,6 +1,7 @@
 pub mod Reports
 pub mod Causes
 pub mod Codes
+pub mod Forms
 pub mod Lines
 pub mod Loading
 pub mod Printed
