@@ -64,7 +64,7 @@ LoadCaused n limit before now (Err (halts.Reported report)) = Quiet before now �
 LoadCaused n limit before now (Err halts.Fault) = Faulty before now
 LoadCaused n limit before now (Err halts.NoMemory) = Quiet before now
 
--- some file word passes its limit
+-- the line names a file word that passes its limit: more bytes than that were taken
 abbrev pub SomePasses : (limits : ℕ → ℕ) → Counts → Counts → List ℕ → Type 0
 SomePasses limits before now line = (n : ℕ) × (line ≡ too_long_line n) × RoseBy (limits n + 1) before.taken now.taken
 

@@ -14,7 +14,7 @@ use Rattle.ksi_top.specs.Verify.{verify_run, verify_limits, verify_loads}
 abbrev pub performed : Asked → Held → Report
 performed (verify signature hash publications) held = verify_run signature hash publications held
 
--- the most bytes of the file of each word that a command reads
+-- the most bytes of the file of each word, where it is a file's
 abbrev pub limits_of : Asked → ℕ → ℕ
 limits_of (verify signature hash publications) = verify_limits
 
@@ -38,6 +38,15 @@ run words held = run_of (command_of words) held
 abbrev pub saved_into : Option (List ℕ × List ℕ) → Held → Held
 saved_into None held = held
 saved_into (Some file) held = with_file held file.0 file.1
+
+-- the most loads of a command, whatever is held
+abbrev pub most_loads : Asked → ℕ
+most_loads (verify signature hash publications) = 2
+
+-- the most calls on the files, whatever is held: its loads, and a save
+abbrev pub most_calls : Result Asked WordsRefusal → ℕ
+most_calls (Ok command) = most_loads command + 1
+most_calls (Err refusal) = 0
 
 -- how often the run calls on the files: words that are no command load none
 abbrev pub run_loads : Result Asked WordsRefusal → Held → ℕ

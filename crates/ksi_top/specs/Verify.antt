@@ -5,7 +5,7 @@ use Rattle.ksi_top.specs.declared.report.Report.{Report}
 use Rattle.ksi_top.specs.declared.status.Status.TheVariants.{Done, Refused}
 use Rattle.ksi_top.specs.declared.verdict.Refusal.{Refusal}
 use Rattle.ksi_top.specs.Reports.{report, on, and_then, loads_behind}
-use Rattle.ksi_top.specs.Loading.{loaded, or_malformed, signature_limit, file_limit}
+use Rattle.ksi_top.specs.Loading.{loaded, or_malformed, signature_limit, file_limit, no_limit}
 use Rattle.ksi_top.specs.Lines.{accepted_line, refused_line}
 use Rattle.ksi_top.specs.Signature.{signature_at}
 use Rattle.ksi_top.specs.Publications.{publications_at}
@@ -17,7 +17,7 @@ judged (Err refusal) = report Refused (refused_line refusal)
 
 -- word 1 is the signature's file, word 3 the publications'
 abbrev pub verify_limits : ℕ → ℕ
-verify_limits n = if n == 1 then signature_limit else file_limit
+verify_limits n = if n == 1 then signature_limit else if n == 3 then file_limit else no_limit
 
 -- the signature's file is loaded and read, then the publications file, then the checks are made
 unfoldable pub verify_run : List ℕ → List ℕ → List ℕ → Held → Report

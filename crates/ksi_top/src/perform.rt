@@ -2,7 +2,7 @@
 ghost use Rattle.std.specs.Prelude.{◌≡◌, ◌≤◌, ◌+◌, ℕ, IsTrue, IfOk, IfErr};
 ghost use Rattle.ksi_top.specs.Reports.{Reports};
 ghost use Rattle.ksi_top.specs.Causes.{ReportCaused, counts};
-ghost use Rattle.ksi_top.specs.Run.{performed, limits_of, loads_of, run_loads, refused, run};
+ghost use Rattle.ksi_top.specs.Run.{performed, limits_of, loads_of, most_loads, run_loads, refused, run};
 ghost use Rattle.ksi_top.specs.Top.{ReportedAs, RunCaused};
 ghost use Rattle.ksi_top.specs.Words.{asked, texts, command_of};
 
@@ -27,6 +27,7 @@ pub(crate) fn report_of<F: Files>(
     ensures told { IsTrue F.tells → ReportedAs (run (texts words.now) (F.held files.old)) result }
     ensures stays { IsTrue F.tells → F.held files.new ≡ F.held files.old }
     ensures calls { IsTrue F.tells → F.calls files.new ≤ F.calls files.old + run_loads (command_of (texts words.now)) (F.held files.old) }
+    ensures few_calls { IfOk (command_of (texts words.now)) (λ command. F.calls files.new ≤ F.calls files.old + most_loads command) }
     ensures untouched { IfErr (command_of (texts words.now)) (λ _. F.calls files.new ≡ F.calls files.old) }
     ensures later { F.calls files.old ≤ F.calls files.new }
     ensures causes { RunCaused (command_of (texts words.now)) (counts (F.faults files.old) (F.taken files.old)) (counts (F.faults files.new) (F.taken files.new)) result }
@@ -50,6 +51,7 @@ fn perform<F: Files>(alloc: Global, files: &mut F, command: &Command<'_>) -> Res
     ensures told { IsTrue F.tells → Reports (performed (asked command.now) (F.held files.old)) result }
     ensures stays { IsTrue F.tells → F.held files.new ≡ F.held files.old }
     ensures calls { IsTrue F.tells → F.calls files.new ≤ F.calls files.old + loads_of (asked command.now) (F.held files.old) }
+    ensures few_calls { F.calls files.new ≤ F.calls files.old + most_loads (asked command.now) }
     ensures later { F.calls files.old ≤ F.calls files.new }
     ensures causes { ReportCaused (limits_of (asked command.now)) (counts (F.faults files.old) (F.taken files.old)) (counts (F.faults files.new) (F.taken files.new)) result }
 {

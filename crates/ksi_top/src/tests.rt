@@ -77,6 +77,9 @@ fn each_report_has_its_status_and_line(rt: HostRuntime) -> Result<(), Fail> {
     let md5 = "8800005a 8801002b 0200 030101 052101A 060102 88020027 0100 0200 052101A";
     let other_time = "4b53495055424c46 87010005 010101 0200 87030028 1026 020105 042101A";
     let other_hash = "4b53495055424c46 87010005 010101 0200 87030027 1025 0200 042101B";
+    let behind = "4b53495055424c46 87010005 010101 0200 87030027 1025 0200 042101A 00";
+    let capital = "verify s E3b0C44298fC1C149afbf4c8996Fb92427ae41e4649b934ca495991b7852b855 p";
+    let almost = "verify s e3b0c44298fc1c149afbf4c8996fb92427ae41e4649b934ca495991b7852b85g p";
     let rows = [
         (S0, "verify s A p", P0, Status::Done, "accepted 0\n", 2),
         (
@@ -199,9 +202,21 @@ fn each_report_has_its_status_and_line(rt: HostRuntime) -> Result<(), Fail> {
             "malformed 3\n",
             2,
         ),
+        (
+            S0,
+            "verify s A p",
+            behind,
+            Status::Malformed,
+            "malformed 3\n",
+            2,
+        ),
+        (S0, capital, P0, Status::Done, "accepted 0\n", 2),
+        (S0, almost, P0, Status::Words, "bad word 2\n", 0),
         (S0, "verify s 12 p", P0, Status::Words, "bad word 2\n", 0),
         (S0, "verify s A", P0, Status::Words, "words refused\n", 0),
         (S0, "verify s A -", P0, Status::Words, "words refused\n", 0),
+        (S0, "verify - A p", P0, Status::Words, "words refused\n", 0),
+        (S0, "audit s A p", P0, Status::Words, "words refused\n", 0),
         (S0, "", P0, Status::Words, "words refused\n", 0),
     ];
     for (signature, line, publications, status, put, calls) in rows {
@@ -242,11 +257,13 @@ fn a_file_that_passes_its_limit_is_too_long(rt: HostRuntime) -> Result<(), Fail>
 fn each_failing_call_is_a_fault(rt: HostRuntime) -> Result<(), Fail> {
     let alloc = rt.alloc();
     let words = words(alloc, "verify s A p")?;
-    for (loads, puts, faults, failed_puts) in [(0, 1, 1, 0), (1, 1, 1, 0), (2, 0, 0, 1)] {
+    let rows = [(0, 1, 1, 0, 1), (1, 1, 1, 0, 2), (2, 0, 0, 1, 2)];
+    for (loads, puts, faults, failed_puts, calls) in rows {
         let mut files = held(alloc, &[loads], &bytes(alloc, S0)?, P0)?;
         let mut out = MemSink::new(alloc, 32_767, vec![in alloc; puts]?)?;
         assert_eq!(rt; ksi(alloc, &words, &mut files, &mut out), Status::Fault);
         assert_eq!(rt; (files.faults(), out.faults()), (faults, failed_puts));
+        assert_eq!(rt; (files.calls(), out.puts()), (calls, failed_puts));
         assert_eq!(rt; out.written(), b"".as_slice());
     }
     Ok(())

@@ -2,7 +2,7 @@
 ghost use Rattle.std.specs.Prelude.{◌≡◌, ◌≢◌, ℕ, ◌+◌, ◌<◌, ◌≤◌, ◌++◌, List, length, IsTrue, IfErr, None};
 ghost use Rattle.ksi_top.specs.Top.{UnlessCut, FaultLeaves, outside, WordsStatus, WordsLine, TookTooMuch};
 ghost use Rattle.ksi_top.specs.Causes.{counts};
-ghost use Rattle.ksi_top.specs.Run.{run, run_calls, saved_into, saves_of};
+ghost use Rattle.ksi_top.specs.Run.{most_calls, run, run_calls, saved_into, saves_of};
 ghost use Rattle.ksi_top.specs.Words.{texts, command_of};
 
 use crate::perform::report_of;
@@ -29,20 +29,22 @@ pub fn ksi<F: Files, K: Sink>(alloc: Global, words: &[String], files: &mut F, ou
     // only once those before it are read.
     ensures calls { IsTrue F.tells →
         F.calls files.new ≤ F.calls files.old + run_calls (texts words.now) (F.held files.old) }
+    ensures few_calls { F.calls files.new ≤ F.calls files.old + most_calls (command_of (texts words.now)) }
     ensures untouched { IfErr (command_of (texts words.now)) (λ _. F.calls files.new ≡ F.calls files.old) }
 
     // A fault is reported only where a count rose, and always where one is greater at the end.
     ensures fault { result ≡ Status.Fault →
         FaultLeaves F.tells K.tells (run (texts words.now) (F.held files.old))
-        (outside (F.held files.old) (F.faults files.old) (K.written out.old) (K.faults out.old))
-        (outside (F.held files.new) (F.faults files.new) (K.written out.new) (K.faults out.new)) }
+        (outside (F.held files.old) (F.faults files.old) (K.written out.old) (K.puts out.old) (K.faults out.old))
+        (outside (F.held files.new) (F.faults files.new) (K.written out.new) (K.puts out.new) (K.faults out.new)) }
     ensures files_fault { F.faults files.old < F.faults files.new → result ≡ Status.Fault }
     ensures sink_fault { K.faults out.old < K.faults out.new → result ≡ Status.Fault }
 
     // Only a result is saved, and want of memory puts nothing.
     ensures unsaved { result ≢ Status.Done → result ≢ Status.Fault → IsTrue F.tells →
         F.held files.new ≡ F.held files.old }
-    ensures unput { result ≡ Status.NoMemory → IsTrue K.tells → K.written out.new ≡ K.written out.old }
+    ensures unput { result ≡ Status.NoMemory →
+        (K.puts out.new ≡ K.puts out.old) × (IsTrue K.tells → K.written out.new ≡ K.written out.old) }
 
     // These hold also where the files tell nothing.
     ensures words { UnlessCut result (WordsStatus (command_of (texts words.now)) result) }
@@ -88,12 +90,13 @@ fn finish<F: Files, K: Sink>(alloc: Global, report: &Report, files: &mut F, out:
     ensures taken { F.taken files.old ≤ F.taken files.new }
     ensures fault { result ≡ Status.Fault →
         FaultLeaves F.tells K.tells report.now
-        (outside (F.held files.old) (F.faults files.old) (K.written out.old) (K.faults out.old))
-        (outside (F.held files.new) (F.faults files.new) (K.written out.new) (K.faults out.new)) }
+        (outside (F.held files.old) (F.faults files.old) (K.written out.old) (K.puts out.old) (K.faults out.old))
+        (outside (F.held files.new) (F.faults files.new) (K.written out.new) (K.puts out.new) (K.faults out.new)) }
     ensures files_fault { F.faults files.old < F.faults files.new → result ≡ Status.Fault }
     ensures sink_fault { K.faults out.old < K.faults out.new → result ≡ Status.Fault }
     ensures unsaved { result ≢ Status.Done → result ≢ Status.Fault → IsTrue F.tells → F.held files.new ≡ F.held files.old }
-    ensures unput { result ≡ Status.NoMemory → IsTrue K.tells → K.written out.new ≡ K.written out.old }
+    ensures unput { result ≡ Status.NoMemory →
+        (K.puts out.new ≡ K.puts out.old) × (IsTrue K.tells → K.written out.new ≡ K.written out.old) }
 {
     if let Some(saved) = &report.saved {
         match files.save(alloc, saved.name(), saved.bytes()) {

@@ -31,6 +31,7 @@ pub(crate) fn verify<F: Files>(
     ensures told { IsTrue F.tells → Reports (verify_run signature.now hash.now publications.now (F.held files.old)) result }
     ensures stays { IsTrue F.tells → F.held files.new ≡ F.held files.old }
     ensures calls { IsTrue F.tells → F.calls files.new ≤ F.calls files.old + verify_loads signature.now (F.held files.old) }
+    ensures few_calls { F.calls files.new ≤ F.calls files.old + 2 }
     ensures later { F.calls files.old ≤ F.calls files.new }
     ensures causes { ReportCaused verify_limits (counts (F.faults files.old) (F.taken files.old)) (counts (F.faults files.new) (F.taken files.new)) result }
 {
