@@ -1,10 +1,10 @@
 -- What is known of files and output of the system: how many calls there were, how many of them failed,
 -- how many bytes were taken, and where output goes.
-use Rattle.std.specs.Prelude.{ℕ, ◌+◌, ◌≤◌, List, length, take, Option, Result, Ok, Err}
+use Rattle.std.specs.Prelude.{ℕ, ◌+◌, List, length, take, Option, Result, Ok, Err}
 use Rattle.std.specs.Io.KnownBytes.{Appends}
 use Rattle.ksi_ports.specs.declared.files.LoadRefusal.{LoadRefusal}
 use Rattle.ksi_ports.specs.declared.files.LoadRefusal.TheVariants.{Failed, TooLong, NoMemory}
-use Rattle.ksi_ports.specs.Outside.{count_up, RoseBy, Raises}
+use Rattle.ksi_ports.specs.Outside.{count_up, Rose, TakesExactly, TakesUpTo}
 
 -- how many calls there were, how many of them failed, and how many bytes were taken
 pub record Counted : Type 0 where
@@ -19,18 +19,13 @@ faults_after before (Err Failed) = count_up 1 before
 faults_after before (Err TooLong) = before
 faults_after before (Err NoMemory) = before
 
--- a tally of bytes taken has risen by so many and by no more, up to 2 ^ 64 - 1
-pub record TakesExactly (n before now : ℕ) : Type 0 where
-  pub later : before ≤ now
-  pub rose : RoseBy n before now
-  pub no_more : now ≤ before + n
-
--- the tally after a source was read: each byte that it gave is counted, and memory wants only for bytes that it gave
+-- the tally after a source was read: each byte that it gave is counted, it gave at most `most` bytes before it failed,
+-- and memory wants only for bytes that it gave
 abbrev pub ReadTakes : ℕ → ℕ → ℕ → Result (List ℕ) LoadRefusal → Type 0
 ReadTakes most before now (Ok bytes) = TakesExactly (length bytes) before now
-ReadTakes most before now (Err Failed) = before ≤ now
+ReadTakes most before now (Err Failed) = TakesUpTo most before now
 ReadTakes most before now (Err TooLong) = TakesExactly (most + 1) before now
-ReadTakes most before now (Err NoMemory) = Raises before now
+ReadTakes most before now (Err NoMemory) = Rose before now × TakesUpTo (most + 1) before now
 
 -- where output goes, how many puts there were, and how many of them failed
 pub record CountedOutput (W : Type 0) : Type 0 where

@@ -37,13 +37,24 @@ LoadCounts before now (Err Failed) = Raises before now
 LoadCounts before now (Err TooLong) = now ≡ before
 LoadCounts before now (Err NoMemory) = now ≡ before
 
--- a load's tally of bytes taken: it does not fall, it rises by the bytes given or by more,
--- and where the file was too long it rises by more than `most`
+-- a tally has risen by so many and by no more, up to 2 ^ 64 - 1
+pub record TakesExactly (n before now : ℕ) : Type 0 where
+  pub later : before ≤ now
+  pub rose : RoseBy n before now
+  pub no_more : now ≤ before + n
+
+-- a tally did not fall, and has risen by so many at most
+pub record TakesUpTo (n before now : ℕ) : Type 0 where
+  pub later : before ≤ now
+  pub no_more : now ≤ before + n
+
+-- a load's tally of bytes taken: a load takes the bytes that it gives, or one byte more than `most` where the file was
+-- too long; one that failed or lacked memory takes no more than that
 abbrev pub LoadTakes : ℕ → ℕ → ℕ → Result (List ℕ) LoadRefusal → Type 0
-LoadTakes most before now (Ok bytes) = (before ≤ now) × RoseBy (length bytes) before now
-LoadTakes most before now (Err Failed) = before ≤ now
-LoadTakes most before now (Err TooLong) = (before ≤ now) × RoseBy (most + 1) before now
-LoadTakes most before now (Err NoMemory) = before ≤ now
+LoadTakes most before now (Ok bytes) = TakesExactly (length bytes) before now
+LoadTakes most before now (Err Failed) = TakesUpTo (most + 1) before now
+LoadTakes most before now (Err TooLong) = TakesExactly (most + 1) before now
+LoadTakes most before now (Err NoMemory) = TakesUpTo (most + 1) before now
 
 -- what a load answers, by what is held under the name: the bytes where they are at most `most`, too long where they are more
 abbrev pub LoadTells : ℕ → Option (List ℕ) → Result (List ℕ) LoadRefusal → Type 0

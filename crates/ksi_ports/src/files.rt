@@ -72,7 +72,8 @@ pub trait Files {
     /// # Errors
     ///
     /// `Failed` where the file could not be read: the count of faults rises. `TooLong` where it has more than `most` bytes:
-    /// at least `most + 1` were taken. `NoMemory` where memory was wanting: the call may be left out of the count of calls.
+    /// `most + 1` were taken. `NoMemory` where memory was wanting: the call may be left out of the count of calls. No load
+    /// takes more than `most + 1` bytes.
     fn load(&mut self, alloc: Global, name: &str, most: usize) -> Result<Bytes, LoadRefusal>
         ensures later { calls self.old ≤ calls self.new }
         ensures called { LoadCalls (calls self.old) (calls self.new) result }

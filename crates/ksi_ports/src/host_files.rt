@@ -40,6 +40,13 @@ impl<'a, R: rt::Files> HostFiles<'a, R> {
         }
     }
 
+    /// How many loads and saves there were.
+    pub fn calls(&self) -> u64
+        ensures { result ≡ self.now.calls }
+    {
+        self.calls
+    }
+
     /// How many calls failed.
     pub fn faults(&self) -> u64
         ensures { result ≡ self.now.faults }

@@ -36,6 +36,13 @@ impl<W: Write> HostSink<W> {
         }
     }
 
+    /// How many puts there were.
+    pub fn puts(&self) -> u64
+        ensures { result ≡ self.now.puts }
+    {
+        self.puts
+    }
+
     /// How many puts failed.
     pub fn faults(&self) -> u64
         ensures { result ≡ self.now.faults }

@@ -3,9 +3,9 @@
 //!
 //! The layers above rely on four things. Where content is told, a load gives exactly what is held under the name, a save
 //! changes what is held under that name alone, and a put appends its piece. `Failed` and `SinkFailed` come only where the
-//! count of faults rose, and every other answer leaves it. Bytes come only where as many were taken, and `TooLong` only
-//! where more were taken than allowed. Each load, save and put raises its count of calls by one; a load or save that lacks
-//! memory may leave it.
+//! count of faults rose, and every other answer leaves it. A load that gives bytes takes as many, one that is `TooLong`
+//! takes one byte more than allowed, and no load takes more than that. Each load, save and put raises its count of calls by
+//! one; a load or save that lacks memory may leave it.
 //!
 //! ```text
 //! let mut files = MemFiles::new(alloc, failing);

@@ -95,12 +95,15 @@ fn the_system_saves_loads_and_writes(rt: HostRuntime) -> Result<(), Fail> {
     fs::remove_file(&rt, name)?;
     let load = files.load(alloc, name, 5_000);
     assert_eq!(rt; told(&load), Err(LoadRefusal::Failed));
+    assert_eq!(rt; files.taken(), 15_002);
     assert_eq!(rt; files.faults(), 1);
+    assert_eq!(rt; files.calls(), 7);
     let mut written = Vec::new(alloc);
     let mut out = HostSink::new(&mut written);
     assert_eq!(rt; out.put(b"line "), Ok(()));
     assert_eq!(rt; out.put(b""), Ok(()));
     assert_eq!(rt; out.put(b"one"), Ok(()));
+    assert_eq!(rt; out.puts(), 3);
     assert_eq!(rt; out.faults(), 0);
     assert_eq!(rt; written.as_slice(), b"line one".as_slice());
     Ok(())
