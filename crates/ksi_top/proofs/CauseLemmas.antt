@@ -1,5 +1,5 @@
 -- Causes over one call after another.
-use Rattle.std.proofs.Common.{◌≡◌, ℕ, List, Option, arith, sym, subst}
+use Rattle.std.proofs.Common.{ℕ, List, Option, arith, sym, subst}
 use Rattle.ksi_top.specs.declared.report.Report.{Report}
 use Rattle.ksi_top.specs.declared.status.Status.{Status}
 use Rattle.ksi_top.specs.declared.status.Status.TheVariants.{Done, Refused, Words, Malformed, Fault, NoMemory, TooLong}
