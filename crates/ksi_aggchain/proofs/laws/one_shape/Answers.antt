@@ -1,0 +1,10 @@
+use Rattle.std.proofs.Common.{sym, subst}
+use Rattle.ksi_aggchain.specs.Shapes.{IsShape}
+use Rattle.ksi_aggchain.proofs.ShapeLemmas as lemmas
+use Rattle.ksi_aggchain.proofs.laws.one_shape.Goals as goal
+
+pub returns-clause-shape : goal.returns-clause-shape
+returns-clause-shape c = λ sides shape. (lemmas.one_shape sides shape, λ e. subst (IsShape sides) (sym e) (lemmas.shape_is sides))
+
+pub returns-clause-same_sides : goal.returns-clause-same_sides
+returns-clause-same_sides c = λ one other. lemmas.same_sides one other

@@ -1,0 +1,4 @@
+pub mod Links
+pub mod Owned
+pub mod Climbing
+pub mod Shapes

@@ -1,0 +1,18 @@
+-- Links that own their siblings.
+use Rattle.std.specs.Prelude.{ℕ, List, map}
+use Rattle.ksi_aggchain.specs.Links.{PlainLink}
+use Rattle.ksi_aggchain.specs.declared.link.Link.{Link}
+use Rattle.ksi_aggchain.specs.declared.link.Sibling.{Sibling}
+use Rattle.ksi_aggchain.specs.declared.link.Sibling.TheVariants.{Imprint, Legacy, Metadata}
+
+-- the bytes that a join has of a sibling: the 33 of an imprint, or the raw bytes
+abbrev pub sibling_bytes : Sibling → List ℕ
+sibling_bytes (Imprint bytes) = bytes
+sibling_bytes (Legacy bytes) = bytes
+sibling_bytes (Metadata bytes) = bytes
+
+abbrev pub plain_link : Link → PlainLink
+plain_link link = record { side = link.side; correction = link.correction; sibling = sibling_bytes link.sibling }
+
+abbrev pub plain_links : List Link → List PlainLink
+plain_links links = map plain_link links

@@ -1,0 +1,73 @@
+ghost use Rattle.std.specs.Prelude.{◌≡◌, ◌≤◌, ◌<◌, ◌+◌, ◌↔◌, ℕ, List, map, length};
+ghost use Rattle.ksi_aggchain.specs.Links.{PlainLink, side_text};
+ghost use Rattle.ksi_aggchain.specs.Owned.{plain_links};
+ghost use Rattle.ksi_aggchain.specs.Climbing.{Climbs, PassesLevels, climbed};
+ghost use Rattle.ksi_aggchain.specs.declared.climbing.LevelFault.TheVariants.{Over};
+ghost use Rattle.ksi_aggchain.specs.declared.item.Item.{Item};
+
+use crate::item::Item;
+use crate::link::Link;
+use crate::seen::SeenLink;
+use ksi_imprint::{Compress, Imprint};
+use ksi_split::Side;
+
+/// Why links lead to no item.
+#[derive(Clone, Copy, PartialEq, Eq, Debug)]
+pub enum LevelFault {
+    /// The first link whose level passes 255, counted from 0 at the bottom, and that level.
+    Over { link: usize, level: u16 },
+}
+
+/// The item that links lead to, the lowest first, from an imprint at a level.
+///
+/// # Errors
+/// `Over` with the first link whose level passes 255.
+pub fn climb<C: Compress>(start: Imprint, level: u8, links: &[Link]) -> Result<Item, LevelFault>
+    ensures climbs { (item : Item) → (result ≡ Ok item) ↔
+        Climbs C.image (record { imprint = start; level = level }) (plain_links links.now) item }
+    ensures over { (place high : ℕ) → (result ≡ Err (Over place high)) ↔
+        PassesLevels level (plain_links links.now) place high }
+    ensures value { result ≡
+        climbed C.image 0 (record { imprint = start; level = level }) (plain_links links.now) }
+{
+    climb_along::<C, Link>(start, level, links)
+}
+
+/// The same along links of any owner.
+pub(crate) fn climb_along<C: Compress, L: SeenLink>(
+    start: Imprint,
+    level: u8,
+    links: &[L],
+) -> Result<Item, LevelFault>
+    ensures climbs { (item : Item) → (result ≡ Ok item) ↔
+        Climbs C.image (record { imprint = start; level = level }) (map L.plain links.now) item }
+    ensures over { (place high : ℕ) → (result ≡ Err (Over place high)) ↔
+        PassesLevels level (map L.plain links.now) place high }
+    ensures value { result ≡
+        climbed C.image 0 (record { imprint = start; level = level }) (map L.plain links.now) }
+{
+    let mut imprint = start;
+    let mut level = level;
+    for (place, link) in links.iter().enumerate() {
+        let above = level as u16 + link.correction() as u16 + 1;
+        if above > 255 {
+            return Err(LevelFault::Over {
+                link: place,
+                level: above,
+            });
+        }
+        level = above as u8;
+        imprint = join_beside::<C>(link.side(), imprint.bytes(), link.sibling(), level);
+    }
+    Ok(Item { imprint, level })
+}
+
+/// The join of a node and its sibling, the node on the side that is given.
+fn join_beside<C: Compress>(side: Side, node: &[u8], sibling: &[u8], level: u8) -> Imprint
+    ensures { result ≡ C.image (side_text side node.now sibling.now level) }
+{
+    match side {
+        Side::Left => C::join(node, sibling, level),
+        Side::Right => C::join(sibling, node, level),
+    }
+}

@@ -1,0 +1,31 @@
+//! Hash chains of an aggregation: links, climbing along them, and the shape that they have.
+//!
+//! A link says on which side of its join a node stands, what the join has beside it, and how many levels more than one
+//! it goes up (Buldas, Kroonmaa, Laanoja, "Keyless Signatures' Infrastructure", 2013).
+//!
+//! The layer above may rely on this: `climb` gives exactly the item that the links lead to, or the first link whose
+//! level passes 255; `shape` is the number that has the links' sides as its bits, below a leading one. No call takes
+//! memory. What holds of climbing and of shapes is in `laws`.
+//!
+//! ```text
+//! let links = [Link { side: Side::Left, correction: 0, sibling: Sibling::Imprint(sibling) }];
+//! let item = climb::<Sha>(input, 0, &links)?;
+//! assert_eq!(item.imprint, Sha::join(input.bytes(), sibling.bytes(), 1));
+//! assert_eq!(item.level, 1);
+//! assert_eq!(shape(&links), 3);
+//! ```
+#![tactic(auto)]
+
+mod bits;
+mod climbing;
+mod item;
+pub mod laws;
+mod link;
+mod seen;
+#[cfg(test)]
+mod tests;
+
+pub use bits::shape;
+pub use climbing::{LevelFault, climb};
+pub use item::Item;
+pub use link::{Link, Sibling};

@@ -1,0 +1,39 @@
+ghost use Rattle.std.specs.Prelude.{◌≡◌};
+ghost use Rattle.ksi_aggchain.specs.Owned.{sibling_bytes};
+
+use ksi_imprint::{Bytes, Imprint};
+use ksi_split::Side;
+
+/// A link of an aggregation chain.
+#[derive(Drop, Debug)]
+pub struct Link {
+    /// Which part of its join a node is that is climbed from: a left link has it on the left.
+    pub side: Side,
+    /// How many levels more than one the link goes up.
+    pub correction: u8,
+    /// The other part.
+    pub sibling: Sibling,
+}
+
+/// What a link joins with the node that is climbed from.
+#[derive(Drop, Debug)]
+pub enum Sibling {
+    /// The imprint of another node.
+    Imprint(Imprint),
+    /// The raw bytes of a name in the old form.
+    Legacy(Bytes),
+    /// The raw bytes of metadata.
+    Metadata(Bytes),
+}
+
+impl Sibling {
+    /// The bytes that a join has of it.
+    pub fn bytes(&self) -> &[u8]
+        ensures { result.now ≡ sibling_bytes self.now }
+    {
+        match self {
+            Sibling::Imprint(imprint) => imprint.bytes(),
+            Sibling::Legacy(bytes) | Sibling::Metadata(bytes) => bytes.as_slice(),
+        }
+    }
+}

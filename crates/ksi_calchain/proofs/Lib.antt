@@ -1,0 +1,2 @@
+pub mod CalLemmas
+pub mod SideLemmas
