@@ -1,4 +1,4 @@
-ghost use Rattle.std.specs.Prelude.{◌≡◌, ◌++◌, ◌∷◌, [], ℕ, ◌%◌, ◌<◌, ◌≤◌, ◌+◌, ◌*◌, ◌^◌, length, OnOk, OnErr, IfOk};
+ghost use Rattle.std.specs.Prelude.{◌≡◌, ◌++◌, ◌∷◌, [], ℕ, ◌%◌, ◌<◌, ◌≤◌, ◌+◌, ◌-◌, ◌*◌, ◌^◌, length, OnOk, OnErr, IfOk};
 ghost use Rattle.ksi_split.specs.Upward.{halves, whole, node, link_up, links_up};
 ghost use Rattle.ksi_split.specs.Trees.{tree, path_of, node_at};
 ghost use Rattle.ksi_rows.specs.Leaves.{leaf_of};
@@ -68,6 +68,15 @@ impl<N: Copy, J: Joins<N>> Rows<N, J> {
         leaf_from::<N, J, Brand>(self, at, Blank::new(1))
     }
 
+    /// The same, with its step.
+    pub fn leaf_counted<L: Ledger>(&self, at: u64, steps: &mut Steps<L>) -> N
+        requires { at < self.now.start + length self.now.items }
+        ensures leaf { result ≡ leaf_of self.now at }
+        ensures cost { steps.new ≡ steps.old + 1 }
+    {
+        self.part(0, at, steps)
+    }
+
     /// The root of the tree over the leaves to `last`.
     pub fn root(&self, last: u64) -> N
         requires { last < self.now.start + length self.now.items }
@@ -93,7 +102,7 @@ impl<N: Copy, J: Joins<N>> Rows<N, J> {
         path_from::<N, J, Brand>(self, alloc, t, last, Blank::new(1))
     }
 
-    /// The same, with its steps: at most two for each level that the tree has, which are at most 63.
+    /// The same, with its steps: fewer than two for each level that the tree has, which are at most 63.
     pub fn path_counted<L: Ledger>(
         &self,
         alloc: Global,
@@ -104,7 +113,7 @@ impl<N: Copy, J: Joins<N>> Rows<N, J> {
         requires within { t ≤ last }
         requires covered { last < self.now.start + length self.now.items }
         ensures path { IfOk result (λ path. path.items ≡ path_of J.joined (leaf_of self.now) 0 t (last + 1)) }
-        ensures cost { (k : ℕ) → last < 2 ^ k → steps.new ≤ steps.old + 2 * k }
+        ensures cost { (k : ℕ) → last < 2 ^ k → steps.new ≤ steps.old + (2 * k - 1) }
         ensures most { steps.new ≤ steps.old + 126 }
     {
         let _ = &self.start;
@@ -283,7 +292,7 @@ fn leaf_from<N: Copy, J: Joins<N>, L: Ledger>(rows: &Rows<N, J>, at: u64, blank:
     ensures { result ≡ leaf_of rows.now at }
 {
     let mut steps = Steps::<L>::open(blank);
-    rows.part(0, at, &mut steps)
+    rows.leaf_counted(at, &mut steps)
 }
 
 fn root_from<N: Copy, J: Joins<N>, L: Ledger>(rows: &Rows<N, J>, last: u64, blank: Blank) -> N

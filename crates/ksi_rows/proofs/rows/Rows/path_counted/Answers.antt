@@ -1,4 +1,4 @@
-use Rattle.std.proofs.Common.{◌≡◌, inl, inr, Vec, Global, ◌+◌, ◌/◌, ◌≤◌, [], ◌∷◌, refl, sym, ◌∙◌, ap, ℕ, arith, add-one, append-nil}
+use Rattle.std.proofs.Common.{◌≡◌, ◌≢◌, ◌⊎◌, inl, inr, Vec, Global, ◌+◌, ◌-◌, ◌*◌, ◌/◌, ◌%◌, ◌^◌, ◌<◌, ◌≤◌, suc, length, List, [], ◌∷◌, ◌++◌, refl, sym, ◌∙◌, ap, ℕ, arith, add-one, append-nil}
 use Rattle.ksi_split.specs.Upward.{node, halves, links_up, whole}
 use Rattle.ksi_split.specs.declared.tree_link.TreeLink.{TreeLink}
 use Rattle.ksi_split.proofs.Powers.{lt_cases, halves_rise, halves_quotient, halves_none, halved_below, last_pair}
@@ -74,3 +74,24 @@ returns-clause-cost g c k small =
     let t = halves_none c.levels-levels.result c.args.t (omega (arith, c.levels-levels.ensures.enough, c.requires.within)) in
     let at : halves c.loop-level.level c.args.t ≡ halves c.loop-level.level c.args.last = ap (λ (i : ℕ). halves i c.args.t) level ∙ t ∙ sym last ∙ ap (λ (i : ℕ). halves i c.args.last) (sym level) in
     omega (arith, c.levels-levels.ensures.least k small, c.loop-level.invariant.merged (c.loop-level.invariant.at ∙ at), level)
+
+pub returns-in_err-push-clause-cost : goal.returns-in_err-push-clause-cost
+returns-in_err-push-clause-cost g c k small =
+    let level = c.loop-level.level in
+    let inv = c.loop-level.invariant in
+    let levels = c.levels-levels.result in
+    let least : levels ≤ k = c.levels-levels.ensures.least k small in
+    let below : level < levels = omega (arith, c.loop-level-test.true) in
+    let within : c.loop-level.at ≤ halves level c.args.last = omega (arith, halves_rise level c.args.t c.args.last c.requires.within, inv.at) in
+    elim (lt_cases c.loop-level.at (halves level c.args.last)) [
+      | inr f ↦ omega (arith, c.link_up.ensures.cost, inv.merged (omega (arith, within, f.1)), least, below)
+      | inl lt ↦ elim (lt_cases (level + 1) levels) [
+        | inl more ↦ omega (arith, c.link_up.ensures.cost, inv.cost, least, more.1)
+        | inr top ↦ (let is : level + 1 ≡ levels = omega (arith, below, top.1) in
+            let last_none : halves (level + 1) c.args.last ≡ 0 = ap (λ (i : ℕ). halves i c.args.last) is ∙ halves_none levels c.args.last c.levels-levels.ensures.enough in
+            let t_none : halves (level + 1) c.args.t ≡ 0 = ap (λ (i : ℕ). halves i c.args.t) is ∙ halves_none levels c.args.t (omega (arith, c.levels-levels.ensures.enough, c.requires.within)) in
+            let meet : c.loop-level.at / 2 ≡ halves (level + 1) c.args.last = ap (λ (i : ℕ). i / 2) inv.at ∙ ap (λ (i : ℕ). halves i c.args.t) (sym (add-one level)) ∙ t_none ∙ sym last_none in
+            let pair = last_pair c.args.last level c.loop-level.at lt.1 meet in
+            omega (arith, c.link_up.ensures.free pair.0 pair.1, inv.cost, least, below))
+      ]
+    ]
