@@ -1,5 +1,5 @@
 -- The aggregation tree of a round's items.
-use Rattle.std.specs.Prelude.{ℕ, zero, suc, ◌+◌, ◌-◌, ◌≤◌, List, length, max, min, slice_index_or, Option, None, Some}
+use Rattle.std.specs.Prelude.{ℕ, zero, suc, ◌+◌, ◌≤◌, List, length, max, min, slice_index_or, Option, None, Some}
 use Rattle.ksi_imprint.specs.Imprints.{join_text, zero_imprint}
 use Rattle.ksi_split.specs.Trees.{tree, path_of, node_at}
 use Rattle.ksi_split.specs.declared.side.Side.{Side}

@@ -22,6 +22,8 @@ mod builder;
 mod join;
 pub mod laws;
 mod links;
+#[cfg(test)]
+mod tests;
 
 pub use builder::{AddRefusal, Builder};
 pub use links::Links;

@@ -1,4 +1,4 @@
-use Rattle.std.proofs.Common.{◌≡◌, ℕ, ◌≤◌, List, length, map, reverse, ◌∙◌, ap, arith}
+use Rattle.std.proofs.Common.{length, reverse, ◌∙◌, ap, arith}
 use Rattle.std.proofs.lemmas.List.{reverse-reverse}
 use Rattle.ksi_split.specs.Ways.{way_of}
 use Rattle.ksi_aggchain.specs.Owned.{plain_links}

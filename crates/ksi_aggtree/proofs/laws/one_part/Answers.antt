@@ -1,4 +1,4 @@
-use Rattle.std.proofs.Common.{◌≡◌, ℕ, length, ◌∙◌, sym}
+use Rattle.std.proofs.Common.{length, ◌∙◌, sym}
 use Rattle.ksi_aggtree.specs.Rounds.{agg_join, item_at}
 use Rattle.ksi_aggtree.proofs.Capped.{last_node}
 use Rattle.ksi_aggtree.proofs.laws.one_part.Goals as goal

@@ -1,4 +1,4 @@
-use Rattle.std.proofs.Common.{◌≡◌, ℕ, ◌∙◌, List, ap}
+use Rattle.std.proofs.Common.{ℕ, ◌∙◌, List, ap}
 use Rattle.ksi_aggchain.specs.declared.item.Item.{Item}
 use Rattle.ksi_aggtree.specs.Rounds.{item_at}
 use Rattle.ksi_aggtree.proofs.Capped.{leaves_are}
