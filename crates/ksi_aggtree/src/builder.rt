@@ -1,0 +1,178 @@
+ghost use Rattle.std.specs.Prelude.{◌≡◌, ◌++◌, ◌∷◌, [], ◌<◌, ◌≤◌, ◌+◌, ◌↔◌, length, OnErr, IfOk};
+ghost use Rattle.ksi_split.specs.Ways.{way_of};
+ghost use Rattle.ksi_aggchain.specs.Climbing.{Climbs};
+ghost use Rattle.ksi_aggchain.specs.Owned.{plain_links};
+ghost use Rattle.ksi_aggtree.specs.Rounds.{item_at, tree_of, root_of, node_of};
+ghost use Rattle.ksi_aggtree.specs.Paths.{chain_of, sides_from_top};
+
+use crate::join::AggregationJoin;
+use crate::laws::one_chain;
+use crate::links::Links;
+use ksi_aggchain::Item;
+use ksi_imprint::{Compress, Imprint, NoMemory};
+use ksi_rows::{Rows, Steps};
+use ksi_split::Side;
+use std::alloc::Global;
+use std::marker::{Brand, Model};
+use std::sync::ledger::{Blank, Ledger};
+
+/// Why an item is not added.
+#[derive(Clone, Copy, PartialEq, Eq, Debug)]
+pub enum AddRefusal {
+    /// The round has 65,536 items.
+    Full,
+    NoMemory,
+}
+
+impl From<NoMemory> for AddRefusal {
+    ghost use Rattle.ksi_aggtree.specs.declared.builder.AddRefusal.TheVariants as refusals;
+
+    ghost from_gives = { λ _ refusal. refusal ≡ refusals.NoMemory };
+
+    fn from(_: NoMemory) -> Self {
+        AddRefusal::NoMemory
+    }
+}
+
+/// A round: items of levels to 239, at most 65,536 of them, and their tree. A contract sees their list.
+#[derive(Drop)]
+pub struct Builder<C: Compress> {
+    rows: Rows<Item, AggregationJoin<C>>,
+}
+
+impl<C: Compress> Model for Builder<C> {
+    ghost use Rattle.std.specs.Prelude.{List, ◌≡◌};
+    ghost use Rattle.ksi_aggchain.specs.declared.item.Item as items;
+    ghost use Rattle.ksi_aggtree.specs.Rounds.{IsRound, no_item};
+
+    ghost Value = { List items.Item };
+
+    ghost view = { λ b. b.rows.items };
+
+    ghost invariant = { λ b. (b.rows.start ≡ 0) × (b.rows.before ≡ no_item) × IsRound b.rows.items };
+}
+
+impl<C: Compress> Builder<C> {
+    /// A round without items.
+    pub fn new(alloc: Global) -> Result<Self, NoMemory>
+        ensures { IfOk result (λ round. round ≡ []) }
+    {
+        let none = Item {
+            imprint: Imprint::ZERO,
+            level: 0,
+        };
+        let rows = Rows::new(alloc, 0, none)?;
+        Ok(Builder { rows })
+    }
+
+    pub fn count(&self) -> usize
+        ensures { result ≡ length self.now }
+    {
+        self.rows.count() as usize
+    }
+
+    /// An item.
+    pub fn item(&self, k: usize) -> Item
+        requires { k < length self.now }
+        ensures { result ≡ item_at self.now k }
+    {
+        self.rows.leaf(k as u64)
+    }
+
+    /// The tree of the items, none where there is no item.
+    pub fn root(&self) -> Option<Item>
+        ensures { result ≡ root_of C.image self.now }
+    {
+        let count = self.rows.count();
+        if count == 0 {
+            None
+        } else {
+            Some(self.rows.root(count - 1))
+        }
+    }
+
+    /// The node of the tree that sides from the top lead to, none where there is no item or they go past a leaf.
+    pub fn node(&self, sides: &[Side]) -> Option<Item>
+        ensures { result ≡ node_of C.image self.now sides.now }
+    {
+        let count = self.rows.count();
+        if count == 0 {
+            None
+        } else {
+            self.rows.node(count - 1, sides)
+        }
+    }
+
+    /// The links from item `k` up to the root, with the corrections that meet the tree's levels.
+    pub fn path(&self, alloc: Global, k: usize) -> Result<Links, NoMemory>
+        requires { k < length self.now }
+        ensures links { IfOk result (λ links. links ≡ chain_of C.image self.now k) }
+        ensures climbs { IfOk result (λ links.
+            Climbs C.image (item_at self.now k) (plain_links links) (tree_of C.image self.now)) }
+        ensures way { IfOk result (λ links. sides_from_top links ≡ way_of k (length self.now)) }
+        ensures few { IfOk result (λ links. length links ≤ 16) }
+    {
+        path_from::<C, Brand>(self, alloc, k, Blank::new(1))
+    }
+
+    /// The same, with its steps, which are at most 32.
+    pub fn path_counted<L: Ledger>(
+        &self,
+        alloc: Global,
+        k: usize,
+        steps: &mut Steps<L>,
+    ) -> Result<Links, NoMemory>
+        requires { k < length self.now }
+        ensures links { IfOk result (λ links. links ≡ chain_of C.image self.now k) }
+        ensures climbs { IfOk result (λ links.
+            Climbs C.image (item_at self.now k) (plain_links links) (tree_of C.image self.now)) }
+        ensures way { IfOk result (λ links. sides_from_top links ≡ way_of k (length self.now)) }
+        ensures few { IfOk result (λ links. length links ≤ 16) }
+        ensures most { steps.new ≤ steps.old + 32 }
+    {
+        one_chain();
+        let last = self.rows.count() - 1;
+        let others = self.rows.path_counted(alloc, k as u64, last, steps)?;
+        let item = self.rows.leaf_counted(k as u64, steps);
+        Links::beside(alloc, item.level, &others)
+    }
+
+    /// Adds an item behind the others, and says which it is, the first one being item 0.
+    ///
+    /// # Errors
+    /// `Full` exactly where there are 65,536 items.
+    pub fn add(&mut self, item: Item) -> Result<usize, AddRefusal>
+        requires { item.level ≤ 239 }
+        ensures place { IfOk result (λ k. k ≡ length self.old) }
+        ensures added { IfOk result (λ k. self.new ≡ self.old ++ item ∷ []) }
+        ensures full { (result ≡ Err AddRefusal.Full) ↔ (length self.old ≡ 65536) }
+        ensures unchanged { OnErr result (self.new ≡ self.old) }
+    {
+        let count = self.rows.count();
+        if count >= 65536 {
+            return Err(AddRefusal::Full);
+        }
+        self.rows.append(item)?;
+        Ok(count as usize)
+    }
+}
+
+fn path_from<C: Compress, L: Ledger>(
+    round: &Builder<C>,
+    alloc: Global,
+    k: usize,
+    blank: Blank,
+) -> Result<Links, NoMemory>
+    requires name { blank.name ≡ L.name }
+    requires parts { blank.parts ≡ L.parts }
+    requires one { blank.parts ≡ 1 }
+    requires there { k < length round.now }
+    ensures links { IfOk result (λ links. links ≡ chain_of C.image round.now k) }
+    ensures climbs { IfOk result (λ links.
+        Climbs C.image (item_at round.now k) (plain_links links) (tree_of C.image round.now)) }
+    ensures way { IfOk result (λ links. sides_from_top links ≡ way_of k (length round.now)) }
+    ensures few { IfOk result (λ links. length links ≤ 16) }
+{
+    let mut steps = Steps::<L>::open(blank);
+    round.path_counted(alloc, k, &mut steps)
+}

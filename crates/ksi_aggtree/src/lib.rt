@@ -1,0 +1,29 @@
+//! Rounds of an aggregation: their items, the tree over these, its root and the chains of the items.
+//!
+//! The tree of more than one item is cut as `ksi_split` says. Its level is one above the greater level of both parts,
+//! and its imprint is the join of both at that level (Buldas, Kroonmaa, Laanoja, "Keyless Signatures' Infrastructure",
+//! 2013). A round has at most 65,536 items, of levels to 239, so that no level passes 255.
+//!
+//! The layer above may rely on this: `root` is the tree of the items; the links of `path` climb from an item to it along
+//! the item's way; `node` is the tree of the part that sides lead to. Only `new`, `add` and the paths take memory, and
+//! after a refused `add` all is as it was. A path takes at most 32 steps, each the read of one stored node. What holds
+//! of the definitions is in `laws`.
+//!
+//! ```text
+//! let mut round = Builder::<Sha>::new(alloc)?;
+//! let first = round.add(Item { imprint, level: 0 })?;
+//! round.add(other)?;
+//! let links = round.path(alloc, first)?;
+//! assert_eq!(climb::<Sha>(imprint, 0, links.as_slice()).ok(), round.root());
+//! ```
+#![tactic(auto)]
+
+mod builder;
+mod join;
+pub mod laws;
+mod links;
+#[cfg(test)]
+mod tests;
+
+pub use builder::{AddRefusal, Builder};
+pub use links::Links;

@@ -1,0 +1,16 @@
+ghost use Rattle.ksi_calchain.specs.Climbing.{cal_join};
+
+use ksi_imprint::{Compress, Imprint};
+use ksi_rows::Joins;
+use std::marker::PhantomData;
+
+/// How two parts of the calendar are joined: at the level byte 0xff.
+pub(crate) struct CalendarJoin<C: Compress>(PhantomData<C>);
+
+impl<C: Compress> Joins<Imprint> for CalendarJoin<C> {
+    ghost joined = { cal_join C.image };
+
+    fn join(left: &Imprint, right: &Imprint) -> Imprint {
+        C::join(left.bytes(), right.bytes(), 0xff)
+    }
+}

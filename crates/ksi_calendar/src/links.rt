@@ -1,0 +1,42 @@
+ghost use Rattle.std.specs.Prelude.{◌≡◌};
+
+use ksi_calchain::CalLink;
+use std::marker::Model;
+
+/// The links of a calendar hash chain, the lowest first. A contract sees their list.
+#[derive(Drop, Debug)]
+pub struct CalLinks {
+    vec: Vec<CalLink>,
+}
+
+impl Model for CalLinks {
+    ghost use Rattle.std.specs.Prelude.{List, ℕ};
+    ghost use Rattle.ksi_split.specs.declared.tree_link.TreeLink.{TreeLink};
+
+    ghost Value = { List (TreeLink (List ℕ)) };
+
+    ghost view = { λ links. links.vec.items };
+}
+
+impl CalLinks {
+    /// The links of a `Vec`, which is not copied.
+    pub fn from_vec(vec: Vec<CalLink>) -> Self
+        ensures { result ≡ vec.items }
+    {
+        CalLinks { vec }
+    }
+
+    pub fn as_slice(&self) -> &[CalLink]
+        ensures { result.now ≡ self.now }
+    {
+        &self.vec
+    }
+
+    /// The `Vec` of the links, which are not copied.
+    pub fn into_vec(self) -> Vec<CalLink>
+        ensures { result.items ≡ self }
+    {
+        let CalLinks { vec } = self;
+        vec
+    }
+}

@@ -1,0 +1,357 @@
+ghost use Rattle.std.specs.Prelude.{◌≡◌, ◌++◌, ◌∷◌, [], ℕ, ◌%◌, ◌<◌, ◌≤◌, ◌+◌, ◌-◌, ◌*◌, ◌^◌, length, OnOk, OnErr, IfOk};
+ghost use Rattle.ksi_split.specs.Upward.{halves, whole, node, link_up, links_up};
+ghost use Rattle.ksi_split.specs.Trees.{tree, path_of, node_at};
+ghost use Rattle.ksi_rows.specs.Leaves.{leaf_of};
+ghost use Rattle.ksi_rows.specs.Stored.{maybe_link};
+
+use crate::NoMemory;
+use crate::joins::Joins;
+use crate::levels::{add, completed, count, empty_rows, grow, levels, part};
+use crate::row::Row;
+use crate::steps::Steps;
+use crate::zeros::Zeros;
+use ksi_split::{Side, TreeLink, split};
+use std::alloc::Global;
+use std::marker::{Brand, Model};
+use std::sync::ledger::{Blank, Ledger};
+
+/// Leaves that come one by one behind those before the start, and the complete parts of their tree. A contract sees
+/// how many leaves stand before the start, what each of them is, and the leaves that came.
+#[derive(Drop)]
+pub struct Rows<N: Copy, J: Joins<N>> {
+    start: u64,
+    zeros: Zeros<N, J>,
+    rows: Vec<Row<N>>,
+}
+
+impl<N: Copy, J: Joins<N>> Model for Rows<N, J> {
+    ghost use Rattle.ksi_rows.specs.Leaves.{Leaves};
+    ghost use Rattle.ksi_rows.specs.Stored.{AreRows, row_at};
+
+    ghost Value = { Leaves N };
+
+    ghost view = { λ r. record { start = r.start; before = r.zeros.leaf; items = row_at r.rows.items 0 } };
+
+    ghost invariant = { λ r. AreRows J.joined r.start r.zeros.leaf r.rows.items };
+}
+
+impl<N: Copy, J: Joins<N>> Rows<N, J> {
+    /// No leaf yet behind the first `start`, which are all `before`.
+    pub fn new(alloc: Global, start: u64, before: N) -> Result<Self, NoMemory>
+        requires { start ≤ 2 ^ 63 }
+        ensures { IfOk result (λ rows. rows ≡ record { start = start; before = before; items = [] }) }
+    {
+        let zeros = Zeros::new(alloc, before)?;
+        let rows = empty_rows(alloc)?;
+        Ok(Rows { start, zeros, rows })
+    }
+
+    /// How many leaves stand before the first that came.
+    pub fn start(&self) -> u64
+        ensures { result ≡ self.now.start }
+    {
+        self.start
+    }
+
+    /// How many leaves came.
+    pub fn count(&self) -> u64
+        ensures { result ≡ length self.now.items }
+    {
+        count(&self.rows)
+    }
+
+    /// A leaf.
+    pub fn leaf(&self, at: u64) -> N
+        requires { at < self.now.start + length self.now.items }
+        ensures { result ≡ leaf_of self.now at }
+    {
+        leaf_from::<N, J, Brand>(self, at, Blank::new(1))
+    }
+
+    /// The same, with its step.
+    pub fn leaf_counted<L: Ledger>(&self, at: u64, steps: &mut Steps<L>) -> N
+        requires { at < self.now.start + length self.now.items }
+        ensures leaf { result ≡ leaf_of self.now at }
+        ensures cost { steps.new ≡ steps.old + 1 }
+    {
+        self.part(0, at, steps)
+    }
+
+    /// The root of the tree over the leaves to `last`.
+    pub fn root(&self, last: u64) -> N
+        requires { last < self.now.start + length self.now.items }
+        ensures { result ≡ tree J.joined (leaf_of self.now) 0 (last + 1) }
+    {
+        root_from::<N, J, Brand>(self, last, Blank::new(1))
+    }
+
+    /// The part that sides from the top lead to in the tree over the leaves to `last`, none where they pass a leaf.
+    pub fn node(&self, last: u64, sides: &[Side]) -> Option<N>
+        requires { last < self.now.start + length self.now.items }
+        ensures { result ≡ node_at J.joined (leaf_of self.now) last sides.now }
+    {
+        node_from::<N, J, Brand>(self, last, sides, Blank::new(1))
+    }
+
+    /// The links from leaf `t` up to the root of the tree over the leaves to `last`.
+    pub fn path(&self, alloc: Global, t: u64, last: u64) -> Result<Vec<TreeLink<N>>, NoMemory>
+        requires within { t ≤ last }
+        requires covered { last < self.now.start + length self.now.items }
+        ensures { IfOk result (λ path. path.items ≡ path_of J.joined (leaf_of self.now) 0 t (last + 1)) }
+    {
+        path_from::<N, J, Brand>(self, alloc, t, last, Blank::new(1))
+    }
+
+    /// The same, with its steps: fewer than two for each level that the tree has, which are at most 63.
+    pub fn path_counted<L: Ledger>(
+        &self,
+        alloc: Global,
+        t: u64,
+        last: u64,
+        steps: &mut Steps<L>,
+    ) -> Result<Vec<TreeLink<N>>, NoMemory>
+        requires within { t ≤ last }
+        requires covered { last < self.now.start + length self.now.items }
+        ensures path { IfOk result (λ path. path.items ≡ path_of J.joined (leaf_of self.now) 0 t (last + 1)) }
+        ensures cost { (k : ℕ) → last < 2 ^ k → steps.new ≤ steps.old + (2 * k - 1) }
+        ensures most { steps.new ≤ steps.old + 126 }
+    {
+        let _ = &self.start;
+        let levels = levels(last);
+        let mut path = Vec::with_capacity(alloc, levels)?;
+        // the part that the last leaf is in, read where it may become a sibling
+        let mut border = self.zeros.leaf();
+        if t < last {
+            border = self.part(0, last, steps);
+        }
+        let mut at = t;
+        for level in 0..levels {
+            if let Some(link) = self.link_up(last, level, at, &border, steps) {
+                path.push(link)?;
+            }
+            at /= 2;
+            if at < last >> (level + 1) {
+                border = self.raise(last, level, border, steps);
+            }
+        }
+        Ok(path)
+    }
+
+    /// Adds a leaf behind all others. All growths come first.
+    pub fn append(&mut self, leaf: N) -> Result<(), NoMemory>
+        requires { self.old.start + length self.old.items < 2 ^ 63 }
+        ensures added { OnOk result (self.new ≡ record self.old { items = self.old.items ++ leaf ∷ [] }) }
+        ensures unchanged { OnErr result (self.new ≡ self.old) }
+    {
+        append_from::<N, J, Brand>(self, leaf, Blank::new(1))
+    }
+
+    fn append_counted<L: Ledger>(&mut self, leaf: N, steps: &mut Steps<L>) -> Result<(), NoMemory>
+        requires { self.old.start + length self.old.items < 2 ^ 63 }
+        ensures added { OnOk result (self.new ≡ record self.old { items = self.old.items ++ leaf ∷ [] }) }
+        ensures unchanged { OnErr result (self.new ≡ self.old) }
+    {
+        let n = self.start + count(&self.rows);
+        let top = completed(n);
+        grow(&mut self.rows, top)?;
+        add(self.start, &self.zeros, &mut self.rows, n, top, leaf, steps);
+        Ok(())
+    }
+
+    fn root_counted<L: Ledger>(&self, last: u64, steps: &mut Steps<L>) -> N
+        requires { last < self.now.start + length self.now.items }
+        ensures { result ≡ tree J.joined (leaf_of self.now) 0 (last + 1) }
+    {
+        let _ = &self.start;
+        self.border(last, levels(last), steps)
+    }
+
+    fn node_counted<L: Ledger>(&self, last: u64, sides: &[Side], steps: &mut Steps<L>) -> Option<N>
+        requires { last < self.now.start + length self.now.items }
+        ensures { result ≡ node_at J.joined (leaf_of self.now) last sides.now }
+    {
+        let _ = &self.start;
+        let mut first = 0;
+        let mut count = last + 1;
+        for side in sides {
+            if count == 1 {
+                return None;
+            }
+            let half = split(count);
+            match side {
+                Side::Left => count = half,
+                Side::Right => {
+                    first += half;
+                    count -= half;
+                }
+            }
+        }
+        let level = levels(count - 1);
+        Some(self.part_to(last, level, first >> level, steps))
+    }
+
+    /// A complete part.
+    fn part<L: Ledger>(&self, level: usize, at: u64, steps: &mut Steps<L>) -> N
+        requires few { level < 64 }
+        requires within { at < halves level (self.now.start + length self.now.items) }
+        ensures part { result ≡ whole J.joined (leaf_of self.now) level at }
+        ensures cost { steps.new ≡ steps.old + 1 }
+    {
+        part(self.start, &self.zeros, &self.rows, level, at, steps)
+    }
+
+    /// The last part of the next level.
+    fn raise<L: Ledger>(&self, last: u64, level: usize, border: N, steps: &mut Steps<L>) -> N
+        requires few { level < 63 }
+        requires covered { last < self.now.start + length self.now.items }
+        requires border { border ≡ node J.joined (leaf_of self.now) last level (halves level last) }
+        ensures border { result ≡ node J.joined (leaf_of self.now) last (level + 1) (halves (level + 1) last) }
+        ensures cost { steps.new ≤ steps.old + 1 }
+    {
+        let end = last >> level;
+        if end % 2 == 1 {
+            let left = self.part(level, end - 1, steps);
+            J::join(&left, &border)
+        } else {
+            border
+        }
+    }
+
+    /// The part of a level that the last leaf is in.
+    fn border<L: Ledger>(&self, last: u64, levels: usize, steps: &mut Steps<L>) -> N
+        requires few { levels ≤ 63 }
+        requires covered { last < self.now.start + length self.now.items }
+        ensures { result ≡ node J.joined (leaf_of self.now) last levels (halves levels last) }
+    {
+        let mut border = self.part(0, last, steps);
+        for level in 0..levels {
+            border = self.raise(last, level, border, steps);
+        }
+        border
+    }
+
+    /// A part of a level, complete or not.
+    fn part_to<L: Ledger>(&self, last: u64, level: usize, at: u64, steps: &mut Steps<L>) -> N
+        requires few { level ≤ 63 }
+        requires covered { last < self.now.start + length self.now.items }
+        requires within { at ≤ halves level last }
+        ensures { result ≡ node J.joined (leaf_of self.now) last level at }
+    {
+        if at < last >> level {
+            self.part(level, at, steps)
+        } else {
+            self.border(last, level, steps)
+        }
+    }
+
+    /// The link up from a part of a level, none from a last part that stands alone.
+    fn link_up<L: Ledger>(
+        &self,
+        last: u64,
+        level: usize,
+        at: u64,
+        border: &N,
+        steps: &mut Steps<L>,
+    ) -> Option<TreeLink<N>>
+        requires few { level < 63 }
+        requires covered { last < self.now.start + length self.now.items }
+        requires within { at ≤ halves level last }
+        requires border { at < halves level last →
+            border.now ≡ node J.joined (leaf_of self.now) last level (halves level last) }
+        ensures link { maybe_link result ≡ link_up J.joined (leaf_of self.now) last level at }
+        ensures cost { steps.new ≤ steps.old + 1 }
+        ensures free { at % 2 ≡ 0 → at + 1 ≡ halves level last → steps.new ≡ steps.old }
+    {
+        let end = last >> level;
+        if at % 2 == 1 {
+            Some(TreeLink {
+                side: Side::Right,
+                sibling: self.part(level, at - 1, steps),
+            })
+        } else if at + 1 < end {
+            Some(TreeLink {
+                side: Side::Left,
+                sibling: self.part(level, at + 1, steps),
+            })
+        } else if at < end {
+            Some(TreeLink {
+                side: Side::Left,
+                sibling: *border,
+            })
+        } else {
+            None
+        }
+    }
+}
+
+fn leaf_from<N: Copy, J: Joins<N>, L: Ledger>(rows: &Rows<N, J>, at: u64, blank: Blank) -> N
+    requires name { blank.name ≡ L.name }
+    requires parts { blank.parts ≡ L.parts }
+    requires one { blank.parts ≡ 1 }
+    requires within { at < rows.now.start + length rows.now.items }
+    ensures { result ≡ leaf_of rows.now at }
+{
+    let mut steps = Steps::<L>::open(blank);
+    rows.leaf_counted(at, &mut steps)
+}
+
+fn root_from<N: Copy, J: Joins<N>, L: Ledger>(rows: &Rows<N, J>, last: u64, blank: Blank) -> N
+    requires name { blank.name ≡ L.name }
+    requires parts { blank.parts ≡ L.parts }
+    requires one { blank.parts ≡ 1 }
+    requires covered { last < rows.now.start + length rows.now.items }
+    ensures { result ≡ tree J.joined (leaf_of rows.now) 0 (last + 1) }
+{
+    let mut steps = Steps::<L>::open(blank);
+    rows.root_counted(last, &mut steps)
+}
+
+fn node_from<N: Copy, J: Joins<N>, L: Ledger>(
+    rows: &Rows<N, J>,
+    last: u64,
+    sides: &[Side],
+    blank: Blank,
+) -> Option<N>
+    requires name { blank.name ≡ L.name }
+    requires parts { blank.parts ≡ L.parts }
+    requires one { blank.parts ≡ 1 }
+    requires covered { last < rows.now.start + length rows.now.items }
+    ensures { result ≡ node_at J.joined (leaf_of rows.now) last sides.now }
+{
+    let mut steps = Steps::<L>::open(blank);
+    rows.node_counted(last, sides, &mut steps)
+}
+
+fn path_from<N: Copy, J: Joins<N>, L: Ledger>(
+    rows: &Rows<N, J>,
+    alloc: Global,
+    t: u64,
+    last: u64,
+    blank: Blank,
+) -> Result<Vec<TreeLink<N>>, NoMemory>
+    requires name { blank.name ≡ L.name }
+    requires parts { blank.parts ≡ L.parts }
+    requires one { blank.parts ≡ 1 }
+    requires within { t ≤ last }
+    requires covered { last < rows.now.start + length rows.now.items }
+    ensures { IfOk result (λ path. path.items ≡ path_of J.joined (leaf_of rows.now) 0 t (last + 1)) }
+{
+    let mut steps = Steps::<L>::open(blank);
+    rows.path_counted(alloc, t, last, &mut steps)
+}
+
+fn append_from<N: Copy, J: Joins<N>, L: Ledger>(
+    rows: &mut Rows<N, J>,
+    leaf: N,
+    blank: Blank,
+) -> Result<(), NoMemory>
+    requires name { blank.name ≡ L.name }
+    requires parts { blank.parts ≡ L.parts }
+    requires one { blank.parts ≡ 1 }
+    requires room { rows.old.start + length rows.old.items < 2 ^ 63 }
+    ensures added { OnOk result (rows.new ≡ record rows.old { items = rows.old.items ++ leaf ∷ [] }) }
+    ensures unchanged { OnErr result (rows.new ≡ rows.old) }
+{
+    let mut steps = Steps::<L>::open(blank);
+    rows.append_counted(leaf, &mut steps)
+}
