@@ -3,6 +3,7 @@ pub mod Counting
 pub mod Loop
 pub mod Ways
 pub mod Both
+pub mod Naming
 pub mod Wholes
 pub mod Writes
 pub mod Publishing

@@ -4,7 +4,7 @@
 //! The layer above may rely on this: [`check`] accepts a body exactly where it is all elements that may stand there, in
 //! whatever order, and else gives the first fault in reading order, going into each element before the next one. What
 //! an accepted container holds is then found without a fault, and elements that may stand there are accepted as they
-//! are written. Only [`written_published`] takes memory.
+//! are written. Only what is written takes memory.
 //!
 //! ```text
 //! impl Grammar for RecordContent { .. } // rows, refused kinds, contents, what is missing at the end
@@ -22,6 +22,7 @@ mod grammar;
 mod laws;
 mod publication;
 mod reader;
+mod record;
 mod row;
 #[cfg(test)]
 mod tests;
@@ -31,7 +32,11 @@ pub use fault::ElementFault;
 pub use finder::held;
 pub use grammar::{Grammar, missing};
 pub use ksi_imprint::NoMemory;
-pub use laws::{held_is_whole, published_is_read, whole_or_fault, written_is_whole};
+pub use laws::{
+    faults_by_table, held_is_whole, published_is_read, record_is_read, whole_or_fault,
+    written_is_whole,
+};
 pub use publication::{PublishedContent, published, put_short, written_published};
 pub use reader::check;
+pub use record::{RecordContent, recorded, written_record};
 pub use row::{Over, Row, Seen};

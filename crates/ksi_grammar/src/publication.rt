@@ -14,7 +14,7 @@ use crate::finder::held;
 use crate::grammar::{Grammar, missing};
 use crate::row::{Row, Seen};
 use ksi_imprint::{Bytes, Imprint};
-use ksi_tlv::{Placed, PutRefusal, Writer};
+use ksi_tlv::{Placed, PutRefusal, Writer, numeral_is_read};
 use std::alloc::Global;
 
 const TIME: u16 = 0x02;
@@ -97,11 +97,19 @@ fn hash_of(part: &Placed<'_>) -> Imprint
 
 /// The body of published data.
 pub fn written_published(alloc: Global, time: u64, hash: &Imprint) -> Result<Bytes, NoMemory>
+    ensures text { IfOk result (λ body. body ≡ texts (published_elements time hash.now)) }
+    ensures short { IfOk result (λ body. length body ≤ 49) }
+{
+    numeral_is_read();
+    published_body(alloc, time, hash.bytes())
+}
+
+fn published_body(alloc: Global, time: u64, hash: &[u8; 33]) -> Result<Bytes, NoMemory>
     ensures { IfOk result (λ body. body ≡ texts (published_elements time hash.now)) }
 {
     let mut writer = Writer::new(alloc);
     writer.put_number(TIME, time)?;
-    put_short(&mut writer, HASH, hash.bytes())?;
+    put_short(&mut writer, HASH, hash)?;
     Ok(Bytes::from_vec(writer.into_vec()))
 }
 
