@@ -1,0 +1,12 @@
+pub use Rattle.ksi_tlv.specs.Spelling
+pub use Rattle.ksi_tlv.specs.Walking
+pub use Rattle.ksi_tlv.specs.Writing
+pub mod Table
+pub mod Contents
+pub mod Reading
+pub mod Valid
+pub mod Faults
+pub mod Held
+pub mod Written
+pub mod Published
+pub mod Counters
