@@ -1,4 +1,4 @@
-ghost use Rattle.std.specs.Prelude.{◌≡◌, ◌≤◌, false, length, Some, None, IfOk, IfSome, if◌then◌else◌, is_ok};
+ghost use Rattle.std.specs.Prelude.{◌≡◌, ◌≤◌, false, length, Some, None, IfOk, IfSome, OnErr, if◌then◌else◌, is_ok};
 ghost use Rattle.std.specs.Bool.{OnTrue, OnFalse};
 ghost use Rattle.ksi_ports.specs.Outside.{count_up, LoadCalls, LoadCounts, LoadTells, Raises, SaveCalls, SaveCounts};
 ghost use Rattle.ksi_ports.specs.Host.{ReadTakes, faults_after};
@@ -8,7 +8,7 @@ use ksi_imprint::Bytes;
 use std::alloc::Global;
 use std::io::Read;
 use std::marker::Model;
-use std::{fs, rt};
+use std::{fs, io, rt};
 
 /// The files of a system. Nothing is told of what they hold.
 #[derive(Drop)]
@@ -97,7 +97,8 @@ impl<R: rt::Files> Files for HostFiles<'_, R> {
         ensures faults { self.new.faults ≡ faults_after self.old.faults result }
         ensures takes { ReadTakes most self.old.taken self.new.taken result }
     {
-        let result = open_and_read(self.runtime, alloc, name, most, &mut self.taken);
+        let opened = fs::open(self.runtime, name);
+        let result = read_opened(alloc, opened, most, &mut self.taken);
         self.count(matches!(&result, Err(LoadRefusal::Failed)));
         result
     }
@@ -119,18 +120,19 @@ impl<R: rt::Files> Files for HostFiles<'_, R> {
     }
 }
 
-fn open_and_read<R: rt::Files>(
-    runtime: &R,
+// Reads what was opened. Where it could not be opened, nothing is taken.
+fn read_opened<S: Read + Drop>(
     alloc: Global,
-    name: &str,
+    opened: io::Result<S>,
     most: usize,
     taken: &mut u64,
 ) -> Result<Bytes, LoadRefusal>
     ensures taken { ReadTakes most taken.old taken.new result }
+    ensures unopened { OnErr opened (taken.new ≡ taken.old) }
     ensures within { IfOk result (λ bytes. length bytes ≤ most) }
 {
-    match fs::open(runtime, name) {
-        Ok(mut file) => read_up_to(alloc, &mut file, most, taken),
+    match opened {
+        Ok(mut source) => read_up_to(alloc, &mut source, most, taken),
         Err(_) => Err(LoadRefusal::Failed),
     }
 }
