@@ -142,3 +142,12 @@ fn found(alloc: Global, bytes: &[u8], time: u64) -> Option<Option<Imprint>> {
         Err(_) => None,
     }
 }
+
+#[test]
+fn hands_its_pairs_over(rt: HostRuntime) -> Result<(), Fail> {
+    let mut pairs = Vec::new(rt.alloc());
+    pairs.push((5, Imprint::ZERO))?;
+    let pairs = Publications::from_vec(pairs).into_vec();
+    assert_eq!(rt; pairs.as_slice(), [(5, Imprint::ZERO)].as_slice());
+    Ok(())
+}
