@@ -22,6 +22,7 @@ pub enum PubFault {
     Number(usize),
     /// Q9: a time is not below 2^63.
     Time(usize),
+    /// Memory was wanting for the list of a file in which nothing is wrong.
     NoMemory,
 }
 

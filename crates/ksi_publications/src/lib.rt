@@ -1,9 +1,11 @@
 //! Publications files: the root hashes of calendar trees that were published, each with its time. A file is eight
-//! bytes of magic, a header, and publication records, in any order.
+//! bytes of magic, a header, and publication records, in any order: Guardtime's published format, as docs/FORMATS.md
+//! tells it.
 //!
 //! A contract sees [`Publications`] as its list of times and hashes, in the order of the file. The layer above may rely
 //! on this: [`read`] gives exactly the list of the file that the bytes are, or the first fault in reading order, which
-//! it finds without taking memory; `find` gives the first hash of a time; and what [`write`] gives is read again.
+//! it finds without taking memory; `find` gives the first hash of a time; and what [`write`] gives is read again where
+//! the times are below 2^63.
 //!
 //! ```text
 //! let file = write(alloc, creation, &[(time, root)])?;

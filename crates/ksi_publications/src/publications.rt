@@ -40,7 +40,7 @@ impl Publications {
         self.pairs.as_slice()
     }
 
-    /// The hash that was published for a time, of several the first.
+    /// The hash that was published for a time, of several the first; none where no pair has the time.
     pub fn find(&self, time: u64) -> Option<Imprint>
         ensures first { result ≡ find time self.now }
         ensures none { (result ≡ None) ↔ AllByRecursion (λ pair. pair.0 ≢ time) self.now }

@@ -14,12 +14,16 @@ use ksi_imprint::{Bytes, Imprint};
 use ksi_tlv::{Writer, numeral_is_read};
 use std::alloc::Global;
 
-/// A publications file of version 1 with these published times and hashes in this order, without references.
+/// A publications file of version 1 with these published times and hashes in this order, without references. Times are
+/// seconds of Unix time. Where the creation time and all others are below 2^63, the file is read again as these pairs.
+///
+/// # Errors
+///
+/// `NoMemory` where memory was wanting.
 pub fn write(alloc: Global, creation: u64, pairs: &[(u64, Imprint)]) -> Result<Bytes, NoMemory>
-    requires creation { creation < 2 ^ 63 }
-    requires times { AllByRecursion (λ pair. pair.0 < 2 ^ 63) pairs.now }
     ensures text { IfOk result (λ file. file ≡ publications_text creation pairs.now) }
-    ensures read_again { IfOk result (λ file. IsPublications file pairs.now) }
+    ensures read_again { creation < 2 ^ 63 → AllByRecursion (λ pair. pair.0 < 2 ^ 63) pairs.now →
+        IfOk result (λ file. IsPublications file pairs.now) }
 {
     written_is_publications();
     written(alloc, creation, pairs)
