@@ -115,7 +115,7 @@ impl<C: Compress> Builder<C> {
         path_from::<C, Brand>(self, alloc, k, Blank::new(1))
     }
 
-    /// The same, with its steps, which are at most 32.
+    /// The same, with its steps, which are one for the item and one for each link at least, and at most 32.
     pub fn path_counted<L: Ledger>(
         &self,
         alloc: Global,
@@ -129,6 +129,7 @@ impl<C: Compress> Builder<C> {
         ensures way { IfOk result (λ links. sides_from_top links ≡ way_of k (length self.now)) }
         ensures few { IfOk result (λ links. length links ≤ 16) }
         ensures most { steps.new ≤ steps.old + 32 }
+        ensures least { IfOk result (λ links. steps.old + length links < steps.new) }
     {
         one_chain();
         let last = self.rows.count() - 1;

@@ -86,7 +86,7 @@ impl<C: Compress> Calendar<C> {
         chain_from::<C, Brand>(self, alloc, t, p, Blank::new(1))
     }
 
-    /// The same, with its steps, which are at most 126.
+    /// The same, with its steps, which are one for each link at least, and at most 126.
     pub fn chain_to_counted<L: Ledger>(
         &self,
         alloc: Global,
@@ -101,6 +101,7 @@ impl<C: Compress> Calendar<C> {
             ClimbsCal C.image (calendar_leaf self.now t) links (calendar_root C.image self.now p)) }
         ensures way { IfOk result (λ links. sides_from_top links ≡ way_of t (p + 1)) }
         ensures most { steps.new ≤ steps.old + 126 }
+        ensures least { IfOk result (λ links. steps.old + length links ≤ steps.new) }
     {
         one_chain();
         Ok(CalLinks::from_vec(self.rows.path_counted(alloc, t, p, steps)?))

@@ -1,4 +1,4 @@
-ghost use Rattle.std.specs.Prelude.{◌≡◌, ◌++◌, ◌∷◌, [], ℕ, ◌%◌, ◌<◌, ◌≤◌, ◌+◌, ◌-◌, ◌*◌, ◌^◌, length, OnOk, OnErr, IfOk};
+ghost use Rattle.std.specs.Prelude.{◌≡◌, ◌≢◌, ◌++◌, ◌∷◌, [], ℕ, ◌%◌, ◌<◌, ◌≤◌, ◌+◌, ◌-◌, ◌*◌, ◌^◌, length, OnOk, OnErr, IfOk};
 ghost use Rattle.ksi_split.specs.Upward.{halves, whole, node, link_up, links_up};
 ghost use Rattle.ksi_split.specs.Trees.{tree, path_of, node_at};
 ghost use Rattle.ksi_rows.specs.Leaves.{leaf_of};
@@ -102,7 +102,8 @@ impl<N: Copy, J: Joins<N>> Rows<N, J> {
         path_from::<N, J, Brand>(self, alloc, t, last, Blank::new(1))
     }
 
-    /// The same, with its steps: fewer than two for each level that the tree has, which are at most 63.
+    /// The same, with its steps: one for each link at least, and fewer than two for each level that the tree has, which
+    /// are at most 63.
     pub fn path_counted<L: Ledger>(
         &self,
         alloc: Global,
@@ -115,24 +116,23 @@ impl<N: Copy, J: Joins<N>> Rows<N, J> {
         ensures path { IfOk result (λ path. path.items ≡ path_of J.joined (leaf_of self.now) 0 t (last + 1)) }
         ensures cost { (k : ℕ) → last < 2 ^ k → steps.new ≤ steps.old + (2 * k - 1) }
         ensures most { steps.new ≤ steps.old + 126 }
+        ensures least { IfOk result (λ path. steps.old + length path.items ≤ steps.new) }
     {
         let _ = &self.start;
         let levels = levels(last);
         let mut path = Vec::with_capacity(alloc, levels)?;
         // the part that the last leaf is in, read where it may become a sibling
-        let mut border = self.zeros.leaf();
+        let mut border = None;
         if t < last {
-            border = self.part(0, last, steps);
+            border = Some(self.part(0, last, steps));
         }
         let mut at = t;
         for level in 0..levels {
-            if let Some(link) = self.link_up(last, level, at, &border, steps) {
+            if let Some(link) = self.link_up(last, level, at, border, steps) {
                 path.push(link)?;
             }
             at /= 2;
-            if at < last >> (level + 1) {
-                border = self.raise(last, level, border, steps);
-            }
+            border = self.raise_behind(last, level, at, border, steps);
         }
         Ok(path)
     }
@@ -206,6 +206,7 @@ impl<N: Copy, J: Joins<N>> Rows<N, J> {
         requires covered { last < self.now.start + length self.now.items }
         requires border { border ≡ node J.joined (leaf_of self.now) last level (halves level last) }
         ensures border { result ≡ node J.joined (leaf_of self.now) last (level + 1) (halves (level + 1) last) }
+        ensures later { steps.old ≤ steps.new }
         ensures cost { steps.new ≤ steps.old + 1 }
     {
         let end = last >> level;
@@ -214,6 +215,35 @@ impl<N: Copy, J: Joins<N>> Rows<N, J> {
             J::join(&left, &border)
         } else {
             border
+        }
+    }
+
+    /// The last part of the next level where it stands behind part `at` of that level, and else none.
+    fn raise_behind<L: Ledger>(
+        &self,
+        last: u64,
+        level: usize,
+        at: u64,
+        border: Option<N>,
+        steps: &mut Steps<L>,
+    ) -> Option<N>
+        requires few { level < 63 }
+        requires covered { last < self.now.start + length self.now.items }
+        requires border { at < halves (level + 1) last →
+            border ≡ Some (node J.joined (leaf_of self.now) last level (halves level last)) }
+        ensures border { at < halves (level + 1) last →
+            result ≡ Some (node J.joined (leaf_of self.now) last (level + 1) (halves (level + 1) last)) }
+        ensures none { halves (level + 1) last ≤ at → result ≡ None }
+        ensures later { steps.old ≤ steps.new }
+        ensures cost { steps.new ≤ steps.old + 1 }
+        ensures free { halves (level + 1) last ≤ at → steps.new ≡ steps.old }
+    {
+        if at >= last >> (level + 1) {
+            return None;
+        }
+        match border {
+            Some(part) => Some(self.raise(last, level, part, steps)),
+            None => None,
         }
     }
 
@@ -250,17 +280,21 @@ impl<N: Copy, J: Joins<N>> Rows<N, J> {
         last: u64,
         level: usize,
         at: u64,
-        border: &N,
+        border: Option<N>,
         steps: &mut Steps<L>,
     ) -> Option<TreeLink<N>>
         requires few { level < 63 }
         requires covered { last < self.now.start + length self.now.items }
         requires within { at ≤ halves level last }
         requires border { at < halves level last →
-            border.now ≡ node J.joined (leaf_of self.now) last level (halves level last) }
+            border ≡ Some (node J.joined (leaf_of self.now) last level (halves level last)) }
+        requires none { halves level last ≤ at → border ≡ None }
         ensures link { maybe_link result ≡ link_up J.joined (leaf_of self.now) last level at }
         ensures cost { steps.new ≤ steps.old + 1 }
         ensures free { at % 2 ≡ 0 → at + 1 ≡ halves level last → steps.new ≡ steps.old }
+        ensures later { steps.old ≤ steps.new }
+        ensures left { at % 2 ≡ 1 → steps.new ≡ steps.old + 1 }
+        ensures read { at + 1 ≢ halves level last → steps.old + length (maybe_link result) ≤ steps.new }
     {
         let end = last >> level;
         if at % 2 == 1 {
@@ -273,13 +307,14 @@ impl<N: Copy, J: Joins<N>> Rows<N, J> {
                 side: Side::Left,
                 sibling: self.part(level, at + 1, steps),
             })
-        } else if at < end {
-            Some(TreeLink {
-                side: Side::Left,
-                sibling: *border,
-            })
         } else {
-            None
+            match border {
+                Some(sibling) => Some(TreeLink {
+                    side: Side::Left,
+                    sibling,
+                }),
+                None => None,
+            }
         }
     }
 }
