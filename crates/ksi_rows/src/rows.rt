@@ -36,7 +36,10 @@ impl<N: Copy, J: Joins<N>> Model for Rows<N, J> {
 }
 
 impl<N: Copy, J: Joins<N>> Rows<N, J> {
-    /// No leaf yet behind the first `start`, which are all `before`.
+    /// No leaf yet behind the first `start`, which are all `before`; `start` is at most 2^63.
+    ///
+    /// # Errors
+    /// `NoMemory`: no rows are made.
     pub fn new(alloc: Global, start: u64, before: N) -> Result<Self, NoMemory>
         requires { start ≤ 2 ^ 63 }
         ensures { IfOk result (λ rows. rows ≡ record { start = start; before = before; items = [] }) }
@@ -60,7 +63,7 @@ impl<N: Copy, J: Joins<N>> Rows<N, J> {
         count(&self.rows)
     }
 
-    /// A leaf.
+    /// A leaf; `at` is below the start and the count together.
     pub fn leaf(&self, at: u64) -> N
         requires { at < self.now.start + length self.now.items }
         ensures { result ≡ leaf_of self.now at }
@@ -77,7 +80,7 @@ impl<N: Copy, J: Joins<N>> Rows<N, J> {
         self.part(0, at, steps)
     }
 
-    /// The root of the tree over the leaves to `last`.
+    /// The root of the tree over the leaves to `last`, which is a leaf that stands.
     pub fn root(&self, last: u64) -> N
         requires { last < self.now.start + length self.now.items }
         ensures { result ≡ tree J.joined (leaf_of self.now) 0 (last + 1) }
@@ -85,7 +88,8 @@ impl<N: Copy, J: Joins<N>> Rows<N, J> {
         root_from::<N, J, Brand>(self, last, Blank::new(1))
     }
 
-    /// The part that sides from the top lead to in the tree over the leaves to `last`, none where they pass a leaf.
+    /// The part that sides from the top lead to in the tree over the leaves to `last`, which is a leaf that stands; none
+    /// where the sides pass a leaf.
     pub fn node(&self, last: u64, sides: &[Side]) -> Option<N>
         requires { last < self.now.start + length self.now.items }
         ensures { result ≡ node_at J.joined (leaf_of self.now) last sides.now }
@@ -93,7 +97,11 @@ impl<N: Copy, J: Joins<N>> Rows<N, J> {
         node_from::<N, J, Brand>(self, last, sides, Blank::new(1))
     }
 
-    /// The links from leaf `t` up to the root of the tree over the leaves to `last`.
+    /// The links from leaf `t` up to the root of the tree over the leaves to `last`, the lowest first; `t` is at most
+    /// `last`, which is a leaf that stands.
+    ///
+    /// # Errors
+    /// `NoMemory`: all is as it was.
     pub fn path(&self, alloc: Global, t: u64, last: u64) -> Result<Vec<TreeLink<N>>, NoMemory>
         requires within { t ≤ last }
         requires covered { last < self.now.start + length self.now.items }
@@ -137,7 +145,10 @@ impl<N: Copy, J: Joins<N>> Rows<N, J> {
         Ok(path)
     }
 
-    /// Adds a leaf behind all others. All growths come first.
+    /// Adds a leaf behind all others, of which there are fewer than 2^63 with those before the start.
+    ///
+    /// # Errors
+    /// `NoMemory`: all is as it was.
     pub fn append(&mut self, leaf: N) -> Result<(), NoMemory>
         requires { self.old.start + length self.old.items < 2 ^ 63 }
         ensures added { OnOk result (self.new ≡ record self.old { items = self.old.items ++ leaf ∷ [] }) }
@@ -153,6 +164,7 @@ impl<N: Copy, J: Joins<N>> Rows<N, J> {
     {
         let n = self.start + count(&self.rows);
         let top = completed(n);
+        // all growths come first, so that a refused one leaves all as it was
         grow(&mut self.rows, top)?;
         add(self.start, &self.zeros, &mut self.rows, n, top, leaf, steps);
         Ok(())

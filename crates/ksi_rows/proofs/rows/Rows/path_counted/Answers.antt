@@ -39,19 +39,19 @@ loop-level-preserved g c =
     let within : c.loop-level.at ≤ halves k c.args.last = omega (arith, halves_rise k c.args.t c.args.last c.requires.within, inv.at) in
     let before = c.loop-level.path.items in
     let one : length c.match-link_up.path.items ≤ length before + 1 = elim c.match-link_up.branch [
-        | in-Some+in_ok-push w ↦
-            (let is = ap (λ (v : Vec (TreeLink g.row.N.Denot) Global). length v.items) w.path-is in
-             let pushed = ap length w.in_ok-push.ensures.items in
-             omega (arith, is, pushed, length-append before (w.in-Some.link ∷ [])))
-        | in_default w ↦ (let is = ap (λ (v : Vec (TreeLink g.row.N.Denot) Global). length v.items) w.path-is in omega (arith, is))
-      ] in
+      | in-Some+in_ok-push w ↦
+          (let is = ap (λ (v : Vec (TreeLink g.row.N.Denot) Global). length v.items) w.path-is in
+          let pushed = ap length w.in_ok-push.ensures.items in
+          omega (arith, is, pushed, length-append before (w.in-Some.link ∷ [])))
+      | in_default w ↦ (let is = ap (λ (v : Vec (TreeLink g.row.N.Denot) Global). length v.items) w.path-is in omega (arith, is))
+    ] in
     let reads : c.loop-level.at + 1 ≢ halves k c.args.last → c.loop-level.steps + length c.match-link_up.path.items ≤ c.link_up.new.steps + length before = λ above. elim c.match-link_up.branch [
-        | in-Some+in_ok-push w ↦
-            (let is = ap (λ (v : Vec (TreeLink g.row.N.Denot) Global). length v.items) w.path-is in
-             let pushed = ap length w.in_ok-push.ensures.items in
-             omega (arith, is, pushed, length-append before (w.in-Some.link ∷ []), w.in-Some.ensures.read above))
-        | in_default w ↦ (let is = ap (λ (v : Vec (TreeLink g.row.N.Denot) Global). length v.items) w.path-is in omega (arith, is, w.in_default.ensures.read above))
-      ] in
+      | in-Some+in_ok-push w ↦
+          (let is = ap (λ (v : Vec (TreeLink g.row.N.Denot) Global). length v.items) w.path-is in
+          let pushed = ap length w.in_ok-push.ensures.items in
+          omega (arith, is, pushed, length-append before (w.in-Some.link ∷ []), w.in-Some.ensures.read above))
+      | in_default w ↦ (let is = ap (λ (v : Vec (TreeLink g.row.N.Denot) Global). length v.items) w.path-is in omega (arith, is, w.in_default.ensures.read above))
+    ] in
     record {
       at = ap (λ (i : ℕ). i / 2) inv.at ∙ ap (λ (i : ℕ). halves i c.args.t) (sym (add-one k));
       path = elim c.match-link_up.branch [
@@ -67,10 +67,10 @@ loop-level-preserved g c =
       cost = omega (arith, c.raise_behind-border.ensures.cost, c.link_up.ensures.cost, inv.cost);
       merged = λ meet. let free = c.raise_behind-border.ensures.free (omega (arith, meet)) in
           elim (lt_cases c.loop-level.at (halves k c.args.last)) [
-          | inl t ↦ (let pair = last_pair c.args.last k c.loop-level.at t.1 meet in
-              omega (arith, free, c.link_up.ensures.free pair.0 pair.1, inv.cost))
-          | inr f ↦ omega (arith, free, c.link_up.ensures.cost, inv.merged (omega (arith, within, f.1)))
-        ];
+            | inl t ↦ (let pair = last_pair c.args.last k c.loop-level.at t.1 meet in
+                omega (arith, free, c.link_up.ensures.free pair.0 pair.1, inv.cost))
+            | inr f ↦ omega (arith, free, c.link_up.ensures.cost, inv.merged (omega (arith, within, f.1)))
+          ];
       least = elim (lt_cases c.loop-level.at (halves k c.args.last)) [
         | inl t ↦ omega (arith, one, c.raise_behind-border.ensures.later, c.link_up.ensures.later, inv.read t.1)
         | inr f ↦ omega (arith, reads (omega (arith, f.1)), c.raise_behind-border.ensures.later, inv.least)
@@ -78,10 +78,10 @@ loop-level-preserved g c =
       read = λ lt.
           let was = inv.read (halved_below c.args.last k c.loop-level.at lt) in
           elim (lt_cases (c.loop-level.at % 2) 1) [
-          | inl even ↦ (let half : halves (k + 1) c.args.last ≡ halves k c.args.last / 2 = ap (λ (j : ℕ). halves j c.args.last) (add-one k) in
-              omega (arith, c.raise_behind-border.ensures.later, reads (omega (arith, lt, even.1, half)), was))
-          | inr odd ↦ omega (arith, one, c.raise_behind-border.ensures.later, c.link_up.ensures.left (omega (arith, odd.1)), was)
-        ];
+            | inl even ↦ (let half : halves (k + 1) c.args.last ≡ halves k c.args.last / 2 = ap (λ (j : ℕ). halves j c.args.last) (add-one k) in
+                omega (arith, c.raise_behind-border.ensures.later, reads (omega (arith, lt, even.1, half)), was))
+            | inr odd ↦ omega (arith, one, c.raise_behind-border.ensures.later, c.link_up.ensures.left (omega (arith, odd.1)), was)
+          ];
     }
 
 pub returns-clause-path : goal.returns-clause-path
