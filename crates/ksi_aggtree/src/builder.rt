@@ -113,7 +113,7 @@ impl<C: Compress> Builder<C> {
     ///
     /// # Errors
     /// `NoMemory`: all is as it was.
-    pub fn path(&self, alloc: Global, k: usize) -> Result<Links, NoMemory>
+    pub fn path(&self, k: usize) -> Result<Links, NoMemory>
         requires { k < length self.now }
         ensures links { IfOk result (λ links. links ≡ chain_of C.image self.now k) }
         ensures climbs { IfOk result (λ links.
@@ -121,19 +121,14 @@ impl<C: Compress> Builder<C> {
         ensures way { IfOk result (λ links. sides_from_top links ≡ way_of k (length self.now)) }
         ensures few { IfOk result (λ links. length links ≤ 16) }
     {
-        path_from::<C, Brand>(self, alloc, k, Blank::new(1))
+        path_from::<C, Brand>(self, k, Blank::new(1))
     }
 
     /// The same, with its steps, which are one for the item and one for each link at least, and at most 32.
     ///
     /// # Errors
     /// `NoMemory`: all is as it was, but for the steps that were taken.
-    pub fn path_counted<L: Ledger>(
-        &self,
-        alloc: Global,
-        k: usize,
-        steps: &mut Steps<L>,
-    ) -> Result<Links, NoMemory>
+    pub fn path_counted<L: Ledger>(&self, k: usize, steps: &mut Steps<L>) -> Result<Links, NoMemory>
         requires { k < length self.now }
         ensures links { IfOk result (λ links. links ≡ chain_of C.image self.now k) }
         ensures climbs { IfOk result (λ links.
@@ -145,9 +140,9 @@ impl<C: Compress> Builder<C> {
     {
         one_chain();
         let last = self.rows.count() - 1;
-        let others = self.rows.path_counted(alloc, k as u64, last, steps)?;
+        let others = self.rows.path_counted(k as u64, last, steps)?;
         let item = self.rows.leaf_counted(k as u64, steps);
-        Links::beside(alloc, item.level, &others)
+        Links::beside(self.rows.alloc(), item.level, &others)
     }
 
     /// Adds an item of a level to 239 behind the others, and says which it is, the first one being item 0.
@@ -172,7 +167,6 @@ impl<C: Compress> Builder<C> {
 
 fn path_from<C: Compress, L: Ledger>(
     round: &Builder<C>,
-    alloc: Global,
     k: usize,
     blank: Blank,
 ) -> Result<Links, NoMemory>
@@ -187,5 +181,5 @@ fn path_from<C: Compress, L: Ledger>(
     ensures few { IfOk result (λ links. length links ≤ 16) }
 {
     let mut steps = Steps::<L>::open(blank);
-    round.path_counted(alloc, k, &mut steps)
+    round.path_counted(k, &mut steps)
 }

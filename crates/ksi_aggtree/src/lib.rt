@@ -13,7 +13,7 @@
 //! let mut round = Builder::<Sha>::new(alloc)?;
 //! let first = round.add(Item { imprint, level: 0 })?;
 //! round.add(other)?;
-//! let links = round.path(alloc, first)?;
+//! let links = round.path(first)?;
 //! assert_eq!(climb::<Sha>(imprint, 0, links.as_slice()).ok(), round.root());
 //! ```
 #![tactic(auto)]

@@ -81,7 +81,7 @@ impl<C: Compress> Calendar<C> {
     ///
     /// # Errors
     /// `NoMemory`: all is as it was.
-    pub fn chain_to(&self, alloc: Global, t: u64, p: u64) -> Result<CalLinks, NoMemory>
+    pub fn chain_to(&self, t: u64, p: u64) -> Result<CalLinks, NoMemory>
         requires within { t ≤ p }
         requires covered { p < self.now.start + length self.now.roots }
         ensures links { IfOk result (λ links. links ≡ calendar_path C.image self.now t p) }
@@ -89,7 +89,7 @@ impl<C: Compress> Calendar<C> {
             ClimbsCal C.image (calendar_leaf self.now t) links (calendar_root C.image self.now p)) }
         ensures way { IfOk result (λ links. sides_from_top links ≡ way_of t (p + 1)) }
     {
-        chain_from::<C, Brand>(self, alloc, t, p, Blank::new(1))
+        chain_from::<C, Brand>(self, t, p, Blank::new(1))
     }
 
     /// The same, with its steps, which are one for each link at least, and at most 126.
@@ -98,7 +98,6 @@ impl<C: Compress> Calendar<C> {
     /// `NoMemory`: all is as it was, but for the steps that were taken.
     pub fn chain_to_counted<L: Ledger>(
         &self,
-        alloc: Global,
         t: u64,
         p: u64,
         steps: &mut Steps<L>,
@@ -113,7 +112,7 @@ impl<C: Compress> Calendar<C> {
         ensures least { IfOk result (λ links. steps.old + length links ≤ steps.new) }
     {
         one_chain();
-        Ok(CalLinks::from_vec(self.rows.path_counted(alloc, t, p, steps)?))
+        Ok(CalLinks::from_vec(self.rows.path_counted(t, p, steps)?))
     }
 
     /// Adds the root of the next second, which is below 2^63.
@@ -139,7 +138,6 @@ impl<C: Compress> Calendar<C> {
 
 fn chain_from<C: Compress, L: Ledger>(
     calendar: &Calendar<C>,
-    alloc: Global,
     t: u64,
     p: u64,
     blank: Blank,
@@ -155,5 +153,5 @@ fn chain_from<C: Compress, L: Ledger>(
     ensures way { IfOk result (λ links. sides_from_top links ≡ way_of t (p + 1)) }
 {
     let mut steps = Steps::<L>::open(blank);
-    calendar.chain_to_counted(alloc, t, p, &mut steps)
+    calendar.chain_to_counted(t, p, &mut steps)
 }

@@ -13,7 +13,7 @@
 //! rows.append(5)?;
 //! rows.append(7)?;
 //! assert_eq!(rows.root(3), 12);
-//! assert_eq!(rows.path(alloc, 2, 3)?[0].sibling, 7);
+//! assert_eq!(rows.path(2, 3)?[0].sibling, 7);
 //! ```
 #![tactic(auto)]
 

@@ -19,6 +19,7 @@ use std::sync::ledger::{Blank, Ledger};
 /// how many leaves stand before the start, what each of them is, and the leaves that came.
 #[derive(Drop)]
 pub struct Rows<N: Copy, J: Joins<N>> {
+    alloc: Global,
     start: u64,
     zeros: Zeros<N, J>,
     rows: Vec<Row<N>>,
@@ -46,7 +47,17 @@ impl<N: Copy, J: Joins<N>> Rows<N, J> {
     {
         let zeros = Zeros::new(alloc, before)?;
         let rows = empty_rows(alloc)?;
-        Ok(Rows { start, zeros, rows })
+        Ok(Rows {
+            alloc,
+            start,
+            zeros,
+            rows,
+        })
+    }
+
+    /// What the memory is taken from.
+    pub fn alloc(&self) -> Global {
+        self.alloc
     }
 
     /// How many leaves stand before the first that came.
@@ -102,19 +113,18 @@ impl<N: Copy, J: Joins<N>> Rows<N, J> {
     ///
     /// # Errors
     /// `NoMemory`: all is as it was.
-    pub fn path(&self, alloc: Global, t: u64, last: u64) -> Result<Vec<TreeLink<N>>, NoMemory>
+    pub fn path(&self, t: u64, last: u64) -> Result<Vec<TreeLink<N>>, NoMemory>
         requires within { t ≤ last }
         requires covered { last < self.now.start + length self.now.items }
         ensures { IfOk result (λ path. path.items ≡ path_of J.joined (leaf_of self.now) 0 t (last + 1)) }
     {
-        path_from::<N, J, Brand>(self, alloc, t, last, Blank::new(1))
+        path_from::<N, J, Brand>(self, t, last, Blank::new(1))
     }
 
     /// The same, with its steps: one for each link at least, and fewer than two for each level that the tree has, which
     /// are at most 63.
     pub fn path_counted<L: Ledger>(
         &self,
-        alloc: Global,
         t: u64,
         last: u64,
         steps: &mut Steps<L>,
@@ -126,7 +136,7 @@ impl<N: Copy, J: Joins<N>> Rows<N, J> {
         ensures most { steps.new ≤ steps.old + 126 }
         ensures least { IfOk result (λ path. steps.old + length path.items ≤ steps.new) }
     {
-        let _ = &self.start;
+        let alloc = self.alloc;
         let levels = levels(last);
         let mut path = Vec::with_capacity(alloc, levels)?;
         // the part that the last leaf is in, read where it may become a sibling
@@ -371,7 +381,6 @@ fn node_from<N: Copy, J: Joins<N>, L: Ledger>(
 
 fn path_from<N: Copy, J: Joins<N>, L: Ledger>(
     rows: &Rows<N, J>,
-    alloc: Global,
     t: u64,
     last: u64,
     blank: Blank,
@@ -384,7 +393,7 @@ fn path_from<N: Copy, J: Joins<N>, L: Ledger>(
     ensures { IfOk result (λ path. path.items ≡ path_of J.joined (leaf_of rows.now) 0 t (last + 1)) }
 {
     let mut steps = Steps::<L>::open(blank);
-    rows.path_counted(alloc, t, last, &mut steps)
+    rows.path_counted(t, last, &mut steps)
 }
 
 fn append_from<N: Copy, J: Joins<N>, L: Ledger>(
