@@ -21,6 +21,7 @@ use std::sync::ledger::{Blank, Ledger};
 pub enum AddRefusal {
     /// The round has 65,536 items.
     Full,
+    /// There is no memory for it.
     NoMemory,
 }
 
@@ -54,6 +55,9 @@ impl<C: Compress> Model for Builder<C> {
 
 impl<C: Compress> Builder<C> {
     /// A round without items.
+    ///
+    /// # Errors
+    /// `NoMemory`: no round is made.
     pub fn new(alloc: Global) -> Result<Self, NoMemory>
         ensures { IfOk result (λ round. round ≡ []) }
     {
@@ -65,13 +69,14 @@ impl<C: Compress> Builder<C> {
         Ok(Builder { rows })
     }
 
+    /// How many items the round has.
     pub fn count(&self) -> usize
         ensures { result ≡ length self.now }
     {
         self.rows.count() as usize
     }
 
-    /// An item.
+    /// Item `k`, which is below the count.
     pub fn item(&self, k: usize) -> Item
         requires { k < length self.now }
         ensures { result ≡ item_at self.now k }
@@ -103,8 +108,12 @@ impl<C: Compress> Builder<C> {
         }
     }
 
-    /// The links from item `k` up to the root, with the corrections that meet the tree's levels.
-    pub fn path(&self, alloc: Global, k: usize) -> Result<Links, NoMemory>
+    /// The links from item `k`, which is below the count, up to the root, the lowest first, with the corrections that
+    /// meet the tree's levels.
+    ///
+    /// # Errors
+    /// `NoMemory`: all is as it was.
+    pub fn path(&self, k: usize) -> Result<Links, NoMemory>
         requires { k < length self.now }
         ensures links { IfOk result (λ links. links ≡ chain_of C.image self.now k) }
         ensures climbs { IfOk result (λ links.
@@ -112,16 +121,14 @@ impl<C: Compress> Builder<C> {
         ensures way { IfOk result (λ links. sides_from_top links ≡ way_of k (length self.now)) }
         ensures few { IfOk result (λ links. length links ≤ 16) }
     {
-        path_from::<C, Brand>(self, alloc, k, Blank::new(1))
+        path_from::<C, Brand>(self, k, Blank::new(1))
     }
 
-    /// The same, with its steps, which are at most 32.
-    pub fn path_counted<L: Ledger>(
-        &self,
-        alloc: Global,
-        k: usize,
-        steps: &mut Steps<L>,
-    ) -> Result<Links, NoMemory>
+    /// The same, with its steps, which are one for the item and one for each link at least, and at most 32.
+    ///
+    /// # Errors
+    /// `NoMemory`: all is as it was, but for the steps that were taken.
+    pub fn path_counted<L: Ledger>(&self, k: usize, steps: &mut Steps<L>) -> Result<Links, NoMemory>
         requires { k < length self.now }
         ensures links { IfOk result (λ links. links ≡ chain_of C.image self.now k) }
         ensures climbs { IfOk result (λ links.
@@ -129,18 +136,19 @@ impl<C: Compress> Builder<C> {
         ensures way { IfOk result (λ links. sides_from_top links ≡ way_of k (length self.now)) }
         ensures few { IfOk result (λ links. length links ≤ 16) }
         ensures most { steps.new ≤ steps.old + 32 }
+        ensures least { IfOk result (λ links. steps.old + length links < steps.new) }
     {
         one_chain();
         let last = self.rows.count() - 1;
-        let others = self.rows.path_counted(alloc, k as u64, last, steps)?;
+        let others = self.rows.path_counted(k as u64, last, steps)?;
         let item = self.rows.leaf_counted(k as u64, steps);
-        Links::beside(alloc, item.level, &others)
+        Links::beside(self.rows.alloc(), item.level, &others)
     }
 
-    /// Adds an item behind the others, and says which it is, the first one being item 0.
+    /// Adds an item of a level to 239 behind the others, and says which it is, the first one being item 0.
     ///
     /// # Errors
-    /// `Full` exactly where there are 65,536 items.
+    /// `Full` exactly where there are 65,536 items, or `NoMemory`: all is as it was.
     pub fn add(&mut self, item: Item) -> Result<usize, AddRefusal>
         requires { item.level ≤ 239 }
         ensures place { IfOk result (λ k. k ≡ length self.old) }
@@ -159,7 +167,6 @@ impl<C: Compress> Builder<C> {
 
 fn path_from<C: Compress, L: Ledger>(
     round: &Builder<C>,
-    alloc: Global,
     k: usize,
     blank: Blank,
 ) -> Result<Links, NoMemory>
@@ -174,5 +181,5 @@ fn path_from<C: Compress, L: Ledger>(
     ensures few { IfOk result (λ links. length links ≤ 16) }
 {
     let mut steps = Steps::<L>::open(blank);
-    round.path_counted(alloc, k, &mut steps)
+    round.path_counted(k, &mut steps)
 }

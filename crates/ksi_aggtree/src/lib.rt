@@ -6,14 +6,14 @@
 //!
 //! The layer above may rely on this: `root` is the tree of the items; the links of `path` climb from an item to it along
 //! the item's way; `node` is the tree of the part that sides lead to. Only `new`, `add` and the paths take memory, and
-//! after a refused `add` all is as it was. A path takes at most 32 steps, each the read of one stored node. What holds
-//! of the definitions is in `laws`.
+//! after a refused `add` all is as it was. A path takes at most 32 steps, each the read of one stored node, and one step
+//! at least for the item and for each link. What holds of the definitions is in `laws`.
 //!
 //! ```text
 //! let mut round = Builder::<Sha>::new(alloc)?;
 //! let first = round.add(Item { imprint, level: 0 })?;
 //! round.add(other)?;
-//! let links = round.path(alloc, first)?;
+//! let links = round.path(first)?;
 //! assert_eq!(climb::<Sha>(imprint, 0, links.as_slice()).ok(), round.root());
 //! ```
 #![tactic(auto)]
@@ -26,4 +26,5 @@ mod links;
 mod tests;
 
 pub use builder::{AddRefusal, Builder};
+pub use ksi_rows::Steps;
 pub use links::Links;

@@ -30,6 +30,7 @@ impl Links {
         Links { vec }
     }
 
+    /// The links, which are not copied.
     pub fn as_slice(&self) -> &[Link]
         ensures { result.now ≡ self.now }
     {

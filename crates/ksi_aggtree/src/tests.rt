@@ -11,19 +11,14 @@ use std::marker::Brand;
 use std::sync::ledger::{Blank, Ledger};
 use std::test::Fail;
 
-fn counted<L: Ledger>(
-    round: &Builder<Sha>,
-    alloc: Global,
-    k: usize,
-    blank: Blank,
-) -> Result<Links, NoMemory>
+fn counted<L: Ledger>(round: &Builder<Sha>, k: usize, blank: Blank) -> Result<Links, NoMemory>
     requires name { blank.name ≡ L.name }
     requires parts { blank.parts ≡ L.parts }
     requires one { blank.parts ≡ 1 }
     requires there { k < length round.now }
 {
     let mut steps = Steps::<L>::open(blank);
-    round.path_counted(alloc, k, &mut steps)
+    round.path_counted(k, &mut steps)
 }
 
 fn item(level: u8, bytes: &[u8]) -> Item
@@ -114,45 +109,43 @@ fn trees_and_paths_by_plain_recursion(rt: HostRuntime) -> Result<(), Fail> {
         for k in 0..n {
             let mut links = Vec::new(rt.alloc());
             plain_path(&items, 0, k, n, &mut links)?;
-            let path = round.path(rt.alloc(), k as usize)?;
+            let path = round.path(k as usize)?;
             assert!(rt; are_links(&path, &links), "{k} of {n}");
         }
     }
     Ok(())
 }
 
-/// The round of three items, of levels 0, 0 and 3.
-fn three(alloc: Global) -> Result<Builder<Sha>, AddRefusal>
+/// The round of three items, of levels 0, 0 and 3, whose imprints are of these bytes.
+fn three(alloc: Global, bytes: [&[u8]; 3]) -> Result<Builder<Sha>, AddRefusal>
     ensures { IfOk result (λ round. length round ≡ 3) }
 {
     let mut round = Builder::new(alloc)?;
-    round.add(item(0, b"a"))?;
-    round.add(item(0, b"b"))?;
-    round.add(item(3, b"c"))?;
+    round.add(item(0, bytes[0]))?;
+    round.add(item(0, bytes[1]))?;
+    round.add(item(3, bytes[2]))?;
     Ok(round)
 }
 
-/// The tree of the first two, by hand.
-fn inner() -> Item {
+/// The join of two items' imprints at a level, by hand.
+fn joined(left: Imprint, right: Imprint, level: u8) -> Item {
     Item {
-        imprint: Sha::join(Sha::of(b"a").bytes(), Sha::of(b"b").bytes(), 1),
-        level: 1,
+        imprint: Sha::join(left.bytes(), right.bytes(), level),
+        level,
     }
 }
 
 #[test]
 fn the_tree_of_three_items(rt: HostRuntime) {
-    let made = three(rt.alloc());
+    let made = three(rt.alloc(), [b"a", b"b", b"c"]);
     assert!(rt; made.is_ok());
     if let Ok(round) = made {
-        let root = Item {
-            imprint: Sha::join(inner().imprint.bytes(), Sha::of(b"c").bytes(), 4),
-            level: 4,
-        };
+        let inner = joined(Sha::of(b"a"), Sha::of(b"b"), 1);
+        let root = joined(inner.imprint, Sha::of(b"c"), 4);
         assert_eq!(rt; round.count(), 3);
         assert_eq!(rt; round.item(2), item(3, b"c"));
         assert_eq!(rt; round.root(), Some(root));
-        assert_eq!(rt; round.node(&[Left]), Some(inner()));
+        assert_eq!(rt; round.node(&[Left]), Some(inner));
         assert_eq!(rt; round.node(&[Left, Right]), Some(item(0, b"b")));
         assert_eq!(rt; round.node(&[Right, Left]), None);
     }
@@ -160,21 +153,25 @@ fn the_tree_of_three_items(rt: HostRuntime) {
 
 #[test]
 fn the_links_of_three_items(rt: HostRuntime) -> Result<(), Fail> {
-    let made = three(rt.alloc());
+    let made = three(rt.alloc(), [b"", b"abc", b""]);
     assert!(rt; made.is_ok());
     if let Ok(round) = made {
-        let (a, b, c) = (Sha::of(b"a"), Sha::of(b"b"), Sha::of(b"c"));
+        let (a, b) = (Sha::of(b""), Sha::of(b"abc"));
+        let inner = joined(a, b, 1);
+        let root = joined(inner.imprint, a, 4);
         let rows: [(usize, &[(Side, u8, Imprint)], u64); 3] = [
-            (0, &[(Left, 0, b), (Left, 2, c)], 7),
-            (1, &[(Right, 0, a), (Left, 2, c)], 6),
-            (2, &[(Right, 0, inner().imprint)], 2),
+            (0, &[(Left, 0, b), (Left, 2, a)], 7),
+            (1, &[(Right, 0, a), (Left, 2, a)], 6),
+            (2, &[(Right, 0, inner.imprint)], 2),
         ];
+        assert_eq!(rt; round.node(&[Left]), Some(inner));
+        assert_eq!(rt; round.root(), Some(root));
         for (k, links, bits) in rows {
             assert!(rt; k < 3);
-            let path = round.path(rt.alloc(), k)?;
+            let path = round.path(k)?;
             assert!(rt; are_links(&path, links), "of {k}");
             assert_eq!(rt; shape(path.as_slice()), bits);
-            let same = counted::<Brand>(&round, rt.alloc(), k, Blank::new(1))?;
+            let same = counted::<Brand>(&round, k, Blank::new(1))?;
             assert!(rt; are_links(&same, links), "of {k}, counted");
         }
     }

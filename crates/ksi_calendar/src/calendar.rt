@@ -14,8 +14,8 @@ use std::alloc::Global;
 use std::marker::{Brand, Model};
 use std::sync::ledger::{Blank, Ledger};
 
-/// The calendar of the seconds from 0: before the start all have the zero imprint, and from there on those that were
-/// appended have a root. A contract sees the start and these roots.
+/// The calendar of the seconds of Unix time from 0: before the start all have the zero imprint, and from there on those
+/// that were appended have a root. A contract sees the start and these roots.
 #[derive(Drop)]
 pub struct Calendar<C: Compress> {
     rows: Rows<Imprint, CalendarJoin<C>>,
@@ -34,7 +34,10 @@ impl<C: Compress> Model for Calendar<C> {
 }
 
 impl<C: Compress> Calendar<C> {
-    /// The calendar whose seconds from the start on have no root yet.
+    /// The calendar whose seconds from the start on have no root yet; the start is at most 2^63.
+    ///
+    /// # Errors
+    /// `NoMemory`: no calendar is made.
     pub fn new(alloc: Global, start: u64) -> Result<Self, NoMemory>
         requires { start ≤ 2 ^ 63 }
         ensures { IfOk result (λ calendar. calendar ≡ record { start = start; roots = [] }) }
@@ -74,8 +77,11 @@ impl<C: Compress> Calendar<C> {
     }
 
     /// The links from the leaf of second `t`, which may lie before the start, up to the root of the seconds from 0 to
-    /// `p`.
-    pub fn chain_to(&self, alloc: Global, t: u64, p: u64) -> Result<CalLinks, NoMemory>
+    /// `p`, the lowest first; `t` is at most `p`, and `p` is before the start or has a root.
+    ///
+    /// # Errors
+    /// `NoMemory`: all is as it was.
+    pub fn chain_to(&self, t: u64, p: u64) -> Result<CalLinks, NoMemory>
         requires within { t ≤ p }
         requires covered { p < self.now.start + length self.now.roots }
         ensures links { IfOk result (λ links. links ≡ calendar_path C.image self.now t p) }
@@ -83,13 +89,15 @@ impl<C: Compress> Calendar<C> {
             ClimbsCal C.image (calendar_leaf self.now t) links (calendar_root C.image self.now p)) }
         ensures way { IfOk result (λ links. sides_from_top links ≡ way_of t (p + 1)) }
     {
-        chain_from::<C, Brand>(self, alloc, t, p, Blank::new(1))
+        chain_from::<C, Brand>(self, t, p, Blank::new(1))
     }
 
-    /// The same, with its steps, which are at most 126.
+    /// The same, with its steps, which are one for each link at least, and at most 126.
+    ///
+    /// # Errors
+    /// `NoMemory`: all is as it was, but for the steps that were taken.
     pub fn chain_to_counted<L: Ledger>(
         &self,
-        alloc: Global,
         t: u64,
         p: u64,
         steps: &mut Steps<L>,
@@ -101,12 +109,16 @@ impl<C: Compress> Calendar<C> {
             ClimbsCal C.image (calendar_leaf self.now t) links (calendar_root C.image self.now p)) }
         ensures way { IfOk result (λ links. sides_from_top links ≡ way_of t (p + 1)) }
         ensures most { steps.new ≤ steps.old + 126 }
+        ensures least { IfOk result (λ links. steps.old + length links ≤ steps.new) }
     {
         one_chain();
-        Ok(CalLinks::from_vec(self.rows.path_counted(alloc, t, p, steps)?))
+        Ok(CalLinks::from_vec(self.rows.path_counted(t, p, steps)?))
     }
 
-    /// Adds the root of the next second.
+    /// Adds the root of the next second, which is below 2^63.
+    ///
+    /// # Errors
+    /// `NoMemory`: all is as it was.
     pub fn append(&mut self, root: Imprint) -> Result<(), NoMemory>
         requires { self.old.start + length self.old.roots < 2 ^ 63 }
         ensures added { OnOk result (self.new ≡ record self.old { roots = self.old.roots ++ root ∷ [] }) }
@@ -126,7 +138,6 @@ impl<C: Compress> Calendar<C> {
 
 fn chain_from<C: Compress, L: Ledger>(
     calendar: &Calendar<C>,
-    alloc: Global,
     t: u64,
     p: u64,
     blank: Blank,
@@ -142,5 +153,5 @@ fn chain_from<C: Compress, L: Ledger>(
     ensures way { IfOk result (λ links. sides_from_top links ≡ way_of t (p + 1)) }
 {
     let mut steps = Steps::<L>::open(blank);
-    calendar.chain_to_counted(alloc, t, p, &mut steps)
+    calendar.chain_to_counted(t, p, &mut steps)
 }

@@ -1,4 +1,4 @@
-//! The hash calendar: a tree with one leaf for each second from 0, its roots and its chains.
+//! The hash calendar: a tree with one leaf for each second of Unix time from 0, its roots and its chains.
 //!
 //! The leaf of a second before the start is the zero imprint, and that of a second from there on is the root that was
 //! appended for it. The tree over the seconds from 0 to `p` is cut as `ksi_split` says, and its joins have the level
@@ -7,12 +7,12 @@
 //! The layer above may rely on this: `root_at` is the root of that tree; the links of `chain_to` climb from a second's
 //! leaf to it along the second's way; `node` is the tree of the part that sides lead to. Only `new`, `append` and the
 //! chains take memory, and after a refused `append` all is as it was. A chain takes at most 126 steps, each the read of
-//! one stored node. What holds of the definitions is in `laws`.
+//! one stored node, and one step at least for each link. What holds of the definitions is in `laws`.
 //!
 //! ```text
 //! let mut calendar = Calendar::<Sha>::new(alloc, 2)?;
 //! calendar.append(root)?;
-//! let links = calendar.chain_to(alloc, 2, 2)?;
+//! let links = calendar.chain_to(2, 2)?;
 //! assert_eq!(calendar.root_at(2), Some(climb_cal::<Sha>(root, links.as_slice())));
 //! assert_eq!(calendar.root_at(1), None);
 //! ```
@@ -26,4 +26,5 @@ mod links;
 mod tests;
 
 pub use calendar::Calendar;
+pub use ksi_rows::Steps;
 pub use links::CalLinks;

@@ -26,6 +26,7 @@ impl CalLinks {
         CalLinks { vec }
     }
 
+    /// The links, which are not copied.
     pub fn as_slice(&self) -> &[CalLink]
         ensures { result.now ≡ self.now }
     {

@@ -38,7 +38,6 @@ fn calendar_of(alloc: Global, start: u64, roots: &[Imprint]) -> Result<Calendar<
 
 fn counted<L: Ledger>(
     calendar: &Calendar<Tiny>,
-    alloc: Global,
     t: u64,
     p: u64,
     blank: Blank,
@@ -50,7 +49,7 @@ fn counted<L: Ledger>(
     requires covered { p < calendar.now.start + length calendar.now.roots }
 {
     let mut steps = Steps::<L>::open(blank);
-    calendar.chain_to_counted(alloc, t, p, &mut steps)
+    calendar.chain_to_counted(t, p, &mut steps)
 }
 
 /// The tree over `n` of the roots from `lo`, by plain recursion.
@@ -125,12 +124,12 @@ fn three_seconds_from_zero(rt: HostRuntime) -> Result<(), Fail> {
     }
     let chain = [link(Right, 0x0a), link(Left, 0x1e)];
     assert_eq!(rt;
-        calendar.chain_to(rt.alloc(), 1, 2)?.as_slice(),
+        calendar.chain_to(1, 2)?.as_slice(),
         chain.as_slice()
     );
-    let same = counted::<Brand>(&calendar, rt.alloc(), 1, 2, Blank::new(1))?;
+    let same = counted::<Brand>(&calendar, 1, 2, Blank::new(1))?;
     assert_eq!(rt; same.as_slice(), chain.as_slice());
-    let last = calendar.chain_to(rt.alloc(), 2, 2)?;
+    let last = calendar.chain_to(2, 2)?;
     assert_eq!(rt; last.as_slice(), [link(Right, 0x1f)].as_slice());
     Ok(())
 }
@@ -138,18 +137,18 @@ fn three_seconds_from_zero(rt: HostRuntime) -> Result<(), Fail> {
 #[test]
 fn zeros_stand_before_the_start(rt: HostRuntime) -> Result<(), Fail> {
     let calendar = calendar_of(rt.alloc(), 2, &[named(0x0a)])?;
-    let chain = calendar.chain_to(rt.alloc(), 2, 2)?;
+    let chain = calendar.chain_to(2, 2)?;
     assert_eq!(rt; chain.as_slice(), [link(Right, 0x01)].as_slice());
     assert_eq!(rt; calendar.root_at(2), Some(named(0x0c)));
     assert_eq!(rt; calendar.root_at(1), None);
-    let before = calendar.chain_to(rt.alloc(), 0, 2)?;
+    let before = calendar.chain_to(0, 2)?;
     assert_eq!(rt;
         before.as_slice(),
         [link(Left, 0), link(Left, 0x0a)].as_slice()
     );
 
     let late = calendar_of(rt.alloc(), 1_700_000_000, &[named(0x0a)])?;
-    let chain = late.chain_to(rt.alloc(), 1_700_000_000, 1_700_000_000)?;
+    let chain = late.chain_to(1_700_000_000, 1_700_000_000)?;
     assert_eq!(rt; chain.as_slice().len(), 13);
     for (place, link) in chain.as_slice().iter().enumerate() {
         assert_eq!(rt; link.side, Right);
@@ -171,7 +170,7 @@ fn trees_and_chains_by_plain_recursion(rt: HostRuntime) -> Result<(), Fail> {
         for t in 0..p + 1 {
             let mut links = Vec::new(rt.alloc());
             plain_chain(&roots, 0, t, p + 1, &mut links)?;
-            let chain = calendar.chain_to(rt.alloc(), t, p)?;
+            let chain = calendar.chain_to(t, p)?;
             assert_eq!(rt; chain.as_slice(), links.as_slice());
         }
     }

@@ -1,4 +1,4 @@
-ghost use Rattle.std.specs.Prelude.{◌≡◌, ◌++◌, ◌∷◌, [], ℕ, ◌%◌, ◌<◌, ◌≤◌, ◌+◌, ◌-◌, ◌*◌, ◌^◌, length, OnOk, OnErr, IfOk};
+ghost use Rattle.std.specs.Prelude.{◌≡◌, ◌≢◌, ◌++◌, ◌∷◌, [], ℕ, ◌%◌, ◌<◌, ◌≤◌, ◌+◌, ◌-◌, ◌*◌, ◌^◌, length, OnOk, OnErr, IfOk};
 ghost use Rattle.ksi_split.specs.Upward.{halves, whole, node, link_up, links_up};
 ghost use Rattle.ksi_split.specs.Trees.{tree, path_of, node_at};
 ghost use Rattle.ksi_rows.specs.Leaves.{leaf_of};
@@ -19,6 +19,7 @@ use std::sync::ledger::{Blank, Ledger};
 /// how many leaves stand before the start, what each of them is, and the leaves that came.
 #[derive(Drop)]
 pub struct Rows<N: Copy, J: Joins<N>> {
+    alloc: Global,
     start: u64,
     zeros: Zeros<N, J>,
     rows: Vec<Row<N>>,
@@ -36,14 +37,27 @@ impl<N: Copy, J: Joins<N>> Model for Rows<N, J> {
 }
 
 impl<N: Copy, J: Joins<N>> Rows<N, J> {
-    /// No leaf yet behind the first `start`, which are all `before`.
+    /// No leaf yet behind the first `start`, which are all `before`; `start` is at most 2^63.
+    ///
+    /// # Errors
+    /// `NoMemory`: no rows are made.
     pub fn new(alloc: Global, start: u64, before: N) -> Result<Self, NoMemory>
         requires { start ≤ 2 ^ 63 }
         ensures { IfOk result (λ rows. rows ≡ record { start = start; before = before; items = [] }) }
     {
         let zeros = Zeros::new(alloc, before)?;
         let rows = empty_rows(alloc)?;
-        Ok(Rows { start, zeros, rows })
+        Ok(Rows {
+            alloc,
+            start,
+            zeros,
+            rows,
+        })
+    }
+
+    /// What the memory is taken from.
+    pub fn alloc(&self) -> Global {
+        self.alloc
     }
 
     /// How many leaves stand before the first that came.
@@ -60,7 +74,7 @@ impl<N: Copy, J: Joins<N>> Rows<N, J> {
         count(&self.rows)
     }
 
-    /// A leaf.
+    /// A leaf; `at` is below the start and the count together.
     pub fn leaf(&self, at: u64) -> N
         requires { at < self.now.start + length self.now.items }
         ensures { result ≡ leaf_of self.now at }
@@ -77,7 +91,7 @@ impl<N: Copy, J: Joins<N>> Rows<N, J> {
         self.part(0, at, steps)
     }
 
-    /// The root of the tree over the leaves to `last`.
+    /// The root of the tree over the leaves to `last`, which is a leaf that stands.
     pub fn root(&self, last: u64) -> N
         requires { last < self.now.start + length self.now.items }
         ensures { result ≡ tree J.joined (leaf_of self.now) 0 (last + 1) }
@@ -85,7 +99,8 @@ impl<N: Copy, J: Joins<N>> Rows<N, J> {
         root_from::<N, J, Brand>(self, last, Blank::new(1))
     }
 
-    /// The part that sides from the top lead to in the tree over the leaves to `last`, none where they pass a leaf.
+    /// The part that sides from the top lead to in the tree over the leaves to `last`, which is a leaf that stands; none
+    /// where the sides pass a leaf.
     pub fn node(&self, last: u64, sides: &[Side]) -> Option<N>
         requires { last < self.now.start + length self.now.items }
         ensures { result ≡ node_at J.joined (leaf_of self.now) last sides.now }
@@ -93,19 +108,23 @@ impl<N: Copy, J: Joins<N>> Rows<N, J> {
         node_from::<N, J, Brand>(self, last, sides, Blank::new(1))
     }
 
-    /// The links from leaf `t` up to the root of the tree over the leaves to `last`.
-    pub fn path(&self, alloc: Global, t: u64, last: u64) -> Result<Vec<TreeLink<N>>, NoMemory>
+    /// The links from leaf `t` up to the root of the tree over the leaves to `last`, the lowest first; `t` is at most
+    /// `last`, which is a leaf that stands.
+    ///
+    /// # Errors
+    /// `NoMemory`: all is as it was.
+    pub fn path(&self, t: u64, last: u64) -> Result<Vec<TreeLink<N>>, NoMemory>
         requires within { t ≤ last }
         requires covered { last < self.now.start + length self.now.items }
         ensures { IfOk result (λ path. path.items ≡ path_of J.joined (leaf_of self.now) 0 t (last + 1)) }
     {
-        path_from::<N, J, Brand>(self, alloc, t, last, Blank::new(1))
+        path_from::<N, J, Brand>(self, t, last, Blank::new(1))
     }
 
-    /// The same, with its steps: fewer than two for each level that the tree has, which are at most 63.
+    /// The same, with its steps: one for each link at least, and fewer than two for each level that the tree has, which
+    /// are at most 63.
     pub fn path_counted<L: Ledger>(
         &self,
-        alloc: Global,
         t: u64,
         last: u64,
         steps: &mut Steps<L>,
@@ -115,29 +134,31 @@ impl<N: Copy, J: Joins<N>> Rows<N, J> {
         ensures path { IfOk result (λ path. path.items ≡ path_of J.joined (leaf_of self.now) 0 t (last + 1)) }
         ensures cost { (k : ℕ) → last < 2 ^ k → steps.new ≤ steps.old + (2 * k - 1) }
         ensures most { steps.new ≤ steps.old + 126 }
+        ensures least { IfOk result (λ path. steps.old + length path.items ≤ steps.new) }
     {
-        let _ = &self.start;
+        let alloc = self.alloc;
         let levels = levels(last);
         let mut path = Vec::with_capacity(alloc, levels)?;
         // the part that the last leaf is in, read where it may become a sibling
-        let mut border = self.zeros.leaf();
+        let mut border = None;
         if t < last {
-            border = self.part(0, last, steps);
+            border = Some(self.part(0, last, steps));
         }
         let mut at = t;
         for level in 0..levels {
-            if let Some(link) = self.link_up(last, level, at, &border, steps) {
+            if let Some(link) = self.link_up(last, level, at, border, steps) {
                 path.push(link)?;
             }
             at /= 2;
-            if at < last >> (level + 1) {
-                border = self.raise(last, level, border, steps);
-            }
+            border = self.raise_behind(last, level, at, border, steps);
         }
         Ok(path)
     }
 
-    /// Adds a leaf behind all others. All growths come first.
+    /// Adds a leaf behind all others, of which there are fewer than 2^63 with those before the start.
+    ///
+    /// # Errors
+    /// `NoMemory`: all is as it was.
     pub fn append(&mut self, leaf: N) -> Result<(), NoMemory>
         requires { self.old.start + length self.old.items < 2 ^ 63 }
         ensures added { OnOk result (self.new ≡ record self.old { items = self.old.items ++ leaf ∷ [] }) }
@@ -153,6 +174,7 @@ impl<N: Copy, J: Joins<N>> Rows<N, J> {
     {
         let n = self.start + count(&self.rows);
         let top = completed(n);
+        // all growths come first, so that a refused one leaves all as it was
         grow(&mut self.rows, top)?;
         add(self.start, &self.zeros, &mut self.rows, n, top, leaf, steps);
         Ok(())
@@ -206,6 +228,7 @@ impl<N: Copy, J: Joins<N>> Rows<N, J> {
         requires covered { last < self.now.start + length self.now.items }
         requires border { border ≡ node J.joined (leaf_of self.now) last level (halves level last) }
         ensures border { result ≡ node J.joined (leaf_of self.now) last (level + 1) (halves (level + 1) last) }
+        ensures later { steps.old ≤ steps.new }
         ensures cost { steps.new ≤ steps.old + 1 }
     {
         let end = last >> level;
@@ -214,6 +237,35 @@ impl<N: Copy, J: Joins<N>> Rows<N, J> {
             J::join(&left, &border)
         } else {
             border
+        }
+    }
+
+    /// The last part of the next level where it stands behind part `at` of that level, and else none.
+    fn raise_behind<L: Ledger>(
+        &self,
+        last: u64,
+        level: usize,
+        at: u64,
+        border: Option<N>,
+        steps: &mut Steps<L>,
+    ) -> Option<N>
+        requires few { level < 63 }
+        requires covered { last < self.now.start + length self.now.items }
+        requires border { at < halves (level + 1) last →
+            border ≡ Some (node J.joined (leaf_of self.now) last level (halves level last)) }
+        ensures border { at < halves (level + 1) last →
+            result ≡ Some (node J.joined (leaf_of self.now) last (level + 1) (halves (level + 1) last)) }
+        ensures none { halves (level + 1) last ≤ at → result ≡ None }
+        ensures later { steps.old ≤ steps.new }
+        ensures cost { steps.new ≤ steps.old + 1 }
+        ensures free { halves (level + 1) last ≤ at → steps.new ≡ steps.old }
+    {
+        if at >= last >> (level + 1) {
+            return None;
+        }
+        match border {
+            Some(part) => Some(self.raise(last, level, part, steps)),
+            None => None,
         }
     }
 
@@ -250,17 +302,21 @@ impl<N: Copy, J: Joins<N>> Rows<N, J> {
         last: u64,
         level: usize,
         at: u64,
-        border: &N,
+        border: Option<N>,
         steps: &mut Steps<L>,
     ) -> Option<TreeLink<N>>
         requires few { level < 63 }
         requires covered { last < self.now.start + length self.now.items }
         requires within { at ≤ halves level last }
         requires border { at < halves level last →
-            border.now ≡ node J.joined (leaf_of self.now) last level (halves level last) }
+            border ≡ Some (node J.joined (leaf_of self.now) last level (halves level last)) }
+        requires none { halves level last ≤ at → border ≡ None }
         ensures link { maybe_link result ≡ link_up J.joined (leaf_of self.now) last level at }
         ensures cost { steps.new ≤ steps.old + 1 }
         ensures free { at % 2 ≡ 0 → at + 1 ≡ halves level last → steps.new ≡ steps.old }
+        ensures later { steps.old ≤ steps.new }
+        ensures left { at % 2 ≡ 1 → steps.new ≡ steps.old + 1 }
+        ensures read { at + 1 ≢ halves level last → steps.old + length (maybe_link result) ≤ steps.new }
     {
         let end = last >> level;
         if at % 2 == 1 {
@@ -273,13 +329,14 @@ impl<N: Copy, J: Joins<N>> Rows<N, J> {
                 side: Side::Left,
                 sibling: self.part(level, at + 1, steps),
             })
-        } else if at < end {
-            Some(TreeLink {
-                side: Side::Left,
-                sibling: *border,
-            })
         } else {
-            None
+            match border {
+                Some(sibling) => Some(TreeLink {
+                    side: Side::Left,
+                    sibling,
+                }),
+                None => None,
+            }
         }
     }
 }
@@ -324,7 +381,6 @@ fn node_from<N: Copy, J: Joins<N>, L: Ledger>(
 
 fn path_from<N: Copy, J: Joins<N>, L: Ledger>(
     rows: &Rows<N, J>,
-    alloc: Global,
     t: u64,
     last: u64,
     blank: Blank,
@@ -337,7 +393,7 @@ fn path_from<N: Copy, J: Joins<N>, L: Ledger>(
     ensures { IfOk result (λ path. path.items ≡ path_of J.joined (leaf_of rows.now) 0 t (last + 1)) }
 {
     let mut steps = Steps::<L>::open(blank);
-    rows.path_counted(alloc, t, last, &mut steps)
+    rows.path_counted(t, last, &mut steps)
 }
 
 fn append_from<N: Copy, J: Joins<N>, L: Ledger>(

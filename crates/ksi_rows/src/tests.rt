@@ -40,7 +40,7 @@ fn two_leaves_behind_two_that_are_one(rt: HostRuntime) -> Result<(), Fail> {
     for (sides, node) in nodes {
         assert_eq!(rt; rows.node(3, sides), node);
     }
-    let path = rows.path(rt.alloc(), 2, 3)?;
+    let path = rows.path(2, 3)?;
     let links = [
         TreeLink {
             side: Left,

@@ -46,11 +46,4 @@ impl<N: Copy, J: Joins<N>> Zeros<N, J> {
     {
         self.parts.read(level, steps)
     }
-
-    /// The leaf that all are, as it was handed in.
-    pub(crate) fn leaf(&self) -> N
-        ensures { result ≡ self.now.leaf }
-    {
-        self.leaf
-    }
 }

@@ -4,9 +4,9 @@ use Rattle.ksi_split.specs.Trees.{node_at}
 use Rattle.ksi_calendar.specs.Calendar.{calendar_leaf, is_covered}
 use Rattle.ksi_calendar.proofs.laws.one_part.Goals as goal
 
-none_of : (test : Bool) (node : Option (List ℕ)) → node ≡ None → (if test then node else None) ≡ None
-none_of true node none = none
-none_of false node none = refl
+none_of : (test : Bool) (found : Option (List ℕ)) → found ≡ None → (if test then found else None) ≡ None
+none_of true found none = none
+none_of false found none = refl
 
 pub returns-clause-none : goal.returns-clause-none
 returns-clause-none c = λ image seconds p place sides passes.

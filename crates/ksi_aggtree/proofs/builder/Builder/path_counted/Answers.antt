@@ -43,6 +43,11 @@ returns g c =
       way = IfOk-weaker c.beside.result _ _ (λ links h. ap sides_from_top (h ∙ is) ∙ c.one_chain.ensures.way image now k) c.beside.ensures;
       few = IfOk-weaker c.beside.result _ _ (λ links h. let n = ap length (h ∙ is) in omega (arith, n, c.one_chain.ensures.few image now k few)) c.beside.ensures;
       most = omega (arith, c.leaf_counted-item.ensures.cost, c.path_counted.ensures.cost 16 (omega (arith, c.count-last.ensures, c.requires, size, few)));
+      least = let value = ap length c.deref.ensures.value in
+          IfOk-weaker c.beside.result _ _
+          (λ links h. let n = ap length h in
+          omega (arith, n, value, links_count c.leaf_counted-item.result.level c.deref.result.now, c.leaf_counted-item.ensures.cost, c.in_ok-others.ensures.least))
+          c.beside.ensures;
     }
 
 pub returns-in_err-others-clause-most : goal.returns-in_err-others-clause-most

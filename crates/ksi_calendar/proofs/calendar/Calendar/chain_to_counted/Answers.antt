@@ -1,4 +1,4 @@
-use Rattle.std.proofs.Common.{◌≡◌, ℕ, ◌+◌, List, ◌∙◌, sym, ap, subst}
+use Rattle.std.proofs.Common.{◌≡◌, ℕ, ◌+◌, List, length, ◌∙◌, sym, ap, subst, arith}
 use Rattle.ksi_split.specs.Trees.{path_of}
 use Rattle.ksi_split.specs.declared.tree_link.TreeLink.{TreeLink}
 use Rattle.ksi_rows.specs.Leaves.{leaf_at}
@@ -22,4 +22,5 @@ returns g c =
       climbs = subst (λ (links : List (TreeLink (List ℕ))). ClimbsCal image (calendar_leaf now t) links (calendar_root image now p)) (sym is) (c.one_chain.ensures.climbs image now t p c.requires.within);
       way = ap sides_from_top is ∙ c.one_chain.ensures.way image now t p;
       most = c.in_ok-path_counted.ensures.most;
+      least = let count = ap length c.from_vec.ensures in omega (arith, count, c.in_ok-path_counted.ensures.least);
     }

@@ -1,28 +1,34 @@
-use Rattle.std.proofs.Common.{◌≡◌, ◌≢◌, ◌⊎◌, inl, inr, Vec, Global, ◌+◌, ◌-◌, ◌*◌, ◌/◌, ◌%◌, ◌^◌, ◌<◌, ◌≤◌, suc, length, List, [], ◌∷◌, ◌++◌, refl, sym, ◌∙◌, ap, ℕ, arith, add-one, append-nil}
+use Rattle.std.proofs.Common.{◌≡◌, ◌≢◌, ◌⊎◌, inl, inr, Some, None, Vec, Global, ◌+◌, ◌-◌, ◌*◌, ◌/◌, ◌%◌, ◌^◌, ◌<◌, ◌≤◌, suc, length, List, [], ◌∷◌, ◌++◌, refl, sym, ◌∙◌, ap, ℕ, arith, add-one, append-nil}
+use Rattle.std.proofs.lemmas.List.{length-append}
 use Rattle.ksi_split.specs.Upward.{node, halves, links_up, whole}
 use Rattle.ksi_split.specs.declared.tree_link.TreeLink.{TreeLink}
 use Rattle.ksi_split.proofs.Powers.{lt_cases, halves_rise, halves_quotient, halves_none, halved_below, last_pair}
 use Rattle.ksi_split.proofs.Upward.{path_is, links_next}
 use Rattle.ksi_rows.specs.Leaves.{leaf_of}
 use Rattle.ksi_rows.proofs.rows.Rows.path_counted.Goals as goal
-use Rattle.ksi_rows.proofs.rows.Rows.path_counted.Goals.{then-t-last, else-t-last, in-Some+in_ok-push, in_default, then-at-last, else-at-last}
+use Rattle.ksi_rows.proofs.rows.Rows.path_counted.Goals.{then-t-last, else-t-last, in-Some+in_ok-push, in_default}
 
 pub loop-level-init : goal.loop-level-init
 unfolding whole node links_up
 loop-level-init g c = record {
   at = refl;
   path = c.in_ok-path.ensures.items;
-  border = λ lt. elim c.if-t-last.branch [ then-t-last w ↦ w.border-is ∙ w.part-border.ensures.part | else-t-last w ↦ absurd (omega arith) ];
-  cost = elim c.if-t-last.branch [ then-t-last w ↦ omega (arith, w.steps-is, w.part-border.ensures.cost) | else-t-last w ↦ omega (arith, w.steps-is) ];
+  border = λ lt. elim c.if-t-last.branch [ then-t-last w ↦ w.border-is ∙ ap Some w.part.ensures.part | else-t-last w ↦ absurd (omega arith) ];
+  none = λ le. elim c.if-t-last.branch [ then-t-last w ↦ absurd (omega arith) | else-t-last w ↦ w.border-is ];
+  cost = elim c.if-t-last.branch [ then-t-last w ↦ omega (arith, w.steps-is, w.part.ensures.cost) | else-t-last w ↦ omega (arith, w.steps-is) ];
   merged = λ e. elim c.if-t-last.branch [ then-t-last w ↦ absurd (omega arith) | else-t-last w ↦ omega (arith, w.steps-is) ];
+  least = let none = ap length c.in_ok-path.ensures.items in
+      elim c.if-t-last.branch [ then-t-last w ↦ omega (arith, none, w.steps-is, w.part.ensures.cost) | else-t-last w ↦ omega (arith, none, w.steps-is) ];
+  read = λ lt. let none = ap length c.in_ok-path.ensures.items in
+      elim c.if-t-last.branch [ then-t-last w ↦ omega (arith, none, w.steps-is, w.part.ensures.cost) | else-t-last w ↦ absurd (omega arith) ];
 }
 
 pub link_up-requires-clause-within : goal.link_up-requires-clause-within
 link_up-requires-clause-within g c = omega (arith, halves_rise c.loop-level.level c.args.t c.args.last c.requires.within, c.loop-level.invariant.at)
 
-pub raise-border-requires-clause-border : goal.raise-border-requires-clause-border
-raise-border-requires-clause-border g c =
-    c.loop-level.invariant.border (halved_below c.args.last c.loop-level.level c.loop-level.at (omega (arith, halves_quotient (c.loop-level.level + 1) c.args.last, c.if-at-last.true)))
+pub raise_behind-border-requires-clause-border : goal.raise_behind-border-requires-clause-border
+raise_behind-border-requires-clause-border g c lt =
+    c.loop-level.invariant.border (halved_below c.args.last c.loop-level.level c.loop-level.at lt)
 
 pub loop-level-preserved : goal.loop-level-preserved
 loop-level-preserved g c =
@@ -31,7 +37,21 @@ loop-level-preserved g c =
     let k = c.loop-level.level in
     let inv = c.loop-level.invariant in
     let within : c.loop-level.at ≤ halves k c.args.last = omega (arith, halves_rise k c.args.t c.args.last c.requires.within, inv.at) in
-    let q = halves_quotient (k + 1) c.args.last in
+    let before = c.loop-level.path.items in
+    let one : length c.match-link_up.path.items ≤ length before + 1 = elim c.match-link_up.branch [
+      | in-Some+in_ok-push w ↦
+          (let is = ap (λ (v : Vec (TreeLink g.row.N.Denot) Global). length v.items) w.path-is in
+          let pushed = ap length w.in_ok-push.ensures.items in
+          omega (arith, is, pushed, length-append before (w.in-Some.link ∷ [])))
+      | in_default w ↦ (let is = ap (λ (v : Vec (TreeLink g.row.N.Denot) Global). length v.items) w.path-is in omega (arith, is))
+    ] in
+    let reads : c.loop-level.at + 1 ≢ halves k c.args.last → c.loop-level.steps + length c.match-link_up.path.items ≤ c.link_up.new.steps + length before = λ above. elim c.match-link_up.branch [
+      | in-Some+in_ok-push w ↦
+          (let is = ap (λ (v : Vec (TreeLink g.row.N.Denot) Global). length v.items) w.path-is in
+          let pushed = ap length w.in_ok-push.ensures.items in
+          omega (arith, is, pushed, length-append before (w.in-Some.link ∷ []), w.in-Some.ensures.read above))
+      | in_default w ↦ (let is = ap (λ (v : Vec (TreeLink g.row.N.Denot) Global). length v.items) w.path-is in omega (arith, is, w.in_default.ensures.read above))
+    ] in
     record {
       at = ap (λ (i : ℕ). i / 2) inv.at ∙ ap (λ (i : ℕ). halves i c.args.t) (sym (add-one k));
       path = elim c.match-link_up.branch [
@@ -42,22 +62,26 @@ loop-level-preserved g c =
             ap (λ (v : Vec (TreeLink g.row.N.Denot) Global). v.items) w.path-is ∙ sym (append-nil c.loop-level.path.items)
             ∙ links_next joined leaf c.args.last k c.args.t c.loop-level.at c.loop-level.path.items [] inv.at inv.path w.in_default.ensures.link
       ];
-      border = λ lt. elim c.if-at-last.branch [
-        | then-at-last w ↦ w.border-is ∙ w.raise-border.ensures.border
-        | else-at-last w ↦ absurd (omega (arith, q, w.if-at-last.false, lt))
+      border = c.raise_behind-border.ensures.border;
+      none = c.raise_behind-border.ensures.none;
+      cost = omega (arith, c.raise_behind-border.ensures.cost, c.link_up.ensures.cost, inv.cost);
+      merged = λ meet. let free = c.raise_behind-border.ensures.free (omega (arith, meet)) in
+          elim (lt_cases c.loop-level.at (halves k c.args.last)) [
+            | inl t ↦ (let pair = last_pair c.args.last k c.loop-level.at t.1 meet in
+                omega (arith, free, c.link_up.ensures.free pair.0 pair.1, inv.cost))
+            | inr f ↦ omega (arith, free, c.link_up.ensures.cost, inv.merged (omega (arith, within, f.1)))
+          ];
+      least = elim (lt_cases c.loop-level.at (halves k c.args.last)) [
+        | inl t ↦ omega (arith, one, c.raise_behind-border.ensures.later, c.link_up.ensures.later, inv.read t.1)
+        | inr f ↦ omega (arith, reads (omega (arith, f.1)), c.raise_behind-border.ensures.later, inv.least)
       ];
-      cost = elim c.if-at-last.branch [
-        | then-at-last w ↦ omega (arith, w.steps-is, w.raise-border.ensures.cost, c.link_up.ensures.cost, inv.cost)
-        | else-at-last w ↦ omega (arith, w.steps-is, c.link_up.ensures.cost, inv.cost)
-      ];
-      merged = λ meet. elim c.if-at-last.branch [
-        | then-at-last w ↦ absurd (omega (arith, q, w.if-at-last.true, meet))
-        | else-at-last w ↦ elim (lt_cases c.loop-level.at (halves k c.args.last)) [
-          | inl t ↦ (let pair = last_pair c.args.last k c.loop-level.at t.1 meet in
-              omega (arith, w.steps-is, c.link_up.ensures.free pair.0 pair.1, inv.cost))
-          | inr f ↦ omega (arith, w.steps-is, c.link_up.ensures.cost, inv.merged (omega (arith, within, f.1)))
-        ]
-      ];
+      read = λ lt.
+          let was = inv.read (halved_below c.args.last k c.loop-level.at lt) in
+          elim (lt_cases (c.loop-level.at % 2) 1) [
+            | inl even ↦ (let half : halves (k + 1) c.args.last ≡ halves k c.args.last / 2 = ap (λ (j : ℕ). halves j c.args.last) (add-one k) in
+                omega (arith, c.raise_behind-border.ensures.later, reads (omega (arith, lt, even.1, half)), was))
+            | inr odd ↦ omega (arith, one, c.raise_behind-border.ensures.later, c.link_up.ensures.left (omega (arith, odd.1)), was)
+          ];
     }
 
 pub returns-clause-path : goal.returns-clause-path
