@@ -79,7 +79,7 @@ fn round(alloc: Global, paths: bool) -> Result<u8, NoMemory> {
     };
     if paths {
         for k in 0..round.count() {
-            byte ^= round.path(alloc, k)?.as_slice().len() as u8;
+            byte ^= round.path(k)?.as_slice().len() as u8;
         }
     }
     Ok(byte)
