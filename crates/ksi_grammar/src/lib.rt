@@ -1,0 +1,42 @@
+//! Containers of TLV elements, each by a table: which kinds may stand in it and how often, what they hold, and which
+//! fault comes first where bytes are none. The containers of signatures and of publications files are such tables.
+//!
+//! The layer above may rely on this: [`check`] accepts a body exactly where it is all elements that may stand there, in
+//! whatever order, and else gives the first fault in reading order, going into each element before the next one. What
+//! an accepted container holds is then found without a fault, and elements that may stand there are accepted as they
+//! are written. Only what is written takes memory.
+//!
+//! ```text
+//! impl Grammar for RecordContent { .. } // rows, refused kinds, contents, what is missing at the end
+//! check::<RecordContent>(at.place, at.inside, at.element.body)?;
+//! if let Some(data) = held::<RecordContent>(&at, 0x10) {
+//!     let (time, hash) = published(&data);
+//! }
+//! ```
+#![tactic(auto)]
+
+mod content;
+mod fault;
+mod finder;
+mod grammar;
+mod laws;
+mod publication;
+mod reader;
+mod record;
+mod row;
+#[cfg(test)]
+mod tests;
+
+pub use content::{algorithm, imprint, level, number, raw, time};
+pub use fault::ElementFault;
+pub use finder::held;
+pub use grammar::{Grammar, missing};
+pub use ksi_imprint::NoMemory;
+pub use laws::{
+    faults_by_table, held_is_whole, published_is_read, record_is_read, whole_or_fault,
+    written_is_whole,
+};
+pub use publication::{PublishedContent, published, put_short, written_published};
+pub use reader::check;
+pub use record::{RecordContent, recorded, written_record};
+pub use row::{Over, Row, Seen};

@@ -1,0 +1,4 @@
+pub mod Finds
+pub mod Named
+pub mod Files
+pub mod Writes

@@ -1,0 +1,14 @@
+use Rattle.std.proofs.Common.{◌≡◌, ◌++◌, ◌+◌, ◌^◌, ◌<◌, length}
+use Rattle.std.specs.List.{AllByRecursion}
+use Rattle.ksi_tlv.specs.Seen.{rest}
+use Rattle.ksi_tlv.specs.Walking.{elements}
+use Rattle.ksi_grammar.specs.Valid.{MayStand}
+use Rattle.ksi_grammar.specs.Held.{whole}
+use Rattle.ksi_publications.specs.Tables.{file_table}
+use Rattle.ksi_publications.specs.File.{pairs_of}
+use Rattle.ksi_publications.proofs.reader.pairs_in.Given as goal
+
+abbrev pub invariant-loop-item : goal.invariant-loop-item
+invariant-loop-item l =
+    (l.pairs.items ++ pairs_of (whole (rest l.elements)) ≡ pairs_of (whole (elements 8 l.rest)))
+    × AllByRecursion (MayStand file_table) (whole (rest l.elements))

@@ -1,0 +1,37 @@
+use crate::NoMemory;
+
+/// Why there are no publications. A malformed file is reported by the codes Q1 to Q9 with the values of the variant. A
+/// place is the offset of an element's first byte in the file.
+#[derive(Clone, Copy, Debug, PartialEq, Eq)]
+pub enum PubFault {
+    /// Q1: the first eight bytes are others, or fewer.
+    Magic,
+    /// Q2: the header or the body at this place passes the end of what holds it.
+    Tlv(usize),
+    /// Q3: a kind that is refused by name, 0x702 or 0x704, and its place.
+    RefusedElement(u16, usize),
+    /// Q4: an unknown kind that may not be passed over, and its place.
+    UnknownCritical(u16, usize),
+    /// Q5: the container at this place, 0 for the file, ends without an element of this kind.
+    Missing(u16, usize),
+    /// Q6: one element too many of this kind, at this place.
+    Repeated(u16, usize),
+    /// Q7: the hash is no imprint of SHA-256.
+    Imprint(usize),
+    /// Q8: a number has more than 8 bytes.
+    Number(usize),
+    /// Q9: a time is not below 2^63.
+    Time(usize),
+    NoMemory,
+}
+
+impl From<NoMemory> for PubFault {
+    ghost use Rattle.std.specs.Prelude.{◌≡◌};
+    ghost use Rattle.ksi_publications.specs.declared.fault.PubFault.TheVariants as answers;
+
+    ghost from_gives = { λ _ fault. fault ≡ answers.NoMemory };
+
+    fn from(_: NoMemory) -> Self {
+        PubFault::NoMemory
+    }
+}

@@ -1,0 +1,39 @@
+//! Laws of publications files, for the proofs of the layers above. No code calls them.
+
+ghost use Rattle.std.specs.Prelude.{◌≡◌, ◌<◌, ◌^◌, ◌⊎◌, ℕ, List};
+ghost use Rattle.std.specs.List.{AllByRecursion};
+ghost use Rattle.ksi_imprint.specs.Imprints.{IsImprint};
+ghost use Rattle.ksi_publications.specs.declared.fault.PubFault.{PubFault};
+ghost use Rattle.ksi_publications.specs.File.{IsPublications, IsPublicationsFault, publications_text};
+
+use ksi_grammar::{
+    faults_by_table, held_is_whole, record_is_read, whole_or_fault, written_is_whole,
+};
+use ksi_tlv::numeral_is_read;
+
+/// Bytes are a publications file or have a first fault, and not both; and they have one list and one first fault.
+pub fn file_or_fault()
+    ensures one { (bytes : List ℕ) →
+        ((pairs : List (ℕ × List ℕ)) × IsPublications bytes pairs) ⊎ ((fault : PubFault) × IsPublicationsFault bytes fault) }
+    ensures not_both { (bytes : List ℕ) (pairs : List (ℕ × List ℕ)) (fault : PubFault) →
+        IsPublications bytes pairs → IsPublicationsFault bytes fault → ⊥ }
+    ensures one_list { (bytes : List ℕ) (some others : List (ℕ × List ℕ)) →
+        IsPublications bytes some → IsPublications bytes others → some ≡ others }
+    ensures one_fault { (bytes : List ℕ) (fault other : PubFault) →
+        IsPublicationsFault bytes fault → IsPublicationsFault bytes other → fault ≡ other }
+{
+    whole_or_fault();
+    faults_by_table();
+}
+
+/// A file that is written is one of the times and hashes that were written.
+pub fn written_is_publications()
+    ensures { (creation : ℕ) (pairs : List (ℕ × List ℕ)) → creation < 2 ^ 63 →
+        AllByRecursion (λ pair. (pair.0 < 2 ^ 63) × IsImprint pair.1) pairs →
+        IsPublications (publications_text creation pairs) pairs }
+{
+    written_is_whole();
+    held_is_whole();
+    record_is_read();
+    numeral_is_read();
+}

@@ -1,0 +1,32 @@
+//! Publications files: the root hashes of calendar trees that were published, each with its time. A file is eight
+//! bytes of magic, a header, and publication records, in any order.
+//!
+//! A contract sees [`Publications`] as its list of times and hashes, in the order of the file. The layer above may rely
+//! on this: [`read`] gives exactly the list of the file that the bytes are, or the first fault in reading order, which
+//! it finds without taking memory; `find` gives the first hash of a time; and what [`write`] gives is read again.
+//!
+//! ```text
+//! let file = write(alloc, creation, &[(time, root)])?;
+//! let publications = read(alloc, file.as_slice())?;
+//! if let Some(hash) = publications.find(time) {
+//!     // hash is root
+//! }
+//! ```
+#![tactic(auto)]
+
+mod containers;
+mod fault;
+mod laws;
+mod publications;
+mod reader;
+#[cfg(test)]
+mod tests;
+mod writer;
+
+pub use containers::{FileContent, HeaderContent};
+pub use fault::PubFault;
+pub use ksi_imprint::NoMemory;
+pub use laws::{file_or_fault, written_is_publications};
+pub use publications::Publications;
+pub use reader::read;
+pub use writer::write;

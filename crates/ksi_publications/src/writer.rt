@@ -1,0 +1,69 @@
+ghost use Rattle.std.specs.Prelude.{◌≡◌, ◌^◌, ◌<◌, ◌++◌, ◌∷◌, [], IfOk, OnOk, map};
+ghost use Rattle.std.specs.List.{AllByRecursion};
+ghost use Rattle.ksi_imprint.specs.Imprints.{IsImprint};
+ghost use Rattle.ksi_tlv.specs.Spelling.{plain, canonical};
+ghost use Rattle.ksi_tlv.specs.Numerals.{numeral};
+ghost use Rattle.ksi_tlv.specs.Writing.{texts};
+ghost use Rattle.ksi_publications.specs.File.{header_element, record_element, publications_text, IsPublications};
+
+use crate::NoMemory;
+use crate::containers::{CREATION, HEADER, RECORD, VERSION};
+use crate::laws::written_is_publications;
+use ksi_grammar::{put_short, written_record};
+use ksi_imprint::{Bytes, Imprint};
+use ksi_tlv::{Writer, numeral_is_read};
+use std::alloc::Global;
+
+const MAGIC: &[u8; 8] = b"KSIPUBLF";
+
+/// A publications file of version 1 with these published times and hashes in this order, without references.
+pub fn write(alloc: Global, creation: u64, pairs: &[(u64, Imprint)]) -> Result<Bytes, NoMemory>
+    requires creation { creation < 2 ^ 63 }
+    requires times { AllByRecursion (λ pair. pair.0 < 2 ^ 63) pairs.now }
+    ensures text { IfOk result (λ file. file ≡ publications_text creation pairs.now) }
+    ensures read_again { IfOk result (λ file. IsPublications file pairs.now) }
+{
+    written_is_publications();
+    written(alloc, creation, pairs)
+}
+
+fn written(alloc: Global, creation: u64, pairs: &[(u64, Imprint)]) -> Result<Bytes, NoMemory>
+    ensures text { IfOk result (λ file. file ≡ publications_text creation pairs.now) }
+    ensures imprints { IfOk result (λ _. AllByRecursion (λ pair. IsImprint pair.1) pairs.now) }
+{
+    let mut writer = Writer::new(alloc);
+    put_header(&mut writer, alloc, creation)?;
+    for pair in pairs {
+        put_record(&mut writer, alloc, pair)?;
+    }
+    let mut file = Vec::new(alloc);
+    file.extend_from_slice(MAGIC)?;
+    file.extend_from_slice(writer.bytes())?;
+    Ok(Bytes::from_vec(file))
+}
+
+fn put_header(writer: &mut Writer, alloc: Global, creation: u64) -> Result<(), NoMemory>
+    ensures { OnOk result (writer.new ≡ writer.old ++ canonical (header_element creation)) }
+{
+    numeral_is_read();
+    let header = header_body(alloc, creation)?;
+    put_short(writer, HEADER, header.bytes())
+}
+
+fn header_body(alloc: Global, creation: u64) -> Result<Writer, NoMemory>
+    ensures { IfOk result (λ header. header ≡ texts (plain 1 (numeral 1) ∷ plain 2 (numeral creation) ∷ [])) }
+{
+    let mut header = Writer::new(alloc);
+    header.put_number(VERSION, 1)?;
+    header.put_number(CREATION, creation)?;
+    Ok(header)
+}
+
+fn put_record(writer: &mut Writer, alloc: Global, pair: &(u64, Imprint)) -> Result<(), NoMemory>
+    ensures text { OnOk result (writer.new ≡ writer.old ++ canonical (record_element pair.now)) }
+    ensures imprint { IsImprint pair.now.1 }
+{
+    let _ = pair.1.bytes();
+    let record = written_record(alloc, pair.0, &pair.1)?;
+    put_short(writer, RECORD, record.as_slice())
+}
