@@ -1,0 +1,4 @@
+pub mod Tables
+pub mod Values
+pub mod Contents
+pub mod File
