@@ -27,19 +27,19 @@ pub record IsSignature (bytes : List ℕ) (signature : Signature) : Type 0 where
 -- ---- faults
 
 -- the fault of a signature by that of an element
-abbrev pub named : ElementFault → SigFault
-named (faults.Tlv place) = answers.Tlv place
-named (faults.RefusedElement kind place) = answers.RefusedElement kind place
-named (faults.UnknownCritical kind place) = answers.UnknownCritical kind place
-named (faults.Missing kind place) = answers.Missing kind place
-named (faults.Repeated kind place) = answers.Repeated kind place
-named (faults.Imprint place) = answers.Imprint place
-named (faults.Number place) = answers.Number place
-named (faults.Algorithm value) = answers.Algorithm value
-named (faults.Links place) = answers.Links place
-named (faults.Chains place) = answers.Chains place
-named (faults.Sibling place) = answers.Sibling place
-named (faults.Time place) = answers.Time place
+abbrev pub name_of : ElementFault → SigFault
+name_of (faults.Tlv place) = answers.Tlv place
+name_of (faults.RefusedElement kind place) = answers.RefusedElement kind place
+name_of (faults.UnknownCritical kind place) = answers.UnknownCritical kind place
+name_of (faults.Missing kind place) = answers.Missing kind place
+name_of (faults.Repeated kind place) = answers.Repeated kind place
+name_of (faults.Imprint place) = answers.Imprint place
+name_of (faults.Number place) = answers.Number place
+name_of (faults.Algorithm value) = answers.Algorithm value
+name_of (faults.Links place) = answers.Links place
+name_of (faults.Chains place) = answers.Chains place
+name_of (faults.Sibling place) = answers.Sibling place
+name_of (faults.Time place) = answers.Time place
 
 -- no element is spelled at the front
 pub record IsCut (bytes : List ℕ) (fault : SigFault) : Type 0 where
@@ -62,7 +62,7 @@ pub record IsFaultInside (bytes : List ℕ) (fault : SigFault) : Type 0 where
   pub kind : element.kind ≡ 2048
   pub inner : ElementFault
   pub first : IsFirstFault signature_table 0 (size - length element.body) element.body inner
-  pub named : fault ≡ named inner
+  pub named : fault ≡ name_of inner
 
 -- bytes follow the signature
 pub record IsFaultBehind (bytes : List ℕ) (fault : SigFault) : Type 0 where
@@ -83,7 +83,7 @@ abbrev pub Answer : Type 0
 Answer = Result (Unit {0}) SigFault
 
 abbrev pub behind : List ℕ → ℕ → Verdict → Answer
-behind bytes size (Err fault) = Err (named fault)
+behind bytes size (Err fault) = Err (name_of fault)
 behind bytes size (Ok u) = if nat_lt size (length bytes) then Err (answers.After size) else Ok tt
 
 abbrev pub answer_with : List ℕ → Result (Tlv × ℕ) ℕ → Answer

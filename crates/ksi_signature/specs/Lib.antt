@@ -2,3 +2,4 @@ pub mod Tables
 pub mod Values
 pub mod Contents
 pub mod File
+pub mod Places
