@@ -160,7 +160,7 @@ first_fall : (b : Bool) (chain other : Aggregation) (chains : List Aggregation) 
 first_fall true chain other chains test fall = let more = ltb-true _ _ test in (omega (arith, more), fall)
 first_fall false chain other chains test fall = fall_from (length other.index) chain chains (ltb-false _ _ test) fall
 
-fall_put : (chain : Aggregation) (chains : List Aggregation) → Fall chains → Fall (put_chain chain chains)
+pub fall_put : (chain : Aggregation) (chains : List Aggregation) → Fall chains → Fall (put_chain chain chains)
 fall_put chain [] fall = tt
 fall_put chain (other ∷ chains) fall = first_fall (ltb (length other.index) (length chain.index)) chain other chains refl fall
 

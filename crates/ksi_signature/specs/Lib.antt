@@ -3,3 +3,4 @@ pub mod Values
 pub mod Contents
 pub mod File
 pub mod Places
+pub mod Order

@@ -2,6 +2,10 @@
 
 ghost use Rattle.std.specs.Prelude.{◌≡◌, ◌↔◌, ◌⊎◌, ℕ, List, Ok, Err};
 ghost use Rattle.ksi_tlv.specs.Spelling.{AreBytes};
+ghost use Rattle.ksi_tlv.specs.Walking.{PlacedTlv};
+ghost use Rattle.ksi_signature.specs.Values.{Fall};
+ghost use Rattle.ksi_signature.specs.Contents.{signature_of};
+ghost use Rattle.ksi_signature.specs.Order.{chains_among, with_parts};
 ghost use Rattle.ksi_signature.specs.declared.fault.SigFault.{SigFault};
 ghost use Rattle.ksi_signature.specs.declared.signature.Signature.{Signature};
 ghost use Rattle.ksi_signature.specs.File.{IsSignature, IsSignatureFault, answer_of};
@@ -29,3 +33,11 @@ pub fn signature_or_fault()
     whole_or_fault();
     front_by_spelling();
 }
+
+/// The chains of a signature stand by falling number of index parts, and those of equal number in the order of the
+/// bytes.
+pub fn chains_in_order()
+    ensures fall { (es : List PlacedTlv) → Fall (signature_of es).chains }
+    ensures equal { (parts : ℕ) (es : List PlacedTlv) →
+        with_parts parts (signature_of es).chains ≡ with_parts parts (chains_among es) }
+{}
