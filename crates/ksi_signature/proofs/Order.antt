@@ -73,8 +73,8 @@ element_at : (b : Bool) (parts : ℕ) (chains : List Aggregation) (c : Aggregati
     → with_parts parts (cond b (chains_behind (put_chain c chains) es) (chains_behind chains es)) ≡ with_parts parts chains ++ with_parts parts (cond b (c ∷ chains_among es) (chains_among es))
 element_at true parts chains c es fall put others =
     put ∙ ap (λ (front : List Aggregation). front ++ with_parts parts (chains_among es)) (put_parts parts c chains fall)
-        ∙ append_assoc (with_parts parts chains) (with_parts parts (c ∷ [])) (with_parts parts (chains_among es))
-        ∙ ap (λ (rest : List Aggregation). with_parts parts chains ++ rest) (snoc_at (eqb (length c.index) parts) parts c (chains_among es))
+    ∙ append_assoc (with_parts parts chains) (with_parts parts (c ∷ [])) (with_parts parts (chains_among es))
+    ∙ ap (λ (rest : List Aggregation). with_parts parts chains ++ rest) (snoc_at (eqb (length c.index) parts) parts c (chains_among es))
 element_at false parts chains c es fall put others = others
 
 parts_behind : (parts : ℕ) (chains : List Aggregation) (es : List PlacedTlv) → Fall chains → with_parts parts (chains_behind chains es) ≡ with_parts parts chains ++ with_parts parts (chains_among es)

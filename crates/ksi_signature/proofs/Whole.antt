@@ -1,8 +1,8 @@
 -- A signature, or the first fault.
-use Rattle.std.proofs.Common.{◌≡◌, ◌⊎◌, ℕ, ◌-◌, ◌≤◌, Bool, true, false, cond, eqb, ltb, List, [], ◌∷◌, ◌++◌, length, take, drop, Result, Ok, Err, refl, sym, ap, subst, ◌∙◌, inl, inr, arith}
+use Rattle.std.proofs.Common.{◌≡◌, ◌⊎◌, ℕ, ◌-◌, ◌≤◌, Bool, true, false, cond, eqb, ltb, List, [], ◌∷◌, ◌++◌, length, Result, Ok, Err, refl, sym, ap, subst, ◌∙◌, inl, inr, arith}
 use Rattle.std.specs.Prelude.{◌↔◌, IsOk}
 use Rattle.std.proofs.lemmas.Bool.{eqb-true, eqb-false, ltb-true, ltb-false, le-ltb, lt-ltb, ne_eqb}
-use Rattle.std.proofs.lemmas.List.{take_all, take-append-drop, length-take-le, append-nil}
+use Rattle.std.proofs.lemmas.List.{take_all, append-nil}
 use Rattle.ksi_tlv.specs.Spelling.{Tlv, Spells, AreBytes, IsFront}
 use Rattle.ksi_tlv.specs.Front.{element_at}
 use Rattle.ksi_tlv.specs.Walking.{PlacedTlv, elements, items_of}
@@ -54,15 +54,17 @@ with_ok laws bytes (Ok found) fits read e =
     let all : length bytes ≤ found.1 = ltb-false _ _ i.1 in
     let within : found.1 ≤ length bytes = front.within in
     let size : found.1 ≡ length bytes = omega (arith, all, within) in
-    let c = (laws.whole signature_table 0 (found.1 - length found.0.body) found.0.body refl).0 i.0 in
-    (signature_of c.0, record {
-      element = found.0;
-      spelled = subst (Spells found.0) (take_all found.1 bytes all) front.spelled;
-      kind = eqb-true _ _ k.0;
-      elements = c.0;
-      content = subst (λ (n : ℕ). IsContainer signature_table (n - length found.0.body) found.0.body c.0) size c.1;
-      value = refl;
-    })
+    let c = (laws.whole signature_table 0 (found.1 - length found.0.body) found.0.body refl).0 i.0 in (
+      signature_of c.0,
+      record {
+        element = found.0;
+        spelled = subst (Spells found.0) (take_all found.1 bytes all) front.spelled;
+        kind = eqb-true _ _ k.0;
+        elements = c.0;
+        content = subst (λ (n : ℕ). IsContainer signature_table (n - length found.0.body) found.0.body c.0) size c.1;
+        value = refl;
+      },
+    )
 
 pub signature_if_ok : (laws : Laws) (bytes : List ℕ) → AreBytes bytes → answer_of bytes ≡ Ok tt → (signature : Signature) × IsSignature bytes signature
 unfolding answer_of

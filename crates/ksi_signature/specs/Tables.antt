@@ -1,5 +1,5 @@
 -- The tables of the containers of a signature.
-use Rattle.std.specs.Prelude.{ℕ, ◌==◌, ◌||◌, List, [], ◌∷◌, Some, None, Ok, if◌then◌else◌}
+use Rattle.std.specs.Prelude.{◌==◌, ◌||◌, [], ◌∷◌, Some, None, Ok, if◌then◌else◌}
 use Rattle.ksi_tlv.specs.Walking.{PlacedTlv}
 use Rattle.ksi_grammar.specs.declared.fault.ElementFault.TheVariants as faults
 use Rattle.ksi_grammar.specs.declared.row.Over.TheVariants as overs

@@ -1,5 +1,7 @@
 use crate::*;
-use ksi_imprint::{Bytes, Compress, Imprint, Sha};
+use ksi_aggchain::{Link, Sibling};
+use ksi_imprint::Bytes;
+use ksi_split::Side;
 use std::alloc::Global;
 use std::test::Fail;
 
@@ -83,40 +85,111 @@ fn counts_chains_and_links(rt: HostRuntime) -> Result<(), Fail> {
     Ok(())
 }
 
-/// The times of the chains and of the calendar chain, and how many index parts and links there are.
-fn summary(signature: &Signature) -> (usize, u64, usize, usize, Option<(u64, u64, usize)>) {
-    let chains = signature.chains.as_slice();
-    let calendar = match &signature.calendar {
-        Some(chain) => Some((
-            chain.publication,
-            chain.time,
-            chain.links.as_slice().len(),
+/// Of the first chain: its time, index and input body.
+fn first_chain(signature: &Signature) -> Option<(u64, &[u64], Option<&[u8]>)> {
+    match signature.chains.as_slice() {
+        [chain, ..] => Some((chain.time, chain.index.as_slice(), body_of(chain))),
+        [] => None,
+    }
+}
+
+fn body_of(chain: &AggChain) -> Option<&[u8]> {
+    match &chain.input_body {
+        Some(body) => Some(body.as_slice()),
+        None => None,
+    }
+}
+
+/// Of the calendar chain: both times and the number of links.
+fn calendar(signature: &Signature) -> Option<(u64, u64, usize)> {
+    match &signature.calendar {
+        Some(chain) => Some((chain.publication, chain.time, chain.links.as_slice().len())),
+        None => None,
+    }
+}
+
+/// Of the publication record: its time and the number of references and of repository addresses.
+fn publication(signature: &Signature) -> Option<(u64, usize, usize)> {
+    match &signature.publication {
+        Some(record) => Some((
+            record.time,
+            record.references.as_slice().len(),
+            record.repositories.as_slice().len(),
         )),
         None => None,
-    };
-    let first = &chains[0];
-    (
-        chains.len(),
-        first.time,
-        first.index.as_slice().len(),
-        first.links.as_slice().len(),
-        calendar,
-    )
+    }
+}
+
+/// Of a link: its side, its correction and what stands beside it.
+fn parts_of(link: &Link) -> (Side, u8, &[u8]) {
+    (link.side, link.correction, link.sibling.bytes())
 }
 
 #[test]
 fn reads_in_any_order(rt: HostRuntime) -> Result<(), Fail> {
     let turned = joined(rt.alloc(), &[&S0[..4], &S0[51..], &S0[4..51]])?;
-    let empty = Sha::of(b"");
     for bytes in [S0.as_slice(), turned.as_slice()] {
-        let read = read(rt.alloc(), bytes);
-        assert!(rt; read.is_ok());
-        if let Ok(signature) = read {
-            assert_eq!(rt; summary(&signature), (1, 0, 1, 0, Some((0, 0, 0))));
-            assert_eq!(rt; signature.chains.as_slice()[0].index.as_slice(), &[1]);
-            assert_eq!(rt; signature.chains.as_slice()[0].input, empty);
-            assert!(rt; signature.publication.is_none());
+        let answer = read(rt.alloc(), bytes);
+        assert!(rt; answer.is_ok());
+        if let Ok(signature) = answer {
+            assert_eq!(rt; signature.chains.as_slice().len(), 1);
+            assert_eq!(rt; first_chain(&signature), Some((0, [1].as_slice(), None)));
+            assert_eq!(rt; calendar(&signature), Some((0, 0, 0)));
+            assert_eq!(rt; publication(&signature), None);
         }
+    }
+    Ok(())
+}
+
+/// Worked out by hand: two chains, of one and of two index parts, a calendar chain without an aggregation time and a
+/// publication record, with unknown elements in each, a long header of a short kind and numbers with zeros before them.
+fn two_chains(alloc: Global) -> Result<Bytes, NoMemory> {
+    joined(
+        alloc,
+        &[
+            &[0x88, 0x00, 0x01, 0x02],
+            &S0[4..51],
+            &[0x88, 0x01, 0x00, 0x4a, 0x80, 0x02, 0x00, 0x02, 0x00, 0x05],
+            &[0x03, 0x03, 0x00, 0x01, 0x2c, 0x03, 0x00],
+            &[0x04, 0x03, 0x61, 0x62, 0x63],
+            &S0[13..51],
+            &[0x07, 0x08, 0x01, 0x01, 0x02, 0x03, 0x01, 0xff, 0x5e, 0x00],
+            &[0x08, 0x04, 0x04, 0x02, 0x01, 0x02, 0x5e, 0x00],
+            &[0x88, 0x02, 0x00, 0x4c, 0x01, 0x01, 0x09],
+            &S0[13..48],
+            &[0x07, 0x21],
+            &S0[15..48],
+            &[0x5e, 0x01, 0x00],
+            &[
+                0x88, 0x03, 0x00, 0x2f, 0x10, 0x26, 0x02, 0x01, 0x09, 0x04, 0x21,
+            ],
+            &S0[15..48],
+            &[0x09, 0x01, 0xaa, 0x0a, 0x00, 0x5e, 0x00, 0x5e, 0x00],
+        ],
+    )
+}
+
+#[test]
+fn reads_what_each_element_says(rt: HostRuntime) -> Result<(), Fail> {
+    let bytes = two_chains(rt.alloc())?;
+    let answer = read(rt.alloc(), bytes.as_slice());
+    assert!(rt; answer.is_ok());
+    if let Ok(signature) = answer {
+        let wanted = (5, [300, 0].as_slice(), Some(b"abc".as_slice()));
+        assert_eq!(rt; first_chain(&signature), Some(wanted));
+        if let [chain, other] = signature.chains.as_slice() {
+            assert_eq!(rt; other.index.as_slice(), [1].as_slice());
+            if let [left, right] = chain.links.as_slice() {
+                assert_eq!(rt; parts_of(left), (Side::Left, 2, [0xff].as_slice()));
+                assert_eq!(rt; parts_of(right), (Side::Right, 0, [1, 2].as_slice()));
+                assert!(rt; matches!(left.sibling, Sibling::Legacy(_)));
+                assert!(rt; matches!(right.sibling, Sibling::Metadata(_)));
+            }
+            assert_eq!(rt; chain.links.as_slice().len(), 2);
+        }
+        assert_eq!(rt; signature.chains.as_slice().len(), 2);
+        assert_eq!(rt; calendar(&signature), Some((9, 9, 1)));
+        assert_eq!(rt; publication(&signature), Some((9, 1, 1)));
     }
     Ok(())
 }

@@ -1,4 +1,4 @@
-use Rattle.std.proofs.Common.{◌≡◌, ◌++◌, map}
+use Rattle.std.proofs.Common.{◌≡◌}
 use Rattle.std.specs.List.{AllByRecursion}
 use Rattle.ksi_tlv.specs.Seen.{view_placed, rest}
 use Rattle.ksi_grammar.specs.Valid.{MayStand}

@@ -1,7 +1,7 @@
-use Rattle.std.proofs.Common.{[], sym, subst, ap, ◌∙◌}
-use Rattle.ksi_tlv.specs.Seen.{view_placed, rest}
+use Rattle.std.proofs.Common.{sym, subst, ap, ◌∙◌}
+use Rattle.ksi_tlv.specs.Seen.{view_placed}
 use Rattle.ksi_tlv.specs.Walking.{Items}
-use Rattle.ksi_grammar.specs.Held.{whole, inner_elements}
+use Rattle.ksi_grammar.specs.Held.{whole}
 use Rattle.ksi_signature.specs.Values.{AreChains}
 use Rattle.ksi_signature.specs.Contents.{chains_behind}
 use Rattle.ksi_signature.proofs.Limits.{are_chains}

@@ -1,4 +1,4 @@
-use Rattle.std.proofs.Common.{◌<◌, Err, ap, inl, inr, sym, arith}
+use Rattle.std.proofs.Common.{◌<◌, Err, ap, inl, inr, arith}
 use Rattle.std.proofs.lemmas.List.Elements.{All-from_get_or}
 use Rattle.std.proofs.lemmas.Result.{err_from_is_err_and}
 use Rattle.ksi_tlv.specs.Seen.{view}
@@ -35,7 +35,7 @@ pub returns-clause-signature : goal.returns-clause-signature
 returns-clause-signature c =
     let fits = All-from_get_or (λ b. b < 256) c.args.bytes.now 0 (λ i lt. omega (arith, c.type_inv.bytes i)) in
     read_is (record { whole = c.whole_or_fault.ensures.whole; fault = c.whole_or_fault.ensures.fault; found = c.front_by_spelling.ensures.found; spelled = c.front_by_spelling.ensures.spelled })
-        c.args.bytes.now (view c.in_ok-element.element) c.in_ok-element.size c.in_ok-signature.signature c.in_ok-element.ensures.front ((c.signature_or_fault.ensures.whole c.args.bytes.now fits).0 c.in_ok-element.ensures.ok) c.in_ok-signature.ensures
+    c.args.bytes.now (view c.in_ok-element.element) c.in_ok-element.size c.in_ok-signature.signature c.in_ok-element.ensures.front ((c.signature_or_fault.ensures.whole c.args.bytes.now fits).0 c.in_ok-element.ensures.ok) c.in_ok-signature.ensures
 
 pub returns-clause-fault : goal.returns-clause-fault
 returns-clause-fault c =
