@@ -7,8 +7,9 @@ ghost use Rattle.ksi_signature.specs.declared.fault.SigFault.{SigFault};
 ghost use Rattle.ksi_signature.specs.declared.signature.Signature.{Signature};
 ghost use Rattle.ksi_signature.specs.File.{IsSignature, IsSignatureFault, name_of, answer_of};
 
-use crate::containers::{SIGNATURE, SignatureContent};
+use crate::containers::SignatureContent;
 use crate::fault::SigFault;
+use crate::kinds::SIGNATURE;
 use crate::laws::signature_or_fault;
 use ksi_grammar::{ElementFault, check as check_container};
 use ksi_tlv::{Element, read_one};

@@ -2,19 +2,15 @@ ghost use Rattle.std.specs.Prelude.{◌≡◌, Some, refl};
 ghost use Rattle.ksi_grammar.specs.declared.row.Over.TheVariants.{Links};
 ghost use Rattle.ksi_signature.specs.Tables.{link_table, chain_table, calendar_table, signature_table};
 
+use crate::kinds::{
+    AGGREGATION_TIME, ALGORITHM, CALENDAR, CHAIN, CORRECTION, IMPRINT, INDEX_PART, INPUT_DATA,
+    INPUT_HASH, LEFT_LINK, LEGACY, METADATA, PUBLICATION, PUBLICATION_TIME, RIGHT_LINK,
+};
 use ksi_grammar::{
     ElementFault, Grammar, Over, RecordContent, Row, Seen, algorithm, check, imprint, level,
     missing, number, raw, time,
 };
 use ksi_tlv::Placed;
-
-pub(crate) const SIGNATURE: u16 = 0x800;
-
-pub(crate) const CHAIN: u16 = 0x801;
-
-pub(crate) const CALENDAR: u16 = 0x802;
-
-pub(crate) const PUBLICATION: u16 = 0x803;
 
 /// A level correction or none, and one sibling.
 #[derive(Clone, Copy)]
@@ -25,8 +21,8 @@ impl Grammar for LinkContent {
 
     fn row(kind: u16) -> Option<Row> {
         match kind {
-            0x01 => Some(Row::once(0)),
-            0x02..=0x04 => Some(Row {
+            CORRECTION => Some(Row::once(0)),
+            IMPRINT | LEGACY | METADATA => Some(Row {
                 slot: 1,
                 most: Some(1),
                 over: Over::Sibling,
@@ -41,8 +37,8 @@ impl Grammar for LinkContent {
 
     fn content(at: &Placed<'_>) -> Result<(), ElementFault> {
         match at.element.kind {
-            0x01 => level(at).map(|_| ()),
-            0x02 => imprint(at).map(|_| ()),
+            CORRECTION => level(at).map(|_| ()),
+            IMPRINT => imprint(at).map(|_| ()),
             _ => raw(at),
         }
     }
@@ -67,12 +63,12 @@ impl Grammar for ChainContent {
 
     fn row(kind: u16) -> Option<Row> {
         match kind {
-            0x02 => Some(Row::once(0)),
-            0x03 => Some(Row::any(1)),
-            0x04 => Some(Row::once(2)),
-            0x05 => Some(Row::once(3)),
-            0x06 => Some(Row::once(4)),
-            0x07 | 0x08 => Some(links(5)),
+            AGGREGATION_TIME => Some(Row::once(0)),
+            INDEX_PART => Some(Row::any(1)),
+            INPUT_DATA => Some(Row::once(2)),
+            INPUT_HASH => Some(Row::once(3)),
+            ALGORITHM => Some(Row::once(4)),
+            LEFT_LINK | RIGHT_LINK => Some(links(5)),
             _ => None,
         }
     }
@@ -83,17 +79,23 @@ impl Grammar for ChainContent {
 
     fn content(at: &Placed<'_>) -> Result<(), ElementFault> {
         match at.element.kind {
-            0x02 => time(at).map(|_| ()),
-            0x03 => number(at).map(|_| ()),
-            0x04 => Ok(()),
-            0x05 => imprint(at).map(|_| ()),
-            0x06 => algorithm(at).map(|_| ()),
+            AGGREGATION_TIME => time(at).map(|_| ()),
+            INDEX_PART => number(at).map(|_| ()),
+            INPUT_DATA => Ok(()),
+            INPUT_HASH => imprint(at).map(|_| ()),
+            ALGORITHM => algorithm(at).map(|_| ()),
             _ => check::<LinkContent>(at.place, at.inside, at.element.body),
         }
     }
 
     fn end(seen: &Seen, place: usize) -> Result<(), ElementFault> {
-        missing(&[(0, 0x02), (1, 0x03), (3, 0x05), (4, 0x06)], seen, place)
+        let needs = [
+            (0, AGGREGATION_TIME),
+            (1, INDEX_PART),
+            (3, INPUT_HASH),
+            (4, ALGORITHM),
+        ];
+        missing(&needs, seen, place)
     }
 
     ghost well_formed = { refl };
@@ -108,10 +110,10 @@ impl Grammar for CalendarContent {
 
     fn row(kind: u16) -> Option<Row> {
         match kind {
-            0x01 => Some(Row::once(0)),
-            0x02 => Some(Row::once(1)),
-            0x05 => Some(Row::once(2)),
-            0x07 | 0x08 => Some(links(3)),
+            PUBLICATION_TIME => Some(Row::once(0)),
+            AGGREGATION_TIME => Some(Row::once(1)),
+            INPUT_HASH => Some(Row::once(2)),
+            LEFT_LINK | RIGHT_LINK => Some(links(3)),
             _ => None,
         }
     }
@@ -122,13 +124,13 @@ impl Grammar for CalendarContent {
 
     fn content(at: &Placed<'_>) -> Result<(), ElementFault> {
         match at.element.kind {
-            0x01 | 0x02 => time(at).map(|_| ()),
+            PUBLICATION_TIME | AGGREGATION_TIME => time(at).map(|_| ()),
             _ => imprint(at).map(|_| ()),
         }
     }
 
     fn end(seen: &Seen, place: usize) -> Result<(), ElementFault> {
-        missing(&[(0, 0x01), (2, 0x05)], seen, place)
+        missing(&[(0, PUBLICATION_TIME), (2, INPUT_HASH)], seen, place)
     }
 
     ghost well_formed = { refl };

@@ -4,6 +4,7 @@ ghost use Rattle.ksi_tlv.specs.Numerals.{number_of};
 ghost use Rattle.ksi_grammar.specs.Contents.{passes, number_in, time_in, level_in, imprint_in};
 ghost use Rattle.ksi_signature.specs.Contents.{side_in};
 
+use crate::kinds::LEFT_LINK;
 use ksi_grammar::{imprint, level, number, time};
 use ksi_imprint::Imprint;
 use ksi_split::Side;
@@ -58,7 +59,7 @@ pub(crate) fn imprint_of(part: &Placed<'_>) -> Imprint
 pub(crate) fn side_of(at: &Placed<'_>) -> Side
     ensures { result ≡ side_in (view_placed at.now) }
 {
-    if at.element.kind == 0x07 {
+    if at.element.kind == LEFT_LINK {
         Side::Left
     } else {
         Side::Right

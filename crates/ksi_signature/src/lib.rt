@@ -21,6 +21,7 @@ mod checker;
 mod containers;
 mod contents;
 mod fault;
+mod kinds;
 mod laws;
 mod links;
 mod lists;

@@ -9,6 +9,7 @@ ghost use Rattle.ksi_signature.specs.Contents.{sibling_among, link_in, links_amo
 use crate::NoMemory;
 use crate::containers::LinkContent;
 use crate::contents::{imprint_of, level_of, side_of};
+use crate::kinds::{CORRECTION, IMPRINT, LEFT_LINK, LEGACY, METADATA, RIGHT_LINK};
 use crate::lists::{CalLinks, Links};
 use ksi_aggchain::{Link, Sibling};
 use ksi_calchain::CalLink;
@@ -27,7 +28,7 @@ pub(crate) fn links_of(alloc: Global, at: &Placed<'_>) -> Result<Links, NoMemory
     let mut elements = Elements::at(at.inside, at.element.body);
     while let Some(item) = elements.next() {
         if let Ok(part) = item {
-            if matches!(part.element.kind, 0x07 | 0x08) {
+            if matches!(part.element.kind, LEFT_LINK | RIGHT_LINK) {
                 links.push(link_of(alloc, &part)?)?;
             }
         }
@@ -53,7 +54,7 @@ fn correction_of(at: &Placed<'_>) -> u8
     requires { inner_verdict link_table (view_placed at.now) ≡ Ok tt }
     ensures { result ≡ number_or_zero (first_of 1 (inner_elements (view_placed at.now))) }
 {
-    match held::<LinkContent>(at, 0x01) {
+    match held::<LinkContent>(at, CORRECTION) {
         Some(part) => level_of(&part),
         None => 0,
     }
@@ -69,9 +70,9 @@ fn sibling_of(alloc: Global, at: &Placed<'_>) -> Result<Sibling, NoMemory>
         if let Ok(part) = item {
             let body = part.element.body;
             match part.element.kind {
-                0x02 => return Ok(Sibling::Imprint(imprint_of(&part))),
-                0x03 => return Ok(Sibling::Legacy(Bytes::copy_of(alloc, body)?)),
-                0x04 => return Ok(Sibling::Metadata(Bytes::copy_of(alloc, body)?)),
+                IMPRINT => return Ok(Sibling::Imprint(imprint_of(&part))),
+                LEGACY => return Ok(Sibling::Legacy(Bytes::copy_of(alloc, body)?)),
+                METADATA => return Ok(Sibling::Metadata(Bytes::copy_of(alloc, body)?)),
                 _ => (),
             }
         }
@@ -89,7 +90,7 @@ pub(crate) fn cal_links_of(alloc: Global, at: &Placed<'_>) -> Result<CalLinks, N
     let mut elements = Elements::at(at.inside, at.element.body);
     while let Some(item) = elements.next() {
         if let Ok(part) = item {
-            if matches!(part.element.kind, 0x07 | 0x08) {
+            if matches!(part.element.kind, LEFT_LINK | RIGHT_LINK) {
                 links.push(CalLink {
                     side: side_of(&part),
                     sibling: imprint_of(&part),

@@ -10,6 +10,9 @@ ghost use Rattle.ksi_signature.specs.Contents.{bodies_of, number_or, chain_in, c
 use crate::NoMemory;
 use crate::containers::{CalendarContent, ChainContent};
 use crate::contents::{imprint_of, number_of, time_of};
+use crate::kinds::{
+    AGGREGATION_TIME, INDEX_PART, INPUT_DATA, INPUT_HASH, PUBLICATION_TIME, REFERENCE, REPOSITORY,
+};
 use crate::links::{cal_links_of, links_of};
 use crate::lists::{Bodies, Index};
 use crate::signature::{AggChain, CalChain, PubRecord};
@@ -43,7 +46,7 @@ fn chain_time(at: &Placed<'_>) -> u64
     ensures value { result ≡ number_or_zero (first_of 2 (inner_elements (view_placed at.now))) }
     ensures below { result < 2 ^ 63 }
 {
-    match held::<ChainContent>(at, 0x02) {
+    match held::<ChainContent>(at, AGGREGATION_TIME) {
         Some(part) => time_of(&part),
         None => 0,
     }
@@ -58,7 +61,7 @@ fn index_of(alloc: Global, at: &Placed<'_>) -> Result<Index, NoMemory>
     let mut elements = Elements::at(at.inside, at.element.body);
     while let Some(item) = elements.next() {
         if let Ok(part) = item {
-            if part.element.kind == 0x03 {
+            if part.element.kind == INDEX_PART {
                 parts.push(number_of(&part))?;
             }
         }
@@ -70,7 +73,7 @@ fn input_body_of(alloc: Global, at: &Placed<'_>) -> Result<Option<Bytes>, NoMemo
     requires { inner_verdict chain_table (view_placed at.now) ≡ Ok tt }
     ensures { IfOk result (λ body. body ≡ option_map (λ part. part.element.body) (first_of 4 (inner_elements (view_placed at.now)))) }
 {
-    match held::<ChainContent>(at, 0x04) {
+    match held::<ChainContent>(at, INPUT_DATA) {
         Some(part) => Ok(Some(Bytes::copy_of(alloc, part.element.body)?)),
         None => Ok(None),
     }
@@ -80,7 +83,7 @@ fn chain_input(at: &Placed<'_>) -> Imprint
     requires { inner_verdict chain_table (view_placed at.now) ≡ Ok tt }
     ensures { result ≡ imprint_or_zero (first_of 5 (inner_elements (view_placed at.now))) }
 {
-    match held::<ChainContent>(at, 0x05) {
+    match held::<ChainContent>(at, INPUT_HASH) {
         Some(part) => imprint_of(&part),
         None => Imprint::ZERO,
     }
@@ -109,7 +112,7 @@ fn publication_time(at: &Placed<'_>) -> u64
     ensures value { result ≡ number_or_zero (first_of 1 (inner_elements (view_placed at.now))) }
     ensures below { result < 2 ^ 63 }
 {
-    match held::<CalendarContent>(at, 0x01) {
+    match held::<CalendarContent>(at, PUBLICATION_TIME) {
         Some(part) => time_of(&part),
         None => 0,
     }
@@ -122,7 +125,7 @@ fn calendar_time(at: &Placed<'_>, publication: u64) -> u64
     ensures value { result ≡ number_or publication (first_of 2 (inner_elements (view_placed at.now))) }
     ensures below { result < 2 ^ 63 }
 {
-    match held::<CalendarContent>(at, 0x02) {
+    match held::<CalendarContent>(at, AGGREGATION_TIME) {
         Some(part) => time_of(&part),
         None => publication,
     }
@@ -132,7 +135,7 @@ fn calendar_input(at: &Placed<'_>) -> Imprint
     requires { inner_verdict calendar_table (view_placed at.now) ≡ Ok tt }
     ensures { result ≡ imprint_or_zero (first_of 5 (inner_elements (view_placed at.now))) }
 {
-    match held::<CalendarContent>(at, 0x05) {
+    match held::<CalendarContent>(at, INPUT_HASH) {
         Some(part) => imprint_of(&part),
         None => Imprint::ZERO,
     }
@@ -145,8 +148,8 @@ pub(crate) fn publishing_of(alloc: Global, at: &Placed<'_>) -> Result<PubRecord,
     ensures { IfOk result (λ published. published ≡ publishing_in (view_placed at.now)) }
 {
     let (time, hash) = recorded_below(at);
-    let references = bodies(alloc, at, 0x09)?;
-    let repositories = bodies(alloc, at, 0x0a)?;
+    let references = bodies(alloc, at, REFERENCE)?;
+    let repositories = bodies(alloc, at, REPOSITORY)?;
     Ok(PubRecord {
         time,
         hash,

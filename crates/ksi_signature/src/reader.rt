@@ -13,8 +13,9 @@ ghost use Rattle.ksi_signature.specs.File.{IsSignature, IsSignatureFault};
 
 use crate::NoMemory;
 use crate::checker::accepted;
-use crate::containers::{CALENDAR, CHAIN, PUBLICATION, SignatureContent};
+use crate::containers::SignatureContent;
 use crate::fault::SigFault;
+use crate::kinds::{CALENDAR, CHAIN, PUBLICATION};
 use crate::laws::signature_or_fault;
 use crate::lists::Chains;
 use crate::parts::{calendar_of, chain_of, publishing_of};
