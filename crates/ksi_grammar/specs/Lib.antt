@@ -1,3 +1,6 @@
+pub use Rattle.ksi_tlv.specs.Spelling
+pub use Rattle.ksi_tlv.specs.Walking
+pub use Rattle.ksi_tlv.specs.Writing
 pub mod Table
 pub mod Contents
 pub mod Reading

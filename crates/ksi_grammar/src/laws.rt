@@ -1,4 +1,4 @@
-//! Laws of tables and containers, for the proofs of the layers above. No code calls them.
+//! Laws of tables and containers, for the proofs of the layers above. They do nothing when they are called.
 
 ghost use Rattle.std.specs.Prelude.{◌≡◌, ◌↔◌, ◌<◌, ◌≤◌, ◌^◌, ◌⊎◌, Bool, true, ℕ, List, length, Ok, Err};
 ghost use Rattle.std.specs.List.{AllByRecursion};

@@ -1,5 +1,5 @@
 use crate::*;
-use ksi_imprint::{Compress, Sha};
+use ksi_imprint::{Compress, Imprint, Sha};
 use ksi_tlv::{Elements, Placed};
 use std::test::Fail;
 
@@ -73,25 +73,32 @@ fn first(bytes: &[u8]) -> Option<Placed<'_>> {
 }
 
 #[test]
-fn writes_published_data_that_is_read_again(rt: HostRuntime) -> Result<(), Fail> {
+fn writes_a_record_that_is_read_again(rt: HostRuntime) -> Result<(), Fail> {
     let hash = Sha::of(b"");
-    let body = written_published(rt.alloc(), 5, &hash)?;
-    assert_eq!(rt; body.as_slice().len(), 38);
+    let data = written_published(rt.alloc(), 5, &hash)?;
     assert!(rt;
-        body.as_slice()
+        data.as_slice()
             .starts_with(&[0x02, 0x01, 0x05, 0x04, 0x21, 0x01])
     );
+    assert_eq!(rt; data.as_slice().len(), 38);
+    let record = written_record(rt.alloc(), 5, &hash)?;
+    assert!(rt;
+        record
+            .as_slice()
+            .starts_with(&[0x10, 0x26, 0x02, 0x01, 0x05, 0x04, 0x21, 0x01])
+    );
+    assert_eq!(rt; record.as_slice().len(), 40);
     let mut writer = ksi_tlv::Writer::new(rt.alloc());
-    put_short(&mut writer, 0x10, body.as_slice())?;
-    assert_eq!(rt; first_published(writer.bytes()), Ok(Some((5, hash))));
+    put_short(&mut writer, 0x803, record.as_slice())?;
+    assert_eq!(rt; first_recorded(writer.bytes()), Ok(Some((5, hash))));
     Ok(())
 }
 
-/// What the first element says as published data.
-fn first_published(bytes: &[u8]) -> Result<Option<(u64, ksi_imprint::Imprint)>, ElementFault> {
+/// What the first element says as a publication record.
+fn first_recorded(bytes: &[u8]) -> Result<Option<(u64, Imprint)>, ElementFault> {
     let Some(at) = first(bytes) else {
         return Ok(None);
     };
-    check::<PublishedContent>(at.place, at.inside, at.element.body)?;
-    Ok(Some(published(&at)))
+    check::<RecordContent>(at.place, at.inside, at.element.body)?;
+    Ok(Some(recorded(&at)))
 }

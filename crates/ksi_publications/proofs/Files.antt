@@ -1,5 +1,5 @@
 -- A publications file or its first fault.
-use Rattle.std.proofs.Common.{◌≡◌, ◌⊎◌, ℕ, List, [], ◌∷◌, ◌++◌, true, Result, Ok, Err, refl, sym, ap, subst, ◌∙◌, inl, inr}
+use Rattle.std.proofs.Common.{◌≡◌, ◌⊎◌, ℕ, List, [], ◌∷◌, ◌++◌, true, Ok, Err, refl, sym, ap, subst, ◌∙◌, inl, inr}
 use Rattle.std.specs.Prelude.{◌↔◌}
 use Rattle.std.proofs.lemmas.List.{append_cancel_left}
 use Rattle.std.proofs.lemmas.Bool.{cases_eq}
@@ -12,7 +12,7 @@ use Rattle.ksi_grammar.specs.Held.{whole}
 use Rattle.ksi_publications.specs.declared.fault.PubFault.{PubFault}
 use Rattle.ksi_publications.specs.declared.fault.PubFault.TheVariants as answers
 use Rattle.ksi_publications.specs.Tables.{file_table}
-use Rattle.ksi_publications.specs.File.{magic, pairs_of, IsNamed, IsPublications, IsOtherFile, IsFaultInside, IsPublicationsFault}
+use Rattle.ksi_publications.specs.File.{magic, pairs_of, IsNamed, IsPublications, IsPublicationsFault}
 use Rattle.ksi_publications.proofs.Named.{AreByTable, file_named, one_name}
 
 -- the laws of containers

@@ -1,5 +1,5 @@
 -- A file as it is written.
-use Rattle.std.proofs.Common.{◌≡◌, ℕ, ◌^◌, ◌+◌, ◌-◌, ◌<◌, ◌≤◌, Bool, true, false, cond, ltb, eqb, List, [], ◌∷◌, ◌++◌, length, map, Result, Ok, Err, refl, sym, ap, subst, ◌∙◌, arith}
+use Rattle.std.proofs.Common.{◌≡◌, ℕ, ◌^◌, ◌+◌, ◌-◌, ◌<◌, ◌≤◌, true, false, ltb, List, [], ◌∷◌, ◌++◌, length, map, Result, Ok, Err, refl, sym, ap, ◌∙◌, arith}
 use Rattle.std.specs.Prelude.{◌&&◌, IfOk}
 use Rattle.std.specs.List.{AllByRecursion}
 use Rattle.std.proofs.lemmas.Bool.{le-ltb, lt-ltb, cond_both}
@@ -9,7 +9,7 @@ use Rattle.ksi_tlv.specs.Spelling.{Tlv, plain, canonical, short_form, long_form}
 use Rattle.ksi_tlv.specs.Walking.{PlacedTlv, placed_at, elements}
 use Rattle.ksi_tlv.specs.Numerals.{number_of, numeral}
 use Rattle.ksi_tlv.specs.Writing.{texts, placed}
-use Rattle.ksi_grammar.specs.Table.{Table, is_among, count, is_table}
+use Rattle.ksi_grammar.specs.Table.{Table, count, is_table}
 use Rattle.ksi_grammar.specs.Reading.{container_verdict, inner_verdict}
 use Rattle.ksi_grammar.specs.Valid.{IsContainer}
 use Rattle.ksi_grammar.specs.Contents.{time_in}
@@ -17,7 +17,7 @@ use Rattle.ksi_grammar.specs.Held.{whole}
 use Rattle.ksi_grammar.specs.Written.{MayStandAnywhere, MayBeWritten}
 use Rattle.ksi_grammar.specs.Published.{record_table, recorded_in, record_elements}
 use Rattle.ksi_publications.specs.Tables.{header_table, file_table}
-use Rattle.ksi_publications.specs.File.{magic, pairs_of, IsPublications, header_element, record_element, publications_text}
+use Rattle.ksi_publications.specs.File.{pairs_of, IsPublications, header_element, record_element, publications_text}
 use Rattle.ksi_publications.proofs.Finds.{all_both}
 
 -- the laws of what is written

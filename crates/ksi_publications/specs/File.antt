@@ -1,5 +1,5 @@
 -- Which bytes are which publications file, the first fault of bytes that are none, and a file as it is written.
-use Rattle.std.specs.Prelude.{◌≡◌, ℕ, ◌==◌, ◌⊎◌, List, [], ◌∷◌, ◌++◌, map, Result, Ok, Err, if◌then◌else◌, codes}
+use Rattle.std.specs.Prelude.{◌≡◌, ℕ, ◌==◌, ◌⊎◌, List, [], ◌∷◌, ◌++◌, map, if◌then◌else◌, codes}
 use Rattle.ksi_tlv.specs.Spelling.{Tlv, plain}
 use Rattle.ksi_tlv.specs.Numerals.{numeral}
 use Rattle.ksi_tlv.specs.Walking.{PlacedTlv}

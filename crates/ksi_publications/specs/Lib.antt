@@ -1,3 +1,6 @@
+pub use Rattle.ksi_grammar.specs.Table
+pub use Rattle.ksi_grammar.specs.Valid
+pub use Rattle.ksi_grammar.specs.Published
 pub mod Tables
 pub mod File
 pub mod Finding

@@ -1,5 +1,5 @@
 -- The tables of a publications file.
-use Rattle.std.specs.Prelude.{ℕ, ◌==◌, List, [], ◌∷◌, Ok, if◌then◌else◌}
+use Rattle.std.specs.Prelude.{◌==◌, [], ◌∷◌, Ok, if◌then◌else◌}
 use Rattle.ksi_tlv.specs.Walking.{PlacedTlv}
 use Rattle.ksi_grammar.specs.Table.{Verdict, Table, exactly_once, at_most_once, any_number}
 use Rattle.ksi_grammar.specs.Reading.{inner_verdict}

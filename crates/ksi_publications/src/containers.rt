@@ -4,6 +4,9 @@ ghost use Rattle.ksi_publications.specs.Tables.{header_table, file_table};
 use ksi_grammar::{ElementFault, Grammar, RecordContent, Row, Seen, check, missing, number, time};
 use ksi_tlv::Placed;
 
+/// The bytes that a file begins with.
+pub(crate) const MAGIC: &[u8; 8] = b"KSIPUBLF";
+
 pub(crate) const VERSION: u16 = 0x01;
 
 pub(crate) const CREATION: u16 = 0x02;

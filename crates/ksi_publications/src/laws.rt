@@ -1,4 +1,4 @@
-//! Laws of publications files, for the proofs of the layers above. No code calls them.
+//! Laws of publications files, for the proofs of the layers above. They do nothing when they are called.
 
 ghost use Rattle.std.specs.Prelude.{◌≡◌, ◌<◌, ◌^◌, ◌⊎◌, ℕ, List};
 ghost use Rattle.std.specs.List.{AllByRecursion};

@@ -25,6 +25,14 @@ impl Publications {
         Publications { pairs }
     }
 
+    /// The times and hashes in order, which are not copied.
+    pub fn into_vec(self) -> Vec<(u64, Imprint)>
+        ensures { result.items ≡ self }
+    {
+        let Publications { pairs } = self;
+        pairs
+    }
+
     /// The times and hashes in order.
     pub fn pairs(&self) -> &[(u64, Imprint)]
         ensures { result.now ≡ self.now }

@@ -11,7 +11,7 @@ ghost use Rattle.ksi_publications.specs.Tables.{file_table};
 ghost use Rattle.ksi_publications.specs.File.{magic, pairs_of, IsNamed, IsPublications, IsPublicationsFault};
 
 use crate::NoMemory;
-use crate::containers::{FileContent, RECORD};
+use crate::containers::{FileContent, MAGIC, RECORD};
 use crate::fault::PubFault;
 use crate::laws::file_or_fault;
 use crate::publications::Publications;
@@ -19,8 +19,6 @@ use ksi_grammar::{ElementFault, check, faults_by_table, held_is_whole, recorded,
 use ksi_imprint::Imprint;
 use ksi_tlv::{Elements, Placed};
 use std::alloc::Global;
-
-const MAGIC: &[u8; 8] = b"KSIPUBLF";
 
 /// Reads a publications file. Memory is taken only where the whole file is one.
 pub fn read(alloc: Global, bytes: &[u8]) -> Result<Publications, PubFault>

@@ -7,14 +7,12 @@ ghost use Rattle.ksi_tlv.specs.Writing.{texts};
 ghost use Rattle.ksi_publications.specs.File.{header_element, record_element, publications_text, IsPublications};
 
 use crate::NoMemory;
-use crate::containers::{CREATION, HEADER, RECORD, VERSION};
+use crate::containers::{CREATION, HEADER, MAGIC, RECORD, VERSION};
 use crate::laws::written_is_publications;
 use ksi_grammar::{put_short, written_record};
 use ksi_imprint::{Bytes, Imprint};
 use ksi_tlv::{Writer, numeral_is_read};
 use std::alloc::Global;
-
-const MAGIC: &[u8; 8] = b"KSIPUBLF";
 
 /// A publications file of version 1 with these published times and hashes in this order, without references.
 pub fn write(alloc: Global, creation: u64, pairs: &[(u64, Imprint)]) -> Result<Bytes, NoMemory>
