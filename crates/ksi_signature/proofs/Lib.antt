@@ -1,0 +1,4 @@
+pub mod Whole
+pub mod Says
+pub mod Limits
+pub mod Order

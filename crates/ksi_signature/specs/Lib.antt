@@ -1,0 +1,6 @@
+pub mod Tables
+pub mod Values
+pub mod Contents
+pub mod File
+pub mod Places
+pub mod Order

@@ -1,0 +1,187 @@
+ghost use Rattle.std.specs.Prelude.{◌≡◌, Some, refl};
+ghost use Rattle.ksi_grammar.specs.declared.row.Over.TheVariants.{Links};
+ghost use Rattle.ksi_signature.specs.Tables.{link_table, chain_table, calendar_table, signature_table};
+
+use crate::kinds::{
+    AGGREGATION_TIME, ALGORITHM, CALENDAR, CHAIN, CORRECTION, IMPRINT, INDEX_PART, INPUT_DATA,
+    INPUT_HASH, LEFT_LINK, LEGACY, METADATA, PUBLICATION, PUBLICATION_TIME, RIGHT_LINK,
+};
+use ksi_grammar::{
+    ElementFault, Grammar, Over, RecordContent, Row, Seen, algorithm, check, imprint, level,
+    missing, number, raw, time,
+};
+use ksi_tlv::Placed;
+
+/// A level correction or none, and one sibling.
+#[derive(Clone, Copy)]
+pub struct LinkContent;
+
+impl Grammar for LinkContent {
+    ghost table = { link_table };
+
+    fn row(kind: u16) -> Option<Row> {
+        match kind {
+            CORRECTION => Some(Row::once(0)),
+            IMPRINT | LEGACY | METADATA => Some(Row {
+                slot: 1,
+                most: Some(1),
+                over: Over::Sibling,
+            }),
+            _ => None,
+        }
+    }
+
+    fn is_refused(_kind: u16) -> bool {
+        false
+    }
+
+    fn content(at: &Placed<'_>) -> Result<(), ElementFault> {
+        match at.element.kind {
+            CORRECTION => level(at).map(|_| ()),
+            IMPRINT => imprint(at).map(|_| ()),
+            _ => raw(at),
+        }
+    }
+
+    fn end(seen: &Seen, place: usize) -> Result<(), ElementFault> {
+        if seen[1] == 0 {
+            Err(ElementFault::Sibling(place))
+        } else {
+            Ok(())
+        }
+    }
+
+    ghost well_formed = { refl };
+}
+
+/// Aggregation time, index parts, input data, input hash, algorithm and links.
+#[derive(Clone, Copy)]
+pub struct ChainContent;
+
+impl Grammar for ChainContent {
+    ghost table = { chain_table };
+
+    fn row(kind: u16) -> Option<Row> {
+        match kind {
+            AGGREGATION_TIME => Some(Row::once(0)),
+            INDEX_PART => Some(Row::any(1)),
+            INPUT_DATA => Some(Row::once(2)),
+            INPUT_HASH => Some(Row::once(3)),
+            ALGORITHM => Some(Row::once(4)),
+            LEFT_LINK | RIGHT_LINK => Some(links(5)),
+            _ => None,
+        }
+    }
+
+    fn is_refused(_kind: u16) -> bool {
+        false
+    }
+
+    fn content(at: &Placed<'_>) -> Result<(), ElementFault> {
+        match at.element.kind {
+            AGGREGATION_TIME => time(at).map(|_| ()),
+            INDEX_PART => number(at).map(|_| ()),
+            INPUT_DATA => Ok(()),
+            INPUT_HASH => imprint(at).map(|_| ()),
+            ALGORITHM => algorithm(at).map(|_| ()),
+            _ => check::<LinkContent>(at.place, at.inside, at.element.body),
+        }
+    }
+
+    fn end(seen: &Seen, place: usize) -> Result<(), ElementFault> {
+        let needs = [
+            (0, AGGREGATION_TIME),
+            (1, INDEX_PART),
+            (3, INPUT_HASH),
+            (4, ALGORITHM),
+        ];
+        missing(&needs, seen, place)
+    }
+
+    ghost well_formed = { refl };
+}
+
+/// Publication time, aggregation time or none, input hash and links.
+#[derive(Clone, Copy)]
+pub struct CalendarContent;
+
+impl Grammar for CalendarContent {
+    ghost table = { calendar_table };
+
+    fn row(kind: u16) -> Option<Row> {
+        match kind {
+            PUBLICATION_TIME => Some(Row::once(0)),
+            AGGREGATION_TIME => Some(Row::once(1)),
+            INPUT_HASH => Some(Row::once(2)),
+            LEFT_LINK | RIGHT_LINK => Some(links(3)),
+            _ => None,
+        }
+    }
+
+    fn is_refused(_kind: u16) -> bool {
+        false
+    }
+
+    fn content(at: &Placed<'_>) -> Result<(), ElementFault> {
+        match at.element.kind {
+            PUBLICATION_TIME | AGGREGATION_TIME => time(at).map(|_| ()),
+            _ => imprint(at).map(|_| ()),
+        }
+    }
+
+    fn end(seen: &Seen, place: usize) -> Result<(), ElementFault> {
+        missing(&[(0, PUBLICATION_TIME), (2, INPUT_HASH)], seen, place)
+    }
+
+    ghost well_formed = { refl };
+}
+
+/// Aggregation chains, a calendar chain or none, and a publication record or none.
+#[derive(Clone, Copy)]
+pub struct SignatureContent;
+
+impl Grammar for SignatureContent {
+    ghost table = { signature_table };
+
+    fn row(kind: u16) -> Option<Row> {
+        match kind {
+            CHAIN => Some(Row {
+                slot: 0,
+                most: Some(16),
+                over: Over::Chains,
+            }),
+            CALENDAR => Some(Row::once(1)),
+            PUBLICATION => Some(Row::once(2)),
+            _ => None,
+        }
+    }
+
+    fn is_refused(kind: u16) -> bool {
+        matches!(kind, 0x804..=0x806)
+    }
+
+    fn content(at: &Placed<'_>) -> Result<(), ElementFault> {
+        match at.element.kind {
+            CHAIN => check::<ChainContent>(at.place, at.inside, at.element.body),
+            CALENDAR => check::<CalendarContent>(at.place, at.inside, at.element.body),
+            _ => check::<RecordContent>(at.place, at.inside, at.element.body),
+        }
+    }
+
+    fn end(seen: &Seen, place: usize) -> Result<(), ElementFault> {
+        missing(&[(0, CHAIN)], seen, place)
+    }
+
+    ghost well_formed = { refl };
+}
+
+/// A slot that may hold 63 links.
+fn links(slot: usize) -> Row
+    ensures { result ≡ record { slot = slot; most = Some 63; over = Links } }
+{
+    Row {
+        slot,
+        most: Some(63),
+        over: Over::Links,
+    }
+}

@@ -1,0 +1,67 @@
+ghost use Rattle.std.specs.Prelude.{◌≡◌, ◌<◌, ◌^◌, Ok};
+ghost use Rattle.ksi_tlv.specs.Seen.{view_placed};
+ghost use Rattle.ksi_tlv.specs.Numerals.{number_of};
+ghost use Rattle.ksi_grammar.specs.Contents.{passes, number_in, time_in, level_in, imprint_in};
+ghost use Rattle.ksi_signature.specs.Contents.{side_in};
+
+use crate::kinds::LEFT_LINK;
+use ksi_grammar::{imprint, level, number, time};
+use ksi_imprint::Imprint;
+use ksi_split::Side;
+use ksi_tlv::Placed;
+
+/// The number that an accepted element says.
+pub(crate) fn number_of(part: &Placed<'_>) -> u64
+    requires { passes (number_in (view_placed part.now)) ≡ Ok tt }
+    ensures { result ≡ number_of part.now.element.body.now }
+{
+    match number(part) {
+        Ok(n) => n,
+        Err(_) => 0,
+    }
+}
+
+/// The time that an accepted element says.
+pub(crate) fn time_of(part: &Placed<'_>) -> u64
+    requires { passes (time_in (view_placed part.now)) ≡ Ok tt }
+    ensures value { result ≡ number_of part.now.element.body.now }
+    ensures below { result < 2 ^ 63 }
+{
+    match time(part) {
+        Ok(time) => time,
+        Err(_) => 0,
+    }
+}
+
+/// The level correction that an accepted element says.
+pub(crate) fn level_of(part: &Placed<'_>) -> u8
+    requires { passes (level_in (view_placed part.now)) ≡ Ok tt }
+    ensures { result ≡ number_of part.now.element.body.now }
+{
+    match level(part) {
+        Ok(level) => level,
+        Err(_) => 0,
+    }
+}
+
+/// The imprint that an accepted element says.
+pub(crate) fn imprint_of(part: &Placed<'_>) -> Imprint
+    requires { passes (imprint_in (view_placed part.now)) ≡ Ok tt }
+    ensures { result ≡ part.now.element.body.now }
+{
+    match imprint(part) {
+        Ok(imprint) => imprint,
+        Err(_) => Imprint::ZERO,
+    }
+}
+
+/// The side that a link is called after.
+pub(crate) fn side_of(at: &Placed<'_>) -> Side
+    ensures { result ≡ side_in (view_placed at.now) }
+{
+    if at.element.kind == LEFT_LINK {
+        Side::Left
+    } else {
+        Side::Right
+    }
+}

@@ -1,0 +1,43 @@
+//! Laws of signatures, for the proofs of the layers above. No code calls them.
+
+ghost use Rattle.std.specs.Prelude.{◌≡◌, ◌↔◌, ◌⊎◌, ℕ, List, Ok, Err};
+ghost use Rattle.ksi_tlv.specs.Spelling.{AreBytes};
+ghost use Rattle.ksi_tlv.specs.Walking.{PlacedTlv};
+ghost use Rattle.ksi_signature.specs.Values.{Fall};
+ghost use Rattle.ksi_signature.specs.Contents.{signature_of};
+ghost use Rattle.ksi_signature.specs.Order.{chains_among, with_parts};
+ghost use Rattle.ksi_signature.specs.declared.fault.SigFault.{SigFault};
+ghost use Rattle.ksi_signature.specs.declared.signature.Signature.{Signature};
+ghost use Rattle.ksi_signature.specs.File.{IsSignature, IsSignatureFault, answer_of};
+
+use ksi_grammar::whole_or_fault;
+use ksi_tlv::front_by_spelling;
+
+/// Bytes are a signature or have a first fault, and not both; and they are one signature and have one first fault.
+/// Reading from left to right comes to no fault exactly where they are a signature, and to a fault exactly where it is
+/// the first.
+pub fn signature_or_fault()
+    ensures one { (bytes : List ℕ) → AreBytes bytes →
+        ((signature : Signature) × IsSignature bytes signature) ⊎ ((fault : SigFault) × IsSignatureFault bytes fault) }
+    ensures not_both { (bytes : List ℕ) (signature : Signature) (fault : SigFault) → AreBytes bytes →
+        IsSignature bytes signature → IsSignatureFault bytes fault → ⊥ }
+    ensures one_signature { (bytes : List ℕ) (some other : Signature) →
+        IsSignature bytes some → IsSignature bytes other → some ≡ other }
+    ensures one_fault { (bytes : List ℕ) (fault other : SigFault) → AreBytes bytes →
+        IsSignatureFault bytes fault → IsSignatureFault bytes other → fault ≡ other }
+    ensures whole { (bytes : List ℕ) → AreBytes bytes →
+        (answer_of bytes ≡ Ok tt) ↔ ((signature : Signature) × IsSignature bytes signature) }
+    ensures fault { (bytes : List ℕ) (fault : SigFault) → AreBytes bytes →
+        (answer_of bytes ≡ Err fault) ↔ IsSignatureFault bytes fault }
+{
+    whole_or_fault();
+    front_by_spelling();
+}
+
+/// The chains of a signature stand by falling number of index parts, and those of equal number in the order of the
+/// bytes.
+pub fn chains_in_order()
+    ensures fall { (es : List PlacedTlv) → Fall (signature_of es).chains }
+    ensures equal { (parts : ℕ) (es : List PlacedTlv) →
+        with_parts parts (signature_of es).chains ≡ with_parts parts (chains_among es) }
+{}

@@ -1,0 +1,41 @@
+//! Signatures of Keyless Signatures' Infrastructure (Buldas, Kroonmaa, Laanoja, "Keyless Signatures' Infrastructure",
+//! 2013): aggregation chains from a document's hash to the root of a second, a calendar chain from there to the root of a
+//! calendar tree, and a record of where that root was published. A file is one TLV element with these inside, in any
+//! order.
+//!
+//! The layer above may rely on this: [`read`] gives exactly the signature that the bytes are, or the first fault in
+//! reading order, which it and [`check`] find without taking memory; for all bytes exactly one of both stands; chains
+//! stand by falling number of index parts; and the types keep what the format limits: 1 to 16 chains, an index of 1 part
+//! or more, at most 63 links, raw siblings of 1 to 4,096 bytes, and times below 2^63.
+//!
+//! ```text
+//! let signature = read(alloc, bytes)?;
+//! for chain in signature.chains.as_slice() {
+//!     let top = climb::<Sha>(chain.input, 0, chain.links.as_slice())?;
+//! }
+//! let proved = signature.calendar.as_ref().map(|chain| climb_cal::<Sha>(chain.input, chain.links.as_slice()));
+//! ```
+#![tactic(auto)]
+
+mod checker;
+mod containers;
+mod contents;
+mod fault;
+mod kinds;
+mod laws;
+mod links;
+mod lists;
+mod parts;
+mod reader;
+mod signature;
+#[cfg(test)]
+mod tests;
+
+pub use checker::check;
+pub use containers::{CalendarContent, ChainContent, LinkContent, SignatureContent};
+pub use fault::SigFault;
+pub use ksi_imprint::NoMemory;
+pub use laws::{chains_in_order, signature_or_fault};
+pub use lists::{Bodies, CalLinks, Chains, Index, Links};
+pub use reader::read;
+pub use signature::{AggChain, CalChain, PubRecord, Signature};

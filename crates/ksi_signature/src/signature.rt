@@ -1,0 +1,77 @@
+ghost use Rattle.std.specs.Prelude.{◌<◌, ◌^◌};
+ghost use Rattle.ksi_signature.specs.Values.{Aggregation, Calendar, Publishing};
+
+use crate::lists::{Bodies, CalLinks, Chains, Index, Links};
+use ksi_imprint::{Bytes, Imprint};
+use std::marker::Model;
+
+/// An aggregation hash chain.
+#[derive(Drop, Debug)]
+pub struct AggChain {
+    /// The second of the aggregation, below 2^63.
+    pub time: u64,
+    /// Where the chain stands in the tree of chains.
+    pub index: Index,
+    /// What was hashed into the input, where it is told.
+    pub input_body: Option<Bytes>,
+    /// What the links lead from.
+    pub input: Imprint,
+    /// The lowest first.
+    pub links: Links,
+}
+
+impl Model for AggChain {
+    ghost Value = { Aggregation };
+
+    ghost view = { λ chain. record { time = chain.time; index = chain.index; input_body = chain.input_body; input = chain.input; links = chain.links } };
+
+    ghost invariant = { λ chain. chain.time < 2 ^ 63 };
+}
+
+/// A calendar hash chain.
+#[derive(Drop, Debug)]
+pub struct CalChain {
+    /// The last second of the tree that the links lead to the root of, below 2^63.
+    pub publication: u64,
+    /// The second that the links lead from, below 2^63.
+    pub time: u64,
+    /// The root of that second.
+    pub input: Imprint,
+    /// The lowest first.
+    pub links: CalLinks,
+}
+
+impl Model for CalChain {
+    ghost Value = { Calendar };
+
+    ghost view = { λ chain. record { publication = chain.publication; time = chain.time; input = chain.input; links = chain.links } };
+
+    ghost invariant = { λ chain. (chain.publication < 2 ^ 63) × (chain.time < 2 ^ 63) };
+}
+
+/// A publication record.
+#[derive(Drop, Debug)]
+pub struct PubRecord {
+    /// The published second, below 2^63.
+    pub time: u64,
+    /// The published root of the calendar tree to that second.
+    pub hash: Imprint,
+    pub references: Bodies,
+    pub repositories: Bodies,
+}
+
+impl Model for PubRecord {
+    ghost Value = { Publishing };
+
+    ghost view = { λ published. record { time = published.time; hash = published.hash; references = published.references; repositories = published.repositories } };
+
+    ghost invariant = { λ published. published.time < 2 ^ 63 };
+}
+
+/// A signature.
+#[derive(Drop, Debug)]
+pub struct Signature {
+    pub chains: Chains,
+    pub calendar: Option<CalChain>,
+    pub publication: Option<PubRecord>,
+}
