@@ -32,6 +32,7 @@ pub enum SigFault {
     Sibling(usize),
     /// S14: a time is not below 2^63.
     Time(usize),
+    /// Memory was wanting for the signature that the bytes are.
     NoMemory,
 }
 

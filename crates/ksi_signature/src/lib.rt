@@ -1,7 +1,7 @@
 //! Signatures of Keyless Signatures' Infrastructure (Buldas, Kroonmaa, Laanoja, "Keyless Signatures' Infrastructure",
 //! 2013): aggregation chains from a document's hash to the root of a second, a calendar chain from there to the root of a
 //! calendar tree, and a record of where that root was published. A file is one TLV element with these inside, in any
-//! order.
+//! order: Guardtime's published format, as docs/FORMATS.md tells it.
 //!
 //! The layer above may rely on this: [`read`] gives exactly the signature that the bytes are, or the first fault in
 //! reading order, which it and [`check`] find without taking memory; for all bytes exactly one of both stands; chains
@@ -10,8 +10,9 @@
 //!
 //! ```text
 //! let signature = read(alloc, bytes)?;
-//! for chain in signature.chains.as_slice() {
-//!     let top = climb::<Sha>(chain.input, 0, chain.links.as_slice())?;
+//! if let [first, ..] = signature.chains.as_slice() {
+//!     // the next chain goes on from this item, at its level
+//!     let top = climb::<Sha>(first.input, 0, first.links.as_slice())?;
 //! }
 //! let proved = signature.calendar.as_ref().map(|chain| climb_cal::<Sha>(chain.input, chain.links.as_slice()));
 //! ```

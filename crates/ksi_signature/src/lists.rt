@@ -32,6 +32,7 @@ impl Index {
         Index { parts }
     }
 
+    /// The parts in the order of the file.
     pub fn as_slice(&self) -> &[u64]
         ensures parts { result.now ≡ self.now }
         ensures some { 0 < length self.now }
@@ -72,6 +73,7 @@ impl Links {
         Links { links }
     }
 
+    /// The links, the lowest first.
     pub fn as_slice(&self) -> &[Link]
         ensures links { result.now ≡ self.now }
         ensures limits { AreLinks self.now }
@@ -111,6 +113,7 @@ impl CalLinks {
         CalLinks { links }
     }
 
+    /// The links, the lowest first.
     pub fn as_slice(&self) -> &[CalLink]
         ensures links { result.now ≡ self.now }
         ensures count { length self.now ≤ 63 }
@@ -147,6 +150,7 @@ impl Bodies {
         Bodies { bodies }
     }
 
+    /// The bodies in the order of the file.
     pub fn as_slice(&self) -> &[Bytes]
         ensures { result.now ≡ self.now }
     {
@@ -185,6 +189,7 @@ impl Chains {
         Chains { chains }
     }
 
+    /// The chains in their order.
     pub fn as_slice(&self) -> &[AggChain]
         ensures chains { result.now ≡ self.now }
         ensures limits { AreChains self.now }

@@ -10,7 +10,7 @@ use std::marker::Model;
 pub struct AggChain {
     /// The second of the aggregation, below 2^63.
     pub time: u64,
-    /// Where the chain stands in the tree of chains.
+    /// Numbers that say where the chain stands, the last of them the chain's shape.
     pub index: Index,
     /// What was hashed into the input, where it is told.
     pub input_body: Option<Bytes>,
@@ -56,7 +56,9 @@ pub struct PubRecord {
     pub time: u64,
     /// The published root of the calendar tree to that second.
     pub hash: Imprint,
+    /// Where the publication can be looked up, in the order of the file.
     pub references: Bodies,
+    /// Where publications files can be had, in the order of the file.
     pub repositories: Bodies,
 }
 
@@ -71,7 +73,10 @@ impl Model for PubRecord {
 /// A signature.
 #[derive(Drop, Debug)]
 pub struct Signature {
+    /// The lowest first: `read` has them by falling number of index parts.
     pub chains: Chains,
+    /// From the second's root to a root of the calendar.
     pub calendar: Option<CalChain>,
+    /// Where that root was published.
     pub publication: Option<PubRecord>,
 }

@@ -65,6 +65,45 @@ fn answers_the_first_fault(rt: HostRuntime) -> Result<(), Fail> {
     Ok(())
 }
 
+/// A signature whose chain has one link with this body, of at most 63 bytes.
+fn with_link(alloc: Global, body: &[u8]) -> Result<Bytes, NoMemory> {
+    let size = body.len().min(63) as u8;
+    joined(
+        alloc,
+        &[
+            &[0x88, 0x00, 0x00, 0x5c + size, 0x88, 0x01, 0x00, 0x2d + size],
+            &S0[8..51],
+            &[0x07, size],
+            body,
+            &S0[51..],
+        ],
+    )
+}
+
+#[test]
+fn links_have_one_sibling(rt: HostRuntime) -> Result<(), Fail> {
+    let rows: [(&[u8], Result<(), SigFault>); 6] = [
+        (&[0x03, 0x01, 0xff], Ok(())),
+        (&[], Err(SigFault::Sibling(51))),
+        (&[0x03, 0x00], Err(SigFault::Sibling(53))),
+        (&[0x03, 0x01, 0xff, 0x04, 0x00], Err(SigFault::Sibling(56))),
+        (&[0x01, 0x00, 0x01, 0x00], Err(SigFault::Repeated(1, 55))),
+        (&[0x01, 0x02, 0x01, 0x00], Err(SigFault::Number(53))),
+    ];
+    for (body, want) in rows {
+        let bytes = with_link(rt.alloc(), body)?;
+        assert_eq!(rt; check(bytes.as_slice()), want);
+    }
+    let mut late = Vec::new(rt.alloc());
+    late.extend_from_slice(&[0x88, 0x00, 0x00, 0x62, 0x88, 0x01, 0x00, 0x33])?;
+    late.extend_from_slice(&[0x02, 0x08, 0x80, 0, 0, 0, 0, 0, 0, 0])?;
+    late.extend_from_slice(&S0[10..])?;
+    assert_eq!(rt; check(late.as_slice()), Err(SigFault::Time(8)));
+    let answer = read(rt.alloc(), late.as_slice());
+    assert!(rt; matches!(answer, Err(SigFault::Time(8))));
+    Ok(())
+}
+
 #[test]
 fn counts_chains_and_links(rt: HostRuntime) -> Result<(), Fail> {
     let mut chains = Vec::new(rt.alloc());
