@@ -123,10 +123,7 @@ fn three_seconds_from_zero(rt: HostRuntime) -> Result<(), Fail> {
         assert_eq!(rt; calendar.node(p, sides), node);
     }
     let chain = [link(Right, 0x0a), link(Left, 0x1e)];
-    assert_eq!(rt;
-        calendar.chain_to(1, 2)?.as_slice(),
-        chain.as_slice()
-    );
+    assert_eq!(rt; calendar.chain_to(1, 2)?.as_slice(), chain.as_slice());
     let same = counted::<Brand>(&calendar, 1, 2, Blank::new(1))?;
     assert_eq!(rt; same.as_slice(), chain.as_slice());
     let last = calendar.chain_to(2, 2)?;

@@ -1,4 +1,4 @@
-use Rattle.std.proofs.Common.{◌≡◌, ◌⊎◌, inl, inr, ◌+◌, length, [], ◌∷◌, ◌∙◌, sym, ap, arith, Option, Some, None}
+use Rattle.std.proofs.Common.{◌≡◌, inl, inr, ◌+◌, length, [], ◌∷◌, ◌∙◌, sym, ap, arith, Option, Some}
 use Rattle.std.proofs.lemmas.Option.{none-some}
 use Rattle.ksi_split.specs.declared.side.Side.TheVariants.{Left, Right}
 use Rattle.ksi_split.specs.Upward.{node, halves}

@@ -1,8 +1,8 @@
-use Rattle.std.proofs.Common.{◌≡◌, ◌≢◌, ◌⊎◌, inl, inr, Some, None, Vec, Global, ◌+◌, ◌-◌, ◌*◌, ◌/◌, ◌%◌, ◌^◌, ◌<◌, ◌≤◌, suc, length, List, [], ◌∷◌, ◌++◌, refl, sym, ◌∙◌, ap, ℕ, arith, add-one, append-nil}
+use Rattle.std.proofs.Common.{◌≡◌, ◌≢◌, inl, inr, Some, Vec, Global, ◌+◌, ◌/◌, ◌%◌, ◌<◌, ◌≤◌, length, [], ◌∷◌, refl, sym, ◌∙◌, ap, ℕ, arith, add-one, append-nil}
 use Rattle.std.proofs.lemmas.List.{length-append}
 use Rattle.ksi_split.specs.Upward.{node, halves, links_up, whole}
 use Rattle.ksi_split.specs.declared.tree_link.TreeLink.{TreeLink}
-use Rattle.ksi_split.proofs.Powers.{lt_cases, halves_rise, halves_quotient, halves_none, halved_below, last_pair}
+use Rattle.ksi_split.proofs.Powers.{lt_cases, halves_rise, halves_none, halved_below, last_pair}
 use Rattle.ksi_split.proofs.Upward.{path_is, links_next}
 use Rattle.ksi_rows.specs.Leaves.{leaf_of}
 use Rattle.ksi_rows.proofs.rows.Rows.path_counted.Goals as goal

@@ -1,5 +1,4 @@
-use Rattle.std.proofs.Common.{◌≡◌, ◌+◌, ◌<◌, ◌≤◌, ◌∙◌, sym, ap, arith, Option, Some, None}
-use Rattle.std.proofs.lemmas.Option.{none-some}
+use Rattle.std.proofs.Common.{◌≡◌, ◌+◌, ◌<◌, arith, Option, Some}
 use Rattle.ksi_split.specs.Upward.{node, halves}
 use Rattle.ksi_split.proofs.Powers.{halves_quotient}
 use Rattle.ksi_rows.specs.Leaves.{leaf_of}
