@@ -24,6 +24,7 @@ mod rows;
 mod steps;
 #[cfg(test)]
 mod tests;
+mod uncounted;
 mod zeros;
 
 pub use joins::Joins;

@@ -9,6 +9,7 @@ use crate::joins::Joins;
 use crate::levels::{add, completed, count, empty_rows, grow, levels, part};
 use crate::row::Row;
 use crate::steps::Steps;
+use crate::uncounted::{append_from, leaf_from, node_from, path_from, root_from};
 use crate::zeros::Zeros;
 use ksi_split::{Side, TreeLink, split};
 use std::alloc::Global;
@@ -167,7 +168,11 @@ impl<N: Copy, J: Joins<N>> Rows<N, J> {
         append_from::<N, J, Brand>(self, leaf, Blank::new(1))
     }
 
-    fn append_counted<L: Ledger>(&mut self, leaf: N, steps: &mut Steps<L>) -> Result<(), NoMemory>
+    pub(crate) fn append_counted<L: Ledger>(
+        &mut self,
+        leaf: N,
+        steps: &mut Steps<L>,
+    ) -> Result<(), NoMemory>
         requires { self.old.start + length self.old.items < 2 ^ 63 }
         ensures added { OnOk result (self.new ≡ record self.old { items = self.old.items ++ leaf ∷ [] }) }
         ensures unchanged { OnErr result (self.new ≡ self.old) }
@@ -180,7 +185,7 @@ impl<N: Copy, J: Joins<N>> Rows<N, J> {
         Ok(())
     }
 
-    fn root_counted<L: Ledger>(&self, last: u64, steps: &mut Steps<L>) -> N
+    pub(crate) fn root_counted<L: Ledger>(&self, last: u64, steps: &mut Steps<L>) -> N
         requires { last < self.now.start + length self.now.items }
         ensures { result ≡ tree J.joined (leaf_of self.now) 0 (last + 1) }
     {
@@ -188,7 +193,12 @@ impl<N: Copy, J: Joins<N>> Rows<N, J> {
         self.border(last, levels(last), steps)
     }
 
-    fn node_counted<L: Ledger>(&self, last: u64, sides: &[Side], steps: &mut Steps<L>) -> Option<N>
+    pub(crate) fn node_counted<L: Ledger>(
+        &self,
+        last: u64,
+        sides: &[Side],
+        steps: &mut Steps<L>,
+    ) -> Option<N>
         requires { last < self.now.start + length self.now.items }
         ensures { result ≡ node_at J.joined (leaf_of self.now) last sides.now }
     {
@@ -339,75 +349,4 @@ impl<N: Copy, J: Joins<N>> Rows<N, J> {
             }
         }
     }
-}
-
-fn leaf_from<N: Copy, J: Joins<N>, L: Ledger>(rows: &Rows<N, J>, at: u64, blank: Blank) -> N
-    requires name { blank.name ≡ L.name }
-    requires parts { blank.parts ≡ L.parts }
-    requires one { blank.parts ≡ 1 }
-    requires within { at < rows.now.start + length rows.now.items }
-    ensures { result ≡ leaf_of rows.now at }
-{
-    let mut steps = Steps::<L>::open(blank);
-    rows.leaf_counted(at, &mut steps)
-}
-
-fn root_from<N: Copy, J: Joins<N>, L: Ledger>(rows: &Rows<N, J>, last: u64, blank: Blank) -> N
-    requires name { blank.name ≡ L.name }
-    requires parts { blank.parts ≡ L.parts }
-    requires one { blank.parts ≡ 1 }
-    requires covered { last < rows.now.start + length rows.now.items }
-    ensures { result ≡ tree J.joined (leaf_of rows.now) 0 (last + 1) }
-{
-    let mut steps = Steps::<L>::open(blank);
-    rows.root_counted(last, &mut steps)
-}
-
-fn node_from<N: Copy, J: Joins<N>, L: Ledger>(
-    rows: &Rows<N, J>,
-    last: u64,
-    sides: &[Side],
-    blank: Blank,
-) -> Option<N>
-    requires name { blank.name ≡ L.name }
-    requires parts { blank.parts ≡ L.parts }
-    requires one { blank.parts ≡ 1 }
-    requires covered { last < rows.now.start + length rows.now.items }
-    ensures { result ≡ node_at J.joined (leaf_of rows.now) last sides.now }
-{
-    let mut steps = Steps::<L>::open(blank);
-    rows.node_counted(last, sides, &mut steps)
-}
-
-fn path_from<N: Copy, J: Joins<N>, L: Ledger>(
-    rows: &Rows<N, J>,
-    t: u64,
-    last: u64,
-    blank: Blank,
-) -> Result<Vec<TreeLink<N>>, NoMemory>
-    requires name { blank.name ≡ L.name }
-    requires parts { blank.parts ≡ L.parts }
-    requires one { blank.parts ≡ 1 }
-    requires within { t ≤ last }
-    requires covered { last < rows.now.start + length rows.now.items }
-    ensures { IfOk result (λ path. path.items ≡ path_of J.joined (leaf_of rows.now) 0 t (last + 1)) }
-{
-    let mut steps = Steps::<L>::open(blank);
-    rows.path_counted(t, last, &mut steps)
-}
-
-fn append_from<N: Copy, J: Joins<N>, L: Ledger>(
-    rows: &mut Rows<N, J>,
-    leaf: N,
-    blank: Blank,
-) -> Result<(), NoMemory>
-    requires name { blank.name ≡ L.name }
-    requires parts { blank.parts ≡ L.parts }
-    requires one { blank.parts ≡ 1 }
-    requires room { rows.old.start + length rows.old.items < 2 ^ 63 }
-    ensures added { OnOk result (rows.new ≡ record rows.old { items = rows.old.items ++ leaf ∷ [] }) }
-    ensures unchanged { OnErr result (rows.new ≡ rows.old) }
-{
-    let mut steps = Steps::<L>::open(blank);
-    rows.append_counted(leaf, &mut steps)
 }
