@@ -72,7 +72,7 @@ not_both laws bytes pairs fault file (inr inside) =
     let err : container_verdict file_table 0 8 inside.rest ≡ failed inside.inner = (laws.fault file_table 0 8 inside.rest inside.inner refl).1 inside.first in
     let no : failed inside.inner ≡ Ok tt = sym err ∙ ok in absurd cc
 
-whole-items_of : (es : List PlacedTlv) → whole (items_of es) ≡ es
+pub whole-items_of : (es : List PlacedTlv) → whole (items_of es) ≡ es
 whole-items_of [] = refl
 whole-items_of (at ∷ es) = ap (λ (es : List PlacedTlv). at ∷ es) (whole-items_of es)
 

@@ -1,10 +1,11 @@
 //! Laws of publications files, for the proofs of the layers above. They do nothing when they are called.
 
-ghost use Rattle.std.specs.Prelude.{◌≡◌, ◌<◌, ◌^◌, ◌⊎◌, ℕ, List};
+ghost use Rattle.std.specs.Prelude.{◌≡◌, ◌↔◌, ◌<◌, ◌^◌, ◌⊎◌, ℕ, List, Ok, Err};
 ghost use Rattle.std.specs.List.{AllByRecursion};
 ghost use Rattle.ksi_imprint.specs.Imprints.{IsImprint};
 ghost use Rattle.ksi_publications.specs.declared.fault.PubFault.{PubFault};
 ghost use Rattle.ksi_publications.specs.File.{IsPublications, IsPublicationsFault, publications_text};
+ghost use Rattle.ksi_publications.specs.Reading.{publications_at};
 
 use ksi_grammar::{
     faults_by_table, held_is_whole, record_is_read, whole_or_fault, written_is_whole,
@@ -21,6 +22,17 @@ pub fn file_or_fault()
         IsPublications bytes some → IsPublications bytes others → some ≡ others }
     ensures one_fault { (bytes : List ℕ) (fault other : PubFault) →
         IsPublicationsFault bytes fault → IsPublicationsFault bytes other → fault ≡ other }
+{
+    whole_or_fault();
+    faults_by_table();
+}
+
+/// What is read in bytes are the times and hashes of the file that they are, or its first fault.
+pub fn publications_are_read()
+    ensures pairs { (bytes : List ℕ) (pairs : List (ℕ × List ℕ)) →
+        (publications_at bytes ≡ Ok pairs) ↔ IsPublications bytes pairs }
+    ensures fault { (bytes : List ℕ) (fault : PubFault) →
+        (publications_at bytes ≡ Err fault) ↔ IsPublicationsFault bytes fault }
 {
     whole_or_fault();
     faults_by_table();

@@ -28,7 +28,7 @@ mod writer;
 pub use containers::{FileContent, HeaderContent};
 pub use fault::PubFault;
 pub use ksi_imprint::NoMemory;
-pub use laws::{file_or_fault, written_is_publications};
+pub use laws::{file_or_fault, publications_are_read, written_is_publications};
 pub use publications::Publications;
 pub use reader::read;
 pub use writer::write;

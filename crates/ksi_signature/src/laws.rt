@@ -9,6 +9,7 @@ ghost use Rattle.ksi_signature.specs.Order.{chains_among, with_parts};
 ghost use Rattle.ksi_signature.specs.declared.fault.SigFault.{SigFault};
 ghost use Rattle.ksi_signature.specs.declared.signature.Signature.{Signature};
 ghost use Rattle.ksi_signature.specs.File.{IsSignature, IsSignatureFault, answer_of};
+ghost use Rattle.ksi_signature.specs.Reading.{signature_at};
 
 use ksi_grammar::whole_or_fault;
 use ksi_tlv::front_by_spelling;
@@ -29,6 +30,17 @@ pub fn signature_or_fault()
         (answer_of bytes ≡ Ok tt) ↔ ((signature : Signature) × IsSignature bytes signature) }
     ensures fault { (bytes : List ℕ) (fault : SigFault) → AreBytes bytes →
         (answer_of bytes ≡ Err fault) ↔ IsSignatureFault bytes fault }
+{
+    whole_or_fault();
+    front_by_spelling();
+}
+
+/// What is read in bytes is the signature that they are, or their first fault.
+pub fn signature_is_read()
+    ensures signature { (bytes : List ℕ) (signature : Signature) → AreBytes bytes →
+        (signature_at bytes ≡ Ok signature) ↔ IsSignature bytes signature }
+    ensures fault { (bytes : List ℕ) (fault : SigFault) → AreBytes bytes →
+        (signature_at bytes ≡ Err fault) ↔ IsSignatureFault bytes fault }
 {
     whole_or_fault();
     front_by_spelling();

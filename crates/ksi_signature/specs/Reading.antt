@@ -1,0 +1,22 @@
+-- The signature that bytes are, or their first fault. The law `signature_is_read` says that these are those of `File`.
+use Rattle.std.specs.Prelude.{ℕ, ◌-◌, List, [], length, Result, Ok, Err}
+use Rattle.ksi_tlv.specs.Spelling.{Tlv}
+use Rattle.ksi_tlv.specs.Front.{element_at}
+use Rattle.ksi_tlv.specs.Walking.{PlacedTlv, elements}
+use Rattle.ksi_grammar.specs.Held.{whole}
+use Rattle.ksi_signature.specs.declared.fault.SigFault.{SigFault}
+use Rattle.ksi_signature.specs.declared.signature.Signature.{Signature}
+use Rattle.ksi_signature.specs.Contents.{signature_of}
+use Rattle.ksi_signature.specs.File.{Answer, answer_of}
+
+-- the elements in the one that stands at the front
+abbrev pub elements_in : Result (Tlv × ℕ) ℕ → List PlacedTlv
+elements_in (Err need) = []
+elements_in (Ok found) = whole (elements (found.1 - length found.0.body) found.0.body)
+
+abbrev pub read_as : Signature → Answer → Result Signature SigFault
+read_as signature (Ok u) = Ok signature
+read_as signature (Err fault) = Err fault
+
+unfoldable pub signature_at : List ℕ → Result Signature SigFault
+signature_at bytes = read_as (signature_of (elements_in (element_at bytes))) (answer_of bytes)
