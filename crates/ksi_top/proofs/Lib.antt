@@ -1,6 +1,4 @@
 pub mod CauseLemmas
-pub mod FormLemmas
 pub mod LineLengths
-pub mod PublicationsForm
-pub mod SignatureForm
-pub mod WordLemmas
+pub mod Read
+pub mod Spacing

@@ -1,15 +1,10 @@
 pub mod Reports
 pub mod Causes
 pub mod Codes
-pub mod Forms
+pub mod FaultWords
 pub mod Lines
 pub mod Loading
 pub mod Printed
-pub mod Publications
-pub mod Reading
 pub mod Run
-pub mod Signature
 pub mod Top
-pub mod Verdict
 pub mod Verify
-pub mod Words

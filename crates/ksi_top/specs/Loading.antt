@@ -1,9 +1,13 @@
 -- What a file word stands for.
-use Rattle.std.specs.Prelude.{ℕ, ◌^◌, List, [], length, unwrap_or, nat_lt, Option, Some, None, Result, Ok, Err, if◌then◌else◌}
+use Rattle.std.specs.Prelude.{ℕ, ◌^◌, List, [], length, unwrap_or, nat_lt, Result, Ok, Err, if◌then◌else◌}
 use Rattle.ksi_ports.specs.Stored.{Held}
+use Rattle.ksi_signature.specs.declared.signature.Signature.{Signature}
+use Rattle.ksi_signature.specs.Reading.{signature_at}
+use Rattle.ksi_publications.specs.Reading.{publications_at}
 use Rattle.ksi_top.specs.declared.report.Report.{Report}
 use Rattle.ksi_top.specs.declared.status.Status.TheVariants.{Malformed, TooLong}
 use Rattle.ksi_top.specs.Reports.{report}
+use Rattle.ksi_top.specs.FaultWords.{signature_fault, publications_fault}
 use Rattle.ksi_top.specs.Lines.{too_long_line, malformed_line}
 
 -- the most bytes that a signature file may have, and those of any other file
@@ -28,7 +32,14 @@ within limit n bytes = if nat_lt limit (length bytes) then Err (report TooLong (
 unfoldable pub loaded : ℕ → ℕ → Held → List ℕ → Result (List ℕ) Report
 loaded limit n held name = within limit n (content held name)
 
--- what file word n is, where it is in its grammar
-abbrev pub or_malformed : {T : Type 0} → ℕ → Option T → Result T Report
-or_malformed n (Some value) = Ok value
-or_malformed n None = Err (report Malformed (malformed_line n))
+-- ---- what the bytes of file word n are, where they are in the file's grammar, or the first fault
+
+abbrev pub or_malformed : {T F : Type 0} → (F → List (List ℕ)) → ℕ → Result T F → Result T Report
+or_malformed words_of n (Ok value) = Ok value
+or_malformed words_of n (Err fault) = Err (report Malformed (malformed_line n (words_of fault)))
+
+abbrev pub signature_or_malformed : ℕ → List ℕ → Result Signature Report
+signature_or_malformed n bytes = or_malformed signature_fault n (signature_at bytes)
+
+abbrev pub publications_or_malformed : ℕ → List ℕ → Result (List (ℕ × List ℕ)) Report
+publications_or_malformed n bytes = or_malformed publications_fault n (publications_at bytes)

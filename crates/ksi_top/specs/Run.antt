@@ -2,12 +2,12 @@
 use Rattle.std.specs.Prelude.{ℕ, ◌+◌, List, Option, Some, None, Result, Ok, Err}
 use Rattle.ksi_ports.specs.Stored.{Held, with_file}
 use Rattle.ksi_top.specs.declared.report.Report.{Report}
-use Rattle.ksi_top.specs.declared.asked.WordsRefusal.{WordsRefusal}
-use Rattle.ksi_top.specs.declared.asked.WordsRefusal.TheVariants.{Words, BadWord}
+use Rattle.ksi_words.specs.declared.asked.WordsRefusal.{WordsRefusal}
+use Rattle.ksi_words.specs.declared.asked.WordsRefusal.TheVariants.{Words, BadWord, NoMemory}
 use Rattle.ksi_top.specs.declared.status.Status.TheVariants as statuses
 use Rattle.ksi_top.specs.Reports.{report}
 use Rattle.ksi_top.specs.Lines.{words_refused_line, bad_word_line}
-use Rattle.ksi_top.specs.Words.{Asked, verify, command_of}
+use Rattle.ksi_words.specs.Words.{Asked, verify, command_of}
 use Rattle.ksi_top.specs.Verify.{verify_run, verify_limits, verify_loads}
 
 -- what a command reports
@@ -22,10 +22,11 @@ limits_of (verify signature hash publications) = verify_limits
 abbrev pub loads_of : Asked → Held → ℕ
 loads_of (verify signature hash publications) held = verify_loads signature held
 
--- what words that are no command report
+-- what words that are no command report; that they are none is never said by want of memory
 abbrev pub refused : WordsRefusal → Report
 refused Words = report statuses.Words words_refused_line
 refused (BadWord n) = report statuses.Words (bad_word_line n)
+refused NoMemory = report statuses.Words words_refused_line
 
 abbrev pub run_of : Result Asked WordsRefusal → Held → Report
 run_of (Ok command) held = performed command held

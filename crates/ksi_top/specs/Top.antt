@@ -5,11 +5,11 @@ use Rattle.ksi_ports.specs.Stored.{Held}
 use Rattle.ksi_top.specs.declared.report.Report.{Report}
 use Rattle.ksi_top.specs.declared.report.Cut.{Cut}
 use Rattle.ksi_top.specs.declared.report.Cut.TheVariants as cuts
-use Rattle.ksi_top.specs.declared.asked.WordsRefusal.{WordsRefusal}
+use Rattle.ksi_words.specs.declared.asked.WordsRefusal.{WordsRefusal}
 use Rattle.ksi_top.specs.declared.status.Status.{Status}
 use Rattle.ksi_top.specs.declared.status.Status.TheVariants.{Done, Refused, Words, Malformed, Fault, NoMemory, TooLong}
 use Rattle.ksi_top.specs.Causes.{Counts, Quiet, Faulty, SomePasses}
-use Rattle.ksi_top.specs.Words.{Asked}
+use Rattle.ksi_words.specs.Words.{Asked}
 use Rattle.ksi_top.specs.Run.{limits_of, refused, saved_into}
 
 -- a fact on a run that neither a fault nor want of memory cut short

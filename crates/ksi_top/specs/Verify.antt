@@ -1,19 +1,19 @@
 -- The command `verify`.
-use Rattle.std.specs.Prelude.{ℕ, ◌+◌, List, ◌==◌, Result, Ok, Err, if◌then◌else◌}
+use Rattle.std.specs.Prelude.{ℕ, ◌+◌, List, ◌==◌, if◌then◌else◌}
+use Rattle.ksi_imprint.specs.Imprints.{imprint_of}
 use Rattle.ksi_ports.specs.Stored.{Held}
+use Rattle.ksi_verifier.specs.declared.verdict.Verdict.{Verdict}
+use Rattle.ksi_verifier.specs.declared.verdict.Verdict.TheVariants.{Accepted, Refused}
+use Rattle.ksi_verifier.specs.Verdict.{verdict}
 use Rattle.ksi_top.specs.declared.report.Report.{Report}
-use Rattle.ksi_top.specs.declared.status.Status.TheVariants.{Done, Refused}
-use Rattle.ksi_top.specs.declared.verdict.Refusal.{Refusal}
+use Rattle.ksi_top.specs.declared.status.Status.TheVariants as statuses
 use Rattle.ksi_top.specs.Reports.{report, on, and_then, loads_behind}
-use Rattle.ksi_top.specs.Loading.{loaded, or_malformed, signature_limit, file_limit, no_limit}
+use Rattle.ksi_top.specs.Loading.{loaded, signature_or_malformed, publications_or_malformed, signature_limit, file_limit, no_limit}
 use Rattle.ksi_top.specs.Lines.{accepted_line, refused_line}
-use Rattle.ksi_top.specs.Signature.{signature_at}
-use Rattle.ksi_top.specs.Publications.{publications_at}
-use Rattle.ksi_top.specs.Verdict.{verdict}
 
-abbrev pub judged : Result ℕ Refusal → Report
-judged (Ok second) = report Done (accepted_line second)
-judged (Err refusal) = report Refused (refused_line refusal)
+abbrev pub judged : Verdict → Report
+judged (Accepted second) = report statuses.Done (accepted_line second)
+judged (Refused refusal) = report statuses.Refused (refused_line refusal)
 
 -- word 1 is the signature's file, word 3 the publications'
 abbrev pub verify_limits : ℕ → ℕ
@@ -22,10 +22,10 @@ verify_limits n = if n == 1 then signature_limit else if n == 3 then file_limit 
 -- the signature's file is loaded and read, then the publications file, then the checks are made
 unfoldable pub verify_run : List ℕ → List ℕ → List ℕ → Held → Report
 verify_run signature hash publications held =
-    on (loaded signature_limit 1 held signature) (λ a. on (or_malformed 1 (signature_at a)) (λ s.
-    on (loaded file_limit 3 held publications) (λ b. on (or_malformed 3 (publications_at b)) (λ p.
-    judged (verdict s hash p)))))
+    on (loaded signature_limit 1 held signature) (λ a. on (signature_or_malformed 1 a) (λ s.
+    on (loaded file_limit 3 held publications) (λ b. on (publications_or_malformed 3 b) (λ p.
+    judged (verdict imprint_of s hash p)))))
 
 -- how many files are loaded: the publications only behind a signature that is read
 unfoldable pub verify_loads : List ℕ → Held → ℕ
-verify_loads signature held = 1 + loads_behind (and_then (loaded signature_limit 1 held signature) (λ a. or_malformed 1 (signature_at a))) 1
+verify_loads signature held = 1 + loads_behind (and_then (loaded signature_limit 1 held signature) (signature_or_malformed 1)) 1

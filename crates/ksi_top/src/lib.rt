@@ -10,24 +10,17 @@
 //! ```
 #![tactic(auto)]
 
-mod asked;
-pub mod laws;
+mod fault_line;
 mod line;
 mod loading;
 mod perform;
 mod printed;
-mod publications;
 mod reading;
 mod refusal_line;
 mod report;
-mod signature;
-mod signature_file;
 mod status;
-mod time;
 mod top;
-mod verdict;
 mod verify;
-mod words;
 
 pub use status::Status;
 pub use top::ksi;

@@ -1,8 +1,8 @@
 // The file words that a command reads.
 ghost use Rattle.std.specs.Prelude.{◌≡◌, ◌≤◌, ◌+◌, ℕ, IsTrue};
 ghost use Rattle.ksi_top.specs.Reports.{Gives};
-ghost use Rattle.ksi_top.specs.Causes.{LoadCaused, HaltsJudged, counts};
-ghost use Rattle.ksi_top.specs.Loading.{loaded, or_malformed};
+ghost use Rattle.ksi_top.specs.Causes.{LoadCaused, counts};
+ghost use Rattle.ksi_top.specs.Loading.{loaded};
 
 use crate::printed::Word::{Number, Text};
 use crate::printed::print;
@@ -38,22 +38,8 @@ pub(crate) fn load_file<F: Files>(
         Err(LoadRefusal::Failed) => Err(Halt::Fault),
         Err(LoadRefusal::NoMemory) => Err(Halt::NoMemory),
         Err(LoadRefusal::TooLong) => {
-            let line = print(alloc, &[Text("too long"), Number(n as u64)])?;
+            let line = print(alloc, Text("too"), &[Text("long")], &[Number(n as u64)])?;
             Err(Halt::Reported(Report::new(Status::TooLong, line)))
-        }
-    }
-}
-
-/// What file word `n` was read as, or that it is not in its grammar.
-pub(crate) fn or_malformed<T: Drop>(alloc: Global, n: usize, read: Option<T>) -> Result<T, Halt>
-    ensures told { Gives (or_malformed n read) result }
-    ensures judged { HaltsJudged result }
-{
-    match read {
-        Some(value) => Ok(value),
-        None => {
-            let line = print(alloc, &[Text("malformed"), Number(n as u64)])?;
-            Err(Halt::Reported(Report::new(Status::Malformed, line)))
         }
     }
 }

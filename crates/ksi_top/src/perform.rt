@@ -4,17 +4,17 @@ ghost use Rattle.ksi_top.specs.Reports.{Reports};
 ghost use Rattle.ksi_top.specs.Causes.{ReportCaused, counts};
 ghost use Rattle.ksi_top.specs.Run.{performed, limits_of, loads_of, most_loads, run_loads, refused, run};
 ghost use Rattle.ksi_top.specs.Top.{ReportedAs, RunCaused};
-ghost use Rattle.ksi_top.specs.Words.{asked, texts, command_of};
+ghost use Rattle.ksi_words.specs.declared.asked.WordsRefusal.TheVariants as refusals;
+ghost use Rattle.ksi_words.specs.Words.{asked, texts, command_of};
 
-use crate::asked::{Command, WordsRefusal};
 use crate::printed::Word::{Number, Text};
 use crate::printed::print;
 use crate::report::{Cut, Halt, Report};
 use crate::status::Status;
 use crate::verify::verify;
-use crate::words::command;
 use ksi_imprint::NoMemory;
 use ksi_ports::Files;
+use ksi_words::{Command, WordsRefusal, command};
 use std::alloc::Global;
 
 /// What the words and the files give as a report.
@@ -32,17 +32,16 @@ pub(crate) fn report_of<F: Files>(
     ensures later { F.calls files.old ≤ F.calls files.new }
     ensures causes { RunCaused (command_of (texts words.now)) (counts (F.faults files.old) (F.taken files.old)) (counts (F.faults files.new) (F.taken files.new)) result }
 {
-    match command(words) {
+    match command(alloc, words) {
         Ok(command) => match perform(alloc, files, &command) {
             Ok(report) => Ok(report),
             Err(Halt::Reported(report)) => Ok(report),
             Err(Halt::Fault) => Err(Cut::Fault),
             Err(Halt::NoMemory) => Err(Cut::NoMemory),
         },
-        Err(refusal) => match refuse(alloc, refusal) {
-            Ok(report) => Ok(report),
-            Err(NoMemory) => Err(Cut::NoMemory),
-        },
+        Err(WordsRefusal::Words) => Ok(words_refused(alloc)?),
+        Err(WordsRefusal::BadWord(n)) => Ok(bad_word(alloc, n)?),
+        Err(WordsRefusal::NoMemory) => Err(Cut::NoMemory),
     }
 }
 
@@ -62,12 +61,16 @@ fn perform<F: Files>(alloc: Global, files: &mut F, command: &Command<'_>) -> Res
     }
 }
 
-fn refuse(alloc: Global, refusal: WordsRefusal) -> Result<Report, NoMemory>
-    ensures { IfOk result (λ report. report ≡ refused refusal) }
+fn words_refused(alloc: Global) -> Result<Report, NoMemory>
+    ensures { IfOk result (λ report. report ≡ refused refusals.Words) }
 {
-    let line = match refusal {
-        WordsRefusal::Words => print(alloc, &[Text("words refused")])?,
-        WordsRefusal::BadWord(n) => print(alloc, &[Text("bad word"), Number(n as u64)])?,
-    };
+    let line = print(alloc, Text("words"), &[], &[Text("refused")])?;
+    Ok(Report::new(Status::Words, line))
+}
+
+fn bad_word(alloc: Global, n: usize) -> Result<Report, NoMemory>
+    ensures { IfOk result (λ report. report ≡ refused (refusals.BadWord n)) }
+{
+    let line = print(alloc, Text("bad"), &[Text("word")], &[Number(n as u64)])?;
     Ok(Report::new(Status::Words, line))
 }

@@ -1,7 +1,7 @@
 // A line of words, built in one place.
-ghost use Rattle.std.specs.Prelude.{◌≡◌, ℕ, ◌≤◌, ◌++◌, IfOk, OnOk, map, length, string_bytes};
+ghost use Rattle.std.specs.Prelude.{◌≡◌, ℕ, ◌+◌, ◌≤◌, ◌∷◌, ◌++◌, IfOk, OnOk, map, length, string_bytes};
 ghost use Rattle.std.specs.Fmt.{decimal};
-ghost use Rattle.ksi_top.specs.Lines.{line_of, digest_text};
+ghost use Rattle.ksi_top.specs.Lines.{spaced, line_of, digest_text, optional_text};
 ghost use Rattle.ksi_top.specs.Printed.{word_text, word_room, room};
 
 use crate::line::Line;
@@ -13,24 +13,38 @@ use std::alloc::Global;
 pub(crate) enum Word<'a> {
     Text(&'a str),
     Number(u64),
+    Optional(Option<u64>),
     Digest(&'a Imprint),
 }
 
-/// The words, parted by spaces, and a line feed.
-pub(crate) fn print(alloc: Global, words: &[Word<'_>]) -> Result<Line, NoMemory>
-    requires { room words.now ≤ 32767 }
-    ensures { IfOk result (λ line. line ≡ line_of (map word_text words.now)) }
+/// The words, then the values, parted by spaces, and a line feed.
+pub(crate) fn print(
+    alloc: Global,
+    first: Word<'_>,
+    words: &[Word<'_>],
+    values: &[Word<'_>],
+) -> Result<Line, NoMemory>
+    requires { word_room first + room words.now + room values.now ≤ 32766 }
+    ensures { IfOk result (λ line. line ≡ line_of (word_text first.entry ∷ (map word_text words.now ++ map word_text values.now))) }
 {
     let mut text = String::new(alloc);
-    if let [first, rest @ ..] = words {
-        push_word(alloc, &mut text, *first)?;
-        for word in rest {
-            text.push_str(" ")?;
-            push_word(alloc, &mut text, *word)?;
-        }
-    }
+    push_word(alloc, &mut text, first)?;
+    push_words(alloc, &mut text, words)?;
+    push_words(alloc, &mut text, values)?;
     text.push_str("\n")?;
     Ok(Line::new(text))
+}
+
+/// The words, each behind a space.
+fn push_words(alloc: Global, text: &mut String, words: &[Word<'_>]) -> Result<(), NoMemory>
+    ensures told { OnOk result (string_bytes text.new ≡ string_bytes text.old ++ spaced (map word_text words.now)) }
+    ensures fits { OnOk result (length (string_bytes text.new) ≤ length (string_bytes text.old) + room words.now) }
+{
+    for word in words {
+        text.push_str(" ")?;
+        push_word(alloc, text, *word)?;
+    }
+    Ok(())
 }
 
 fn push_word(alloc: Global, text: &mut String, word: Word<'_>) -> Result<(), NoMemory>
@@ -39,7 +53,8 @@ fn push_word(alloc: Global, text: &mut String, word: Word<'_>) -> Result<(), NoM
 {
     match word {
         Word::Text(piece) => text.push_str(piece),
-        Word::Number(n) => push_number(alloc, text, n),
+        Word::Number(n) | Word::Optional(Some(n)) => push_number(alloc, text, n),
+        Word::Optional(None) => text.push_str("-"),
         Word::Digest(imprint) => text.push_str(digest(alloc, imprint)?.as_str()),
     }
 }

@@ -1,60 +1,42 @@
-// Elements that must stand in one order, read one after the other, and what their bodies are.
+// Files read by their grammars.
 ghost use Rattle.std.specs.Prelude.{◌≡◌};
-ghost use Rattle.std.specs.Option.{option_copied};
-ghost use Rattle.ksi_top.specs.Reading.{piece_at, only_at, number_at, time_at, imprint_or_none, plain_piece};
+ghost use Rattle.ksi_top.specs.Reports.{Gives};
+ghost use Rattle.ksi_top.specs.Causes.{HaltsJudged};
+ghost use Rattle.ksi_top.specs.Loading.{signature_or_malformed, publications_or_malformed};
 
-use crate::time::Time;
-use ksi_imprint::Imprint;
-use ksi_tlv::{number, read_one};
+use crate::fault_line::{publications_fault_line, signature_fault_line};
+use crate::report::{Halt, Report};
+use crate::status::Status;
+use ksi_publications::{Publications, publications_are_read};
+use ksi_signature::{Signature, signature_is_read};
+use std::alloc::Global;
 
-/// An element's body, and the bytes behind the element.
-#[derive(Clone, Copy)]
-pub(crate) struct LentPiece<'a> {
-    pub body: &'a [u8],
-    pub behind: &'a [u8],
-}
-
-/// The element of that kind that stands at the front.
-#[tactic(auto, unfolding(crate::specs::Reading::piece_at))]
-pub(crate) fn piece(kind: u16, bytes: &[u8]) -> Option<LentPiece<'_>>
-    ensures { plain_piece result ≡ piece_at kind bytes.now }
+/// The signature that file word `n` is, or that it is none.
+pub(crate) fn read_signature(alloc: Global, n: usize, bytes: &[u8]) -> Result<Signature, Halt>
+    ensures told { Gives (signature_or_malformed n bytes.now) result }
+    ensures judged { HaltsJudged result }
 {
-    match read_one(bytes) {
-        Ok((element, size)) if element.kind == kind => {
-            let (_, behind) = bytes.split_at(size);
-            Some(LentPiece {
-                body: element.body,
-                behind,
-            })
+    signature_is_read();
+    match ksi_signature::read(alloc, bytes) {
+        Ok(signature) => Ok(signature),
+        Err(fault) => {
+            let line = signature_fault_line(alloc, n, fault)?;
+            Err(Halt::Reported(Report::new(Status::Malformed, line)))
         }
-        _ => None,
     }
 }
 
-/// The body of the element of that kind that the bytes are.
-pub(crate) fn only(kind: u16, bytes: &[u8]) -> Option<&[u8]>
-    ensures { option_copied result ≡ only_at kind bytes.now }
+/// The publications file that file word `n` is, or that it is none.
+pub(crate) fn read_publications(alloc: Global, n: usize, bytes: &[u8]) -> Result<Publications, Halt>
+    ensures told { Gives (publications_or_malformed n bytes.now) result }
+    ensures judged { HaltsJudged result }
 {
-    match piece(kind, bytes) {
-        Some(piece) if piece.behind.is_empty() => Some(piece.body),
-        _ => None,
+    publications_are_read();
+    match ksi_publications::read(alloc, bytes) {
+        Ok(publications) => Ok(publications),
+        Err(fault) => {
+            let line = publications_fault_line(alloc, n, fault)?;
+            Err(Halt::Reported(Report::new(Status::Malformed, line)))
+        }
     }
-}
-
-pub(crate) fn number_in(body: &[u8]) -> Option<u64>
-    ensures { result ≡ number_at body.now }
-{
-    number(body).ok()
-}
-
-pub(crate) fn time_in(body: &[u8]) -> Option<Time>
-    ensures { result ≡ time_at body.now }
-{
-    Time::new(number_in(body)?)
-}
-
-pub(crate) fn imprint_in(body: &[u8]) -> Option<Imprint>
-    ensures { result ≡ imprint_or_none body.now }
-{
-    Imprint::read(body).ok()
 }

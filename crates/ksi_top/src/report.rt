@@ -96,3 +96,14 @@ pub enum Cut {
     Fault,
     NoMemory,
 }
+
+impl From<NoMemory> for Cut {
+    ghost use Rattle.std.specs.Prelude.{◌≡◌};
+    ghost use Rattle.ksi_top.specs.declared.report.Cut.TheVariants as cuts;
+
+    ghost from_gives = { λ _ cut. cut ≡ cuts.NoMemory };
+
+    fn from(_: NoMemory) -> Self {
+        Cut::NoMemory
+    }
+}

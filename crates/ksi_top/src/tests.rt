@@ -6,34 +6,51 @@ use std::alloc::Global;
 use std::test::Fail;
 
 // Files in hex: a signature of A at second 0, and the publications file of A at 0.
-const S0: &str = "8800005a 8801002b 0200 030101 052101A 060101 88020027 0100 0200 052101A";
+const S0: &str = "8800005a L K";
 
 const P0: &str = "4b53495055424c46 87010005 010101 0200 87030027 1025 0200 042101A";
 
-// A text in which A stands for the SHA-256 of no bytes, B for that of "abc", Z for 32 zero bytes.
+// A text in which A stands for the SHA-256 of no bytes, B for that of "abc", Z for 32 zero bytes, L and K for the
+// aggregation chain and the calendar chain of `S0`.
 fn expanded(alloc: Global, text: &str) -> Result<String, Fail> {
     let mut whole = String::new(alloc);
     for c in text.chars() {
         match c {
-            'A' => whole.push_str(
-                "e3b0c44298fc1c149afbf4c8996fb92427ae41e4649b934ca495991b7852b855",
-            )?,
+            'A' => whole.push_str(EMPTY)?,
             'B' => whole.push_str(
                 "ba7816bf8f01cfea414140de5dae2223b00361a396177a9cb410ff61f20015ad",
             )?,
             'Z' => whole.push_str(
                 "0000000000000000000000000000000000000000000000000000000000000000",
             )?,
+            'L' => {
+                whole.push_str("8801002b0200030101052101")?;
+                whole.push_str(EMPTY)?;
+                whole.push_str("060101")?;
+            }
+            'K' => {
+                whole.push_str("8802002701000200052101")?;
+                whole.push_str(EMPTY)?;
+            }
             c => whole.push(c)?,
         }
     }
     Ok(whole)
 }
 
+const EMPTY: &str = "e3b0c44298fc1c149afbf4c8996fb92427ae41e4649b934ca495991b7852b855";
+
+// The bytes of pieces in hex; a piece behind a number and an x stands so often.
 fn bytes(alloc: Global, text: &str) -> Result<Vec<u8>, Fail> {
     let mut bytes = Vec::new(alloc);
     for piece in expanded(alloc, text)?.split_whitespace() {
-        bytes.extend_from_slice(&hex::decode(alloc, piece)?)?;
+        let (times, piece) = match piece.split_once("x") {
+            Some((times, piece)) => (times.parse::<usize>()?, piece),
+            None => (1, piece),
+        };
+        for _ in 0..times {
+            bytes.extend_from_slice(&hex::decode(alloc, piece)?)?;
+        }
     }
     Ok(bytes)
 }
@@ -59,174 +76,280 @@ fn held(
     Ok(files)
 }
 
-#[test]
-fn each_report_has_its_status_and_line(rt: HostRuntime) -> Result<(), Fail> {
+// A run of words over a signature and a publications file, what it must end with and print, and how often it must load.
+struct Row<'a> {
+    words: &'a str,
+    signature: &'a str,
+    publications: &'a str,
+    status: Status,
+    line: &'a str,
+    loads: u64,
+}
+
+fn expect(rt: HostRuntime, row: &Row<'_>) -> Result<(), Fail> {
     let alloc = rt.alloc();
-    let late = "8800005b 8801002b 0200 030101 052101A 060101 88020028 0100 020105 052101A";
-    let early = "8800005b 8801002c 020105 030101 052101A 060101 88020027 0100 0200 052101A";
-    let shape =
-        "88000061 88010032 0200 0308ffffffffffffffff 052101A 060101 88020027 0100 0200 052101A";
-    let torn = "8800005a 8801002b 0200 030101 052101A 060101 88020027 0100 0200 052101B";
-    let missed = "8800005a 8801002b 0200 030101 052101Z 060101 88020027 0100 0200 052101Z";
-    let deep =
-        "88000062 8801002b 0200 030101 052101A 060101 8802002f 01087fffffffffffffff 0200 052101A";
-    let past =
-        "88000062 8801002b 0200 030101 052101A 060101 8802002f 01088000000000000000 0200 052101A";
-    let long =
-        "88000062 88010033 0200 0309000000000000000001 052101A 060101 88020027 0100 0200 052101A";
-    let md5 = "8800005a 8801002b 0200 030101 052101A 060102 88020027 0100 0200 052101A";
-    let other_time = "4b53495055424c46 87010005 010101 0200 87030028 1026 020105 042101A";
-    let other_hash = "4b53495055424c46 87010005 010101 0200 87030027 1025 0200 042101B";
-    let behind = "4b53495055424c46 87010005 010101 0200 87030027 1025 0200 042101A 00";
-    let capital = "verify s E3b0C44298fC1C149afbf4c8996Fb92427ae41e4649b934ca495991b7852b855 p";
-    let almost = "verify s e3b0c44298fc1c149afbf4c8996fb92427ae41e4649b934ca495991b7852b85g p";
+    let mut files = held(alloc, &[], &bytes(alloc, row.signature)?, row.publications)?;
+    let mut out = MemSink::new(alloc, 32_767, Vec::new(alloc))?;
+    let status = ksi(alloc, &words(alloc, row.words)?, &mut files, &mut out);
+    let mut line = expanded(alloc, row.line)?;
+    line.push_str("\n")?;
+    assert_eq!(rt; out.written(), line.as_bytes());
+    assert_eq!(rt;
+        (status, files.calls(), files.faults()),
+        (row.status, row.loads, 0)
+    );
+    Ok(())
+}
+
+#[test]
+fn each_check_has_its_line(rt: HostRuntime) -> Result<(), Fail> {
     let rows = [
-        (S0, "verify s A p", P0, Status::Done, "accepted 0\n", 2),
+        ("8800005a L K", "accepted 0"),
+        ("8800005a K L", "accepted 0"),
+        ("8800005e L K 5e02ffff", "accepted 0"),
         (
-            S0,
-            "verify s B p",
-            P0,
-            Status::Refused,
-            "refused V1 A B\n",
-            2,
+            "8800005a 8801002b 0200 030101 052101B 060101 88020027 0100 0200 052101B",
+            "refused V1 B A",
+        ),
+        ("8800031b 16xL K", "refused V2 0 0 - 1"),
+        (
+            "8800008c 8801002e 0200 030107 030101 052101A 060101 8801002b 0200 030103 052101A 060101 K",
+            "refused V2 0 0 7 3",
         ),
         (
-            shape,
-            "verify s A p",
-            P0,
-            Status::Refused,
-            "refused V3 0 18446744073709551615 1\n",
-            2,
+            "8800008f 88010031 0200 030107 030108 030101 052101A 060101 8801002b 0200 030107 052101A 060101 K",
+            "refused V2 0 1 8 -",
         ),
         (
-            torn,
-            "verify s A p",
-            P0,
-            Status::Refused,
-            "refused V8 A B\n",
-            2,
+            "88000975 88010946 0200 030101 052101A 060101 63x0723022101A K",
+            "refused V3 0 1 18446744073709551615",
         ),
         (
-            missed,
-            "verify s Z p",
-            P0,
-            Status::Refused,
-            "refused V9\n",
-            2,
+            "8800008c 8801002e 0200 030101 030102 052101A 060101 L K",
+            "refused V3 0 2 1",
         ),
         (
-            deep,
-            "verify s A p",
-            P0,
-            Status::Refused,
-            "refused V10 few 9223372036854775807\n",
-            2,
+            "8800008c 8801002e 0200 030101 030101 052101A 060101 L K",
+            "accepted 0",
         ),
         (
-            late,
-            "verify s A p",
-            P0,
-            Status::Refused,
-            "refused V11 5 0\n",
-            2,
+            "880000a7 88010078 0200 030107 052101A 060101 07260101fe022101A 0723022101A K",
+            "refused V4 0 1 256",
         ),
         (
-            early,
-            "verify s A p",
-            P0,
-            Status::Refused,
-            "refused V11 5 0\n",
-            2,
+            "8800008c 8801002e 0200 030101 030101 052101A 060101 8801002b 0200 030101 052101B 060101 K",
+            "refused V5 1 A B",
         ),
         (
-            S0,
-            "verify s A p",
-            other_time,
-            Status::Refused,
-            "refused V13 0\n",
-            2,
+            "8800008d 8801002e 0200 030101 030101 052101A 060101 8801002c 020105 030101 052101A 060101 K",
+            "refused V6 1 0 5",
+        ),
+        ("8800002f L", "refused V7"),
+        ("8800005a L 88020027 0100 0200 052101B", "refused V8 A B"),
+        (
+            "880000c4 L 88020091 010105 0200 052101A 3x082101A",
+            "refused V10 many 2",
         ),
         (
-            S0,
-            "verify s A p",
-            other_hash,
-            Status::Refused,
-            "refused V14 0 B A\n",
-            2,
+            "8800007e L 8802004b 010105 0200 052101A 072101A",
+            "refused V10 few 3",
+        ),
+        ("8800005b L 88020028 0100 020105 052101A", "refused V11 5 0"),
+        (
+            "8800005b 8801002c 020105 030101 052101A 060101 K",
+            "refused V11 5 0",
         ),
         (
-            "88000000",
-            "verify s A p",
-            P0,
-            Status::Malformed,
-            "malformed 1\n",
-            1,
+            "88000086 L K 88030028 1026 020105042101A",
+            "refused V12 time 5 0",
         ),
         (
-            "",
-            "verify s A p",
-            P0,
-            Status::Malformed,
-            "malformed 1\n",
-            1,
+            "88000085 L K 88030027 1025 0200042101B",
+            "refused V12 hash B A",
         ),
         (
-            past,
-            "verify s A p",
-            P0,
-            Status::Malformed,
-            "malformed 1\n",
-            1,
+            "880000a3 8801002c 020105 030101 052101A 060101 8802006f 010105 020105 052101A 2x082101A",
+            "refused V13 5",
         ),
-        (
-            long,
-            "verify s A p",
-            P0,
-            Status::Malformed,
-            "malformed 1\n",
-            1,
-        ),
-        (
-            md5,
-            "verify s A p",
-            P0,
-            Status::Malformed,
-            "malformed 1\n",
-            1,
-        ),
-        (
-            S0,
-            "verify s A p",
-            "4b5349505542",
-            Status::Malformed,
-            "malformed 3\n",
-            2,
-        ),
-        (
-            S0,
-            "verify s A p",
-            behind,
-            Status::Malformed,
-            "malformed 3\n",
-            2,
-        ),
-        (S0, capital, P0, Status::Done, "accepted 0\n", 2),
-        (S0, almost, P0, Status::Words, "bad word 2\n", 0),
-        (S0, "verify s 12 p", P0, Status::Words, "bad word 2\n", 0),
-        (S0, "verify s A", P0, Status::Words, "words refused\n", 0),
-        (S0, "verify s A -", P0, Status::Words, "words refused\n", 0),
-        (S0, "verify - A p", P0, Status::Words, "words refused\n", 0),
-        (S0, "audit s A p", P0, Status::Words, "words refused\n", 0),
-        (S0, "", P0, Status::Words, "words refused\n", 0),
     ];
-    for (signature, line, publications, status, put, calls) in rows {
-        let mut files = held(alloc, &[], &bytes(alloc, signature)?, publications)?;
-        let mut out = MemSink::new(alloc, 32_767, Vec::new(alloc))?;
-        let words = words(alloc, line)?;
-        assert_eq!(rt; ksi(alloc, &words, &mut files, &mut out), status);
-        assert_eq!(rt; out.written(), expanded(alloc, put)?.as_bytes());
-        assert_eq!(rt; files.calls(), calls);
-        assert_eq!(rt; files.faults(), 0);
+    for (signature, line) in rows {
+        let status = if line.starts_with("accepted") {
+            Status::Done
+        } else {
+            Status::Refused
+        };
+        let row = Row {
+            words: "verify s A p",
+            signature,
+            publications: P0,
+            status,
+            line,
+            loads: 2,
+        };
+        expect(rt, &row)?;
+    }
+    let missed = Row {
+        words: "verify s Z p",
+        signature: "8800005a 8801002b 0200 030101 052101Z 060101 88020027 0100 0200 052101Z",
+        publications: P0,
+        status: Status::Refused,
+        line: "refused V9",
+        loads: 2,
+    };
+    expect(rt, &missed)
+}
+
+#[test]
+fn each_fault_has_its_code(rt: HostRuntime) -> Result<(), Fail> {
+    let signatures = [
+        ("", "S1 0"),
+        ("8800005a L K 00", "S2 94"),
+        ("8801005a L K", "S3 2049"),
+        ("8800005e L K 88050000", "S4 2053 94"),
+        ("8800005c L K 1e00", "S5 30 94"),
+        ("88000000", "S6 2049 0"),
+        ("8800002b K", "S6 2049 0"),
+        ("88000085 L K K", "S7 2050 94"),
+        ("8800005a 8801002b 0200 030101 052102A 060101 K", "S8 13"),
+        (
+            "88000063 88010034 0209000000000000000001 030101 052101A 060101 K",
+            "S9 8",
+        ),
+        ("8800005a 8801002b 0200 030101 052101A 060102 K", "S10 2"),
+        (
+            "8800099a 8801096b 0200 030101 052101A 060101 64x0723022101A K",
+            "S11 2382",
+        ),
+        ("8800034a 17xL K", "S12 756"),
+        (
+            "8800005c 8801002d 0200 030101 052101A 060101 0700 K",
+            "S13 51",
+        ),
+        (
+            "88000062 L 8802002f 01088000000000000000 0200 052101A",
+            "S14 55",
+        ),
+    ];
+    for (signature, fault) in signatures {
+        let line = format!(in rt.alloc(); "malformed 1 {fault}")?;
+        let row = Row {
+            words: "verify s A p",
+            signature,
+            publications: P0,
+            status: Status::Malformed,
+            line: line.as_str(),
+            loads: 1,
+        };
+        expect(rt, &row)?;
+    }
+    let files = [
+        ("4b5349505542", "Q1"),
+        ("4b53495055424c46", "Q5 1793 0"),
+        ("4b53495055424c46 87010005 010101 0200 8703", "Q2 17"),
+        (
+            "4b53495055424c46 87010005 010101 0200 87020000",
+            "Q3 1794 17",
+        ),
+        ("4b53495055424c46 87010005 010101 0200 1e00", "Q4 30 17"),
+        (
+            "4b53495055424c46 87010005 010101 0200 87010005 010101 0200",
+            "Q6 1793 17",
+        ),
+        (
+            "4b53495055424c46 87010005 010101 0200 87030027 1025 0200 042102A",
+            "Q7 25",
+        ),
+        (
+            "4b53495055424c46 8701000e 0109000000000000000001 0200",
+            "Q8 12",
+        ),
+        (
+            "4b53495055424c46 87010005 010101 0200 8703002f 102d 02088000000000000000 042101A",
+            "Q9 23",
+        ),
+    ];
+    for (publications, fault) in files {
+        let line = format!(in rt.alloc(); "malformed 3 {fault}")?;
+        let row = Row {
+            words: "verify s A p",
+            signature: S0,
+            publications,
+            status: Status::Malformed,
+            line: line.as_str(),
+            loads: 2,
+        };
+        expect(rt, &row)?;
+    }
+    Ok(())
+}
+
+/// The last row has links; its hashes are those of another implementation of SHA-256.
+#[test]
+fn publications_are_compared(rt: HostRuntime) -> Result<(), Fail> {
+    let linked =
+        "880000c8 88010051 020105 030103 052101A 060101 0723022101B 8802006f 010105 020105 052101ebc92d76a3c945906620f4b6283e127d65881c8a9584e1b6fcd65e55a52332ca 082101B 082101Z";
+    let of_5 =
+        "4b53495055424c46 87010005 010101 0200 87030028 1026 020105 042101697c0cfb23e449352c7d9da7297a948f391d538e8cc14b4efed20c99e9b6dd24";
+    let rows = [
+        (
+            S0,
+            "4b53495055424c46 87010005 010101 0200 87030028 1026 020105 042101A",
+            Status::Refused,
+            "refused V13 0",
+        ),
+        (
+            S0,
+            "4b53495055424c46 87010005 010101 0200 87030027 1025 0200 042101B",
+            Status::Refused,
+            "refused V14 0 B A",
+        ),
+        (
+            S0,
+            "4b53495055424c46 87010005 010101 0200 87030028 1026 020105 042101B 87030027 1025 0200 042101A 87030027 1025 0200 042101B",
+            Status::Done,
+            "accepted 0",
+        ),
+        (linked, of_5, Status::Done, "accepted 5"),
+    ];
+    for (signature, publications, status, line) in rows {
+        let row = Row {
+            words: "verify s A p",
+            signature,
+            publications,
+            status,
+            line,
+            loads: 2,
+        };
+        expect(rt, &row)?;
+    }
+    Ok(())
+}
+
+#[test]
+fn words_are_a_command_or_refused(rt: HostRuntime) -> Result<(), Fail> {
+    let rows = [
+        (
+            "verify s E3b0C44298fC1C149afbf4c8996Fb92427ae41e4649b934ca495991b7852b855 p",
+            Status::Done,
+            "accepted 0",
+            2,
+        ),
+        ("verify s 12 p", Status::Words, "bad word 2", 0),
+        ("verify s A", Status::Words, "words refused", 0),
+        ("verify s A -", Status::Words, "words refused", 0),
+        ("audit s A p", Status::Words, "words refused", 0),
+        ("", Status::Words, "words refused", 0),
+    ];
+    for (words, status, line, loads) in rows {
+        let row = Row {
+            words,
+            signature: S0,
+            publications: P0,
+            status,
+            line,
+            loads,
+        };
+        expect(rt, &row)?;
     }
     Ok(())
 }
@@ -236,7 +359,7 @@ fn a_file_that_passes_its_limit_is_too_long(rt: HostRuntime) -> Result<(), Fail>
     let alloc = rt.alloc();
     let words = words(alloc, "verify s A p")?;
     for (size, status, put) in [
-        (65_539, Status::Malformed, b"malformed 1\n".as_slice()),
+        (65_539, Status::Malformed, b"malformed 1 S1 0\n".as_slice()),
         (65_540, Status::TooLong, b"too long 1\n".as_slice()),
     ] {
         let mut files = held(alloc, &[], &vec![in alloc; 0; size]?, P0)?;

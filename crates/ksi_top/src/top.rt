@@ -3,7 +3,7 @@ ghost use Rattle.std.specs.Prelude.{◌≡◌, ◌≢◌, ℕ, ◌+◌, ◌<◌,
 ghost use Rattle.ksi_top.specs.Top.{UnlessCut, FaultLeaves, outside, WordsStatus, WordsLine, TookTooMuch};
 ghost use Rattle.ksi_top.specs.Causes.{counts};
 ghost use Rattle.ksi_top.specs.Run.{most_calls, run, run_calls, saved_into, saves_of};
-ghost use Rattle.ksi_top.specs.Words.{texts, command_of};
+ghost use Rattle.ksi_words.specs.Words.{texts, command_of};
 
 use crate::perform::report_of;
 use crate::report::{Cut, Report};

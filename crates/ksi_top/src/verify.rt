@@ -2,21 +2,22 @@
 ghost use Rattle.std.specs.Prelude.{◌≡◌, ◌≤◌, ◌+◌, ℕ, IsTrue, IfOk};
 ghost use Rattle.ksi_top.specs.Reports.{Reports};
 ghost use Rattle.ksi_top.specs.Causes.{ReportCaused, IsJudged, counts};
-ghost use Rattle.ksi_top.specs.Verdict.{verdict};
+ghost use Rattle.ksi_imprint.specs.Imprints.{imprint_of};
+ghost use Rattle.ksi_verifier.specs.Verdict.{verdict};
 ghost use Rattle.ksi_top.specs.Verify.{judged, verify_limits, verify_loads, verify_run};
 
-use crate::loading::{FILE_LIMIT, SIGNATURE_LIMIT, load_file, or_malformed};
+use crate::loading::{FILE_LIMIT, SIGNATURE_LIMIT, load_file};
 use crate::printed::Word::{Number, Text};
 use crate::printed::print;
-use crate::publications::{PubRecord, read_publications};
+use crate::reading::{read_publications, read_signature};
 use crate::refusal_line::refusal_line;
 use crate::report::{Halt, Report};
-use crate::signature::Signature;
-use crate::signature_file::read_signature;
 use crate::status::Status;
-use crate::verdict::check;
-use ksi_imprint::{Imprint, NoMemory};
+use ksi_imprint::{Imprint, NoMemory, Sha};
 use ksi_ports::Files;
+use ksi_publications::Publications;
+use ksi_signature::Signature;
+use ksi_verifier::Verdict;
 use std::alloc::Global;
 
 /// Loads and reads the signature, then the publications, and checks the one against the hash and the other.
@@ -36,26 +37,29 @@ pub(crate) fn verify<F: Files>(
     ensures causes { ReportCaused verify_limits (counts (F.faults files.old) (F.taken files.old)) (counts (F.faults files.new) (F.taken files.new)) result }
 {
     let bytes = load_file(alloc, files, SIGNATURE_LIMIT, 1, signature)?;
-    let signature = or_malformed(alloc, 1, read_signature(bytes.as_slice()))?;
+    let signature = read_signature(alloc, 1, bytes.as_slice())?;
     let bytes = load_file(alloc, files, FILE_LIMIT, 3, publications)?;
-    let publication = or_malformed(alloc, 3, read_publications(bytes.as_slice()))?;
-    Ok(judge(alloc, &signature, hash, &publication)?)
+    let publications = read_publications(alloc, 3, bytes.as_slice())?;
+    Ok(judge(alloc, &signature, hash, &publications)?)
 }
 
 fn judge(
     alloc: Global,
     signature: &Signature,
     hash: &Imprint,
-    publication: &PubRecord,
+    publications: &Publications,
 ) -> Result<Report, NoMemory>
-    ensures verdict { IfOk result (λ report. report ≡ judged (verdict signature.now hash.now publication.now)) }
+    ensures verdict { IfOk result (λ report. report ≡ judged (verdict imprint_of signature.now hash.now publications.now)) }
     ensures judged { IfOk result (λ report. IsJudged report) }
 {
-    match check(signature, hash, publication) {
-        Ok(second) => {
-            let line = print(alloc, &[Text("accepted"), Number(second)])?;
+    match ksi_verifier::verify::<Sha>(signature, hash, publications) {
+        Verdict::Accepted(second) => {
+            let line = print(alloc, Text("accepted"), &[], &[Number(second)])?;
             Ok(Report::new(Status::Done, line))
         }
-        Err(refusal) => Ok(Report::new(Status::Refused, refusal_line(alloc, &refusal)?)),
+        Verdict::Refused(refusal) => Ok(Report::new(
+            Status::Refused,
+            refusal_line(alloc, &refusal)?,
+        )),
     }
 }
