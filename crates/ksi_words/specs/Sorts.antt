@@ -7,11 +7,11 @@ use Rattle.ksi_imprint.specs.Reading.{hex_at}
 use Rattle.ksi_imprint.specs.declared.fault.HexFault.{HexFault}
 
 pub data Sort : Type 0 where
-  file : Sort
-  hash : Sort
-  number : Sort
+  file_word : Sort
+  hash_word : Sort
+  number_word : Sort
   -- a number below 2^63
-  time : Sort
+  time_word : Sort
 
 -- 1 to 20 decimal digits
 abbrev pub is_digits : List ℕ → Bool
@@ -37,13 +37,13 @@ hash_of word = read_hash (hex_at word)
 
 -- what a word of a sort stands for: a file word stands for itself
 abbrev pub Of : Sort → Type 0
-Of file = List ℕ
-Of hash = List ℕ
-Of number = ℕ
-Of time = ℕ
+Of file_word = List ℕ
+Of hash_word = List ℕ
+Of number_word = ℕ
+Of time_word = ℕ
 
 abbrev pub value_of : (sort : Sort) → List ℕ → Option (Of sort)
-value_of file word = Some word
-value_of hash word = hash_of word
-value_of number word = number_of word
-value_of time word = time_of word
+value_of file_word word = Some word
+value_of hash_word word = hash_of word
+value_of number_word word = number_of word
+value_of time_word word = time_of word

@@ -3,7 +3,7 @@ use Rattle.std.specs.Prelude.{◌≡◌, ℕ, ◌+◌, List, [], ◌∷◌, map,
 use Rattle.std.specs.List.{list_any}
 use Rattle.std.specs.Str.{bytes_eq}
 use Rattle.std.specs.declared.alloc.Global.{Global}
-use Rattle.ksi_words.specs.Sorts.{Sort, file, hash, number, time, Of, value_of}
+use Rattle.ksi_words.specs.Sorts.{Sort, file_word, hash_word, Of, value_of}
 use Rattle.ksi_words.specs.declared.asked.Command.{Command}
 use Rattle.ksi_words.specs.declared.asked.Command.TheVariants.{Verify}
 use Rattle.ksi_words.specs.declared.asked.WordsRefusal.{WordsRefusal}
@@ -24,8 +24,11 @@ pub record Row : Type 0 where
   pub sorts : List Sort
   pub asks : From sorts
 
+abbrev pub verify_row : Row
+verify_row = record { name = codes "verify"; sorts = file_word ∷ hash_word ∷ file_word ∷ []; asks = verify }
+
 abbrev pub table : List Row
-table = record { name = codes "verify"; sorts = file ∷ hash ∷ file ∷ []; asks = verify } ∷ []
+table = verify_row ∷ []
 
 abbrev pub texts : List (String Global) → List (List ℕ)
 texts words = map string_bytes words

@@ -2,6 +2,8 @@
 #![tactic(auto)]
 
 mod asked;
+mod grammar;
+mod table;
 mod values;
 mod words;
 
