@@ -25,3 +25,14 @@ below word (Err e) digits some h = elim (cases_lt (digits_value 10 word) (2 ^ 64
     | inl lt ↦ absurd (h (some, lt))
     | inr ge ↦ rw (digits, le-ltb _ _ ge) refl
   ]
+
+pub digits_by_parts : (word : List ℕ) → 0 < length word → length word ≤ 20 → list_all is_ascii_digit word ≡ is_digits word
+digits_by_parts word some few = rw (lt-ltb _ _ some, le-leb _ _ few) refl
+
+some_digits : (word : List ℕ) → is_digits word ≡ true → (0 < length word) × (list_all is_ascii_digit word ≡ true)
+some_digits word h = grind arith
+
+pub number_by_parse : {E : Type 0} (word : List ℕ) (r : Result ℕ E) → is_digits word ≡ true → ParsesUnsigned 64 10 word r → okay r ≡ number_of word
+number_by_parse word r digits h =
+    let some = some_digits word digits in
+    below word r digits some.0 (parse_digits own 64 word r h some.1)

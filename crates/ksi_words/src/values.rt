@@ -37,5 +37,11 @@ fn is_digits(word: &str) -> bool
     ensures { result ≡ is_digits word.now }
 {
     let digits = word.as_bytes();
-    !digits.is_empty() && digits.len() <= 20 && digits.iter().all(|digit| digit.is_ascii_digit())
+    !digits.is_empty() && digits.len() <= 20 && are_digits(digits)
+}
+
+fn are_digits(bytes: &[u8]) -> bool
+    ensures { result ≡ list_all is_ascii_digit bytes.now }
+{
+    bytes.iter().all(|byte| byte.is_ascii_digit())
 }
