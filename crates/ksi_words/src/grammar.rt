@@ -1,6 +1,7 @@
 // The command line as `clap` reads it.
-ghost use Rattle.std.specs.Prelude.{◌≡◌, IfOk, map};
+ghost use Rattle.std.specs.Prelude.{◌≡◌, IfOk, map, false};
 ghost use Rattle.clap.specs.Words.{app_of};
+ghost use Rattle.clap.specs.declared.builder.command.Command.TheViews.{out-Command};
 ghost use Rattle.ksi_words.specs.Grammar.{app_over, row_app, form_of};
 
 use crate::table::Row;
@@ -23,7 +24,7 @@ pub(crate) fn grammar<'a>(alloc: Global, rows: &[Row]) -> Result<Command<'a>, Al
 }
 
 fn form<'a>(alloc: Global, row: &Row) -> Result<Command<'a>, AllocError>
-    ensures { IfOk result (λ form. app_of form ≡ row_app (form_of row.now)) }
+    ensures { IfOk result (λ form. (app_of form ≡ row_app (form_of row.now)) × ((out-Command form).has_globals ≡ false)) }
 {
     let words = Arg::new(alloc, "words")
         .required(true)
