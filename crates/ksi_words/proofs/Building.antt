@@ -1,14 +1,13 @@
 -- What the calls that build the command line for `clap` give.
-use Rattle.std.proofs.Common.{◌≡◌, ℕ, ◌+◌, ◌<◌, List, [], ◌∷◌, ◌++◌, map, take, true, false, codes, Option, Some, None, refl, sym, ap, ap₂, ◌∙◌}
-use Rattle.std.specs.Prelude.{IsSomeAnd, fold}
-use Rattle.std.specs.Option.{option_map_or}
-use Rattle.clap.specs.Words.{App, Rule, Shape, app_of, new_app, new_rule, rule_of, with_subcommand}
-use Rattle.clap.specs.Simple.{on_top, app_of_fields}
+use Rattle.std.proofs.Common.{◌≡◌, ℕ, ◌+◌, ◌<◌, List, [], ◌∷◌, ◌++◌, length, get_or, map, take, true, codes, Option, Some, None, ap, ap₂, ◌∙◌}
+use Rattle.std.specs.Prelude.{IsSomeAnd}
+use Rattle.std.proofs.lemmas.List.{take_more, map_push}
+use Rattle.std.proofs.lemmas.List.Sums.{fold_push}
+use Rattle.clap.specs.Words.{Rule, new_rule, rule_of, with_subcommand}
 use Rattle.clap.specs.declared.builder.arg.Arg.{Arg}
-use Rattle.clap.specs.declared.builder.command.Command.{Command}
-use Rattle.clap.specs.declared.builder.command.Command.TheViews.{out-Command}
 use Rattle.clap.specs.declared.builder.range.ValueRange.{ValueRange}
-use Rattle.ksi_words.specs.Grammar.{words_rule, bare, app_over, row_app}
+use Rattle.ksi_words.specs.Grammar.{words_rule, bare, app_over, row_app, form_of}
+use Rattle.ksi_words.specs.declared.table.Row.{Row}
 
 abbrev exactly : ℕ → ValueRange
 exactly n = record { start_inclusive = n; end_inclusive = n }
@@ -23,10 +22,8 @@ rule_is a b c n new needed ranged range =
     let second : rule_of c ≡ record (rule_of b) { range = c.num_vals } = ap rule_of ranged in
     second ∙ ap₂ (λ (r : Rule) (v : Option ValueRange). record r { range = v }) (first ∙ ap (λ (r : Rule). record r { required = true }) new) (some_range c.num_vals n range)
 
-pub bare_is : (a b c d e : Command) → app_of a ≡ new_app (codes "ksi") → out-Command b ≡ record (out-Command a) { no_binary_name = true } → out-Command c ≡ record (out-Command b) { disable_help_flag = true } → out-Command d ≡ record (out-Command c) { disable_help_subcommand = true } → out-Command e ≡ record (out-Command d) { subcommand_required = true } → app_of e ≡ bare
-bare_is a b c d e new names flag help needed =
-    let at_b : app_of b ≡ on_top (λ s. record s { no_binary_name = true }) (app_of a) = ap app_of_fields names in
-    let at_c : app_of c ≡ on_top (λ s. record s { disable_help_flag = true }) (app_of b) = ap app_of_fields flag in
-    let at_d : app_of d ≡ on_top (λ s. record s { disable_help_subcommand = true }) (app_of c) = ap app_of_fields help in
-    let at_e : app_of e ≡ on_top (λ s. record s { subcommand_required = true }) (app_of d) = ap app_of_fields needed in
-    rw (at_e, at_d, at_c, at_b, new) refl
+-- one more row is one more subcommand
+pub app_over_more : (rows : List Row) (i : ℕ) (d : Row) → i < length rows → app_over (map form_of (take (i + 1) rows)) ≡ with_subcommand (app_over (map form_of (take i rows))) (row_app (form_of (get_or rows i d))).top
+app_over_more rows i d lt =
+    let more : map form_of (take (i + 1) rows) ≡ map form_of (take i rows) ++ form_of (get_or rows i d) ∷ [] = ap (map form_of) (take_more rows i d lt) ∙ map_push form_of (take i rows) (get_or rows i d) in
+    ap app_over more ∙ fold_push _ bare (map form_of (take i rows)) (form_of (get_or rows i d))

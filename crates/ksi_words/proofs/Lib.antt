@@ -1,3 +1,4 @@
 pub mod Building
+pub mod Leaf
 pub mod Numbers
 pub mod WordLemmas
