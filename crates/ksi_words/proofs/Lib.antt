@@ -1,4 +1,5 @@
 pub mod Building
+pub mod Commands
 pub mod Leaf
 pub mod Numbers
 pub mod WordLemmas
