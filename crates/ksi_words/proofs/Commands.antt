@@ -1,19 +1,21 @@
 -- What `clap` makes of words of which none begins with a dash, by the names and counts of the commands.
-use Rattle.std.proofs.Common.{◌≡◌, ℕ, ◌+◌, ◌<◌, ◌==◌, ◌&&◌, ◌||◌, Bool, true, false, not, List, [], ◌∷◌, ◌++◌, length, map, codes, Option, Some, None, option_map, refl, sym, ap, ap₂, ◌∙◌, arith, append_assoc, subst, append-nil}
+use Rattle.std.proofs.Common.{◌≡◌, ℕ, ◌+◌, ◌<◌, ◌==◌, ◌&&◌, ◌||◌, Bool, true, false, not, List, [], ◌∷◌, ◌++◌, length, map, codes, Option, Some, None, option_map, refl, sym, ap, ap₂, ◌∙◌, nat_eq, append_assoc, subst, append-nil}
 use Rattle.std.specs.Prelude.{find, fold, is_some, ⊤, if◌then◌else◌}
 use Rattle.std.specs.List.{list_all, list_any}
 use Rattle.std.specs.Option.{option_map_or}
 use Rattle.std.specs.Str.{bytes_eq}
+use Rattle.std.proofs.lemmas.Bool.{eqb-true, eqb-false}
 use Rattle.std.proofs.lemmas.Slice.Eq.{bytes_eq-Decides}
 use Rattle.clap.specs.Lexer.{usize_max}
-use Rattle.clap.specs.Walk.{settled, finished, idle, Names, Row, Rule, Text, Walk, is_multiple, answers_to, nothing_held, walk, walk_from, walked, rows_after}
+use Rattle.clap.specs.Walk.{settled, finished, idle, Names, Row, Rule, Text, Walk, is_multiple, answers_to, nothing_held, walk, walk_from, walked, rows_after, stop_after}
 use Rattle.clap.specs.Simple.{App, Shape, argument_words, built, built_leaf, entered, filled, inherited, is_simple, is_buildable, is_ready, is_ready_leaf, is_simple_leaf, label_of, names_of, new_shape, subcommand_of, with_index}
 use Rattle.clap.specs.Faults.{settle_fault, entered_fault, defaults_fault, check_fault, built_fault, fault_of, has_free_rules, is_free_app, is_simple_and_free, level_fault, walk_fault}
 use Rattle.clap.specs.Kinds.{Kinds, or_else}
+use Rattle.clap.specs.declared.error.kind.ErrorKind.{ErrorKind}
 use Rattle.clap.specs.declared.error.kind.ErrorKind.TheVariants as kind
 use Rattle.ksi_words.specs.Words.{begins_with_dash}
 use Rattle.ksi_words.specs.Grammar.{bare, row_app, words_rule}
-use Rattle.ksi_words.proofs.Leaf.{built_rule, rule_built, leaf, words_row, no_dashes, not_long, not_short, right_level, right_rows, wrong_level}
+use Rattle.ksi_words.proofs.Leaf.{built_rule, rule_built, leaf, words_row, AllPlain, first_plain, no_dashes, not_long, not_short, right_level, right_rows, wrong_level}
 
 abbrev pub Form : Type 0
 Form = Text × ℕ
@@ -180,9 +182,66 @@ no_words_fault : (forms : List Form) → AllGood forms → fault_of (app_with fo
 unfolding walk_fault defaults_fault
 no_words_fault forms good = in_parts forms [] good
 
+-- the subcommand that a walk enters
+abbrev entered_by : List Form → Walk → Option (Text × List Row)
+entered_by forms w = entered (built_app forms) w.stopped
+
+known_subcommand : (forms : List Form) (word : Text) (words : List Text) (form : Form) → AllGood forms → named forms word ≡ Some form → subcommand_of (app_with forms) (word ∷ words) ≡ Some (form.0, rows_after (built_rule form.1 ∷ []) [] words)
+unfolding names
+known_subcommand forms word words form good e =
+    let built_is : subcommand_of (app_with forms) (word ∷ words) ≡ entered_by forms (walk [] (names forms) nothing_held (word ∷ words)) = ap (λ (b : App). entered b (stop_after b.top.rules (names_of b) (word ∷ words))) (app_built forms good) in
+    built_is ∙ ap (entered_by forms) (walk_is forms word words form e) ∙ rw (leaf_entered forms form.0) (rw (named_again forms word form good e) refl)
+
 -- ---- which words are taken
 
 -- the words are a command's name and as many words as it has
 abbrev pub fits : List Form → List Text → Bool
 fits forms [] = false
 fits forms (word ∷ words) = option_map_or (λ form. length words == form.1) (named forms word) false
+
+or_else_none : (kinds : Kinds) → or_else kinds [] ≡ kinds
+or_else_none [] = refl
+or_else_none (k ∷ ks) = refl
+
+some_kind : (kinds : Kinds) (k : ErrorKind) (ks : Kinds) → kinds ≡ k ∷ ks → kinds ≡ [] → ⊥
+some_kind kinds k ks is none = absurd (cc (is, none))
+
+fits_named : (forms : List Form) (word : Text) (words : List Text) (form : Form) → named forms word ≡ Some form → fits forms (word ∷ words) ≡ nat_eq (length words) form.1
+fits_named forms word words form e = rw e refl
+
+fits_unnamed : (forms : List Form) (word : Text) (words : List Text) → named forms word ≡ None → fits forms (word ∷ words) ≡ false
+fits_unnamed forms word words e = rw e refl
+
+module _ (forms : List Form) (good : AllGood forms) (word : Text) (words : List Text) (plain : AllPlain (word ∷ words)) where
+  fault_by_name : (found : Option Form) → named forms word ≡ found → fits forms (word ∷ words) ≡ true → fault_of (app_with forms) (word ∷ words) ≡ []
+  fault_by_name None e fit = absurd (cc (fit, fits_unnamed forms word words e))
+  fault_by_name (Some form) e fit =
+      let is : length words ≡ form.1 = eqb-true (length words) form.1 (sym (fits_named forms word words form e) ∙ fit) in
+      let level = right_level form.0 form.1 words (named_is forms word form good e).1.0 (first_plain word words plain).1 is in
+      known_fault forms word words form good e ∙ ap (λ kinds. or_else kinds []) level
+
+  misfit_by_name : (found : Option Form) → named forms word ≡ found → fits forms (word ∷ words) ≡ false → fault_of (app_with forms) (word ∷ words) ≡ [] → ⊥
+  misfit_by_name None e misfit none = some_kind _ _ _ (unknown_fault forms word words good (first_plain word words plain).0 e) none
+  misfit_by_name (Some form) e misfit none =
+      let level : level_fault (leaf_of form) [] nothing_held words false [] ≡ [] = sym (or_else_none _) ∙ sym (known_fault forms word words form good e) ∙ none in
+      let other : length words ≡ form.1 → ⊥ = eqb-false (length words) form.1 (sym (fits_named forms word words form e) ∙ misfit) in
+      wrong_level form.0 form.1 words (named_is forms word form good e).1.0 (first_plain word words plain).1 other level
+
+  subcommand_by_name : (found : Option Form) → named forms word ≡ found → fits forms (word ∷ words) ≡ true → subcommand_of (app_with forms) (word ∷ words) ≡ Some (word, words_row words ∷ [])
+  subcommand_by_name None e fit = absurd (cc (fit, fits_unnamed forms word words e))
+  subcommand_by_name (Some form) e fit =
+      let is : length words ≡ form.1 = eqb-true (length words) form.1 (sym (fits_named forms word words form e) ∙ fit) in
+      let name = named_is forms word form good e in
+      let rows = right_rows form.1 words name.1.0 (first_plain word words plain).1 is in
+      known_subcommand forms word words form good e ∙ ap₂ (λ (n : Text) (r : List Row). Some (n, r)) name.0 rows
+
+pub fits_no_fault : (forms : List Form) (words : List Text) → AllGood forms → AllPlain words → fits forms words ≡ true → fault_of (app_with forms) words ≡ []
+fits_no_fault forms [] good plain fit = absurd (cc (fit))
+fits_no_fault forms (word ∷ words) good plain fit = fault_by_name forms good word words plain (named forms word) refl fit
+
+pub misfit_fault : (forms : List Form) (words : List Text) → AllGood forms → AllPlain words → fits forms words ≡ false → fault_of (app_with forms) words ≡ [] → ⊥
+misfit_fault forms [] good plain misfit none = some_kind _ _ _ (no_words_fault forms good) none
+misfit_fault forms (word ∷ words) good plain misfit none = misfit_by_name forms good word words plain (named forms word) refl misfit none
+
+pub fits_subcommand : (forms : List Form) (word : Text) (words : List Text) → AllGood forms → AllPlain (word ∷ words) → fits forms (word ∷ words) ≡ true → subcommand_of (app_with forms) (word ∷ words) ≡ Some (word, words_row words ∷ [])
+fits_subcommand forms word words good plain fit = subcommand_by_name forms good word words plain (named forms word) refl fit

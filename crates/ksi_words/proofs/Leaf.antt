@@ -50,15 +50,12 @@ leaf name n = record (new_shape name) { rules = built_rule n ∷ []; no_binary_n
 abbrev pub words_row : List Text → Row
 words_row words = record { id = codes "words"; values = words; count = None; source = Some CommandLine; reading = AsWritten }
 
-abbrev pub no_dash : List Text → Bool
-no_dash words = not (list_any begins_with_dash words)
-
 -- ---- where words go on
 
-abbrev AllPlain : List Text → Type 0
+abbrev pub AllPlain : List Text → Type 0
 AllPlain words = list_any begins_with_dash words ≡ false
 
-first_plain : (w : Text) (ws : List Text) → AllPlain (w ∷ ws) → (begins_with_dash w ≡ false) × AllPlain ws
+pub first_plain : (w : Text) (ws : List Text) → AllPlain (w ∷ ws) → (begins_with_dash w ≡ false) × AllPlain ws
 first_plain w ws h = (grind arith, grind arith)
 
 -- the walk between two of several words
