@@ -2,4 +2,5 @@ pub mod Building
 pub mod Commands
 pub mod Leaf
 pub mod Numbers
+pub mod Misfits
 pub mod WordLemmas

@@ -2,6 +2,10 @@
 use Rattle.std.specs.Prelude.{◌≡◌, ℕ, List, [], ◌∷◌, ◌++◌, map, codes, Option, Some, true, fold}
 use Rattle.clap.specs.Words.{App, Rule, Shape, Text, new_app, new_rule, with_rule, with_subcommand}
 use Rattle.clap.specs.Simple.{on_top}
+use Rattle.clap.specs.declared.error.kind.ErrorKind.{ErrorKind}
+use Rattle.clap.specs.declared.error.kind.ErrorKind.TheVariants.{OutOfMemory}
+use Rattle.ksi_words.specs.declared.asked.WordsRefusal.{WordsRefusal}
+use Rattle.ksi_words.specs.declared.asked.WordsRefusal.TheVariants.{NoMemory, Words}
 use Rattle.ksi_words.specs.declared.table.Row.{Row}
 
 -- a command's name, and how many words follow it
@@ -22,3 +26,7 @@ bare = on_top bare_shape (new_app (codes "ksi"))
 
 abbrev pub app_over : List (Text × ℕ) → App
 app_over forms = fold (λ app form. with_subcommand app (row_app form).top) bare forms
+
+abbrev pub refusal_of : ErrorKind → WordsRefusal
+refusal_of OutOfMemory = NoMemory
+refusal_of _ = Words

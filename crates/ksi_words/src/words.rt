@@ -1,6 +1,7 @@
 // The words of a command line.
 ghost use Rattle.std.specs.Prelude.{◌≡◌, ℕ, string_bytes, map, ◌∷◌};
 ghost use Rattle.std.specs.List.{list_any};
+ghost use Rattle.ksi_words.specs.Grammar.{refusal_of};
 ghost use Rattle.ksi_words.specs.Words.{Reads, begins_with_dash, texts, command_of, command_named, asked_by, verify_row, table};
 
 use crate::grammar::grammar;
@@ -33,7 +34,9 @@ pub fn command<'a>(alloc: Global, words: &'a [String]) -> Result<Command<'a>, Wo
     read(name, words)
 }
 
-fn refusal(kind: ErrorKind) -> WordsRefusal {
+fn refusal(kind: ErrorKind) -> WordsRefusal
+    ensures { result ≡ refusal_of kind }
+{
     match kind {
         ErrorKind::OutOfMemory => WordsRefusal::NoMemory,
         _ => WordsRefusal::Words,
