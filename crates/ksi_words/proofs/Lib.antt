@@ -3,4 +3,5 @@ pub mod Commands
 pub mod Leaf
 pub mod Numbers
 pub mod Misfits
+pub mod Parsed
 pub mod WordLemmas
