@@ -1,5 +1,5 @@
 -- What `clap` makes of words of which none begins with a dash, by the names and counts of the commands.
-use Rattle.std.proofs.Common.{◌≡◌, ℕ, ◌+◌, ◌<◌, ◌==◌, ◌&&◌, ◌||◌, Bool, true, false, not, List, [], ◌∷◌, ◌++◌, length, map, codes, Option, Some, None, option_map, refl, sym, ap, ap₂, ◌∙◌, nat_eq, append_assoc, subst, append-nil}
+use Rattle.std.proofs.Common.{◌≡◌, ℕ, ◌+◌, ◌<◌, ◌==◌, ◌&&◌, ◌||◌, Bool, true, false, not, List, [], ◌∷◌, ◌++◌, length, map, codes, Option, Some, None, option_map, arith, nat_lt, refl, sym, ap, ap₂, ◌∙◌, nat_eq, append_assoc, subst, append-nil}
 use Rattle.std.specs.Prelude.{find, fold, is_some, ⊤, if◌then◌else◌}
 use Rattle.std.specs.List.{list_all, list_any}
 use Rattle.std.specs.Option.{option_map_or}
@@ -27,6 +27,13 @@ IsGood form = (0 < form.1) × (form.1 < usize_max)
 abbrev pub AllGood : List Form → Type 0
 AllGood [] = ⊤
 AllGood (form ∷ forms) = IsGood form × AllGood forms
+
+abbrev pub is_good : Form → Bool
+is_good form = nat_lt 0 form.1 && nat_lt form.1 usize_max
+
+pub all_good : (forms : List Form) → list_all is_good forms ≡ true → AllGood forms
+all_good [] good = tt
+all_good (form ∷ forms) good = ((grind arith, grind arith), all_good forms (grind arith))
 
 -- ---- building
 

@@ -13,7 +13,7 @@ use Rattle.ksi_words.specs.Words.{Asked, Reads, Row, command_form, command_named
 use Rattle.ksi_words.specs.declared.asked.WordsRefusal.{WordsRefusal}
 use Rattle.ksi_words.specs.declared.asked.WordsRefusal.TheVariants.{Words}
 use Rattle.ksi_words.proofs.Leaf.{AllPlain, words_row}
-use Rattle.ksi_words.proofs.Commands.{AllGood, Form, app_with, fits, fits_no_fault, fits_subcommand, misfit_fault}
+use Rattle.ksi_words.proofs.Commands.{AllGood, all_good, Form, app_with, fits, fits_no_fault, fits_subcommand, misfit_fault}
 
 abbrev pub form_in : Row → Form
 form_in row = (row.name, length row.sorts)
@@ -48,7 +48,7 @@ abbrev pub forms : List Form
 forms = map form_in table
 
 pub forms_good : AllGood forms
-forms_good = ((omega arith, omega arith), tt)
+forms_good = all_good forms refl
 
 misfit_form : (words : List Text) → fits forms words ≡ false → command_form words ≡ Err Words
 misfit_form [] misfit = refl

@@ -37,17 +37,22 @@ abbrev pub begins_with_dash : List ℕ → Bool
 begins_with_dash [] = false
 begins_with_dash (b ∷ bs) = b == 45
 
--- what follows from a word that is read, or that word n is a bad one
-abbrev pub or_bad : {T : Type 0} → ℕ → Option T → (T → Result Asked WordsRefusal) → Result Asked WordsRefusal
-or_bad n (Some value) next = next value
-or_bad n None next = Err (BadWord n)
+-- what word n stands for, where it stands for anything
+abbrev pub word_at : {T : Type 0} → ℕ → Option T → Result T WordsRefusal
+word_at n (Some value) = Ok value
+word_at n None = Err (BadWord n)
+
+infixl 10 ◌>>=◌
+abbrev pub ◌>>=◌ : {T : Type 0} → Result T WordsRefusal → (T → Result Asked WordsRefusal) → Result Asked WordsRefusal
+(Ok value) >>= next = next value
+(Err refusal) >>= next = Err refusal
 
 -- the words from word n on, read from left to right
 abbrev pub asked_from : ℕ → (sorts : List Sort) → From sorts → List (List ℕ) → Result Asked WordsRefusal
 asked_from n [] command [] = Ok command
 asked_from n [] command (word ∷ words) = Err Words
 asked_from n (sort ∷ sorts) command [] = Err Words
-asked_from n (sort ∷ sorts) command (word ∷ words) = or_bad n (value_of sort word) (λ value. asked_from (n + 1) sorts (command value) words)
+asked_from n (sort ∷ sorts) command (word ∷ words) = word_at n (value_of sort word) >>= λ value. asked_from (n + 1) sorts (command value) words
 
 -- as many words as the row has sorts, of which the first bad one is told
 abbrev pub asked_by : Row → List (List ℕ) → Result Asked WordsRefusal

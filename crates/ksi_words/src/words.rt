@@ -1,20 +1,24 @@
 // The words of a command line.
-ghost use Rattle.std.specs.Prelude.{◌≡◌, ℕ, string_bytes, map, ◌∷◌};
+ghost use Rattle.std.specs.Prelude.{◌≡◌, ℕ, string_bytes};
 ghost use Rattle.std.specs.List.{list_any};
 ghost use Rattle.ksi_words.specs.Grammar.{refusal_of};
-ghost use Rattle.ksi_words.specs.Words.{Reads, begins_with_dash, texts, command_of, command_named, asked_by, verify_row, table};
+ghost use Rattle.ksi_words.specs.Words.{Reads, begins_with_dash, texts, command_of};
 
 use crate::grammar::grammar;
-use crate::table::TABLE;
-use crate::values::hash;
+use crate::table::{TABLE, asked};
 use crate::{Command, WordsRefusal};
 use clap::error::ErrorKind;
 use std::alloc::Global;
 
-/// The command that the words ask for.
+/// The command that the words ask for, where the first is the command's name, as many follow as its row of the table
+/// shows, and none begins with a dash. Its file words are borrowed from `words`.
+///
+/// `Err(Words)` comes exactly where they have no such form, and `Err(BadWord(n))` exactly where they have and word `n`
+/// after the name is the first that is no number or hash where one has to stand.
 pub fn command<'a>(alloc: Global, words: &'a [String]) -> Result<Command<'a>, WordsRefusal>
     ensures { Reads (command_of (texts words.now)) result }
 {
+    // `clap` would take a dash for an option.
     if has_dash(words) {
         return Err(WordsRefusal::Words);
     }
@@ -31,9 +35,10 @@ pub fn command<'a>(alloc: Global, words: &'a [String]) -> Result<Command<'a>, Wo
     let Some(words) = matches.get_raw("words") else {
         return Err(WordsRefusal::Words);
     };
-    read(name, words)
+    asked(name, words)
 }
 
+// Why `clap` refuses words of which none begins with a dash.
 fn refusal(kind: ErrorKind) -> WordsRefusal
     ensures { result ≡ refusal_of kind }
 {
@@ -41,27 +46,6 @@ fn refusal(kind: ErrorKind) -> WordsRefusal
         ErrorKind::OutOfMemory => WordsRefusal::NoMemory,
         _ => WordsRefusal::Words,
     }
-}
-
-fn read<'a>(name: &str, words: &[&'a str]) -> Result<Command<'a>, WordsRefusal>
-    ensures { Reads (command_named table name.now (map (λ word. word.now) words.now)) result }
-{
-    match name {
-        "verify" => verify(words),
-        _ => Err(WordsRefusal::Words),
-    }
-}
-
-fn verify<'a>(words: &[&'a str]) -> Result<Command<'a>, WordsRefusal>
-    ensures { Reads (asked_by verify_row (map (λ word. word.now) words.now)) result }
-{
-    let [signature, hash_word, publications] = words else {
-        return Err(WordsRefusal::Words);
-    };
-    let Some(hash) = hash(hash_word) else {
-        return Err(WordsRefusal::BadWord(2));
-    };
-    Ok(Command::Verify(signature, hash, publications))
 }
 
 fn has_dash(words: &[String]) -> bool
