@@ -1,0 +1,83 @@
+-- The command that the words of a command line ask for.
+use Rattle.std.specs.Prelude.{◌≡◌, ℕ, ◌+◌, List, [], ◌∷◌, map, length, Bool, false, ◌==◌, codes, Option, Some, None, Result, Ok, Err, if◌then◌else◌, String, string_bytes, ⊤}
+use Rattle.std.specs.List.{list_any}
+use Rattle.std.specs.Str.{bytes_eq}
+use Rattle.std.specs.declared.alloc.Global.{Global}
+use Rattle.ksi_words.specs.Sorts.{Sort, file_word, hash_word, Of, value_of}
+use Rattle.ksi_words.specs.declared.asked.Command.{Command}
+use Rattle.ksi_words.specs.declared.asked.Command.TheVariants.{Verify}
+use Rattle.ksi_words.specs.declared.asked.WordsRefusal.{WordsRefusal}
+use Rattle.ksi_words.specs.declared.asked.WordsRefusal.TheVariants.{Words, BadWord, NoMemory}
+
+-- a command: its file words as they stand, and its other words read
+pub data Asked : Type 0 where
+  verify : List ℕ → List ℕ → List ℕ → Asked
+
+-- what asks for a command, given what the words of these sorts stand for
+abbrev pub From : List Sort → Type 0
+From [] = Asked
+From (sort ∷ sorts) = Of sort → From sorts
+
+-- a command's name, the sorts of the words after it, and the command of what they stand for
+pub record Row : Type 0 where
+  pub name : List ℕ
+  pub sorts : List Sort
+  pub asks : From sorts
+
+abbrev pub verify_row : Row
+verify_row = record { name = codes "verify"; sorts = file_word ∷ hash_word ∷ file_word ∷ []; asks = verify }
+
+abbrev pub table : List Row
+table = verify_row ∷ []
+
+abbrev pub texts : List (String Global) → List (List ℕ)
+texts words = map string_bytes words
+
+abbrev pub begins_with_dash : List ℕ → Bool
+begins_with_dash [] = false
+begins_with_dash (b ∷ bs) = b == 45
+
+-- what word n stands for, where it stands for anything
+abbrev pub word_at : {T : Type 0} → ℕ → Option T → Result T WordsRefusal
+word_at n (Some value) = Ok value
+word_at n None = Err (BadWord n)
+
+infixl 10 ◌>>=◌
+abbrev pub ◌>>=◌ : {T : Type 0} → Result T WordsRefusal → (T → Result Asked WordsRefusal) → Result Asked WordsRefusal
+(Ok value) >>= next = next value
+(Err refusal) >>= next = Err refusal
+
+-- the words from word n on, read from left to right
+abbrev pub asked_from : ℕ → (sorts : List Sort) → From sorts → List (List ℕ) → Result Asked WordsRefusal
+asked_from n [] command [] = Ok command
+asked_from n [] command (word ∷ words) = Err Words
+asked_from n (sort ∷ sorts) command [] = Err Words
+asked_from n (sort ∷ sorts) command (word ∷ words) = word_at n (value_of sort word) >>= λ value. asked_from (n + 1) sorts (command value) words
+
+-- as many words as the row has sorts, of which the first bad one is told
+abbrev pub asked_by : Row → List (List ℕ) → Result Asked WordsRefusal
+asked_by row words = if length words == length row.sorts then asked_from 1 row.sorts row.asks words else Err Words
+
+-- by the command's name
+abbrev pub command_named : List Row → List ℕ → List (List ℕ) → Result Asked WordsRefusal
+command_named [] name words = Err Words
+command_named (row ∷ rows) name words = if bytes_eq row.name name then asked_by row words else command_named rows name words
+
+abbrev pub command_form : List (List ℕ) → Result Asked WordsRefusal
+command_form [] = Err Words
+command_form (name ∷ words) = command_named table name words
+
+-- the command that words ask for; none of them begins with a dash
+unfoldable pub command_of : List (List ℕ) → Result Asked WordsRefusal
+command_of words = if list_any begins_with_dash words then Err Words else command_form words
+
+-- what a command stands for
+abbrev pub asked : Command → Asked
+asked (Verify signature hash publications) = verify signature.now hash publications.now
+
+-- the words were read as they are, or there was no memory to read them
+abbrev pub Reads : Result Asked WordsRefusal → Result Command WordsRefusal → Type 0
+Reads expected (Ok command) = expected ≡ Ok (asked command)
+Reads expected (Err NoMemory) = ⊤
+Reads expected (Err Words) = expected ≡ Err Words
+Reads expected (Err (BadWord n)) = expected ≡ Err (BadWord n)

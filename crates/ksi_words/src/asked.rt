@@ -1,0 +1,19 @@
+use ksi_imprint::Imprint;
+
+/// A command: its file words as they stand, and its other words read.
+#[derive(Drop)]
+pub enum Command<'a> {
+    /// The signature's file, the hash, the publications' file.
+    Verify(&'a str, Imprint, &'a str),
+}
+
+/// Why words are no command.
+#[derive(Clone, Copy, Debug, PartialEq, Eq)]
+pub enum WordsRefusal {
+    /// They have no command's form.
+    Words,
+    /// The word of this number, counted from 1 behind the command's name, is no number or hash.
+    BadWord(usize),
+    /// There was no memory to read them.
+    NoMemory,
+}

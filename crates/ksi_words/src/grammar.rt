@@ -1,0 +1,33 @@
+// The command line as `clap` reads it.
+ghost use Rattle.std.specs.Prelude.{◌≡◌, IfOk, map, false};
+ghost use Rattle.clap.specs.Words.{app_of};
+ghost use Rattle.clap.specs.declared.builder.command.Command.TheViews.{out-Command};
+ghost use Rattle.ksi_words.specs.Grammar.{app_over, row_app, form_of};
+
+use crate::table::Row;
+use clap::{Arg, Command};
+use std::alloc::{AllocError, Global};
+
+/// The grammar of the rows' commands: a row's name, and as many words after it as the row shows.
+pub(crate) fn grammar<'a>(alloc: Global, rows: &[Row]) -> Result<Command<'a>, AllocError>
+    ensures { IfOk result (λ grammar. app_of grammar ≡ app_over (map form_of rows.now)) }
+{
+    let mut grammar = Command::new(alloc, "ksi")
+        .no_binary_name(true)
+        .disable_help_flag(true)
+        .disable_help_subcommand(true)
+        .subcommand_required(true);
+    'rows: for row in rows {
+        grammar = grammar.subcommand(form(alloc, row)?)?;
+    }
+    Ok(grammar)
+}
+
+fn form<'a>(alloc: Global, row: &Row) -> Result<Command<'a>, AllocError>
+    ensures { IfOk result (λ form. (app_of form ≡ row_app (form_of row.now)) × ((out-Command form).has_globals ≡ false)) }
+{
+    let words = Arg::new(alloc, "words")
+        .required(true)
+        .num_args(row.words);
+    Command::new(alloc, row.name).arg(words)
+}

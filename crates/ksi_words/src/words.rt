@@ -1,0 +1,64 @@
+// The words of a command line.
+ghost use Rattle.std.specs.Prelude.{◌≡◌, ℕ, string_bytes};
+ghost use Rattle.std.specs.List.{list_any};
+ghost use Rattle.ksi_words.specs.Grammar.{refusal_of};
+ghost use Rattle.ksi_words.specs.Words.{Reads, begins_with_dash, texts, command_of};
+
+use crate::grammar::grammar;
+use crate::table::{TABLE, asked};
+use crate::{Command, WordsRefusal};
+use clap::error::ErrorKind;
+use std::alloc::Global;
+
+/// The command that the words ask for, where the first is the command's name, as many follow as its row of the table
+/// shows, and none begins with a dash. Its file words are borrowed from `words`.
+///
+/// `Err(Words)` comes exactly where they have no such form, and `Err(BadWord(n))` exactly where they have and word `n`
+/// after the name is the first that is no number or hash where one has to stand.
+pub fn command<'a>(alloc: Global, words: &'a [String]) -> Result<Command<'a>, WordsRefusal>
+    ensures { Reads (command_of (texts words.now)) result }
+{
+    // `clap` would take a dash for an option.
+    if has_dash(words) {
+        return Err(WordsRefusal::Words);
+    }
+    let Ok(grammar) = grammar(alloc, TABLE.as_slice()) else {
+        return Err(WordsRefusal::NoMemory);
+    };
+    let matches = match grammar.try_get_matches_from(words) {
+        Ok(matches) => matches,
+        Err(error) => return Err(refusal(error.kind())),
+    };
+    let Some((name, matches)) = matches.subcommand() else {
+        return Err(WordsRefusal::Words);
+    };
+    let Some(words) = matches.get_raw("words") else {
+        return Err(WordsRefusal::Words);
+    };
+    asked(name, words)
+}
+
+// Why `clap` refuses words of which none begins with a dash.
+fn refusal(kind: ErrorKind) -> WordsRefusal
+    ensures { result ≡ refusal_of kind }
+{
+    match kind {
+        ErrorKind::OutOfMemory => WordsRefusal::NoMemory,
+        _ => WordsRefusal::Words,
+    }
+}
+
+fn has_dash(words: &[String]) -> bool
+    ensures { result ≡ list_any (λ word. begins_with_dash (string_bytes word)) words.now }
+{
+    words.iter().any(|word| begins_with_dash(word.as_str()))
+}
+
+fn begins_with_dash(word: &str) -> bool
+    ensures { result ≡ begins_with_dash word.now }
+{
+    match word.as_bytes() {
+        [first, ..] => *first == b'-',
+        [] => false,
+    }
+}
