@@ -60,7 +60,7 @@ break_settles None k computed stated rest all = of (bytes_eq stated computed)
     of false = refl
 
 module _ (image : List ℕ → List ℕ) where
-  start_joins : (chain : PlainChain) (rest : List PlainChain) → links_from image 0 None (at_level_zero chain.input) (chain ∷ rest) ≡ joined_chains image (chain ∷ rest)
+  pub start_joins : (chain : PlainChain) (rest : List PlainChain) → links_from image 0 None (at_level_zero chain.input) (chain ∷ rest) ≡ joined_chains image (chain ∷ rest)
   start_joins chain rest = of (top_of image 0 0 chain)
     where
       start : Item

@@ -22,7 +22,7 @@ AreNested (below ∷ chain ∷ chains) = (chain.index ≡ without_last below.ind
 -- hash, and its links lead on from there
 abbrev pub ChainsLead : (List ℕ → List ℕ) → Item → List PlainChain → Item → Type 0
 ChainsLead image start [] top = start ≡ top
-ChainsLead image start (chain ∷ chains) top = (chain.input ≡ start.imprint) × ((next : Item) × Climbs image start chain.links next × ChainsLead image next chains top)
+ChainsLead image start (chain ∷ chains) top = (next : Item) × (chain.input ≡ start.imprint) × Climbs image start chain.links next × ChainsLead image next chains top
 
 -- the chains hold together, are of one time, and lead from a hash at level 0 to an item
 pub record IsAggregated (image : List ℕ → List ℕ) (chains : List PlainChain) (hash : List ℕ) (time : ℕ) (item : Item) : Type 0 where

@@ -24,6 +24,7 @@ mod chains;
 mod checking;
 mod difference;
 mod index;
+pub mod laws;
 mod publication;
 mod refusal;
 mod seen;
