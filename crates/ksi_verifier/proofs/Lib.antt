@@ -1,0 +1,4 @@
+pub mod Loops
+pub mod Passing
+pub mod Chained
+pub mod Whole

@@ -1,0 +1,53 @@
+-- What it is that a signature is accepted, without an order of checks.
+use Rattle.std.specs.Prelude.{◌≡◌, ◌≢◌, ℕ, ◌<◌, List, [], ◌∷◌, length, Option, Some, IfSome}
+use Rattle.std.specs.List.{AllByRecursion}
+use Rattle.ksi_imprint.specs.Imprints.{zero_imprint}
+use Rattle.ksi_split.specs.Ways.{IsSecond}
+use Rattle.ksi_aggchain.specs.Climbing.{Climbs}
+use Rattle.ksi_aggchain.specs.declared.item.Item.{Item}
+use Rattle.ksi_calchain.specs.Climbing.{ClimbsCal}
+use Rattle.ksi_calchain.specs.Sides.{sides_from_top}
+use Rattle.ksi_publications.specs.Finding.{find}
+use Rattle.ksi_signature.specs.Values.{Calendar, Publishing}
+use Rattle.ksi_signature.specs.declared.signature.Signature.{Signature}
+use Rattle.ksi_verifier.specs.Chains.{PlainChain, plain_chains, at_level_zero, last_part, without_last, chain_shape}
+
+-- each next chain's index is that of the chain below it without its last part
+abbrev pub AreNested : List PlainChain → Type 0
+AreNested [] = Unit {0}
+AreNested (chain ∷ []) = Unit {0}
+AreNested (below ∷ chain ∷ chains) = (chain.index ≡ without_last below.index) × AreNested (chain ∷ chains)
+
+-- chains lead from an item to an item, one after the other: each states the imprint that it is reached with as its input
+-- hash, and its links lead on from there
+abbrev pub ChainsLead : (List ℕ → List ℕ) → Item → List PlainChain → Item → Type 0
+ChainsLead image start [] top = start ≡ top
+ChainsLead image start (chain ∷ chains) top = (next : Item) × (chain.input ≡ start.imprint) × Climbs image start chain.links next × ChainsLead image next chains top
+
+-- the chains hold together, are of one time, and lead from a hash at level 0 to an item
+pub record IsAggregated (image : List ℕ → List ℕ) (chains : List PlainChain) (hash : List ℕ) (time : ℕ) (item : Item) : Type 0 where
+  pub some : 0 < length chains
+  pub order : AreNested chains
+  pub shapes : AllByRecursion (λ chain. last_part chain.index ≡ chain_shape chain) chains
+  pub lead : ChainsLead image (at_level_zero hash) chains item
+  pub times : AllByRecursion (λ chain. chain.time ≡ time) chains
+
+-- a publication record of a time and a root
+abbrev pub IsRecord : ℕ → List ℕ → Publishing → Type 0
+IsRecord time root published = (published.time ≡ time) × (published.hash ≡ root)
+
+-- The chains lead from the hash to the root of second t, the calendar chain leads from there to the root of the calendar
+-- that was published, its sides name t, and each time that is stated is t.
+pub record IsAccepted (image : List ℕ → List ℕ) (signature : Signature) (hash : List ℕ) (publications : List (ℕ × List ℕ)) (t : ℕ) : Type 0 where
+  pub item : Item
+  pub chains : IsAggregated image (plain_chains signature.chains) hash t item
+  pub calendar : Calendar
+  pub has_calendar : signature.calendar ≡ Some calendar
+  pub input : calendar.input ≡ item.imprint
+  pub held : calendar.input ≢ zero_imprint
+  pub second : IsSecond calendar.publication (sides_from_top calendar.links) t
+  pub time : calendar.time ≡ t
+  pub root : List ℕ
+  pub climbs : ClimbsCal image calendar.input calendar.links root
+  pub stated : IfSome signature.publication (IsRecord calendar.publication root)
+  pub published : find calendar.publication publications ≡ Some root

@@ -1,0 +1,99 @@
+-- The checks of aggregation chains, in their order. The lowest chain is chain 0; inside one check the lowest chain that
+-- fails counts, then its lowest link.
+use Rattle.std.specs.Prelude.{ℕ, ◌+◌, ◌==◌, List, [], ◌∷◌, Option, Some, None, Result, Ok, Err, if◌then◌else◌}
+use Rattle.std.specs.Str.{bytes_eq}
+use Rattle.ksi_imprint.specs.Imprints.{zero_imprint}
+use Rattle.ksi_aggchain.specs.Climbing.{climbed}
+use Rattle.ksi_aggchain.specs.declared.item.Item.{Item}
+use Rattle.ksi_aggchain.specs.declared.climbing.LevelFault.{LevelFault}
+use Rattle.ksi_aggchain.specs.declared.climbing.LevelFault.TheVariants.{Over}
+use Rattle.ksi_signature.specs.declared.signature.Signature.{Signature}
+use Rattle.ksi_verifier.specs.declared.aggregated.Aggregated.{Aggregated}
+use Rattle.ksi_verifier.specs.declared.refusal.Refusal.{Refusal}
+use Rattle.ksi_verifier.specs.declared.refusal.Refusal.TheVariants.{IndexOrder, IndexShape, Level, ChainBreak, AggregationTimes}
+use Rattle.ksi_verifier.specs.Checks.{◌>>=◌, ◌>>◌, need, each}
+use Rattle.ksi_verifier.specs.Chains.{PlainChain, plain_chains, first_chain, higher_chains, at_level_zero, last_part, without_last, chain_shape}
+
+-- ---- V2: the index of each next chain is that of the chain below it without its last part
+
+-- two lists of parts are equal, the one made of chain k's index, the other the index of the chain above it; a list that
+-- has ended has no part
+abbrev pub same_parts : ℕ → ℕ → List ℕ → List ℕ → Result (Unit {0}) Refusal
+same_parts k place [] [] = Ok tt
+same_parts k place (a ∷ lower) [] = Err (IndexOrder k place (Some a) None)
+same_parts k place [] (b ∷ higher) = Err (IndexOrder k place None (Some b))
+same_parts k place (a ∷ lower) (b ∷ higher) = if a == b then same_parts k (place + 1) lower higher else Err (IndexOrder k place (Some a) (Some b))
+
+-- of the chains from k on, the lowest of which is given by itself
+abbrev pub index_order : ℕ → PlainChain → List PlainChain → Result (Unit {0}) Refusal
+index_order k below [] = Ok tt
+index_order k below (chain ∷ chains) = same_parts k 0 (without_last below.index) chain.index >> index_order (k + 1) chain chains
+
+-- ---- V3: the last part of each chain's index is the chain's shape
+
+abbrev pub index_shape : ℕ → PlainChain → Result (Unit {0}) Refusal
+index_shape k chain = need (last_part chain.index == chain_shape chain) (IndexShape k (last_part chain.index) (chain_shape chain))
+
+abbrev pub index_shapes : ℕ → List PlainChain → Result (Unit {0}) Refusal
+index_shapes k chains = each index_shape k chains
+
+-- ---- V4: no level passes 255
+
+abbrev pub or_level : ℕ → Result Item LevelFault → Result Item Refusal
+or_level k (Ok top) = Ok top
+or_level k (Err (Over link level)) = Err (Level k link level)
+
+-- the item that chain k leads to, from its own input hash at a level
+abbrev pub top_of : (List ℕ → List ℕ) → ℕ → ℕ → PlainChain → Result Item Refusal
+top_of image k level chain = or_level k (climbed image 0 (record { imprint = chain.input; level = level }) chain.links)
+
+-- the items that the chains from k on lead to, each from its own input hash, and from the level that the chain below it
+-- leads to
+abbrev pub tops : (List ℕ → List ℕ) → ℕ → ℕ → List PlainChain → Result (List Item) Refusal
+tops image k level [] = Ok []
+tops image k level (chain ∷ chains) = do
+  top ← top_of image k level chain
+  higher ← tops image (k + 1) top.level chains
+  Ok (top ∷ higher)
+
+-- ---- V5: the input hash of each next chain is the imprint that the chain below it leads to
+
+-- the items that lie below the chains from k on
+abbrev pub unbroken : ℕ → List Item → List PlainChain → Result (Unit {0}) Refusal
+unbroken k (below ∷ items) (chain ∷ chains) = need (bytes_eq chain.input below.imprint) (ChainBreak k below.imprint chain.input) >> unbroken (k + 1) items chains
+unbroken k items [] = Ok tt
+unbroken k [] (chain ∷ chains) = Ok tt
+
+-- the uppermost of items, or the one given where there are none
+abbrev pub last_item : Item → List Item → Item
+last_item below [] = below
+last_item below (item ∷ items) = last_item item items
+
+-- V4, then V5: the item that all chains lead to
+abbrev pub joined_chains : (List ℕ → List ℕ) → List PlainChain → Result Item Refusal
+joined_chains image chains = do
+  items ← tops image 0 0 chains
+  unbroken 1 items (higher_chains chains)
+  Ok (last_item (at_level_zero zero_imprint) items)
+
+-- ---- V6: each chain has the first chain's time
+
+abbrev pub same_time : ℕ → ℕ → PlainChain → Result (Unit {0}) Refusal
+same_time first k chain = need (chain.time == first) (AggregationTimes k first chain.time)
+
+abbrev pub same_times : ℕ → ℕ → List PlainChain → Result (Unit {0}) Refusal
+same_times first k chains = each (same_time first) k chains
+
+-- ---- V2 to V6: the time of the chains and the item that they lead to, or the first check that fails
+
+abbrev pub chains_checked : (List ℕ → List ℕ) → List PlainChain → Result Aggregated Refusal
+chains_checked image chains = do
+  index_order 0 (first_chain chains) (higher_chains chains)
+  index_shapes 0 chains
+  item ← joined_chains image chains
+  same_times (first_chain chains).time 0 chains
+  Ok (record { time = (first_chain chains).time; item = item })
+
+-- of a signature
+abbrev pub aggregated : (List ℕ → List ℕ) → Signature → Result Aggregated Refusal
+aggregated image signature = chains_checked image (plain_chains signature.chains)

@@ -1,0 +1,6 @@
+pub mod Checks
+pub mod Chains
+pub mod ChainChecks
+pub mod Folding
+pub mod Verdict
+pub mod Accepted

@@ -1,0 +1,106 @@
+-- The verdict on a signature: the first check that fails, or the second.
+use Rattle.std.specs.Prelude.{ℕ, ◌==◌, not, List, Option, Some, None, Result, Ok, Err}
+use Rattle.std.specs.Str.{bytes_eq}
+use Rattle.ksi_imprint.specs.Imprints.{zero_imprint}
+use Rattle.ksi_split.specs.Parts.{second_at}
+use Rattle.ksi_split.specs.Trees.{climb_links}
+use Rattle.ksi_split.specs.declared.fault.ShapeFault.{ShapeFault}
+use Rattle.ksi_aggchain.specs.declared.item.Item.{Item}
+use Rattle.ksi_calchain.specs.Climbing.{cal_join}
+use Rattle.ksi_calchain.specs.Sides.{sides_from_top}
+use Rattle.ksi_publications.specs.Finding.{find}
+use Rattle.ksi_signature.specs.Values.{Calendar, Publishing}
+use Rattle.ksi_signature.specs.declared.signature.Signature.{Signature}
+use Rattle.ksi_verifier.specs.declared.aggregated.Aggregated.{Aggregated}
+use Rattle.ksi_verifier.specs.declared.difference.RecordDifference.TheVariants as differences
+use Rattle.ksi_verifier.specs.declared.refusal.Refusal.{Refusal}
+use Rattle.ksi_verifier.specs.declared.refusal.Refusal.TheVariants.{WrongHash, NoCalendar, CalendarInput, MissedSecond, CalendarShape, TimeField, RecordDiffers, NoPublication, PublicationDiffers}
+use Rattle.ksi_verifier.specs.declared.verdict.Verdict.{Verdict}
+use Rattle.ksi_verifier.specs.declared.verdict.Verdict.TheVariants.{Accepted, Refused}
+use Rattle.ksi_verifier.specs.Checks.{◌>>=◌, ◌>>◌, need}
+use Rattle.ksi_verifier.specs.Chains.{PlainChain, plain_chains, first_chain}
+use Rattle.ksi_verifier.specs.ChainChecks.{chains_checked}
+
+-- V1: the first chain's input hash is the given one
+abbrev pub same_hash : List ℕ → List ℕ → Result (Unit {0}) Refusal
+same_hash input hash = need (bytes_eq input hash) (WrongHash input hash)
+
+-- V7: there is a calendar chain
+abbrev pub some_calendar : Option Calendar → Result Calendar Refusal
+some_calendar None = Err NoCalendar
+some_calendar (Some calendar) = Ok calendar
+
+-- ---- the calendar chain
+
+abbrev pub or_shape : Result ℕ ShapeFault → Result ℕ Refusal
+or_shape (Ok second) = Ok second
+or_shape (Err fault) = Err (CalendarShape fault)
+
+-- V10: the second that the links' sides name among those from 0 to the publication time
+abbrev pub second_named : Calendar → Result ℕ Refusal
+second_named calendar = or_shape (second_at calendar.publication (sides_from_top calendar.links))
+
+-- V8, V9 and V10: the calendar chain goes on from the item of the chains, which is not that of a missed second, and its
+-- sides name a second
+abbrev pub calendar_second : Item → Calendar → Result ℕ Refusal
+calendar_second item calendar = do
+  need (bytes_eq calendar.input item.imprint) (CalendarInput item.imprint calendar.input)
+  need (not (bytes_eq calendar.input zero_imprint)) MissedSecond
+  second_named calendar
+
+-- V11: the calendar chain's time, then that of the chains, is the second
+abbrev pub same_second : ℕ → ℕ → ℕ → Result (Unit {0}) Refusal
+same_second calendar_time chain_time second = do
+  need (calendar_time == second) (TimeField calendar_time second)
+  need (chain_time == second) (TimeField chain_time second)
+
+-- ---- what was published
+
+-- the root of the calendar that the calendar chain leads to
+abbrev pub root_of : (List ℕ → List ℕ) → Calendar → List ℕ
+root_of image calendar = climb_links (cal_join image) calendar.input calendar.links
+
+-- V12: a publication record, where there is one, has the publication time and the root
+abbrev pub same_record : Option Publishing → ℕ → List ℕ → Result (Unit {0}) Refusal
+same_record None time root = Ok tt
+same_record (Some published) time root = do
+  need (published.time == time) (RecordDiffers (differences.Time published.time time))
+  need (bytes_eq published.hash root) (RecordDiffers (differences.Hash published.hash root))
+
+-- V13 and V14: of the publications file, the first record of the publication time has the root
+abbrev pub same_publication : Option (List ℕ) → ℕ → List ℕ → Result (Unit {0}) Refusal
+same_publication None time root = Err (NoPublication time)
+same_publication (Some hash) time root = need (bytes_eq hash root) (PublicationDiffers time hash root)
+
+-- V12, V13 and V14
+abbrev pub published_checks : Option Publishing → List (ℕ × List ℕ) → ℕ → List ℕ → Result (Unit {0}) Refusal
+published_checks published publications time root = do
+  same_record published time root
+  same_publication (find time publications) time root
+
+-- ---- V8 to V14: the second, of an aggregation and a calendar chain, or the first check that fails
+
+abbrev pub calendar_checked : (List ℕ → List ℕ) → Aggregated → Calendar → Option Publishing → List (ℕ × List ℕ) → Result ℕ Refusal
+calendar_checked image aggregation calendar published publications = do
+  second ← calendar_second aggregation.item calendar
+  same_second calendar.time aggregation.time second
+  published_checks published publications calendar.publication (root_of image calendar)
+  Ok second
+
+-- ---- V1 to V14
+
+-- of chains, a calendar chain and a publication record
+abbrev pub checked : (List ℕ → List ℕ) → List PlainChain → Option Calendar → Option Publishing → List ℕ → List (ℕ × List ℕ) → Result ℕ Refusal
+checked image chains calendar_chain published hash publications = do
+  same_hash (first_chain chains).input hash
+  aggregation ← chains_checked image chains
+  calendar ← some_calendar calendar_chain
+  calendar_checked image aggregation calendar published publications
+
+abbrev pub or_refused : Result ℕ Refusal → Verdict
+or_refused (Ok second) = Accepted second
+or_refused (Err refusal) = Refused refusal
+
+-- of a signature, for a hash and the times and hashes of a publications file
+unfoldable pub verdict : (List ℕ → List ℕ) → Signature → List ℕ → List (ℕ × List ℕ) → Verdict
+verdict image signature hash publications = or_refused (checked image (plain_chains signature.chains) signature.calendar signature.publication hash publications)

@@ -1,0 +1,10 @@
+use ksi_aggchain::Item;
+
+/// What the aggregation chains of a signature come to.
+#[derive(Clone, Copy, PartialEq, Eq, Debug)]
+pub struct Aggregated {
+    /// The second that each chain states.
+    pub time: u64,
+    /// The item that the chains lead to, from the first one's input hash at level 0.
+    pub item: Item,
+}

@@ -1,0 +1,50 @@
+// The checks of a calendar chain.
+ghost use Rattle.std.specs.Prelude.{◌≡◌};
+ghost use Rattle.ksi_verifier.specs.Verdict.{calendar_second, same_second, second_named};
+
+use crate::refusal::Refusal;
+use ksi_aggchain::Item;
+use ksi_calchain::second;
+use ksi_imprint::Imprint;
+use ksi_signature::CalChain;
+
+/// V8, V9 and V10: the second that the sides name.
+pub(crate) fn check_calendar(item: &Item, calendar: &CalChain) -> Result<u64, Refusal>
+    ensures { result ≡ calendar_second item.now calendar.now }
+{
+    if calendar.input != item.imprint {
+        return Err(Refusal::CalendarInput {
+            computed: item.imprint,
+            stated: calendar.input,
+        });
+    }
+    if calendar.input == Imprint::ZERO {
+        return Err(Refusal::MissedSecond);
+    }
+    second_named(calendar)
+}
+
+fn second_named(calendar: &CalChain) -> Result<u64, Refusal>
+    ensures { result ≡ second_named calendar.now }
+{
+    match second(calendar.publication, calendar.links.as_slice()) {
+        Ok(second) => Ok(second),
+        Err(fault) => Err(Refusal::CalendarShape(fault)),
+    }
+}
+
+/// V11: both stated times are the second.
+pub(crate) fn check_second(calendar_time: u64, chain_time: u64, second: u64) -> Result<(), Refusal>
+    ensures { result ≡ same_second calendar_time chain_time second }
+{
+    let field = if calendar_time == second {
+        chain_time
+    } else {
+        calendar_time
+    };
+    if field == second {
+        Ok(())
+    } else {
+        Err(Refusal::TimeField { field, second })
+    }
+}

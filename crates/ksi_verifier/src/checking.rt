@@ -1,0 +1,99 @@
+ghost use Rattle.std.specs.Prelude.{◌≡◌, ◌<◌, length, map};
+ghost use Rattle.ksi_verifier.specs.ChainChecks.{aggregated};
+ghost use Rattle.ksi_verifier.specs.Verdict.{calendar_checked, checked, verdict};
+
+use crate::aggregated::Aggregated;
+use crate::calendar::{check_calendar, check_second};
+use crate::chains::check_chains;
+use crate::publication::check_published;
+use crate::refusal::Refusal;
+use crate::seen::SeenChain;
+use crate::verdict::Verdict;
+use ksi_calchain::climb_cal;
+use ksi_imprint::{Compress, Imprint};
+use ksi_publications::Publications;
+use ksi_signature::{AggChain, CalChain, PubRecord, Signature};
+
+/// What the aggregation chains of a signature come to.
+///
+/// # Errors
+/// The first of the checks V2 to V6 that fails.
+pub fn aggregate<C: Compress>(signature: &Signature) -> Result<Aggregated, Refusal>
+    ensures { result ≡ aggregated C.image signature.now }
+{
+    check_chains::<C, AggChain>(signature.chains.as_slice())
+}
+
+/// Checks a signature for a hash against the published roots of the calendar: the first of V1 to V14 that fails, or the
+/// second that the sides of the calendar chain name.
+#[tactic(auto, unfolding(crate::specs::Verdict::verdict))]
+pub fn verify<C: Compress>(
+    signature: &Signature,
+    hash: &Imprint,
+    publications: &Publications,
+) -> Verdict
+    ensures { result ≡ verdict C.image signature.now hash.now publications.now }
+{
+    let chains = signature.chains.as_slice();
+    match check::<C, AggChain>(
+        chains,
+        &signature.calendar,
+        &signature.publication,
+        hash,
+        publications,
+    ) {
+        Ok(second) => Verdict::Accepted(second),
+        Err(refusal) => Verdict::Refused(refusal),
+    }
+}
+
+/// The checks V1 to V14 in their order, whoever owns the chains.
+fn check<C: Compress, T: SeenChain>(
+    chains: &[T],
+    calendar: &Option<CalChain>,
+    published: &Option<PubRecord>,
+    hash: &Imprint,
+    publications: &Publications,
+) -> Result<u64, Refusal>
+    requires { 0 < length chains.now }
+    ensures { result ≡ checked C.image (map T.plain chains.now) calendar.now published.now hash.now publications.now }
+{
+    let input = chains[0].input();
+    if input != *hash {
+        return Err(Refusal::WrongHash {
+            in_signature: input,
+            given: *hash,
+        });
+    }
+    let aggregated = match check_chains::<C, T>(chains) {
+        Ok(aggregated) => aggregated,
+        Err(refusal) => return Err(refusal),
+    };
+    match calendar {
+        Some(calendar) => check_above::<C>(&aggregated, calendar, published, publications),
+        None => Err(Refusal::NoCalendar),
+    }
+}
+
+/// The checks V8 to V14, where the chains come to an item.
+fn check_above<C: Compress>(
+    aggregated: &Aggregated,
+    calendar: &CalChain,
+    published: &Option<PubRecord>,
+    publications: &Publications,
+) -> Result<u64, Refusal>
+    ensures { result ≡ calendar_checked C.image aggregated.now calendar.now published.now publications.now }
+{
+    let second = match check_calendar(&aggregated.item, calendar) {
+        Ok(second) => second,
+        Err(refusal) => return Err(refusal),
+    };
+    if let Err(refusal) = check_second(calendar.time, aggregated.time, second) {
+        return Err(refusal);
+    }
+    let root = climb_cal::<C>(calendar.input, calendar.links.as_slice());
+    match check_published(published, publications, calendar.publication, root) {
+        Ok(()) => Ok(second),
+        Err(refusal) => Err(refusal),
+    }
+}

@@ -1,0 +1,41 @@
+//! The checks of a signature of Keyless Signatures' Infrastructure (Buldas, Kroonmaa, Laanoja, "Keyless Signatures'
+//! Infrastructure", 2013) against a hash and the published roots of the calendar.
+//!
+//! Fourteen checks, V1 to V14, stand in an order; inside one of them the lowest chain, then the lowest link, counts. The
+//! second that a signature proves is the one that the sides of its calendar chain name: the stated times are only compared
+//! with it.
+//!
+//! The layer above may rely on this: [`verify`] gives the verdict, which is the first check that fails, with its values, or
+//! the second; [`aggregate`] does V2 to V6 alone, and gives the chains' time and the item that they lead to. No call takes
+//! memory. What it is that a signature is accepted, whatever the order of the checks, is in `laws`.
+//!
+//! ```text
+//! let signature = ksi_signature::read(alloc, bytes)?;
+//! match verify::<Sha>(&signature, &hash, &publications) {
+//!     Verdict::Accepted(second) => ..,
+//!     Verdict::Refused(refusal) => ..,
+//! }
+//! ```
+#![tactic(auto)]
+
+mod aggregated;
+mod calendar;
+mod chains;
+mod checking;
+mod difference;
+mod index;
+pub mod laws;
+mod publication;
+mod refusal;
+mod seen;
+#[cfg(test)]
+mod tests;
+mod verdict;
+#[cfg(test)]
+mod written;
+
+pub use aggregated::Aggregated;
+pub use checking::{aggregate, verify};
+pub use difference::RecordDifference;
+pub use refusal::Refusal;
+pub use verdict::Verdict;
