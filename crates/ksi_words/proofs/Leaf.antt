@@ -182,8 +182,8 @@ wrong_of_one name w (v ∷ ws) plain other none =
 pub wrong_level : (name : Text) (n : ℕ) (words : List Text) → 0 < n → AllPlain words → (length words ≡ n → ⊥) → level_fault (leaf name n) [] nothing_held words false [] ≡ [] → ⊥
 wrong_level name n [] some plain other none = some_kind _ _ (level_of_none name n) none
 wrong_level name n (w ∷ ws) some plain other none = elim (cases_lt 1 n) [
-    | inl several ↦ some_kind _ _ (level_of_several name n w ws several plain ∙ end_wrong name n w ws several other) none
-    | inr few ↦
-        let one : 1 ≡ n = omega arith in
-        wrong_of_one name w ws plain (λ e. other (e ∙ one)) (subst (λ k. level_fault (leaf name k) [] nothing_held (w ∷ ws) false [] ≡ []) (sym one) none)
-  ]
+  | inl several ↦ some_kind _ _ (level_of_several name n w ws several plain ∙ end_wrong name n w ws several other) none
+  | inr few ↦
+      let one : 1 ≡ n = omega arith in
+      wrong_of_one name w ws plain (λ e. other (e ∙ one)) (subst (λ k. level_fault (leaf name k) [] nothing_held (w ∷ ws) false [] ≡ []) (sym one) none)
+]

@@ -38,9 +38,9 @@ plain_form words plain = rw plain refl
 pub refused_kind : (expected : Result Asked WordsRefusal) (k : ErrorKind) → (k ≡ OutOfMemory) ⊎ (expected ≡ Err Words) → Reads expected (Err (refusal_of k))
 refused_kind expected OutOfMemory h = tt
 refused_kind expected k h = elim h [
-    | inl memory ↦ absurd (cc (memory))
-    | inr is ↦ is
-  ]
+  | inl memory ↦ absurd (cc (memory))
+  | inr is ↦ is
+]
 
 -- ---- the parse by the table
 

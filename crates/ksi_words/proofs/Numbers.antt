@@ -22,9 +22,9 @@ below : {E : Type 0} (word : List ℕ) (r : Result ℕ E) → is_digits word ≡
 unfolding number_of
 below word (Ok n) digits some h = rw (digits, lt-ltb _ _ h.0.1, h.1) refl
 below word (Err e) digits some h = elim (cases_lt (digits_value 10 word) (2 ^ 64)) [
-    | inl lt ↦ absurd (h (some, lt))
-    | inr ge ↦ rw (digits, le-ltb _ _ ge) refl
-  ]
+  | inl lt ↦ absurd (h (some, lt))
+  | inr ge ↦ rw (digits, le-ltb _ _ ge) refl
+]
 
 pub digits_by_parts : (word : List ℕ) → 0 < length word → length word ≤ 20 → list_all is_ascii_digit word ≡ is_digits word
 digits_by_parts word some few = rw (lt-ltb _ _ some, le-leb _ _ few) refl
