@@ -1,20 +1,20 @@
 -- What `clap` makes of words of which none begins with a dash, by the names and counts of the commands.
-use Rattle.std.proofs.Common.{◌≡◌, ℕ, ◌+◌, ◌<◌, ◌==◌, ◌&&◌, ◌||◌, Bool, true, false, not, List, [], ◌∷◌, ◌++◌, length, map, codes, Option, Some, None, option_map, arith, nat_lt, refl, sym, ap, ap₂, ◌∙◌, nat_eq, append_assoc, subst, append-nil}
+use Rattle.std.proofs.Common.{◌≡◌, ℕ, ◌<◌, ◌==◌, ◌&&◌, Bool, true, false, List, [], ◌∷◌, ◌++◌, length, map, codes, Option, Some, None, option_map, arith, nat_lt, refl, sym, ap, ap₂, ◌∙◌, nat_eq, append_assoc, subst, append-nil}
 use Rattle.std.specs.Prelude.{find, fold, is_some, ⊤, if◌then◌else◌}
-use Rattle.std.specs.List.{list_all, list_any}
+use Rattle.std.specs.List.{list_all}
 use Rattle.std.specs.Option.{option_map_or}
 use Rattle.std.specs.Str.{bytes_eq}
 use Rattle.std.proofs.lemmas.Bool.{eqb-true, eqb-false}
 use Rattle.std.proofs.lemmas.Slice.Eq.{bytes_eq-Decides}
 use Rattle.clap.specs.Lexer.{usize_max}
 use Rattle.clap.specs.Walk.{settled, finished, idle, Names, Row, Rule, Text, Walk, is_multiple, answers_to, nothing_held, walk, walk_from, walked, rows_after, stop_after}
-use Rattle.clap.specs.Simple.{App, Shape, argument_words, built, built_leaf, entered, filled, inherited, is_simple, is_buildable, is_ready, is_ready_leaf, is_simple_leaf, label_of, names_of, new_shape, subcommand_of, with_index}
+use Rattle.clap.specs.Simple.{App, Shape, built, built_leaf, entered, inherited, is_simple, is_buildable, is_ready, is_ready_leaf, is_simple_leaf, label_of, names_of, subcommand_of}
 use Rattle.clap.specs.Faults.{settle_fault, entered_fault, defaults_fault, check_fault, built_fault, fault_of, has_free_rules, is_free_app, is_simple_and_free, level_fault, walk_fault}
 use Rattle.clap.specs.Kinds.{Kinds, or_else}
 use Rattle.clap.specs.declared.error.kind.ErrorKind.{ErrorKind}
 use Rattle.clap.specs.declared.error.kind.ErrorKind.TheVariants as kind
 use Rattle.ksi_words.specs.Words.{begins_with_dash}
-use Rattle.ksi_words.specs.Grammar.{bare, row_app, words_rule}
+use Rattle.ksi_words.specs.Grammar.{bare, row_app}
 use Rattle.ksi_words.proofs.Leaf.{built_rule, rule_built, leaf, words_row, AllPlain, first_plain, no_dashes, not_long, not_short, right_level, right_rows, wrong_level}
 
 abbrev pub Form : Type 0

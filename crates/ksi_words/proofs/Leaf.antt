@@ -1,13 +1,13 @@
 -- What `clap` makes of the words after a command's name, where none of them begins with a dash.
-use Rattle.std.proofs.Common.{◌≡◌, ◌≢◌, ℕ, ◌+◌, ◌<◌, ◌≤◌, ◌==◌, ◌&&◌, Bool, true, false, not, cond, List, [], ◌∷◌, ◌++◌, length, codes, Option, Some, None, refl, sym, ap, ◌∙◌, arith, nat_eq, nat_lt, ◌||◌, append-nil, append_assoc, subst, inl, inr}
+use Rattle.std.proofs.Common.{◌≡◌, ℕ, ◌<◌, Bool, true, false, List, [], ◌∷◌, ◌++◌, length, codes, Some, None, refl, sym, ap, ◌∙◌, arith, nat_eq, nat_lt, append-nil, append_assoc, subst, inl, inr}
 use Rattle.std.proofs.lemmas.Bool.{cases_lt}
 use Rattle.std.specs.Prelude.{fold}
 use Rattle.std.specs.List.{list_any}
 use Rattle.std.specs.Str.{bytes_eq}
 use Rattle.clap.specs.Lexer.{usize_max, long_of, short_of}
-use Rattle.clap.specs.Walk.{settled, finished, Held, Names, Row, Rule, Step, Text, Waiting, Walk, idle, positional, value, nothing_held, rows_after, subcommand_met, walk, walk_from, walked, word_met, reading_by}
-use Rattle.clap.specs.Simple.{Shape, new_rule, new_shape, filled, with_index}
-use Rattle.clap.specs.Faults.{settle_fault, check_fault, level_fault, values_fault, walk_fault, defaults_fault, word_fault}
+use Rattle.clap.specs.Walk.{settled, finished, Row, Rule, Text, Walk, positional, nothing_held, rows_after, walk, walk_from, walked}
+use Rattle.clap.specs.Simple.{Shape, new_shape, filled, with_index}
+use Rattle.clap.specs.Faults.{settle_fault, check_fault, level_fault, walk_fault, defaults_fault}
 use Rattle.clap.specs.Kinds.{Kinds, or_else, values_kinds}
 use Rattle.clap.specs.declared.builder.action.ArgAction.TheVariants.{Set}
 use Rattle.clap.specs.declared.builder.value_parser.ValueParser.TheVariants as vp
@@ -182,8 +182,8 @@ wrong_of_one name w (v ∷ ws) plain other none =
 pub wrong_level : (name : Text) (n : ℕ) (words : List Text) → 0 < n → AllPlain words → (length words ≡ n → ⊥) → level_fault (leaf name n) [] nothing_held words false [] ≡ [] → ⊥
 wrong_level name n [] some plain other none = some_kind _ _ (level_of_none name n) none
 wrong_level name n (w ∷ ws) some plain other none = elim (cases_lt 1 n) [
-    | inl several ↦ some_kind _ _ (level_of_several name n w ws several plain ∙ end_wrong name n w ws several other) none
-    | inr few ↦
-        let one : 1 ≡ n = omega arith in
-        wrong_of_one name w ws plain (λ e. other (e ∙ one)) (subst (λ k. level_fault (leaf name k) [] nothing_held (w ∷ ws) false [] ≡ []) (sym one) none)
-  ]
+  | inl several ↦ some_kind _ _ (level_of_several name n w ws several plain ∙ end_wrong name n w ws several other) none
+  | inr few ↦
+      let one : 1 ≡ n = omega arith in
+      wrong_of_one name w ws plain (λ e. other (e ∙ one)) (subst (λ k. level_fault (leaf name k) [] nothing_held (w ∷ ws) false [] ≡ []) (sym one) none)
+]

@@ -1,10 +1,9 @@
 -- The rows of the table, by their names and counts.
-use Rattle.std.proofs.Common.{◌≡◌, ℕ, Bool, true, false, List, [], ◌∷◌, length, map, Option, Some, None, Result, Ok, Err, refl, sym, ap, ◌∙◌, ◌⊎◌, inl, inr, subst, arith}
-use Rattle.std.specs.Prelude.{MatchResult}
+use Rattle.std.proofs.Common.{◌≡◌, Bool, true, false, List, [], ◌∷◌, length, map, Some, Result, Err, refl, ◌∙◌, ◌⊎◌, inl, inr, subst}
 use Rattle.std.specs.Str.{bytes_eq}
 use Rattle.std.specs.List.{list_any}
 use Rattle.clap.specs.Walk.{Text}
-use Rattle.clap.specs.Words.{FailsBy, HasKind, Kinds, fault_of, kind_of, subcommand_of}
+use Rattle.clap.specs.Words.{HasKind, fault_of, kind_of, subcommand_of}
 use Rattle.clap.specs.declared.error.Error.{Error}
 use Rattle.clap.specs.declared.error.kind.ErrorKind.{ErrorKind}
 use Rattle.clap.specs.declared.error.kind.ErrorKind.TheVariants.{OutOfMemory}
@@ -38,9 +37,9 @@ plain_form words plain = rw plain refl
 pub refused_kind : (expected : Result Asked WordsRefusal) (k : ErrorKind) → (k ≡ OutOfMemory) ⊎ (expected ≡ Err Words) → Reads expected (Err (refusal_of k))
 refused_kind expected OutOfMemory h = tt
 refused_kind expected k h = elim h [
-    | inl memory ↦ absurd (cc (memory))
-    | inr is ↦ is
-  ]
+  | inl memory ↦ absurd (cc (memory))
+  | inr is ↦ is
+]
 
 -- ---- the parse by the table
 

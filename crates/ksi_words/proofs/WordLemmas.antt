@@ -8,4 +8,3 @@ use Rattle.ksi_words.specs.Words.{texts}
 pub any_text : (p : List ℕ → Bool) (words : List (String Global)) → list_any p (texts words) ≡ list_any (λ word. p (string_bytes word)) words
 any_text p [] = refl
 any_text p (word ∷ words) = ap (λ b. p (string_bytes word) || b) (any_text p words)
-

@@ -26,8 +26,6 @@ pub(crate) fn grammar<'a>(alloc: Global, rows: &[Row]) -> Result<Command<'a>, Al
 fn form<'a>(alloc: Global, row: &Row) -> Result<Command<'a>, AllocError>
     ensures { IfOk result (λ form. (app_of form ≡ row_app (form_of row.now)) × ((out-Command form).has_globals ≡ false)) }
 {
-    let words = Arg::new(alloc, "words")
-        .required(true)
-        .num_args(row.words);
+    let words = Arg::new(alloc, "words").required(true).num_args(row.words);
     Command::new(alloc, row.name).arg(words)
 }

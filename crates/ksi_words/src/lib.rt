@@ -1,4 +1,19 @@
-//! The words of a command line: the command that they ask for, with its number and hash words read.
+//! The words of a command line: which command they ask for, with its number and hash words read.
+//!
+//! Each command is a row of a table: its name, and the words after it, each a file, a hash, a number or a time. `clap`
+//! parses by a grammar that is built from the rows. The layer above may rely on this: [`command`] gives exactly the
+//! command that the words ask for, as `command_of` tells it; it refuses words that have no command's form, and else
+//! names the first word that is no number or hash. It may want for memory. [`number`], [`time`] and [`hash`] read a word and
+//! take none.
+//!
+//! ```text
+//! match command(alloc, &words) {
+//!     Ok(command) => perform(&command),
+//!     Err(WordsRefusal::Words) => say("words refused"),
+//!     Err(WordsRefusal::BadWord(n)) => say_of("bad word", n),
+//!     Err(WordsRefusal::NoMemory) => {}
+//! }
+//! ```
 #![tactic(auto)]
 
 mod asked;

@@ -1,4 +1,4 @@
-use Rattle.std.proofs.Common.{rules, ◌≡◌, ◌∙◌, sym, ap, ap₂, arith}
+use Rattle.std.proofs.Common.{◌∙◌, sym, ap, ap₂, arith}
 use Rattle.clap.specs.Words.{App, with_subcommand}
 use Rattle.ksi_words.proofs.Building.{app_over_more}
 use Rattle.ksi_words.proofs.grammar.grammar.Goals as goal

@@ -1,4 +1,4 @@
-use Rattle.std.proofs.Common.{◌≡◌, map, take, false}
+use Rattle.std.proofs.Common.{◌≡◌, map, take}
 use Rattle.clap.specs.Words.{app_of}
 use Rattle.ksi_words.specs.Grammar.{app_over, form_of}
 use Rattle.ksi_words.proofs.grammar.grammar.Given as goal

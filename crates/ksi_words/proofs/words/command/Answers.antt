@@ -1,8 +1,8 @@
-use Rattle.std.proofs.Common.{rules, ◌≡◌, List, ◌∷◌, map, ◌∙◌, sym, ap, subst, [], true, false, codes}
+use Rattle.std.proofs.Common.{rules, ◌≡◌, map, ◌∙◌, ap, subst, true, false}
 use Rattle.std.specs.Prelude.{string_bytes}
 use Rattle.std.specs.List.{list_any}
 use Rattle.clap.specs.Words.{HasKind, app_of, fault_of, is_simple_and_free}
-use Rattle.ksi_words.specs.Words.{Reads, begins_with_dash, texts, command_of, table}
+use Rattle.ksi_words.specs.Words.{begins_with_dash, texts}
 use Rattle.ksi_words.specs.Grammar.{app_over, form_of}
 use Rattle.ksi_words.proofs.WordLemmas.{any_text}
 use Rattle.ksi_words.proofs.Commands.{app_with, app_free}
