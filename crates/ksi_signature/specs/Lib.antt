@@ -4,3 +4,4 @@ pub mod Contents
 pub mod File
 pub mod Places
 pub mod Order
+pub mod Written
