@@ -2,3 +2,4 @@ pub mod Whole
 pub mod Says
 pub mod Limits
 pub mod Order
+pub mod Sizes

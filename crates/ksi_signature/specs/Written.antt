@@ -1,5 +1,5 @@
 -- A signature as it is written: the elements of each container in the order of its table, without flags.
-use Rattle.std.specs.Prelude.{ℕ, suc, zero, nat_lt, List, [], ◌∷◌, ◌++◌, length, map, flat_map, Option, Some, None, if◌then◌else◌}
+use Rattle.std.specs.Prelude.{◌≡◌, ℕ, suc, zero, nat_lt, List, [], ◌∷◌, ◌++◌, length, map, flat_map, Option, Some, None, Result, Ok, Err, if◌then◌else◌}
 use Rattle.ksi_split.specs.declared.side.Side.{Side}
 use Rattle.ksi_split.specs.declared.side.Side.TheVariants.{Left, Right}
 use Rattle.ksi_split.specs.declared.tree_link.TreeLink.{TreeLink}
@@ -12,6 +12,8 @@ use Rattle.ksi_tlv.specs.Writing.{texts}
 use Rattle.ksi_grammar.specs.Published.{published_elements}
 use Rattle.ksi_signature.specs.Values.{Aggregation, Calendar, Publishing}
 use Rattle.ksi_signature.specs.declared.signature.Signature.{Signature}
+use Rattle.ksi_signature.specs.declared.refusal.WriteRefusal.{WriteRefusal}
+use Rattle.ksi_signature.specs.declared.refusal.WriteRefusal.TheVariants as refusals
 
 abbrev pub side_kind : Side → ℕ
 side_kind Left = 7
@@ -39,9 +41,12 @@ abbrev pub body_element : Option (List ℕ) → List Tlv
 body_element None = []
 body_element (Some body) = plain 4 body ∷ []
 
+abbrev pub part_element : ℕ → Tlv
+part_element part = plain 3 (numeral part)
+
 abbrev pub chain_elements : Aggregation → List Tlv
 chain_elements c =
-    plain 2 (numeral c.time) ∷ (map (λ part. plain 3 (numeral part)) c.index
+    plain 2 (numeral c.time) ∷ (map part_element c.index
     ++ (body_element c.input_body ++ (plain 5 c.input ∷ plain 6 (numeral 1) ∷ map link_element c.links)))
 
 -- ---- calendar chains and publication records
@@ -91,14 +96,23 @@ body_sizes (Some body) = length body ∷ []
 abbrev pub chain_sizes : Aggregation → List ℕ
 chain_sizes c = body_sizes c.input_body ++ (length (texts (chain_elements c)) ∷ [])
 
-abbrev pub publishing_sizes : Option Publishing → List ℕ
-publishing_sizes None = []
-publishing_sizes (Some p) = map length p.references ++ (map length p.repositories ++ (length (texts (publishing_elements p)) ∷ []))
+abbrev pub publishing_sizes : Publishing → List ℕ
+publishing_sizes p = map length p.references ++ map length p.repositories ++ (length (texts (publishing_elements p)) ∷ [])
+
+abbrev pub optional_sizes : Option Publishing → List ℕ
+optional_sizes None = []
+optional_sizes (Some p) = publishing_sizes p
 
 abbrev pub sizes_of : Signature → List ℕ
-sizes_of s = flat_map chain_sizes s.chains ++ (publishing_sizes s.publication ++ (length (texts (signature_elements s)) ∷ []))
+sizes_of s = flat_map chain_sizes s.chains ++ optional_sizes s.publication ++ (length (texts (signature_elements s)) ∷ [])
 
 -- the first that is above 65,535
 abbrev pub first_long : List ℕ → Option ℕ
 first_long [] = None
 first_long (size ∷ sizes) = if nat_lt 65535 size then Some size else first_long sizes
+
+-- none of these sizes is too long, or this is the first that is; nothing is said where memory was wanting
+abbrev pub TellsLong : {A : Type 0} → List ℕ → Result A WriteRefusal → Type 0
+TellsLong sizes (Ok value) = first_long sizes ≡ None
+TellsLong sizes (Err (refusals.TooLong size)) = first_long sizes ≡ Some size
+TellsLong sizes (Err refusals.NoMemory) = Unit {0}

@@ -18,6 +18,7 @@
 //! ```
 #![tactic(auto)]
 
+mod bodies;
 mod checker;
 mod containers;
 mod contents;
@@ -28,9 +29,11 @@ mod links;
 mod lists;
 mod parts;
 mod reader;
+mod refusal;
 mod signature;
 #[cfg(test)]
 mod tests;
+mod writer;
 
 pub use checker::check;
 pub use containers::{CalendarContent, ChainContent, LinkContent, SignatureContent};
@@ -39,4 +42,6 @@ pub use ksi_imprint::NoMemory;
 pub use laws::{chains_in_order, signature_or_fault};
 pub use lists::{Bodies, CalLinks, Chains, Index, Links};
 pub use reader::read;
+pub use refusal::WriteRefusal;
 pub use signature::{AggChain, CalChain, PubRecord, Signature};
+pub use writer::write;
