@@ -3,3 +3,6 @@ pub mod Says
 pub mod Limits
 pub mod Order
 pub mod Sizes
+pub mod Capped
+pub mod Kept
+pub mod Refusing

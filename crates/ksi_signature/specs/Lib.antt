@@ -5,3 +5,5 @@ pub mod File
 pub mod Places
 pub mod Order
 pub mod Written
+pub mod Lengths
+pub mod Extended
