@@ -14,11 +14,11 @@ size_at : (b : Bool) (e : Tlv) → length (cond b (short_form e) (long_form e)) 
 size_at true e = omega arith
 size_at false e = omega arith
 
-pub length-canonical : (e : Tlv) → length (canonical e) ≡ size_of e.kind (length e.body)
-length-canonical e = size_at (ltb e.kind 32 && ltb (length e.body) 256) e
+pub size-canonical : (e : Tlv) → length (canonical e) ≡ size_of e.kind (length e.body)
+size-canonical e = size_at (ltb e.kind 32 && ltb (length e.body) 256) e
 
 pub length-texts : (e : Tlv) (es : List Tlv) → length (texts (e ∷ es)) ≡ size_of e.kind (length e.body) + length (texts es)
-length-texts e es = length-append (canonical e) (texts es) ∙ ap (λ (n : ℕ). n + length (texts es)) (length-canonical e)
+length-texts e es = length-append (canonical e) (texts es) ∙ ap (λ (n : ℕ). n + length (texts es)) (size-canonical e)
 
 pub capped-add : (a b c : ℕ) → capped (a + capped (capped b + capped c)) ≡ capped (a + (b + c))
 capped-add a b c = grind arith

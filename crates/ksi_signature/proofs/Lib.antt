@@ -6,3 +6,4 @@ pub mod Sizes
 pub mod Capped
 pub mod Kept
 pub mod Refusing
+pub mod Indexes

@@ -22,7 +22,7 @@ use Rattle.ksi_signature.specs.File.{Answer, name_of, IsSignatureFault}
 use Rattle.ksi_signature.specs.Lengths.{capped}
 use Rattle.ksi_signature.specs.Written.{publishing_elements, first_long, TellsLong}
 use Rattle.ksi_signature.specs.Extended.{held_by, content_with, extended_content, IsTooLong}
-use Rattle.ksi_signature.proofs.Capped.{length-canonical, length-joined}
+use Rattle.ksi_signature.proofs.Capped.{size-canonical, length-joined}
 
 -- ---- a fault is never want of memory
 
@@ -100,7 +100,7 @@ long_among kind (body ∷ bodies) more n is =
     ]
   where
     body_in : (kind : ℕ) (body : List ℕ) → length body ≤ length (canonical (plain kind body))
-    body_in kind body = grind (arith, length-canonical (plain kind body))
+    body_in kind body = grind (arith, size-canonical (plain kind body))
 
 none_long : (n : ℕ) → first_long [] ≡ Some n → ⊥
 none_long n is = absurd cc

@@ -7,3 +7,5 @@ pub mod Order
 pub mod Written
 pub mod Lengths
 pub mod Extended
+pub mod Above
+pub mod Issued

@@ -18,12 +18,14 @@
 //! ```
 #![tactic(auto)]
 
+mod above;
 mod bodies;
 mod checker;
 mod containers;
 mod contents;
 mod extension;
 mod fault;
+mod issuing;
 mod kinds;
 mod laws;
 mod lengths;
@@ -37,10 +39,12 @@ mod signature;
 mod tests;
 mod writer;
 
+pub use above::{Above, AboveChain, AboveChains, AboveLinks};
 pub use checker::check;
 pub use containers::{CalendarContent, ChainContent, LinkContent, SignatureContent};
 pub use extension::{WithRefusal, with_calendar};
 pub use fault::SigFault;
+pub use issuing::issue;
 pub use ksi_imprint::NoMemory;
 pub use laws::{chains_in_order, signature_or_fault};
 pub use lists::{Bodies, CalLinks, Chains, Index, Links};
