@@ -3,3 +3,6 @@ pub mod Says
 pub mod Limits
 pub mod Order
 pub mod Sizes
+pub mod Skips
+pub mod Again
+pub mod ChainAgain

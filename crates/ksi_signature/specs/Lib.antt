@@ -5,3 +5,4 @@ pub mod File
 pub mod Places
 pub mod Order
 pub mod Written
+pub mod Kept
