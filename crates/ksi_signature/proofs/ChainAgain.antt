@@ -102,7 +102,7 @@ each_may laws c is short = (
     stands = λ place size. record { named = refl; fits = rw (time_again laws place size 2 c.time is.time) refl };
   },
   all_both (MayStandAnywhere chain_table) (map part_element c.index) (body_element c.input_body ++ last_elements c) (all_map (λ part. part < 2 ^ 64) (MayStandAnywhere chain_table) part_element c.index (part_may laws) is.index)
-  (all_both (MayStandAnywhere chain_table) (body_element c.input_body) (last_elements c) (body_may c.input_body short) (last_may laws c is)),
+      (all_both (MayStandAnywhere chain_table) (body_element c.input_body) (last_elements c) (body_may c.input_body short) (last_may laws c is)),
 )
 
 -- ---- how many there are
@@ -114,7 +114,7 @@ no_body : (kinds : List ℕ) → is_among 4 kinds ≡ false → (body : Option (
 no_body kinds other None = tt
 no_body kinds other (Some body) = (other, tt)
 
-side_among : (kinds : List ℕ) (b : Bool) (side : Side) → is_among 7 kinds ≡ b → is_among 8 kinds ≡ b → is_among (side_kind side) kinds ≡ b
+pub side_among : (kinds : List ℕ) (b : Bool) (side : Side) → is_among 7 kinds ≡ b → is_among 8 kinds ≡ b → is_among (side_kind side) kinds ≡ b
 side_among kinds b Left left right = left
 side_among kinds b Right left right = right
 
@@ -239,12 +239,11 @@ pub chain_again : Written → (place size : ℕ) (c : Aggregation) → IsAggrega
 unfolding chain_in
 chain_again laws place size c is short =
     let at = placed_at place (chain_element c) size in
-    let w = laws.again chain_table at.place at.inside (chain_elements c) (chain_may laws c is short) in
-    (
+    let w = laws.again chain_table at.place at.inside (chain_elements c) (chain_may laws c is short) in (
       w.0,
       made _ _ _ _ _ c (ap (λ (es : List PlacedTlv). number_or_zero (first_of 2 es)) w.1 ∙ time_read laws at.inside c is.time)
-      (ap (λ (es : List PlacedTlv). map number_of (bodies_of 3 es)) w.1 ∙ index_read laws at.inside c is.index)
-      (ap (λ (es : List PlacedTlv). option_map (λ (part : PlacedTlv). part.element.body) (first_of 4 es)) w.1 ∙ body_read at.inside c)
-      (ap (λ (es : List PlacedTlv). imprint_or_zero (first_of 5 es)) w.1 ∙ input_read at.inside c)
-      (ap links_among w.1 ∙ links_read laws at.inside c is),
+          (ap (λ (es : List PlacedTlv). map number_of (bodies_of 3 es)) w.1 ∙ index_read laws at.inside c is.index)
+          (ap (λ (es : List PlacedTlv). option_map (λ (part : PlacedTlv). part.element.body) (first_of 4 es)) w.1 ∙ body_read at.inside c)
+          (ap (λ (es : List PlacedTlv). imprint_or_zero (first_of 5 es)) w.1 ∙ input_read at.inside c)
+          (ap links_among w.1 ∙ links_read laws at.inside c is),
     )

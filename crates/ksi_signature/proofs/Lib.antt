@@ -6,3 +6,6 @@ pub mod Sizes
 pub mod Skips
 pub mod Again
 pub mod ChainAgain
+pub mod CalendarAgain
+pub mod RecordAgain
+pub mod SignatureAgain

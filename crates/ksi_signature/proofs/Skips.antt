@@ -122,6 +122,8 @@ pub bodies_map : {A : Type 0} (kind : ℕ) (f : A → Tlv) → ((x : A) → eqb 
 bodies_map {A} kind f is place [] fs = (place, refl)
 bodies_map {A} kind f is place (x ∷ xs) fs =
     let next = place + length (canonical (f x)) in
-    let rest = bodies_map kind f is next xs fs in
-    (rest.0, taken (eqb (f x).kind kind) (f x).body (bodies_of kind (placed next (map f xs ++ fs))) (bodies_of kind (placed next (map f xs ++ fs))) (is x)
-        ∙ ap (λ (others : List (List ℕ)). (f x).body ∷ others) rest.1)
+    let rest = bodies_map kind f is next xs fs in (
+      rest.0,
+      taken (eqb (f x).kind kind) (f x).body (bodies_of kind (placed next (map f xs ++ fs))) (bodies_of kind (placed next (map f xs ++ fs))) (is x)
+          ∙ ap (λ (others : List (List ℕ)). (f x).body ∷ others) rest.1,
+    )

@@ -39,7 +39,7 @@ pub use checker::check;
 pub use containers::{CalendarContent, ChainContent, LinkContent, SignatureContent};
 pub use fault::SigFault;
 pub use ksi_imprint::NoMemory;
-pub use laws::{chains_in_order, signature_or_fault};
+pub use laws::{chains_in_order, signature_or_fault, written_is_signature};
 pub use lists::{Bodies, CalLinks, Chains, Index, Links};
 pub use reader::read;
 pub use refusal::WriteRefusal;
