@@ -4,6 +4,12 @@ pub mod Limits
 pub mod Order
 pub mod Sizes
 pub mod Capped
-pub mod Kept
+pub mod Standing
 pub mod Refusing
 pub mod Indexes
+pub mod Skips
+pub mod Again
+pub mod ChainAgain
+pub mod CalendarAgain
+pub mod RecordAgain
+pub mod SignatureAgain

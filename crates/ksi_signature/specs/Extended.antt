@@ -10,18 +10,18 @@ use Rattle.ksi_signature.specs.Values.{Calendar, Publishing}
 use Rattle.ksi_signature.specs.Tables.{signature_table}
 use Rattle.ksi_signature.specs.Written.{calendar_element, publishing_element}
 
--- An element is kept: it is an aggregation chain, or is unknown and has both flags.
-abbrev pub is_kept : Tlv → Bool
-is_kept e = e.kind == 2049 || (not (is_known signature_table.slots e.kind) && (e.non_critical && e.forward))
+-- An element is retained: it is an aggregation chain, or is unknown and has both flags.
+abbrev pub is_retained : Tlv → Bool
+is_retained e = e.kind == 2049 || (not (is_known signature_table.slots e.kind) && (e.non_critical && e.forward))
 
 -- the bytes of an element in the file: from its place to the end of its body
 abbrev pub text_in : List ℕ → PlacedTlv → List ℕ
 text_in bytes at = take (at.inside + length at.element.body - at.place) (drop at.place bytes)
 
--- those of the elements that are kept, in order
-abbrev pub kept_texts : List ℕ → List PlacedTlv → List ℕ
-kept_texts bytes [] = []
-kept_texts bytes (at ∷ es) = if is_kept at.element then text_in bytes at ++ kept_texts bytes es else kept_texts bytes es
+-- those of the elements that are retained, in order
+abbrev pub retained_texts : List ℕ → List PlacedTlv → List ℕ
+retained_texts bytes [] = []
+retained_texts bytes (at ∷ es) = if is_retained at.element then text_in bytes at ++ retained_texts bytes es else retained_texts bytes es
 
 -- the elements that the first element of a file holds
 abbrev pub held_by : Result (Tlv × ℕ) ℕ → List PlacedTlv
@@ -31,10 +31,10 @@ held_by (Ok found) = whole (elements (found.1 - length found.0.body) found.0.bod
 abbrev pub elements_in : List ℕ → List PlacedTlv
 elements_in bytes = held_by (element_at bytes)
 
--- the texts of what is kept of elements, and behind them the calendar chain and the publication record as they are written
+-- the texts of what is retained of elements, and behind them the calendar chain and the publication record as they are written
 abbrev pub content_with : List ℕ → List PlacedTlv → Calendar → Publishing → List ℕ
 content_with bytes es chain published =
-    kept_texts bytes es ++ texts (calendar_element chain ∷ publishing_element published ∷ [])
+    retained_texts bytes es ++ texts (calendar_element chain ∷ publishing_element published ∷ [])
 
 unfoldable pub extended_content : List ℕ → Calendar → Publishing → List ℕ
 extended_content bytes chain published = content_with bytes (elements_in bytes) chain published

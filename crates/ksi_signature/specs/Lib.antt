@@ -9,3 +9,4 @@ pub mod Lengths
 pub mod Extended
 pub mod Above
 pub mod Issued
+pub mod Kept

@@ -11,7 +11,7 @@ ghost use Rattle.ksi_signature.specs.declared.signature.Signature.{Signature};
 ghost use Rattle.ksi_signature.specs.File.{IsSignature, IsSignatureFault};
 ghost use Rattle.ksi_signature.specs.Lengths.{capped};
 ghost use Rattle.ksi_signature.specs.Written.{calendar_element, publishing_element, publishing_elements};
-ghost use Rattle.ksi_signature.specs.Extended.{is_kept, text_in, kept_texts, content_with, extended_content, extended_text, IsTooLong, StandsIn};
+ghost use Rattle.ksi_signature.specs.Extended.{is_retained, text_in, retained_texts, content_with, extended_content, extended_text, IsTooLong, StandsIn};
 
 use crate::NoMemory;
 use crate::bodies::{calendar_body, publishing_body};
@@ -107,21 +107,21 @@ fn content_size(
     requires { AllByRecursion (StandsIn bytes.now) (inner_elements (view_placed at.now)) }
     ensures { result ≡ capped (length (content_with bytes.now (inner_elements (view_placed at.now)) calendar.now publication.now)) }
 {
-    let kept = kept_size(bytes, at);
+    let retained = retained_size(bytes, at);
     let chain = size_of(CALENDAR, calendar_size(calendar));
     let record = size_of(PUBLICATION, publishing_size(publication));
-    kept.saturating_add(chain.saturating_add(record))
+    retained.saturating_add(chain.saturating_add(record))
 }
 
-fn kept_size(bytes: &[u8], at: &Placed<'_>) -> u64
+fn retained_size(bytes: &[u8], at: &Placed<'_>) -> u64
     requires { AllByRecursion (StandsIn bytes.now) (inner_elements (view_placed at.now)) }
-    ensures { result ≡ capped (length (kept_texts bytes.now (inner_elements (view_placed at.now)))) }
+    ensures { result ≡ capped (length (retained_texts bytes.now (inner_elements (view_placed at.now)))) }
 {
     let mut size: u64 = 0;
     let mut elements = Elements::at(at.inside, at.element.body);
     while let Some(item) = elements.next() {
         if let Ok(part) = item {
-            if is_kept(&part.element) {
+            if is_retained(&part.element) {
                 size = size.saturating_add(text_in(bytes, &part).len() as u64);
             }
         }
@@ -130,8 +130,8 @@ fn kept_size(bytes: &[u8], at: &Placed<'_>) -> u64
 }
 
 /// Whether the element is an aggregation chain, or is unknown and to be passed on.
-fn is_kept(element: &Element<'_>) -> bool
-    ensures { result ≡ is_kept (view element.now) }
+fn is_retained(element: &Element<'_>) -> bool
+    ensures { result ≡ is_retained (view element.now) }
 {
     match element.kind {
         CHAIN => true,
@@ -161,7 +161,7 @@ fn text_with(
     ensures { IfOk result (λ text. text ≡
         canonical (plain 2048 (content_with bytes.now (inner_elements (view_placed at.now)) calendar.now publication.now))) }
 {
-    let mut content = kept(alloc, bytes, at)?;
+    let mut content = retained(alloc, bytes, at)?;
     let proof = proof_with(alloc, calendar, publication)?;
     content.extend_from_slice(proof.bytes())?;
     let mut writer = Writer::new(alloc);
@@ -169,20 +169,20 @@ fn text_with(
     Ok(Bytes::from_vec(writer.into_vec()))
 }
 
-fn kept(alloc: Global, bytes: &[u8], at: &Placed<'_>) -> Result<Vec<u8>, NoMemory>
+fn retained(alloc: Global, bytes: &[u8], at: &Placed<'_>) -> Result<Vec<u8>, NoMemory>
     requires { AllByRecursion (StandsIn bytes.now) (inner_elements (view_placed at.now)) }
-    ensures { IfOk result (λ kept. kept.items ≡ kept_texts bytes.now (inner_elements (view_placed at.now))) }
+    ensures { IfOk result (λ retained. retained.items ≡ retained_texts bytes.now (inner_elements (view_placed at.now))) }
 {
-    let mut kept = Vec::new(alloc);
+    let mut retained = Vec::new(alloc);
     let mut elements = Elements::at(at.inside, at.element.body);
     while let Some(item) = elements.next() {
         if let Ok(part) = item {
-            if is_kept(&part.element) {
-                kept.extend_from_slice(text_in(bytes, &part))?;
+            if is_retained(&part.element) {
+                retained.extend_from_slice(text_in(bytes, &part))?;
             }
         }
     }
-    Ok(kept)
+    Ok(retained)
 }
 
 /// The elements of both.

@@ -46,7 +46,7 @@ pub use extension::{WithRefusal, with_calendar};
 pub use fault::SigFault;
 pub use issuing::issue;
 pub use ksi_imprint::NoMemory;
-pub use laws::{chains_in_order, signature_or_fault};
+pub use laws::{chains_in_order, signature_or_fault, written_is_signature};
 pub use lists::{Bodies, CalLinks, Chains, Index, Links};
 pub use reader::read;
 pub use refusal::WriteRefusal;

@@ -8,7 +8,7 @@ use Rattle.ksi_tlv.specs.Walking.{PlacedTlv}
 use Rattle.ksi_signature.specs.declared.extension.WithRefusal.{WithRefusal}
 use Rattle.ksi_signature.specs.Lengths.{capped}
 use Rattle.ksi_signature.specs.Extended.{held_by, extended_text, StandsIn}
-use Rattle.ksi_signature.proofs.Kept.{elements_stand}
+use Rattle.ksi_signature.proofs.Standing.{elements_stand}
 use Rattle.ksi_signature.proofs.Refusing.{malformed_is, malformed_not, never_memory, long_no_signature, long_is, long_not, within, content_same}
 use Rattle.ksi_signature.proofs.extension.with_calendar.Goals as goal
 

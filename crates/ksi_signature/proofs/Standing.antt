@@ -11,7 +11,7 @@ use Rattle.ksi_grammar.specs.Held.{whole}
 use Rattle.ksi_signature.specs.declared.signature.Signature.{Signature}
 use Rattle.ksi_signature.specs.Tables.{signature_table}
 use Rattle.ksi_signature.specs.File.{IsSignature}
-use Rattle.ksi_signature.specs.Extended.{is_kept, text_in, kept_texts, held_by, elements_in, StandsIn}
+use Rattle.ksi_signature.specs.Extended.{is_retained, text_in, retained_texts, held_by, elements_in, StandsIn}
 use Rattle.ksi_signature.proofs.Whole.{Laws, front_of, found_in}
 
 abbrev pub Reading : Type 0
