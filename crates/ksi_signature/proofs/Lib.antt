@@ -13,3 +13,4 @@ pub mod ChainAgain
 pub mod CalendarAgain
 pub mod RecordAgain
 pub mod SignatureAgain
+pub mod IssuedAgain

@@ -10,3 +10,4 @@ pub mod Extended
 pub mod Above
 pub mod Issued
 pub mod Kept
+pub mod Carried

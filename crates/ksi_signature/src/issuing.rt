@@ -2,17 +2,21 @@ ghost use Rattle.std.specs.Prelude.{◌≡◌, ◌<◌, ◌≤◌, ◌+◌, ◌*
 ghost use Rattle.std.specs.List.{AllByRecursion};
 ghost use Rattle.ksi_tlv.specs.Spelling.{canonical};
 ghost use Rattle.ksi_tlv.specs.Writing.{texts};
-ghost use Rattle.ksi_signature.specs.Values.{HasSize};
-ghost use Rattle.ksi_signature.specs.Written.{correction_elements, link_element, chain_element, chain_elements, signature_elements, signature_text};
-ghost use Rattle.ksi_signature.specs.Above.{IsNode, AreRoundLinks};
+ghost use Rattle.ksi_signature.specs.File.{IsSignature};
+ghost use Rattle.ksi_signature.specs.Kept.{IsLink};
+ghost use Rattle.ksi_signature.specs.Carried.{IsAboveChain, IsAbove};
+ghost use Rattle.ksi_signature.specs.Written.{chain_element, chain_elements, signature_elements, signature_text};
+ghost use Rattle.ksi_signature.specs.Above.{AreRoundLinks};
 ghost use Rattle.ksi_signature.specs.Issued.{shape_along, index_of, issued_chains, own_chain, issued};
 
 use crate::NoMemory;
 use crate::above::{Above, AboveChain};
 use crate::bodies::{calendar_body, chain_body};
+use crate::carried::{above_is_kept, imprint_is_kept, links_are_kept};
 use crate::kinds::{CALENDAR, CHAIN, SIGNATURE};
+use crate::laws::written_is_signature;
 use crate::refusal::WriteRefusal;
-use ksi_aggchain::{Link, Sibling, shape};
+use ksi_aggchain::{Link, shape};
 use ksi_grammar::put_short;
 use ksi_imprint::{Bytes, Imprint};
 use ksi_tlv::{Writer, numeral_is_read};
@@ -32,7 +36,13 @@ pub fn issue(
     requires links { AreRoundLinks links.now }
     ensures text { IfOk result (λ bytes. bytes ≡ signature_text (issued second input.now links.now above.now)) }
     ensures size { IfOk result (λ bytes. length bytes ≤ 10000) }
+    ensures again { IfOk result (λ bytes. IsSignature bytes (issued second input.now links.now above.now)) }
 {
+    numeral_is_read();
+    written_is_signature();
+    imprint_is_kept(input);
+    links_are_kept(links);
+    above_is_kept(above);
     let content = content(alloc, second, input, links, above)?;
     let mut writer = Writer::new(alloc);
     put_short(&mut writer, SIGNATURE, content.bytes())?;
@@ -47,7 +57,9 @@ fn content(
     links: &[Link],
     above: &Above,
 ) -> Result<Writer, NoMemory>
-    requires { AreRoundLinks links.now }
+    requires limits { AreRoundLinks links.now }
+    requires links { AllByRecursion IsLink links.now }
+    requires above { IsAbove above.now }
     ensures text { IfOk result (λ content. content ≡ texts (signature_elements (issued second input.now links.now above.now))) }
     ensures short { IfOk result (λ content. length content ≤ 9713) }
 {
@@ -69,8 +81,10 @@ fn put_all(
     links: &[Link],
     chains: &[AboveChain],
 ) -> Result<(), NoMemory>
-    requires links { AreRoundLinks links.now }
+    requires limits { AreRoundLinks links.now }
+    requires links { AllByRecursion IsLink links.now }
     requires count { length chains.now ≤ 8 }
+    requires chains { AllByRecursion IsAboveChain chains.now }
     ensures text { OnOk result (writer.new ≡
         writer.old ++ texts (map chain_element (issued_chains second (own_chain input.now links.now ∷ chains.now)))) }
     ensures short { OnOk result (length writer.new ≤ length writer.old + 7317) }
@@ -109,6 +123,7 @@ fn put_chains(
 ) -> Result<(), NoMemory>
     requires index { index.now ≡ index_of chains.now }
     requires count { length chains.now ≤ 8 }
+    requires chains { AllByRecursion IsAboveChain chains.now }
     ensures text { OnOk result (writer.new ≡ writer.old ++ texts (map chain_element (issued_chains second chains.now))) }
     ensures short { OnOk result (length writer.new ≤ length writer.old + 813 * length chains.now) }
 {
@@ -130,7 +145,8 @@ fn put_chain(
     links: &[Link],
 ) -> Result<(), NoMemory>
     requires index { length index.now ≤ 9 }
-    requires links { AreRoundLinks links.now }
+    requires limits { AreRoundLinks links.now }
+    requires links { AllByRecursion IsLink links.now }
     ensures text { OnOk result (writer.new ≡ writer.old ++ canonical (chain_element (record {
         time = second; index = index.now; input_body = None; input = input.now; links = links.now }))) }
     ensures short { OnOk result (length writer.new ≤ length writer.old + 813) }
@@ -148,46 +164,17 @@ fn small_chain(
     links: &[Link],
 ) -> Result<Writer, NoMemory>
     requires index { length index.now ≤ 9 }
-    requires links { AreRoundLinks links.now }
+    requires limits { AreRoundLinks links.now }
+    requires links { AllByRecursion IsLink links.now }
     ensures text { IfOk result (λ body. body ≡ texts (chain_elements (record {
         time = second; index = index.now; input_body = None; input = input.now; links = links.now }))) }
     ensures short { IfOk result (λ body. length body ≤ 809) }
 {
     numeral_is_read();
-    links_are_small(links);
-    let _size = input.bytes().len();
+    imprint_is_kept(input);
     match chain_body(alloc, second, index, None, input, links) {
         Ok(body) => Ok(body),
         Err(WriteRefusal::NoMemory) => Err(NoMemory),
         Err(WriteRefusal::TooLong(_)) => unreachable!(),
     }
-}
-
-/// Links beside imprints take at most 40 bytes each.
-fn links_are_small(links: &[Link])
-    requires { AllByRecursion (λ link. IsNode link.sibling) links.now }
-    ensures { length (texts (map link_element links.now)) ≤ 40 * length links.now }
-{
-    for link in links {
-        link_is_small(link);
-    }
-}
-
-fn link_is_small(link: &Link)
-    requires { IsNode link.now.sibling }
-    ensures { length (canonical (link_element link.now)) ≤ 40 }
-{
-    correction_is_small(link.correction);
-    match &link.sibling {
-        Sibling::Imprint(imprint) => {
-            let _size = imprint.bytes().len();
-        }
-        Sibling::Legacy(_) | Sibling::Metadata(_) => (),
-    }
-}
-
-fn correction_is_small(correction: u8)
-    ensures { length (texts (correction_elements correction)) ≤ 3 }
-{
-    numeral_is_read();
 }

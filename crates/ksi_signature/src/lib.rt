@@ -20,12 +20,17 @@
 
 mod above;
 mod bodies;
+mod carried;
 mod checker;
 mod containers;
 mod contents;
 mod extension;
+#[cfg(test)]
+mod extension_tests;
 mod fault;
 mod issuing;
+#[cfg(test)]
+mod issuing_tests;
 mod kinds;
 mod laws;
 mod lengths;
