@@ -34,6 +34,8 @@ mod signature;
 #[cfg(test)]
 mod tests;
 mod writer;
+#[cfg(test)]
+mod writer_tests;
 
 pub use checker::check;
 pub use containers::{CalendarContent, ChainContent, LinkContent, SignatureContent};
