@@ -2,9 +2,11 @@
 
 ghost use Rattle.std.specs.Prelude.{◌≡◌, ◌≤◌, ◌+◌, ◌*◌, ◌++◌, ◌∷◌, [], IfOk, OnOk, length, map, option_map};
 ghost use Rattle.std.specs.List.{AllByRecursion};
+ghost use Rattle.ksi_imprint.specs.Imprints.{IsImprint};
 ghost use Rattle.ksi_tlv.specs.Spelling.{plain, canonical};
 ghost use Rattle.ksi_tlv.specs.Writing.{texts};
 ghost use Rattle.ksi_signature.specs.Values.{HasSize};
+ghost use Rattle.ksi_signature.specs.Kept.{HasImprint, IsLink, IsPublishing};
 ghost use Rattle.ksi_signature.specs.Written.{part_element, body_element, correction_elements, link_elements, link_element, chain_elements, cal_link_element, calendar_elements, publishing_elements, side_kind, sibling_element, body_sizes, TellsLong};
 
 use crate::NoMemory;
@@ -53,6 +55,8 @@ pub(crate) fn chain_body(
       links = links.now;
     }))) }
     ensures long { TellsLong (body_sizes (option_map (λ content. content.now) input_body.entry)) result }
+    ensures input { IfOk result (λ _. IsImprint input.now) }
+    ensures links { IfOk result (λ _. AllByRecursion IsLink links.now) }
 {
     let mut body = Writer::new(alloc);
     body.put_number(AGGREGATION_TIME, time)?;
@@ -85,7 +89,8 @@ fn put_input_data(writer: &mut Writer, content: Option<&[u8]>) -> Result<(), Wri
 
 fn put_links(writer: &mut Writer, alloc: Global, links: &[Link]) -> Result<(), NoMemory>
     requires { AllByRecursion (λ link. HasSize link.sibling) links.now }
-    ensures { OnOk result (writer.new ≡ writer.old ++ texts (map link_element links.now)) }
+    ensures text { OnOk result (writer.new ≡ writer.old ++ texts (map link_element links.now)) }
+    ensures links { OnOk result (AllByRecursion IsLink links.now) }
 {
     for link in links {
         put_link(writer, alloc, link)?;
@@ -95,7 +100,8 @@ fn put_links(writer: &mut Writer, alloc: Global, links: &[Link]) -> Result<(), N
 
 fn put_link(writer: &mut Writer, alloc: Global, link: &Link) -> Result<(), NoMemory>
     requires { HasSize link.now.sibling }
-    ensures { OnOk result (writer.new ≡ writer.old ++ canonical (link_element link.now)) }
+    ensures text { OnOk result (writer.new ≡ writer.old ++ canonical (link_element link.now)) }
+    ensures link { OnOk result (IsLink link.now) }
 {
     let body = link_body(alloc, link)?;
     put_short(writer, side_kind(link.side), body.bytes())
@@ -116,6 +122,7 @@ fn link_body(alloc: Global, link: &Link) -> Result<Writer, NoMemory>
     requires { HasSize link.now.sibling }
     ensures text { IfOk result (λ body. body ≡ texts (link_elements link.now)) }
     ensures short { IfOk result (λ body. length body ≤ 4112) }
+    ensures link { IfOk result (λ _. IsLink link.now) }
 {
     let mut body = Writer::new(alloc);
     put_correction(&mut body, link.correction)?;
@@ -139,6 +146,7 @@ fn put_sibling(writer: &mut Writer, sibling: &Sibling) -> Result<(), NoMemory>
     requires { HasSize sibling.now }
     ensures text { OnOk result (writer.new ≡ writer.old ++ canonical (sibling_element sibling.now)) }
     ensures short { OnOk result (length writer.new ≤ length writer.old + 4100) }
+    ensures imprint { OnOk result (HasImprint sibling.now) }
 {
     match sibling {
         Sibling::Imprint(imprint) => put_short(writer, IMPRINT, imprint.bytes()),
@@ -163,6 +171,8 @@ pub(crate) fn calendar_body(
       links = links.now;
     }))) }
     ensures short { IfOk result (λ body. length body ≤ 2392) }
+    ensures input { IfOk result (λ _. IsImprint input.now) }
+    ensures links { IfOk result (λ _. AllByRecursion (λ link. IsImprint link.sibling) links.now) }
 {
     numeral_is_read();
     let mut body = Writer::new(alloc);
@@ -176,6 +186,7 @@ pub(crate) fn calendar_body(
 fn put_cal_links(writer: &mut Writer, links: &[CalLink]) -> Result<(), NoMemory>
     ensures text { OnOk result (writer.new ≡ writer.old ++ texts (map cal_link_element links.now)) }
     ensures short { OnOk result (length writer.new ≤ length writer.old + 37 * length links.now) }
+    ensures imprints { OnOk result (AllByRecursion (λ link. IsImprint link.sibling) links.now) }
 {
     for link in links {
         put_short(writer, side_kind(link.side), link.sibling.bytes())?;
@@ -187,7 +198,9 @@ fn put_cal_links(writer: &mut Writer, links: &[CalLink]) -> Result<(), NoMemory>
 pub(crate) fn publishing_body(alloc: Global, published: &PubRecord) -> Result<Writer, WriteRefusal>
     ensures text { IfOk result (λ body. body ≡ texts (publishing_elements published.now)) }
     ensures long { TellsLong (map length published.now.references ++ map length published.now.repositories) result }
+    ensures kept { IsPublishing published.now }
 {
+    let _ = published.hash.bytes();
     let references = published.references.as_slice();
     let repositories = published.repositories.as_slice();
     published_parts(

@@ -43,6 +43,8 @@ mod signature;
 #[cfg(test)]
 mod tests;
 mod writer;
+#[cfg(test)]
+mod writer_tests;
 
 pub use above::{Above, AboveChain, AboveChains, AboveLinks};
 pub use checker::check;

@@ -66,7 +66,7 @@ fn answers_the_first_fault(rt: HostRuntime) -> Result<(), Fail> {
 }
 
 /// A signature whose chain has one link with this body, of at most 63 bytes.
-fn with_link(alloc: Global, body: &[u8]) -> Result<Bytes, NoMemory> {
+pub(crate) fn with_link(alloc: Global, body: &[u8]) -> Result<Bytes, NoMemory> {
     let size = body.len().min(63) as u8;
     joined(
         alloc,
@@ -182,7 +182,7 @@ fn reads_in_any_order(rt: HostRuntime) -> Result<(), Fail> {
 
 /// Worked out by hand: two chains, of one and of two index parts, a calendar chain without an aggregation time and a
 /// publication record, with unknown elements in each, a long header of a short kind and numbers with zeros before them.
-fn two_chains(alloc: Global) -> Result<Bytes, NoMemory> {
+pub(crate) fn two_chains(alloc: Global) -> Result<Bytes, NoMemory> {
     joined(
         alloc,
         &[

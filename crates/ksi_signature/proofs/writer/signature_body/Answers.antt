@@ -28,7 +28,7 @@ returns-clause-text c =
     let first = c.in_ok-put_chains.ensures.text ∙ ap (λ (chains : List Aggregation). c.new-body.result ++ texts (map chain_element chains)) c.as_slice.ensures.chains in
     text_of (chains ++ (calendar ++ publication)) c.new-body.result c.put_publication.new.writer c.new-body.ensures
     (text_behind chains (calendar ++ publication) c.new-body.result c.put_chains.new.writer c.put_publication.new.writer first
-    (text_behind calendar publication c.put_chains.new.writer c.put_calendar.new.writer c.put_publication.new.writer c.in_ok-put_calendar.ensures c.in_ok-put_publication.ensures.text))
+    (text_behind calendar publication c.put_chains.new.writer c.put_calendar.new.writer c.put_publication.new.writer c.in_ok-put_calendar.ensures.text c.in_ok-put_publication.ensures.text))
 
 pub returns-clause-long : goal.returns-clause-long
 returns-clause-long c =
