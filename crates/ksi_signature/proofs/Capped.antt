@@ -1,7 +1,6 @@
 -- How many bytes elements take as they are written.
-use Rattle.std.proofs.Common.{◌≡◌, ℕ, ◌+◌, ◌-◌, ◌^◌, ◌≤◌, ◌<◌, Bool, true, false, cond, ltb, List, [], ◌∷◌, ◌++◌, length, map, refl, sym, ap, ◌∙◌, arith}
+use Rattle.std.proofs.Common.{◌≡◌, ℕ, ◌+◌, ◌-◌, ◌^◌, Bool, true, false, cond, ltb, List, [], ◌∷◌, ◌++◌, length, map, refl, sym, ap, ◌∙◌, arith}
 use Rattle.std.specs.Prelude.{min, ◌&&◌}
-use Rattle.std.proofs.lemmas.Bool.{cond_both}
 use Rattle.std.proofs.lemmas.List.{length-append}
 use Rattle.ksi_tlv.specs.Spelling.{Tlv, plain, canonical, short_form, long_form}
 use Rattle.ksi_tlv.specs.Writing.{texts}
@@ -38,6 +37,6 @@ pub publishing_length : (p : Publishing) (recorded references repositories both 
     → all ≡ capped (length (texts (publishing_elements p)))
 publishing_length p recorded references repositories both all d r s b a =
     let first : length (texts (publishing_elements p)) ≡ recorded + (length (texts (map (plain 9) p.references)) + length (texts (map (plain 10) p.repositories))) =
-        length-append (canonical (plain 16 (texts (published_elements p.time p.hash)))) (texts (map (plain 9) p.references ++ map (plain 10) p.repositories))
-        ∙ rw (sym d, length-joined (map (plain 9) p.references) (map (plain 10) p.repositories)) refl in
+    length-append (canonical (plain 16 (texts (published_elements p.time p.hash)))) (texts (map (plain 9) p.references ++ map (plain 10) p.repositories))
+    ∙ rw (sym d, length-joined (map (plain 9) p.references) (map (plain 10) p.repositories)) refl in
     a ∙ ap (λ (n : ℕ). capped (recorded + n)) b ∙ rw (r, s) (capped-add recorded (length (texts (map (plain 9) p.references))) (length (texts (map (plain 10) p.repositories)))) ∙ sym (ap capped first)

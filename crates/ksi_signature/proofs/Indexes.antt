@@ -1,5 +1,5 @@
 -- Issued signatures: how long they are, and the indexes of their chains.
-use Rattle.std.proofs.Common.{◌≡◌, ℕ, zero, suc, ◌+◌, ◌*◌, ◌^◌, ◌<◌, ◌≤◌, Bool, true, false, cond, ltb, List, [], ◌∷◌, ◌++◌, length, take, map, Option, Some, None, refl, sym, ap, subst, ◌∙◌, arith}
+use Rattle.std.proofs.Common.{◌≡◌, ℕ, zero, suc, ◌*◌, ◌^◌, ◌<◌, ◌≤◌, List, [], ◌∷◌, ◌++◌, length, take, map, Option, None, refl, sym, ap, ◌∙◌, arith}
 use Rattle.std.specs.List.{AllByRecursion}
 use Rattle.std.proofs.lemmas.List.{length-append, append-nil, take-append-le, take_all}
 use Rattle.std.proofs.lemmas.List.Elements.{All-cons, All-nil}
@@ -13,7 +13,7 @@ use Rattle.ksi_aggchain.specs.declared.link.Sibling.TheVariants as siblings
 use Rattle.ksi_tlv.specs.Spelling.{Tlv, plain, canonical, AreBytes}
 use Rattle.ksi_tlv.specs.Numerals.{number_of, numeral}
 use Rattle.ksi_tlv.specs.Writing.{texts}
-use Rattle.ksi_signature.specs.Values.{Aggregation, Calendar}
+use Rattle.ksi_signature.specs.Values.{Aggregation}
 use Rattle.ksi_signature.specs.Lengths.{size_of}
 use Rattle.ksi_signature.specs.Written.{side_kind, sibling_element, body_element, part_element, correction_elements, link_elements, link_element, chain_elements, chain_element, calendar_elements, calendar_element, signature_elements}
 use Rattle.ksi_signature.specs.declared.above.AboveChain.{AboveChain}
@@ -95,8 +95,20 @@ chain_small fewest short c none few is limits links =
     let third : length (texts more) ≡ length (texts tail) = ap (λ (body : Option (List ℕ)). length (texts (body_element body ++ tail))) none in
     let fourth = length-append (canonical (plain 5 c.input)) (texts (plain 6 (numeral 1) ∷ map link_element c.links)) in
     let fifth = length-append (canonical (plain 6 (numeral 1))) (texts (map link_element c.links)) in
-    omega (arith, first, second, third, fourth, fifth, length-canonical (plain 2 (numeral c.time)), length-canonical (plain 5 c.input), length-canonical (plain 6 (numeral 1)),
-      short c.time, short 1, parts_small short c.index)
+    omega (
+      arith,
+      first,
+      second,
+      third,
+      fourth,
+      fifth,
+      length-canonical (plain 2 (numeral c.time)),
+      length-canonical (plain 5 c.input),
+      length-canonical (plain 6 (numeral 1)),
+      short c.time,
+      short 1,
+      parts_small short c.index,
+    )
 
 -- ---- the text
 
@@ -112,9 +124,9 @@ content_is second input links above chains calendar none middle content body is_
     let es : List Tlv = map chain_element (issued_chains second (own_chain input links ∷ above.chains)) in
     let last : Tlv = calendar_element (record { publication = second; time = second; input = above.root; links = above.calendar }) in
     let front : middle ≡ texts es =
-        is_middle ∙ ap (λ (none : List ℕ). none ++ texts (map chain_element (issued_chains second (own_chain input links ∷ chains)))) is_none
-        ∙ ap (λ (chains : List AboveChain). texts (map chain_element (issued_chains second (own_chain input links ∷ chains)))) is_chains in
+    is_middle ∙ ap (λ (none : List ℕ). none ++ texts (map chain_element (issued_chains second (own_chain input links ∷ chains)))) is_none
+    ∙ ap (λ (chains : List AboveChain). texts (map chain_element (issued_chains second (own_chain input links ∷ chains)))) is_chains in
     let back : canonical (plain 2050 body) ≡ canonical last =
-        ap (λ (body : List ℕ). canonical (plain 2050 body)) (is_body ∙ ap (λ (links : List (TreeLink (List ℕ))). texts (calendar_elements (record { publication = second; time = second; input = above.root; links = links }))) is_calendar) in
+    ap (λ (body : List ℕ). canonical (plain 2050 body)) (is_body ∙ ap (λ (links : List (TreeLink (List ℕ))). texts (calendar_elements (record { publication = second; time = second; input = above.root; links = links }))) is_calendar) in
     is ∙ ap (λ (front : List ℕ). front ++ canonical (plain 2050 body)) front ∙ ap (λ (back : List ℕ). texts es ++ back) (back ∙ sym (append-nil (canonical last)))
     ∙ sym (texts-append es (last ∷ []))

@@ -1,5 +1,5 @@
 -- What is issued is what a signature's types keep, and is short.
-use Rattle.std.proofs.Common.{◌≡◌, ℕ, zero, suc, ◌+◌, ◌*◌, ◌^◌, ◌<◌, ◌≤◌, List, [], ◌∷◌, ◌++◌, length, map, Option, Some, None, refl, sym, ap, subst, ◌∙◌, arith}
+use Rattle.std.proofs.Common.{◌≡◌, ℕ, suc, ◌+◌, ◌*◌, ◌^◌, ◌<◌, ◌≤◌, List, [], ◌∷◌, ◌++◌, length, map, None, refl, ap, ◌∙◌, arith}
 use Rattle.std.specs.Prelude.{flat_map}
 use Rattle.std.specs.List.{AllByRecursion}
 use Rattle.std.proofs.Math.Nat.{pow-suc, pow-le-pow_right}
@@ -14,9 +14,9 @@ use Rattle.ksi_aggchain.specs.declared.link.Sibling.TheVariants as siblings
 use Rattle.ksi_aggchain.specs.Shapes.{left_powers, shape_of}
 use Rattle.ksi_tlv.specs.Numerals.{numeral}
 use Rattle.ksi_tlv.specs.Writing.{texts}
-use Rattle.ksi_signature.specs.Values.{Aggregation, HasSize, AreLinks, FallFrom, Fall, AreChains}
-use Rattle.ksi_signature.specs.Kept.{IsLink, IsAggregation, IsCalendar, IsKept}
-use Rattle.ksi_signature.specs.Written.{chain_elements, chain_sizes, optional_sizes, signature_elements, sizes_of, first_long}
+use Rattle.ksi_signature.specs.Values.{Aggregation, HasSize, AreLinks, FallFrom}
+use Rattle.ksi_signature.specs.Kept.{IsLink, IsAggregation, IsKept}
+use Rattle.ksi_signature.specs.Written.{chain_elements, chain_sizes, signature_elements, sizes_of, first_long}
 use Rattle.ksi_signature.specs.declared.above.AboveChain.{AboveChain}
 use Rattle.ksi_signature.specs.declared.above.Above.{Above}
 use Rattle.ksi_signature.specs.Above.{IsNode, AreRoundLinks}

@@ -1,6 +1,6 @@
 -- What is answered where a signature is given another calendar chain.
-use Rattle.std.proofs.Common.{◌≡◌, ◌⊎◌, ℕ, ◌+◌, ◌-◌, ◌^◌, ◌<◌, ◌≤◌, Bool, true, false, cond, ltb, List, [], ◌∷◌, ◌++◌, length, map, Option, Some, None, Result, Ok, Err, refl, sym, ap, subst, ◌∙◌, inl, inr, arith}
-use Rattle.std.specs.Prelude.{◌↔◌, min}
+use Rattle.std.proofs.Common.{◌≡◌, ◌⊎◌, ℕ, ◌-◌, ◌<◌, ◌≤◌, Bool, true, false, cond, ltb, List, [], ◌∷◌, ◌++◌, length, map, Option, Some, Result, Ok, Err, refl, sym, ap, subst, ◌∙◌, inl, inr, arith}
+use Rattle.std.specs.Prelude.{◌↔◌}
 use Rattle.std.proofs.lemmas.Bool.{ltb-true}
 use Rattle.std.proofs.lemmas.List.{append-nil, length-append}
 use Rattle.ksi_tlv.specs.Spelling.{Tlv, plain, canonical}
@@ -67,9 +67,10 @@ pub within : (size total : ℕ) → total ≡ capped size → total ≤ 65535 �
 within size total is le = grind (arith, is, le)
 
 pub long_is : {A : Type 0} (a : Answer) (S : Type 0) (size total n : ℕ) (r : Result A WithRefusal) → a ≡ Ok tt → (a ≡ Ok tt) ↔ S → total ≡ capped size → 65535 < total → r ≡ Err (refusals.TooLong total) → (r ≡ Err (refusals.TooLong n)) ↔ (S × IsTooLong size n)
-long_is a S size total n r e law capped_is lt is =
-    (λ long. let one : total ≡ n = cc in (law.0 e, record { long = above size total capped_is lt; number = sym one ∙ capped_is }),
-     λ h. let number = h.1.number in cc)
+long_is a S size total n r e law capped_is lt is = (
+  λ long. let one : total ≡ n = cc in (law.0 e, record { long = above size total capped_is lt; number = sym one ∙ capped_is }),
+  λ h. let number = h.1.number in cc,
+)
 
 pub long_not : {A : Type 0} (S : Type 0) (size total n : ℕ) (r : Result A WithRefusal) → total ≡ capped size → total ≤ 65535 → (r ≡ Err (refusals.TooLong n) → ⊥) → (r ≡ Err (refusals.TooLong n)) ↔ (S × IsTooLong size n)
 long_not S size total n r is le never =

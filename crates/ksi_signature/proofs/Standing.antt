@@ -1,17 +1,15 @@
 -- Where the elements of a signature stand in its bytes.
-use Rattle.std.proofs.Common.{◌≡◌, ◌⊎◌, ℕ, zero, suc, ◌+◌, ◌-◌, ◌<◌, ◌≤◌, List, [], ◌∷◌, ◌++◌, length, take, drop, Result, Ok, Err, refl, sym, ap, subst, ◌∙◌, inl, inr, arith, length-append, length-drop}
+use Rattle.std.proofs.Common.{◌≡◌, ℕ, ◌+◌, ◌-◌, ◌<◌, ◌≤◌, List, [], ◌∷◌, ◌++◌, length, take, drop, Ok, refl, sym, ap, subst, ◌∙◌, inl, inr, arith, length-append, length-drop}
 use Rattle.std.specs.Prelude.{◌↔◌}
 use Rattle.std.specs.List.{AllByRecursion}
 use Rattle.std.proofs.lemmas.List.{append-nil, drop_at, drop-drop}
 use Rattle.std.proofs.lemmas.List.Elements.{All-drop}
 use Rattle.ksi_tlv.specs.Spelling.{Tlv, Spells, AreBytes}
-use Rattle.ksi_tlv.specs.Front.{element_at}
 use Rattle.ksi_tlv.specs.Walking.{PlacedTlv, placed_at, Items, elements, joined, laid, items_of, end_at, IsReading}
-use Rattle.ksi_grammar.specs.Held.{whole}
 use Rattle.ksi_signature.specs.declared.signature.Signature.{Signature}
 use Rattle.ksi_signature.specs.Tables.{signature_table}
 use Rattle.ksi_signature.specs.File.{IsSignature}
-use Rattle.ksi_signature.specs.Extended.{is_retained, text_in, retained_texts, held_by, elements_in, StandsIn}
+use Rattle.ksi_signature.specs.Extended.{text_in, held_by, elements_in, StandsIn}
 use Rattle.ksi_signature.proofs.Whole.{Laws, front_of, found_in}
 
 abbrev pub Reading : Type 0
@@ -50,8 +48,7 @@ pub all_stand : (bytes : List ℕ) (place : ℕ) (parts : List (Tlv × List ℕ)
 all_stand bytes place [] spelled is = tt
 all_stand bytes place (part ∷ parts) spelled is =
     let within = body_within part.0 part.1 spelled.0 in
-    let size : length bytes - place ≡ length (part.1 ++ joined parts) = sym (length-drop place bytes) ∙ ap length is in
-    (
+    let size : length bytes - place ≡ length (part.1 ++ joined parts) = sym (length-drop place bytes) ∙ ap length is in (
       record { begins = omega arith; ends = omega (arith, size, length-append part.1 (joined parts)) },
       all_stand bytes (place + length part.1) parts spelled.1 (behind bytes part.1 (joined parts) place is),
     )

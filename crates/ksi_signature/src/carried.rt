@@ -51,8 +51,7 @@ fn link_is_kept(link: &Link)
 
 fn correction_is_kept(correction: u8)
     ensures { correction < 2 ^ 8 }
-{
-}
+{}
 
 fn sibling_is_kept(sibling: &Sibling)
     ensures { HasImprint sibling.now }

@@ -19,9 +19,9 @@ use crate::checker::accepted;
 use crate::fault::SigFault;
 use crate::kinds::{CALENDAR, CHAIN, PUBLICATION, SIGNATURE};
 use crate::laws::signature_or_fault;
+use crate::lengths::{calendar_size, publishing_size, size_of};
 use crate::refusal::WriteRefusal;
 use crate::signature::{CalChain, PubRecord};
-use crate::lengths::{calendar_size, publishing_size, size_of};
 use ksi_grammar::{put_short, whole_or_fault};
 use ksi_imprint::Bytes;
 use ksi_tlv::{Element, Elements, Placed, Writer, front_by_spelling, reading_is_elements};
@@ -98,12 +98,7 @@ pub fn with_calendar(
 }
 
 /// The size of the new content.
-fn content_size(
-    bytes: &[u8],
-    at: &Placed<'_>,
-    calendar: &CalChain,
-    publication: &PubRecord,
-) -> u64
+fn content_size(bytes: &[u8], at: &Placed<'_>, calendar: &CalChain, publication: &PubRecord) -> u64
     requires { AllByRecursion (StandsIn bytes.now) (inner_elements (view_placed at.now)) }
     ensures { result ≡ capped (length (content_with bytes.now (inner_elements (view_placed at.now)) calendar.now publication.now)) }
 {

@@ -79,7 +79,10 @@ fn retains_what_is_to_be_passed_on(rt: HostRuntime) -> Result<(), Fail> {
     let rows: [([&[u8]; 4], [&[u8]; 3]); 6] = [
         ([calendar, chain, &[], &[]], [chain, &[], &[]]),
         ([chain, calendar, &[0x5e, 0x00], &[]], [chain, &[], &[]]),
-        ([&[0x7e, 0x00], chain, calendar, &[0x5e, 0x00]], [&[0x7e, 0x00], chain, &[]]),
+        (
+            [&[0x7e, 0x00], chain, calendar, &[0x5e, 0x00]],
+            [&[0x7e, 0x00], chain, &[]],
+        ),
         ([long, calendar, flagged, &[]], [long, flagged, &[]]),
         ([flagged, long, chain, calendar], [flagged, long, chain]),
         ([chain, &RECORD, &S0[15..48], &[]], [chain, &[], &[]]),

@@ -96,11 +96,7 @@ fn put_all(
 }
 
 /// The index of a chain with these links below others.
-fn index_of(
-    alloc: Global,
-    links: &[Link],
-    chains: &[AboveChain],
-) -> Result<Vec<u64>, NoMemory>
+fn index_of(alloc: Global, links: &[Link], chains: &[AboveChain]) -> Result<Vec<u64>, NoMemory>
     requires { length links.now ≤ 16 }
     ensures { IfOk result (λ index. index.items ≡ index_of chains.now ++ (shape_along links.now ∷ [])) }
 {
@@ -148,7 +144,12 @@ fn put_chain(
     requires limits { AreRoundLinks links.now }
     requires links { AllByRecursion IsLink links.now }
     ensures text { OnOk result (writer.new ≡ writer.old ++ canonical (chain_element (record {
-        time = second; index = index.now; input_body = None; input = input.now; links = links.now }))) }
+      time = second;
+      index = index.now;
+      input_body = None;
+      input = input.now;
+      links = links.now;
+    }))) }
     ensures short { OnOk result (length writer.new ≤ length writer.old + 813) }
 {
     let body = small_chain(alloc, second, index, input, links)?;
@@ -167,7 +168,12 @@ fn small_chain(
     requires limits { AreRoundLinks links.now }
     requires links { AllByRecursion IsLink links.now }
     ensures text { IfOk result (λ body. body ≡ texts (chain_elements (record {
-        time = second; index = index.now; input_body = None; input = input.now; links = links.now }))) }
+      time = second;
+      index = index.now;
+      input_body = None;
+      input = input.now;
+      links = links.now;
+    }))) }
     ensures short { IfOk result (λ body. length body ≤ 809) }
 {
     numeral_is_read();

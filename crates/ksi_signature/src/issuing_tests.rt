@@ -90,7 +90,10 @@ fn issues_below_two_chains(rt: HostRuntime) -> Result<(), Fail> {
         assert_eq!(rt; signature.chains.as_slice().len(), 3);
         assert!(rt; signature.publication.is_none());
         if let Some(chain) = &signature.calendar {
-            assert_eq!(rt; (chain.publication, chain.time, chain.input), (5, 5, Imprint::ZERO));
+            assert_eq!(rt;
+                (chain.publication, chain.time, chain.input),
+                (5, 5, Imprint::ZERO)
+            );
             assert_eq!(rt; chain.links.as_slice().len(), 1);
         }
         assert!(rt; signature.calendar.is_some());

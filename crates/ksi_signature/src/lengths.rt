@@ -111,7 +111,10 @@ fn published_size(time: u64, hash: &Imprint) -> u64
     ensures value { result ≡ length (canonical (plain 16 (texts (published_elements time hash.now)))) }
     ensures small { result ≤ 53 }
 {
-    size_of(PUBLISHED, number_size(0x02, time) + imprint_size(0x04, hash))
+    size_of(
+        PUBLISHED,
+        number_size(0x02, time) + imprint_size(0x04, hash),
+    )
 }
 
 /// Elements of a kind with these bodies.

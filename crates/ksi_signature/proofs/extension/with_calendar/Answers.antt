@@ -1,10 +1,9 @@
-use Rattle.std.proofs.Common.{◌≡◌, ◌<◌, ◌≤◌, ℕ, List, length, Err, refl, sym, ap, subst, ◌∙◌, arith}
+use Rattle.std.proofs.Common.{◌<◌, ℕ, List, length, Err, refl, sym, ap, subst, ◌∙◌, arith}
 use Rattle.std.specs.List.{AllByRecursion}
 use Rattle.std.proofs.lemmas.List.Elements.{All-from_get_or}
 use Rattle.std.proofs.lemmas.Result.{err_from_is_err_and}
 use Rattle.ksi_tlv.specs.Seen.{view}
 use Rattle.ksi_tlv.specs.Spelling.{plain, canonical}
-use Rattle.ksi_tlv.specs.Walking.{PlacedTlv}
 use Rattle.ksi_signature.specs.declared.extension.WithRefusal.{WithRefusal}
 use Rattle.ksi_signature.specs.Lengths.{capped}
 use Rattle.ksi_signature.specs.Extended.{held_by, extended_text, StandsIn}
@@ -35,7 +34,7 @@ content_size-total-requires c =
     let fits = All-from_get_or (λ b. b < 256) c.args.bytes.now 0 (λ i lt. omega (arith, c.type_inv.bytes i)) in
     subst (AllByRecursion (StandsIn c.args.bytes.now)) (ap held_by c.in_ok-element.ensures.front)
     (elements_stand (record { whole = c.whole_or_fault.ensures.whole; fault = c.whole_or_fault.ensures.fault; found = c.front_by_spelling.ensures.found; spelled = c.front_by_spelling.ensures.spelled })
-      c.reading_is_elements.ensures c.args.bytes.now fits ((c.signature_or_fault.ensures.whole c.args.bytes.now fits).0 c.in_ok-element.ensures.ok))
+    c.reading_is_elements.ensures c.args.bytes.now fits ((c.signature_or_fault.ensures.whole c.args.bytes.now fits).0 c.in_ok-element.ensures.ok))
 
 pub returns-then-total-gt-LIMIT-clause-malformed : goal.returns-then-total-gt-LIMIT-clause-malformed
 returns-then-total-gt-LIMIT-clause-malformed c =
@@ -66,7 +65,7 @@ text_with-requires c = record {
       let fits = All-from_get_or (λ b. b < 256) c.args.bytes.now 0 (λ i lt. omega (arith, c.type_inv.bytes i)) in
       subst (AllByRecursion (StandsIn c.args.bytes.now)) (ap held_by c.in_ok-element.ensures.front)
       (elements_stand (record { whole = c.whole_or_fault.ensures.whole; fault = c.whole_or_fault.ensures.fault; found = c.front_by_spelling.ensures.found; spelled = c.front_by_spelling.ensures.spelled })
-        c.reading_is_elements.ensures c.args.bytes.now fits ((c.signature_or_fault.ensures.whole c.args.bytes.now fits).0 c.in_ok-element.ensures.ok));
+      c.reading_is_elements.ensures c.args.bytes.now fits ((c.signature_or_fault.ensures.whole c.args.bytes.now fits).0 c.in_ok-element.ensures.ok));
   short = within _ c.content_size-total.result c.content_size-total.ensures (omega arith);
 }
 

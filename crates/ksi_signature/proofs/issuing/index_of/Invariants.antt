@@ -1,4 +1,4 @@
-use Rattle.std.proofs.Common.{◌≡◌, ◌-◌, ◌≤◌, drop, length}
+use Rattle.std.proofs.Common.{◌≡◌, ◌-◌, drop, length}
 use Rattle.ksi_signature.specs.Issued.{index_of}
 use Rattle.ksi_signature.proofs.issuing.index_of.Given as goal
 
