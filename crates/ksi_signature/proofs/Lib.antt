@@ -3,3 +3,15 @@ pub mod Says
 pub mod Limits
 pub mod Order
 pub mod Answered
+pub mod Sizes
+pub mod Capped
+pub mod Standing
+pub mod Refusing
+pub mod Indexes
+pub mod Skips
+pub mod Again
+pub mod ChainAgain
+pub mod CalendarAgain
+pub mod RecordAgain
+pub mod SignatureAgain
+pub mod IssuedAgain

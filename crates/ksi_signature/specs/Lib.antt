@@ -5,3 +5,10 @@ pub mod File
 pub mod Places
 pub mod Order
 pub mod Reading
+pub mod Written
+pub mod Lengths
+pub mod Extended
+pub mod Above
+pub mod Issued
+pub mod Kept
+pub mod Carried

@@ -43,3 +43,5 @@ pub(crate) const METADATA: u16 = 0x04;
 pub(crate) const REFERENCE: u16 = 0x09;
 
 pub(crate) const REPOSITORY: u16 = 0x0a;
+
+pub(crate) const PUBLISHED: u16 = 0x10;

@@ -1,6 +1,6 @@
 //! Laws of signatures, for the proofs of the layers above. No code calls them.
 
-ghost use Rattle.std.specs.Prelude.{◌≡◌, ◌↔◌, ◌⊎◌, ℕ, List, Ok, Err};
+ghost use Rattle.std.specs.Prelude.{◌≡◌, ◌↔◌, ◌⊎◌, ℕ, List, None, Ok, Err};
 ghost use Rattle.ksi_tlv.specs.Spelling.{AreBytes};
 ghost use Rattle.ksi_tlv.specs.Walking.{PlacedTlv};
 ghost use Rattle.ksi_signature.specs.Values.{Fall};
@@ -10,9 +10,13 @@ ghost use Rattle.ksi_signature.specs.declared.fault.SigFault.{SigFault};
 ghost use Rattle.ksi_signature.specs.declared.signature.Signature.{Signature};
 ghost use Rattle.ksi_signature.specs.File.{IsSignature, IsSignatureFault, answer_of};
 ghost use Rattle.ksi_signature.specs.Reading.{signature_at};
+ghost use Rattle.ksi_signature.specs.Kept.{IsKept};
+ghost use Rattle.ksi_signature.specs.Written.{signature_text, sizes_of, first_long};
 
-use ksi_grammar::whole_or_fault;
-use ksi_tlv::front_by_spelling;
+use ksi_grammar::{
+    held_is_whole, published_is_read, record_is_read, whole_or_fault, written_is_whole,
+};
+use ksi_tlv::{canonical_is_shortest, front_by_spelling, numeral_is_read};
 
 /// Bytes are a signature or have a first fault, and not both; and they are one signature and have one first fault.
 /// Reading from left to right comes to no fault exactly where they are a signature, and to a fault exactly where it is
@@ -53,3 +57,16 @@ pub fn chains_in_order()
     ensures equal { (parts : ℕ) (es : List PlacedTlv) →
         with_parts parts (signature_of es).chains ≡ with_parts parts (chains_among es) }
 {}
+
+/// The text of a signature is that signature, where its parts are what their types keep and no body is too long.
+pub fn written_is_signature()
+    ensures { (signature : Signature) → IsKept signature → first_long (sizes_of signature) ≡ None →
+        IsSignature (signature_text signature) signature }
+{
+    written_is_whole();
+    held_is_whole();
+    published_is_read();
+    record_is_read();
+    canonical_is_shortest();
+    numeral_is_read();
+}

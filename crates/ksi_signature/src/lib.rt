@@ -18,25 +18,46 @@
 //! ```
 #![tactic(auto)]
 
+mod above;
+mod bodies;
+mod carried;
 mod checker;
 mod containers;
 mod contents;
+mod extension;
+#[cfg(test)]
+mod extension_tests;
 mod fault;
+mod issuing;
+#[cfg(test)]
+mod issuing_tests;
 mod kinds;
 mod laws;
+mod lengths;
 mod links;
 mod lists;
 mod parts;
 mod reader;
+mod refusal;
 mod signature;
 #[cfg(test)]
 mod tests;
+mod writer;
+#[cfg(test)]
+mod writer_tests;
 
+pub use above::{Above, AboveChain, AboveChains, AboveLinks};
 pub use checker::check;
 pub use containers::{CalendarContent, ChainContent, LinkContent, SignatureContent};
+pub use extension::{WithRefusal, with_calendar};
 pub use fault::SigFault;
+pub use issuing::issue;
 pub use ksi_imprint::NoMemory;
-pub use laws::{chains_in_order, signature_is_read, signature_or_fault};
+pub use laws::{
+    chains_in_order, signature_is_read, signature_or_fault, written_is_signature,
+};
 pub use lists::{Bodies, CalLinks, Chains, Index, Links};
 pub use reader::read;
+pub use refusal::WriteRefusal;
 pub use signature::{AggChain, CalChain, PubRecord, Signature};
+pub use writer::write;

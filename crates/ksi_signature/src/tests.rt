@@ -6,7 +6,7 @@ use std::alloc::Global;
 use std::test::Fail;
 
 /// One chain and a calendar chain without links, all of second 0; each hash is that of no bytes.
-const S0: [u8; 94] = [
+pub(crate) const S0: [u8; 94] = [
     0x88, 0x00, 0x00, 0x5a, 0x88, 0x01, 0x00, 0x2b, 0x02, 0x00, 0x03, 0x01, 0x01, 0x05, 0x21, 0x01,
     0xe3, 0xb0, 0xc4, 0x42, 0x98, 0xfc, 0x1c, 0x14, 0x9a, 0xfb, 0xf4, 0xc8, 0x99, 0x6f, 0xb9, 0x24,
     0x27, 0xae, 0x41, 0xe4, 0x64, 0x9b, 0x93, 0x4c, 0xa4, 0x95, 0x99, 0x1b, 0x78, 0x52, 0xb8, 0x55,
@@ -16,7 +16,7 @@ const S0: [u8; 94] = [
 ];
 
 /// The parts one after the other.
-fn joined(alloc: Global, parts: &[&[u8]]) -> Result<Bytes, NoMemory> {
+pub(crate) fn joined(alloc: Global, parts: &[&[u8]]) -> Result<Bytes, NoMemory> {
     let mut bytes = Vec::new(alloc);
     for part in parts {
         bytes.extend_from_slice(part)?;
@@ -66,7 +66,7 @@ fn answers_the_first_fault(rt: HostRuntime) -> Result<(), Fail> {
 }
 
 /// A signature whose chain has one link with this body, of at most 63 bytes.
-fn with_link(alloc: Global, body: &[u8]) -> Result<Bytes, NoMemory> {
+pub(crate) fn with_link(alloc: Global, body: &[u8]) -> Result<Bytes, NoMemory> {
     let size = body.len().min(63) as u8;
     joined(
         alloc,
@@ -182,7 +182,7 @@ fn reads_in_any_order(rt: HostRuntime) -> Result<(), Fail> {
 
 /// Worked out by hand: two chains, of one and of two index parts, a calendar chain without an aggregation time and a
 /// publication record, with unknown elements in each, a long header of a short kind and numbers with zeros before them.
-fn two_chains(alloc: Global) -> Result<Bytes, NoMemory> {
+pub(crate) fn two_chains(alloc: Global) -> Result<Bytes, NoMemory> {
     joined(
         alloc,
         &[

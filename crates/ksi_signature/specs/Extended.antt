@@ -1,0 +1,53 @@
+-- The bytes of a signature with another calendar chain and publication record.
+use Rattle.std.specs.Prelude.{◌≡◌, ℕ, ◌^◌, ◌<◌, min, ◌+◌, ◌-◌, ◌≤◌, ◌==◌, ◌||◌, ◌&&◌, not, Bool, List, [], ◌∷◌, ◌++◌, length, take, drop, Result, Ok, Err, if◌then◌else◌}
+use Rattle.ksi_tlv.specs.Spelling.{Tlv, plain, canonical}
+use Rattle.ksi_tlv.specs.Front.{element_at}
+use Rattle.ksi_tlv.specs.Walking.{PlacedTlv, elements}
+use Rattle.ksi_tlv.specs.Writing.{texts}
+use Rattle.ksi_grammar.specs.Table.{is_known}
+use Rattle.ksi_grammar.specs.Held.{whole}
+use Rattle.ksi_signature.specs.Values.{Calendar, Publishing}
+use Rattle.ksi_signature.specs.Tables.{signature_table}
+use Rattle.ksi_signature.specs.Written.{calendar_element, publishing_element}
+
+-- An element is retained: it is an aggregation chain, or is unknown and has both flags.
+abbrev pub is_retained : Tlv → Bool
+is_retained e = e.kind == 2049 || (not (is_known signature_table.slots e.kind) && (e.non_critical && e.forward))
+
+-- the bytes of an element in the file: from its place to the end of its body
+abbrev pub text_in : List ℕ → PlacedTlv → List ℕ
+text_in bytes at = take (at.inside + length at.element.body - at.place) (drop at.place bytes)
+
+-- those of the elements that are retained, in order
+abbrev pub retained_texts : List ℕ → List PlacedTlv → List ℕ
+retained_texts bytes [] = []
+retained_texts bytes (at ∷ es) = if is_retained at.element then text_in bytes at ++ retained_texts bytes es else retained_texts bytes es
+
+-- the elements that the first element of a file holds
+abbrev pub held_by : Result (Tlv × ℕ) ℕ → List PlacedTlv
+held_by (Err need) = []
+held_by (Ok found) = whole (elements (found.1 - length found.0.body) found.0.body)
+
+abbrev pub elements_in : List ℕ → List PlacedTlv
+elements_in bytes = held_by (element_at bytes)
+
+-- the texts of what is retained of elements, and behind them the calendar chain and the publication record as they are written
+abbrev pub content_with : List ℕ → List PlacedTlv → Calendar → Publishing → List ℕ
+content_with bytes es chain published =
+    retained_texts bytes es ++ texts (calendar_element chain ∷ publishing_element published ∷ [])
+
+unfoldable pub extended_content : List ℕ → Calendar → Publishing → List ℕ
+extended_content bytes chain published = content_with bytes (elements_in bytes) chain published
+
+unfoldable pub extended_text : List ℕ → Calendar → Publishing → List ℕ
+extended_text bytes chain published = canonical (plain 2048 (extended_content bytes chain published))
+
+-- A content of so many bytes is too long for an element, and this says so: their number, 2^64 - 1 where they are more.
+pub record IsTooLong (size n : ℕ) : Type 0 where
+  pub long : 65535 < size
+  pub number : n ≡ min size (2 ^ 64 - 1)
+
+-- the bytes of an element are bytes of the file
+pub record StandsIn (bytes : List ℕ) (at : PlacedTlv) : Type 0 where
+  pub begins : at.place ≤ at.inside + length at.element.body
+  pub ends : at.inside + length at.element.body ≤ length bytes

@@ -1,0 +1,147 @@
+use crate::tests::{S0, joined};
+use crate::*;
+use ksi_imprint::{Bytes, Imprint};
+use std::alloc::Global;
+use std::test::Fail;
+
+/// The record of second 0, whose hash is that of no bytes, as it is written.
+const RECORD: [u8; 10] = [0x88, 0x03, 0x00, 0x27, 0x10, 0x25, 0x02, 0x00, 0x04, 0x21];
+
+fn hash() -> Imprint {
+    match Imprint::read(&S0[15..48]) {
+        Ok(imprint) => imprint,
+        Err(_) => Imprint::ZERO,
+    }
+}
+
+/// That of `S0`.
+fn calendar(alloc: Global) -> CalChain {
+    CalChain {
+        publication: 0,
+        time: 0,
+        input: hash(),
+        links: CalLinks::from_vec(Vec::new(alloc)),
+    }
+}
+
+/// A record of second 0 with a reference of so many zero bytes, where they are more than none.
+fn record(alloc: Global, size: usize) -> Result<PubRecord, NoMemory> {
+    let mut references = Vec::new(alloc);
+    if size > 0 {
+        references.push(Bytes::from_vec(vec![in alloc; 0; size]?))?;
+    }
+    Ok(PubRecord {
+        time: 0,
+        hash: hash(),
+        references: Bodies::from_vec(references),
+        repositories: Bodies::from_vec(Vec::new(alloc)),
+    })
+}
+
+/// The new bytes, or the refusal.
+fn extended(alloc: Global, bytes: &[u8], size: usize) -> Result<Bytes, WithRefusal> {
+    let published = record(alloc, size)?;
+    with_calendar(alloc, bytes, &calendar(alloc), &published)
+}
+
+#[test]
+fn puts_the_record_behind(rt: HostRuntime) -> Result<(), Fail> {
+    let wanted = joined(
+        rt.alloc(),
+        &[&[0x88, 0x00, 0x00, 0x85], &S0[4..], &RECORD, &S0[15..48]],
+    )?;
+    assert_eq!(rt; wanted.as_slice().len(), 137);
+    let twice = wanted.as_slice();
+    for bytes in [S0.as_slice(), twice] {
+        let answer = extended(rt.alloc(), bytes, 0);
+        assert!(rt; answer.is_ok());
+        if let Ok(text) = answer {
+            assert_eq!(rt; text.as_slice(), wanted.as_slice());
+            assert_eq!(rt; check(text.as_slice()), Ok(()));
+        }
+    }
+    Ok(())
+}
+
+/// S0's chain with flags, its first element in a long form; it takes 49 bytes.
+fn flagged_chain(alloc: Global) -> Result<Bytes, NoMemory> {
+    let header = [0xe8, 0x01, 0x00, 0x2d, 0xc0, 0x02, 0x00, 0x00];
+    joined(alloc, &[&header, &S0[10..51]])
+}
+
+#[test]
+fn retains_what_is_to_be_passed_on(rt: HostRuntime) -> Result<(), Fail> {
+    let chain = &S0[4..51];
+    let calendar = &S0[51..];
+    let flagged = flagged_chain(rt.alloc())?;
+    let flagged = flagged.as_slice();
+    let long = [0xe0, 0x1e, 0x00, 0x01, 0xff].as_slice();
+    let rows: [([&[u8]; 4], [&[u8]; 3]); 6] = [
+        ([calendar, chain, &[], &[]], [chain, &[], &[]]),
+        ([chain, calendar, &[0x5e, 0x00], &[]], [chain, &[], &[]]),
+        (
+            [&[0x7e, 0x00], chain, calendar, &[0x5e, 0x00]],
+            [&[0x7e, 0x00], chain, &[]],
+        ),
+        ([long, calendar, flagged, &[]], [long, flagged, &[]]),
+        ([flagged, long, chain, calendar], [flagged, long, chain]),
+        ([chain, &RECORD, &S0[15..48], &[]], [chain, &[], &[]]),
+    ];
+    for (inside, wanted) in rows {
+        let bytes = signature(rt.alloc(), &inside)?;
+        let [one, two, three] = wanted;
+        let other = [one, two, three, calendar, &RECORD, &S0[15..48]];
+        let wanted = signature(rt.alloc(), &other)?;
+        let answer = extended(rt.alloc(), bytes.as_slice(), 0);
+        assert!(rt; answer.is_ok());
+        if let Ok(text) = answer {
+            assert_eq!(rt; text.as_slice(), wanted.as_slice());
+        }
+    }
+    Ok(())
+}
+
+/// A signature of at most 65,535 bytes inside.
+fn signature(alloc: Global, inside: &[&[u8]]) -> Result<Bytes, NoMemory> {
+    let body = joined(alloc, inside)?;
+    let size = body.as_slice().len().min(65_535);
+    let header = [0x88, 0x00, (size / 0x100) as u8, (size % 0x100) as u8];
+    joined(alloc, &[&header, body.as_slice()])
+}
+
+fn refusal(answer: &Result<Bytes, WithRefusal>) -> Option<WithRefusal> {
+    match answer {
+        Ok(_) => None,
+        Err(refusal) => Some(*refusal),
+    }
+}
+
+#[test]
+fn refuses_what_is_malformed_or_too_long(rt: HostRuntime) -> Result<(), Fail> {
+    let faults = [
+        (&S0[..93], SigFault::Tlv(0)),
+        (&[0x88, 0x00, 0x00, 0x00], SigFault::Missing(0x801, 0)),
+        (&[0x07, 0x00], SigFault::NotSignature(0x07)),
+    ];
+    for (bytes, fault) in faults {
+        let answer = extended(rt.alloc(), bytes, 0);
+        assert_eq!(rt; refusal(&answer), Some(WithRefusal::Malformed(fault)));
+    }
+    let sizes: [(usize, Option<WithRefusal>); 4] = [
+        (65_398, None),
+        (65_399, Some(WithRefusal::TooLong(65_536))),
+        (65_535, Some(WithRefusal::TooLong(65_672))),
+        (70_000, Some(WithRefusal::TooLong(70_137))),
+    ];
+    for (size, want) in sizes {
+        let answer = extended(rt.alloc(), &S0, size);
+        assert_eq!(rt; refusal(&answer), want);
+    }
+    let passed = vec![in rt.alloc(); 0; 65_484]?;
+    let inside = [&S0[4..51], &[0xe0, 0x1e, 0xff, 0xcc], passed.as_slice()];
+    let file = signature(rt.alloc(), &inside)?;
+    assert_eq!(rt; file.as_slice().len(), 65_539);
+    let answer = extended(rt.alloc(), file.as_slice(), 0);
+    assert_eq!(rt; refusal(&answer), Some(WithRefusal::TooLong(65_621)));
+    Ok(())
+}

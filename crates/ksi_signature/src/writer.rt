@@ -1,0 +1,132 @@
+ghost use Rattle.std.specs.Prelude.{◌≡◌, ◌++◌, ◌∷◌, [], ◌⊎◌, ℕ, Some, None, Err, IfSome, IfOk, OnOk, map, flat_map};
+ghost use Rattle.ksi_signature.specs.declared.refusal.WriteRefusal.TheVariants as refusals;
+ghost use Rattle.std.specs.List.{AllByRecursion};
+ghost use Rattle.ksi_tlv.specs.Writing.{texts};
+ghost use Rattle.ksi_signature.specs.File.{IsSignature};
+ghost use Rattle.ksi_signature.specs.Kept.{IsAggregation, IsCalendar, IsPublishing, IsKept};
+ghost use Rattle.ksi_signature.specs.Written.{chain_element, calendar_element, publishing_element, optional_element, signature_elements, signature_text, chain_sizes, publishing_sizes, optional_sizes, sizes_of, first_long, TellsLong};
+
+use crate::NoMemory;
+use crate::bodies::{calendar_body, chain_body, publishing_body, put_body};
+use crate::kinds::{CALENDAR, CHAIN, PUBLICATION, SIGNATURE};
+use crate::laws::written_is_signature;
+use crate::refusal::WriteRefusal;
+use crate::signature::{AggChain, CalChain, PubRecord, Signature};
+use ksi_grammar::put_short;
+use ksi_imprint::Bytes;
+use ksi_tlv::Writer;
+use std::alloc::Global;
+
+/// A signature as it is written: the elements of each container in the order of docs/FORMATS.md, without flags and in
+/// their shortest form, a correction only where it is not 0, and the aggregation time of a calendar chain always. `read`
+/// gives the signature again.
+///
+/// # Errors
+///
+/// `TooLong` exactly where the body of an element has more than 65,535 bytes, with the size of the first such: in the
+/// order of writing, an inner element before the one that it stands in. `NoMemory` where memory was wanting.
+pub fn write(alloc: Global, signature: &Signature) -> Result<Bytes, WriteRefusal>
+    ensures text { IfOk result (λ bytes. bytes ≡ signature_text signature.now) }
+    ensures fits { OnOk result (first_long (sizes_of signature.now) ≡ None) }
+    ensures too_long { (n : ℕ) → result ≡ Err (refusals.TooLong n) → first_long (sizes_of signature.now) ≡ Some n }
+    ensures long { (n : ℕ) → first_long (sizes_of signature.now) ≡ Some n →
+        (result ≡ Err (refusals.TooLong n)) ⊎ (result ≡ Err refusals.NoMemory) }
+    ensures read_again { IfOk result (λ bytes. IsSignature bytes signature.now) }
+{
+    written_is_signature();
+    written(alloc, signature)
+}
+
+#[tactic(auto, unfolding(crate::specs::Written::signature_text))]
+fn written(alloc: Global, signature: &Signature) -> Result<Bytes, WriteRefusal>
+    ensures text { IfOk result (λ bytes. bytes ≡ signature_text signature.now) }
+    ensures long { TellsLong (sizes_of signature.now) result }
+    ensures kept { IfOk result (λ _. IsKept signature.now) }
+{
+    let body = signature_body(alloc, signature)?;
+    let mut writer = Writer::new(alloc);
+    put_body(&mut writer, SIGNATURE, body.bytes())?;
+    Ok(Bytes::from_vec(writer.into_vec()))
+}
+
+fn signature_body(alloc: Global, signature: &Signature) -> Result<Writer, WriteRefusal>
+    ensures text { IfOk result (λ body. body ≡ texts (signature_elements signature.now)) }
+    ensures long { TellsLong (flat_map chain_sizes signature.now.chains ++ optional_sizes signature.now.publication) result }
+    ensures kept { IfOk result (λ _. IsKept signature.now) }
+{
+    let mut body = Writer::new(alloc);
+    put_chains(&mut body, alloc, signature.chains.as_slice())?;
+    put_calendar(&mut body, alloc, &signature.calendar)?;
+    put_publication(&mut body, alloc, &signature.publication)?;
+    Ok(body)
+}
+
+fn put_chains(writer: &mut Writer, alloc: Global, chains: &[AggChain]) -> Result<(), WriteRefusal>
+    ensures text { OnOk result (writer.new ≡ writer.old ++ texts (map chain_element chains.now)) }
+    ensures long { TellsLong (flat_map chain_sizes chains.now) result }
+    ensures kept { OnOk result (AllByRecursion IsAggregation chains.now) }
+{
+    for chain in chains {
+        put_chain(writer, alloc, chain)?;
+    }
+    Ok(())
+}
+
+fn put_chain(writer: &mut Writer, alloc: Global, chain: &AggChain) -> Result<(), WriteRefusal>
+    ensures text { OnOk result (writer.new ≡ writer.old ++ texts (chain_element chain.now ∷ [])) }
+    ensures long { TellsLong (chain_sizes chain.now) result }
+    ensures kept { OnOk result (IsAggregation chain.now) }
+{
+    let input_body = match &chain.input_body {
+        Some(bytes) => Some(bytes.as_slice()),
+        None => None,
+    };
+    let index = chain.index.as_slice();
+    let links = chain.links.as_slice();
+    let body = chain_body(alloc, chain.time, index, input_body, &chain.input, links)?;
+    put_body(writer, CHAIN, body.bytes())
+}
+
+fn put_calendar(
+    writer: &mut Writer,
+    alloc: Global,
+    calendar: &Option<CalChain>,
+) -> Result<(), NoMemory>
+    ensures text { OnOk result (writer.new ≡ writer.old ++ texts (optional_element calendar_element calendar.now)) }
+    ensures kept { OnOk result (IfSome calendar.now IsCalendar) }
+{
+    let Some(chain) = calendar else {
+        return Ok(());
+    };
+    let links = chain.links.as_slice();
+    let body = calendar_body(alloc, chain.publication, chain.time, &chain.input, links)?;
+    put_short(writer, CALENDAR, body.bytes())
+}
+
+fn put_publication(
+    writer: &mut Writer,
+    alloc: Global,
+    publication: &Option<PubRecord>,
+) -> Result<(), WriteRefusal>
+    ensures text { OnOk result (writer.new ≡ writer.old ++ texts (optional_element publishing_element publication.now)) }
+    ensures long { TellsLong (optional_sizes publication.now) result }
+    ensures kept { OnOk result (IfSome publication.now IsPublishing) }
+{
+    match publication {
+        Some(published) => put_published(writer, alloc, published),
+        None => Ok(()),
+    }
+}
+
+fn put_published(
+    writer: &mut Writer,
+    alloc: Global,
+    published: &PubRecord,
+) -> Result<(), WriteRefusal>
+    ensures text { OnOk result (writer.new ≡ writer.old ++ texts (publishing_element published.now ∷ [])) }
+    ensures long { TellsLong (publishing_sizes published.now) result }
+    ensures kept { OnOk result (IsPublishing published.now) }
+{
+    let body = publishing_body(alloc, published)?;
+    put_body(writer, PUBLICATION, body.bytes())
+}

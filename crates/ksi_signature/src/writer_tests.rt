@@ -1,0 +1,126 @@
+use crate::tests::{S0, joined, two_chains, with_link};
+use crate::*;
+use ksi_imprint::{Bytes, Imprint};
+use std::alloc::Global;
+use std::test::Fail;
+
+/// What is written of the signature that the bytes are, nothing where they are none or memory was wanting.
+fn rewritten(alloc: Global, bytes: &[u8]) -> Option<Bytes> {
+    match read(alloc, bytes) {
+        Ok(signature) => write(alloc, &signature).ok(),
+        Err(_) => None,
+    }
+}
+
+#[test]
+fn writes_what_it_read(rt: HostRuntime) -> Result<(), Fail> {
+    let alloc = rt.alloc();
+    let imprint = joined(alloc, &[&[0x02, 0x21], &S0[15..48]])?;
+    let corrected = joined(alloc, &[&[0x01, 0x01, 0xff, 0x02, 0x21], &S0[15..48]])?;
+    let links: [(&[u8], &[u8]); 5] = [
+        (imprint.as_slice(), imprint.as_slice()),
+        (corrected.as_slice(), corrected.as_slice()),
+        (&[0x03, 0x01, 0xff], &[0x03, 0x01, 0xff]),
+        (&[0x01, 0x00, 0x04, 0x01, 0x05], &[0x04, 0x01, 0x05]),
+        (
+            &[0x03, 0x01, 0xff, 0x01, 0x02, 0x00, 0x07],
+            &[0x01, 0x01, 0x07, 0x03, 0x01, 0xff],
+        ),
+    ];
+    for (link, wanted) in links {
+        let bytes = with_link(alloc, link)?;
+        let text = with_link(alloc, wanted)?;
+        let written = rewritten(alloc, bytes.as_slice());
+        assert!(rt; written.is_some());
+        if let Some(written) = written {
+            assert_eq!(rt; written.as_slice(), text.as_slice());
+        }
+    }
+    Ok(())
+}
+
+/// Worked out by hand: the signature of `two_chains`, as it is written.
+fn two_chains_text(alloc: Global) -> Result<Bytes, NoMemory> {
+    joined(
+        alloc,
+        &[
+            &[0x88, 0x00, 0x00, 0xf6, 0x88, 0x01, 0x00, 0x42],
+            &[0x02, 0x01, 0x05, 0x03, 0x02, 0x01, 0x2c, 0x03, 0x00],
+            &[0x04, 0x03, 0x61, 0x62, 0x63],
+            &S0[13..51],
+            &[0x07, 0x06, 0x01, 0x01, 0x02, 0x03, 0x01, 0xff],
+            &[0x08, 0x04, 0x04, 0x02, 0x01, 0x02],
+            &S0[4..51],
+            &[0x88, 0x02, 0x00, 0x4c, 0x01, 0x01, 0x09, 0x02, 0x01, 0x09],
+            &S0[13..48],
+            &[0x07, 0x21],
+            &S0[15..48],
+            &[
+                0x88, 0x03, 0x00, 0x2d, 0x10, 0x26, 0x02, 0x01, 0x09, 0x04, 0x21,
+            ],
+            &S0[15..48],
+            &[0x09, 0x01, 0xaa, 0x0a, 0x00],
+        ],
+    )
+}
+
+#[test]
+fn writes_in_the_order_of_the_format(rt: HostRuntime) -> Result<(), Fail> {
+    let alloc = rt.alloc();
+    let mixed = two_chains(alloc)?;
+    let text = two_chains_text(alloc)?;
+    let rows: [(&[u8], &[u8]); 3] = [
+        (&S0, &S0),
+        (mixed.as_slice(), text.as_slice()),
+        (text.as_slice(), text.as_slice()),
+    ];
+    for (bytes, wanted) in rows {
+        let written = rewritten(alloc, bytes);
+        assert!(rt; written.is_some());
+        if let Some(written) = written {
+            assert_eq!(rt; written.as_slice(), wanted);
+        }
+    }
+    Ok(())
+}
+
+/// One chain with so many bytes of input data and nothing else.
+fn with_input(alloc: Global, size: usize) -> Result<Signature, NoMemory> {
+    let mut parts = Vec::new(alloc);
+    parts.push(1)?;
+    let chain = AggChain {
+        time: 0,
+        index: Index::from_vec(parts),
+        input_body: Some(Bytes::from_vec(vec![in alloc; 0; size]?)),
+        input: Imprint::ZERO,
+        links: Links::from_vec(Vec::new(alloc)),
+    };
+    let mut chains = Vec::new(alloc);
+    chains.push(chain)?;
+    Ok(Signature {
+        chains: Chains::from_vec(chains),
+        calendar: None,
+        publication: None,
+    })
+}
+
+/// The chain has 47 bytes beside the input data, and the signature 4 beside the chain.
+#[test]
+fn the_first_body_above_the_limit_is_too_long(rt: HostRuntime) -> Result<(), Fail> {
+    let alloc = rt.alloc();
+    let rows = [
+        (65_484, Ok(65_539)),
+        (65_485, Err(WriteRefusal::TooLong(65_536))),
+        (65_488, Err(WriteRefusal::TooLong(65_539))),
+        (65_489, Err(WriteRefusal::TooLong(65_536))),
+        (65_535, Err(WriteRefusal::TooLong(65_582))),
+        (65_536, Err(WriteRefusal::TooLong(65_536))),
+        (70_000, Err(WriteRefusal::TooLong(70_000))),
+    ];
+    for (size, wanted) in rows {
+        let signature = with_input(alloc, size)?;
+        let answer = write(alloc, &signature).map(|bytes| bytes.as_slice().len());
+        assert_eq!(rt; answer, wanted);
+    }
+    Ok(())
+}
