@@ -258,7 +258,7 @@ fn each_fault_has_its_code(rt: HostRuntime) -> Result<(), Fail> {
             "Q7 25",
         ),
         (
-            "4b53495055424c46 8701000e 0109000000000000000001 0200",
+            "4b53495055424c46 8701000d 0109000000000000000001 0200",
             "Q8 12",
         ),
         (
@@ -357,7 +357,7 @@ fn a_file_that_passes_its_limit_is_too_long(rt: HostRuntime) -> Result<(), Fail>
     let alloc = rt.alloc();
     let words = words(alloc, "verify s A p")?;
     for (size, status, put) in [
-        (65_539, Status::Malformed, b"malformed 1 S1 0\n".as_slice()),
+        (65_539, Status::Malformed, b"malformed 1 S3 0\n".as_slice()),
         (65_540, Status::TooLong, b"too long 1\n".as_slice()),
     ] {
         let mut files = held(alloc, &[], &vec![in alloc; 0; size]?, P0)?;
