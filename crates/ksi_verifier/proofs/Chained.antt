@@ -60,7 +60,7 @@ module _ (image : List ℕ → List ℕ) (climbs : (start top : Item) (links : L
   abbrev from_input : PlainChain → ℕ → Item
   from_input chain level = record { imprint = chain.input; level = level }
 
-  top_both : (k level : ℕ) (chain : PlainChain) (top : Item) → (top_of image k level chain ≡ Ok top) ↔ Climbs image (from_input chain level) chain.links top
+  pub top_both : (k level : ℕ) (chain : PlainChain) (top : Item) → (top_of image k level chain ≡ Ok top) ↔ Climbs image (from_input chain level) chain.links top
   top_both k level chain top =
       let named = or_level_both k (climbed image 0 (from_input chain level) chain.links) top in
       let climb = climbs (from_input chain level) top chain.links in
@@ -133,6 +133,10 @@ module _ (image : List ℕ → List ℕ) (climbs : (start top : Item) (links : L
       let lead = lead_both 0 (at_level_zero chain.input) (chain ∷ chains) top in
       let same = start_joins image chain chains in
       (λ e. lead.0 (same ∙ e), λ h. sym same ∙ lead.1 h)
+
+  pub some_joined : (chains : List PlainChain) (top : Item) → 0 < length chains → (joined_chains image chains ≡ Ok top) ↔ ChainsLead image (at_level_zero (first_chain chains).input) chains top
+  some_joined [] top some = absurd (omega (arith, some))
+  some_joined (chain ∷ chains) top some = joined_both chain chains top
 
   pub chains_both : (chains : List PlainChain) (aggregation : Aggregated) → 0 < length chains
       → (chains_checked image chains ≡ Ok aggregation) ↔ IsAggregated image chains (first_chain chains).input aggregation.time aggregation.item

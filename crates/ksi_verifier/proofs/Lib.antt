@@ -2,3 +2,4 @@ pub mod Loops
 pub mod Passing
 pub mod Chained
 pub mod Whole
+pub mod Levels

@@ -64,3 +64,7 @@ each_both check P one k (x ∷ xs) =
     let here = then_both (check k x) (each check (k + 1) xs) tt in
     let rest = each_both check P one (k + 1) xs in
     (λ e. ((one k x).0 (here.0 e).0, rest.0 (here.0 e).1), λ all. here.1 ((one k x).1 all.0, rest.1 all.1))
+
+-- one equivalence after another
+pub both_then : {A B C : Type 0} → A ↔ B → B ↔ C → A ↔ C
+both_then f g = (λ a. g.0 (f.0 a), λ c. f.1 (g.1 c))

@@ -19,7 +19,7 @@ use Rattle.ksi_signature.specs.Values.{Calendar, Publishing}
 use Rattle.ksi_signature.specs.declared.signature.Signature.{Signature}
 use Rattle.ksi_verifier.specs.declared.aggregated.Aggregated.{Aggregated}
 use Rattle.ksi_verifier.specs.declared.refusal.Refusal.{Refusal}
-use Rattle.ksi_verifier.specs.declared.refusal.Refusal.TheVariants.{WrongHash, CalendarInput, MissedSecond, TimeField, RecordDiffers, PublicationDiffers}
+use Rattle.ksi_verifier.specs.declared.refusal.Refusal.TheVariants.{WrongHash, CalendarInput, MissedSecond, CalendarShape, TimeField, RecordDiffers, PublicationDiffers}
 use Rattle.ksi_verifier.specs.declared.difference.RecordDifference.TheVariants as differences
 use Rattle.ksi_verifier.specs.declared.verdict.Verdict.{Verdict}
 use Rattle.ksi_verifier.specs.declared.verdict.Verdict.TheVariants.{Accepted, Refused}
@@ -51,9 +51,13 @@ found_both (Some hash) time root =
 
 -- ---- the calendar chain
 
-shape_both : (r : Result ℕ ShapeFault) (t : ℕ) → (or_shape r ≡ Ok t) ↔ (r ≡ Ok t)
+pub shape_both : (r : Result ℕ ShapeFault) (t : ℕ) → (or_shape r ≡ Ok t) ↔ (r ≡ Ok t)
 shape_both (Ok second) t = (λ e. let is : second ≡ t = cc in ap (λ (x : ℕ). Ok x) is, λ e. let is : second ≡ t = cc in ap (λ (x : ℕ). Ok x) is)
 shape_both (Err fault) t = (λ e. absurd cc, λ e. absurd cc)
+
+pub fault_both : (r : Result ℕ ShapeFault) (fault : ShapeFault) → (or_shape r ≡ Err (CalendarShape fault)) ↔ (r ≡ Err fault)
+fault_both (Ok second) fault = (λ e. absurd cc, λ e. absurd cc)
+fault_both (Err x) fault = (λ e. let is : x ≡ fault = cc in ap (λ (y : ShapeFault). Err y) is, λ e. let is : x ≡ fault = cc in ap (λ (y : ShapeFault). Err (CalendarShape y)) is)
 
 calendar_both : (stated : Option Calendar) (calendar : Calendar) → (some_calendar stated ≡ Ok calendar) ↔ (stated ≡ Some calendar)
 calendar_both None calendar = (λ e. absurd cc, λ e. absurd cc)

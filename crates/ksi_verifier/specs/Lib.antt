@@ -4,3 +4,4 @@ pub mod ChainChecks
 pub mod Folding
 pub mod Verdict
 pub mod Accepted
+pub mod Leading

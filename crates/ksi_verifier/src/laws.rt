@@ -1,12 +1,20 @@
 //! What holds of the checks, for the layers above to cite. None of these functions does anything.
-ghost use Rattle.std.specs.Prelude.{◌≡◌, ◌↔◌, ◌<◌, ℕ, List, length, Ok};
+ghost use Rattle.std.specs.Prelude.{◌≡◌, ◌↔◌, ◌<◌, ℕ, List, length, Ok, Err};
+ghost use Rattle.ksi_split.specs.Ways.{IsSecond, PassesLeaf, EndsAbove};
+ghost use Rattle.ksi_split.specs.declared.fault.ShapeFault.TheVariants.{TooMany, TooFew};
+ghost use Rattle.ksi_aggchain.specs.Climbing.{Climbs};
+ghost use Rattle.ksi_aggchain.specs.declared.item.Item.{Item};
+ghost use Rattle.ksi_calchain.specs.Sides.{sides_from_top};
+ghost use Rattle.ksi_signature.specs.Values.{Calendar};
 ghost use Rattle.ksi_signature.specs.declared.signature.Signature.{Signature};
 ghost use Rattle.ksi_verifier.specs.declared.aggregated.Aggregated.{Aggregated};
+ghost use Rattle.ksi_verifier.specs.declared.refusal.Refusal.TheVariants.{Level, CalendarShape};
 ghost use Rattle.ksi_verifier.specs.declared.verdict.Verdict.TheVariants as verdicts;
-ghost use Rattle.ksi_verifier.specs.Chains.{first_chain, plain_chains};
-ghost use Rattle.ksi_verifier.specs.ChainChecks.{aggregated};
-ghost use Rattle.ksi_verifier.specs.Verdict.{verdict};
-ghost use Rattle.ksi_verifier.specs.Accepted.{IsAccepted, IsAggregated};
+ghost use Rattle.ksi_verifier.specs.Chains.{PlainChain, at_level_zero, first_chain, plain_chains};
+ghost use Rattle.ksi_verifier.specs.ChainChecks.{aggregated, joined_chains, tops};
+ghost use Rattle.ksi_verifier.specs.Verdict.{second_named, verdict};
+ghost use Rattle.ksi_verifier.specs.Accepted.{ChainsLead, IsAccepted, IsAggregated};
+ghost use Rattle.ksi_verifier.specs.Leading.{HaveTops, PassesIn, all_links};
 
 /// No check fails exactly where the chains lead from the hash to the root of a second, the calendar chain from there to
 /// the published root, and its sides name the second that each stated time is.
@@ -27,4 +35,42 @@ pub fn aggregation()
         IsAggregated image (plain_chains signature.chains) (first_chain (plain_chains signature.chains)).input aggregation.time aggregation.item }
 {
     ksi_aggchain::laws::one_climb();
+}
+
+/// V4 holds exactly where each chain leads to an item, and fails at the first link of all whose level passes 255.
+pub fn levels()
+    ensures items { (image : List ℕ → List ℕ) (chains : List PlainChain) (items : List Item) →
+        (tops image 0 0 chains ≡ Ok items) ↔ HaveTops image 0 chains items }
+    ensures over { (image : List ℕ → List ℕ) (chains : List PlainChain) (chain link level : ℕ) →
+        (tops image 0 0 chains ≡ Err (Level chain link level)) ↔ PassesIn 0 chains chain link level }
+{
+    ksi_aggchain::laws::one_climb();
+    ksi_aggchain::laws::levels_rise();
+}
+
+/// V4 and V5 hold exactly where the chains lead to the item, one after the other; all their links then lead there from the
+/// first one's input hash.
+pub fn joined()
+    ensures leads { (image : List ℕ → List ℕ) (chains : List PlainChain) (item : Item) → 0 < length chains →
+        (joined_chains image chains ≡ Ok item) ↔
+        ChainsLead image (at_level_zero (first_chain chains).input) chains item }
+    ensures links { (image : List ℕ → List ℕ) (chains : List PlainChain) (start item : Item) →
+        ChainsLead image start chains item → Climbs image start (all_links chains) item }
+{
+    ksi_aggchain::laws::one_climb();
+    ksi_aggchain::laws::one_after_another();
+}
+
+/// V10 holds exactly where the sides are the way to the second, and else says how they pass one or end above one.
+pub fn seconds()
+    ensures second { (calendar : Calendar) (t : ℕ) →
+        (second_named calendar ≡ Ok t) ↔ IsSecond calendar.publication (sides_from_top calendar.links) t }
+    ensures too_many { (calendar : Calendar) (place : ℕ) →
+        (second_named calendar ≡ Err (CalendarShape (TooMany place))) ↔
+        PassesLeaf calendar.publication (sides_from_top calendar.links) place }
+    ensures too_few { (calendar : Calendar) (rest : ℕ) →
+        (second_named calendar ≡ Err (CalendarShape (TooFew rest))) ↔
+        EndsAbove calendar.publication (sides_from_top calendar.links) rest }
+{
+    ksi_split::laws::one_answer();
 }

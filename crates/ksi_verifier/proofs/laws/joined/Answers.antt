@@ -1,0 +1,10 @@
+use Rattle.ksi_verifier.proofs.Chained.{some_joined}
+use Rattle.ksi_verifier.proofs.Levels.{lead_climbs}
+use Rattle.ksi_verifier.proofs.laws.joined.Goals as goal
+
+pub returns-clause-leads : goal.returns-clause-leads
+returns-clause-leads c = λ image chains item some. some_joined image (λ start top links. c.one_climb.ensures.climbs image start top links) chains item some
+
+pub returns-clause-links : goal.returns-clause-links
+returns-clause-links c = λ image chains start item leads.
+    lead_climbs image (λ start top links. c.one_climb.ensures.climbs image start top links) (λ start middle top links more. c.one_after_another.ensures.together image start middle top links more) chains start item leads
