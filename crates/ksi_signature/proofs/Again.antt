@@ -1,8 +1,7 @@
 -- What elements say that are written, and links as they are written.
-use Rattle.std.proofs.Common.{◌≡◌, ℕ, zero, suc, ◌^◌, ◌+◌, ◌<◌, ◌≤◌, Bool, true, false, eqb, ltb, leb, List, [], ◌∷◌, ◌++◌, length, map, Some, None, Ok, refl, sym, ap, ◌∙◌, arith}
+use Rattle.std.proofs.Common.{◌≡◌, ℕ, zero, suc, ◌^◌, ◌<◌, ◌≤◌, true, false, eqb, ltb, leb, List, [], ◌∷◌, ◌++◌, length, Ok, refl, ap, ◌∙◌, arith}
 use Rattle.std.specs.List.{AllByRecursion}
 use Rattle.std.proofs.lemmas.Bool.{le-ltb, lt-ltb, eq-eqb, le-leb}
-use Rattle.std.proofs.lemmas.List.{length-append}
 use Rattle.ksi_imprint.specs.Imprints.{IsImprint}
 use Rattle.ksi_split.specs.declared.side.Side.{Side}
 use Rattle.ksi_split.specs.declared.side.Side.TheVariants.{Left, Right}
@@ -13,11 +12,11 @@ use Rattle.ksi_tlv.specs.Spelling.{Tlv, plain, canonical, FitsLong, Spells}
 use Rattle.ksi_tlv.specs.Walking.{PlacedTlv, placed_at, elements}
 use Rattle.ksi_tlv.specs.Numerals.{number_of, numeral}
 use Rattle.ksi_tlv.specs.Writing.{texts, placed}
-use Rattle.ksi_grammar.specs.Table.{Table, count, is_table}
+use Rattle.ksi_grammar.specs.Table.{Table, is_table}
 use Rattle.ksi_grammar.specs.Reading.{container_verdict, inner_verdict}
-use Rattle.ksi_grammar.specs.Valid.{MayStand, AreWithin, AreEnough, IsContainer}
+use Rattle.ksi_grammar.specs.Valid.{AreWithin, AreEnough, IsContainer}
 use Rattle.ksi_grammar.specs.Contents.{number_in, time_in, level_in, algorithm_in, imprint_in, raw_in}
-use Rattle.ksi_grammar.specs.Held.{whole, inner_elements, first_of}
+use Rattle.ksi_grammar.specs.Held.{whole, first_of}
 use Rattle.ksi_grammar.specs.Written.{MayStandAnywhere, MayBeWritten}
 use Rattle.ksi_grammar.specs.Published.{published_table, published_in, published_elements, record_elements, number_or_zero}
 use Rattle.ksi_signature.specs.Tables.{link_table}
@@ -25,7 +24,6 @@ use Rattle.ksi_signature.specs.Values.{HasSize}
 use Rattle.ksi_signature.specs.Kept.{HasImprint, IsLink}
 use Rattle.ksi_signature.specs.Contents.{side_in, sibling_among, link_in}
 use Rattle.ksi_signature.specs.Written.{side_kind, sibling_element, correction_elements, link_elements, link_element}
-use Rattle.ksi_signature.proofs.Sizes.{length-canonical}
 
 -- the laws of what is written
 pub record Written : Type 0 where

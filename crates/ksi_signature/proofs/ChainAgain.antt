@@ -1,5 +1,5 @@
 -- Aggregation chains as they are written.
-use Rattle.std.proofs.Common.{◌≡◌, ℕ, zero, suc, ◌^◌, ◌+◌, ◌<◌, ◌≤◌, Bool, true, false, cond, List, [], ◌∷◌, ◌++◌, length, map, Option, Some, None, Ok, refl, sym, ap, ◌∙◌, arith, zero-add}
+use Rattle.std.proofs.Common.{◌≡◌, ℕ, zero, suc, ◌^◌, ◌+◌, ◌<◌, ◌≤◌, Bool, true, false, cond, List, [], ◌∷◌, ◌++◌, length, map, Option, Some, None, Ok, refl, ap, ◌∙◌, arith}
 use Rattle.std.specs.Prelude.{option_map}
 use Rattle.std.specs.List.{AllByRecursion}
 use Rattle.ksi_split.specs.declared.side.Side.{Side}
@@ -13,15 +13,14 @@ use Rattle.ksi_tlv.specs.Numerals.{number_of, numeral}
 use Rattle.ksi_tlv.specs.Writing.{texts, placed}
 use Rattle.ksi_grammar.specs.Table.{is_among, count}
 use Rattle.ksi_grammar.specs.Reading.{inner_verdict}
-use Rattle.ksi_grammar.specs.Valid.{AreWithin, AreEnough}
-use Rattle.ksi_grammar.specs.Held.{inner_elements, first_of}
+use Rattle.ksi_grammar.specs.Held.{first_of}
 use Rattle.ksi_grammar.specs.Written.{MayStandAnywhere, MayBeWritten}
 use Rattle.ksi_grammar.specs.Published.{number_or_zero, imprint_or_zero}
 use Rattle.ksi_signature.specs.Tables.{chain_table}
 use Rattle.ksi_signature.specs.Values.{Aggregation, HasSize}
 use Rattle.ksi_signature.specs.Kept.{HasImprint, IsLink, IsAggregation}
 use Rattle.ksi_signature.specs.Contents.{bodies_of, link_in, links_among, chain_in}
-use Rattle.ksi_signature.specs.Written.{side_kind, sibling_element, correction_elements, link_elements, link_element, part_element, body_element, body_sizes, chain_elements, chain_element, chain_sizes}
+use Rattle.ksi_signature.specs.Written.{side_kind, sibling_element, correction_elements, link_elements, link_element, part_element, body_element, body_sizes, chain_elements, chain_element}
 use Rattle.std.proofs.lemmas.List.{length-append, append-nil}
 use Rattle.ksi_signature.proofs.Sizes.{length-canonical}
 use Rattle.ksi_signature.proofs.Skips.{all_both, all_map, each_map, pass, pass_all, NoneAmong, count_passes, first_passes, bodies_pass, links_pass, count_map, count_all, bodies_map}

@@ -1,11 +1,11 @@
 -- A signature as it is written is that signature.
-use Rattle.std.proofs.Common.{◌≡◌, ℕ, zero, suc, ◌^◌, ◌+◌, ◌-◌, ◌<◌, ◌≤◌, Bool, true, false, cond, ltb, List, [], ◌∷◌, ◌++◌, length, map, Option, Some, None, Ok, refl, sym, ap, ◌∙◌, arith, append_assoc}
+use Rattle.std.proofs.Common.{◌≡◌, ℕ, ◌+◌, ◌-◌, ◌≤◌, false, ltb, List, [], ◌∷◌, ◌++◌, length, map, Option, Some, None, refl, sym, ap, ◌∙◌, arith, append_assoc}
 use Rattle.std.specs.Prelude.{option_map, flat_map, IfSome}
 use Rattle.std.specs.List.{AllByRecursion}
 use Rattle.std.proofs.lemmas.Bool.{le-ltb}
 use Rattle.std.proofs.lemmas.List.{append-nil}
-use Rattle.ksi_tlv.specs.Spelling.{Tlv, plain, canonical, FitsLong}
-use Rattle.ksi_tlv.specs.Walking.{PlacedTlv, placed_at, elements}
+use Rattle.ksi_tlv.specs.Spelling.{Tlv, plain, canonical}
+use Rattle.ksi_tlv.specs.Walking.{elements}
 use Rattle.ksi_tlv.specs.Writing.{texts, placed}
 use Rattle.ksi_grammar.specs.Table.{is_among, count}
 use Rattle.ksi_grammar.specs.Held.{whole, first_of}
@@ -14,7 +14,7 @@ use Rattle.ksi_signature.specs.declared.signature.Signature.{Signature}
 use Rattle.ksi_signature.specs.Tables.{signature_table}
 use Rattle.ksi_signature.specs.Values.{Aggregation, Calendar, Publishing, FallFrom, Fall}
 use Rattle.ksi_signature.specs.Kept.{IsAggregation, IsCalendar, IsPublishing, IsKept}
-use Rattle.ksi_signature.specs.Contents.{chain_in, calendar_in, publishing_in, put_chain, chains_behind, signature_of}
+use Rattle.ksi_signature.specs.Contents.{calendar_in, publishing_in, put_chain, chains_behind, signature_of}
 use Rattle.ksi_signature.specs.File.{IsSignature}
 use Rattle.ksi_signature.specs.Written.{chain_elements, chain_element, calendar_element, publishing_elements, publishing_element, optional_element, signature_elements, signature_text, body_sizes, chain_sizes, publishing_sizes, optional_sizes, sizes_of, first_long}
 use Rattle.ksi_signature.proofs.Skips.{all_both, all_front, all_back, all_map, each_map, all_short, pass, pass_all, NoneAmong, count_passes, first_passes, chains_pass, count_map}

@@ -1,10 +1,9 @@
 -- Texts of elements one after the other, their lengths, and the first that is too long.
-use Rattle.std.proofs.Common.{◌≡◌, ℕ, ◌+◌, ◌*◌, ◌<◌, ◌≤◌, Bool, true, false, cond, ltb, List, [], ◌∷◌, ◌++◌, length, map, Option, Some, None, Result, Ok, Err, refl, sym, ap, ◌∙◌, arith, ◌⊎◌, inl, inr}
+use Rattle.std.proofs.Common.{◌≡◌, ℕ, ◌+◌, ◌<◌, ◌≤◌, Bool, true, false, cond, ltb, List, [], ◌∷◌, ◌++◌, length, Option, Some, None, Result, Ok, Err, refl, sym, ap, ◌∙◌, arith, ◌⊎◌, inl, inr}
 use Rattle.std.specs.Prelude.{◌&&◌, OnOk}
-use Rattle.std.specs.List.{AllByRecursion}
 use Rattle.std.proofs.lemmas.Bool.{lt-ltb, cond_both}
-use Rattle.std.proofs.lemmas.List.{length-append, append_assoc, append-nil}
-use Rattle.ksi_tlv.specs.Spelling.{Tlv, plain, canonical, short_form, long_form}
+use Rattle.std.proofs.lemmas.List.{length-append, append_assoc}
+use Rattle.ksi_tlv.specs.Spelling.{Tlv, canonical, short_form, long_form}
 use Rattle.ksi_tlv.specs.Writing.{texts}
 use Rattle.ksi_signature.specs.declared.refusal.WriteRefusal.{WriteRefusal}
 use Rattle.ksi_signature.specs.declared.refusal.WriteRefusal.TheVariants as refusals

@@ -1,8 +1,7 @@
-use Rattle.std.proofs.Common.{List, ℕ, ◌∷◌, ◌++◌, map, ap, sym, ◌∙◌, append_assoc}
+use Rattle.std.proofs.Common.{List, ℕ, ◌∷◌, ◌++◌, map, ap, ◌∙◌}
 use Rattle.std.specs.Prelude.{option_map}
 use Rattle.ksi_tlv.specs.Spelling.{plain, canonical}
 use Rattle.ksi_tlv.specs.Numerals.{numeral}
-use Rattle.ksi_tlv.specs.Writing.{texts}
 use Rattle.ksi_signature.specs.Written.{part_element, body_element, link_element}
 use Rattle.ksi_signature.proofs.Sizes.{text_behind, text_before_two, text_first}
 use Rattle.ksi_signature.proofs.bodies.chain_body.Goals as goal

@@ -1,4 +1,4 @@
-use Rattle.std.proofs.Common.{map, length, Err, ◌∙◌, ◌++◌, ap, List, ℕ, []}
+use Rattle.std.proofs.Common.{map, length, Err, ◌∙◌, ◌++◌, ap, List, ℕ}
 use Rattle.std.proofs.lemmas.Result.{err_from_is_err_and}
 use Rattle.ksi_tlv.specs.Spelling.{plain, canonical}
 use Rattle.ksi_tlv.specs.Writing.{texts}

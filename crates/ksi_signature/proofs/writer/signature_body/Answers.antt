@@ -1,4 +1,4 @@
-use Rattle.std.proofs.Common.{List, ℕ, [], map, length, Err, None, ◌≡◌, ◌∙◌, ◌++◌, ap, subst}
+use Rattle.std.proofs.Common.{List, map, Err, None, ◌≡◌, ◌∙◌, ◌++◌, ap, subst}
 use Rattle.std.specs.Prelude.{flat_map}
 use Rattle.std.proofs.lemmas.Result.{err_from_is_err_and}
 use Rattle.ksi_tlv.specs.Writing.{texts}
