@@ -1,5 +1,5 @@
 -- What it means that the checks of aggregation chains pass.
-use Rattle.std.proofs.Common.{◌≡◌, ◌≢◌, ◌↔◌, ℕ, ◌+◌, ◌<◌, Bool, true, false, List, [], ◌∷◌, length, Result, Ok, Err, Some, None, refl, sym, ap, ◌∙◌, subst, arith}
+use Rattle.std.proofs.Common.{◌≡◌, ◌↔◌, ℕ, ◌+◌, ◌<◌, Bool, true, false, List, [], ◌∷◌, length, Result, Ok, Err, Some, None, refl, sym, ap, ◌∙◌, subst, arith}
 use Rattle.std.specs.Prelude.{◌==◌, if◌then◌else◌}
 use Rattle.std.specs.List.{AllByRecursion}
 use Rattle.std.specs.Str.{bytes_eq}
@@ -15,7 +15,7 @@ use Rattle.ksi_verifier.specs.declared.aggregated.Aggregated.{Aggregated}
 use Rattle.ksi_verifier.specs.declared.refusal.Refusal.{Refusal}
 use Rattle.ksi_verifier.specs.declared.refusal.Refusal.TheVariants.{IndexOrder, ChainBreak}
 use Rattle.ksi_verifier.specs.Checks.{◌>>=◌, ◌>>◌, need}
-use Rattle.ksi_verifier.specs.Chains.{PlainChain, plain_chain, plain_chains, first_chain, higher_chains, at_level_zero, last_part, without_last, chain_shape}
+use Rattle.ksi_verifier.specs.Chains.{PlainChain, plain_chain, plain_chains, first_chain, at_level_zero, last_part, without_last, chain_shape}
 use Rattle.ksi_verifier.specs.ChainChecks.{same_parts, index_order, index_shape, index_shapes, or_level, top_of, tops, unbroken, last_item, joined_chains, same_time, same_times, chains_checked}
 use Rattle.ksi_verifier.specs.Accepted.{AreNested, ChainsLead, IsAggregated}
 use Rattle.ksi_verifier.proofs.Passing.{Passes, good, ok_is, bind_both, then_both, need_same, need_equal, each_both}

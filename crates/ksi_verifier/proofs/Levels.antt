@@ -1,6 +1,5 @@
 -- What it means that levels pass 255, and that they do not.
-use Rattle.std.proofs.Common.{◌≡◌, ◌≢◌, ◌↔◌, ◌⊎◌, inl, inr, ℕ, zero, suc, ◌+◌, ◌<◌, ◌≤◌, Bool, true, false, List, [], ◌∷◌, ◌++◌, length, take, Result, Ok, Err, Some, None, refl, sym, ap, ◌∙◌, subst, arith}
-use Rattle.std.specs.List.{slice_get, flat_map, sum_by}
+use Rattle.std.proofs.Common.{◌≡◌, ◌↔◌, ℕ, zero, suc, ◌+◌, ◌<◌, ◌≤◌, Bool, true, false, List, [], ◌∷◌, ◌++◌, take, Result, Ok, Err, refl, sym, ap, ◌∙◌, subst, arith}
 use Rattle.std.proofs.lemmas.List.Concat.{flat_map-cons}
 use Rattle.std.proofs.lemmas.List.Sums.{sum_by-append, sum_by-take-le}
 use Rattle.std.proofs.lemmas.Bool.{ltb-false}
@@ -12,7 +11,7 @@ use Rattle.ksi_aggchain.specs.declared.climbing.LevelFault.{LevelFault}
 use Rattle.ksi_aggchain.specs.declared.climbing.LevelFault.TheVariants.{Over}
 use Rattle.ksi_verifier.specs.declared.refusal.Refusal.{Refusal}
 use Rattle.ksi_verifier.specs.declared.refusal.Refusal.TheVariants.{Level}
-use Rattle.ksi_verifier.specs.Checks.{◌>>=◌, ◌>>◌}
+use Rattle.ksi_verifier.specs.Checks.{◌>>=◌}
 use Rattle.ksi_verifier.specs.Chains.{PlainChain}
 use Rattle.ksi_verifier.specs.ChainChecks.{or_level, top_of, tops}
 use Rattle.ksi_verifier.specs.Accepted.{ChainsLead}

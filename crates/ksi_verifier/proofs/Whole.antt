@@ -1,5 +1,5 @@
 -- What it means that all checks pass.
-use Rattle.std.proofs.Common.{◌≡◌, ◌≢◌, ◌↔◌, ℕ, ◌+◌, ◌<◌, not, List, [], ◌∷◌, length, Result, Ok, Err, Option, Some, None, refl, sym, ap, ◌∙◌, subst, arith}
+use Rattle.std.proofs.Common.{◌≡◌, ◌≢◌, ◌↔◌, ℕ, ◌<◌, not, List, [], ◌∷◌, length, Result, Ok, Err, Option, Some, None, refl, sym, ap, ◌∙◌, subst, arith}
 use Rattle.std.specs.Prelude.{◌==◌, IfSome}
 use Rattle.std.specs.Str.{bytes_eq}
 use Rattle.ksi_imprint.specs.Imprints.{zero_imprint}
@@ -21,8 +21,7 @@ use Rattle.ksi_verifier.specs.declared.aggregated.Aggregated.{Aggregated}
 use Rattle.ksi_verifier.specs.declared.refusal.Refusal.{Refusal}
 use Rattle.ksi_verifier.specs.declared.refusal.Refusal.TheVariants.{WrongHash, CalendarInput, MissedSecond, CalendarShape, TimeField, RecordDiffers, PublicationDiffers}
 use Rattle.ksi_verifier.specs.declared.difference.RecordDifference.TheVariants as differences
-use Rattle.ksi_verifier.specs.declared.verdict.Verdict.{Verdict}
-use Rattle.ksi_verifier.specs.declared.verdict.Verdict.TheVariants.{Accepted, Refused}
+use Rattle.ksi_verifier.specs.declared.verdict.Verdict.TheVariants.{Accepted}
 use Rattle.ksi_verifier.specs.Checks.{◌>>=◌, ◌>>◌, need}
 use Rattle.ksi_verifier.specs.Chains.{PlainChain, plain_chains, first_chain, at_level_zero}
 use Rattle.ksi_verifier.specs.ChainChecks.{chains_checked}

@@ -1,7 +1,6 @@
 -- Aggregation chains as the checks see them, whoever owns their parts.
 use Rattle.std.specs.Prelude.{ℕ, ◌-◌, List, [], ◌∷◌, length, map, take, slice_index}
 use Rattle.ksi_imprint.specs.Imprints.{zero_imprint}
-use Rattle.ksi_split.specs.declared.side.Side.{Side}
 use Rattle.ksi_aggchain.specs.Links.{PlainLink}
 use Rattle.ksi_aggchain.specs.Owned.{plain_links}
 use Rattle.ksi_aggchain.specs.Shapes.{shape_of}

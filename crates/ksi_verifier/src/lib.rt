@@ -1,16 +1,19 @@
 //! The checks of a signature of Keyless Signatures' Infrastructure (Buldas, Kroonmaa, Laanoja, "Keyless Signatures'
 //! Infrastructure", 2013) against a hash and the published roots of the calendar.
 //!
-//! Fourteen checks, V1 to V14, stand in an order; inside one of them the lowest chain, then the lowest link, counts. The
-//! second that a signature proves is the one that the sides of its calendar chain name: the stated times are only compared
-//! with it.
+//! Fourteen checks, V1 to V14, stand in an order: the hash, the indexes of the aggregation chains, their shapes, levels,
+//! joints and times; then the calendar chain, its input, its sides and the stated times; then what was published. Inside
+//! one check the lowest chain, then the lowest link, counts. The second that a signature proves is the one that the sides
+//! of its calendar chain name: the stated times are only compared with it.
 //!
 //! The layer above may rely on this: [`verify`] gives the verdict, which is the first check that fails, with its values, or
 //! the second; [`aggregate`] does V2 to V6 alone, and gives the chains' time and the item that they lead to. No call takes
-//! memory. What it is that a signature is accepted, whatever the order of the checks, is in `laws`.
+//! memory. In [`laws`] stands what the checks mean whatever their order: `accepted` turns an accepted signature into the
+//! facts that make it one, and back.
 //!
 //! ```text
 //! let signature = ksi_signature::read(alloc, bytes)?;
+//! let publications = ksi_publications::read(alloc, file)?;
 //! match verify::<Sha>(&signature, &hash, &publications) {
 //!     Verdict::Accepted(second) => ..,
 //!     Verdict::Refused(refusal) => ..,

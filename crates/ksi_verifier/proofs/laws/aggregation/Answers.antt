@@ -1,4 +1,3 @@
-use Rattle.std.proofs.Common.{ℕ}
 use Rattle.ksi_verifier.specs.Chains.{plain_chains}
 use Rattle.ksi_verifier.proofs.Chained.{chains_both, some_plain}
 use Rattle.ksi_verifier.proofs.laws.aggregation.Goals as goal

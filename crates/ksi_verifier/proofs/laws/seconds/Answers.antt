@@ -1,4 +1,3 @@
-use Rattle.std.proofs.Common.{Ok}
 use Rattle.ksi_split.specs.Parts.{second_at}
 use Rattle.ksi_split.specs.declared.fault.ShapeFault.TheVariants.{TooMany, TooFew}
 use Rattle.ksi_calchain.specs.Sides.{sides_from_top}
