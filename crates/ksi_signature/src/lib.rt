@@ -8,6 +8,10 @@
 //! stand by falling number of index parts; and the types keep what the format limits: 1 to 16 chains, an index of 1 part
 //! or more, at most 63 links, raw siblings of 1 to 4,096 bytes, and times below 2^63.
 //!
+//! [`with_calendar`] gives a signature another calendar chain and publication record, all else that is passed on byte for
+//! byte, and [`issue`] the bytes of the signature of an item, from the links of its round and an [`Above`]: exactly what
+//! `extended_text` and `issued` say, and each is read again as that signature.
+//!
 //! ```text
 //! let signature = read(alloc, bytes)?;
 //! if let [first, ..] = signature.chains.as_slice() {
@@ -53,7 +57,7 @@ pub use extension::{WithRefusal, with_calendar};
 pub use fault::SigFault;
 pub use issuing::issue;
 pub use ksi_imprint::NoMemory;
-pub use laws::{chains_in_order, signature_or_fault, written_is_signature};
+pub use laws::{chains_in_order, extended_is_signature, signature_or_fault, written_is_signature};
 pub use lists::{Bodies, CalLinks, Chains, Index, Links};
 pub use reader::read;
 pub use refusal::WriteRefusal;
