@@ -2,7 +2,7 @@
 use Rattle.std.proofs.Common.{◌≡◌, ℕ, ◌+◌, ◌<◌, ◌≤◌, Bool, true, false, cond, ltb, List, [], ◌∷◌, ◌++◌, length, Option, Some, None, Result, Ok, Err, refl, sym, ap, ◌∙◌, arith, ◌⊎◌, inl, inr}
 use Rattle.std.specs.Prelude.{◌&&◌, OnOk}
 use Rattle.std.proofs.lemmas.Bool.{lt-ltb, cond_both}
-use Rattle.std.proofs.lemmas.List.{length-append, append_assoc}
+use Rattle.std.proofs.lemmas.List.{append_assoc}
 use Rattle.ksi_tlv.specs.Spelling.{Tlv, canonical, short_form, long_form}
 use Rattle.ksi_tlv.specs.Writing.{texts}
 use Rattle.ksi_signature.specs.declared.refusal.WriteRefusal.{WriteRefusal}
@@ -22,10 +22,6 @@ length-canonical e = cond_both (ltb e.kind 32 && ltb (length e.body) 256) (short
 
 pub is_long : (size : ℕ) → 65535 < size → first_long (size ∷ []) ≡ Some size
 is_long size long = ap (λ (b : Bool). cond b (Some size) None) (lt-ltb 65535 size long)
-
-none_first : (b : Bool) (size : ℕ) (rest more : Option ℕ) → cond b (Some size) rest ≡ None → (rest ≡ None → more ≡ None) → cond b (Some size) more ≡ None
-none_first true size rest more e then = absurd cc
-none_first false size rest more e then = then e
 
 -- behind sizes of which none is too long
 behind_at : (b : Bool) (size : ℕ) (rest both more : Option ℕ) → cond b (Some size) rest ≡ None → (rest ≡ None → both ≡ more) → cond b (Some size) both ≡ more
@@ -78,11 +74,7 @@ pub none_of_ok : {A : Type 0} (sizes : List ℕ) (r : Result A WriteRefusal) →
 none_of_ok {A} sizes (Ok x) tells = tells
 none_of_ok {A} sizes (Err refusal) tells = tt
 
--- ---- lengths
-
--- one element more
-pub length-put : (old new : List ℕ) (e : Tlv) → new ≡ old ++ canonical e → length new ≤ length old + (4 + length e.body)
-length-put old new e is = rw (is, length-append old (canonical e)) (omega (arith, length-canonical e))
+-- ---- texts behind texts
 
 -- what stands behind these texts
 pub text_behind : (es fs : List Tlv) (old middle new : List ℕ) → middle ≡ old ++ texts es → new ≡ middle ++ texts fs → new ≡ old ++ texts (es ++ fs)

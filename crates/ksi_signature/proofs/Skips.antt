@@ -8,7 +8,7 @@ use Rattle.ksi_tlv.specs.Walking.{PlacedTlv, placed_at}
 use Rattle.ksi_tlv.specs.Writing.{placed}
 use Rattle.ksi_grammar.specs.Table.{is_among, count}
 use Rattle.ksi_grammar.specs.Held.{first_of}
-use Rattle.ksi_signature.specs.Contents.{bodies_of, link_in, links_among, side_in, cal_links_among, chain_in, put_chain, chains_behind}
+use Rattle.ksi_signature.specs.Contents.{bodies_of, link_in, links_among, chain_in, put_chain, chains_behind}
 use Rattle.ksi_signature.specs.Values.{Aggregation}
 use Rattle.ksi_signature.specs.Written.{first_long}
 
@@ -88,9 +88,6 @@ bodies_pass kind at es isnt = false_at (eqb at.element.kind kind) (at.element.bo
 
 pub links_pass : PassesOver (7 ∷ 8 ∷ []) links_among
 links_pass at es isnt = false_both (eqb at.element.kind 7) (eqb at.element.kind 8) (link_in at ∷ links_among es) (links_among es) isnt
-
-pub cal_links_pass : PassesOver (7 ∷ 8 ∷ []) cal_links_among
-cal_links_pass at es isnt = false_both (eqb at.element.kind 7) (eqb at.element.kind 8) (record { side = side_in at; sibling = at.element.body } ∷ cal_links_among es) (cal_links_among es) isnt
 
 pub chains_pass : (chains : List Aggregation) → PassesOver (2049 ∷ []) (chains_behind chains)
 chains_pass chains at es isnt = false_at (eqb at.element.kind 2049) (chains_behind (put_chain (chain_in at) chains) es) (chains_behind chains es) isnt

@@ -6,7 +6,9 @@
 //! The layer above may rely on this: [`read`] gives exactly the signature that the bytes are, or the first fault in
 //! reading order, which it and [`check`] find without taking memory; for all bytes exactly one of both stands; chains
 //! stand by falling number of index parts; and the types keep what the format limits: 1 to 16 chains, an index of 1 part
-//! or more, at most 63 links, raw siblings of 1 to 4,096 bytes, and times below 2^63.
+//! or more, at most 63 links, raw siblings of 1 to 4,096 bytes, and times below 2^63. What [`write`] gives is the text of
+//! the signature, and is that signature again ([`written_is_signature`]); it refuses the first body, in the order of
+//! writing and an inner one before an outer, that has more than 65,535 bytes.
 //!
 //! [`with_calendar`] gives a signature another calendar chain and publication record, all else that is passed on byte for
 //! byte, and [`issue`] the bytes of the signature of an item, from the links of its round and an [`Above`]: exactly what
@@ -19,6 +21,7 @@
 //!     let top = climb::<Sha>(first.input, 0, first.links.as_slice())?;
 //! }
 //! let proved = signature.calendar.as_ref().map(|chain| climb_cal::<Sha>(chain.input, chain.links.as_slice()));
+//! let text = write(alloc, &signature)?; // the same signature, in the order of the format
 //! ```
 #![tactic(auto)]
 

@@ -93,6 +93,9 @@ returns-clause-again c =
     let same = content_same c.args.bytes.now (view c.in_ok-element.element) c.in_ok-element.size c.args.calendar.now c.args.publication.now c.in_ok-element.ensures.front in
     let content = extended_content c.args.bytes.now c.args.calendar.now c.args.publication.now in
     let short : length content ≤ 65535 = within (length content) c.content_size-total.result (c.content_size-total.ensures ∙ sym (ap (λ (content : List ℕ). capped (length content)) same)) (omega arith) in
-    let text = c.in_ok-text.ensures ∙ sym (ap (λ (content : List ℕ). canonical (plain 2048 content)) same) in
-    (s.0, s.1, subst (λ (text : List ℕ). IsSignature text (renewed s.0 c.args.calendar.now c.args.publication.now)) (sym text)
-      (c.extended_is_signature.ensures c.args.bytes.now s.0 c.args.calendar.now c.args.publication.now fits s.1 c.calendar_is_kept.ensures c.record_is_kept.ensures short))
+    let text = c.in_ok-text.ensures ∙ sym (ap (λ (content : List ℕ). canonical (plain 2048 content)) same) in (
+      s.0,
+      s.1,
+      subst (λ (text : List ℕ). IsSignature text (renewed s.0 c.args.calendar.now c.args.publication.now)) (sym text)
+          (c.extended_is_signature.ensures c.args.bytes.now s.0 c.args.calendar.now c.args.publication.now fits s.1 c.calendar_is_kept.ensures c.record_is_kept.ensures short),
+    )
