@@ -15,3 +15,5 @@ pub mod CalendarAgain
 pub mod RecordAgain
 pub mod SignatureAgain
 pub mod IssuedAgain
+pub mod Moved
+pub mod ExtendedAgain

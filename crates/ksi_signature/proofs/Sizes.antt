@@ -2,7 +2,7 @@
 use Rattle.std.proofs.Common.{◌≡◌, ℕ, ◌+◌, ◌<◌, ◌≤◌, Bool, true, false, cond, ltb, List, [], ◌∷◌, ◌++◌, length, Option, Some, None, Result, Ok, Err, refl, sym, ap, ◌∙◌, arith, ◌⊎◌, inl, inr}
 use Rattle.std.specs.Prelude.{◌&&◌, OnOk}
 use Rattle.std.proofs.lemmas.Bool.{lt-ltb, cond_both}
-use Rattle.std.proofs.lemmas.List.{length-append, append_assoc}
+use Rattle.std.proofs.lemmas.List.{append_assoc}
 use Rattle.ksi_tlv.specs.Spelling.{Tlv, canonical, short_form, long_form}
 use Rattle.ksi_tlv.specs.Writing.{texts}
 use Rattle.ksi_signature.specs.declared.refusal.WriteRefusal.{WriteRefusal}

@@ -15,7 +15,7 @@ use Rattle.ksi_signature.proofs.Whole.{Laws, front_of, found_in}
 abbrev pub Reading : Type 0
 Reading = (place : ℕ) (bytes : List ℕ) (items : Items) → AreBytes bytes → (items ≡ elements place bytes) ↔ IsReading place bytes items
 
-abbrev AreSpelled : List (Tlv × List ℕ) → Type 0
+abbrev pub AreSpelled : List (Tlv × List ℕ) → Type 0
 AreSpelled parts = AllByRecursion (λ part. Spells part.0 part.1) parts
 
 -- ---- a header and a body
@@ -37,11 +37,11 @@ body_within e text (inr long) = rw long.1 (omega arith)
 
 -- ---- texts one after the other in a file
 
-text_at : (bytes : List ℕ) (place n : ℕ) (e : Tlv) → length e.body ≤ n → text_in bytes (placed_at place e n) ≡ take n (drop place bytes)
+pub text_at : (bytes : List ℕ) (place n : ℕ) (e : Tlv) → length e.body ≤ n → text_in bytes (placed_at place e n) ≡ take n (drop place bytes)
 text_at bytes place n e le =
     let size : place + (n - length e.body) + length e.body - place ≡ n = omega arith in ap (λ (n : ℕ). take n (drop place bytes)) size
 
-behind : (bytes text rest : List ℕ) (place : ℕ) → drop place bytes ≡ text ++ rest → drop (place + length text) bytes ≡ rest
+pub behind : (bytes text rest : List ℕ) (place : ℕ) → drop place bytes ≡ text ++ rest → drop (place + length text) bytes ≡ rest
 behind bytes text rest place is = sym (drop-drop (length text) place bytes) ∙ ap (drop (length text)) is ∙ drop_at text rest (length text) refl
 
 pub all_stand : (bytes : List ℕ) (place : ℕ) (parts : List (Tlv × List ℕ)) → AreSpelled parts → drop place bytes ≡ joined parts → AllByRecursion (StandsIn bytes) (laid place parts)
@@ -69,7 +69,7 @@ items_head at es = Ok at ∷ es
 same_head : (at bt : PlacedTlv) (es fs : Items) → items_head at es ≡ items_head bt fs → (at ≡ bt) × (es ≡ fs)
 same_head at bt es fs is = (cc, cc)
 
-all_read : (es fs : List PlacedTlv) (place : ℕ) (left : List ℕ) → items_of es ≡ items_of fs ++ end_at place left → (left ≡ []) × (es ≡ fs)
+pub all_read : (es fs : List PlacedTlv) (place : ℕ) (left : List ℕ) → items_of es ≡ items_of fs ++ end_at place left → (left ≡ []) × (es ≡ fs)
 all_read [] [] place left is = (nothing_left place left (sym is), refl)
 all_read [] (bt ∷ fs) place left is = absurd cc
 all_read (at ∷ es) [] place left is = absurd (no_item at es place left is)

@@ -1,5 +1,5 @@
 -- The bytes of a signature with another calendar chain and publication record.
-use Rattle.std.specs.Prelude.{◌≡◌, ℕ, ◌^◌, ◌<◌, min, ◌+◌, ◌-◌, ◌≤◌, ◌==◌, ◌||◌, ◌&&◌, not, Bool, List, [], ◌∷◌, ◌++◌, length, take, drop, Result, Ok, Err, if◌then◌else◌}
+use Rattle.std.specs.Prelude.{◌≡◌, ℕ, ◌^◌, ◌<◌, min, ◌+◌, ◌-◌, ◌≤◌, ◌==◌, ◌||◌, ◌&&◌, not, Bool, List, [], ◌∷◌, ◌++◌, length, take, drop, Some, Result, Ok, Err, if◌then◌else◌}
 use Rattle.ksi_tlv.specs.Spelling.{Tlv, plain, canonical}
 use Rattle.ksi_tlv.specs.Front.{element_at}
 use Rattle.ksi_tlv.specs.Walking.{PlacedTlv, elements}
@@ -7,6 +7,7 @@ use Rattle.ksi_tlv.specs.Writing.{texts}
 use Rattle.ksi_grammar.specs.Table.{is_known}
 use Rattle.ksi_grammar.specs.Held.{whole}
 use Rattle.ksi_signature.specs.Values.{Calendar, Publishing}
+use Rattle.ksi_signature.specs.declared.signature.Signature.{Signature}
 use Rattle.ksi_signature.specs.Tables.{signature_table}
 use Rattle.ksi_signature.specs.Written.{calendar_element, publishing_element}
 
@@ -41,6 +42,10 @@ extended_content bytes chain published = content_with bytes (elements_in bytes) 
 
 unfoldable pub extended_text : List ℕ → Calendar → Publishing → List ℕ
 extended_text bytes chain published = canonical (plain 2048 (extended_content bytes chain published))
+
+-- the signature with these in place of what it had of both
+abbrev pub renewed : Signature → Calendar → Publishing → Signature
+renewed signature chain published = record { chains = signature.chains; calendar = Some chain; publication = Some published }
 
 -- A content of so many bytes is too long for an element, and this says so: their number, 2^64 - 1 where they are more.
 pub record IsTooLong (size n : ℕ) : Type 0 where

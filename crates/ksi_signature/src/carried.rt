@@ -1,15 +1,29 @@
-//! What the types of a response's parts keep, told to the proofs of what is issued. These functions only read.
+//! What the types keep of parts that are written, told to the proofs. These functions only read.
 
 ghost use Rattle.std.specs.Prelude.{◌<◌, ◌^◌};
 ghost use Rattle.std.specs.List.{AllByRecursion};
 ghost use Rattle.ksi_imprint.specs.Imprints.{IsImprint};
-ghost use Rattle.ksi_signature.specs.Kept.{HasImprint, IsLink};
+ghost use Rattle.ksi_signature.specs.Kept.{HasImprint, IsLink, IsCalendar, IsPublishing};
 ghost use Rattle.ksi_signature.specs.Carried.{IsAboveChain, IsAbove};
 
 use crate::above::{Above, AboveChain};
+use crate::signature::{CalChain, PubRecord};
 use ksi_aggchain::{Link, Sibling};
 use ksi_calchain::CalLink;
 use ksi_imprint::Imprint;
+
+pub(crate) fn calendar_is_kept(chain: &CalChain)
+    ensures { IsCalendar chain.now }
+{
+    imprint_is_kept(&chain.input);
+    cal_links_are_kept(chain.links.as_slice());
+}
+
+pub(crate) fn record_is_kept(published: &PubRecord)
+    ensures { IsPublishing published.now }
+{
+    imprint_is_kept(&published.hash);
+}
 
 pub(crate) fn above_is_kept(above: &Above)
     ensures { IsAbove above.now }

@@ -11,14 +11,15 @@ ghost use Rattle.ksi_signature.specs.declared.signature.Signature.{Signature};
 ghost use Rattle.ksi_signature.specs.File.{IsSignature, IsSignatureFault};
 ghost use Rattle.ksi_signature.specs.Lengths.{capped};
 ghost use Rattle.ksi_signature.specs.Written.{calendar_element, publishing_element, publishing_elements};
-ghost use Rattle.ksi_signature.specs.Extended.{is_retained, text_in, retained_texts, content_with, extended_content, extended_text, IsTooLong, StandsIn};
+ghost use Rattle.ksi_signature.specs.Extended.{is_retained, text_in, retained_texts, content_with, extended_content, extended_text, renewed, IsTooLong, StandsIn};
 
 use crate::NoMemory;
 use crate::bodies::{calendar_body, publishing_body};
+use crate::carried::{calendar_is_kept, record_is_kept};
 use crate::checker::accepted;
 use crate::fault::SigFault;
 use crate::kinds::{CALENDAR, CHAIN, PUBLICATION, SIGNATURE};
-use crate::laws::signature_or_fault;
+use crate::laws::{extended_is_signature, signature_or_fault};
 use crate::lengths::{calendar_size, publishing_size, size_of};
 use crate::refusal::WriteRefusal;
 use crate::signature::{CalChain, PubRecord};
@@ -77,12 +78,17 @@ pub fn with_calendar(
     ensures too_long { (n : ℕ) → (result ≡ Err (refusals.TooLong n)) ↔
         (((signature : Signature) × IsSignature bytes.now signature)
         × IsTooLong (length (extended_content bytes.now calendar.now publication.now)) n) }
+    ensures again { IfOk result (λ text. (signature : Signature) × IsSignature bytes.now signature
+        × IsSignature text (renewed signature calendar.now publication.now)) }
     ensures memory { result ≢ Err (refusals.Malformed answers.NoMemory) }
 {
     signature_or_fault();
     whole_or_fault();
     front_by_spelling();
     reading_is_elements();
+    extended_is_signature();
+    calendar_is_kept(calendar);
+    record_is_kept(publication);
     let (element, size) = accepted(bytes)?;
     let at = Placed {
         place: 0,

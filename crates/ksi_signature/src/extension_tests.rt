@@ -63,40 +63,43 @@ fn puts_the_record_behind(rt: HostRuntime) -> Result<(), Fail> {
     Ok(())
 }
 
-/// S0's chain with flags, its first element in a long form; it takes 49 bytes.
-fn flagged_chain(alloc: Global) -> Result<Bytes, NoMemory> {
-    let header = [0xe8, 0x01, 0x00, 0x2d, 0xc0, 0x02, 0x00, 0x00];
-    joined(alloc, &[&header, &S0[10..51]])
+/// What stands before the rest of `S0`'s chain where the chain has flags and its first element a long form.
+const FLAGGED: [u8; 8] = [0xe8, 0x01, 0x00, 0x2d, 0xc0, 0x02, 0x00, 0x00];
+
+/// An unknown element to be passed on, in a long form.
+const LONG: [u8; 5] = [0xe0, 0x1e, 0x00, 0x01, 0xff];
+
+/// Whether a signature of these parts is extended to one of those, the calendar chain and the record.
+fn extends_to(alloc: Global, inside: &[&[u8]], wanted: &[&[u8]]) -> Result<bool, WithRefusal> {
+    let bytes = signature(alloc, inside)?;
+    let retained = joined(alloc, wanted)?;
+    let other = [retained.as_slice(), &S0[51..], &RECORD, &S0[15..48]];
+    let wanted = signature(alloc, &other)?;
+    let text = extended(alloc, bytes.as_slice(), 0)?;
+    Ok(text.as_slice() == wanted.as_slice())
 }
 
 #[test]
 fn retains_what_is_to_be_passed_on(rt: HostRuntime) -> Result<(), Fail> {
     let chain = &S0[4..51];
     let calendar = &S0[51..];
-    let flagged = flagged_chain(rt.alloc())?;
-    let flagged = flagged.as_slice();
-    let long = [0xe0, 0x1e, 0x00, 0x01, 0xff].as_slice();
+    let rest = &S0[10..51];
     let rows: [([&[u8]; 4], [&[u8]; 3]); 6] = [
         ([calendar, chain, &[], &[]], [chain, &[], &[]]),
         ([chain, calendar, &[0x5e, 0x00], &[]], [chain, &[], &[]]),
         (
-            [&[0x7e, 0x00], chain, calendar, &[0x5e, 0x00]],
+            [&[0x7e, 0x00], chain, &[0x5e, 0x00], calendar],
             [&[0x7e, 0x00], chain, &[]],
         ),
-        ([long, calendar, flagged, &[]], [long, flagged, &[]]),
-        ([flagged, long, chain, calendar], [flagged, long, chain]),
+        ([&LONG, calendar, &FLAGGED, rest], [&LONG, &FLAGGED, rest]),
+        (
+            [&FLAGGED, rest, calendar, &[0x7e, 0x00]],
+            [&FLAGGED, rest, &[0x7e, 0x00]],
+        ),
         ([chain, &RECORD, &S0[15..48], &[]], [chain, &[], &[]]),
     ];
     for (inside, wanted) in rows {
-        let bytes = signature(rt.alloc(), &inside)?;
-        let [one, two, three] = wanted;
-        let other = [one, two, three, calendar, &RECORD, &S0[15..48]];
-        let wanted = signature(rt.alloc(), &other)?;
-        let answer = extended(rt.alloc(), bytes.as_slice(), 0);
-        assert!(rt; answer.is_ok());
-        if let Ok(text) = answer {
-            assert_eq!(rt; text.as_slice(), wanted.as_slice());
-        }
+        assert_eq!(rt; extends_to(rt.alloc(), &inside, &wanted), Ok(true));
     }
     Ok(())
 }

@@ -1,22 +1,25 @@
 //! Laws of signatures, for the proofs of the layers above. No code calls them.
 
-ghost use Rattle.std.specs.Prelude.{◌≡◌, ◌↔◌, ◌⊎◌, ℕ, List, None, Ok, Err};
+ghost use Rattle.std.specs.Prelude.{◌≡◌, ◌↔◌, ◌⊎◌, ◌≤◌, ℕ, List, length, None, Ok, Err};
 ghost use Rattle.ksi_tlv.specs.Spelling.{AreBytes};
 ghost use Rattle.ksi_tlv.specs.Walking.{PlacedTlv};
-ghost use Rattle.ksi_signature.specs.Values.{Fall};
+ghost use Rattle.ksi_signature.specs.Values.{Calendar, Publishing, Fall};
 ghost use Rattle.ksi_signature.specs.Contents.{signature_of};
 ghost use Rattle.ksi_signature.specs.Order.{chains_among, with_parts};
 ghost use Rattle.ksi_signature.specs.declared.fault.SigFault.{SigFault};
 ghost use Rattle.ksi_signature.specs.declared.signature.Signature.{Signature};
 ghost use Rattle.ksi_signature.specs.File.{IsSignature, IsSignatureFault, answer_of};
 ghost use Rattle.ksi_signature.specs.Reading.{signature_at};
-ghost use Rattle.ksi_signature.specs.Kept.{IsKept};
+ghost use Rattle.ksi_signature.specs.Kept.{IsCalendar, IsPublishing, IsKept};
+ghost use Rattle.ksi_signature.specs.Extended.{extended_content, extended_text, renewed};
 ghost use Rattle.ksi_signature.specs.Written.{signature_text, sizes_of, first_long};
 
 use ksi_grammar::{
     held_is_whole, published_is_read, record_is_read, whole_or_fault, written_is_whole,
 };
-use ksi_tlv::{canonical_is_shortest, front_by_spelling, numeral_is_read};
+use ksi_tlv::{
+    canonical_is_shortest, front_by_spelling, numeral_is_read, reading_is_elements, written_is_read,
+};
 
 /// Bytes are a signature or have a first fault, and not both; and they are one signature and have one first fault.
 /// Reading from left to right comes to no fault exactly where they are a signature, and to a fault exactly where it is
@@ -63,6 +66,26 @@ pub fn written_is_signature()
     ensures { (signature : Signature) → IsKept signature → first_long (sizes_of signature) ≡ None →
         IsSignature (signature_text signature) signature }
 {
+    written_is_whole();
+    held_is_whole();
+    published_is_read();
+    record_is_read();
+    canonical_is_shortest();
+    numeral_is_read();
+}
+
+/// A signature with another calendar chain and publication record is the signature with these, where their parts are
+/// what their types keep and the content is not too long.
+pub fn extended_is_signature()
+    ensures { (bytes : List ℕ) (signature : Signature) (chain : Calendar) (published : Publishing) → AreBytes bytes →
+        IsSignature bytes signature → IsCalendar chain → IsPublishing published →
+        length (extended_content bytes chain published) ≤ 65535 →
+        IsSignature (extended_text bytes chain published) (renewed signature chain published) }
+{
+    whole_or_fault();
+    front_by_spelling();
+    reading_is_elements();
+    written_is_read();
     written_is_whole();
     held_is_whole();
     published_is_read();

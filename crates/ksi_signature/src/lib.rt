@@ -10,6 +10,10 @@
 //! the signature, and is that signature again ([`written_is_signature`]); it refuses the first body, in the order of
 //! writing and an inner one before an outer, that has more than 65,535 bytes.
 //!
+//! [`with_calendar`] gives a signature another calendar chain and publication record, all else that is passed on byte for
+//! byte, and [`issue`] the bytes of the signature of an item, from the links of its round and an [`Above`]: exactly what
+//! `extended_text` and `issued` say, and each is read again as that signature.
+//!
 //! ```text
 //! let signature = read(alloc, bytes)?;
 //! if let [first, ..] = signature.chains.as_slice() {
@@ -57,7 +61,8 @@ pub use fault::SigFault;
 pub use issuing::issue;
 pub use ksi_imprint::NoMemory;
 pub use laws::{
-    chains_in_order, signature_is_read, signature_or_fault, written_is_signature,
+    chains_in_order, extended_is_signature, signature_is_read, signature_or_fault,
+    written_is_signature,
 };
 pub use lists::{Bodies, CalLinks, Chains, Index, Links};
 pub use reader::read;

@@ -1,4 +1,4 @@
-use Rattle.std.proofs.Common.{◌<◌, ℕ, List, length, Err, refl, sym, ap, subst, ◌∙◌, arith}
+use Rattle.std.proofs.Common.{◌≤◌, ◌<◌, ℕ, List, length, Err, refl, sym, ap, subst, ◌∙◌, arith}
 use Rattle.std.specs.List.{AllByRecursion}
 use Rattle.std.proofs.lemmas.List.Elements.{All-from_get_or}
 use Rattle.std.proofs.lemmas.Result.{err_from_is_err_and}
@@ -6,7 +6,8 @@ use Rattle.ksi_tlv.specs.Seen.{view}
 use Rattle.ksi_tlv.specs.Spelling.{plain, canonical}
 use Rattle.ksi_signature.specs.declared.extension.WithRefusal.{WithRefusal}
 use Rattle.ksi_signature.specs.Lengths.{capped}
-use Rattle.ksi_signature.specs.Extended.{held_by, extended_text, StandsIn}
+use Rattle.ksi_signature.specs.File.{IsSignature}
+use Rattle.ksi_signature.specs.Extended.{held_by, extended_content, extended_text, renewed, StandsIn}
 use Rattle.ksi_signature.proofs.Standing.{elements_stand}
 use Rattle.ksi_signature.proofs.Refusing.{malformed_is, malformed_not, never_memory, long_no_signature, long_is, long_not, within, content_same}
 use Rattle.ksi_signature.proofs.extension.with_calendar.Goals as goal
@@ -83,3 +84,18 @@ pub returns-clause-too_long : goal.returns-clause-too_long
 returns-clause-too_long c =
     let same = content_same c.args.bytes.now (view c.in_ok-element.element) c.in_ok-element.size c.args.calendar.now c.args.publication.now c.in_ok-element.ensures.front in
     λ n. long_not _ _ c.content_size-total.result n _ (c.content_size-total.ensures ∙ sym (ap (λ (content : List ℕ). capped (length content)) same)) (omega arith) (λ is. absurd cc)
+
+pub returns-clause-again : goal.returns-clause-again
+unfolding extended_text
+returns-clause-again c =
+    let fits = All-from_get_or (λ b. b < 256) c.args.bytes.now 0 (λ i lt. omega (arith, c.type_inv.bytes i)) in
+    let s = (c.signature_or_fault.ensures.whole c.args.bytes.now fits).0 c.in_ok-element.ensures.ok in
+    let same = content_same c.args.bytes.now (view c.in_ok-element.element) c.in_ok-element.size c.args.calendar.now c.args.publication.now c.in_ok-element.ensures.front in
+    let content = extended_content c.args.bytes.now c.args.calendar.now c.args.publication.now in
+    let short : length content ≤ 65535 = within (length content) c.content_size-total.result (c.content_size-total.ensures ∙ sym (ap (λ (content : List ℕ). capped (length content)) same)) (omega arith) in
+    let text = c.in_ok-text.ensures ∙ sym (ap (λ (content : List ℕ). canonical (plain 2048 content)) same) in (
+      s.0,
+      s.1,
+      subst (λ (text : List ℕ). IsSignature text (renewed s.0 c.args.calendar.now c.args.publication.now)) (sym text)
+          (c.extended_is_signature.ensures c.args.bytes.now s.0 c.args.calendar.now c.args.publication.now fits s.1 c.calendar_is_kept.ensures c.record_is_kept.ensures short),
+    )
