@@ -1,4 +1,4 @@
--- Where aggregation chains lead, each by itself, and at which link a level passes 255.
+-- Where aggregation chains lead, each by itself; at which link a level passes 255, which chain breaks and which is out of order.
 use Rattle.std.specs.Prelude.{◌≡◌, ◌≢◌, ℕ, ◌+◌, ◌<◌, ◌≤◌, List, [], ◌∷◌, take, slice_get, Option, Some}
 use Rattle.std.specs.List.{flat_map}
 use Rattle.ksi_aggchain.specs.Links.{PlainLink}
