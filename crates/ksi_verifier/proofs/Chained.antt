@@ -15,7 +15,7 @@ use Rattle.ksi_verifier.specs.declared.aggregated.Aggregated.{Aggregated}
 use Rattle.ksi_verifier.specs.declared.refusal.Refusal.{Refusal}
 use Rattle.ksi_verifier.specs.declared.refusal.Refusal.TheVariants.{IndexOrder, ChainBreak}
 use Rattle.ksi_verifier.specs.Checks.{◌>>=◌, ◌>>◌, need}
-use Rattle.ksi_verifier.specs.Chains.{PlainChain, plain_chain, plain_chains, first_chain, at_level_zero, last_part, without_last, chain_shape}
+use Rattle.ksi_verifier.specs.Chains.{PlainChain, plain_chain, plain_chains, first_chain, higher_chains, at_level_zero, last_part, without_last, chain_shape}
 use Rattle.ksi_verifier.specs.ChainChecks.{same_parts, index_order, index_shape, index_shapes, or_level, top_of, tops, unbroken, last_item, joined_chains, same_time, same_times, chains_checked}
 use Rattle.ksi_verifier.specs.Accepted.{AreNested, ChainsLead, IsAggregated}
 use Rattle.ksi_verifier.proofs.Passing.{Passes, good, ok_is, bind_both, then_both, need_same, need_equal, each_both}
@@ -43,6 +43,10 @@ order_both k below (chain ∷ chains) =
     let parts = parts_both k 0 (without_last below.index) chain.index in
     let rest = order_both (k + 1) chain chains in
     (λ e. (sym (parts.0 (here.0 e).0), rest.0 (here.0 e).1), λ h. here.1 (parts.1 (sym h.0), rest.1 h.1))
+
+pub all_order : (chains : List PlainChain) → Passes (index_order 0 (first_chain chains) (higher_chains chains)) ↔ AreNested chains
+all_order [] = (λ e. tt, λ h. refl)
+all_order (chain ∷ chains) = order_both 0 chain chains
 
 pub shapes_both : (chains : List PlainChain) → Passes (index_shapes 0 chains) ↔ AllByRecursion (λ chain. last_part chain.index ≡ chain_shape chain) chains
 shapes_both chains = each_both index_shape (λ chain. last_part chain.index ≡ chain_shape chain) (λ k chain. need_equal (last_part chain.index) (chain_shape chain) _) 0 chains

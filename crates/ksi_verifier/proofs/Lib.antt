@@ -3,3 +3,5 @@ pub mod Passing
 pub mod Chained
 pub mod Whole
 pub mod Levels
+pub mod Breaks
+pub mod Orders

@@ -1,10 +1,10 @@
--- Where aggregation chains lead, each by itself, and at which link a level passes 255.
-use Rattle.std.specs.Prelude.{◌≡◌, ℕ, ◌≤◌, List, [], ◌∷◌, take, slice_get, Some}
+-- Where aggregation chains lead, each by itself; at which link a level passes 255, which chain breaks and which is out of order.
+use Rattle.std.specs.Prelude.{◌≡◌, ◌≢◌, ℕ, ◌+◌, ◌<◌, ◌≤◌, List, [], ◌∷◌, take, slice_get, Option, Some}
 use Rattle.std.specs.List.{flat_map}
 use Rattle.ksi_aggchain.specs.Links.{PlainLink}
 use Rattle.ksi_aggchain.specs.Climbing.{Climbs, PassesLevels, level_after}
 use Rattle.ksi_aggchain.specs.declared.item.Item.{Item}
-use Rattle.ksi_verifier.specs.Chains.{PlainChain}
+use Rattle.ksi_verifier.specs.Chains.{PlainChain, without_last}
 
 -- the links of chains, one chain after the other
 abbrev pub chain_links : PlainChain → List PlainLink
@@ -30,3 +30,32 @@ pub record PassesIn (start : ℕ) (chains : List PlainChain) (k place high : ℕ
   pub there : slice_get chains k ≡ Some chain
   pub low : level_before start chains k ≤ 255
   pub passes : PassesLevels (level_before start chains k) chain.links place high
+
+-- the input hash of chain k is the first that is not the imprint which the chain below it leads to, where no level passes
+-- 255
+pub record BreaksAt (image : List ℕ → List ℕ) (chains : List PlainChain) (k : ℕ) (computed stated : List ℕ) : Type 0 where
+  pub items : List Item
+  pub tops : HaveTops image 0 chains items
+  pub below : ℕ
+  pub above : k ≡ below + 1
+  pub item : Item
+  pub has_item : slice_get items below ≡ Some item
+  pub chain : PlainChain
+  pub has_chain : slice_get chains k ≡ Some chain
+  pub is_computed : computed ≡ item.imprint
+  pub is_stated : stated ≡ chain.input
+  pub differ : stated ≢ computed
+  pub first : (j : ℕ) (other : Item) (next : PlainChain) → j < below → slice_get items j ≡ Some other → slice_get chains (j + 1) ≡ Some next → next.input ≡ other.imprint
+
+-- the index of the chain above chain k is the first that is not that of the chain below it without its last part; at this
+-- place they first differ, and there they have these parts: an index that has ended has none
+pub record OutOfOrder (chains : List PlainChain) (k place : ℕ) (lower higher : Option ℕ) : Type 0 where
+  pub below : PlainChain
+  pub has_below : slice_get chains k ≡ Some below
+  pub above : PlainChain
+  pub has_above : slice_get chains (k + 1) ≡ Some above
+  pub same : take place (without_last below.index) ≡ take place above.index
+  pub is_lower : slice_get (without_last below.index) place ≡ lower
+  pub is_higher : slice_get above.index place ≡ higher
+  pub differ : lower ≢ higher
+  pub first : (j : ℕ) (other next : PlainChain) → j < k → slice_get chains j ≡ Some other → slice_get chains (j + 1) ≡ Some next → next.index ≡ without_last other.index

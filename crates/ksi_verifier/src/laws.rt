@@ -1,5 +1,5 @@
 //! What holds of the checks, for the layers above to cite. None of these functions does anything.
-ghost use Rattle.std.specs.Prelude.{◌≡◌, ◌↔◌, ◌<◌, ℕ, List, length, Ok, Err};
+ghost use Rattle.std.specs.Prelude.{◌≡◌, ◌↔◌, ◌<◌, ℕ, List, length, Ok, Err, Option};
 ghost use Rattle.ksi_split.specs.Ways.{IsSecond, PassesLeaf, EndsAbove};
 ghost use Rattle.ksi_split.specs.declared.fault.ShapeFault.TheVariants.{TooMany, TooFew};
 ghost use Rattle.ksi_aggchain.specs.Climbing.{Climbs};
@@ -8,13 +8,13 @@ ghost use Rattle.ksi_calchain.specs.Sides.{sides_from_top};
 ghost use Rattle.ksi_signature.specs.Values.{Calendar};
 ghost use Rattle.ksi_signature.specs.declared.signature.Signature.{Signature};
 ghost use Rattle.ksi_verifier.specs.declared.aggregated.Aggregated.{Aggregated};
-ghost use Rattle.ksi_verifier.specs.declared.refusal.Refusal.TheVariants.{Level, CalendarShape};
+ghost use Rattle.ksi_verifier.specs.declared.refusal.Refusal.TheVariants.{IndexOrder, Level, ChainBreak, CalendarShape};
 ghost use Rattle.ksi_verifier.specs.declared.verdict.Verdict.TheVariants as verdicts;
-ghost use Rattle.ksi_verifier.specs.Chains.{PlainChain, at_level_zero, first_chain, plain_chains};
-ghost use Rattle.ksi_verifier.specs.ChainChecks.{aggregated, joined_chains, tops};
+ghost use Rattle.ksi_verifier.specs.Chains.{PlainChain, at_level_zero, first_chain, higher_chains, plain_chains};
+ghost use Rattle.ksi_verifier.specs.ChainChecks.{aggregated, index_order, joined_chains, tops};
 ghost use Rattle.ksi_verifier.specs.Verdict.{second_named, verdict};
-ghost use Rattle.ksi_verifier.specs.Accepted.{ChainsLead, IsAccepted, IsAggregated};
-ghost use Rattle.ksi_verifier.specs.Leading.{HaveTops, PassesIn, all_links};
+ghost use Rattle.ksi_verifier.specs.Accepted.{AreNested, ChainsLead, IsAccepted, IsAggregated};
+ghost use Rattle.ksi_verifier.specs.Leading.{BreaksAt, HaveTops, OutOfOrder, PassesIn, all_links};
 
 /// No check fails exactly where the chains lead from the hash to the root of a second, the calendar chain from there to
 /// the published root, and its sides name the second that each stated time is.
@@ -37,6 +37,16 @@ pub fn aggregation()
     ksi_aggchain::laws::one_climb();
 }
 
+/// V2 holds exactly where each next index is the one below it without its last part, and fails at the first one that is
+/// not, with the first place where both differ.
+pub fn orders()
+    ensures nested { (chains : List PlainChain) →
+        (index_order 0 (first_chain chains) (higher_chains chains) ≡ Ok tt) ↔ AreNested chains }
+    ensures differ { (chains : List PlainChain) (chain place : ℕ) (lower higher : Option ℕ) →
+        (index_order 0 (first_chain chains) (higher_chains chains) ≡ Err (IndexOrder chain place lower higher)) ↔
+        OutOfOrder chains chain place lower higher }
+{}
+
 /// V4 holds exactly where each chain leads to an item, and fails at the first link of all whose level passes 255.
 pub fn levels()
     ensures items { (image : List ℕ → List ℕ) (chains : List PlainChain) (items : List Item) →
@@ -49,11 +59,14 @@ pub fn levels()
 }
 
 /// V4 and V5 hold exactly where the chains lead to the item, one after the other; all their links then lead there from the
-/// first one's input hash.
+/// first one's input hash. V5 fails at the first chain that does not state what the chain below it leads to.
 pub fn joined()
     ensures leads { (image : List ℕ → List ℕ) (chains : List PlainChain) (item : Item) → 0 < length chains →
         (joined_chains image chains ≡ Ok item) ↔
         ChainsLead image (at_level_zero (first_chain chains).input) chains item }
+    ensures broken { (image : List ℕ → List ℕ) (chains : List PlainChain) (chain : ℕ) (computed stated : List ℕ) →
+        (joined_chains image chains ≡ Err (ChainBreak chain computed stated)) ↔
+        BreaksAt image chains chain computed stated }
     ensures links { (image : List ℕ → List ℕ) (chains : List PlainChain) (start item : Item) →
         ChainsLead image start chains item → Climbs image start (all_links chains) item }
 {

@@ -1,9 +1,13 @@
+use Rattle.ksi_verifier.proofs.Breaks.{joined_broken}
 use Rattle.ksi_verifier.proofs.Chained.{some_joined}
 use Rattle.ksi_verifier.proofs.Levels.{lead_climbs}
 use Rattle.ksi_verifier.proofs.laws.joined.Goals as goal
 
 pub returns-clause-leads : goal.returns-clause-leads
 returns-clause-leads c = λ image chains item some. some_joined image (λ start top links. c.one_climb.ensures.climbs image start top links) chains item some
+
+pub returns-clause-broken : goal.returns-clause-broken
+returns-clause-broken c = λ image chains chain computed stated. joined_broken image (λ start top links. c.one_climb.ensures.climbs image start top links) chains chain computed stated
 
 pub returns-clause-links : goal.returns-clause-links
 returns-clause-links c = λ image chains start item leads.
