@@ -22,7 +22,7 @@ given signature = Ok signature
 abbrev refused : SigFault → Read
 refused fault = Err fault
 
-value_at : (laws : Laws) (bytes : List ℕ) (signature : Signature) → IsSignature bytes signature → signature_of (elements_in (element_at bytes)) ≡ signature
+value_at : (laws : Laws) (bytes : List ℕ) (signature : Signature) → IsSignature bytes signature → signature_of (elements_in bytes) ≡ signature
 value_at laws bytes signature s = rw (front_of laws bytes s.element s.spelled) (sym (is_value bytes signature s))
 
 read_ok : (v : Signature) (r : Answer) (signature : Signature) → read_as v r ≡ given signature → (r ≡ Ok tt) × (v ≡ signature)
@@ -36,7 +36,7 @@ read_err v (Err f) fault e = cc
 is_signature : (laws : Laws) (bytes : List ℕ) (signature : Signature) → AreBytes bytes → signature_at bytes ≡ Ok signature → IsSignature bytes signature
 unfolding signature_at
 is_signature laws bytes signature fits e =
-    let both = read_ok (signature_of (elements_in (element_at bytes))) (answer_of bytes) signature e in
+    let both = read_ok (signature_of (elements_in bytes)) (answer_of bytes) signature e in
     let s = signature_if_ok laws bytes fits both.0 in
     subst (IsSignature bytes) (sym (value_at laws bytes s.0 s.1) ∙ both.1) s.1
 
@@ -46,7 +46,7 @@ is_read laws bytes signature s = rw (ok_if_signature laws bytes signature s) (ap
 
 is_fault : (laws : Laws) (bytes : List ℕ) (fault : SigFault) → AreBytes bytes → signature_at bytes ≡ Err fault → IsSignatureFault bytes fault
 unfolding signature_at
-is_fault laws bytes fault fits e = fault_if_err laws bytes fault fits (read_err (signature_of (elements_in (element_at bytes))) (answer_of bytes) fault e)
+is_fault laws bytes fault fits e = fault_if_err laws bytes fault fits (read_err (signature_of (elements_in bytes)) (answer_of bytes) fault e)
 
 is_refused : (laws : Laws) (bytes : List ℕ) (fault : SigFault) → AreBytes bytes → IsSignatureFault bytes fault → signature_at bytes ≡ refused fault
 unfolding signature_at

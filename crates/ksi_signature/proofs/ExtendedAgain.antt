@@ -20,7 +20,8 @@ use Rattle.ksi_signature.specs.Contents.{chain_in, calendar_in, publishing_in, p
 use Rattle.ksi_signature.specs.File.{IsSignature}
 use Rattle.ksi_grammar.specs.Published.{published_elements}
 use Rattle.ksi_signature.specs.Written.{calendar_element, publishing_elements, publishing_element}
-use Rattle.ksi_signature.specs.Extended.{is_retained, text_in, retained_texts, elements_in, content_with, extended_content, extended_text, renewed}
+use Rattle.ksi_signature.specs.Reading.{elements_in}
+use Rattle.ksi_signature.specs.Extended.{is_retained, text_in, retained_texts, content_with, extended_content, extended_text, renewed}
 use Rattle.ksi_signature.proofs.Whole.{Laws}
 use Rattle.ksi_signature.proofs.Standing.{Reading, AreSpelled, body_within, text_at, behind, Parts, parts_of, elements_of}
 use Rattle.ksi_signature.proofs.Moved.{Joins, bytes_inside, chain_moves, chain_moved}

@@ -21,7 +21,8 @@ use Rattle.ksi_signature.specs.Values.{Calendar, Publishing}
 use Rattle.ksi_signature.specs.File.{Answer, name_of, IsSignatureFault}
 use Rattle.ksi_signature.specs.Lengths.{capped}
 use Rattle.ksi_signature.specs.Written.{publishing_elements, first_long, TellsLong}
-use Rattle.ksi_signature.specs.Extended.{held_by, content_with, extended_content, IsTooLong}
+use Rattle.ksi_signature.specs.Reading.{held_by}
+use Rattle.ksi_signature.specs.Extended.{content_with, extended_content, IsTooLong}
 use Rattle.ksi_signature.proofs.Capped.{size-canonical, length-joined}
 
 -- ---- a fault is never want of memory

@@ -9,7 +9,8 @@ use Rattle.ksi_tlv.specs.Walking.{PlacedTlv, placed_at, Items, elements, joined,
 use Rattle.ksi_signature.specs.declared.signature.Signature.{Signature}
 use Rattle.ksi_signature.specs.Tables.{signature_table}
 use Rattle.ksi_signature.specs.File.{IsSignature}
-use Rattle.ksi_signature.specs.Extended.{text_in, held_by, elements_in, StandsIn}
+use Rattle.ksi_signature.specs.Reading.{held_by, elements_in}
+use Rattle.ksi_signature.specs.Extended.{text_in, StandsIn}
 use Rattle.ksi_signature.proofs.Whole.{Laws, front_of, found_in}
 
 abbrev pub Reading : Type 0

@@ -9,6 +9,7 @@ use Rattle.ksi_grammar.specs.Held.{whole}
 use Rattle.ksi_signature.specs.Values.{Calendar, Publishing}
 use Rattle.ksi_signature.specs.declared.signature.Signature.{Signature}
 use Rattle.ksi_signature.specs.Tables.{signature_table}
+use Rattle.ksi_signature.specs.Reading.{elements_in}
 use Rattle.ksi_signature.specs.Written.{calendar_element, publishing_element}
 
 -- An element is retained: it is an aggregation chain, or is unknown and has both flags.
@@ -23,14 +24,6 @@ text_in bytes at = take (at.inside + length at.element.body - at.place) (drop at
 abbrev pub retained_texts : List ℕ → List PlacedTlv → List ℕ
 retained_texts bytes [] = []
 retained_texts bytes (at ∷ es) = if is_retained at.element then text_in bytes at ++ retained_texts bytes es else retained_texts bytes es
-
--- the elements that the first element of a file holds
-abbrev pub held_by : Result (Tlv × ℕ) ℕ → List PlacedTlv
-held_by (Err need) = []
-held_by (Ok found) = whole (elements (found.1 - length found.0.body) found.0.body)
-
-abbrev pub elements_in : List ℕ → List PlacedTlv
-elements_in bytes = held_by (element_at bytes)
 
 -- the texts of what is retained of elements, and behind them the calendar chain and the publication record as they are written
 abbrev pub content_with : List ℕ → List PlacedTlv → Calendar → Publishing → List ℕ

@@ -9,14 +9,17 @@ use Rattle.ksi_signature.specs.declared.signature.Signature.{Signature}
 use Rattle.ksi_signature.specs.Contents.{signature_of}
 use Rattle.ksi_signature.specs.File.{Answer, answer_of}
 
--- the elements in the one that stands at the front
-abbrev pub elements_in : Result (Tlv × ℕ) ℕ → List PlacedTlv
-elements_in (Err need) = []
-elements_in (Ok found) = whole (elements (found.1 - length found.0.body) found.0.body)
+-- the elements that the first element of a file holds
+abbrev pub held_by : Result (Tlv × ℕ) ℕ → List PlacedTlv
+held_by (Err need) = []
+held_by (Ok found) = whole (elements (found.1 - length found.0.body) found.0.body)
+
+abbrev pub elements_in : List ℕ → List PlacedTlv
+elements_in bytes = held_by (element_at bytes)
 
 abbrev pub read_as : Signature → Answer → Result Signature SigFault
 read_as signature (Ok u) = Ok signature
 read_as signature (Err fault) = Err fault
 
 unfoldable pub signature_at : List ℕ → Result Signature SigFault
-signature_at bytes = read_as (signature_of (elements_in (element_at bytes))) (answer_of bytes)
+signature_at bytes = read_as (signature_of (elements_in bytes)) (answer_of bytes)

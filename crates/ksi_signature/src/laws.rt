@@ -9,7 +9,7 @@ ghost use Rattle.ksi_signature.specs.Order.{chains_among, with_parts};
 ghost use Rattle.ksi_signature.specs.declared.fault.SigFault.{SigFault};
 ghost use Rattle.ksi_signature.specs.declared.signature.Signature.{Signature};
 ghost use Rattle.ksi_signature.specs.File.{IsSignature, IsSignatureFault, answer_of};
-ghost use Rattle.ksi_signature.specs.Reading.{signature_at};
+ghost use Rattle.ksi_signature.specs.Reading.{elements_in, signature_at};
 ghost use Rattle.ksi_signature.specs.Kept.{IsCalendar, IsPublishing, IsKept};
 ghost use Rattle.ksi_signature.specs.Extended.{extended_content, extended_text, renewed};
 ghost use Rattle.ksi_signature.specs.Written.{signature_text, sizes_of, first_long};
@@ -42,12 +42,15 @@ pub fn signature_or_fault()
     front_by_spelling();
 }
 
-/// What is read in bytes is the signature that they are, or their first fault.
+/// What is read in bytes is the signature that they are, or their first fault; and the elements that the first one holds
+/// are those of the signature.
 pub fn signature_is_read()
     ensures signature { (bytes : List ℕ) (signature : Signature) → AreBytes bytes →
         (signature_at bytes ≡ Ok signature) ↔ IsSignature bytes signature }
     ensures fault { (bytes : List ℕ) (fault : SigFault) → AreBytes bytes →
         (signature_at bytes ≡ Err fault) ↔ IsSignatureFault bytes fault }
+    ensures elements { (bytes : List ℕ) (signature : Signature) → (is : IsSignature bytes signature) →
+        elements_in bytes ≡ is.elements }
 {
     whole_or_fault();
     front_by_spelling();

@@ -7,7 +7,8 @@ use Rattle.ksi_tlv.specs.Spelling.{plain, canonical}
 use Rattle.ksi_signature.specs.declared.extension.WithRefusal.{WithRefusal}
 use Rattle.ksi_signature.specs.Lengths.{capped}
 use Rattle.ksi_signature.specs.File.{IsSignature}
-use Rattle.ksi_signature.specs.Extended.{held_by, extended_content, extended_text, renewed, StandsIn}
+use Rattle.ksi_signature.specs.Reading.{held_by}
+use Rattle.ksi_signature.specs.Extended.{extended_content, extended_text, renewed, StandsIn}
 use Rattle.ksi_signature.proofs.Standing.{elements_stand}
 use Rattle.ksi_signature.proofs.Refusing.{malformed_is, malformed_not, never_memory, long_no_signature, long_is, long_not, within, content_same}
 use Rattle.ksi_signature.proofs.extension.with_calendar.Goals as goal
