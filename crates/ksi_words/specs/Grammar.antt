@@ -1,4 +1,4 @@
--- The command line as `clap` reads it.
+-- The grammar that `clap` parses by, in its own words. What a command line asks for is told without it, in Words.
 use Rattle.std.specs.Prelude.{ℕ, List, codes, Some, true, fold}
 use Rattle.clap.specs.Words.{App, Rule, Shape, Text, new_app, new_rule, with_rule, with_subcommand}
 use Rattle.clap.specs.Simple.{on_top}
@@ -12,21 +12,25 @@ use Rattle.ksi_words.specs.declared.table.Row.{Row}
 abbrev pub form_of : Row → Text × ℕ
 form_of row = (row.name.now, row.words)
 
+-- the words after a name: n of them, all wanted
 abbrev pub words_rule : ℕ → Rule
 words_rule n = record (new_rule (codes "words")) { required = true; range = Some (record { start_inclusive = n; end_inclusive = n }) }
 
 abbrev pub row_app : Text × ℕ → App
 row_app form = with_rule (new_app form.0) (words_rule form.1)
 
+-- with no words of `clap`'s own: no program's name, no help
 abbrev pub bare_shape : Shape → Shape
 bare_shape s = record s { no_binary_name = true; disable_help_flag = true; disable_help_subcommand = true; subcommand_required = true }
 
 abbrev pub bare : App
 bare = on_top bare_shape (new_app (codes "ksi"))
 
+-- a subcommand for each row
 abbrev pub app_over : List (Text × ℕ) → App
 app_over forms = fold (λ app form. with_subcommand app (row_app form).top) bare forms
 
+-- why a parse fails, of words of which none begins with a dash
 abbrev pub refusal_of : ErrorKind → WordsRefusal
 refusal_of OutOfMemory = NoMemory
 refusal_of _ = Words

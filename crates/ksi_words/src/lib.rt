@@ -3,8 +3,8 @@
 //! Each command is a row of a table: its name, and the words after it, each a file, a hash, a number or a time. `clap`
 //! parses by a grammar that is built from the rows. The layer above may rely on this: [`command`] gives exactly the
 //! command that the words ask for, as `command_of` tells it; it refuses words that have no command's form, and else
-//! names the first word that is no number or hash. It may want for memory. [`number`], [`time`] and [`hash`] read a word and
-//! take none.
+//! names the first word that is no number or hash. It may want for memory. [`number`], [`time`] and [`hash`] read one
+//! word and take none.
 //!
 //! ```text
 //! match command(alloc, &words) {
