@@ -2,7 +2,6 @@
 use Rattle.std.proofs.Common.{◌≡◌, ℕ, List, Result, Ok, Err, refl, sym, ap, ◌∙◌, subst}
 use Rattle.std.specs.Prelude.{◌↔◌}
 use Rattle.ksi_tlv.specs.Spelling.{AreBytes}
-use Rattle.ksi_tlv.specs.Front.{element_at}
 use Rattle.ksi_signature.specs.declared.fault.SigFault.{SigFault}
 use Rattle.ksi_signature.specs.declared.signature.Signature.{Signature}
 use Rattle.ksi_signature.specs.Contents.{signature_of}

@@ -1,5 +1,5 @@
 -- A signature with another calendar chain and publication record is the signature with these.
-use Rattle.std.proofs.Common.{◌≡◌, ◌⊎◌, inl, inr, ℕ, ◌+◌, ◌-◌, ◌<◌, ◌≤◌, Bool, true, false, cond, eqb, List, [], ◌∷◌, ◌++◌, length, take, drop, map, Option, Some, None, Result, Ok, Err, refl, sym, ap, subst, ◌∙◌, arith}
+use Rattle.std.proofs.Common.{◌≡◌, ℕ, ◌+◌, ◌-◌, ◌<◌, ◌≤◌, Bool, true, false, cond, eqb, List, [], ◌∷◌, ◌++◌, length, take, drop, map, Option, Some, None, Ok, refl, sym, ap, subst, ◌∙◌, arith}
 use Rattle.std.specs.Prelude.{◌||◌, ◌&&◌, not, option_map}
 use Rattle.std.specs.List.{AllByRecursion}
 use Rattle.std.proofs.lemmas.Bool.{eqb-true}
@@ -8,9 +8,9 @@ use Rattle.std.proofs.lemmas.List.Elements.{All-drop}
 use Rattle.ksi_tlv.specs.Spelling.{Tlv, plain, canonical, FitsLong, Spells, AreBytes}
 use Rattle.ksi_tlv.specs.Walking.{PlacedTlv, placed_at, elements, joined, laid, items_of}
 use Rattle.ksi_tlv.specs.Writing.{written, texts}
-use Rattle.ksi_grammar.specs.Table.{Verdict, Slot, is_among, slot_of, count}
+use Rattle.ksi_grammar.specs.Table.{Slot, slot_of, count}
 use Rattle.ksi_grammar.specs.Reading.{inner_verdict}
-use Rattle.ksi_grammar.specs.Valid.{MayStandAs, MayStand, IsContainer}
+use Rattle.ksi_grammar.specs.Valid.{MayStandAs, MayStand}
 use Rattle.ksi_grammar.specs.Held.{first_of}
 use Rattle.ksi_signature.specs.declared.signature.Signature.{Signature}
 use Rattle.ksi_signature.specs.Tables.{chain_table, chains, signature_table, signature_content}
@@ -23,7 +23,7 @@ use Rattle.ksi_signature.specs.Written.{calendar_element, publishing_elements, p
 use Rattle.ksi_signature.specs.Reading.{elements_in}
 use Rattle.ksi_signature.specs.Extended.{is_retained, text_in, retained_texts, content_with, extended_content, extended_text, renewed}
 use Rattle.ksi_signature.proofs.Whole.{Laws}
-use Rattle.ksi_signature.proofs.Standing.{Reading, AreSpelled, body_within, text_at, behind, Parts, parts_of, elements_of}
+use Rattle.ksi_signature.proofs.Standing.{Reading, AreSpelled, body_within, text_at, behind, parts_of, elements_of}
 use Rattle.ksi_signature.proofs.Moved.{Joins, bytes_inside, chain_moves, chain_moved}
 use Rattle.ksi_signature.proofs.Capped.{size-canonical, length-joined}
 use Rattle.ksi_signature.proofs.Skips.{all_both}

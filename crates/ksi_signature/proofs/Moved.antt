@@ -1,5 +1,5 @@
 -- What an element holds is accepted, and says the same, wherever the element stands.
-use Rattle.std.proofs.Common.{◌≡◌, ◌⊎◌, inl, inr, ℕ, ◌+◌, ◌-◌, ◌^◌, ◌<◌, ◌≤◌, Bool, true, false, cond, eqb, ltb, List, [], ◌∷◌, ◌++◌, length, take, drop, map, Option, Some, None, Result, Ok, Err, refl, sym, ap, subst, ◌∙◌, arith}
+use Rattle.std.proofs.Common.{◌≡◌, ◌⊎◌, inl, inr, ℕ, ◌+◌, ◌-◌, ◌^◌, ◌<◌, Bool, true, false, cond, eqb, ltb, List, [], ◌∷◌, ◌++◌, length, map, Option, Some, None, Result, Ok, Err, refl, sym, ap, subst, ◌∙◌}
 use Rattle.std.specs.Prelude.{◌||◌, option_map}
 use Rattle.std.specs.List.{AllByRecursion}
 use Rattle.std.proofs.lemmas.Bool.{eqb-true}
@@ -11,8 +11,8 @@ use Rattle.ksi_split.specs.declared.side.Side.{Side}
 use Rattle.ksi_aggchain.specs.declared.link.Link.{Link}
 use Rattle.ksi_aggchain.specs.declared.link.Sibling.{Sibling}
 use Rattle.ksi_aggchain.specs.declared.link.Sibling.TheVariants as siblings
-use Rattle.ksi_tlv.specs.Spelling.{Tlv, Spells, AreBytes}
-use Rattle.ksi_tlv.specs.Walking.{PlacedTlv, placed_at, Items, elements, joined, laid, items_of}
+use Rattle.ksi_tlv.specs.Spelling.{Tlv, AreBytes}
+use Rattle.ksi_tlv.specs.Walking.{PlacedTlv, placed_at, elements, joined, laid, items_of}
 use Rattle.ksi_tlv.specs.Numerals.{number_of}
 use Rattle.ksi_grammar.specs.declared.fault.ElementFault.{ElementFault}
 use Rattle.ksi_grammar.specs.declared.fault.ElementFault.TheVariants as faults

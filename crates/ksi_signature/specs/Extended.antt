@@ -1,11 +1,9 @@
 -- The bytes of a signature with another calendar chain and publication record.
-use Rattle.std.specs.Prelude.{◌≡◌, ℕ, ◌^◌, ◌<◌, min, ◌+◌, ◌-◌, ◌≤◌, ◌==◌, ◌||◌, ◌&&◌, not, Bool, List, [], ◌∷◌, ◌++◌, length, take, drop, Some, Result, Ok, Err, if◌then◌else◌}
+use Rattle.std.specs.Prelude.{◌≡◌, ℕ, ◌^◌, ◌<◌, min, ◌+◌, ◌-◌, ◌≤◌, ◌==◌, ◌||◌, ◌&&◌, not, Bool, List, [], ◌∷◌, ◌++◌, length, take, drop, Some, if◌then◌else◌}
 use Rattle.ksi_tlv.specs.Spelling.{Tlv, plain, canonical}
-use Rattle.ksi_tlv.specs.Front.{element_at}
-use Rattle.ksi_tlv.specs.Walking.{PlacedTlv, elements}
+use Rattle.ksi_tlv.specs.Walking.{PlacedTlv}
 use Rattle.ksi_tlv.specs.Writing.{texts}
 use Rattle.ksi_grammar.specs.Table.{is_known}
-use Rattle.ksi_grammar.specs.Held.{whole}
 use Rattle.ksi_signature.specs.Values.{Calendar, Publishing}
 use Rattle.ksi_signature.specs.declared.signature.Signature.{Signature}
 use Rattle.ksi_signature.specs.Tables.{signature_table}
