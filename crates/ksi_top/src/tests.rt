@@ -76,26 +76,23 @@ fn held(
     Ok(files)
 }
 
-// A run of words over a signature and a publications file, what it must end with and print, and how often it must load.
-#[derive(Drop)]
-struct Row<'a> {
-    words: &'a str,
-    signature: &'a str,
-    publications: &'a str,
-    status: Status,
-    line: &'a str,
-    loads: u64,
-}
+const VERIFY: &str = "verify s A p";
 
-// Whether the run is as the row says.
-fn is_as_said(alloc: Global, row: &Row<'_>) -> Result<bool, Fail> {
-    let mut files = held(alloc, &[], &bytes(alloc, row.signature)?, row.publications)?;
+// Whether a run of words over a signature and a publications file ends with a status, puts a line and loads so often.
+fn is_as_said(
+    alloc: Global,
+    line: &str,
+    signature: &str,
+    publications: &str,
+    said: (Status, &str, u64),
+) -> Result<bool, Fail> {
+    let mut files = held(alloc, &[], &bytes(alloc, signature)?, publications)?;
     let mut out = MemSink::new(alloc, 32_767, Vec::new(alloc))?;
-    let status = ksi(alloc, &words(alloc, row.words)?, &mut files, &mut out);
-    let mut line = expanded(alloc, row.line)?;
-    line.push_str("\n")?;
+    let status = ksi(alloc, &words(alloc, line)?, &mut files, &mut out);
+    let mut put = expanded(alloc, said.1)?;
+    put.push_str("\n")?;
     let calls = (files.calls(), files.faults());
-    Ok(out.written() == line.as_bytes() && status == row.status && calls == (row.loads, 0))
+    Ok(out.written() == put.as_bytes() && status == said.0 && calls == (said.2, 0))
 }
 
 #[test]
@@ -175,25 +172,15 @@ fn each_check_has_its_line(rt: HostRuntime) -> Result<(), Fail> {
         } else {
             Status::Refused
         };
-        let row = Row {
-            words: "verify s A p",
-            signature,
-            publications: P0,
-            status,
-            line,
-            loads: 2,
-        };
-        assert!(rt; is_as_said(rt.alloc(), &row)?, "{line}");
+        let said = (status, line, 2);
+        assert!(rt;
+            is_as_said(rt.alloc(), VERIFY, signature, P0, said)?,
+            "{line}"
+        );
     }
-    let missed = Row {
-        words: "verify s Z p",
-        signature: "8800005a 8801002b 0200 030101 052101Z 060101 88020027 0100 0200 052101Z",
-        publications: P0,
-        status: Status::Refused,
-        line: "refused V9",
-        loads: 2,
-    };
-    assert!(rt; is_as_said(rt.alloc(), &missed)?);
+    let missed = "8800005a 8801002b 0200 030101 052101Z 060101 88020027 0100 0200 052101Z";
+    let said = (Status::Refused, "refused V9", 2);
+    assert!(rt; is_as_said(rt.alloc(), "verify s Z p", missed, P0, said)?);
     Ok(())
 }
 
@@ -230,15 +217,11 @@ fn each_fault_has_its_code(rt: HostRuntime) -> Result<(), Fail> {
     ];
     for (signature, fault) in signatures {
         let line = format!(in rt.alloc(); "malformed 1 {fault}")?;
-        let row = Row {
-            words: "verify s A p",
-            signature,
-            publications: P0,
-            status: Status::Malformed,
-            line: line.as_str(),
-            loads: 1,
-        };
-        assert!(rt; is_as_said(rt.alloc(), &row)?, "{line}");
+        let said = (Status::Malformed, line.as_str(), 1);
+        assert!(rt;
+            is_as_said(rt.alloc(), VERIFY, signature, P0, said)?,
+            "{line}"
+        );
     }
     let files = [
         ("4b5349505542", "Q1"),
@@ -268,15 +251,11 @@ fn each_fault_has_its_code(rt: HostRuntime) -> Result<(), Fail> {
     ];
     for (publications, fault) in files {
         let line = format!(in rt.alloc(); "malformed 3 {fault}")?;
-        let row = Row {
-            words: "verify s A p",
-            signature: S0,
-            publications,
-            status: Status::Malformed,
-            line: line.as_str(),
-            loads: 2,
-        };
-        assert!(rt; is_as_said(rt.alloc(), &row)?, "{line}");
+        let said = (Status::Malformed, line.as_str(), 2);
+        assert!(rt;
+            is_as_said(rt.alloc(), VERIFY, S0, publications, said)?,
+            "{line}"
+        );
     }
     Ok(())
 }
@@ -310,15 +289,11 @@ fn publications_are_compared(rt: HostRuntime) -> Result<(), Fail> {
         (linked, of_5, Status::Done, "accepted 5"),
     ];
     for (signature, publications, status, line) in rows {
-        let row = Row {
-            words: "verify s A p",
-            signature,
-            publications,
-            status,
-            line,
-            loads: 2,
-        };
-        assert!(rt; is_as_said(rt.alloc(), &row)?, "{line}");
+        let said = (status, line, 2);
+        assert!(rt;
+            is_as_said(rt.alloc(), VERIFY, signature, publications, said)?,
+            "{line}"
+        );
     }
     Ok(())
 }
@@ -339,15 +314,8 @@ fn words_are_a_command_or_refused(rt: HostRuntime) -> Result<(), Fail> {
         ("", Status::Words, "words refused", 0),
     ];
     for (words, status, line, loads) in rows {
-        let row = Row {
-            words,
-            signature: S0,
-            publications: P0,
-            status,
-            line,
-            loads,
-        };
-        assert!(rt; is_as_said(rt.alloc(), &row)?, "{line}");
+        let said = (status, line, loads);
+        assert!(rt; is_as_said(rt.alloc(), words, S0, P0, said)?, "{line}");
     }
     Ok(())
 }
