@@ -1,10 +1,13 @@
-ghost use Rattle.std.specs.Prelude.{◌≡◌, ◌<◌, length, map};
+ghost use Rattle.std.specs.Prelude.{◌≡◌, ◌↔◌, ◌<◌, ℕ, length, map};
+ghost use Rattle.ksi_verifier.specs.declared.verdict.Verdict.TheVariants as verdicts;
+ghost use Rattle.ksi_verifier.specs.Accepted.{IsAccepted};
 ghost use Rattle.ksi_verifier.specs.ChainChecks.{aggregated};
 ghost use Rattle.ksi_verifier.specs.Verdict.{calendar_checked, checked, verdict};
 
 use crate::aggregated::Aggregated;
 use crate::calendar::{check_calendar, check_second};
 use crate::chains::check_chains;
+use crate::laws::accepted;
 use crate::publication::check_published;
 use crate::refusal::Refusal;
 use crate::seen::SeenChain;
@@ -26,8 +29,20 @@ pub fn aggregate<C: Compress>(signature: &Signature) -> Result<Aggregated, Refus
 
 /// Checks a signature for a hash against the published roots of the calendar: the first of V1 to V14 that fails, or the
 /// second that the sides of the calendar chain name.
-#[tactic(auto, unfolding(crate::specs::Verdict::verdict))]
 pub fn verify<C: Compress>(
+    signature: &Signature,
+    hash: &Imprint,
+    publications: &Publications,
+) -> Verdict
+    ensures first { result ≡ verdict C.image signature.now hash.now publications.now }
+    ensures accepted { (t : ℕ) → (result ≡ verdicts.Accepted t) ↔ IsAccepted C.image signature.now hash.now publications.now t }
+{
+    accepted();
+    verdict::<C>(signature, hash, publications)
+}
+
+#[tactic(auto, unfolding(crate::specs::Verdict::verdict))]
+fn verdict<C: Compress>(
     signature: &Signature,
     hash: &Imprint,
     publications: &Publications,
