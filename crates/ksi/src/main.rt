@@ -1,6 +1,6 @@
 //! The program: one command over the files and the output of the system.
 //!
-//! `ksi verify SIGNATURE HASH PUBLICATIONS` prints one line and ends with the run's status.
+//! `ksi verify SIGNATURE HASH PUBLICATIONS` prints at most one line and ends with the run's status.
 #![tactic(auto)]
 
 use ksi_ports::{HostFiles, HostSink};

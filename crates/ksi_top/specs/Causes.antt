@@ -1,4 +1,5 @@
--- When a call over files may report what, also where nothing is told of their contents.
+-- When a call over files may report what, also where nothing is told of their contents: `LoadCaused` is of one load,
+-- `HaltsJudged` of a reader of what was loaded, `ReportCaused` of a command; the others are their parts by status.
 use Rattle.std.specs.Prelude.{◌≡◌, ℕ, ◌+◌, ◌≤◌, List, Option, None, Result, Ok, Err}
 use Rattle.ksi_ports.specs.Outside.{Raises, RoseBy}
 use Rattle.ksi_top.specs.Lines.{too_long_line}

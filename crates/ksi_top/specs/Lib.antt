@@ -1,10 +1,10 @@
-pub mod Reports
-pub mod Causes
 pub mod Codes
-pub mod FaultWords
+pub mod Reports
 pub mod Lines
+pub mod FaultWords
 pub mod Loading
-pub mod Printed
-pub mod Run
-pub mod Top
 pub mod Verify
+pub mod Run
+pub mod Causes
+pub mod Top
+pub mod Printed

@@ -21,7 +21,7 @@ file_limit = 67108864
 abbrev pub no_limit : ℕ
 no_limit = 2 ^ 64
 
--- what is held under a name, and no bytes where nothing is
+-- what is held under a name, and no bytes where nothing is: such a load fails, so nothing is claimed of its run
 abbrev pub content : Held → List ℕ → List ℕ
 content held name = unwrap_or (held name) []
 

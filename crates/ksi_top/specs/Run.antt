@@ -22,7 +22,7 @@ limits_of (verify signature hash publications) = verify_limits
 abbrev pub loads_of : Asked → Held → ℕ
 loads_of (verify signature hash publications) held = verify_loads signature held
 
--- what words that are no command report; that they are none is never said by want of memory
+-- what words that are no command report; want of memory is never such a refusal, its row is only there to be total
 abbrev pub refused : WordsRefusal → Report
 refused Words = report statuses.Words words_refused_line
 refused (BadWord n) = report statuses.Words (bad_word_line n)

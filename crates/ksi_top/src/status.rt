@@ -5,7 +5,7 @@ ghost use Rattle.std.specs.Prelude.{◌≡◌};
 pub enum Status {
     /// The command's result stands: its file is saved, its line is put.
     Done,
-    /// A check, or another refusal of the command, stands; its line is put.
+    /// A check of the signature failed, or the command is refused otherwise; the line that says so is put.
     Refused,
     /// The words are no command's, or one of them is no number or hash where one must stand.
     Words,

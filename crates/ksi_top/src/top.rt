@@ -32,7 +32,8 @@ pub fn ksi<F: Files, K: Sink>(alloc: Global, words: &[String], files: &mut F, ou
     ensures few_calls { F.calls files.new ≤ F.calls files.old + most_calls (command_of (texts words.now)) }
     ensures untouched { IfErr (command_of (texts words.now)) (λ _. F.calls files.new ≡ F.calls files.old) }
 
-    // A fault is reported only where a count rose, and always where one is greater at the end.
+    // A fault is reported only where a count rose, and always where one is greater at the end. `outside`: what is held,
+    // failed calls on the files, what was written, puts, failed puts.
     ensures fault { result ≡ Status.Fault →
         FaultLeaves F.tells K.tells (run (texts words.now) (F.held files.old))
         (outside (F.held files.old) (F.faults files.old) (K.written out.old) (K.puts out.old) (K.faults out.old))

@@ -163,7 +163,7 @@ module _ (image : List ℕ → List ℕ) (climbs : (start top : Item) (links : L
         calendar = calendar;
         has_calendar = (calendar_both signature.calendar calendar).0 stated.1;
         input = on.named.0;
-        held = on.named.1;
+        not_missed = on.named.1;
         second = (seconds calendar.publication t (sides_from_top calendar.links)).0 on.named.2;
         time = on.times.0;
         root = root_of image calendar;
@@ -179,7 +179,7 @@ module _ (image : List ℕ → List ℕ) (climbs : (start top : Item) (links : L
       let agrees = subst (λ (x : List ℕ). IsAggregated image chains x t h.item) (sym hashes) h.chains in
       let root : h.root ≡ root_of image h.calendar = (climbs_cal h.calendar.input h.root h.calendar.links).0 h.climbs in
       let on : GoesOn image aggregation h.calendar signature.publication publications t = record {
-        named = (h.input, h.held, (seconds h.calendar.publication t (sides_from_top h.calendar.links)).1 h.second);
+        named = (h.input, h.not_missed, (seconds h.calendar.publication t (sides_from_top h.calendar.links)).1 h.second);
         times = (h.time, refl);
         found = (subst (λ (x : List ℕ). IfSome signature.publication (IsRecord h.calendar.publication x)) root h.stated, h.published ∙ ap (λ (x : List ℕ). Some x) root);
       } in

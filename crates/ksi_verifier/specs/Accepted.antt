@@ -44,7 +44,7 @@ pub record IsAccepted (image : List ℕ → List ℕ) (signature : Signature) (h
   pub calendar : Calendar
   pub has_calendar : signature.calendar ≡ Some calendar
   pub input : calendar.input ≡ item.imprint
-  pub held : calendar.input ≢ zero_imprint
+  pub not_missed : calendar.input ≢ zero_imprint
   pub second : IsSecond calendar.publication (sides_from_top calendar.links) t
   pub time : calendar.time ≡ t
   pub root : List ℕ

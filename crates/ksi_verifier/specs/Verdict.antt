@@ -1,4 +1,4 @@
--- The verdict on a signature: the first check that fails, or the second.
+-- The verdict on a signature: the first check that fails, or the second that the signature proves.
 use Rattle.std.specs.Prelude.{ℕ, ◌==◌, not, List, Option, Some, None, Result, Ok, Err}
 use Rattle.std.specs.Str.{bytes_eq}
 use Rattle.ksi_imprint.specs.Imprints.{zero_imprint}

@@ -1,5 +1,5 @@
-// The checks of aggregation chains, in their order. Refusals are handed on by `match`: with one type of this crate inside
-// another, `?` gets no proof.
+// The checks of aggregation chains, in their order. Refusals are handed on by `match`, since the prover has no proof for
+// `?` here.
 ghost use Rattle.std.specs.Prelude.{◌≡◌, ◌<◌, length, map};
 ghost use Rattle.ksi_verifier.specs.Chains.{first_chain, higher_chains};
 ghost use Rattle.ksi_verifier.specs.ChainChecks.{chains_checked, index_order, index_shapes, joined_chains, same_times, top_of};

@@ -27,8 +27,8 @@ pub fn accepted()
     ksi_split::laws::one_answer();
 }
 
-/// V2 to V6 hold exactly where the chains lead from the first one's input hash to the item, are of one time, and have the
-/// indexes of their places.
+/// V2 to V6 hold exactly where the chains lead from the first one's input hash to the item and are of one time, each index
+/// is the one below it without its last part, and each last part the chain's shape.
 pub fn aggregation()
     ensures { (image : List ℕ → List ℕ) (signature : Signature) (aggregation : Aggregated) → 0 < length signature.chains →
         (aggregated image signature ≡ Ok aggregation) ↔

@@ -7,7 +7,8 @@
 //! of its calendar chain name: the stated times are only compared with it.
 //!
 //! The layer above may rely on this: [`verify`] gives the verdict, which is the first check that fails, with its values, or
-//! the second; [`aggregate`] does V2 to V6 alone, and gives the chains' time and the item that they lead to. No call takes
+//! the second that the signature proves, and its clause `accepted` says what an accepted signature is, without an order of
+//! checks; [`aggregate`] does V2 to V6 alone, and gives the chains' time and the item that they lead to. No call takes
 //! memory. In [`laws`] stands what the checks mean whatever their order: `accepted` turns an accepted signature into the
 //! facts that make it one, and back.
 //!
