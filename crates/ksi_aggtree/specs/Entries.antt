@@ -1,6 +1,6 @@
 -- The items of a round with where they came from. In a tree the items stand without their origins.
-use Rattle.std.specs.Prelude.{ℕ, Bool, false, ◌==◌, List, [], ◌∷◌, length, map, Option}
-use Rattle.std.specs.List.{list_any, position}
+use Rattle.std.specs.Prelude.{ℕ, Bool, false, ◌==◌, List, [], ◌∷◌, length, map}
+use Rattle.std.specs.List.{list_any}
 use Rattle.ksi_imprint.specs.Imprints.{zero_imprint}
 use Rattle.ksi_aggchain.specs.declared.item.Item.{Item}
 use Rattle.ksi_aggtree.specs.declared.entries.Origin.{Origin}
@@ -17,18 +17,9 @@ abbrev pub is_from : ℕ → Origin → Bool
 is_from aggregator (origins.Request number) = false
 is_from aggregator (origins.Aggregator from) = from == aggregator
 
--- the origin is the request of this number
-abbrev pub is_request : ℕ → Origin → Bool
-is_request number (origins.Request n) = n == number
-is_request number (origins.Aggregator from) = false
-
 -- an item of the aggregator is there
 abbrev pub has_from : ℕ → List Entry → Bool
 has_from aggregator entries = list_any (λ (entry : Entry). is_from aggregator entry.origin) entries
-
--- the place of the first item of the request, where there is one
-abbrev pub place_of : ℕ → List Entry → Option ℕ
-place_of number entries = position (λ (entry : Entry). is_request number entry.origin) entries
 
 -- a round takes no more
 abbrev pub is_full : List Entry → Bool

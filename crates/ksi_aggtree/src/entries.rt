@@ -1,10 +1,11 @@
-ghost use Rattle.std.specs.Prelude.{◌≡◌, ◌++◌, ◌∷◌, [], ◌<◌, ◌≤◌, ◌↔◌, length, slice_get, Some, OnErr, IfOk, IfSome};
+ghost use Rattle.std.specs.Prelude.{◌≡◌, ◌++◌, ◌∷◌, [], ◌<◌, ◌≤◌, ◌↔◌, length, slice_get, vec_len, vec_capacity, Some, OnErr, IfOk};
+ghost use Rattle.std.specs.List.{list_any};
 ghost use Rattle.ksi_split.specs.Ways.{way_of};
 ghost use Rattle.ksi_aggchain.specs.Climbing.{Climbs};
 ghost use Rattle.ksi_aggchain.specs.Owned.{plain_links};
 ghost use Rattle.ksi_aggtree.specs.Rounds.{item_at, tree_of, root_of};
 ghost use Rattle.ksi_aggtree.specs.Paths.{chain_of, sides_from_top};
-ghost use Rattle.ksi_aggtree.specs.Entries.{items_of, is_from, is_request, has_from, place_of, candidate_of, entries_of};
+ghost use Rattle.ksi_aggtree.specs.Entries.{items_of, is_from, has_from, candidate_of};
 
 use crate::builder::{AddRefusal, Builder};
 use crate::links::Links;
@@ -85,19 +86,7 @@ impl<C: Compress> Entries<C> {
     pub fn has_from(&self, aggregator: u32) -> bool
         ensures { result ≡ has_from aggregator self.now }
     {
-        self.origins
-            .iter()
-            .any(|origin| matches!(origin, Origin::Aggregator(from) if *from == aggregator))
-    }
-
-    /// The place of the first item of the request, none where it has none.
-    pub fn find_request(&self, number: u64) -> Option<usize>
-        ensures place { result ≡ place_of number self.now }
-        ensures below { IfSome result (λ k. k < length self.now) }
-    {
-        self.origins
-            .iter()
-            .position(|origin| matches!(origin, Origin::Request(n) if *n == number))
+        is_among(&self.origins, aggregator)
     }
 
     /// The tree of the items, none where there is no item.
@@ -144,12 +133,45 @@ impl<C: Compress> Entries<C> {
         ensures full { (result ≡ Err AddRefusal.Full) ↔ (length self.old ≡ 65536) }
         ensures unchanged { OnErr result (self.new ≡ self.old) }
     {
-        if self.round.count() >= 65536 {
+        let place = self.count();
+        if place == 65536 {
             return Err(AddRefusal::Full);
         }
         self.origins.reserve(1)?;
-        let place = self.round.add(entry.item)?;
-        let _ = self.origins.push(entry.origin);
-        Ok(place)
+        match self.round.add(entry.item) {
+            Ok(_) => {
+                put(&mut self.origins, entry.origin);
+                Ok(place)
+            }
+            Err(refusal) => Err(refusal),
+        }
+    }
+}
+
+/// Puts an origin behind the others, where there is room.
+fn put(origins: &mut Vec<Origin>, origin: Origin)
+    requires { vec_len origins.old < vec_capacity origins.old }
+    ensures { origins.new.items ≡ origins.old.items ++ origin ∷ [] }
+{
+    match origins.push(origin) {
+        Ok(()) => {}
+        Err(_) => unreachable!(),
+    }
+}
+
+/// Whether the aggregator is among the origins.
+fn is_among(origins: &[Origin], aggregator: u32) -> bool
+    ensures { result ≡ list_any (is_from aggregator) origins.now }
+{
+    origins.iter().any(|origin| is_from(origin, aggregator))
+}
+
+/// Whether the origin is this aggregator.
+fn is_from(origin: &Origin, aggregator: u32) -> bool
+    ensures { result ≡ is_from aggregator origin.now }
+{
+    match origin {
+        Origin::Request(_) => false,
+        Origin::Aggregator(from) => *from == aggregator,
     }
 }
