@@ -1,0 +1,4 @@
+pub mod Rows
+pub mod Responses
+pub mod Rounds
+pub mod Issuing
