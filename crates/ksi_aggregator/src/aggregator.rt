@@ -1,6 +1,7 @@
-ghost use Rattle.std.specs.Prelude.{◌≡◌, ◌≤◌, ◌<◌, ◌^◌, ℕ, length, IfOk, IfSome, IfNone, OnErr};
+ghost use Rattle.std.specs.Prelude.{◌≡◌, ◌≤◌, ◌<◌, ◌^◌, ◌↔◌, ◌⊎◌, ℕ, length, IsSome, IfOk, IfSome, IfNone, OnErr};
 ghost use Rattle.ksi_aggregator.specs.Rows.{fresh_round, round_request, round_submission, round_close, round_response, round_restarted};
 ghost use Rattle.ksi_aggregator.specs.Rounds.{rounds_of, IsNew, HasPlace, SameRounds, IsTurn};
+ghost use Rattle.ksi_aggregator.specs.Refusals.{IsFull, IsKnown, IsFullFor, AwaitsResponse};
 ghost use Rattle.ksi_aggregator.specs.Issuing.{IsIssued, NotIssued};
 
 use crate::place::Place;
@@ -8,7 +9,7 @@ use crate::rounds::Rounds;
 use crate::step::Step;
 use ksi_aggchain::Item;
 use ksi_imprint::{Bytes, Compress, Imprint, NoMemory};
-use ksi_signature::Above;
+use ksi_signature::{Above, Answer};
 use std::alloc::Global;
 use std::collections::BTreeMap;
 use std::marker::Model;
@@ -54,7 +55,9 @@ impl<C: Compress> Aggregator<C> {
         self.me
     }
 
-    /// Takes the request of a number for a second. The number is new to its rounds, and the second is before 2^63.
+    /// Takes the request of a number for a second: an item of level 0 of the round. The number is new to its rounds, and
+    /// the second is before 2^63. The answer is that number, `Late` where the round is closed, else `Full` where it has
+    /// 65,536 items.
     ///
     /// # Errors
     /// `NoMemory`: all is as it was.
@@ -63,6 +66,8 @@ impl<C: Compress> Aggregator<C> {
         requires early { second < 2 ^ 63 }
         ensures me { self.new.me ≡ self.old.me }
         ensures step { IfOk result (IsTurn (rounds_of self.old) (rounds_of self.new) second (round_request number imprint (rounds_of self.old second))) }
+        ensures late { IfOk result (λ step. (step.answer ≡ Answer.Late) ↔ IsSome (rounds_of self.old second).closed) }
+        ensures full { IfOk result (λ step. (step.answer ≡ Answer.Full) ↔ IsFull (rounds_of self.old second)) }
         ensures unchanged { OnErr result (SameRounds (rounds_of self.old) (rounds_of self.new)) }
     {
         let place = self.rounds.count(second);
@@ -70,7 +75,9 @@ impl<C: Compress> Aggregator<C> {
         self.rounds.request(number, second, imprint)
     }
 
-    /// Takes an item of a level to 239 that an aggregator submits for a second before 2^63.
+    /// Takes an item of a level to 239 that an aggregator submits for a second before 2^63. The answer is `Done`, `Late`
+    /// where the round is closed, else `Known` where an item of that aggregator is there, else `Full` where it has 65,536
+    /// items.
     ///
     /// # Errors
     /// `NoMemory`: all is as it was.
@@ -79,12 +86,16 @@ impl<C: Compress> Aggregator<C> {
         requires level { item.level ≤ 239 }
         ensures me { self.new.me ≡ self.old.me }
         ensures step { IfOk result (IsTurn (rounds_of self.old) (rounds_of self.new) second (round_submission aggregator item (rounds_of self.old second))) }
+        ensures late { IfOk result (λ step. (step.answer ≡ Answer.Late) ↔ IsSome (rounds_of self.old second).closed) }
+        ensures known { IfOk result (λ step. (step.answer ≡ Answer.Known) ↔ IsKnown aggregator (rounds_of self.old second)) }
+        ensures full { IfOk result (λ step. (step.answer ≡ Answer.Full) ↔ IsFullFor aggregator (rounds_of self.old second)) }
         ensures unchanged { OnErr result (SameRounds (rounds_of self.old) (rounds_of self.new)) }
     {
         self.rounds.submission(aggregator, second, item)
     }
 
-    /// Closes the round of a second before 2^63, and submits its item to the parent where it has items.
+    /// Closes the round of a second before 2^63, and submits its tree's item to the parent where it has items. The answer
+    /// is `Done`, or `Closed` where it is closed already.
     ///
     /// # Errors
     /// `NoMemory`: all is as it was.
@@ -92,13 +103,15 @@ impl<C: Compress> Aggregator<C> {
         requires { second < 2 ^ 63 }
         ensures me { self.new.me ≡ self.old.me }
         ensures step { IfOk result (IsTurn (rounds_of self.old) (rounds_of self.new) second (round_close C.image (rounds_of self.old second))) }
+        ensures closed { IfOk result (λ step. (step.answer ≡ Answer.Closed) ↔ IsSome (rounds_of self.old second).closed) }
         ensures unchanged { OnErr result (SameRounds (rounds_of self.old) (rounds_of self.new)) }
     {
         self.rounds.close(second)
     }
 
     /// Takes the response to its round of a second before 2^63, and sends on what stands above the items of lower
-    /// aggregators. It has at most 7 chains where there are such items.
+    /// aggregators. It has at most 7 chains where there are such items. The answer is `Done`, or `Nothing` where the round
+    /// is not closed, has no items or has a response already.
     ///
     /// # Errors
     /// `NoMemory`: all is as it was.
@@ -107,6 +120,8 @@ impl<C: Compress> Aggregator<C> {
         requires chains { HasPlace (rounds_of self.old second) above.now }
         ensures me { self.new.me ≡ self.old.me }
         ensures step { IfOk result (IsTurn (rounds_of self.old) (rounds_of self.new) second (round_response C.image above.now (rounds_of self.old second))) }
+        ensures done { IfOk result (λ step. (step.answer ≡ Answer.Done) ↔ AwaitsResponse (rounds_of self.old second)) }
+        ensures nothing { IfOk result (λ step. (step.answer ≡ Answer.Done) ⊎ (step.answer ≡ Answer.Nothing)) }
         ensures unchanged { OnErr result (SameRounds (rounds_of self.old) (rounds_of self.new)) }
     {
         self.rounds.response(second, above)

@@ -1,9 +1,14 @@
-use Rattle.std.proofs.Common.{◌≡◌, ◌≢◌, ℕ, List, length, Option, Some, nat_cmp, sym, subst, ap, ◌∙◌}
+use Rattle.std.proofs.Common.{◌≡◌, ◌≢◌, ℕ, List, length, Option, Some, nat_cmp, sym, subst, ap, ◌∙◌, ◌↔◌, ◌⊎◌}
+use Rattle.std.specs.Prelude.{IsSome}
 use Rattle.std.specs.BTreeMap.{get}
 use Rattle.ksi_aggregator.specs.declared.place.Place.{Place}
-use Rattle.ksi_aggregator.specs.Rows.{round_request}
+use Rattle.ksi_aggregator.specs.Rows.{RoundState, round_request}
 use Rattle.ksi_aggregator.specs.Rounds.{AggregatorState, rounds_of, round_at, items_in, IsNew}
 use Rattle.ksi_aggregator.specs.Issuing.{AreFound}
+use Rattle.ksi_signature.specs.declared.answer.Answer.{Answer}
+use Rattle.ksi_signature.specs.declared.answer.Answer.TheVariants as answers
+use Rattle.ksi_aggregator.specs.Refusals.{IsFull, IsKnown, IsFullFor, AwaitsResponse}
+use Rattle.ksi_aggregator.proofs.Words.{by_row, full_request, late_request}
 use Rattle.ksi_aggregator.proofs.Found.{found_step, found_new, found_request, early_new, other_key}
 use Rattle.ksi_aggregator.proofs.aggregator.Aggregator.request.Goals as goal
 
@@ -26,3 +31,19 @@ invariant_of-self-2 g c =
           (λ changes. found_request number c.args.imprint old new second places found changes at) c.request.ensures.step c.request.ensures.unchanged,
       early_new number place before places c.self.invariant.1 c.requires.early put keeps,
     )
+
+pub returns-clause-late : goal.returns-clause-late
+returns-clause-late g c =
+    let second = c.args.second in
+    let r = round_at c.self.inside.rounds second in
+    by_row c.request.result (round_at c.self.inside.rounds) (round_at c.request.new.self) second (round_request c.args.number c.args.imprint r) r (rounds_of c.args.self.now second)
+    (λ (r : RoundState) (answer : Answer). (answer ≡ answers.Late) ↔ IsSome r.closed)
+    (ap (λ (a : AggregatorState). rounds_of a second) c.self.view_is) c.request.ensures.step (late_request c.args.number c.args.imprint r)
+
+pub returns-clause-full : goal.returns-clause-full
+returns-clause-full g c =
+    let second = c.args.second in
+    let r = round_at c.self.inside.rounds second in
+    by_row c.request.result (round_at c.self.inside.rounds) (round_at c.request.new.self) second (round_request c.args.number c.args.imprint r) r (rounds_of c.args.self.now second)
+    (λ (r : RoundState) (answer : Answer). (answer ≡ answers.Full) ↔ IsFull r)
+    (ap (λ (a : AggregatorState). rounds_of a second) c.self.view_is) c.request.ensures.step (full_request c.args.number c.args.imprint r)
