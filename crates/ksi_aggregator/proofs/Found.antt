@@ -1,5 +1,5 @@
 -- The items of requests stay found by their numbers, whatever a row makes of a round.
-use Rattle.std.proofs.Common.{◌≡◌, ◌≢◌, ◌<◌, ◌≤◌, ◌^◌, arith, Result, Ok, Err, nat_cmp, ℕ, ◌++◌, List, [], ◌∷◌, length, Bool, true, false, cond, eqb, Option, Some, None, refl, ap, sym, subst, ◌∙◌, ◌⊎◌, inl, inr}
+use Rattle.std.proofs.Common.{◌≡◌, ◌↔◌, not, ◌≢◌, ◌<◌, ◌≤◌, ◌^◌, arith, Result, Ok, Err, nat_cmp, ℕ, ◌++◌, List, [], ◌∷◌, length, Bool, true, false, cond, eqb, Option, Some, None, refl, ap, sym, subst, ◌∙◌, ◌⊎◌, inl, inr}
 use Rattle.std.specs.Prelude.{slice_get, unwrap_or, is_some, if◌then◌else◌, ◌==◌, IfOk, OnErr, IfNone}
 use Rattle.std.specs.Ordering.{is_eq}
 use Rattle.std.specs.BTreeMap.{is_at}
@@ -18,7 +18,7 @@ use Rattle.ksi_signature.specs.declared.answer.Answer.{Answer}
 use Rattle.ksi_signature.specs.declared.answer.Answer.TheVariants as answers
 use Rattle.ksi_aggregator.specs.declared.place.Place.{Place}
 use Rattle.ksi_aggregator.specs.Rows.{RoundState, RoundTurn, round_still, round_added, request_entry, submitted_entry, round_request, round_submission, round_close, round_response, fresh_round, round_restarted, response_where, closed_now}
-use Rattle.ksi_aggregator.specs.Rounds.{items_in, IsNew, SameRounds, ChangesOnly, IsTurn}
+use Rattle.ksi_aggregator.specs.Rounds.{items_in, StandsAt, IsNew, SameRounds, ChangesOnly, IsTurn}
 use Rattle.ksi_aggregator.specs.declared.step.Step.{Step}
 use Rattle.ksi_aggregator.specs.Issuing.{from_request, IsAnswered, NotIssuedAt, NotIssued, AreFound, AreEarly}
 use Rattle.ksi_aggregator.proofs.Items.{read_more}
@@ -220,3 +220,29 @@ early_new number place old new early low is keeps = λ n p at.
   where
     some_same : (a b : Place) → Some a ≡ Some b → a ≡ b
     some_same a b e = ap (λ (o : Option Place). unwrap_or o a) e
+
+-- WHAT IS NEW
+
+pub not_found_new : (rounds : ℕ → RoundState) (places : ℕ → Option Place) (number : ℕ) → AreFound rounds places → places number ≡ None → IsNew number rounds
+not_found_new rounds places number found none = λ t k item at. none-some (record { second = t; place = k }) (sym none ∙ found t k number item at)
+
+pub not_there_new : (rounds : ℕ → RoundState) (places : ℕ → Option Place) (number : ℕ) (place : Place) → AreFound rounds places → places number ≡ Some place
+    → (StandsAt number (items_in (rounds place.second)) place.place → ⊥) → IsNew number rounds
+not_there_new rounds places number place found is not_there = λ t k item at.
+    let same : place ≡ record { second = t; place = k } = some_same place (record { second = t; place = k }) (sym is ∙ found t k number item at) in
+    subst (λ (p : Place). StandsAt number (items_in (rounds p.second)) p.place → ⊥) same not_there (item, at)
+  where
+    some_same : (a b : Place) → Some a ≡ Some b → a ≡ b
+    some_same a b e = ap (λ (o : Option Place). unwrap_or o a) e
+
+-- a test that fails exactly where the item stands
+pub new_where : (rounds : ℕ → RoundState) (places : ℕ → Option Place) (number : ℕ) (place : Place) (test : Bool) → AreFound rounds places → places number ≡ Some place
+    → (test ≡ true) ↔ StandsAt number (items_in (rounds place.second)) place.place → (not test ≡ true) ↔ IsNew number rounds
+new_where rounds places number place true found is says =
+    (λ e. absurd (false≢true e), λ new. let there = says.0 refl in absurd (new place.second place.place there.0 there.1))
+new_where rounds places number place false found is says =
+    (λ e. not_there_new rounds places number place found is (λ there. false≢true (says.1 there)), λ new. refl)
+
+pub none_stands : (number k : ℕ) (round : RoundState) → round ≡ fresh_round → (false ≡ true) ↔ StandsAt number (items_in round) k
+none_stands number k round fresh =
+    (λ e. absurd (false≢true e), λ there. let at = subst (λ (r : RoundState). slice_get (items_in r) k ≡ Some (from_request number there.0)) fresh there.1 in absurd (none-some (from_request number there.0) at))

@@ -19,6 +19,10 @@ round_at kept t = unwrap_or (lookup (is_at (nat_cmp t)) kept) fresh_round
 abbrev pub items_in : RoundState → List Entry
 items_in r = unwrap_or r.closed r.open_items
 
+-- item k is one of the request
+abbrev pub StandsAt : ℕ → List Entry → ℕ → Type 0
+StandsAt number entries k = (item : Item) × (slice_get entries k ≡ Some (record { origin = origins.Request number; item = item }))
+
 -- no item of the request stands in a round
 abbrev pub IsNew : ℕ → (ℕ → RoundState) → Type 0
 IsNew number rounds = (t k : ℕ) (item : Item) → slice_get (items_in (rounds t)) k ≡ Some (record { origin = origins.Request number; item = item }) → ⊥

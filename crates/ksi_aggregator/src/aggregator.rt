@@ -1,4 +1,4 @@
-ghost use Rattle.std.specs.Prelude.{◌≡◌, ◌≤◌, ◌<◌, ◌^◌, ◌↔◌, ◌⊎◌, ℕ, length, IsSome, IfOk, IfSome, IfNone, OnErr};
+ghost use Rattle.std.specs.Prelude.{◌≡◌, ◌≤◌, ◌<◌, ◌^◌, ◌↔◌, ◌⊎◌, ℕ, length, IsSome, IsTrue, IfOk, IfSome, IfNone, OnErr};
 ghost use Rattle.ksi_aggregator.specs.Rows.{fresh_round, round_request, round_submission, round_close, round_response, round_restarted};
 ghost use Rattle.ksi_aggregator.specs.Rounds.{rounds_of, IsNew, HasPlace, SameRounds, IsTurn};
 ghost use Rattle.ksi_aggregator.specs.Refusals.{IsFull, IsKnown, IsFullFor, AwaitsResponse};
@@ -53,6 +53,16 @@ impl<C: Compress> Aggregator<C> {
         ensures { result ≡ self.now.me }
     {
         self.me
+    }
+
+    /// Whether the number is new to its rounds: no item of the request stands in one, open or closed.
+    pub fn is_new(&self, number: u64) -> bool
+        ensures { IsTrue result ↔ IsNew number (rounds_of self.now) }
+    {
+        match self.requests.get(&number) {
+            Some(place) => !self.rounds.has_request(number, place.second, place.place),
+            None => true,
+        }
     }
 
     /// Takes the request of a number for a second: an item of level 0 of the round. The number is new to its rounds, and

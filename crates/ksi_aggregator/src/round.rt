@@ -2,7 +2,7 @@
 ghost use Rattle.std.specs.Prelude.{◌≡◌, ◌≤◌, ◌<◌, ◌^◌, ◌↔◌, length, slice_get, is_some, Some, IsTrue, IfOk, IfSome, IfNone, OnErr};
 ghost use Rattle.ksi_aggchain.specs.declared.item.Item.{Item};
 ghost use Rattle.ksi_aggregator.specs.Rows.{fresh_round, round_request, round_submission, round_close, round_response};
-ghost use Rattle.ksi_aggregator.specs.Rounds.{items_in, HasPlace};
+ghost use Rattle.ksi_aggregator.specs.Rounds.{items_in, StandsAt, HasPlace};
 ghost use Rattle.ksi_aggregator.specs.Issuing.{IsIssuedAt, NotIssuedAt, from_request, issued_text};
 
 use crate::copies::copy_above;
@@ -60,6 +60,13 @@ impl<C: Compress> Round<C> {
         ensures { result ≡ length (items_in self.now) }
     {
         self.entries.count()
+    }
+
+    /// Whether the item at a place is one of the request.
+    pub(crate) fn has_request(&self, number: u64, place: usize) -> bool
+        ensures { IsTrue result ↔ StandsAt number (items_in self.now) place }
+    {
+        stands_at(&self.entries, number, place)
     }
 
     /// Takes the request of a number.
@@ -215,6 +222,17 @@ fn issued_by<C: Compress>(
     let links = entries.path(place)?;
     let bytes = issue(alloc, second, &entry.item.imprint, links.as_slice(), above)?;
     Ok(Some(bytes))
+}
+
+/// Whether the item at a place among these is one of the request.
+fn stands_at<C: Compress>(entries: &Entries<C>, number: u64, place: usize) -> bool
+    ensures { IsTrue result ↔ StandsAt number entries.now place }
+{
+    if place >= entries.count() {
+        return false;
+    }
+    let entry = entries.entry(place);
+    is_request(&entry.origin, number)
 }
 
 /// Whether this is the request of the number.

@@ -1,9 +1,9 @@
 //! The rounds of all seconds.
-ghost use Rattle.std.specs.Prelude.{◌≡◌, ◌≤◌, ◌<◌, ◌^◌, ℕ, length, Some, IfOk, IfSome, IfNone, OnOk, OnErr};
+ghost use Rattle.std.specs.Prelude.{◌≡◌, ◌≤◌, ◌<◌, ◌^◌, ℕ, length, Some, IsTrue, ◌↔◌, IfOk, IfSome, IfNone, OnOk, OnErr};
 ghost use Rattle.std.specs.Ordering.{nat_cmp};
 ghost use Rattle.std.specs.BTreeMap.{get};
 ghost use Rattle.ksi_aggregator.specs.Rows.{fresh_round, round_request, round_submission, round_close, round_response, round_restarted};
-ghost use Rattle.ksi_aggregator.specs.Rounds.{round_at, items_in, HasPlace, SameRounds, IsTurn, ChangesOnly};
+ghost use Rattle.ksi_aggregator.specs.Rounds.{round_at, items_in, HasPlace, SameRounds, IsTurn, ChangesOnly, StandsAt};
 ghost use Rattle.ksi_aggregator.specs.Issuing.{IsIssuedAt, NotIssuedAt};
 
 use crate::round::Round;
@@ -48,6 +48,16 @@ impl<C: Compress> Rounds<C> {
         match self.map.get(&second) {
             Some(round) => round.count(),
             None => 0,
+        }
+    }
+
+    /// Whether the item at a place in the round of a second is one of the request.
+    pub(crate) fn has_request(&self, number: u64, second: u64, place: usize) -> bool
+        ensures { IsTrue result ↔ StandsAt number (items_in (round_at self.now second)) place }
+    {
+        match self.map.get(&second) {
+            Some(round) => round.has_request(number, place),
+            None => false,
         }
     }
 
