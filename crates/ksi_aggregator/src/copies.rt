@@ -26,9 +26,10 @@ pub(crate) fn copy_with(alloc: Global, own: AboveChain, above: &Above) -> Result
     ensures { IfOk result (λ copy. copy ≡
         record { root = above.now.root; chains = own ∷ above.now.chains; calendar = above.now.calendar }) }
 {
-    let mut chains = Vec::with_capacity(alloc, above.chains.as_slice().len() + 1)?;
+    let others = above.chains.as_slice();
+    let mut chains = Vec::with_capacity(alloc, others.len() + 1)?;
     chains.push(own)?;
-    copy_chains(alloc, above.chains.as_slice(), &mut chains)?;
+    copy_chains(alloc, others, &mut chains)?;
     Ok(Above {
         root: above.root,
         chains: AboveChains::from_vec(chains),
