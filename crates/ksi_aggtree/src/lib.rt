@@ -7,7 +7,8 @@
 //! The layer above may rely on this: `root` is the tree of the items; the links of `path` climb from an item to it along
 //! the item's way; `node` is the tree of the part that sides lead to. Only `new`, `add` and the paths take memory, and
 //! after a refused `add` all is as it was. A path takes at most 32 steps, each the read of one stored node, and one step
-//! at least for the item and for each link. What holds of the definitions is in `laws`.
+//! at least for the item and for each link. [`Entries`] is a round that also keeps where each item came from, a request
+//! or an aggregator. What holds of the definitions is in `laws`.
 //!
 //! ```text
 //! let mut round = Builder::<Sha>::new(alloc)?;
@@ -19,6 +20,9 @@
 #![tactic(auto)]
 
 mod builder;
+mod entries;
+#[cfg(test)]
+mod entries_tests;
 mod join;
 pub mod laws;
 mod links;
@@ -26,5 +30,6 @@ mod links;
 mod tests;
 
 pub use builder::{AddRefusal, Builder};
+pub use entries::{Entries, Entry, Origin};
 pub use ksi_rows::Steps;
 pub use links::Links;

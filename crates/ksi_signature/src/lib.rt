@@ -26,6 +26,7 @@
 #![tactic(auto)]
 
 mod above;
+mod answer;
 mod bodies;
 mod carried;
 mod checker;
@@ -53,6 +54,7 @@ mod writer;
 #[cfg(test)]
 mod writer_tests;
 
+pub use answer::Answer;
 pub use above::{Above, AboveChain, AboveChains, AboveLinks};
 pub use checker::check;
 pub use containers::{CalendarContent, ChainContent, LinkContent, SignatureContent};

@@ -1,0 +1,87 @@
+-- The items of a round: reading one of them, and what they are below a response.
+use Rattle.std.proofs.Common.{◌≡◌, ℕ, zero, suc, ◌+◌, ◌<◌, ◌++◌, List, [], ◌∷◌, length, map, drop, Bool, true, false, ◌||◌, Option, Some, None, refl, ap, sym, subst, append_assoc, ◌∙◌, arith, ◌⊎◌, inl, inr}
+use Rattle.std.specs.Prelude.{slice_get, max}
+use Rattle.std.specs.List.{AllByRecursion}
+use Rattle.std.proofs.lemmas.Option.{none-some}
+use Rattle.std.proofs.lemmas.Bool.{false≢true}
+use Rattle.ksi_split.specs.declared.tree_link.TreeLink.{TreeLink}
+use Rattle.ksi_aggchain.specs.declared.item.Item.{Item}
+use Rattle.ksi_aggchain.specs.declared.link.Link.{Link}
+use Rattle.ksi_aggtree.specs.declared.entries.Entry.{Entry}
+use Rattle.ksi_aggtree.specs.Rounds.{item_at}
+use Rattle.ksi_aggtree.specs.Paths.{links_from, chain_of}
+use Rattle.ksi_signature.specs.Issued.{own_chain}
+use Rattle.ksi_aggtree.specs.Entries.{items_of}
+use Rattle.ksi_signature.specs.Above.{IsNode}
+use Rattle.ksi_signature.specs.declared.above.Above.{Above}
+use Rattle.ksi_aggregator.specs.declared.step.Send.{Send}
+use Rattle.ksi_aggregator.specs.Responses.{is_lower, has_lower, told_to, chain_at, below, responses_from}
+
+-- an item that is read
+pub read_item : (entries : List Entry) (k : ℕ) (entry : Entry) → slice_get entries k ≡ Some entry → item_at (items_of entries) k ≡ entry.item
+read_item [] k entry e = absurd (none-some entry e)
+read_item (x ∷ xs) zero entry e = ap (λ (o : Option Entry). item_or o) e
+  where
+    item_or : Option Entry → Item
+    item_or None = entry.item
+    item_or (Some y) = y.item
+read_item (x ∷ xs) (suc k) entry e = read_item xs k entry e
+
+-- from an item on, it stands first
+pub drop_read : (entries : List Entry) (k : ℕ) (entry : Entry) → slice_get entries k ≡ Some entry → drop k entries ≡ entry ∷ drop (suc k) entries
+drop_read [] k entry e = absurd (none-some entry e)
+drop_read (x ∷ xs) zero entry e = ap (λ (o : Option Entry). first_or o) e
+  where
+    first_or : Option Entry → List Entry
+    first_or None = x ∷ xs
+    first_or (Some y) = y ∷ xs
+drop_read (x ∷ xs) (suc k) entry e = drop_read xs k entry e
+
+-- an item of a lower aggregator is one of those that are there
+pub lower_read : (entries : List Entry) (k : ℕ) (entry : Entry) → slice_get entries k ≡ Some entry → is_lower entry.origin ≡ true → has_lower entries ≡ true
+lower_read [] k entry e lower = absurd (none-some entry e)
+lower_read (x ∷ xs) zero entry e lower = first (is_lower x.origin) (ap (λ (o : Option Entry). lower_or o) e ∙ lower)
+  where
+    lower_or : Option Entry → Bool
+    lower_or None = false
+    lower_or (Some y) = is_lower y.origin
+
+    first : (b : Bool) → b ≡ true → (b || has_lower xs) ≡ true
+    first true h = refl
+    first false h = absurd (false≢true h)
+lower_read (x ∷ xs) (suc k) entry e lower = later (is_lower x.origin) (lower_read xs k entry e lower)
+  where
+    later : (b : Bool) → has_lower xs ≡ true → (b || has_lower xs) ≡ true
+    later true h = refl
+    later false h = h
+
+-- the links of a round stand beside imprints
+pub nodes_from : (level : ℕ) (others : List (TreeLink Item)) → AllByRecursion (λ (link : Link). IsNode link.sibling) (links_from level others)
+nodes_from level [] = tt
+nodes_from level (s ∷ others) = (tt, nodes_from (max level s.sibling.level + 1) others)
+
+-- an item among those there are and one more is one of these, or the one more
+pub read_more : (xs : List Entry) (x : Entry) (k : ℕ) (y : Entry) → slice_get (xs ++ x ∷ []) k ≡ Some y → (slice_get xs k ≡ Some y) ⊎ ((k ≡ length xs) × (Some x ≡ Some y))
+read_more [] x zero y e = inr (refl, e)
+read_more [] x (suc k) y e = absurd (none-some y e)
+read_more (z ∷ zs) x zero y e = inl e
+read_more (z ∷ zs) x (suc k) y e = elim (read_more zs x k y e) [ inl h ↦ inl h | inr h ↦ inr (ap suc h.0, h.1) ]
+
+-- the next response goes behind those before it
+pub next_response : (image : List ℕ → List ℕ) (above : Above) (entries : List Entry) (k : ℕ) (entry : Entry) (sends more whole : List Send)
+    → slice_get entries k ≡ Some entry → more ≡ sends ++ told_to entry.origin (below image above (items_of entries) k)
+    → sends ++ responses_from image k above (items_of entries) (drop k entries) ≡ whole
+    → more ++ responses_from image (k + 1) above (items_of entries) (drop (k + 1) entries) ≡ whole
+next_response image above entries k entry sends more whole at put before =
+    let next : suc k ≡ k + 1 = omega arith in
+    let told = told_to entry.origin (below image above (items_of entries) k) in
+    subst (λ (j : ℕ). more ++ responses_from image j above (items_of entries) (drop j entries) ≡ whole) next
+    (ap (λ (xs : List Send). xs ++ responses_from image (suc k) above (items_of entries) (drop (suc k) entries)) put
+    ∙ append_assoc sends told (responses_from image (suc k) above (items_of entries) (drop (suc k) entries))
+    ∙ ap (λ (xs : List Entry). sends ++ responses_from image k above (items_of entries) xs) (sym (drop_read entries k entry at))
+    ∙ before)
+
+-- an item and links that are item k and its chain
+pub chain_like : (image : List ℕ → List ℕ) (items : List Item) (k : ℕ) (item : Item) (links : List Link) → item ≡ item_at items k → links ≡ chain_of image items k → own_chain item.imprint links ≡ chain_at image items k
+chain_like image items k item links same is =
+    ap (λ (x : Item). own_chain x.imprint links) same ∙ ap (λ (ls : List Link). own_chain (item_at items k).imprint ls) is

@@ -1,0 +1,5 @@
+pub mod Rows
+pub mod Responses
+pub mod Rounds
+pub mod Refusals
+pub mod Issuing

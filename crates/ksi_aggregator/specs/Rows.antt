@@ -1,0 +1,104 @@
+-- An aggregator's round of one second, and each row of the step table as a function of it.
+use Rattle.std.specs.Prelude.{ℕ, if◌then◌else◌, List, [], ◌∷◌, ◌++◌, is_some, Option, Some, None}
+use Rattle.ksi_aggchain.specs.declared.item.Item.{Item}
+use Rattle.ksi_aggtree.specs.declared.entries.Origin.TheVariants as origins
+use Rattle.ksi_aggtree.specs.declared.entries.Entry.{Entry}
+use Rattle.ksi_aggtree.specs.Rounds.{tree_of}
+use Rattle.ksi_aggtree.specs.Entries.{items_of, has_from, is_full}
+use Rattle.ksi_signature.specs.declared.above.Above.{Above}
+use Rattle.ksi_signature.specs.declared.answer.Answer.{Answer}
+use Rattle.ksi_signature.specs.declared.answer.Answer.TheVariants as answers
+use Rattle.ksi_aggregator.specs.declared.step.Send.{Send}
+use Rattle.ksi_aggregator.specs.declared.step.Send.TheVariants as sends
+use Rattle.ksi_aggregator.specs.Responses.{responses}
+
+-- what an aggregator keeps for one second: the items that are not closed yet, those that are, and the first response
+pub record RoundState : Type 0 where
+  pub open_items : List Entry
+  pub closed : Option (List Entry)
+  pub answered : Option Above
+
+abbrev pub fresh_round : RoundState
+fresh_round = record { open_items = []; closed = None; answered = None }
+
+-- what a step makes of a round: the round after it, the answer, and what is sent
+pub record RoundTurn : Type 0 where
+  pub after : RoundState
+  pub answer : Answer
+  pub sends : List Send
+
+-- nothing changes
+abbrev pub round_still : RoundState → Answer → RoundTurn
+round_still r answer = record { after = r; answer = answer; sends = [] }
+
+abbrev pub round_added : RoundState → Entry → Answer → RoundTurn
+round_added r entry answer = record {
+  after = record { open_items = r.open_items ++ entry ∷ []; closed = r.closed; answered = r.answered };
+  answer = answer;
+  sends = [];
+}
+
+-- REQUEST, of this number
+
+abbrev pub request_entry : ℕ → List ℕ → Entry
+request_entry number imprint = record { origin = origins.Request number; item = record { imprint = imprint; level = 0 } }
+
+unfoldable pub round_request : (number : ℕ) → List ℕ → RoundState → RoundTurn
+round_request number imprint r =
+    if is_some r.closed then round_still r answers.Late
+    else if is_full r.open_items then round_still r answers.Full
+    else round_added r (request_entry number imprint) (answers.Number number)
+
+-- SUBMISSION(ITEM) FROM AN AGGREGATOR
+
+abbrev pub submitted_entry : ℕ → Item → Entry
+submitted_entry from item = record { origin = origins.Aggregator from; item = item }
+
+unfoldable pub round_submission : (from : ℕ) → Item → RoundState → RoundTurn
+round_submission from item r =
+    if is_some r.closed then round_still r answers.Late
+    else if has_from from r.open_items then round_still r answers.Known
+    else if is_full r.open_items then round_still r answers.Full
+    else round_added r (submitted_entry from item) answers.Done
+
+-- RESTART
+
+-- an open round is forgotten, and a closed one stays
+abbrev pub round_restarted : RoundState → RoundState
+round_restarted r = if is_some r.closed then r else fresh_round
+
+module _ (image : List ℕ → List ℕ) where
+  -- CLOSE
+
+  -- the item of the round's tree, where it has items
+  abbrev pub submission_of : List Entry → List Send
+  submission_of [] = []
+  submission_of (entry ∷ entries) = sends.Submission (tree_of image (items_of (entry ∷ entries))) ∷ []
+
+  abbrev pub closed_now : RoundState → RoundTurn
+  closed_now r = record {
+    after = record { open_items = []; closed = Some r.open_items; answered = r.answered };
+    answer = answers.Done;
+    sends = submission_of r.open_items;
+  }
+
+  unfoldable pub round_close : RoundState → RoundTurn
+  round_close r = if is_some r.closed then round_still r answers.Closed else closed_now r
+
+  -- RESPONSE(ABOVE)
+
+  abbrev pub answered_now : Above → List Entry → RoundState → RoundTurn
+  answered_now above entries r = record {
+    after = record { open_items = r.open_items; closed = r.closed; answered = Some above };
+    answer = answers.Done;
+    sends = responses image above entries;
+  }
+
+  abbrev pub response_where : Above → Option (List Entry) → Option Above → RoundState → RoundTurn
+  response_where above None answered r = round_still r answers.Nothing
+  response_where above (Some []) answered r = round_still r answers.Nothing
+  response_where above (Some (entry ∷ entries)) (Some first) r = round_still r answers.Nothing
+  response_where above (Some (entry ∷ entries)) None r = answered_now above (entry ∷ entries) r
+
+  unfoldable pub round_response : Above → RoundState → RoundTurn
+  round_response above r = response_where above r.closed r.answered r

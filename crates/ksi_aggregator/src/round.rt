@@ -1,0 +1,242 @@
+//! The round of one second.
+ghost use Rattle.std.specs.Prelude.{◌≡◌, ◌≤◌, ◌<◌, ◌^◌, ◌↔◌, length, slice_get, is_some, Some, IsTrue, IfOk, IfSome, IfNone, OnErr};
+ghost use Rattle.ksi_aggchain.specs.declared.item.Item.{Item};
+ghost use Rattle.ksi_aggregator.specs.Rows.{fresh_round, round_request, round_submission, round_close, round_response};
+ghost use Rattle.ksi_aggregator.specs.Rounds.{items_in, StandsAt, HasPlace};
+ghost use Rattle.ksi_aggregator.specs.Issuing.{IsIssuedAt, NotIssuedAt, from_request, issued_text};
+
+use crate::copies::copy_above;
+use crate::responses::responses;
+use crate::step::{Send, Sends, Step};
+use ksi_aggchain::Item;
+use ksi_aggtree::{AddRefusal, Entries, Entry, Origin};
+use ksi_imprint::{Bytes, Compress, Imprint, NoMemory};
+use ksi_signature::{Above, Answer, issue};
+use std::alloc::Global;
+use std::marker::Model;
+
+/// The items of a second, whether these are closed, and then the first response. A contract sees the round's state.
+#[derive(Drop)]
+pub(crate) struct Round<C: Compress> {
+    entries: Entries<C>,
+    is_closed: bool,
+    response: Option<Above>,
+}
+
+impl<C: Compress> Model for Round<C> {
+    ghost use Rattle.std.specs.Prelude.{◌≡◌, false, if◌then◌else◌, [], Some, None};
+    ghost use Rattle.ksi_aggregator.specs.Rows.{RoundState};
+
+    ghost Value = { RoundState };
+
+    ghost view = { λ r. record {
+      open_items = if r.is_closed then [] else r.entries;
+      closed = if r.is_closed then Some r.entries else None;
+      answered = if r.is_closed then r.response else None;
+    } };
+}
+
+impl<C: Compress> Round<C> {
+    /// A round without items.
+    pub(crate) fn new(alloc: Global) -> Result<Self, NoMemory>
+        ensures { IfOk result (λ round. round ≡ fresh_round) }
+    {
+        Ok(Round {
+            entries: Entries::new(alloc)?,
+            is_closed: false,
+            response: None,
+        })
+    }
+
+    /// Whether the round is closed.
+    pub(crate) fn is_closed(&self) -> bool
+        ensures { result ≡ is_some self.now.closed }
+    {
+        self.is_closed
+    }
+
+    /// How many items there are.
+    pub(crate) fn count(&self) -> usize
+        ensures { result ≡ length (items_in self.now) }
+    {
+        self.entries.count()
+    }
+
+    /// Whether the item at a place is one of the request.
+    pub(crate) fn has_request(&self, number: u64, place: usize) -> bool
+        ensures { IsTrue result ↔ StandsAt number (items_in self.now) place }
+    {
+        stands_at(&self.entries, number, place)
+    }
+
+    /// Takes the request of a number.
+    #[tactic(auto, unfolding(crate::specs::Rows::round_request))]
+    pub(crate) fn request(
+        &mut self,
+        alloc: Global,
+        number: u64,
+        imprint: Imprint,
+    ) -> Result<Step, NoMemory>
+        ensures after { IfOk result (λ step. self.new ≡ (round_request number imprint self.old).after) }
+        ensures answer { IfOk result (λ step. step.answer ≡ (round_request number imprint self.old).answer) }
+        ensures sends { IfOk result (λ step. step.sends ≡ (round_request number imprint self.old).sends) }
+        ensures unchanged { OnErr result (self.new ≡ self.old) }
+    {
+        if self.is_closed {
+            return Ok(Step::still(alloc, Answer::Late));
+        }
+        let entry = Entry {
+            origin: Origin::Request(number),
+            item: Item { imprint, level: 0 },
+        };
+        match self.entries.add(entry) {
+            Ok(_) => Ok(Step::still(alloc, Answer::Number(number))),
+            Err(AddRefusal::Full) => Ok(Step::still(alloc, Answer::Full)),
+            Err(AddRefusal::NoMemory) => Err(NoMemory),
+        }
+    }
+
+    /// Takes the item of an aggregator.
+    #[tactic(auto, unfolding(crate::specs::Rows::round_submission))]
+    pub(crate) fn submission(
+        &mut self,
+        alloc: Global,
+        from: u32,
+        item: Item,
+    ) -> Result<Step, NoMemory>
+        requires { item.level ≤ 239 }
+        ensures after { IfOk result (λ step. self.new ≡ (round_submission from item self.old).after) }
+        ensures answer { IfOk result (λ step. step.answer ≡ (round_submission from item self.old).answer) }
+        ensures sends { IfOk result (λ step. step.sends ≡ (round_submission from item self.old).sends) }
+        ensures unchanged { OnErr result (self.new ≡ self.old) }
+    {
+        if self.is_closed {
+            return Ok(Step::still(alloc, Answer::Late));
+        }
+        if self.entries.has_from(from) {
+            return Ok(Step::still(alloc, Answer::Known));
+        }
+        let entry = Entry {
+            origin: Origin::Aggregator(from),
+            item,
+        };
+        match self.entries.add(entry) {
+            Ok(_) => Ok(Step::still(alloc, Answer::Done)),
+            Err(AddRefusal::Full) => Ok(Step::still(alloc, Answer::Full)),
+            Err(AddRefusal::NoMemory) => Err(NoMemory),
+        }
+    }
+
+    /// Closes the round.
+    #[tactic(auto, unfolding(crate::specs::Rows::round_close))]
+    pub(crate) fn close(&mut self, alloc: Global) -> Result<Step, NoMemory>
+        ensures after { IfOk result (λ step. self.new ≡ (round_close C.image self.old).after) }
+        ensures answer { IfOk result (λ step. step.answer ≡ (round_close C.image self.old).answer) }
+        ensures sends { IfOk result (λ step. step.sends ≡ (round_close C.image self.old).sends) }
+        ensures unchanged { OnErr result (self.new ≡ self.old) }
+    {
+        if self.is_closed {
+            return Ok(Step::still(alloc, Answer::Closed));
+        }
+        let mut sends = Vec::new(alloc);
+        if let Some(root) = self.entries.root() {
+            sends.push(Send::Submission(root))?;
+        }
+        self.is_closed = true;
+        Ok(Step {
+            answer: Answer::Done,
+            sends: Sends::from_vec(sends),
+        })
+    }
+
+    /// Takes the response to the round.
+    #[tactic(auto, unfolding(crate::specs::Rows::round_response))]
+    pub(crate) fn response(&mut self, alloc: Global, above: &Above) -> Result<Step, NoMemory>
+        requires { HasPlace self.old above.now }
+        ensures after { IfOk result (λ step. self.new ≡ (round_response C.image above.now self.old).after) }
+        ensures answer { IfOk result (λ step. step.answer ≡ (round_response C.image above.now self.old).answer) }
+        ensures sends { IfOk result (λ step. step.sends ≡ (round_response C.image above.now self.old).sends) }
+        ensures unchanged { OnErr result (self.new ≡ self.old) }
+    {
+        if !self.is_closed || self.entries.count() == 0 || self.response.is_some() {
+            return Ok(Step::still(alloc, Answer::Nothing));
+        }
+        let sends = responses(alloc, &self.entries, above)?;
+        let first = copy_above(alloc, above)?;
+        self.response = Some(first);
+        Ok(Step {
+            answer: Answer::Done,
+            sends,
+        })
+    }
+
+    /// The signature of the request whose item stands at a place, where the round is closed and has a response; none
+    /// where no item of it stands there, or no response.
+    pub(crate) fn issued(
+        &self,
+        alloc: Global,
+        number: u64,
+        second: u64,
+        place: usize,
+    ) -> Result<Option<Bytes>, NoMemory>
+        requires { second < 2 ^ 63 }
+        ensures some { IfOk result (λ found. IfSome found (λ bytes. IsIssuedAt C.image self.now number second place bytes)) }
+        ensures short { IfOk result (λ found. IfSome found (λ bytes. length bytes ≤ 10000)) }
+        ensures none { IfOk result (λ found. IfNone found (NotIssuedAt self.now number place)) }
+    {
+        if !self.is_closed {
+            return Ok(None);
+        }
+        match &self.response {
+            None => Ok(None),
+            Some(above) => issued_by(alloc, &self.entries, number, second, place, above),
+        }
+    }
+}
+
+/// The signature of the request whose item stands at a place among these, by their response.
+fn issued_by<C: Compress>(
+    alloc: Global,
+    entries: &Entries<C>,
+    number: u64,
+    second: u64,
+    place: usize,
+    above: &Above,
+) -> Result<Option<Bytes>, NoMemory>
+    requires { second < 2 ^ 63 }
+    ensures some { IfOk result (λ found. IfSome found (λ bytes.
+        (item : Item) × (slice_get entries.now place ≡ Some (from_request number item))
+        × (bytes ≡ issued_text C.image second entries.now place item above.now))) }
+    ensures short { IfOk result (λ found. IfSome found (λ bytes. length bytes ≤ 10000)) }
+    ensures none { IfOk result (λ found. IfNone found (
+        (item : Item) → slice_get entries.now place ≡ Some (from_request number item) → ⊥)) }
+{
+    if place >= entries.count() {
+        return Ok(None);
+    }
+    let entry = entries.entry(place);
+    if !is_request(&entry.origin, number) {
+        return Ok(None);
+    }
+    let links = entries.path(place)?;
+    let bytes = issue(alloc, second, &entry.item.imprint, links.as_slice(), above)?;
+    Ok(Some(bytes))
+}
+
+/// Whether the item at a place among these is one of the request.
+fn stands_at<C: Compress>(entries: &Entries<C>, number: u64, place: usize) -> bool
+    ensures { IsTrue result ↔ StandsAt number entries.now place }
+{
+    if place >= entries.count() {
+        return false;
+    }
+    let entry = entries.entry(place);
+    is_request(&entry.origin, number)
+}
+
+/// Whether this is the request of the number.
+fn is_request(origin: &Origin, number: u64) -> bool
+    ensures { IsTrue result ↔ (origin.now ≡ Origin.Request number) }
+{
+    matches!(origin, Origin::Request(n) if *n == number)
+}

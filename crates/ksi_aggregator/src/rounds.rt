@@ -1,0 +1,165 @@
+//! The rounds of all seconds.
+ghost use Rattle.std.specs.Prelude.{◌≡◌, ◌≤◌, ◌<◌, ◌^◌, ℕ, length, Some, IsTrue, ◌↔◌, IfOk, IfSome, IfNone, OnOk, OnErr};
+ghost use Rattle.std.specs.Ordering.{nat_cmp};
+ghost use Rattle.std.specs.BTreeMap.{get};
+ghost use Rattle.ksi_aggregator.specs.Rows.{fresh_round, round_request, round_submission, round_close, round_response, round_restarted};
+ghost use Rattle.ksi_aggregator.specs.Rounds.{round_at, items_in, HasPlace, SameRounds, IsTurn, ChangesOnly, StandsAt};
+ghost use Rattle.ksi_aggregator.specs.Issuing.{IsIssuedAt, NotIssuedAt};
+
+use crate::round::Round;
+use crate::step::Step;
+use ksi_aggchain::Item;
+use ksi_imprint::{Bytes, Compress, Imprint, NoMemory};
+use ksi_signature::{Above, Answer};
+use std::alloc::Global;
+use std::collections::BTreeMap;
+use std::marker::Model;
+
+/// The rounds that are kept. The round of a second that nothing is kept of is a fresh one.
+#[derive(Drop)]
+pub(crate) struct Rounds<C: Compress> {
+    alloc: Global,
+    map: BTreeMap<u64, Round<C>>,
+}
+
+impl<C: Compress> Model for Rounds<C> {
+    ghost use Rattle.std.specs.Prelude.{ℕ, List};
+    ghost use Rattle.ksi_aggregator.specs.Rows.{RoundState};
+
+    ghost Value = { List (ℕ × RoundState) };
+
+    ghost view = { λ rounds. rounds.map.entries };
+}
+
+impl<C: Compress> Rounds<C> {
+    pub(crate) fn new(alloc: Global) -> Self
+        ensures { (t : ℕ) → round_at result t ≡ fresh_round }
+    {
+        Rounds {
+            alloc,
+            map: BTreeMap::new(alloc),
+        }
+    }
+
+    /// How many items the round of a second has.
+    pub(crate) fn count(&self, second: u64) -> usize
+        ensures { result ≡ length (items_in (round_at self.now second)) }
+    {
+        match self.map.get(&second) {
+            Some(round) => round.count(),
+            None => 0,
+        }
+    }
+
+    /// Whether the item at a place in the round of a second is one of the request.
+    pub(crate) fn has_request(&self, number: u64, second: u64, place: usize) -> bool
+        ensures { IsTrue result ↔ StandsAt number (items_in (round_at self.now second)) place }
+    {
+        match self.map.get(&second) {
+            Some(round) => round.has_request(number, place),
+            None => false,
+        }
+    }
+
+    /// Takes a request.
+    pub(crate) fn request(
+        &mut self,
+        number: u64,
+        second: u64,
+        imprint: Imprint,
+    ) -> Result<Step, NoMemory>
+        ensures step { IfOk result (IsTurn (round_at self.old) (round_at self.new) second (round_request number imprint (round_at self.old second))) }
+        ensures unchanged { OnErr result (SameRounds (round_at self.old) (round_at self.new)) }
+    {
+        make_room(self.alloc, &mut self.map, second)?;
+        match self.map.get_mut(&second) {
+            Some(round) => round.request(self.alloc, number, imprint),
+            None => unreachable!(),
+        }
+    }
+
+    /// Takes an item of an aggregator.
+    pub(crate) fn submission(
+        &mut self,
+        aggregator: u32,
+        second: u64,
+        item: Item,
+    ) -> Result<Step, NoMemory>
+        requires { item.level ≤ 239 }
+        ensures step { IfOk result (IsTurn (round_at self.old) (round_at self.new) second (round_submission aggregator item (round_at self.old second))) }
+        ensures unchanged { OnErr result (SameRounds (round_at self.old) (round_at self.new)) }
+    {
+        make_room(self.alloc, &mut self.map, second)?;
+        match self.map.get_mut(&second) {
+            Some(round) => round.submission(self.alloc, aggregator, item),
+            None => unreachable!(),
+        }
+    }
+
+    /// Closes a round.
+    pub(crate) fn close(&mut self, second: u64) -> Result<Step, NoMemory>
+        ensures step { IfOk result (IsTurn (round_at self.old) (round_at self.new) second (round_close C.image (round_at self.old second))) }
+        ensures unchanged { OnErr result (SameRounds (round_at self.old) (round_at self.new)) }
+    {
+        make_room(self.alloc, &mut self.map, second)?;
+        match self.map.get_mut(&second) {
+            Some(round) => round.close(self.alloc),
+            None => unreachable!(),
+        }
+    }
+
+    /// Takes a response.
+    #[tactic(auto, unfolding(crate::specs::Rows::round_response))]
+    pub(crate) fn response(&mut self, second: u64, above: &Above) -> Result<Step, NoMemory>
+        requires { HasPlace (round_at self.old second) above.now }
+        ensures step { IfOk result (IsTurn (round_at self.old) (round_at self.new) second (round_response C.image above.now (round_at self.old second))) }
+        ensures unchanged { OnErr result (SameRounds (round_at self.old) (round_at self.new)) }
+    {
+        match self.map.get_mut(&second) {
+            Some(round) => round.response(self.alloc, above),
+            None => Ok(Step::still(self.alloc, Answer::Nothing)),
+        }
+    }
+
+    /// Forgets the rounds that are not closed.
+    pub(crate) fn restart(&mut self)
+        ensures { (t : ℕ) → round_at self.new t ≡ round_restarted (round_at self.old t) }
+    {
+        self.map.retain(|_, round| round.is_closed());
+    }
+
+    /// What is issued of an item of a round.
+    pub(crate) fn issued(
+        &self,
+        number: u64,
+        second: u64,
+        place: usize,
+    ) -> Result<Option<Bytes>, NoMemory>
+        requires { second < 2 ^ 63 }
+        ensures some { IfOk result (λ found. IfSome found (IsIssuedAt C.image (round_at self.now second) number second place)) }
+        ensures short { IfOk result (λ found. IfSome found (λ bytes. length bytes ≤ 10000)) }
+        ensures none { IfOk result (λ found. IfNone found (NotIssuedAt (round_at self.now second) number place)) }
+    {
+        match self.map.get(&second) {
+            Some(round) => round.issued(self.alloc, number, second, place),
+            None => Ok(None),
+        }
+    }
+}
+
+/// Makes room for the round of a second, which changes nothing that is seen.
+fn make_room<C: Compress>(
+    alloc: Global,
+    map: &mut BTreeMap<u64, Round<C>>,
+    second: u64,
+) -> Result<(), NoMemory>
+    ensures same { SameRounds (round_at map.old.entries) (round_at map.new.entries) }
+    ensures there { OnOk result (get nat_cmp map.new second ≡ Some (round_at map.old.entries second)) }
+{
+    if map.contains_key(&second) {
+        return Ok(());
+    }
+    let fresh = Round::new(alloc)?;
+    map.insert(second, fresh)?;
+    Ok(())
+}

@@ -1,0 +1,241 @@
+ghost use Rattle.std.specs.Prelude.{◌≡◌, ◌<◌, ◌^◌, length, IfOk};
+
+use crate::*;
+use ksi_aggchain::Item;
+use ksi_imprint::{Compress, Imprint, Sha};
+use ksi_signature::{
+    Above, AboveChain, AboveChains, AboveLinks, AggChain, Answer, CalLinks, Signature, read,
+};
+use ksi_split::Side;
+use std::alloc::Global;
+use std::test::Fail;
+
+const T: u64 = 1700000000;
+
+fn item(bytes: &[u8]) -> Item
+    ensures { result.level ≡ 0 }
+{
+    Item {
+        imprint: Sha::of(bytes),
+        level: 0,
+    }
+}
+
+/// What a core sends of an item that stands alone there, whose imprint is the root.
+fn response_of(alloc: Global, input: Imprint) -> Result<Above, NoMemory>
+    ensures { IfOk result (λ above. length above.chains ≡ 1) }
+{
+    let mut chains = Vec::new(alloc);
+    chains.push(AboveChain {
+        input,
+        links: AboveLinks::from_vec(Vec::new(alloc)),
+    })?;
+    Ok(Above {
+        root: input,
+        chains: AboveChains::from_vec(chains),
+        calendar: CalLinks::from_vec(Vec::new(alloc)),
+    })
+}
+
+/// The item that is sent, where the step sends that alone.
+fn submitted(step: &Step) -> Option<Item> {
+    match step.sends.as_slice() {
+        [Send::Submission(item)] => Some(*item),
+        _ => None,
+    }
+}
+
+/// The signature that an aggregator issues, read again.
+fn issued(alloc: Global, aggregator: &Aggregator<Sha>, number: u64) -> Option<Signature> {
+    match aggregator.issued(number) {
+        Ok(Some(bytes)) => read(alloc, bytes.as_slice()).ok(),
+        _ => None,
+    }
+}
+
+/// Whether a chain of the second has this index, this input and so many links.
+fn is_chain(chain: &AggChain, index: &[u64], input: Imprint, links: usize) -> bool {
+    chain.time == T
+        && chain.index.as_slice() == index
+        && chain.input == input
+        && chain.links.as_slice().len() == links
+}
+
+/// Whether the first link of a chain is on this side of this sibling, and goes up one level.
+fn begins(chain: &AggChain, side: Side, sibling: Imprint) -> bool {
+    match chain.links.as_slice() {
+        [link, ..] => {
+            link.side == side
+                && link.correction == 0
+                && link.sibling.bytes() == sibling.bytes().as_slice()
+        }
+        [] => false,
+    }
+}
+
+#[test]
+fn a_request_after_the_close_is_late(rt: HostRuntime) -> Result<(), Fail> {
+    let (a, b) = (Sha::of(b"a"), Sha::of(b"b"));
+    let mut aggregator = Aggregator::<Sha>::new(rt.alloc(), 4);
+    assert_eq!(rt; aggregator.me(), 4);
+    assert!(rt; aggregator.is_new(0));
+    let step = aggregator.request(0, T, a)?;
+    assert_eq!(rt; step.answer, Answer::Number(0));
+    assert!(rt; step.sends.as_slice().is_empty());
+    assert!(rt; !aggregator.is_new(0));
+    let step = aggregator.close(T)?;
+    assert_eq!(rt; step.answer, Answer::Done);
+    assert_eq!(rt; submitted(&step), Some(item(b"a")));
+    assert!(rt; aggregator.is_new(1));
+    let step = aggregator.request(1, T, b)?;
+    assert_eq!(rt; step.answer, Answer::Late);
+    let step = aggregator.close(T)?;
+    assert_eq!(rt; step.answer, Answer::Closed);
+    assert!(rt; step.sends.as_slice().is_empty());
+    Ok(())
+}
+
+#[test]
+fn the_same_submission_is_known_and_then_late(rt: HostRuntime) -> Result<(), Fail> {
+    let mut aggregator = Aggregator::<Sha>::new(rt.alloc(), 0);
+    let step = aggregator.submission(3, T, item(b"a"))?;
+    assert_eq!(rt; step.answer, Answer::Done);
+    let step = aggregator.submission(3, T, item(b"b"))?;
+    assert_eq!(rt; step.answer, Answer::Known);
+    let step = aggregator.submission(3, T + 1, item(b"b"))?;
+    assert_eq!(rt; step.answer, Answer::Done);
+    let step = aggregator.close(T)?;
+    assert_eq!(rt; submitted(&step), Some(item(b"a")));
+    let step = aggregator.submission(3, T, item(b"a"))?;
+    assert_eq!(rt; step.answer, Answer::Late);
+    Ok(())
+}
+
+#[test]
+fn a_restart_loses_open_items(rt: HostRuntime) -> Result<(), Fail> {
+    let a = Sha::of(b"a");
+    let mut aggregator = Aggregator::<Sha>::new(rt.alloc(), 0);
+    assert!(rt; aggregator.is_new(0));
+    aggregator.request(0, T, a)?;
+    assert!(rt; aggregator.is_new(1));
+    aggregator.request(1, T + 1, a)?;
+    aggregator.close(T + 1)?;
+    aggregator.restart();
+    assert!(rt; aggregator.is_new(0));
+    assert!(rt; !aggregator.is_new(1));
+    let step = aggregator.close(T)?;
+    assert_eq!(rt; step.answer, Answer::Done);
+    assert!(rt; step.sends.as_slice().is_empty());
+    assert!(rt; aggregator.issued(0)?.is_none());
+    Ok(())
+}
+
+/// Aggregator 1, whose round has the request 0 of the hash of no bytes and is closed.
+fn lower(alloc: Global) -> Result<Aggregator<Sha>, NoMemory> {
+    let mut lower = Aggregator::new(alloc, 1);
+    if lower.is_new(0) {
+        lower.request(0, T, Sha::of(b""))?;
+    }
+    lower.close(T)?;
+    Ok(lower)
+}
+
+/// Aggregator 0, whose round has what aggregator 1 submits, and then the request 1 of the hash of `abc`.
+fn upper(alloc: Global) -> Result<Aggregator<Sha>, NoMemory> {
+    let mut upper = Aggregator::new(alloc, 0);
+    upper.submission(1, T, item(b""))?;
+    if upper.is_new(1) {
+        upper.request(1, T, Sha::of(b"abc"))?;
+    }
+    Ok(upper)
+}
+
+/// The imprint of the tree of that round.
+fn root() -> Imprint {
+    Sha::join(Sha::of(b"").bytes(), Sha::of(b"abc").bytes(), 1)
+}
+
+/// Aggregator 0 with its response, and what it sends to aggregator 1.
+fn answered(alloc: Global) -> Result<(Aggregator<Sha>, Option<Above>), NoMemory> {
+    let mut upper = upper(alloc)?;
+    upper.close(T)?;
+    let above = response_of(alloc, root())?;
+    let Step { answer: _, sends } = upper.response(T, &above)?;
+    let mut sends = sends.into_vec();
+    match sends.pop() {
+        Some(Send::Response(1, below)) if sends.is_empty() => Ok((upper, Some(below))),
+        _ => Ok((upper, None)),
+    }
+}
+
+#[test]
+fn the_tree_of_a_round_is_submitted(rt: HostRuntime) -> Result<(), Fail> {
+    let mut upper = upper(rt.alloc())?;
+    let above = response_of(rt.alloc(), root())?;
+    let early = upper.response(T, &above)?;
+    assert_eq!(rt; early.answer, Answer::Nothing);
+    let step = upper.close(T)?;
+    let tree = Item {
+        imprint: root(),
+        level: 1,
+    };
+    assert_eq!(rt; submitted(&step), Some(tree));
+    assert!(rt; upper.issued(1)?.is_none());
+    Ok(())
+}
+
+#[test]
+fn a_second_response_changes_nothing(rt: HostRuntime) -> Result<(), Fail> {
+    let (mut upper, _) = answered(rt.alloc())?;
+    let above = response_of(rt.alloc(), Imprint::ZERO)?;
+    let step = upper.response(T, &above)?;
+    assert_eq!(rt; step.answer, Answer::Nothing);
+    assert!(rt; step.sends.as_slice().is_empty());
+    Ok(())
+}
+
+#[test]
+fn a_request_beside_a_submission_is_issued(rt: HostRuntime) -> Result<(), Fail> {
+    let (upper, _) = answered(rt.alloc())?;
+    assert!(rt; upper.issued(0)?.is_none());
+    let issued = issued(rt.alloc(), &upper, 1);
+    assert!(rt; issued.is_some());
+    if let Some(signature) = issued {
+        assert_eq!(rt; signature.chains.as_slice().len(), 2);
+        if let [own, top] = signature.chains.as_slice() {
+            assert!(rt; is_chain(own, &[1, 2], Sha::of(b"abc"), 1));
+            assert!(rt; begins(own, Side::Right, Sha::of(b"")));
+            assert!(rt; is_chain(top, &[1], root(), 0));
+        }
+    }
+    Ok(())
+}
+
+/// Aggregator 1 with what aggregator 0 sends it.
+fn told(alloc: Global) -> Result<Aggregator<Sha>, NoMemory> {
+    let (_, below) = answered(alloc)?;
+    let mut lower = lower(alloc)?;
+    if let Some(below) = below {
+        if below.chains.as_slice().len() <= 7 {
+            lower.response(T, &below)?;
+        }
+    }
+    Ok(lower)
+}
+
+#[test]
+fn a_response_goes_down_a_cascade(rt: HostRuntime) -> Result<(), Fail> {
+    let lower = told(rt.alloc())?;
+    let issued = issued(rt.alloc(), &lower, 0);
+    assert!(rt; issued.is_some());
+    if let Some(signature) = issued {
+        assert_eq!(rt; signature.chains.as_slice().len(), 3);
+        if let [own, middle, top] = signature.chains.as_slice() {
+            assert!(rt; is_chain(own, &[1, 3, 1], Sha::of(b""), 0));
+            assert!(rt; is_chain(middle, &[1, 3], Sha::of(b""), 1));
+            assert!(rt; begins(middle, Side::Left, Sha::of(b"abc")));
+            assert!(rt; is_chain(top, &[1], root(), 0));
+        }
+    }
+    Ok(())
+}
