@@ -1,0 +1,206 @@
+ghost use Rattle.std.specs.Prelude.{◌≡◌, ℕ, ◌<◌, ◌≤◌, ◌+◌, ◌++◌, IfOk, OnOk, OnErr, Some, vec_len, vec_capacity};
+ghost use Rattle.std.specs.Ordering.{nat_cmp};
+ghost use Rattle.std.specs.BTreeMap.{is_at};
+ghost use Rattle.std.specs.Map.{lookup};
+ghost use Rattle.ksi_corenode.specs.SecondState.{fresh_second};
+ghost use Rattle.ksi_synod.specs.Voters.{cores_below};
+ghost use Rattle.ksi_synod.specs.Rows.{OfBallot};
+ghost use Rattle.ksi_corenode.specs.Turns.{to_each, told};
+ghost use Rattle.ksi_corenode.specs.Rows.{ballot_row, receive_row, tell_row, restart_row};
+ghost use Rattle.ksi_corenode.specs.CoreState.{second_at, held_by, IsSame, IsTurn};
+
+use crate::second::Second;
+use crate::step::{Send, Sends, Step};
+use ksi_imprint::{Compress, Imprint, NoMemory};
+use ksi_signature::Answer;
+use ksi_synod::{Begun, SynodMessage};
+use std::alloc::Global;
+use std::collections::BTreeMap;
+use std::marker::Model;
+
+/// A core: its number, how many cores there are, the first second, and what it keeps for each second.
+#[derive(Drop)]
+pub struct Core<C: Compress> {
+    alloc: Global,
+    me: u8,
+    members: u8,
+    start: u64,
+    seconds: BTreeMap<u64, Second<C>>,
+}
+
+impl<C: Compress> Model for Core<C> {
+    ghost use Rattle.std.specs.Prelude.{◌<◌, ◌≤◌};
+    ghost use Rattle.ksi_corenode.specs.CoreState.{CoreState};
+
+    ghost Value = { CoreState };
+
+    ghost view = { λ c. record { me = c.me; members = c.members; start = c.start; kept = c.seconds.entries } };
+
+    ghost invariant = { λ c. (c.me < c.members) × (c.members ≤ 9) };
+}
+
+impl<C: Compress> Core<C> {
+    /// Core `me` of so many, before anything came; the first second is `start`.
+    #[tactic(auto, unfolding(crate::specs::CoreState::second_at))]
+    pub fn new(alloc: Global, me: u8, members: u8, start: u64) -> Self
+        requires mine { me < members }
+        requires few { members ≤ 9 }
+        ensures me { result.me ≡ me }
+        ensures members { result.members ≡ members }
+        ensures start { result.start ≡ start }
+        ensures seconds { (t : ℕ) → second_at result t ≡ fresh_second me members t }
+    {
+        Core {
+            alloc,
+            me,
+            members,
+            start,
+            seconds: BTreeMap::new(alloc),
+        }
+    }
+
+    /// The root that this core holds for a second.
+    #[tactic(auto, unfolding(crate::specs::CoreState::second_at, crate::specs::SecondState::fresh_second, ksi_synod::specs::VoteState::fresh_vote))]
+    pub fn held(&self, second: u64) -> Option<Imprint>
+        ensures { result ≡ held_by self.now second }
+    {
+        match self.seconds.get(&second) {
+            Some(kept) => kept.held(),
+            None => None,
+        }
+    }
+
+    /// Tries a ballot for a second: NextBallot goes to the voters.
+    #[tactic(auto, unfolding(crate::specs::CoreState::second_at, crate::specs::Rows::ballot_row))]
+    pub fn ballot(&mut self, second: u64) -> Result<Step, NoMemory>
+        ensures turn { IfOk result (λ step. IsTurn self.old self.new second (ballot_row self.old.members second self.old.me (second_at self.old second)) step) }
+        ensures unchanged { OnErr result (IsSame self.old self.new) }
+    {
+        let mut sends = Vec::with_capacity(self.alloc, self.members as usize)?;
+        self.make_room(second)?;
+        let begun = match self.seconds.get_mut(&second) {
+            Some(kept) => kept.ballot(),
+            None => Begun::Unsealed,
+        };
+        let answer = match begun {
+            Begun::Unsealed => Answer::Unsealed,
+            Begun::Last => Answer::Last,
+            Begun::Next(ballot) => {
+                push_each(self.members, SynodMessage::NextBallot(ballot), &mut sends);
+                Answer::Done
+            }
+        };
+        Ok(Step {
+            answer,
+            sends: Sends::from_vec(sends),
+        })
+    }
+
+    /// Takes a message of the vote on a second from a core.
+    #[tactic(auto, unfolding(crate::specs::CoreState::second_at, crate::specs::Rows::receive_row))]
+    pub fn receive(
+        &mut self,
+        from: u8,
+        second: u64,
+        message: &SynodMessage,
+    ) -> Result<Step, NoMemory>
+        requires member { from < 9 }
+        requires ballot { OfBallot message.now }
+        ensures turn { IfOk result (λ step. IsTurn self.old self.new second (receive_row self.old.members second from message.now (second_at self.old second)) step) }
+        ensures unchanged { OnErr result (IsSame self.old self.new) }
+    {
+        let mut sends = Vec::with_capacity(self.alloc, self.members as usize)?;
+        self.make_room(second)?;
+        let (answer, reply) = match self.seconds.get_mut(&second) {
+            Some(kept) => kept.receive(from, message),
+            None => (Answer::Nothing, None),
+        };
+        push_told(self.members, second, from, reply, &mut sends);
+        Ok(Step {
+            answer,
+            sends: Sends::from_vec(sends),
+        })
+    }
+
+    /// Tells what is held for a second: Success goes to all cores.
+    #[tactic(auto, unfolding(crate::specs::CoreState::second_at, crate::specs::Rows::tell_row))]
+    pub fn tell(&mut self, second: u64) -> Result<Step, NoMemory>
+        ensures turn { IfOk result (λ step. IsTurn self.old self.new second (tell_row self.old.members second self.old.me (second_at self.old second)) step) }
+        ensures unchanged { OnErr result (IsSame self.old self.new) }
+    {
+        let mut sends = Vec::with_capacity(self.alloc, self.members as usize)?;
+        let answer = match self.held(second) {
+            None => Answer::Undecided(second),
+            Some(root) => {
+                push_each(self.members, SynodMessage::Success(root), &mut sends);
+                Answer::Done
+            }
+        };
+        Ok(Step {
+            answer,
+            sends: Sends::from_vec(sends),
+        })
+    }
+
+    /// Forgets every ballot in hand and all open items, as a restart does.
+    #[tactic(auto, unfolding(crate::specs::CoreState::second_at))]
+    pub fn restart(&mut self)
+        ensures me { self.new.me ≡ self.old.me }
+        ensures members { self.new.members ≡ self.old.members }
+        ensures start { self.new.start ≡ self.old.start }
+        ensures seconds { (t : ℕ) → second_at self.new t ≡ restart_row (second_at self.old t) }
+    {
+        self.seconds.retain(|_, kept| {
+            kept.restart();
+            true
+        });
+    }
+
+    /// Makes room for a second, which changes nothing that is seen.
+    #[tactic(auto, unfolding(crate::specs::CoreState::second_at))]
+    fn make_room(&mut self, second: u64) -> Result<(), NoMemory>
+        ensures same { IsSame self.old self.new }
+        ensures there { OnOk result (lookup (is_at (nat_cmp second)) self.new.kept ≡ Some (second_at self.old second)) }
+    {
+        if self.seconds.contains_key(&second) {
+            return Ok(());
+        }
+        let fresh = Second::new(self.alloc, self.me, self.members, second);
+        self.seconds.insert(second, fresh)?;
+        Ok(())
+    }
+}
+
+/// The message to each of the members, where there is room.
+fn push_each(members: u8, message: SynodMessage, sends: &mut Vec<Send>)
+    requires room { vec_len sends.old + members ≤ vec_capacity sends.old }
+    ensures { sends.new.items ≡ sends.old.items ++ to_each (cores_below members) message }
+{
+    for core in 0..members {
+        let _ = sends.push(Send::Synod(core, message));
+    }
+}
+
+/// A message to whom it goes, where there is room.
+fn push_told(
+    members: u8,
+    second: u64,
+    from: u8,
+    reply: Option<SynodMessage>,
+    sends: &mut Vec<Send>,
+)
+    requires some { 0 < members }
+    requires room { vec_len sends.old + members ≤ vec_capacity sends.old }
+    ensures { sends.new.items ≡ sends.old.items ++ told members second from reply }
+{
+    match reply {
+        None => {}
+        Some(SynodMessage::LastVote(last)) => {
+            let _ = sends.push(Send::Synod(from, SynodMessage::LastVote(last)));
+        }
+        Some(SynodMessage::Voted(ballot)) => {
+            let _ = sends.push(Send::Synod(from, SynodMessage::Voted(ballot)));
+        }
+        Some(message) => push_each(members, message, sends),
+    }
+}
