@@ -1,3 +1,4 @@
 pub mod Capped
 pub mod Climbing
 pub mod Chains
+pub mod Beside

@@ -19,6 +19,7 @@
 #![tactic(auto)]
 
 mod builder;
+mod entries;
 mod join;
 pub mod laws;
 mod links;
@@ -26,5 +27,6 @@ mod links;
 mod tests;
 
 pub use builder::{AddRefusal, Builder};
+pub use entries::{Entries, Entry, Origin};
 pub use ksi_rows::Steps;
 pub use links::Links;

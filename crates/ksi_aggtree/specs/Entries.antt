@@ -1,0 +1,37 @@
+-- The items of a round with where they came from. In a tree the items stand without their origins.
+use Rattle.std.specs.Prelude.{ℕ, Bool, false, ◌==◌, List, [], ◌∷◌, length, map}
+use Rattle.std.specs.List.{list_any}
+use Rattle.ksi_imprint.specs.Imprints.{zero_imprint}
+use Rattle.ksi_aggchain.specs.declared.item.Item.{Item}
+use Rattle.ksi_aggtree.specs.declared.entries.Origin.{Origin}
+use Rattle.ksi_aggtree.specs.declared.entries.Origin.TheVariants as origins
+use Rattle.ksi_aggtree.specs.declared.entries.Entry.{Entry}
+use Rattle.ksi_aggtree.specs.Rounds.{tree_of}
+
+-- the items as they stand in the tree
+abbrev pub items_of : List Entry → List Item
+items_of entries = map (λ (entry : Entry). entry.item) entries
+
+-- the origin is this aggregator
+abbrev pub is_from : ℕ → Origin → Bool
+is_from aggregator (origins.Request number) = false
+is_from aggregator (origins.Aggregator from) = from == aggregator
+
+-- an item of the aggregator is there
+abbrev pub has_from : ℕ → List Entry → Bool
+has_from aggregator entries = list_any (λ (entry : Entry). is_from aggregator entry.origin) entries
+
+-- a round takes no more
+abbrev pub is_full : List Entry → Bool
+is_full entries = length entries == 65536
+
+-- what a round stands for: the imprint of its tree, the zero imprint where there are no items
+abbrev pub candidate_of : (List ℕ → List ℕ) → List Entry → List ℕ
+candidate_of image [] = zero_imprint
+candidate_of image (entry ∷ entries) = (tree_of image (items_of (entry ∷ entries))).imprint
+
+-- each origin beside its item
+abbrev pub entries_of : List Origin → List Item → List Entry
+entries_of [] items = []
+entries_of (origin ∷ others) [] = []
+entries_of (origin ∷ others) (item ∷ items) = record { origin = origin; item = item } ∷ entries_of others items

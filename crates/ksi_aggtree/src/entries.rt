@@ -1,0 +1,177 @@
+ghost use Rattle.std.specs.Prelude.{◌≡◌, ◌++◌, ◌∷◌, [], ◌<◌, ◌≤◌, ◌↔◌, length, slice_get, vec_len, vec_capacity, Some, OnErr, IfOk};
+ghost use Rattle.std.specs.List.{list_any};
+ghost use Rattle.ksi_split.specs.Ways.{way_of};
+ghost use Rattle.ksi_aggchain.specs.Climbing.{Climbs};
+ghost use Rattle.ksi_aggchain.specs.Owned.{plain_links};
+ghost use Rattle.ksi_aggtree.specs.Rounds.{item_at, tree_of, root_of};
+ghost use Rattle.ksi_aggtree.specs.Paths.{chain_of, sides_from_top};
+ghost use Rattle.ksi_aggtree.specs.Entries.{items_of, is_from, has_from, candidate_of};
+
+use crate::builder::{AddRefusal, Builder};
+use crate::links::Links;
+use ksi_aggchain::Item;
+use ksi_imprint::{Compress, Imprint, NoMemory};
+use std::alloc::Global;
+use std::marker::Model;
+
+/// Where an item came from.
+#[derive(Clone, Copy, PartialEq, Eq, Debug)]
+pub enum Origin {
+    /// The request of this number.
+    Request(u64),
+    /// The aggregator of this number, which submitted it.
+    Aggregator(u32),
+}
+
+/// An item of a round, and where it came from.
+#[derive(Clone, Copy, PartialEq, Eq, Debug)]
+pub struct Entry {
+    pub origin: Origin,
+    pub item: Item,
+}
+
+/// A round with where its items came from. A contract sees their list.
+#[derive(Drop)]
+pub struct Entries<C: Compress> {
+    origins: Vec<Origin>,
+    round: Builder<C>,
+}
+
+impl<C: Compress> Model for Entries<C> {
+    ghost use Rattle.std.specs.Prelude.{◌≡◌, List, length};
+    ghost use Rattle.ksi_aggtree.specs.declared.entries.Entry as entry;
+    ghost use Rattle.ksi_aggtree.specs.Entries.{entries_of};
+
+    ghost Value = { List entry.Entry };
+
+    ghost view = { λ entries. entries_of entries.origins.items entries.round };
+
+    ghost invariant = { λ entries. length entries.origins.items ≡ length entries.round };
+}
+
+impl<C: Compress> Entries<C> {
+    /// No items.
+    ///
+    /// # Errors
+    /// `NoMemory`: nothing is made.
+    pub fn new(alloc: Global) -> Result<Self, NoMemory>
+        ensures { IfOk result (λ entries. entries ≡ []) }
+    {
+        let round = Builder::new(alloc)?;
+        Ok(Entries {
+            origins: Vec::new(alloc),
+            round,
+        })
+    }
+
+    /// How many items there are.
+    pub fn count(&self) -> usize
+        ensures { result ≡ length self.now }
+    {
+        self.round.count()
+    }
+
+    /// Item `k`, which is below the count, and where it came from.
+    pub fn entry(&self, k: usize) -> Entry
+        requires { k < length self.now }
+        ensures { slice_get self.now k ≡ Some result }
+    {
+        Entry {
+            origin: self.origins[k],
+            item: self.round.item(k),
+        }
+    }
+
+    /// Whether an item of the aggregator is there.
+    pub fn has_from(&self, aggregator: u32) -> bool
+        ensures { result ≡ has_from aggregator self.now }
+    {
+        is_among(&self.origins, aggregator)
+    }
+
+    /// The tree of the items, none where there is no item.
+    pub fn root(&self) -> Option<Item>
+        ensures { result ≡ root_of C.image (items_of self.now) }
+    {
+        self.round.root()
+    }
+
+    /// What the items stand for: the imprint of their tree, the zero imprint where there is no item.
+    pub fn candidate(&self) -> Imprint
+        ensures { result ≡ candidate_of C.image self.now }
+    {
+        match self.round.root() {
+            Some(root) => root.imprint,
+            None => Imprint::ZERO,
+        }
+    }
+
+    /// The links from item `k`, which is below the count, up to the root, the lowest first, with the corrections that
+    /// meet the tree's levels.
+    ///
+    /// # Errors
+    /// `NoMemory`: all is as it was.
+    pub fn path(&self, k: usize) -> Result<Links, NoMemory>
+        requires { k < length self.now }
+        ensures links { IfOk result (λ links. links ≡ chain_of C.image (items_of self.now) k) }
+        ensures climbs { IfOk result (λ links.
+            Climbs C.image (item_at (items_of self.now) k) (plain_links links) (tree_of C.image (items_of self.now))) }
+        ensures way { IfOk result (λ links. sides_from_top links ≡ way_of k (length self.now)) }
+        ensures few { IfOk result (λ links. length links ≤ 16) }
+    {
+        self.round.path(k)
+    }
+
+    /// Adds an item of a level to 239 behind the others, and says which it is, the first one being item 0.
+    ///
+    /// # Errors
+    /// `Full` exactly where there are 65,536 items, or `NoMemory`: all is as it was.
+    pub fn add(&mut self, entry: Entry) -> Result<usize, AddRefusal>
+        requires { entry.item.level ≤ 239 }
+        ensures place { IfOk result (λ k. k ≡ length self.old) }
+        ensures added { IfOk result (λ k. self.new ≡ self.old ++ entry ∷ []) }
+        ensures full { (result ≡ Err AddRefusal.Full) ↔ (length self.old ≡ 65536) }
+        ensures unchanged { OnErr result (self.new ≡ self.old) }
+    {
+        let place = self.count();
+        if place == 65536 {
+            return Err(AddRefusal::Full);
+        }
+        self.origins.reserve(1)?;
+        match self.round.add(entry.item) {
+            Ok(_) => {
+                put(&mut self.origins, entry.origin);
+                Ok(place)
+            }
+            Err(refusal) => Err(refusal),
+        }
+    }
+}
+
+/// Puts an origin behind the others, where there is room.
+fn put(origins: &mut Vec<Origin>, origin: Origin)
+    requires { vec_len origins.old < vec_capacity origins.old }
+    ensures { origins.new.items ≡ origins.old.items ++ origin ∷ [] }
+{
+    match origins.push(origin) {
+        Ok(()) => {}
+        Err(_) => unreachable!(),
+    }
+}
+
+/// Whether the aggregator is among the origins.
+fn is_among(origins: &[Origin], aggregator: u32) -> bool
+    ensures { result ≡ list_any (is_from aggregator) origins.now }
+{
+    origins.iter().any(|origin| is_from(origin, aggregator))
+}
+
+/// Whether the origin is this aggregator.
+fn is_from(origin: &Origin, aggregator: u32) -> bool
+    ensures { result ≡ is_from aggregator origin.now }
+{
+    match origin {
+        Origin::Request(_) => false,
+        Origin::Aggregator(from) => *from == aggregator,
+    }
+}
