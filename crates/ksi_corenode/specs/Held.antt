@@ -1,8 +1,7 @@
 -- The calendar of what is held for each second.
 use Rattle.std.specs.Prelude.{◌≡◌, ℕ, zero, suc, ◌-◌, ◌<◌, ◌≤◌, List, [], ◌∷◌, IsSome, Option, Some, None, unwrap_or}
 use Rattle.ksi_imprint.specs.Imprints.{zero_imprint}
-use Rattle.ksi_split.specs.declared.tree_link.TreeLink.{TreeLink}
-use Rattle.ksi_calendar.specs.Calendar.{Seconds, calendar_root, calendar_path}
+use Rattle.ksi_calendar.specs.Calendar.{Seconds, calendar_root}
 
 -- what is held for each second
 abbrev pub Held : Type 0
@@ -40,7 +39,3 @@ held_seconds held start last = record { start = start; roots = roots_among held 
 -- the root of the calendar of what is held, from second 0 to the last
 abbrev pub held_root : (List ℕ → List ℕ) → Held → (start last : ℕ) → List ℕ
 held_root image held start last = calendar_root image (held_seconds held start last) last
-
--- the links from the last second up to it
-abbrev pub held_links : (List ℕ → List ℕ) → Held → (start last : ℕ) → List (TreeLink (List ℕ))
-held_links image held start last = calendar_path image (held_seconds held start last) last last

@@ -1,6 +1,7 @@
 -- The steps of a core. Each is a function from a second to what the step makes of it. Where the condition of a step does
 -- not hold, the second stays and nothing is sent.
-use Rattle.std.specs.Prelude.{ℕ, suc, Bool, true, false, not, ◌&&◌, ◌==◌, if◌then◌else◌, List, [], ◌∷◌, ◌++◌, is_some, bytes_eq, Option, Some, None}
+use Rattle.std.specs.Prelude.{ℕ, suc, Bool, true, false, not, ◌&&◌, ◌==◌, if◌then◌else◌, List, [], ◌∷◌, ◌++◌, is_some, Option, Some, None}
+use Rattle.std.specs.Str.{bytes_eq}
 use Rattle.ksi_imprint.specs.Imprints.{zero_imprint}
 use Rattle.ksi_aggchain.specs.declared.item.Item.{Item}
 use Rattle.ksi_aggtree.specs.declared.entries.Entry.{Entry}
@@ -17,13 +18,14 @@ use Rattle.ksi_synod.specs.declared.messages.Took.{Took}
 use Rattle.ksi_synod.specs.declared.messages.Took.TheVariants as took
 use Rattle.ksi_synod.specs.VoteState.{VoteState}
 use Rattle.ksi_synod.specs.Rows.{seal, try_ballot, ballot_told, held_told, on_next, on_last, on_begin, on_voted, on_success, receive, restarted}
+use Rattle.ksi_calendar.specs.Calendar.{Seconds, calendar_path}
 use Rattle.ksi_signature.specs.declared.above.Above.{Above}
 use Rattle.ksi_signature.specs.declared.answer.Answer.{Answer}
 use Rattle.ksi_signature.specs.declared.answer.Answer.TheVariants.{Done, Published, Late, Known, Full, Unsealed, Sealed, Undecided, NotMine, Nothing, Last}
 use Rattle.ksi_corenode.specs.declared.step.Send.{Send}
 use Rattle.ksi_corenode.specs.declared.step.Send.TheVariants as sends
 use Rattle.ksi_corenode.specs.SecondState.{SecondState}
-use Rattle.ksi_corenode.specs.Held.{Held, first_missing, held_root, held_links}
+use Rattle.ksi_corenode.specs.Held.{Held, first_missing, held_seconds, held_root}
 use Rattle.ksi_corenode.specs.Turns.{Turn, still, told, voted_with}
 
 -- SUBMISSION of an item by an aggregator: it is one of the open items, where none of that aggregator is there
@@ -99,12 +101,12 @@ tell_row members second me s = voted_with members second me s (s.vote, held_told
 abbrev pub is_mine : (List ℕ → List ℕ) → List Entry → (root : List ℕ) → Bool
 is_mine image entries root = bytes_eq (candidate_of image entries) root && not (bytes_eq root zero_imprint)
 
--- what stands above item k
-abbrev pub above_item : (List ℕ → List ℕ) → Held → (start second : ℕ) → (root : List ℕ) → List Item → ℕ → Above
-above_item image held start second root items k = record {
+-- what stands above item k of the round in this calendar
+abbrev pub above_item : (List ℕ → List ℕ) → Seconds → (second : ℕ) → (root : List ℕ) → List Item → ℕ → Above
+above_item image seconds second root items k = record {
     root = root;
     chains = record { input = (item_at items k).imprint; links = chain_of image items k } ∷ [];
-    calendar = held_links image held start second }
+    calendar = calendar_path image seconds second second }
 
 -- a response goes to an aggregator; a request's item has none
 abbrev pub response_to : Origin → Above → List Send
@@ -117,7 +119,7 @@ responses_from above k [] = []
 responses_from above k (entry ∷ entries) = response_to entry.origin (above k) ++ responses_from above (suc k) entries
 
 abbrev pub responded : (List ℕ → List ℕ) → Held → (start second : ℕ) → List Entry → (root : List ℕ) → SecondState → Turn
-responded image held start second entries root s = record { after = s; answer = Done; sends = responses_from (above_item image held start second root (items_of entries)) 0 entries }
+responded image held start second entries root s = record { after = s; answer = Done; sends = responses_from (above_item image (held_seconds held start second) second root (items_of entries)) 0 entries }
 
 abbrev pub respond_where : (List ℕ → List ℕ) → Held → (start second : ℕ) → (sealed : Option (List Entry)) → (missing : Option ℕ) → (root : Option (List ℕ)) → SecondState → Turn
 respond_where image held start second None missing root s = still s Unsealed

@@ -2,8 +2,11 @@
 //! the way from each item to the calendar.
 #![tactic(auto)]
 
+mod held;
 mod node;
+mod responding;
 mod second;
+mod sending;
 mod step;
 
 pub use node::Core;

@@ -1,16 +1,18 @@
-ghost use Rattle.std.specs.Prelude.{◌≡◌, ℕ, ◌<◌, ◌≤◌, ◌+◌, ◌++◌, IfOk, OnOk, OnErr, Some, vec_len, vec_capacity};
+ghost use Rattle.std.specs.Prelude.{◌≡◌, ℕ, ◌<◌, ◌≤◌, IfOk, OnOk, OnErr, Some, option_map};
+ghost use Rattle.std.specs.Option.{option_copied};
 ghost use Rattle.std.specs.Ordering.{nat_cmp};
 ghost use Rattle.std.specs.BTreeMap.{is_at};
 ghost use Rattle.std.specs.Map.{lookup};
 ghost use Rattle.ksi_corenode.specs.SecondState.{fresh_second};
-ghost use Rattle.ksi_synod.specs.Voters.{cores_below};
+ghost use Rattle.ksi_aggtree.specs.Entries.{items_of, candidate_of};
 ghost use Rattle.ksi_synod.specs.Rows.{OfBallot};
-ghost use Rattle.ksi_corenode.specs.Turns.{to_each, told};
-ghost use Rattle.ksi_corenode.specs.Rows.{ballot_row, receive_row, tell_row, restart_row};
+ghost use Rattle.ksi_corenode.specs.Rows.{submission_row, seal_row, ballot_row, receive_row, tell_row, restart_row};
 ghost use Rattle.ksi_corenode.specs.CoreState.{second_at, held_by, IsSame, IsTurn};
 
 use crate::second::Second;
-use crate::step::{Send, Sends, Step};
+use crate::sending::{push_each, push_told};
+use crate::step::{Sends, Step};
+use ksi_aggchain::Item;
 use ksi_imprint::{Compress, Imprint, NoMemory};
 use ksi_signature::Answer;
 use ksi_synod::{Begun, SynodMessage};
@@ -70,6 +72,84 @@ impl<C: Compress> Core<C> {
         }
     }
 
+    /// The candidate of this core for a second: the imprint of the tree of its sealed items, the zero imprint where it
+    /// sealed none. None where the second is not sealed.
+    #[tactic(auto, unfolding(crate::specs::CoreState::second_at, crate::specs::SecondState::fresh_second))]
+    pub fn candidate(&self, second: u64) -> Option<Imprint>
+        ensures { result ≡ option_map (candidate_of C.image) (second_at self.now second).sealed }
+    {
+        match self.seconds.get(&second) {
+            Some(kept) => kept.candidate(),
+            None => None,
+        }
+    }
+
+    /// The sealed items of a second, in order; none where the second is not sealed.
+    #[tactic(auto, unfolding(crate::specs::CoreState::second_at, crate::specs::SecondState::fresh_second))]
+    pub fn items(&self, second: u64) -> Option<&[Item]>
+        ensures { option_copied result ≡ option_map items_of (second_at self.now second).sealed }
+    {
+        match self.seconds.get(&second) {
+            Some(kept) => kept.items(),
+            None => None,
+        }
+    }
+
+    /// The first second.
+    pub(crate) fn start(&self) -> u64
+        ensures { result ≡ self.now.start }
+    {
+        self.start
+    }
+
+    /// What the memory is taken from.
+    pub(crate) fn alloc(&self) -> Global {
+        self.alloc
+    }
+
+    /// What is kept for a second, where something came for it.
+    pub(crate) fn second(&self, second: u64) -> Option<&Second<C>>
+        ensures { option_copied result ≡ lookup (is_at (nat_cmp second)) self.now.kept }
+    {
+        self.seconds.get(&second)
+    }
+
+    /// Takes an item of an aggregator for a second.
+    #[tactic(auto, unfolding(crate::specs::CoreState::second_at, crate::specs::Rows::submission_row))]
+    pub fn submission(
+        &mut self,
+        aggregator: u32,
+        second: u64,
+        item: Item,
+    ) -> Result<Step, NoMemory>
+        requires level { item.level ≤ 239 }
+        ensures turn { IfOk result (λ step. IsTurn self.old self.new second (submission_row aggregator item (second_at self.old second)) step) }
+        ensures unchanged { OnErr result (IsSame self.old self.new) }
+    {
+        let alloc = self.alloc;
+        self.make_room(second)?;
+        let answer = match self.seconds.get_mut(&second) {
+            Some(kept) => kept.submission(alloc, aggregator, &item)?,
+            None => Answer::Late,
+        };
+        Ok(Step::without_sends(alloc, answer))
+    }
+
+    /// Seals a second: its open items are the sealed ones, and the imprint of their tree is the candidate.
+    #[tactic(auto, unfolding(crate::specs::CoreState::second_at, crate::specs::Rows::seal_row))]
+    pub fn seal(&mut self, second: u64) -> Result<Step, NoMemory>
+        ensures turn { IfOk result (λ step. IsTurn self.old self.new second (seal_row C.image (second_at self.old second)) step) }
+        ensures unchanged { OnErr result (IsSame self.old self.new) }
+    {
+        let alloc = self.alloc;
+        self.make_room(second)?;
+        let answer = match self.seconds.get_mut(&second) {
+            Some(kept) => kept.seal(),
+            None => Answer::Sealed,
+        };
+        Ok(Step::without_sends(alloc, answer))
+    }
+
     /// Tries a ballot for a second: NextBallot goes to the voters.
     #[tactic(auto, unfolding(crate::specs::CoreState::second_at, crate::specs::Rows::ballot_row))]
     pub fn ballot(&mut self, second: u64) -> Result<Step, NoMemory>
@@ -86,7 +166,7 @@ impl<C: Compress> Core<C> {
             Begun::Unsealed => Answer::Unsealed,
             Begun::Last => Answer::Last,
             Begun::Next(ballot) => {
-                push_each(self.members, SynodMessage::NextBallot(ballot), &mut sends);
+                push_each(self.members, &SynodMessage::NextBallot(ballot), &mut sends);
                 Answer::Done
             }
         };
@@ -115,7 +195,7 @@ impl<C: Compress> Core<C> {
             Some(kept) => kept.receive(from, message),
             None => (Answer::Nothing, None),
         };
-        push_told(self.members, second, from, reply, &mut sends);
+        push_told(self.members, second, from, &reply, &mut sends);
         Ok(Step {
             answer,
             sends: Sends::from_vec(sends),
@@ -132,7 +212,7 @@ impl<C: Compress> Core<C> {
         let answer = match self.held(second) {
             None => Answer::Undecided(second),
             Some(root) => {
-                push_each(self.members, SynodMessage::Success(root), &mut sends);
+                push_each(self.members, &SynodMessage::Success(root), &mut sends);
                 Answer::Done
             }
         };
@@ -168,39 +248,5 @@ impl<C: Compress> Core<C> {
         let fresh = Second::new(self.alloc, self.me, self.members, second);
         self.seconds.insert(second, fresh)?;
         Ok(())
-    }
-}
-
-/// The message to each of the members, where there is room.
-fn push_each(members: u8, message: SynodMessage, sends: &mut Vec<Send>)
-    requires room { vec_len sends.old + members ≤ vec_capacity sends.old }
-    ensures { sends.new.items ≡ sends.old.items ++ to_each (cores_below members) message }
-{
-    for core in 0..members {
-        let _ = sends.push(Send::Synod(core, message));
-    }
-}
-
-/// A message to whom it goes, where there is room.
-fn push_told(
-    members: u8,
-    second: u64,
-    from: u8,
-    reply: Option<SynodMessage>,
-    sends: &mut Vec<Send>,
-)
-    requires some { 0 < members }
-    requires room { vec_len sends.old + members ≤ vec_capacity sends.old }
-    ensures { sends.new.items ≡ sends.old.items ++ told members second from reply }
-{
-    match reply {
-        None => {}
-        Some(SynodMessage::LastVote(last)) => {
-            let _ = sends.push(Send::Synod(from, SynodMessage::LastVote(last)));
-        }
-        Some(SynodMessage::Voted(ballot)) => {
-            let _ = sends.push(Send::Synod(from, SynodMessage::Voted(ballot)));
-        }
-        Some(message) => push_each(members, message, sends),
     }
 }

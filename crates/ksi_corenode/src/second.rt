@@ -1,13 +1,15 @@
-ghost use Rattle.std.specs.Prelude.{◌≡◌, ℕ, ◌<◌, ◌≤◌};
+ghost use Rattle.std.specs.Prelude.{◌≡◌, ℕ, ◌<◌, ◌≤◌, ◌++◌, ◌∷◌, [], IfOk, IfSome, OnErr, vec_len, vec_capacity, option_map, is_some, unwrap_or, Some};
+ghost use Rattle.std.specs.Option.{option_copied};
+ghost use Rattle.ksi_aggtree.specs.Entries.{items_of, candidate_of};
 ghost use Rattle.ksi_synod.specs.Ballots.{IsBallot};
 ghost use Rattle.ksi_synod.specs.declared.messages.Begun.TheVariants.{Next};
 ghost use Rattle.ksi_synod.specs.Rows.{try_ballot, receive, OfBallot};
 ghost use Rattle.ksi_corenode.specs.SecondState.{fresh_second};
-ghost use Rattle.ksi_corenode.specs.Rows.{restart_row, is_news, news_answer};
+ghost use Rattle.ksi_corenode.specs.Rows.{taken, submission_row, seal_row, is_mine, restart_row, is_news, news_answer};
 
 use ksi_aggchain::Item;
-use ksi_aggtree::Entries;
-use ksi_imprint::{Compress, Imprint};
+use ksi_aggtree::{AddRefusal, Entries, Entry, Origin};
+use ksi_imprint::{Compress, Imprint, NoMemory};
 use ksi_signature::Answer;
 use ksi_synod::{Begun, Instance, SynodMessage, Took};
 use std::alloc::Global;
@@ -59,6 +61,98 @@ impl<C: Compress> Second<C> {
         ensures { result ≡ self.now.vote.held }
     {
         self.vote.held()
+    }
+
+    /// Whether the items are sealed.
+    pub fn is_sealed(&self) -> bool
+        ensures { result ≡ is_some self.now.sealed }
+    {
+        self.is_sealed
+    }
+
+    /// The candidate, none where the items are not sealed.
+    pub fn candidate(&self) -> Option<Imprint>
+        ensures vote { result ≡ self.now.vote.candidate }
+        ensures sealed { result ≡ option_map (candidate_of C.image) self.now.sealed }
+    {
+        self.vote.sealed()
+    }
+
+    /// The sealed items, none where they are not sealed.
+    pub fn items(&self) -> Option<&[Item]>
+        ensures { option_copied result ≡ option_map items_of self.now.sealed }
+    {
+        if self.is_sealed {
+            Some(self.items.as_slice())
+        } else {
+            None
+        }
+    }
+
+    /// The sealed items with their origins, none where they are not sealed or there are none.
+    pub fn entries(&self) -> Option<&Entries<C>>
+        ensures { option_map (λ sealed. unwrap_or (option_copied result) []) self.now.sealed ≡ self.now.sealed }
+    {
+        if self.is_sealed {
+            self.entries.as_ref()
+        } else {
+            None
+        }
+    }
+
+    /// Whether the root is the candidate, and no missed second's.
+    pub fn is_mine(&self, root: &Imprint) -> bool
+        ensures { IfSome self.now.sealed (λ entries. result ≡ is_mine C.image entries root.now) }
+    {
+        match self.vote.sealed() {
+            Some(candidate) => candidate == *root && *root != Imprint::ZERO,
+            None => false,
+        }
+    }
+
+    /// Takes an item of an aggregator.
+    #[tactic(auto, unfolding(crate::specs::Rows::submission_row))]
+    pub fn submission(
+        &mut self,
+        alloc: Global,
+        aggregator: u32,
+        item: &Item,
+    ) -> Result<Answer, NoMemory>
+        requires { item.now.level ≤ 239 }
+        ensures after { IfOk result (λ answer. self.new ≡ (submission_row aggregator item.now self.old).after) }
+        ensures answer { IfOk result (λ answer. answer ≡ (submission_row aggregator item.now self.old).answer) }
+        ensures unchanged { OnErr result (self.new ≡ self.old) }
+    {
+        if self.is_sealed {
+            return Ok(Answer::Late);
+        }
+        match &mut self.entries {
+            Some(entries) => take(entries, &mut self.items, aggregator, item),
+            None => {
+                let mut entries = Entries::new(alloc)?;
+                let answer = take(&mut entries, &mut self.items, aggregator, item)?;
+                self.entries = Some(entries);
+                Ok(answer)
+            }
+        }
+    }
+
+    /// Seals the open items: the imprint of their tree is the candidate.
+    #[tactic(auto, unfolding(crate::specs::Rows::seal_row, ksi_synod::specs::Rows::seal))]
+    pub fn seal(&mut self) -> Answer
+        ensures after { self.new ≡ (seal_row C.image self.old).after }
+        ensures answer { result ≡ (seal_row C.image self.old).answer }
+    {
+        if self.is_sealed {
+            return Answer::Sealed;
+        }
+        let candidate = match &self.entries {
+            Some(entries) => entries.candidate(),
+            None => Imprint::ZERO,
+        };
+        self.vote.candidate(candidate);
+        self.is_sealed = true;
+        Answer::Done
     }
 
     /// Tries a ballot.
@@ -140,5 +234,48 @@ fn receive(
                 (Answer::Nothing, None)
             }
         }
+    }
+}
+
+/// Takes an item of an aggregator among the open ones.
+fn take<C: Compress>(
+    entries: &mut Entries<C>,
+    items: &mut Vec<Item>,
+    aggregator: u32,
+    item: &Item,
+) -> Result<Answer, NoMemory>
+    requires level { item.now.level ≤ 239 }
+    requires same { items.old.items ≡ items_of entries.old }
+    ensures after { IfOk result (λ answer. entries.new ≡ (taken aggregator item.now entries.old).0) }
+    ensures answer { IfOk result (λ answer. answer ≡ (taken aggregator item.now entries.old).1) }
+    ensures unchanged { OnErr result (entries.new ≡ entries.old) }
+    ensures items { items.new.items ≡ items_of entries.new }
+{
+    if entries.has_from(aggregator) {
+        return Ok(Answer::Known);
+    }
+    items.reserve(1)?;
+    let entry = Entry {
+        origin: Origin::Aggregator(aggregator),
+        item: *item,
+    };
+    match entries.add(entry) {
+        Ok(_) => {
+            put(items, item);
+            Ok(Answer::Done)
+        }
+        Err(AddRefusal::Full) => Ok(Answer::Full),
+        Err(AddRefusal::NoMemory) => Err(NoMemory),
+    }
+}
+
+/// Puts an item behind the others, where there is room.
+fn put(items: &mut Vec<Item>, item: &Item)
+    requires { vec_len items.old < vec_capacity items.old }
+    ensures { items.new.items ≡ items.old.items ++ item.now ∷ [] }
+{
+    match items.push(*item) {
+        Ok(()) => {}
+        Err(_) => unreachable!(),
     }
 }

@@ -1,7 +1,8 @@
-ghost use Rattle.std.specs.Prelude.{◌≡◌, [], ◌++◌, ◌∷◌};
+ghost use Rattle.std.specs.Prelude.{◌≡◌, []};
 
 use ksi_signature::{Above, Answer};
 use ksi_synod::SynodMessage;
+use std::alloc::Global;
 use std::marker::Model;
 
 /// What a core sends, for the second of the call.
@@ -57,4 +58,17 @@ impl Sends {
 pub struct Step {
     pub answer: Answer,
     pub sends: Sends,
+}
+
+impl Step {
+    /// An answer alone.
+    pub(crate) fn without_sends(alloc: Global, answer: Answer) -> Self
+        ensures answer { result.answer ≡ answer }
+        ensures sends { result.sends ≡ [] }
+    {
+        Step {
+            answer,
+            sends: Sends::from_vec(Vec::new(alloc)),
+        }
+    }
 }

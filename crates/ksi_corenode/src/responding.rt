@@ -1,0 +1,111 @@
+//! How a core answers the aggregators whose items it sealed.
+ghost use Rattle.std.specs.Prelude.{◌≡◌, ◌<◌, ◌≤◌, ◌+◌, ◌^◌, length, IfOk, Some, slice_get};
+ghost use Rattle.ksi_aggtree.specs.Entries.{items_of};
+ghost use Rattle.ksi_corenode.specs.Held.{held_seconds};
+ghost use Rattle.ksi_corenode.specs.Rows.{respond_row, responses_from, above_item};
+ghost use Rattle.ksi_corenode.specs.CoreState.{second_at, held_by};
+
+use crate::node::Core;
+use crate::step::{Send, Sends, Step};
+use ksi_aggtree::{Entries, Origin};
+use ksi_calendar::Calendar;
+use ksi_imprint::{Compress, Imprint, NoMemory};
+use ksi_signature::{Above, AboveChain, AboveChains, AboveLinks, Answer, CalLinks};
+use std::alloc::Global;
+
+impl<C: Compress> Core<C> {
+    /// Answers the aggregators whose items were sealed for a second, where its root is held and is this core's candidate:
+    /// a Response for each item in order, with the way from it to the calendar of this second.
+    pub fn respond(&mut self, second: u64) -> Result<Step, NoMemory>
+        requires from { self.old.start ≤ second }
+        requires below { second < 2 ^ 63 }
+        ensures answer { IfOk result (λ step. step.answer ≡ (respond_row C.image (held_by self.old) self.old.start second (second_at self.old second)).answer) }
+        ensures sends { IfOk result (λ step. step.sends ≡ (respond_row C.image (held_by self.old) self.old.start second (second_at self.old second)).sends) }
+        ensures same { self.new ≡ self.old }
+    {
+        self.responded(second)
+    }
+
+    #[tactic(auto, unfolding(crate::specs::CoreState::second_at, crate::specs::SecondState::fresh_second, crate::specs::Rows::respond_row))]
+    fn responded(&self, second: u64) -> Result<Step, NoMemory>
+        requires from { self.now.start ≤ second }
+        requires below { second < 2 ^ 63 }
+        ensures answer { IfOk result (λ step. step.answer ≡ (respond_row C.image (held_by self.now) self.now.start second (second_at self.now second)).answer) }
+        ensures sends { IfOk result (λ step. step.sends ≡ (respond_row C.image (held_by self.now) self.now.start second (second_at self.now second)).sends) }
+    {
+        let alloc = self.alloc();
+        let Some(kept) = self.second(second) else {
+            return Ok(Step::without_sends(alloc, Answer::Unsealed));
+        };
+        if !kept.is_sealed() {
+            return Ok(Step::without_sends(alloc, Answer::Unsealed));
+        }
+        if let Some(missing) = self.first_missing(second) {
+            return Ok(Step::without_sends(alloc, Answer::Undecided(missing)));
+        }
+        let Some(root) = kept.held() else {
+            return Ok(Step::without_sends(alloc, Answer::Undecided(second)));
+        };
+        if !kept.is_mine(&root) {
+            return Ok(Step::without_sends(alloc, Answer::NotMine));
+        }
+        let calendar = self.calendar(second)?;
+        let sends = match kept.entries() {
+            Some(entries) => responses(alloc, entries, &root, &calendar, second)?,
+            None => Vec::new(alloc),
+        };
+        Ok(Step {
+            answer: Answer::Done,
+            sends: Sends::from_vec(sends),
+        })
+    }
+}
+
+/// A response for each item that an aggregator submitted, in their order.
+fn responses<C: Compress>(
+    alloc: Global,
+    entries: &Entries<C>,
+    root: &Imprint,
+    calendar: &Calendar<C>,
+    second: u64,
+) -> Result<Vec<Send>, NoMemory>
+    requires below { second < 2 ^ 63 }
+    requires covered { second < calendar.now.start + length calendar.now.roots }
+    ensures { IfOk result (λ sends. sends.items ≡
+        responses_from (above_item C.image calendar.now second root.now (items_of entries.now)) 0 entries.now) }
+{
+    let mut sends = Vec::new(alloc);
+    'answering: for k in 0..entries.count() {
+        if let Origin::Aggregator(from) = entries.entry(k).origin {
+            let above = above(alloc, entries, k, root, calendar, second)?;
+            sends.push(Send::Response(from, above))?;
+        }
+    }
+    Ok(sends)
+}
+
+/// What stands above item `k`.
+fn above<C: Compress>(
+    alloc: Global,
+    entries: &Entries<C>,
+    k: usize,
+    root: &Imprint,
+    calendar: &Calendar<C>,
+    second: u64,
+) -> Result<Above, NoMemory>
+    requires there { k < length entries.now }
+    requires below { second < 2 ^ 63 }
+    requires covered { second < calendar.now.start + length calendar.now.roots }
+    ensures { IfOk result (λ above. above ≡ above_item C.image calendar.now second root.now (items_of entries.now) k) }
+{
+    let links = AboveLinks::from_vec(entries.path(k)?.into_vec());
+    let input = entries.entry(k).item.imprint;
+    let mut chains = Vec::with_capacity(alloc, 1)?;
+    chains.push(AboveChain { input, links })?;
+    let calendar = CalLinks::from_vec(calendar.chain_to(second, second)?.into_vec());
+    Ok(Above {
+        root: *root,
+        chains: AboveChains::from_vec(chains),
+        calendar,
+    })
+}
