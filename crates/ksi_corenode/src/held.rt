@@ -1,5 +1,5 @@
 //! The calendar of what a core holds.
-ghost use Rattle.std.specs.Prelude.{◌≡◌, ◌<◌, ◌≤◌, ◌^◌, [], IfOk};
+ghost use Rattle.std.specs.Prelude.{◌≡◌, ◌<◌, ◌≤◌, ◌+◌, ◌^◌, [], length, IfOk};
 ghost use Rattle.ksi_corenode.specs.Held.{first_missing, held_seconds};
 ghost use Rattle.ksi_corenode.specs.Rows.{publish_answer};
 ghost use Rattle.ksi_corenode.specs.CoreState.{held_by};
@@ -59,7 +59,8 @@ impl<C: Compress> Core<C> {
     pub(crate) fn calendar(&self, last: u64) -> Result<Calendar<C>, NoMemory>
         requires from { self.now.start ≤ last }
         requires below { last < 2 ^ 63 }
-        ensures { IfOk result (λ calendar. calendar ≡ held_seconds (held_by self.now) self.now.start last) }
+        ensures seconds { IfOk result (λ calendar. calendar ≡ held_seconds (held_by self.now) self.now.start last) }
+        ensures covered { IfOk result (λ calendar. last < calendar.start + length calendar.roots) }
     {
         let start = self.start();
         let mut calendar = Calendar::new(self.alloc(), start)?;

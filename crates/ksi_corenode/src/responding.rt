@@ -1,8 +1,10 @@
 //! How a core answers the aggregators whose items it sealed.
-ghost use Rattle.std.specs.Prelude.{◌≡◌, ◌<◌, ◌≤◌, ◌+◌, ◌^◌, length, IfOk, Some, slice_get};
+ghost use Rattle.std.specs.Prelude.{◌≡◌, ◌<◌, ◌≤◌, ◌+◌, ◌^◌, ◌++◌, length, IfOk, OnOk, Some, slice_get};
+ghost use Rattle.ksi_aggtree.specs.declared.entries.Entry.{Entry};
 ghost use Rattle.ksi_aggtree.specs.Entries.{items_of};
-ghost use Rattle.ksi_corenode.specs.Held.{held_seconds};
-ghost use Rattle.ksi_corenode.specs.Rows.{respond_row, responses_from, above_item};
+ghost use Rattle.ksi_aggtree.specs.Paths.{chain_of};
+ghost use Rattle.ksi_calendar.specs.Calendar.{calendar_path};
+ghost use Rattle.ksi_corenode.specs.Rows.{respond_row, responses_from, response_to, above_item};
 ghost use Rattle.ksi_corenode.specs.CoreState.{second_at, held_by};
 
 use crate::node::Core;
@@ -11,6 +13,7 @@ use ksi_aggtree::{Entries, Origin};
 use ksi_calendar::Calendar;
 use ksi_imprint::{Compress, Imprint, NoMemory};
 use ksi_signature::{Above, AboveChain, AboveChains, AboveLinks, Answer, CalLinks};
+use ksi_split::laws::{one_way, short_ways};
 use std::alloc::Global;
 
 impl<C: Compress> Core<C> {
@@ -76,12 +79,35 @@ fn responses<C: Compress>(
 {
     let mut sends = Vec::new(alloc);
     'answering: for k in 0..entries.count() {
-        if let Origin::Aggregator(from) = entries.entry(k).origin {
-            let above = above(alloc, entries, k, root, calendar, second)?;
-            sends.push(Send::Response(from, above))?;
-        }
+        put_response(alloc, entries, k, root, calendar, second, &mut sends)?;
     }
     Ok(sends)
+}
+
+/// The response for item `k`, where an aggregator submitted it.
+fn put_response<C: Compress>(
+    alloc: Global,
+    entries: &Entries<C>,
+    k: usize,
+    root: &Imprint,
+    calendar: &Calendar<C>,
+    second: u64,
+    sends: &mut Vec<Send>,
+) -> Result<(), NoMemory>
+    requires there { k < length entries.now }
+    requires below { second < 2 ^ 63 }
+    requires covered { second < calendar.now.start + length calendar.now.roots }
+    ensures { OnOk result ((entry : Entry) → slice_get entries.now k ≡ Some entry → sends.new.items ≡
+        sends.old.items ++ response_to entry.origin (above_item C.image calendar.now second root.now (items_of entries.now) k)) }
+{
+    match entries.entry(k).origin {
+        Origin::Request(_) => Ok(()),
+        Origin::Aggregator(from) => {
+            let above = above(alloc, entries, k, root, calendar, second)?;
+            sends.push(Send::Response(from, above))?;
+            Ok(())
+        }
+    }
 }
 
 /// What stands above item `k`.
@@ -98,14 +124,40 @@ fn above<C: Compress>(
     requires covered { second < calendar.now.start + length calendar.now.roots }
     ensures { IfOk result (λ above. above ≡ above_item C.image calendar.now second root.now (items_of entries.now) k) }
 {
-    let links = AboveLinks::from_vec(entries.path(k)?.into_vec());
-    let input = entries.entry(k).item.imprint;
+    let chain = AboveChain {
+        input: entries.entry(k).item.imprint,
+        links: round_links(entries, k)?,
+    };
+    let calendar = calendar_links(calendar, second)?;
     let mut chains = Vec::with_capacity(alloc, 1)?;
-    chains.push(AboveChain { input, links })?;
-    let calendar = CalLinks::from_vec(calendar.chain_to(second, second)?.into_vec());
+    chains.push(chain)?;
     Ok(Above {
         root: *root,
         chains: AboveChains::from_vec(chains),
         calendar,
     })
+}
+
+/// The links from item `k` up to the root of the items.
+fn round_links<C: Compress>(entries: &Entries<C>, k: usize) -> Result<AboveLinks, NoMemory>
+    requires { k < length entries.now }
+    ensures { IfOk result (λ links. links ≡ chain_of C.image (items_of entries.now) k) }
+{
+    let links = entries.path(k)?;
+    Ok(AboveLinks::from_vec(links.into_vec()))
+}
+
+/// The links from a second up to the calendar of this second.
+fn calendar_links<C: Compress>(
+    calendar: &Calendar<C>,
+    second: u64,
+) -> Result<CalLinks, NoMemory>
+    requires below { second < 2 ^ 63 }
+    requires covered { second < calendar.now.start + length calendar.now.roots }
+    ensures { IfOk result (λ links. links ≡ calendar_path C.image calendar.now second second) }
+{
+    one_way();
+    short_ways();
+    let links = calendar.chain_to(second, second)?;
+    Ok(CalLinks::from_vec(links.into_vec()))
 }
