@@ -1,12 +1,14 @@
-ghost use Rattle.std.specs.Prelude.{◌≡◌, ℕ, ◌<◌, ◌≤◌, IfOk, OnOk, OnErr, Some, option_map};
+ghost use Rattle.std.specs.Prelude.{◌≡◌, ℕ, ◌<◌, ◌≤◌, ◌↔◌, length, IfOk, OnOk, OnErr, IsTrue, IsSome, IsNone, Some, false, option_map};
 ghost use Rattle.std.specs.Option.{option_copied};
 ghost use Rattle.std.specs.Ordering.{nat_cmp};
 ghost use Rattle.std.specs.BTreeMap.{is_at};
 ghost use Rattle.std.specs.Map.{lookup};
 ghost use Rattle.ksi_corenode.specs.SecondState.{fresh_second};
-ghost use Rattle.ksi_aggtree.specs.Entries.{items_of, candidate_of};
-ghost use Rattle.ksi_synod.specs.Rows.{OfBallot};
-ghost use Rattle.ksi_corenode.specs.Rows.{submission_row, seal_row, ballot_row, receive_row, tell_row, restart_row};
+ghost use Rattle.ksi_aggtree.specs.Entries.{items_of, has_from, candidate_of};
+ghost use Rattle.ksi_signature.specs.declared.answer.Answer.TheVariants.{Late, Known, Full, Unsealed, Sealed, Undecided, Nothing, Last};
+ghost use Rattle.ksi_synod.specs.Ballots.{last_round};
+ghost use Rattle.ksi_synod.specs.Rows.{greater_round, OfBallot};
+ghost use Rattle.ksi_corenode.specs.Rows.{submission_row, seal_row, ballot_row, receive_row, tell_row, restart_row, is_news};
 ghost use Rattle.ksi_corenode.specs.CoreState.{second_at, held_by, IsSame, IsTurn};
 
 use crate::second::Second;
@@ -124,6 +126,9 @@ impl<C: Compress> Core<C> {
     ) -> Result<Step, NoMemory>
         requires level { item.level ≤ 239 }
         ensures turn { IfOk result (λ step. IsTurn self.old self.new second (submission_row aggregator item (second_at self.old second)) step) }
+        ensures late { IfOk result (λ step. (step.answer ≡ Late) ↔ IsSome (second_at self.old second).sealed) }
+        ensures known { IfOk result (λ step. (step.answer ≡ Known) ↔ (IsNone (second_at self.old second).sealed × IsTrue (has_from aggregator (second_at self.old second).open_items))) }
+        ensures full { IfOk result (λ step. (step.answer ≡ Full) ↔ (IsNone (second_at self.old second).sealed × (has_from aggregator (second_at self.old second).open_items ≡ false) × (length (second_at self.old second).open_items ≡ 65536))) }
         ensures unchanged { OnErr result (IsSame self.old self.new) }
     {
         let alloc = self.alloc;
@@ -139,6 +144,7 @@ impl<C: Compress> Core<C> {
     #[tactic(auto, unfolding(crate::specs::CoreState::second_at, crate::specs::Rows::seal_row))]
     pub fn seal(&mut self, second: u64) -> Result<Step, NoMemory>
         ensures turn { IfOk result (λ step. IsTurn self.old self.new second (seal_row C.image (second_at self.old second)) step) }
+        ensures sealed { IfOk result (λ step. (step.answer ≡ Sealed) ↔ IsSome (second_at self.old second).sealed) }
         ensures unchanged { OnErr result (IsSame self.old self.new) }
     {
         let alloc = self.alloc;
@@ -154,6 +160,8 @@ impl<C: Compress> Core<C> {
     #[tactic(auto, unfolding(crate::specs::CoreState::second_at, crate::specs::Rows::ballot_row))]
     pub fn ballot(&mut self, second: u64) -> Result<Step, NoMemory>
         ensures turn { IfOk result (λ step. IsTurn self.old self.new second (ballot_row self.old.members second self.old.me (second_at self.old second)) step) }
+        ensures unsealed { IfOk result (λ step. (step.answer ≡ Unsealed) ↔ IsNone (second_at self.old second).sealed) }
+        ensures last { IfOk result (λ step. (step.answer ≡ Last) ↔ (IsSome (second_at self.old second).sealed × (greater_round (second_at self.old second).vote ≡ last_round))) }
         ensures unchanged { OnErr result (IsSame self.old self.new) }
     {
         let mut sends = Vec::with_capacity(self.alloc, self.members as usize)?;
@@ -187,6 +195,7 @@ impl<C: Compress> Core<C> {
         requires member { from < 9 }
         requires ballot { OfBallot message.now }
         ensures turn { IfOk result (λ step. IsTurn self.old self.new second (receive_row self.old.members second from message.now (second_at self.old second)) step) }
+        ensures nothing { IfOk result (λ step. (step.answer ≡ Nothing) ↔ (is_news (second_at self.old second).vote from message.now ≡ false)) }
         ensures unchanged { OnErr result (IsSame self.old self.new) }
     {
         let mut sends = Vec::with_capacity(self.alloc, self.members as usize)?;
@@ -206,6 +215,7 @@ impl<C: Compress> Core<C> {
     #[tactic(auto, unfolding(crate::specs::CoreState::second_at, crate::specs::Rows::tell_row))]
     pub fn tell(&mut self, second: u64) -> Result<Step, NoMemory>
         ensures turn { IfOk result (λ step. IsTurn self.old self.new second (tell_row self.old.members second self.old.me (second_at self.old second)) step) }
+        ensures undecided { IfOk result (λ step. (step.answer ≡ Undecided second) ↔ IsNone (held_by self.old second)) }
         ensures unchanged { OnErr result (IsSame self.old self.new) }
     {
         let mut sends = Vec::with_capacity(self.alloc, self.members as usize)?;

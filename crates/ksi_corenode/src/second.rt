@@ -1,9 +1,9 @@
-ghost use Rattle.std.specs.Prelude.{◌≡◌, ℕ, ◌<◌, ◌≤◌, ◌++◌, ◌∷◌, [], IfOk, IfSome, OnErr, vec_len, vec_capacity, option_map, is_some, unwrap_or, Some};
+ghost use Rattle.std.specs.Prelude.{◌≡◌, ◌≢◌, ◌<◌, ◌≤◌, ◌↔◌, ◌++◌, ◌∷◌, [], IfOk, IfSome, OnErr, vec_len, vec_capacity, option_map, is_some, unwrap_or, length, IsTrue, IsSome, IsNone, Some, false};
 ghost use Rattle.std.specs.Option.{option_copied};
-ghost use Rattle.ksi_aggtree.specs.Entries.{items_of, candidate_of};
-ghost use Rattle.ksi_synod.specs.Ballots.{IsBallot};
-ghost use Rattle.ksi_synod.specs.declared.messages.Begun.TheVariants.{Next};
-ghost use Rattle.ksi_synod.specs.Rows.{try_ballot, receive, OfBallot};
+ghost use Rattle.ksi_aggtree.specs.Entries.{items_of, has_from, candidate_of};
+ghost use Rattle.ksi_signature.specs.declared.answer.Answer.TheVariants.{Late, Known, Full, Sealed};
+ghost use Rattle.ksi_synod.specs.Ballots.{last_round};
+ghost use Rattle.ksi_synod.specs.Rows.{greater_round, try_ballot, receive, OfBallot};
 ghost use Rattle.ksi_corenode.specs.SecondState.{fresh_second};
 ghost use Rattle.ksi_corenode.specs.Rows.{taken, submission_row, seal_row, is_mine, restart_row, is_news, news_answer};
 
@@ -121,6 +121,9 @@ impl<C: Compress> Second<C> {
         requires { item.now.level ≤ 239 }
         ensures after { IfOk result (λ answer. self.new ≡ (submission_row aggregator item.now self.old).after) }
         ensures answer { IfOk result (λ answer. answer ≡ (submission_row aggregator item.now self.old).answer) }
+        ensures late { IfOk result (λ answer. (answer ≡ Late) ↔ IsSome self.old.sealed) }
+        ensures known { IfOk result (λ answer. (answer ≡ Known) ↔ (IsNone self.old.sealed × IsTrue (has_from aggregator self.old.open_items))) }
+        ensures full { IfOk result (λ answer. (answer ≡ Full) ↔ (IsNone self.old.sealed × (has_from aggregator self.old.open_items ≡ false) × (length self.old.open_items ≡ 65536))) }
         ensures unchanged { OnErr result (self.new ≡ self.old) }
     {
         if self.is_sealed {
@@ -142,6 +145,7 @@ impl<C: Compress> Second<C> {
     pub fn seal(&mut self) -> Answer
         ensures after { self.new ≡ (seal_row C.image self.old).after }
         ensures answer { result ≡ (seal_row C.image self.old).answer }
+        ensures sealed { (result ≡ Sealed) ↔ IsSome self.old.sealed }
     {
         if self.is_sealed {
             return Answer::Sealed;
@@ -160,7 +164,8 @@ impl<C: Compress> Second<C> {
     pub fn ballot(&mut self) -> Begun
         ensures after { self.new ≡ record self.old { vote = (try_ballot self.old.vote).0 } }
         ensures answer { result ≡ (try_ballot self.old.vote).1 }
-        ensures ballot { (b : ℕ) → result ≡ Next b → IsBallot b }
+        ensures unsealed { (result ≡ Begun.Unsealed) ↔ IsNone self.old.sealed }
+        ensures last { (result ≡ Begun.Last) ↔ (IsSome self.old.sealed × (greater_round self.old.vote ≡ last_round)) }
     {
         self.vote.try_ballot()
     }
@@ -248,6 +253,9 @@ fn take<C: Compress>(
     requires same { items.old.items ≡ items_of entries.old }
     ensures after { IfOk result (λ answer. entries.new ≡ (taken aggregator item.now entries.old).0) }
     ensures answer { IfOk result (λ answer. answer ≡ (taken aggregator item.now entries.old).1) }
+    ensures late { IfOk result (λ answer. answer ≢ Late) }
+    ensures known { IfOk result (λ answer. (answer ≡ Known) ↔ IsTrue (has_from aggregator entries.old)) }
+    ensures full { IfOk result (λ answer. (answer ≡ Full) ↔ ((has_from aggregator entries.old ≡ false) × (length entries.old ≡ 65536))) }
     ensures unchanged { OnErr result (entries.new ≡ entries.old) }
     ensures items { items.new.items ≡ items_of entries.new }
 {
