@@ -1,6 +1,6 @@
 -- The steps of a core. Each is a function from a second to what the step makes of it. Where the condition of a step does
 -- not hold, the second stays and nothing is sent.
-use Rattle.std.specs.Prelude.{ℕ, suc, Bool, true, false, not, ◌&&◌, ◌==◌, if◌then◌else◌, List, [], ◌∷◌, ◌++◌, is_some, Option, Some, None}
+use Rattle.std.specs.Prelude.{◌≡◌, ◌≢◌, ◌≤◌, ◌⊎◌, ℕ, suc, Bool, true, false, not, ◌&&◌, ◌==◌, if◌then◌else◌, List, [], ◌∷◌, ◌++◌, is_some, IsSome, Option, Some, None}
 use Rattle.std.specs.Str.{bytes_eq}
 use Rattle.ksi_imprint.specs.Imprints.{zero_imprint}
 use Rattle.ksi_aggchain.specs.declared.item.Item.{Item}
@@ -129,6 +129,16 @@ respond_where image held start second (Some entries) None (Some root) s = if is_
 
 unfoldable pub respond_row : (List ℕ → List ℕ) → Held → (start second : ℕ) → SecondState → Turn
 respond_row image held start second s = respond_where image held start second s.sealed (first_missing held start second) (held second) s
+
+-- the answer NotMine in words: the second is sealed and all is held to it, and its root is not the candidate or is the
+-- zero imprint
+pub record IsNotMine (image : List ℕ → List ℕ) (held : Held) (start second : ℕ) (s : SecondState) : Type 0 where
+  pub entries : List Entry
+  pub sealed : s.sealed ≡ Some entries
+  pub covered : (t : ℕ) → start ≤ t → t ≤ second → IsSome (held t)
+  pub root : List ℕ
+  pub holds : held second ≡ Some root
+  pub other : (root ≢ candidate_of image entries) ⊎ (root ≡ zero_imprint)
 
 -- PUBLISH: the root of the calendar to the second is the answer
 

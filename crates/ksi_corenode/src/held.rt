@@ -1,6 +1,7 @@
 //! The calendar of what a core holds.
-ghost use Rattle.std.specs.Prelude.{◌≡◌, ◌<◌, ◌≤◌, ◌+◌, ◌^◌, [], length, IfOk};
-ghost use Rattle.ksi_corenode.specs.Held.{first_missing, held_seconds};
+ghost use Rattle.std.specs.Prelude.{◌≡◌, ◌↔◌, ℕ, ◌<◌, ◌≤◌, ◌+◌, ◌^◌, [], length, IfOk};
+ghost use Rattle.ksi_corenode.specs.Held.{first_missing, IsFirstMissing, held_seconds};
+ghost use Rattle.ksi_signature.specs.declared.answer.Answer.TheVariants.{Undecided};
 ghost use Rattle.ksi_corenode.specs.Rows.{publish_answer};
 ghost use Rattle.ksi_corenode.specs.CoreState.{held_by};
 
@@ -17,6 +18,7 @@ impl<C: Compress> Core<C> {
         requires from { self.old.start ≤ p }
         requires below { p < 2 ^ 63 }
         ensures answer { IfOk result (λ step. step.answer ≡ publish_answer C.image (held_by self.old) self.old.start p) }
+        ensures undecided { IfOk result (λ step. (s : ℕ) → (step.answer ≡ Undecided s) ↔ IsFirstMissing (held_by self.old) self.old.start p s) }
         ensures sends { IfOk result (λ step. step.sends ≡ []) }
         ensures same { self.new ≡ self.old }
     {

@@ -1,11 +1,13 @@
 //! How a core answers the aggregators whose items it sealed.
-ghost use Rattle.std.specs.Prelude.{◌≡◌, ◌<◌, ◌≤◌, ◌+◌, ◌^◌, ◌++◌, length, IfOk, OnOk, Some, slice_get};
+ghost use Rattle.std.specs.Prelude.{◌≡◌, ◌↔◌, ℕ, ◌<◌, ◌≤◌, ◌+◌, ◌^◌, ◌++◌, length, IfOk, OnOk, IsSome, IsNone, Some, slice_get};
 ghost use Rattle.ksi_aggtree.specs.declared.entries.Entry.{Entry};
 ghost use Rattle.ksi_aggtree.specs.Entries.{items_of};
 ghost use Rattle.ksi_aggtree.specs.Paths.{chain_of};
 ghost use Rattle.ksi_calendar.specs.Calendar.{calendar_path};
-ghost use Rattle.ksi_corenode.specs.Rows.{respond_row, responses_from, response_to, above_item};
-ghost use Rattle.ksi_corenode.specs.CoreState.{second_at, held_by};
+ghost use Rattle.ksi_signature.specs.declared.answer.Answer.TheVariants.{Unsealed, Undecided, NotMine};
+ghost use Rattle.ksi_corenode.specs.Held.{IsFirstMissing};
+ghost use Rattle.ksi_corenode.specs.Rows.{respond_row, IsNotMine, responses_from, response_to, above_item};
+ghost use Rattle.ksi_corenode.specs.CoreState.{second_at, held_by, IsTurn};
 
 use crate::node::Core;
 use crate::step::{Send, Sends, Step};
@@ -22,11 +24,14 @@ impl<C: Compress> Core<C> {
     pub fn respond(&mut self, second: u64) -> Result<Step, NoMemory>
         requires from { self.old.start ≤ second }
         requires below { second < 2 ^ 63 }
-        ensures answer { IfOk result (λ step. step.answer ≡ (respond_row C.image (held_by self.old) self.old.start second (second_at self.old second)).answer) }
-        ensures sends { IfOk result (λ step. step.sends ≡ (respond_row C.image (held_by self.old) self.old.start second (second_at self.old second)).sends) }
+        ensures turn { IfOk result (λ step. IsTurn self.old self.new second (respond_row C.image (held_by self.old) self.old.start second (second_at self.old second)) step) }
+        ensures unsealed { IfOk result (λ step. (step.answer ≡ Unsealed) ↔ IsNone (second_at self.old second).sealed) }
+        ensures undecided { IfOk result (λ step. (t : ℕ) → (step.answer ≡ Undecided t) ↔ (IsSome (second_at self.old second).sealed × IsFirstMissing (held_by self.old) self.old.start second t)) }
+        ensures not_mine { IfOk result (λ step. (step.answer ≡ NotMine) ↔ IsNotMine C.image (held_by self.old) self.old.start second (second_at self.old second)) }
         ensures same { self.new ≡ self.old }
     {
-        self.responded(second)
+        let step = self.responded(second)?;
+        Ok(step)
     }
 
     #[tactic(auto, unfolding(crate::specs::CoreState::second_at, crate::specs::SecondState::fresh_second, crate::specs::Rows::respond_row))]
