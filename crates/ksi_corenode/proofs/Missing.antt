@@ -29,14 +29,16 @@ among_first held (suc n) t s is = by (among_first held n (suc t) s) (held t) ref
           from = omega (arith, same);
           to = omega (arith, same);
           missing = subst (λ (u : ℕ). held u ≡ None) same none;
-          before = λ u above below. absurd (omega (arith, same, above, below)) }
+          before = λ u above below. absurd (omega (arith, same, above, below));
+        }
     by next (Some root) some later =
         let r = next later in
         record {
           from = omega (arith, r.from);
           to = omega (arith, r.to);
           missing = r.missing;
-          before = λ u above below. split_at held t u above (ap (λ (o : Option (List ℕ)). is_some o) some) (λ after. r.before u after below) }
+          before = λ u above below. split_at held t u above (ap (λ (o : Option (List ℕ)). is_some o) some) (λ after. r.before u after below);
+        }
 
 first_among : (held : Held) (n t s : ℕ) → IsFirst held t n s → missing_among held t n ≡ Some s
 first_among held zero t s is = absurd (omega (arith, is.from, is.to))
@@ -50,10 +52,11 @@ first_among held (suc n) t s is = by (first_among held n (suc t) s) (held t) ref
     by next (Some root) some = elim (eq-or-lt_of_le is.from) [
       | inl same ↦ absurd (cc (subst (λ (u : ℕ). held u ≡ None) (sym same) is.missing, some))
       | inr after ↦ next (record {
-          from = omega (arith, after);
-          to = omega (arith, is.to);
-          missing = is.missing;
-          before = λ u above below. is.before u (omega (arith, above)) below })
+        from = omega (arith, after);
+        to = omega (arith, is.to);
+        missing = is.missing;
+        before = λ u above below. is.before u (omega (arith, above)) below;
+      })
     ]
 
 pub first_words : (held : Held) (start last s : ℕ) → (first_missing held start last ≡ Some s) ↔ IsFirstMissing held start last s

@@ -26,8 +26,9 @@ links_nodes (other ∷ others) level = (tt, links_nodes others _)
 
 pub round_links : (image : List ℕ → List ℕ) (items : List Item) (k : ℕ) (links : List Link) → links ≡ chain_of image items k → length links ≤ 16 → AreRoundLinks links
 round_links image items k links is few = record {
-    count = few;
-    nodes = subst (λ (links : List Link). AllByRecursion (λ (link : Link). IsNode link.sibling) links) (sym is) (links_nodes (tree_path image items k) (item_at items k).level) }
+  count = few;
+  nodes = subst (λ (links : List Link). AllByRecursion (λ (link : Link). IsNode link.sibling) links) (sym is) (links_nodes (tree_path image items k) (item_at items k).level);
+}
 
 -- links and the sides of them are as many
 pub sides_count : (links : List (TreeLink (List ℕ))) → length (sides_from_top links) ≡ length links
@@ -47,7 +48,7 @@ pub responses_later : (above : ℕ → Above) (sends : List Send) (entries : Lis
     (sends ++ response_to entry.origin (above k)) ++ responses_from above (k + 1) (drop (k + 1) entries) ≡ sends ++ responses_from above k (drop k entries)
 responses_later above sends entries k entry is =
     let rest : drop k entries ≡ entry ∷ drop (suc k) entries =
-      drop-cons entries k entry (slice_get_within entries k entry is) ∙ ap (λ (e : Entry). e ∷ drop (suc k) entries) (get_or_from_slice_get entries k entry entry is) in
+    drop-cons entries k entry (slice_get_within entries k entry is) ∙ ap (λ (e : Entry). e ∷ drop (suc k) entries) (get_or_from_slice_get entries k entry entry is) in
     append_assoc sends (response_to entry.origin (above k)) (responses_from above (k + 1) (drop (k + 1) entries))
     ∙ ap (λ (n : ℕ). sends ++ (response_to entry.origin (above k) ++ responses_from above n (drop n entries))) (add-one k)
     ∙ ap (λ (es : List Entry). sends ++ responses_from above k es) (sym rest)

@@ -87,10 +87,13 @@ module _ (image : List ℕ → List ℕ) (held : Held) where
             ((same && not missed) ≡ false) ↔ ((root ≢ candidate_of image entries) ⊎ (root ≡ zero_imprint))
         by false missed is was = (λ _. inl (λ e. absurd (cc (sym is ∙ mine.1 (sym e)))), λ _. refl)
         by true true is was = (λ _. inr (zero.0 was), λ _. refl)
-        by true false is was = (λ e. absurd (cc e), λ r. elim r [
-          | inl other ↦ absurd (other (sym (mine.0 is)))
-          | inr none ↦ absurd (cc (sym was ∙ zero.1 none))
-        ])
+        by true false is was = (
+          λ e. absurd (cc e),
+          λ r. elim r [
+            | inl other ↦ absurd (other (sym (mine.0 is)))
+            | inr none ↦ absurd (cc (sym was ∙ zero.1 none))
+          ],
+        )
 
     pub respond_not_mine : start ≤ second → ((respond_row image held start second s).answer ≡ NotMine) ↔ IsNotMine image held start second s
     unfolding respond_row

@@ -104,9 +104,10 @@ is_mine image entries root = bytes_eq (candidate_of image entries) root && not (
 -- what stands above item k of the round in this calendar
 abbrev pub above_item : (List ℕ → List ℕ) → Seconds → (second : ℕ) → (root : List ℕ) → List Item → ℕ → Above
 above_item image seconds second root items k = record {
-    root = root;
-    chains = record { input = (item_at items k).imprint; links = chain_of image items k } ∷ [];
-    calendar = calendar_path image seconds second second }
+  root = root;
+  chains = record { input = (item_at items k).imprint; links = chain_of image items k } ∷ [];
+  calendar = calendar_path image seconds second second;
+}
 
 -- a response goes to an aggregator; a request's item has none
 abbrev pub response_to : Origin → Above → List Send

@@ -12,13 +12,19 @@ use ksi_imprint::{Compress, Imprint, NoMemory};
 use ksi_signature::Answer;
 
 impl<C: Compress> Core<C> {
-    /// The root of the calendar to second `p`, where a root is held for every second from the start to it.
+    /// The root of the calendar from second 0 to `p`, which is at or after the start and below 2^63. The answer is
+    /// Published with it, or Undecided with the first second from the start to `p` that nothing is held for.
+    ///
+    /// # Errors
+    /// `NoMemory`: all is as it was.
     #[tactic(auto, unfolding(crate::specs::Rows::publish_answer))]
     pub fn publish(&mut self, p: u64) -> Result<Step, NoMemory>
         requires from { self.old.start ≤ p }
         requires below { p < 2 ^ 63 }
-        ensures answer { IfOk result (λ step. step.answer ≡ publish_answer C.image (held_by self.old) self.old.start p) }
-        ensures undecided { IfOk result (λ step. (s : ℕ) → (step.answer ≡ Undecided s) ↔ IsFirstMissing (held_by self.old) self.old.start p s) }
+        ensures answer { IfOk result (λ step.
+            step.answer ≡ publish_answer C.image (held_by self.old) self.old.start p) }
+        ensures undecided { IfOk result (λ step. (s : ℕ) →
+            (step.answer ≡ Undecided s) ↔ IsFirstMissing (held_by self.old) self.old.start p s) }
         ensures sends { IfOk result (λ step. step.sends ≡ []) }
         ensures same { self.new ≡ self.old }
     {

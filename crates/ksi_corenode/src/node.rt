@@ -116,19 +116,24 @@ impl<C: Compress> Core<C> {
         self.seconds.get(&second)
     }
 
-    /// Takes an item of an aggregator for a second.
+    /// Takes an item of an aggregator for a second; its level is at most 239.
+    ///
+    /// The answer is Late where the second is sealed, Known where an open item of that aggregator is there, Full where
+    /// there are 65,536 of them, else Done.
+    ///
+    /// # Errors
+    /// `NoMemory`: all is as it was.
     #[tactic(auto, unfolding(crate::specs::CoreState::second_at, crate::specs::Rows::submission_row))]
-    pub fn submission(
-        &mut self,
-        aggregator: u32,
-        second: u64,
-        item: Item,
-    ) -> Result<Step, NoMemory>
+    pub fn submission(&mut self, aggregator: u32, second: u64, item: Item) -> Result<Step, NoMemory>
         requires level { item.level ≤ 239 }
-        ensures turn { IfOk result (λ step. IsTurn self.old self.new second (submission_row aggregator item (second_at self.old second)) step) }
+        ensures turn { IfOk result (λ step.
+            IsTurn self.old self.new second (submission_row aggregator item (second_at self.old second)) step) }
         ensures late { IfOk result (λ step. (step.answer ≡ Late) ↔ IsSome (second_at self.old second).sealed) }
-        ensures known { IfOk result (λ step. (step.answer ≡ Known) ↔ (IsNone (second_at self.old second).sealed × IsTrue (has_from aggregator (second_at self.old second).open_items))) }
-        ensures full { IfOk result (λ step. (step.answer ≡ Full) ↔ (IsNone (second_at self.old second).sealed × (has_from aggregator (second_at self.old second).open_items ≡ false) × (length (second_at self.old second).open_items ≡ 65536))) }
+        ensures known { IfOk result (λ step. (step.answer ≡ Known) ↔ (IsNone (second_at self.old second).sealed ×
+            IsTrue (has_from aggregator (second_at self.old second).open_items))) }
+        ensures full { IfOk result (λ step. (step.answer ≡ Full) ↔ (IsNone (second_at self.old second).sealed ×
+            (has_from aggregator (second_at self.old second).open_items ≡ false) ×
+            (length (second_at self.old second).open_items ≡ 65536))) }
         ensures unchanged { OnErr result (IsSame self.old self.new) }
     {
         let alloc = self.alloc;
@@ -140,10 +145,15 @@ impl<C: Compress> Core<C> {
         Ok(Step::without_sends(alloc, answer))
     }
 
-    /// Seals a second: its open items are the sealed ones, and the imprint of their tree is the candidate.
+    /// Seals a second: its open items are the sealed ones, and the imprint of their tree is the candidate. The answer is
+    /// Sealed where the second is sealed already, else Done.
+    ///
+    /// # Errors
+    /// `NoMemory`: all is as it was.
     #[tactic(auto, unfolding(crate::specs::CoreState::second_at, crate::specs::Rows::seal_row))]
     pub fn seal(&mut self, second: u64) -> Result<Step, NoMemory>
-        ensures turn { IfOk result (λ step. IsTurn self.old self.new second (seal_row C.image (second_at self.old second)) step) }
+        ensures turn { IfOk result (λ step.
+            IsTurn self.old self.new second (seal_row C.image (second_at self.old second)) step) }
         ensures sealed { IfOk result (λ step. (step.answer ≡ Sealed) ↔ IsSome (second_at self.old second).sealed) }
         ensures unchanged { OnErr result (IsSame self.old self.new) }
     {
@@ -156,12 +166,18 @@ impl<C: Compress> Core<C> {
         Ok(Step::without_sends(alloc, answer))
     }
 
-    /// Tries a ballot for a second: NextBallot goes to the voters.
+    /// Tries this core's next ballot for a second: NextBallot goes to the voters. The answer is Unsealed where the second
+    /// is not sealed, Last where no round is left, else Done.
+    ///
+    /// # Errors
+    /// `NoMemory`: all is as it was.
     #[tactic(auto, unfolding(crate::specs::CoreState::second_at, crate::specs::Rows::ballot_row))]
     pub fn ballot(&mut self, second: u64) -> Result<Step, NoMemory>
-        ensures turn { IfOk result (λ step. IsTurn self.old self.new second (ballot_row self.old.members second self.old.me (second_at self.old second)) step) }
+        ensures turn { IfOk result (λ step. IsTurn self.old self.new second
+            (ballot_row self.old.members second self.old.me (second_at self.old second)) step) }
         ensures unsealed { IfOk result (λ step. (step.answer ≡ Unsealed) ↔ IsNone (second_at self.old second).sealed) }
-        ensures last { IfOk result (λ step. (step.answer ≡ Last) ↔ (IsSome (second_at self.old second).sealed × (greater_round (second_at self.old second).vote ≡ last_round))) }
+        ensures last { IfOk result (λ step. (step.answer ≡ Last) ↔ (IsSome (second_at self.old second).sealed ×
+            (greater_round (second_at self.old second).vote ≡ last_round))) }
         ensures unchanged { OnErr result (IsSame self.old self.new) }
     {
         let mut sends = Vec::with_capacity(self.alloc, self.members as usize)?;
@@ -184,7 +200,12 @@ impl<C: Compress> Core<C> {
         })
     }
 
-    /// Takes a message of the vote on a second from a core.
+    /// Takes a message of the vote on a second from a core, which is below 9; the message's ballot is one. LastVote and
+    /// Voted go back to the sender, BeginBallot to the voters, Success to all cores. The answer is Nothing where the
+    /// message changes nothing, else Done.
+    ///
+    /// # Errors
+    /// `NoMemory`: all is as it was.
     #[tactic(auto, unfolding(crate::specs::CoreState::second_at, crate::specs::Rows::receive_row))]
     pub fn receive(
         &mut self,
@@ -194,8 +215,10 @@ impl<C: Compress> Core<C> {
     ) -> Result<Step, NoMemory>
         requires member { from < 9 }
         requires ballot { OfBallot message.now }
-        ensures turn { IfOk result (λ step. IsTurn self.old self.new second (receive_row self.old.members second from message.now (second_at self.old second)) step) }
-        ensures nothing { IfOk result (λ step. (step.answer ≡ Nothing) ↔ (is_news (second_at self.old second).vote from message.now ≡ false)) }
+        ensures turn { IfOk result (λ step. IsTurn self.old self.new second
+            (receive_row self.old.members second from message.now (second_at self.old second)) step) }
+        ensures nothing { IfOk result (λ step. (step.answer ≡ Nothing) ↔
+            (is_news (second_at self.old second).vote from message.now ≡ false)) }
         ensures unchanged { OnErr result (IsSame self.old self.new) }
     {
         let mut sends = Vec::with_capacity(self.alloc, self.members as usize)?;
@@ -211,10 +234,15 @@ impl<C: Compress> Core<C> {
         })
     }
 
-    /// Tells what is held for a second: Success goes to all cores.
+    /// Tells what is held for a second: Success goes to all cores. The answer is Undecided with the second where nothing
+    /// is held, else Done.
+    ///
+    /// # Errors
+    /// `NoMemory`: all is as it was.
     #[tactic(auto, unfolding(crate::specs::CoreState::second_at, crate::specs::Rows::tell_row))]
     pub fn tell(&mut self, second: u64) -> Result<Step, NoMemory>
-        ensures turn { IfOk result (λ step. IsTurn self.old self.new second (tell_row self.old.members second self.old.me (second_at self.old second)) step) }
+        ensures turn { IfOk result (λ step. IsTurn self.old self.new second
+            (tell_row self.old.members second self.old.me (second_at self.old second)) step) }
         ensures undecided { IfOk result (λ step. (step.answer ≡ Undecided second) ↔ IsNone (held_by self.old second)) }
         ensures unchanged { OnErr result (IsSame self.old self.new) }
     {

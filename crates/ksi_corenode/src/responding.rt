@@ -19,15 +19,24 @@ use ksi_split::laws::{one_way, short_ways};
 use std::alloc::Global;
 
 impl<C: Compress> Core<C> {
-    /// Answers the aggregators whose items were sealed for a second, where its root is held and is this core's candidate:
-    /// a Response for each item in order, with the way from it to the calendar of this second.
+    /// Answers the aggregators whose items were sealed for a second, which is at or after the start and below 2^63: a
+    /// Response for each item in order, with the way from it to the calendar of this second.
+    ///
+    /// The answer is Unsealed where the second is not sealed, Undecided with the first second from the start to it that
+    /// nothing is held for, NotMine where the held root is not this core's candidate or is the zero imprint, else Done.
+    ///
+    /// # Errors
+    /// `NoMemory`: all is as it was.
     pub fn respond(&mut self, second: u64) -> Result<Step, NoMemory>
         requires from { self.old.start ≤ second }
         requires below { second < 2 ^ 63 }
-        ensures turn { IfOk result (λ step. IsTurn self.old self.new second (respond_row C.image (held_by self.old) self.old.start second (second_at self.old second)) step) }
+        ensures turn { IfOk result (λ step. IsTurn self.old self.new second
+            (respond_row C.image (held_by self.old) self.old.start second (second_at self.old second)) step) }
         ensures unsealed { IfOk result (λ step. (step.answer ≡ Unsealed) ↔ IsNone (second_at self.old second).sealed) }
-        ensures undecided { IfOk result (λ step. (t : ℕ) → (step.answer ≡ Undecided t) ↔ (IsSome (second_at self.old second).sealed × IsFirstMissing (held_by self.old) self.old.start second t)) }
-        ensures not_mine { IfOk result (λ step. (step.answer ≡ NotMine) ↔ IsNotMine C.image (held_by self.old) self.old.start second (second_at self.old second)) }
+        ensures undecided { IfOk result (λ step. (t : ℕ) → (step.answer ≡ Undecided t) ↔
+            (IsSome (second_at self.old second).sealed × IsFirstMissing (held_by self.old) self.old.start second t)) }
+        ensures not_mine { IfOk result (λ step. (step.answer ≡ NotMine) ↔
+            IsNotMine C.image (held_by self.old) self.old.start second (second_at self.old second)) }
         ensures same { self.new ≡ self.old }
     {
         let step = self.responded(second)?;
@@ -38,8 +47,10 @@ impl<C: Compress> Core<C> {
     fn responded(&self, second: u64) -> Result<Step, NoMemory>
         requires from { self.now.start ≤ second }
         requires below { second < 2 ^ 63 }
-        ensures answer { IfOk result (λ step. step.answer ≡ (respond_row C.image (held_by self.now) self.now.start second (second_at self.now second)).answer) }
-        ensures sends { IfOk result (λ step. step.sends ≡ (respond_row C.image (held_by self.now) self.now.start second (second_at self.now second)).sends) }
+        ensures answer { IfOk result (λ step. step.answer ≡
+            (respond_row C.image (held_by self.now) self.now.start second (second_at self.now second)).answer) }
+        ensures sends { IfOk result (λ step. step.sends ≡
+            (respond_row C.image (held_by self.now) self.now.start second (second_at self.now second)).sends) }
     {
         let alloc = self.alloc();
         let Some(kept) = self.second(second) else {
@@ -153,10 +164,7 @@ fn round_links<C: Compress>(entries: &Entries<C>, k: usize) -> Result<AboveLinks
 }
 
 /// The links from a second up to the calendar of this second.
-fn calendar_links<C: Compress>(
-    calendar: &Calendar<C>,
-    second: u64,
-) -> Result<CalLinks, NoMemory>
+fn calendar_links<C: Compress>(calendar: &Calendar<C>, second: u64) -> Result<CalLinks, NoMemory>
     requires below { second < 2 ^ 63 }
     requires covered { second < calendar.now.start + length calendar.now.roots }
     ensures { IfOk result (λ links. links ≡ calendar_path C.image calendar.now second second) }

@@ -32,9 +32,10 @@ impl<C: Compress> Model for Second<C> {
     ghost Value = { SecondState };
 
     ghost view = { λ a. record {
-        vote = a.vote;
-        open_items = if a.is_sealed then [] else unwrap_or a.entries [];
-        sealed = if a.is_sealed then Some (unwrap_or a.entries []) else None } };
+      vote = a.vote;
+      open_items = if a.is_sealed then [] else unwrap_or a.entries [];
+      sealed = if a.is_sealed then Some (unwrap_or a.entries []) else None;
+    } };
 
     ghost invariant = { λ a. (a.items.items ≡ items_of (unwrap_or a.entries []))
         × (a.vote.candidate ≡ (if a.is_sealed then Some (candidate_of C.image (unwrap_or a.entries [])) else None)) };
@@ -122,8 +123,10 @@ impl<C: Compress> Second<C> {
         ensures after { IfOk result (λ answer. self.new ≡ (submission_row aggregator item.now self.old).after) }
         ensures answer { IfOk result (λ answer. answer ≡ (submission_row aggregator item.now self.old).answer) }
         ensures late { IfOk result (λ answer. (answer ≡ Late) ↔ IsSome self.old.sealed) }
-        ensures known { IfOk result (λ answer. (answer ≡ Known) ↔ (IsNone self.old.sealed × IsTrue (has_from aggregator self.old.open_items))) }
-        ensures full { IfOk result (λ answer. (answer ≡ Full) ↔ (IsNone self.old.sealed × (has_from aggregator self.old.open_items ≡ false) × (length self.old.open_items ≡ 65536))) }
+        ensures known { IfOk result (λ answer. (answer ≡ Known) ↔
+            (IsNone self.old.sealed × IsTrue (has_from aggregator self.old.open_items))) }
+        ensures full { IfOk result (λ answer. (answer ≡ Full) ↔ (IsNone self.old.sealed ×
+            (has_from aggregator self.old.open_items ≡ false) × (length self.old.open_items ≡ 65536))) }
         ensures unchanged { OnErr result (self.new ≡ self.old) }
     {
         if self.is_sealed {
@@ -196,11 +199,7 @@ impl<C: Compress> Second<C> {
 
 /// Takes a message by its step, and says whether it changed anything.
 #[tactic(auto, unfolding(ksi_synod::specs::Rows::receive))]
-fn receive(
-    vote: &mut Instance,
-    from: u8,
-    message: &SynodMessage,
-) -> (Answer, Option<SynodMessage>)
+fn receive(vote: &mut Instance, from: u8, message: &SynodMessage) -> (Answer, Option<SynodMessage>)
     requires member { from < 9 }
     requires ballot { OfBallot message.now }
     ensures after { vote.new ≡ (receive vote.old from message.now).0 }
@@ -255,7 +254,8 @@ fn take<C: Compress>(
     ensures answer { IfOk result (λ answer. answer ≡ (taken aggregator item.now entries.old).1) }
     ensures late { IfOk result (λ answer. answer ≢ Late) }
     ensures known { IfOk result (λ answer. (answer ≡ Known) ↔ IsTrue (has_from aggregator entries.old)) }
-    ensures full { IfOk result (λ answer. (answer ≡ Full) ↔ ((has_from aggregator entries.old ≡ false) × (length entries.old ≡ 65536))) }
+    ensures full { IfOk result (λ answer. (answer ≡ Full) ↔
+        ((has_from aggregator entries.old ≡ false) × (length entries.old ≡ 65536))) }
     ensures unchanged { OnErr result (entries.new ≡ entries.old) }
     ensures items { items.new.items ≡ items_of entries.new }
 {

@@ -17,8 +17,9 @@ loop-core-preserved c =
     let message = c.args.message.now in
     record {
       sent = c.put.ensures.items
-        ∙ ap (λ (xs : List Send). xs ++ sends.Synod l.core message ∷ []) l.invariant.sent
-        ∙ append_assoc c.args.sends.now.items (to_each (cores_below l.core) message) (sends.Synod l.core message ∷ [])
-        ∙ ap (λ (xs : List Send). c.args.sends.now.items ++ xs) (sym (to_one_more l.core message));
+          ∙ ap (λ (xs : List Send). xs ++ sends.Synod l.core message ∷ []) l.invariant.sent
+          ∙ append_assoc c.args.sends.now.items (to_each (cores_below l.core) message) (sends.Synod l.core message ∷ [])
+          ∙ ap (λ (xs : List Send). c.args.sends.now.items ++ xs) (sym (to_one_more l.core message));
       room = omega (arith, c.put.ensures.room, l.invariant.room);
-      len = omega (arith, c.put.ensures.len, l.invariant.len) }
+      len = omega (arith, c.put.ensures.len, l.invariant.len);
+    }

@@ -8,4 +8,5 @@ abbrev pub invariant-loop-core : goal.invariant-loop-core
 invariant-loop-core l = record {
   sent : l.sends.items ≡ l.fn.sends.items ++ to_each (cores_below l.core) l.message;
   room : vec_capacity l.fn.sends ≤ vec_capacity l.sends;
-  len : vec_len l.sends ≡ vec_len l.fn.sends + l.core }
+  len : vec_len l.sends ≡ vec_len l.fn.sends + l.core;
+}

@@ -21,5 +21,6 @@ adding-preserved g c =
       start = starts ∙ c.adding.invariant.start;
       count = omega (arith, starts, count, c.adding.invariant.count);
       roots = ap (λ (roots : List (List ℕ)). roots ++ roots_among held (t + 1) (suc last - (t + 1))) (grown ∙ ap (λ (r : List ℕ). before.roots ++ r ∷ []) root)
-        ∙ roots_later held before.roots t last c.adding-test.true
-        ∙ c.adding.invariant.roots }
+          ∙ roots_later held before.roots t last c.adding-test.true
+          ∙ c.adding.invariant.roots;
+    }

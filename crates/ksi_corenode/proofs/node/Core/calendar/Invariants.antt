@@ -7,4 +7,5 @@ abbrev pub invariant-adding : goal.invariant-adding
 invariant-adding g l = record {
   start : l.calendar.start ≡ l.self.start;
   count : l.calendar.start + length l.calendar.roots ≡ l.t;
-  roots : l.calendar.roots ++ roots_among (held_by l.self) l.t (suc l.fn.last - l.t) ≡ roots_among (held_by l.self) l.self.start (suc l.fn.last - l.self.start) }
+  roots : l.calendar.roots ++ roots_among (held_by l.self) l.t (suc l.fn.last - l.t) ≡ roots_among (held_by l.self) l.self.start (suc l.fn.last - l.self.start);
+}

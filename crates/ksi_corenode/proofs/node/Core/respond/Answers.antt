@@ -16,7 +16,8 @@ returns-clause-turn g c =
       start = refl;
       seconds = stays now t row.after (respond_after g.C.Compress.image (held_by now) now.start t (second_at now t));
       answer = c.in_ok-step.ensures.answer;
-      sends = c.in_ok-step.ensures.sends }
+      sends = c.in_ok-step.ensures.sends;
+    }
 
 pub returns-clause-unsealed : goal.returns-clause-unsealed
 returns-clause-unsealed g c =
