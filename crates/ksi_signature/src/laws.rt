@@ -1,4 +1,4 @@
-//! Laws of signatures, for the proofs of the layers above. No code calls them.
+//! Laws of signatures. None of these functions does anything; a body that calls one may use what it says.
 
 ghost use Rattle.std.specs.Prelude.{◌≡◌, ◌↔◌, ◌⊎◌, ◌≤◌, ℕ, List, length, None, Ok, Err};
 ghost use Rattle.ksi_tlv.specs.Spelling.{AreBytes};

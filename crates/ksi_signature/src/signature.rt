@@ -10,7 +10,7 @@ use std::marker::Model;
 pub struct AggChain {
     /// The second of the aggregation, below 2^63.
     pub time: u64,
-    /// Numbers that say where the chain stands, the last of them the chain's shape.
+    /// Numbers that say where the chain stands; the last of them is to be the chain's shape, which a check compares.
     pub index: Index,
     /// What was hashed into the input, where it is told.
     pub input_body: Option<Bytes>,
@@ -35,7 +35,7 @@ pub struct CalChain {
     pub publication: u64,
     /// The second that the links lead from, below 2^63.
     pub time: u64,
-    /// The root of that second.
+    /// What is stated as the root of that second.
     pub input: Imprint,
     /// The lowest first.
     pub links: CalLinks,

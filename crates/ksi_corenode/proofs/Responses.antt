@@ -1,0 +1,54 @@
+-- What stands above the items of a round.
+use Rattle.std.proofs.Common.{◌≡◌, ◌∙◌, ℕ, zero, suc, ◌+◌, ◌<◌, ◌≤◌, List, [], ◌∷◌, ◌++◌, length, map, take, drop, get_or, slice_get, Option, Some, None, refl, sym, ap, subst, arith, append_assoc, add-one}
+use Rattle.std.specs.List.{AllByRecursion}
+use Rattle.std.proofs.lemmas.List.{length-reverse, length-map}
+use Rattle.std.proofs.lemmas.Option.{slice_get_within, get_or_from_slice_get}
+use Rattle.std.proofs.Math.Seq.{drop-cons}
+use Rattle.ksi_split.specs.declared.side.Side.{Side}
+use Rattle.ksi_split.specs.declared.tree_link.TreeLink.{TreeLink}
+use Rattle.ksi_split.specs.Ways.{way_of}
+use Rattle.ksi_aggchain.specs.declared.item.Item.{Item}
+use Rattle.ksi_aggchain.specs.declared.link.Link.{Link}
+use Rattle.ksi_calchain.specs.Sides.{sides_from_top}
+use Rattle.ksi_aggtree.specs.declared.entries.Entry.{Entry}
+use Rattle.ksi_aggtree.specs.Rounds.{item_at, no_item, tree_path}
+use Rattle.ksi_aggtree.specs.Paths.{links_from, chain_of}
+use Rattle.ksi_aggtree.specs.Entries.{items_of}
+use Rattle.ksi_signature.specs.declared.above.Above.{Above}
+use Rattle.ksi_signature.specs.Above.{IsNode, AreRoundLinks}
+use Rattle.ksi_corenode.specs.declared.step.Send.{Send}
+use Rattle.ksi_corenode.specs.Rows.{response_to, responses_from}
+
+-- links of a tree stand beside imprints
+links_nodes : (others : List (TreeLink Item)) (level : ℕ) → AllByRecursion (λ (link : Link). IsNode link.sibling) (links_from level others)
+links_nodes [] level = tt
+links_nodes (other ∷ others) level = (tt, links_nodes others _)
+
+pub round_links : (image : List ℕ → List ℕ) (items : List Item) (k : ℕ) (links : List Link) → links ≡ chain_of image items k → length links ≤ 16 → AreRoundLinks links
+round_links image items k links is few = record {
+  count = few;
+  nodes = subst (λ (links : List Link). AllByRecursion (λ (link : Link). IsNode link.sibling) links) (sym is) (links_nodes (tree_path image items k) (item_at items k).level);
+}
+
+-- links and the sides of them are as many
+pub sides_count : (links : List (TreeLink (List ℕ))) → length (sides_from_top links) ≡ length links
+sides_count links = length-reverse (map (λ (link : TreeLink (List ℕ)). link.side) links) ∙ length-map links (λ (link : TreeLink (List ℕ)). link.side)
+
+pub entry_item : (entries : List Entry) (k : ℕ) (entry : Entry) → slice_get entries k ≡ Some entry → item_at (items_of entries) k ≡ entry.item
+entry_item [] k entry is = absurd (cc is)
+entry_item (e ∷ es) zero entry is = ap (λ (o : Option Entry). item_or o) is
+  where
+    item_or : Option Entry → Item
+    item_or None = no_item
+    item_or (Some entry) = entry.item
+entry_item (e ∷ es) (suc k) entry is = entry_item es k entry is
+
+-- one response less is to come
+pub responses_later : (above : ℕ → Above) (sends : List Send) (entries : List Entry) (k : ℕ) (entry : Entry) → slice_get entries k ≡ Some entry →
+    (sends ++ response_to entry.origin (above k)) ++ responses_from above (k + 1) (drop (k + 1) entries) ≡ sends ++ responses_from above k (drop k entries)
+responses_later above sends entries k entry is =
+    let rest : drop k entries ≡ entry ∷ drop (suc k) entries =
+    drop-cons entries k entry (slice_get_within entries k entry is) ∙ ap (λ (e : Entry). e ∷ drop (suc k) entries) (get_or_from_slice_get entries k entry entry is) in
+    append_assoc sends (response_to entry.origin (above k)) (responses_from above (k + 1) (drop (k + 1) entries))
+    ∙ ap (λ (n : ℕ). sends ++ (response_to entry.origin (above k) ++ responses_from above n (drop n entries))) (add-one k)
+    ∙ ap (λ (es : List Entry). sends ++ responses_from above k es) (sym rest)

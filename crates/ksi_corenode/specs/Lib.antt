@@ -1,0 +1,5 @@
+pub mod SecondState
+pub mod Held
+pub mod Turns
+pub mod Rows
+pub mod CoreState

@@ -1,0 +1,290 @@
+ghost use Rattle.std.specs.Prelude.{◌≡◌, ℕ, ◌<◌, ◌≤◌, ◌↔◌, length, IfOk, OnOk, OnErr, IsTrue, IsSome, IsNone, Some, false, option_map};
+ghost use Rattle.std.specs.Option.{option_copied};
+ghost use Rattle.std.specs.Ordering.{nat_cmp};
+ghost use Rattle.std.specs.BTreeMap.{is_at};
+ghost use Rattle.std.specs.Map.{lookup};
+ghost use Rattle.ksi_corenode.specs.SecondState.{fresh_second};
+ghost use Rattle.ksi_aggtree.specs.Entries.{items_of, has_from, candidate_of};
+ghost use Rattle.ksi_signature.specs.declared.answer.Answer.TheVariants.{Late, Known, Full, Unsealed, Sealed, Undecided, Nothing, Last};
+ghost use Rattle.ksi_synod.specs.Ballots.{last_round};
+ghost use Rattle.ksi_synod.specs.Rows.{greater_round, OfBallot};
+ghost use Rattle.ksi_corenode.specs.Rows.{submission_row, seal_row, ballot_row, receive_row, tell_row, restart_row, is_news};
+ghost use Rattle.ksi_corenode.specs.CoreState.{second_at, held_by, IsSame, IsTurn};
+
+use crate::second::Second;
+use crate::sending::{push_each, push_told};
+use crate::step::{Sends, Step};
+use ksi_aggchain::Item;
+use ksi_imprint::{Compress, Imprint, NoMemory};
+use ksi_signature::Answer;
+use ksi_synod::{Begun, SynodMessage};
+use std::alloc::Global;
+use std::collections::BTreeMap;
+use std::marker::Model;
+
+/// A core: its number, how many cores there are, the first second, and what it keeps for each second.
+#[derive(Drop)]
+pub struct Core<C: Compress> {
+    alloc: Global,
+    me: u8,
+    members: u8,
+    start: u64,
+    seconds: BTreeMap<u64, Second<C>>,
+}
+
+impl<C: Compress> Model for Core<C> {
+    ghost use Rattle.std.specs.Prelude.{◌<◌, ◌≤◌};
+    ghost use Rattle.ksi_corenode.specs.CoreState.{CoreState};
+
+    ghost Value = { CoreState };
+
+    ghost view = { λ c. record { me = c.me; members = c.members; start = c.start; kept = c.seconds.entries } };
+
+    ghost invariant = { λ c. (c.me < c.members) × (c.members ≤ 9) };
+}
+
+impl<C: Compress> Core<C> {
+    /// Core `me` of so many, before anything came; the first second is `start`.
+    #[tactic(auto, unfolding(crate::specs::CoreState::second_at))]
+    pub fn new(alloc: Global, me: u8, members: u8, start: u64) -> Self
+        requires mine { me < members }
+        requires few { members ≤ 9 }
+        ensures me { result.me ≡ me }
+        ensures members { result.members ≡ members }
+        ensures start { result.start ≡ start }
+        ensures seconds { (t : ℕ) → second_at result t ≡ fresh_second me members t }
+    {
+        Core {
+            alloc,
+            me,
+            members,
+            start,
+            seconds: BTreeMap::new(alloc),
+        }
+    }
+
+    /// The root that this core holds for a second.
+    #[tactic(auto, unfolding(crate::specs::CoreState::second_at, crate::specs::SecondState::fresh_second, ksi_synod::specs::VoteState::fresh_vote))]
+    pub fn held(&self, second: u64) -> Option<Imprint>
+        ensures { result ≡ held_by self.now second }
+    {
+        match self.seconds.get(&second) {
+            Some(kept) => kept.held(),
+            None => None,
+        }
+    }
+
+    /// The candidate of this core for a second: the imprint of the tree of its sealed items, the zero imprint where it
+    /// sealed none. None where the second is not sealed.
+    #[tactic(auto, unfolding(crate::specs::CoreState::second_at, crate::specs::SecondState::fresh_second))]
+    pub fn candidate(&self, second: u64) -> Option<Imprint>
+        ensures { result ≡ option_map (candidate_of C.image) (second_at self.now second).sealed }
+    {
+        match self.seconds.get(&second) {
+            Some(kept) => kept.candidate(),
+            None => None,
+        }
+    }
+
+    /// The sealed items of a second, in order; none where the second is not sealed.
+    #[tactic(auto, unfolding(crate::specs::CoreState::second_at, crate::specs::SecondState::fresh_second))]
+    pub fn items(&self, second: u64) -> Option<&[Item]>
+        ensures { option_copied result ≡ option_map items_of (second_at self.now second).sealed }
+    {
+        match self.seconds.get(&second) {
+            Some(kept) => kept.items(),
+            None => None,
+        }
+    }
+
+    /// The first second.
+    pub(crate) fn start(&self) -> u64
+        ensures { result ≡ self.now.start }
+    {
+        self.start
+    }
+
+    /// What the memory is taken from.
+    pub(crate) fn alloc(&self) -> Global {
+        self.alloc
+    }
+
+    /// What is kept for a second, where something came for it.
+    pub(crate) fn second(&self, second: u64) -> Option<&Second<C>>
+        ensures { option_copied result ≡ lookup (is_at (nat_cmp second)) self.now.kept }
+    {
+        self.seconds.get(&second)
+    }
+
+    /// Takes an item of an aggregator for a second; its level is at most 239.
+    ///
+    /// The answer is Late where the second is sealed, Known where an open item of that aggregator is there, Full where
+    /// there are 65,536 of them, else Done.
+    ///
+    /// # Errors
+    /// `NoMemory`: all is as it was.
+    #[tactic(auto, unfolding(crate::specs::CoreState::second_at, crate::specs::Rows::submission_row))]
+    pub fn submission(&mut self, aggregator: u32, second: u64, item: Item) -> Result<Step, NoMemory>
+        requires level { item.level ≤ 239 }
+        ensures turn { IfOk result (λ step.
+            IsTurn self.old self.new second (submission_row aggregator item (second_at self.old second)) step) }
+        ensures late { IfOk result (λ step. (step.answer ≡ Late) ↔ IsSome (second_at self.old second).sealed) }
+        ensures known { IfOk result (λ step. (step.answer ≡ Known) ↔ (IsNone (second_at self.old second).sealed ×
+            IsTrue (has_from aggregator (second_at self.old second).open_items))) }
+        ensures full { IfOk result (λ step. (step.answer ≡ Full) ↔ (IsNone (second_at self.old second).sealed ×
+            (has_from aggregator (second_at self.old second).open_items ≡ false) ×
+            (length (second_at self.old second).open_items ≡ 65536))) }
+        ensures unchanged { OnErr result (IsSame self.old self.new) }
+    {
+        let alloc = self.alloc;
+        self.make_room(second)?;
+        let answer = match self.seconds.get_mut(&second) {
+            Some(kept) => kept.submission(alloc, aggregator, &item)?,
+            None => Answer::Late,
+        };
+        Ok(Step::without_sends(alloc, answer))
+    }
+
+    /// Seals a second: its open items are the sealed ones, and the imprint of their tree is the candidate. The answer is
+    /// Sealed where the second is sealed already, else Done.
+    ///
+    /// # Errors
+    /// `NoMemory`: all is as it was.
+    #[tactic(auto, unfolding(crate::specs::CoreState::second_at, crate::specs::Rows::seal_row))]
+    pub fn seal(&mut self, second: u64) -> Result<Step, NoMemory>
+        ensures turn { IfOk result (λ step.
+            IsTurn self.old self.new second (seal_row C.image (second_at self.old second)) step) }
+        ensures sealed { IfOk result (λ step. (step.answer ≡ Sealed) ↔ IsSome (second_at self.old second).sealed) }
+        ensures unchanged { OnErr result (IsSame self.old self.new) }
+    {
+        let alloc = self.alloc;
+        self.make_room(second)?;
+        let answer = match self.seconds.get_mut(&second) {
+            Some(kept) => kept.seal(),
+            None => Answer::Sealed,
+        };
+        Ok(Step::without_sends(alloc, answer))
+    }
+
+    /// Tries this core's next ballot for a second: NextBallot goes to the voters. The answer is Unsealed where the second
+    /// is not sealed, Last where no round is left, else Done.
+    ///
+    /// # Errors
+    /// `NoMemory`: all is as it was.
+    #[tactic(auto, unfolding(crate::specs::CoreState::second_at, crate::specs::Rows::ballot_row))]
+    pub fn ballot(&mut self, second: u64) -> Result<Step, NoMemory>
+        ensures turn { IfOk result (λ step. IsTurn self.old self.new second
+            (ballot_row self.old.members second self.old.me (second_at self.old second)) step) }
+        ensures unsealed { IfOk result (λ step. (step.answer ≡ Unsealed) ↔ IsNone (second_at self.old second).sealed) }
+        ensures last { IfOk result (λ step. (step.answer ≡ Last) ↔ (IsSome (second_at self.old second).sealed ×
+            (greater_round (second_at self.old second).vote ≡ last_round))) }
+        ensures unchanged { OnErr result (IsSame self.old self.new) }
+    {
+        let mut sends = Vec::with_capacity(self.alloc, self.members as usize)?;
+        self.make_room(second)?;
+        let begun = match self.seconds.get_mut(&second) {
+            Some(kept) => kept.ballot(),
+            None => Begun::Unsealed,
+        };
+        let answer = match begun {
+            Begun::Unsealed => Answer::Unsealed,
+            Begun::Last => Answer::Last,
+            Begun::Next(ballot) => {
+                push_each(self.members, &SynodMessage::NextBallot(ballot), &mut sends);
+                Answer::Done
+            }
+        };
+        Ok(Step {
+            answer,
+            sends: Sends::from_vec(sends),
+        })
+    }
+
+    /// Takes a message of the vote on a second from a core, which is below 9; the message's ballot is one. LastVote and
+    /// Voted go back to the sender, BeginBallot to the voters, Success to all cores. The answer is Nothing where the
+    /// message changes nothing, else Done.
+    ///
+    /// # Errors
+    /// `NoMemory`: all is as it was.
+    #[tactic(auto, unfolding(crate::specs::CoreState::second_at, crate::specs::Rows::receive_row))]
+    pub fn receive(
+        &mut self,
+        from: u8,
+        second: u64,
+        message: &SynodMessage,
+    ) -> Result<Step, NoMemory>
+        requires member { from < 9 }
+        requires ballot { OfBallot message.now }
+        ensures turn { IfOk result (λ step. IsTurn self.old self.new second
+            (receive_row self.old.members second from message.now (second_at self.old second)) step) }
+        ensures nothing { IfOk result (λ step. (step.answer ≡ Nothing) ↔
+            (is_news (second_at self.old second).vote from message.now ≡ false)) }
+        ensures unchanged { OnErr result (IsSame self.old self.new) }
+    {
+        let mut sends = Vec::with_capacity(self.alloc, self.members as usize)?;
+        self.make_room(second)?;
+        let (answer, reply) = match self.seconds.get_mut(&second) {
+            Some(kept) => kept.receive(from, message),
+            None => (Answer::Nothing, None),
+        };
+        push_told(self.members, second, from, &reply, &mut sends);
+        Ok(Step {
+            answer,
+            sends: Sends::from_vec(sends),
+        })
+    }
+
+    /// Tells what is held for a second: Success goes to all cores. The answer is Undecided with the second where nothing
+    /// is held, else Done.
+    ///
+    /// # Errors
+    /// `NoMemory`: all is as it was.
+    #[tactic(auto, unfolding(crate::specs::CoreState::second_at, crate::specs::Rows::tell_row))]
+    pub fn tell(&mut self, second: u64) -> Result<Step, NoMemory>
+        ensures turn { IfOk result (λ step. IsTurn self.old self.new second
+            (tell_row self.old.members second self.old.me (second_at self.old second)) step) }
+        ensures undecided { IfOk result (λ step. (step.answer ≡ Undecided second) ↔ IsNone (held_by self.old second)) }
+        ensures unchanged { OnErr result (IsSame self.old self.new) }
+    {
+        let mut sends = Vec::with_capacity(self.alloc, self.members as usize)?;
+        let answer = match self.held(second) {
+            None => Answer::Undecided(second),
+            Some(root) => {
+                push_each(self.members, &SynodMessage::Success(root), &mut sends);
+                Answer::Done
+            }
+        };
+        Ok(Step {
+            answer,
+            sends: Sends::from_vec(sends),
+        })
+    }
+
+    /// Forgets every ballot in hand and all open items, as a restart does.
+    #[tactic(auto, unfolding(crate::specs::CoreState::second_at))]
+    pub fn restart(&mut self)
+        ensures me { self.new.me ≡ self.old.me }
+        ensures members { self.new.members ≡ self.old.members }
+        ensures start { self.new.start ≡ self.old.start }
+        ensures seconds { (t : ℕ) → second_at self.new t ≡ restart_row (second_at self.old t) }
+    {
+        self.seconds.retain(|_, kept| {
+            kept.restart();
+            true
+        });
+    }
+
+    /// Makes room for a second, which changes nothing that is seen.
+    #[tactic(auto, unfolding(crate::specs::CoreState::second_at))]
+    fn make_room(&mut self, second: u64) -> Result<(), NoMemory>
+        ensures same { IsSame self.old self.new }
+        ensures there { OnOk result (lookup (is_at (nat_cmp second)) self.new.kept ≡ Some (second_at self.old second)) }
+    {
+        if self.seconds.contains_key(&second) {
+            return Ok(());
+        }
+        let fresh = Second::new(self.alloc, self.me, self.members, second);
+        self.seconds.insert(second, fresh)?;
+        Ok(())
+    }
+}

@@ -1,0 +1,176 @@
+//! How a core answers the aggregators whose items it sealed.
+ghost use Rattle.std.specs.Prelude.{◌≡◌, ◌↔◌, ℕ, ◌<◌, ◌≤◌, ◌+◌, ◌^◌, ◌++◌, length, IfOk, OnOk, IsSome, IsNone, Some, slice_get};
+ghost use Rattle.ksi_aggtree.specs.declared.entries.Entry.{Entry};
+ghost use Rattle.ksi_aggtree.specs.Entries.{items_of};
+ghost use Rattle.ksi_aggtree.specs.Paths.{chain_of};
+ghost use Rattle.ksi_calendar.specs.Calendar.{calendar_path};
+ghost use Rattle.ksi_signature.specs.declared.answer.Answer.TheVariants.{Unsealed, Undecided, NotMine};
+ghost use Rattle.ksi_corenode.specs.Held.{IsFirstMissing};
+ghost use Rattle.ksi_corenode.specs.Rows.{respond_row, IsNotMine, responses_from, response_to, above_item};
+ghost use Rattle.ksi_corenode.specs.CoreState.{second_at, held_by, IsTurn};
+
+use crate::node::Core;
+use crate::step::{Send, Sends, Step};
+use ksi_aggtree::{Entries, Origin};
+use ksi_calendar::Calendar;
+use ksi_imprint::{Compress, Imprint, NoMemory};
+use ksi_signature::{Above, AboveChain, AboveChains, AboveLinks, Answer, CalLinks};
+use ksi_split::laws::{one_way, short_ways};
+use std::alloc::Global;
+
+impl<C: Compress> Core<C> {
+    /// Answers the aggregators whose items were sealed for a second, which is at or after the start and below 2^63: a
+    /// Response for each item in order, with the way from it to the calendar of this second.
+    ///
+    /// The answer is Unsealed where the second is not sealed, Undecided with the first second from the start to it that
+    /// nothing is held for, NotMine where the held root is not this core's candidate or is the zero imprint, else Done.
+    ///
+    /// # Errors
+    /// `NoMemory`: all is as it was.
+    pub fn respond(&mut self, second: u64) -> Result<Step, NoMemory>
+        requires from { self.old.start ≤ second }
+        requires below { second < 2 ^ 63 }
+        ensures turn { IfOk result (λ step. IsTurn self.old self.new second
+            (respond_row C.image (held_by self.old) self.old.start second (second_at self.old second)) step) }
+        ensures unsealed { IfOk result (λ step. (step.answer ≡ Unsealed) ↔ IsNone (second_at self.old second).sealed) }
+        ensures undecided { IfOk result (λ step. (t : ℕ) → (step.answer ≡ Undecided t) ↔
+            (IsSome (second_at self.old second).sealed × IsFirstMissing (held_by self.old) self.old.start second t)) }
+        ensures not_mine { IfOk result (λ step. (step.answer ≡ NotMine) ↔
+            IsNotMine C.image (held_by self.old) self.old.start second (second_at self.old second)) }
+        ensures same { self.new ≡ self.old }
+    {
+        let step = self.responded(second)?;
+        Ok(step)
+    }
+
+    #[tactic(auto, unfolding(crate::specs::CoreState::second_at, crate::specs::SecondState::fresh_second, crate::specs::Rows::respond_row))]
+    fn responded(&self, second: u64) -> Result<Step, NoMemory>
+        requires from { self.now.start ≤ second }
+        requires below { second < 2 ^ 63 }
+        ensures answer { IfOk result (λ step. step.answer ≡
+            (respond_row C.image (held_by self.now) self.now.start second (second_at self.now second)).answer) }
+        ensures sends { IfOk result (λ step. step.sends ≡
+            (respond_row C.image (held_by self.now) self.now.start second (second_at self.now second)).sends) }
+    {
+        let alloc = self.alloc();
+        let Some(kept) = self.second(second) else {
+            return Ok(Step::without_sends(alloc, Answer::Unsealed));
+        };
+        if !kept.is_sealed() {
+            return Ok(Step::without_sends(alloc, Answer::Unsealed));
+        }
+        if let Some(missing) = self.first_missing(second) {
+            return Ok(Step::without_sends(alloc, Answer::Undecided(missing)));
+        }
+        let Some(root) = kept.held() else {
+            return Ok(Step::without_sends(alloc, Answer::Undecided(second)));
+        };
+        if !kept.is_mine(&root) {
+            return Ok(Step::without_sends(alloc, Answer::NotMine));
+        }
+        let calendar = self.calendar(second)?;
+        let sends = match kept.entries() {
+            Some(entries) => responses(alloc, entries, &root, &calendar, second)?,
+            None => Vec::new(alloc),
+        };
+        Ok(Step {
+            answer: Answer::Done,
+            sends: Sends::from_vec(sends),
+        })
+    }
+}
+
+/// A response for each item that an aggregator submitted, in their order.
+fn responses<C: Compress>(
+    alloc: Global,
+    entries: &Entries<C>,
+    root: &Imprint,
+    calendar: &Calendar<C>,
+    second: u64,
+) -> Result<Vec<Send>, NoMemory>
+    requires below { second < 2 ^ 63 }
+    requires covered { second < calendar.now.start + length calendar.now.roots }
+    ensures { IfOk result (λ sends. sends.items ≡
+        responses_from (above_item C.image calendar.now second root.now (items_of entries.now)) 0 entries.now) }
+{
+    let mut sends = Vec::new(alloc);
+    'answering: for k in 0..entries.count() {
+        put_response(alloc, entries, k, root, calendar, second, &mut sends)?;
+    }
+    Ok(sends)
+}
+
+/// The response for item `k`, where an aggregator submitted it.
+fn put_response<C: Compress>(
+    alloc: Global,
+    entries: &Entries<C>,
+    k: usize,
+    root: &Imprint,
+    calendar: &Calendar<C>,
+    second: u64,
+    sends: &mut Vec<Send>,
+) -> Result<(), NoMemory>
+    requires there { k < length entries.now }
+    requires below { second < 2 ^ 63 }
+    requires covered { second < calendar.now.start + length calendar.now.roots }
+    ensures { OnOk result ((entry : Entry) → slice_get entries.now k ≡ Some entry → sends.new.items ≡
+        sends.old.items ++ response_to entry.origin (above_item C.image calendar.now second root.now (items_of entries.now) k)) }
+{
+    match entries.entry(k).origin {
+        Origin::Request(_) => Ok(()),
+        Origin::Aggregator(from) => {
+            let above = above(alloc, entries, k, root, calendar, second)?;
+            sends.push(Send::Response(from, above))?;
+            Ok(())
+        }
+    }
+}
+
+/// What stands above item `k`.
+fn above<C: Compress>(
+    alloc: Global,
+    entries: &Entries<C>,
+    k: usize,
+    root: &Imprint,
+    calendar: &Calendar<C>,
+    second: u64,
+) -> Result<Above, NoMemory>
+    requires there { k < length entries.now }
+    requires below { second < 2 ^ 63 }
+    requires covered { second < calendar.now.start + length calendar.now.roots }
+    ensures { IfOk result (λ above. above ≡ above_item C.image calendar.now second root.now (items_of entries.now) k) }
+{
+    let chain = AboveChain {
+        input: entries.entry(k).item.imprint,
+        links: round_links(entries, k)?,
+    };
+    let calendar = calendar_links(calendar, second)?;
+    let mut chains = Vec::with_capacity(alloc, 1)?;
+    chains.push(chain)?;
+    Ok(Above {
+        root: *root,
+        chains: AboveChains::from_vec(chains),
+        calendar,
+    })
+}
+
+/// The links from item `k` up to the root of the items.
+fn round_links<C: Compress>(entries: &Entries<C>, k: usize) -> Result<AboveLinks, NoMemory>
+    requires { k < length entries.now }
+    ensures { IfOk result (λ links. links ≡ chain_of C.image (items_of entries.now) k) }
+{
+    let links = entries.path(k)?;
+    Ok(AboveLinks::from_vec(links.into_vec()))
+}
+
+/// The links from a second up to the calendar of this second.
+fn calendar_links<C: Compress>(calendar: &Calendar<C>, second: u64) -> Result<CalLinks, NoMemory>
+    requires below { second < 2 ^ 63 }
+    requires covered { second < calendar.now.start + length calendar.now.roots }
+    ensures { IfOk result (λ links. links ≡ calendar_path C.image calendar.now second second) }
+{
+    one_way();
+    short_ways();
+    let links = calendar.chain_to(second, second)?;
+    Ok(CalLinks::from_vec(links.into_vec()))
+}
