@@ -54,8 +54,8 @@ mod writer;
 #[cfg(test)]
 mod writer_tests;
 
-pub use answer::Answer;
 pub use above::{Above, AboveChain, AboveChains, AboveLinks};
+pub use answer::Answer;
 pub use checker::check;
 pub use containers::{CalendarContent, ChainContent, LinkContent, SignatureContent};
 pub use extension::{WithRefusal, with_calendar};
