@@ -2,4 +2,3 @@ pub mod Items
 pub mod Found
 pub mod Restart
 pub mod Words
-pub mod Closing

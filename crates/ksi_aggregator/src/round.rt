@@ -24,7 +24,7 @@ pub(crate) struct Round<C: Compress> {
 }
 
 impl<C: Compress> Model for Round<C> {
-    ghost use Rattle.std.specs.Prelude.{◌≡◌, false, if◌then◌else◌, [], Some, None};
+    ghost use Rattle.std.specs.Prelude.{if◌then◌else◌, [], Some, None};
     ghost use Rattle.ksi_aggregator.specs.Rows.{RoundState};
 
     ghost Value = { RoundState };
@@ -142,6 +142,7 @@ impl<C: Compress> Round<C> {
         if let Some(root) = self.entries.root() {
             sends.push(Send::Submission(root))?;
         }
+        self.response = None;
         self.is_closed = true;
         Ok(Step {
             answer: Answer::Done,
