@@ -71,7 +71,8 @@ impl<C: Compress> Builder<C> {
 
     /// How many items the round has.
     pub fn count(&self) -> usize
-        ensures { result ≡ length self.now }
+        ensures count { result ≡ length self.now }
+        ensures few { length self.now ≤ 65536 }
     {
         self.rows.count() as usize
     }
@@ -79,7 +80,8 @@ impl<C: Compress> Builder<C> {
     /// Item `k`, which is below the count.
     pub fn item(&self, k: usize) -> Item
         requires { k < length self.now }
-        ensures { result ≡ item_at self.now k }
+        ensures item { result ≡ item_at self.now k }
+        ensures low { result.level ≤ 239 }
     {
         self.rows.leaf(k as u64)
     }

@@ -10,6 +10,7 @@ use crate::links::CalLinks;
 use ksi_imprint::{Compress, Imprint, NoMemory};
 use ksi_rows::{Rows, Steps};
 use ksi_split::Side;
+use ksi_split::laws::{one_way, short_ways};
 use std::alloc::Global;
 use std::marker::{Brand, Model};
 use std::sync::ledger::{Blank, Ledger};
@@ -88,6 +89,7 @@ impl<C: Compress> Calendar<C> {
         ensures climbs { IfOk result (λ links.
             ClimbsCal C.image (calendar_leaf self.now t) links (calendar_root C.image self.now p)) }
         ensures way { IfOk result (λ links. sides_from_top links ≡ way_of t (p + 1)) }
+        ensures few { p < 2 ^ 63 → IfOk result (λ links. length links ≤ 63) }
     {
         chain_from::<C, Brand>(self, t, p, Blank::new(1))
     }
@@ -108,10 +110,13 @@ impl<C: Compress> Calendar<C> {
         ensures climbs { IfOk result (λ links.
             ClimbsCal C.image (calendar_leaf self.now t) links (calendar_root C.image self.now p)) }
         ensures way { IfOk result (λ links. sides_from_top links ≡ way_of t (p + 1)) }
+        ensures few { p < 2 ^ 63 → IfOk result (λ links. length links ≤ 63) }
         ensures most { steps.new ≤ steps.old + 126 }
         ensures least { IfOk result (λ links. steps.old + length links ≤ steps.new) }
     {
         one_chain();
+        one_way();
+        short_ways();
         Ok(CalLinks::from_vec(self.rows.path_counted(t, p, steps)?))
     }
 
@@ -151,6 +156,7 @@ fn chain_from<C: Compress, L: Ledger>(
     ensures climbs { IfOk result (λ links.
         ClimbsCal C.image (calendar_leaf calendar.now t) links (calendar_root C.image calendar.now p)) }
     ensures way { IfOk result (λ links. sides_from_top links ≡ way_of t (p + 1)) }
+    ensures few { p < 2 ^ 63 → IfOk result (λ links. length links ≤ 63) }
 {
     let mut steps = Steps::<L>::open(blank);
     calendar.chain_to_counted(t, p, &mut steps)

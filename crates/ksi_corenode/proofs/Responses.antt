@@ -1,7 +1,6 @@
 -- What stands above the items of a round.
 use Rattle.std.proofs.Common.{◌≡◌, ◌∙◌, ℕ, zero, suc, ◌+◌, ◌<◌, ◌≤◌, List, [], ◌∷◌, ◌++◌, length, map, take, drop, get_or, slice_get, Option, Some, None, refl, sym, ap, subst, arith, append_assoc, add-one}
 use Rattle.std.specs.List.{AllByRecursion}
-use Rattle.std.proofs.lemmas.List.{length-reverse, length-map}
 use Rattle.std.proofs.lemmas.Option.{slice_get_within, get_or_from_slice_get}
 use Rattle.std.proofs.Math.Seq.{drop-cons}
 use Rattle.ksi_split.specs.declared.side.Side.{Side}
@@ -31,9 +30,6 @@ round_links image items k links is few = record {
 }
 
 -- links and the sides of them are as many
-pub sides_count : (links : List (TreeLink (List ℕ))) → length (sides_from_top links) ≡ length links
-sides_count links = length-reverse (map (λ (link : TreeLink (List ℕ)). link.side) links) ∙ length-map links (λ (link : TreeLink (List ℕ)). link.side)
-
 pub entry_item : (entries : List Entry) (k : ℕ) (entry : Entry) → slice_get entries k ≡ Some entry → item_at (items_of entries) k ≡ entry.item
 entry_item [] k entry is = absurd (cc is)
 entry_item (e ∷ es) zero entry is = ap (λ (o : Option Entry). item_or o) is

@@ -15,7 +15,6 @@ use ksi_aggtree::{Entries, Origin};
 use ksi_calendar::Calendar;
 use ksi_imprint::{Compress, Imprint, NoMemory};
 use ksi_signature::{Above, AboveChain, AboveChains, AboveLinks, Answer, CalLinks};
-use ksi_split::laws::{one_way, short_ways};
 use std::alloc::Global;
 
 impl<C: Compress> Core<C> {
@@ -169,8 +168,6 @@ fn calendar_links<C: Compress>(calendar: &Calendar<C>, second: u64) -> Result<Ca
     requires covered { second < calendar.now.start + length calendar.now.roots }
     ensures { IfOk result (λ links. links ≡ calendar_path C.image calendar.now second second) }
 {
-    one_way();
-    short_ways();
     let links = calendar.chain_to(second, second)?;
     Ok(CalLinks::from_vec(links.into_vec()))
 }

@@ -1,4 +1,4 @@
-ghost use Rattle.std.specs.Prelude.{◌≡◌, ◌+◌, ◌<◌, [], ◌∷◌, ◌++◌, length};
+ghost use Rattle.std.specs.Prelude.{◌≡◌, ◌+◌, ◌<◌, ◌≤◌, [], ◌∷◌, ◌++◌, length};
 
 use crate::side::Side;
 use std::marker::Model;
@@ -41,7 +41,8 @@ impl Way {
 
     /// The sides, from the top.
     pub fn as_slice(&self) -> &[Side]
-        ensures { result.now ≡ self.now }
+        ensures sides { result.now ≡ self.now }
+        ensures few { length self.now ≤ 63 }
     {
         &self.sides[..self.count]
     }

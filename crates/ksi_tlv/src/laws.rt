@@ -1,4 +1,4 @@
-//! Laws of spellings and numerals, for the proofs of the layers above. No code calls them.
+//! What holds of spellings and numerals, for the layers above to cite. None of these functions does anything.
 
 ghost use Rattle.std.specs.Prelude.{◌≡◌, ◌↔◌, ◌<◌, ◌≤◌, ◌^◌, ◌∷◌, ◌++◌, ◌+◌, [], ℕ, zero, List, length, drop, Ok, Err, All};
 ghost use Rattle.std.specs.List.{AllByRecursion};

@@ -25,4 +25,4 @@ returns g c =
     subst (λ (entries : List Entry). slice_get entries k ≡ Some (record { origin = origin; item = c.item.result })) c.self.view_is
     (beside_entry inside.origins.items inside.round k origin c.self.invariant
     (omega (arith, c.requires, count, beside_count inside.origins.items inside.round c.self.invariant)) c.index.ensures
-    ∙ ap (λ (item : Item). Some (beside origin item)) (sym c.item.ensures))
+    ∙ ap (λ (item : Item). Some (beside origin item)) (sym c.item.ensures.item))
