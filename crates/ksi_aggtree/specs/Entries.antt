@@ -1,5 +1,5 @@
 -- The items of a round with where they came from. In a tree the items stand without their origins.
-use Rattle.std.specs.Prelude.{ℕ, Bool, false, ◌==◌, List, [], ◌∷◌, length, map}
+use Rattle.std.specs.Prelude.{◌≡◌, ℕ, Bool, false, ◌==◌, List, [], ◌∷◌, length, map}
 use Rattle.std.specs.List.{list_any}
 use Rattle.ksi_imprint.specs.Imprints.{zero_imprint}
 use Rattle.ksi_aggchain.specs.declared.item.Item.{Item}
@@ -21,6 +21,11 @@ is_from aggregator (origins.Aggregator from) = from == aggregator
 abbrev pub has_from : ℕ → List Entry → Bool
 has_from aggregator entries = list_any (λ (entry : Entry). is_from aggregator entry.origin) entries
 
+-- what is sent to where an item came from: one message to an aggregator, none for a request
+abbrev pub to_sender : {Sent : Type 0} → (ℕ → Sent) → Origin → List Sent
+to_sender send (origins.Request number) = []
+to_sender send (origins.Aggregator from) = send from ∷ []
+
 -- a round takes no more
 abbrev pub is_full : List Entry → Bool
 is_full entries = length entries == 65536
@@ -35,3 +40,8 @@ abbrev pub entries_of : List Origin → List Item → List Entry
 entries_of [] items = []
 entries_of (origin ∷ others) [] = []
 entries_of (origin ∷ others) (item ∷ items) = record { origin = origin; item = item } ∷ entries_of others items
+
+-- what is kept beside the items: an origin for each, and the aggregators among the origins
+pub record AreKept (origins : List Origin) (items : List Item) (has_sender : ℕ → Bool) : Type 0 where
+  pub count : length origins ≡ length items
+  pub senders : (aggregator : ℕ) → has_sender aggregator ≡ list_any (is_from aggregator) origins

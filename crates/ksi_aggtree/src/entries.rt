@@ -1,17 +1,18 @@
 ghost use Rattle.std.specs.Prelude.{◌≡◌, ◌++◌, ◌∷◌, [], ◌<◌, ◌≤◌, ◌↔◌, length, slice_get, vec_len, vec_capacity, Some, OnErr, IfOk};
-ghost use Rattle.std.specs.List.{list_any};
 ghost use Rattle.ksi_split.specs.Ways.{way_of};
 ghost use Rattle.ksi_aggchain.specs.Climbing.{Climbs};
 ghost use Rattle.ksi_aggchain.specs.Owned.{plain_links};
 ghost use Rattle.ksi_aggtree.specs.Rounds.{item_at, tree_of, root_of};
 ghost use Rattle.ksi_aggtree.specs.Paths.{chain_of, sides_from_top};
-ghost use Rattle.ksi_aggtree.specs.Entries.{items_of, is_from, has_from, candidate_of};
+ghost use Rattle.ksi_aggtree.specs.Entries.{items_of, has_from, candidate_of};
 
 use crate::builder::{AddRefusal, Builder};
 use crate::links::Links;
+use crate::senders::{make_room, note};
 use ksi_aggchain::Item;
 use ksi_imprint::{Compress, Imprint, NoMemory};
 use std::alloc::Global;
+use std::collections::HashSet;
 use std::marker::Model;
 
 /// Where an item came from.
@@ -34,19 +35,21 @@ pub struct Entry {
 #[derive(Drop)]
 pub struct Entries<C: Compress> {
     origins: Vec<Origin>,
+    senders: HashSet<u32>,
     round: Builder<C>,
 }
 
 impl<C: Compress> Model for Entries<C> {
-    ghost use Rattle.std.specs.Prelude.{◌≡◌, List, length};
+    ghost use Rattle.std.specs.Prelude.{List, nat_eq};
+    ghost use Rattle.std.specs.HashSet.{contains};
     ghost use Rattle.ksi_aggtree.specs.declared.entries.Entry as entry;
-    ghost use Rattle.ksi_aggtree.specs.Entries.{entries_of};
+    ghost use Rattle.ksi_aggtree.specs.Entries.{entries_of, AreKept};
 
     ghost Value = { List entry.Entry };
 
     ghost view = { λ entries. entries_of entries.origins.items entries.round };
 
-    ghost invariant = { λ entries. length entries.origins.items ≡ length entries.round };
+    ghost invariant = { λ entries. AreKept entries.origins.items entries.round (contains nat_eq entries.senders) };
 }
 
 impl<C: Compress> Entries<C> {
@@ -60,6 +63,7 @@ impl<C: Compress> Entries<C> {
         let round = Builder::new(alloc)?;
         Ok(Entries {
             origins: Vec::new(alloc),
+            senders: HashSet::new(alloc),
             round,
         })
     }
@@ -82,11 +86,11 @@ impl<C: Compress> Entries<C> {
         }
     }
 
-    /// Whether an item of the aggregator is there.
+    /// Whether an item of the aggregator is there: one look into a set, however many items there are.
     pub fn has_from(&self, aggregator: u32) -> bool
         ensures { result ≡ has_from aggregator self.now }
     {
-        is_among(&self.origins, aggregator)
+        self.senders.contains(&aggregator)
     }
 
     /// The tree of the items, none where there is no item.
@@ -138,8 +142,10 @@ impl<C: Compress> Entries<C> {
             return Err(AddRefusal::Full);
         }
         self.origins.reserve(1)?;
+        make_room(&mut self.senders, &entry.origin)?;
         match self.round.add(entry.item) {
             Ok(_) => {
+                note(&mut self.senders, entry.origin);
                 put(&mut self.origins, entry.origin);
                 Ok(place)
             }
@@ -156,22 +162,5 @@ fn put(origins: &mut Vec<Origin>, origin: Origin)
     match origins.push(origin) {
         Ok(()) => {}
         Err(_) => unreachable!(),
-    }
-}
-
-/// Whether the aggregator is among the origins.
-fn is_among(origins: &[Origin], aggregator: u32) -> bool
-    ensures { result ≡ list_any (is_from aggregator) origins.now }
-{
-    origins.iter().any(|origin| is_from(origin, aggregator))
-}
-
-/// Whether the origin is this aggregator.
-fn is_from(origin: &Origin, aggregator: u32) -> bool
-    ensures { result ≡ is_from aggregator origin.now }
-{
-    match origin {
-        Origin::Request(_) => false,
-        Origin::Aggregator(from) => *from == aggregator,
     }
 }

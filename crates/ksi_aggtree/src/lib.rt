@@ -27,6 +27,7 @@ mod items;
 mod join;
 pub mod laws;
 mod links;
+mod senders;
 #[cfg(test)]
 mod tests;
 

@@ -6,4 +6,4 @@ use Rattle.ksi_aggtree.proofs.entries.Entries.count.Goals as goal
 pub returns : goal.returns
 returns g c =
     let inside = c.self.inside in
-    c.count.ensures.count ∙ sym (beside_count inside.origins.items inside.round c.self.invariant) ∙ ap (λ (entries : List Entry). length entries) c.self.view_is
+    c.count.ensures.count ∙ sym (beside_count inside.origins.items inside.round c.self.invariant.count) ∙ ap (λ (entries : List Entry). length entries) c.self.view_is

@@ -8,13 +8,13 @@ pub index-requires : goal.index-requires
 index-requires g c =
     let inside = c.self.inside in
     let count = ap (λ (entries : List Entry). length entries) c.self.view_is in
-    omega (arith, c.requires, count, beside_count inside.origins.items inside.round c.self.invariant, c.self.invariant, inside.origins.ok.0)
+    omega (arith, c.requires, count, beside_count inside.origins.items inside.round c.self.invariant.count, c.self.invariant.count, inside.origins.ok.0)
 
 pub item-requires : goal.item-requires
 item-requires g c =
     let inside = c.self.inside in
     let count = ap (λ (entries : List Entry). length entries) c.self.view_is in
-    omega (arith, c.requires, count, beside_count inside.origins.items inside.round c.self.invariant)
+    omega (arith, c.requires, count, beside_count inside.origins.items inside.round c.self.invariant.count)
 
 pub returns : goal.returns
 returns g c =
@@ -23,6 +23,6 @@ returns g c =
     let origin = c.index.result.now in
     let count = ap (λ (entries : List Entry). length entries) c.self.view_is in
     subst (λ (entries : List Entry). slice_get entries k ≡ Some (record { origin = origin; item = c.item.result })) c.self.view_is
-    (beside_entry inside.origins.items inside.round k origin c.self.invariant
-    (omega (arith, c.requires, count, beside_count inside.origins.items inside.round c.self.invariant)) c.index.ensures
+    (beside_entry inside.origins.items inside.round k origin c.self.invariant.count
+    (omega (arith, c.requires, count, beside_count inside.origins.items inside.round c.self.invariant.count)) c.index.ensures
     ∙ ap (λ (item : Item). Some (beside origin item)) (sym c.item.ensures.item))

@@ -1,4 +1,4 @@
-use Rattle.std.proofs.Common.{◌≡◌, ◌∙◌, ◌<◌, ℕ, List, length, ap, sym, subst, arith}
+use Rattle.std.proofs.Common.{◌≡◌, ◌∙◌, List, length, ap, sym, subst, arith}
 use Rattle.std.proofs.lemmas.Result.{IfOk-weaker}
 use Rattle.ksi_aggchain.specs.declared.item.Item.{Item}
 use Rattle.ksi_aggtree.specs.declared.entries.Entry.{Entry}
@@ -15,7 +15,7 @@ pub path-requires : goal.path-requires
 path-requires g c =
     let inside = c.self.inside in
     let count = ap (λ (entries : List Entry). length entries) c.self.view_is in
-    omega (arith, c.requires, count, beside_count inside.origins.items inside.round c.self.invariant)
+    omega (arith, c.requires, count, beside_count inside.origins.items inside.round c.self.invariant.count)
 
 pub returns : goal.returns
 returns g c =
@@ -23,8 +23,8 @@ returns g c =
     let image = g.C.Compress.image in
     let k = c.args.k in
     let now = c.args.self.now in
-    let items : inside.round ≡ items_of now = sym (beside_items inside.origins.items inside.round c.self.invariant) ∙ ap items_of c.self.view_is in
-    let count : length inside.round ≡ length now = sym (beside_count inside.origins.items inside.round c.self.invariant) ∙ ap (λ (entries : List Entry). length entries) c.self.view_is in
+    let items : inside.round ≡ items_of now = sym (beside_items inside.origins.items inside.round c.self.invariant.count) ∙ ap items_of c.self.view_is in
+    let count : length inside.round ≡ length now = sym (beside_count inside.origins.items inside.round c.self.invariant.count) ∙ ap (λ (entries : List Entry). length entries) c.self.view_is in
     record {
       links = IfOk-weaker c.path.result _ _ (λ links h. h ∙ ap (λ (items : List Item). chain_of image items k) items) c.path.ensures.links;
       climbs = IfOk-weaker c.path.result _ _ (λ links h. subst (λ (items : List Item). Climbs image (item_at items k) (plain_links links) (tree_of image items)) items h) c.path.ensures.climbs;

@@ -11,5 +11,5 @@ returns g c =
     let inside = c.self.inside in
     let image = g.C.Compress.image in
     c.root.ensures
-    ∙ ap (λ (items : List Item). root_of image items) (sym (beside_items inside.origins.items inside.round c.self.invariant))
+    ∙ ap (λ (items : List Item). root_of image items) (sym (beside_items inside.origins.items inside.round c.self.invariant.count))
     ∙ ap (λ (entries : List Entry). root_of image (items_of entries)) c.self.view_is
