@@ -1,5 +1,5 @@
 -- The seconds from one on to a last one: the first that nothing is held for, and what is held for them.
-use Rattle.std.proofs.Common.{◌≡◌, ◌∙◌, ℕ, zero, suc, ◌+◌, ◌-◌, ◌<◌, ◌≤◌, Bool, true, false, List, [], ◌∷◌, ◌++◌, length, Option, Some, None, refl, sym, ap, append_assoc, add-one, arith, leb, ltb, le-leb, lt-ltb}
+use Rattle.std.proofs.Common.{◌≡◌, ◌∙◌, ℕ, zero, suc, ◌+◌, ◌-◌, ◌<◌, ◌≤◌, true, false, List, [], ◌∷◌, ◌++◌, length, Option, Some, None, refl, sym, ap, append_assoc, add-one, arith, leb, ltb, le-leb, lt-ltb}
 use Rattle.std.specs.Prelude.{is_some, unwrap_or}
 use Rattle.ksi_calendar.specs.Calendar.{Seconds, calendar_root, root_at}
 use Rattle.ksi_imprint.specs.Imprints.{zero_imprint}

@@ -1,5 +1,5 @@
 -- The first second that nothing is held for, in words.
-use Rattle.std.proofs.Common.{◌≡◌, ◌∙◌, ℕ, zero, suc, ◌+◌, ◌-◌, ◌<◌, ◌≤◌, ◌↔◌, true, false, List, Option, Some, None, refl, sym, ap, subst, arith, inl, inr}
+use Rattle.std.proofs.Common.{◌≡◌, ℕ, zero, suc, ◌+◌, ◌-◌, ◌<◌, ◌≤◌, ◌↔◌, List, Option, Some, None, refl, sym, ap, subst, arith, inl, inr}
 use Rattle.std.specs.Prelude.{is_some, IsSome}
 use Rattle.std.proofs.Math.Nat.{eq-or-lt_of_le}
 use Rattle.ksi_corenode.specs.Held.{Held, earlier_of, missing_among, first_missing, IsFirstMissing}

@@ -1,6 +1,6 @@
 -- When a row gives which answer, in words.
 use Rattle.std.proofs.Common.{◌≡◌, ◌≢◌, ◌∙◌, ◌⊎◌, ℕ, ◌≤◌, ◌↔◌, ◌&&◌, Bool, true, false, not, List, Option, Some, None, refl, sym, ap, arith, inl, inr}
-use Rattle.std.specs.Prelude.{◌==◌, if◌then◌else◌, is_some, IsSome, IsNone}
+use Rattle.std.specs.Prelude.{◌==◌, if◌then◌else◌, IsSome, IsNone}
 use Rattle.std.specs.Bool.{Decides}
 use Rattle.std.specs.Str.{bytes_eq}
 use Rattle.std.proofs.lemmas.Bool.{cond_both, eqb-true}
@@ -9,7 +9,7 @@ use Rattle.ksi_imprint.specs.Imprints.{zero_imprint}
 use Rattle.ksi_aggtree.specs.declared.entries.Entry.{Entry}
 use Rattle.ksi_aggtree.specs.Entries.{candidate_of}
 use Rattle.ksi_signature.specs.declared.answer.Answer.{Answer}
-use Rattle.ksi_signature.specs.declared.answer.Answer.TheVariants.{Done, Unsealed, Undecided, NotMine, Published}
+use Rattle.ksi_signature.specs.declared.answer.Answer.TheVariants.{Unsealed, Undecided, NotMine}
 use Rattle.ksi_corenode.specs.SecondState.{SecondState}
 use Rattle.ksi_corenode.specs.Turns.{Turn}
 use Rattle.ksi_corenode.specs.Held.{Held, first_missing, IsFirstMissing}

@@ -3,8 +3,6 @@ use Rattle.std.specs.Prelude.{◌≡◌, ℕ, ◌==◌, if◌then◌else◌, Lis
 use Rattle.std.specs.Ordering.{nat_cmp}
 use Rattle.std.specs.BTreeMap.{is_at}
 use Rattle.std.specs.Map.{lookup}
-use Rattle.ksi_signature.specs.declared.answer.Answer.{Answer}
-use Rattle.ksi_corenode.specs.declared.step.Send.{Send}
 use Rattle.ksi_corenode.specs.declared.step.Step.{Step}
 use Rattle.ksi_corenode.specs.SecondState.{SecondState, fresh_second}
 use Rattle.ksi_corenode.specs.Held.{Held}

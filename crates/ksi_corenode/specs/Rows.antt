@@ -1,13 +1,13 @@
 -- The steps of a core. Each is a function from a second to what the step makes of it. Where the condition of a step does
 -- not hold, the second stays and nothing is sent.
-use Rattle.std.specs.Prelude.{◌≡◌, ◌≢◌, ◌≤◌, ◌⊎◌, ℕ, suc, Bool, true, false, not, ◌&&◌, ◌==◌, if◌then◌else◌, List, [], ◌∷◌, ◌++◌, is_some, IsSome, Option, Some, None}
+use Rattle.std.specs.Prelude.{◌≡◌, ◌≢◌, ◌≤◌, ◌⊎◌, ℕ, suc, Bool, true, false, not, ◌&&◌, if◌then◌else◌, List, [], ◌∷◌, ◌++◌, is_some, IsSome, Option, Some, None}
 use Rattle.std.specs.Str.{bytes_eq}
 use Rattle.ksi_imprint.specs.Imprints.{zero_imprint}
 use Rattle.ksi_aggchain.specs.declared.item.Item.{Item}
 use Rattle.ksi_aggtree.specs.declared.entries.Entry.{Entry}
 use Rattle.ksi_aggtree.specs.declared.entries.Origin.{Origin}
 use Rattle.ksi_aggtree.specs.declared.entries.Origin.TheVariants as origins
-use Rattle.ksi_aggtree.specs.Entries.{items_of, has_from, is_full, candidate_of}
+use Rattle.ksi_aggtree.specs.Entries.{items_of, has_from, to_sender, is_full, candidate_of}
 use Rattle.ksi_aggtree.specs.Rounds.{item_at}
 use Rattle.ksi_aggtree.specs.Paths.{chain_of}
 use Rattle.ksi_synod.specs.declared.messages.SynodMessage.{SynodMessage}
@@ -26,7 +26,7 @@ use Rattle.ksi_corenode.specs.declared.step.Send.{Send}
 use Rattle.ksi_corenode.specs.declared.step.Send.TheVariants as sends
 use Rattle.ksi_corenode.specs.SecondState.{SecondState}
 use Rattle.ksi_corenode.specs.Held.{Held, first_missing, held_seconds, held_root}
-use Rattle.ksi_corenode.specs.Turns.{Turn, still, told, voted_with}
+use Rattle.ksi_corenode.specs.Turns.{Turn, still, voted_with}
 
 -- SUBMISSION of an item by an aggregator: it is one of the open items, where none of that aggregator is there
 
@@ -111,8 +111,7 @@ above_item image seconds second root items k = record {
 
 -- a response goes to an aggregator; a request's item has none
 abbrev pub response_to : Origin → Above → List Send
-response_to (origins.Request number) above = []
-response_to (origins.Aggregator from) above = sends.Response from above ∷ []
+response_to origin above = to_sender (λ from. sends.Response from above) origin
 
 -- the responses for these entries, the first of which is item k
 abbrev pub responses_from : (ℕ → Above) → ℕ → List Entry → List Send
