@@ -1,5 +1,5 @@
 -- The items of requests stay found by their numbers, whatever a row makes of a round.
-use Rattle.std.proofs.Common.{◌≡◌, ◌↔◌, not, ◌≢◌, ◌<◌, ◌≤◌, ◌^◌, arith, Result, Ok, Err, nat_cmp, ℕ, ◌++◌, List, [], ◌∷◌, length, Bool, true, false, cond, eqb, Option, Some, None, refl, ap, sym, subst, ◌∙◌, ◌⊎◌, inl, inr}
+use Rattle.std.proofs.Common.{◌≡◌, ◌↔◌, not, ◌≢◌, ◌<◌, ◌≤◌, ◌^◌, arith, Result, Ok, Err, nat_cmp, ℕ, ◌++◌, List, [], ◌∷◌, length, Bool, true, false, eqb, Option, Some, None, refl, ap, sym, subst, ◌∙◌, ◌⊎◌, inl, inr}
 use Rattle.std.specs.Prelude.{slice_get, unwrap_or, is_some, if◌then◌else◌, ◌==◌, IfOk, OnErr, IfNone}
 use Rattle.std.specs.Ordering.{is_eq}
 use Rattle.std.specs.BTreeMap.{is_at}

@@ -1,5 +1,5 @@
 -- The items of a round: reading one of them, and what they are below a response.
-use Rattle.std.proofs.Common.{◌≡◌, ℕ, zero, suc, ◌+◌, ◌<◌, ◌++◌, List, [], ◌∷◌, length, map, drop, Bool, true, false, ◌||◌, Option, Some, None, refl, ap, sym, subst, append_assoc, ◌∙◌, arith, ◌⊎◌, inl, inr}
+use Rattle.std.proofs.Common.{◌≡◌, ℕ, zero, suc, ◌+◌, ◌++◌, List, [], ◌∷◌, length, drop, Bool, true, false, ◌||◌, Option, Some, None, refl, ap, sym, subst, append_assoc, ◌∙◌, arith, ◌⊎◌, inl, inr}
 use Rattle.std.specs.Prelude.{slice_get, max}
 use Rattle.std.specs.List.{AllByRecursion}
 use Rattle.std.proofs.lemmas.Option.{none-some}

@@ -7,7 +7,7 @@ use Rattle.ksi_aggtree.specs.declared.entries.Origin.TheVariants as origins
 use Rattle.ksi_aggtree.specs.declared.entries.Entry.{Entry}
 use Rattle.ksi_aggtree.specs.Rounds.{item_at}
 use Rattle.ksi_aggtree.specs.Paths.{chain_of}
-use Rattle.ksi_aggtree.specs.Entries.{items_of}
+use Rattle.ksi_aggtree.specs.Entries.{items_of, to_sender}
 use Rattle.ksi_signature.specs.declared.above.AboveChain.{AboveChain}
 use Rattle.ksi_signature.specs.declared.above.Above.{Above}
 use Rattle.ksi_aggregator.specs.declared.step.Send.{Send}
@@ -24,8 +24,7 @@ has_lower entries = list_any (λ (entry : Entry). is_lower entry.origin) entries
 
 -- the response goes to the aggregator that the item is from; a request has none
 abbrev pub told_to : Origin → Above → List Send
-told_to (origins.Request number) above = []
-told_to (origins.Aggregator from) above = sends.Response from above ∷ []
+told_to origin above = to_sender (λ from. sends.Response from above) origin
 
 module _ (image : List ℕ → List ℕ) where
   -- the links of item k of a round, from the item's imprint on

@@ -1,11 +1,9 @@
-use Rattle.std.proofs.Common.{◌≡◌, ◌≤◌, ◌∙◌, List, length, ap, sym, subst}
+use Rattle.std.proofs.Common.{◌≤◌, ◌∙◌, List, length, sym, subst}
 use Rattle.std.specs.List.{AllByRecursion}
-use Rattle.ksi_aggchain.specs.declared.item.Item.{Item}
 use Rattle.ksi_aggchain.specs.declared.link.Link.{Link}
 use Rattle.ksi_aggtree.specs.Rounds.{item_at, tree_path}
 use Rattle.ksi_aggtree.specs.Entries.{items_of}
 use Rattle.ksi_signature.specs.Above.{IsNode}
-use Rattle.ksi_signature.specs.declared.above.AboveChain.{AboveChain}
 use Rattle.ksi_aggregator.proofs.Items.{read_item, nodes_from, chain_like}
 use Rattle.ksi_aggregator.proofs.responses.chain_at.Goals as goal
 

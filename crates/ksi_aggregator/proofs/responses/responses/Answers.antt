@@ -1,4 +1,3 @@
-use Rattle.std.proofs.Common.{◌≡◌}
 use Rattle.ksi_aggregator.specs.Responses.{responses_from}
 use Rattle.ksi_aggtree.specs.Entries.{items_of}
 use Rattle.ksi_aggregator.proofs.Items.{lower_read, next_response}

@@ -1,4 +1,4 @@
-use Rattle.std.proofs.Common.{◌≡◌, ◌↔◌, ◌∙◌, Bool, true, Option, Some, None, nat_cmp, refl, ap, sym, subst, not}
+use Rattle.std.proofs.Common.{◌≡◌, ◌↔◌, ◌∙◌, true, Some, None, nat_cmp, refl, ap, sym, subst, not}
 use Rattle.std.specs.Option.{option_copied}
 use Rattle.std.specs.BTreeMap.{get}
 use Rattle.ksi_aggregator.specs.declared.place.Place.{Place}

@@ -1,4 +1,4 @@
-use Rattle.std.proofs.Common.{◌≡◌, ◌∙◌, Option, Some, None, nat_cmp, ap, sym, subst}
+use Rattle.std.proofs.Common.{◌≡◌, ◌∙◌, Some, None, nat_cmp, ap, sym, subst}
 use Rattle.std.specs.Option.{option_copied}
 use Rattle.std.specs.BTreeMap.{get}
 use Rattle.ksi_aggregator.specs.declared.place.Place.{Place}

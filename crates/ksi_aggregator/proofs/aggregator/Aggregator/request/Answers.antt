@@ -1,4 +1,4 @@
-use Rattle.std.proofs.Common.{◌≡◌, ◌≢◌, ℕ, List, length, Option, Some, nat_cmp, sym, subst, ap, ◌∙◌, ◌↔◌, ◌⊎◌}
+use Rattle.std.proofs.Common.{◌≡◌, ◌≢◌, ℕ, length, Some, nat_cmp, sym, subst, ap, ◌∙◌, ◌↔◌}
 use Rattle.std.specs.Prelude.{IsSome}
 use Rattle.std.specs.BTreeMap.{get}
 use Rattle.ksi_aggregator.specs.declared.place.Place.{Place}
@@ -7,7 +7,7 @@ use Rattle.ksi_aggregator.specs.Rounds.{AggregatorState, rounds_of, round_at, it
 use Rattle.ksi_aggregator.specs.Issuing.{AreFound}
 use Rattle.ksi_signature.specs.declared.answer.Answer.{Answer}
 use Rattle.ksi_signature.specs.declared.answer.Answer.TheVariants as answers
-use Rattle.ksi_aggregator.specs.Refusals.{IsFull, IsKnown, IsFullFor, AwaitsResponse}
+use Rattle.ksi_aggregator.specs.Refusals.{IsFull}
 use Rattle.ksi_aggregator.proofs.Words.{by_row, full_request, late_request}
 use Rattle.ksi_aggregator.proofs.Found.{found_step, found_new, found_request, early_new, other_key}
 use Rattle.ksi_aggregator.proofs.aggregator.Aggregator.request.Goals as goal

@@ -1,11 +1,10 @@
 use Rattle.std.proofs.Common.{nat_cmp, ◌≡◌, ◌↔◌, ◌⊎◌, ap}
-use Rattle.std.specs.Prelude.{IsSome}
 use Rattle.std.specs.BTreeMap.{get}
 use Rattle.ksi_aggregator.specs.Rows.{RoundState, round_response}
 use Rattle.ksi_aggregator.specs.Rounds.{AggregatorState, rounds_of, round_at}
 use Rattle.ksi_signature.specs.declared.answer.Answer.{Answer}
 use Rattle.ksi_signature.specs.declared.answer.Answer.TheVariants as answers
-use Rattle.ksi_aggregator.specs.Refusals.{IsFull, IsKnown, IsFullFor, AwaitsResponse}
+use Rattle.ksi_aggregator.specs.Refusals.{AwaitsResponse}
 use Rattle.ksi_aggregator.proofs.Words.{by_row, done_response, either_response}
 use Rattle.ksi_aggregator.proofs.Found.{found_step, found_kept, after_response}
 use Rattle.ksi_aggregator.proofs.aggregator.Aggregator.response.Goals as goal

@@ -1,4 +1,4 @@
-use Rattle.std.proofs.Common.{◌≡◌, ◌↔◌, ℕ, List, Bool, true, Option, Some, None, ap, sym, subst, ◌∙◌, nat_cmp}
+use Rattle.std.proofs.Common.{◌≡◌, ◌↔◌, ℕ, List, true, Option, Some, None, ap, sym, subst, ◌∙◌, nat_cmp}
 use Rattle.std.specs.Prelude.{unwrap_or}
 use Rattle.std.specs.Option.{option_copied}
 use Rattle.std.specs.BTreeMap.{is_at}

@@ -1,4 +1,4 @@
-use Rattle.std.proofs.Common.{◌≡◌, ℕ, List, refl, rules, ap, ◌∙◌, nat_cmp}
+use Rattle.std.proofs.Common.{ℕ, List, rules, ap, ◌∙◌, nat_cmp}
 use Rattle.std.specs.Prelude.{is_some}
 use Rattle.std.specs.Map.{keys_of}
 use Rattle.std.proofs.lemmas.Map.Made.{filter_same_pairs}
