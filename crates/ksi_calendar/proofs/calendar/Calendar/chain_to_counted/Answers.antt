@@ -28,10 +28,10 @@ returns g c =
       climbs = subst (λ (links : List (TreeLink (List ℕ))). ClimbsCal image (calendar_leaf now t) links (calendar_root image now p)) (sym is) (c.one_chain.ensures.climbs image now t p c.requires.within);
       way = ap sides_from_top is ∙ c.one_chain.ensures.way image now t p;
       few = λ below.
-        let short : length (way_of t (p + 1)) ≤ 63
-        = c.short_ways.ensures t (p + 1) 63 (way_of t (p + 1)) (omega (arith, below)) ((c.one_way.ensures.way t (p + 1) (way_of t (p + 1))).1 (omega (arith, c.requires.within), refl)) in
-        let sides = ap (λ (sides : List Side). length sides) (ap sides_from_top is ∙ c.one_chain.ensures.way image now t p) in
-        omega (arith, short, sides, sides_count c.from_vec.result);
+          let short : length (way_of t (p + 1)) ≤ 63
+          = c.short_ways.ensures t (p + 1) 63 (way_of t (p + 1)) (omega (arith, below)) ((c.one_way.ensures.way t (p + 1) (way_of t (p + 1))).1 (omega (arith, c.requires.within), refl)) in
+          let sides = ap (λ (sides : List Side). length sides) (ap sides_from_top is ∙ c.one_chain.ensures.way image now t p) in
+          omega (arith, short, sides, sides_count c.from_vec.result);
       most = c.in_ok-path_counted.ensures.most;
       least = let count = ap length c.from_vec.ensures in omega (arith, count, c.in_ok-path_counted.ensures.least);
     }
