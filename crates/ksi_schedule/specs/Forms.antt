@@ -1,7 +1,7 @@
 -- The forms of an aggregator's line and of the events' lines.
 use Rattle.std.specs.Prelude.{ℕ, List, [], ◌∷◌, codes}
 use Rattle.ksi_schedule.specs.Pieces.{Text}
-use Rattle.ksi_schedule.specs.Words.{the_word, number, core, aggregator, second, digest, core_actor, aggregator_actor, Kind}
+use Rattle.ksi_schedule.specs.Words.{the_word, number, core, aggregator, second, digest, core_actor, aggregator_actor, Form, Kind}
 use Rattle.ksi_schedule.specs.declared.actor.Actor.{Actor}
 use Rattle.ksi_schedule.specs.declared.actor.Actor.TheVariants as actors
 use Rattle.ksi_schedule.specs.declared.event.Event.{Event}
@@ -52,3 +52,8 @@ restart_line = record {
 
 abbrev pub event_kinds : List (Kind Event)
 event_kinds = request_line ∷ close_line ∷ seal_line ∷ ballot_line ∷ deliver_line ∷ tell_line ∷ respond_line ∷ publish_line ∷ restart_line ∷ []
+
+-- ---- in the code
+
+abbrev pub core_and_second : List (Form (ℕ × ℕ))
+core_and_second = record { sorts = core ∷ second ∷ []; makes = λ v. (v.0, v.1.0) } ∷ []

@@ -23,3 +23,6 @@ pub use plan::{Parents, Plan};
 pub use printing::print;
 pub use reading::read_schedule;
 pub use schedule::{Events, Schedule};
+
+#[cfg(test)]
+mod tests;

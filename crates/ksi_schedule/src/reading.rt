@@ -29,7 +29,6 @@ const LAST_START: u64 = 0x7fff_ffff_ff00_0000;
 ///
 /// # Errors
 /// The first line that is not as it must be, with its fault; `NoMemory` where the schedule has no room.
-
 #[tactic(auto, using(crate::proofs::Both::told, crate::proofs::Both::found, crate::proofs::Both::refused))]
 pub fn read_schedule(alloc: Global, text: &[u8]) -> Result<Schedule, ScheduleFault>
     ensures told { Tells text.now result }

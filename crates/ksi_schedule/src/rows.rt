@@ -1,10 +1,10 @@
 // The lines of aggregators and events, word by word.
-ghost use Rattle.std.specs.Prelude.{◌≡◌, IfOk};
+ghost use Rattle.std.specs.Prelude.{◌≡◌, ◌<◌, IfOk};
 ghost use Rattle.std.specs.Str.{bytes_eq};
-ghost use Rattle.ksi_schedule.specs.Plans.{PlanState, IsParent};
+ghost use Rattle.ksi_schedule.specs.Plans.{PlanState, IsParent, InRange};
 ghost use Rattle.ksi_schedule.specs.Events.{IsEvent};
 ghost use Rattle.ksi_schedule.specs.Words.{form_at, kind_at};
-ghost use Rattle.ksi_schedule.specs.Forms.{request_line, close_line, seal_line, deliver_line, ballot_line, tell_line, respond_line, publish_line, restart_line, event_kinds, aggregator_line};
+ghost use Rattle.ksi_schedule.specs.Forms.{aggregator_line, request_line, close_line, deliver_line, restart_line, core_and_second, event_kinds};
 ghost use Rattle.ksi_schedule.specs.Reading.{words_left};
 ghost use Rattle.std.specs.Prelude.{length};
 
@@ -41,6 +41,7 @@ pub(crate) fn parent(plan: &Plan, words: Words<'_>) -> Result<(u64, Actor), Line
 }
 
 // What an event's line stands for, or its first fault.
+#[tactic(auto, unfolding(crate::specs::Words::form_at))]
 pub(crate) fn event(plan: &Plan, name: &[u8], words: Words<'_>) -> Result<Event, LineFault>
     ensures value { result ≡ kind_at plan.now event_kinds name.now (words_left words.entry) }
     ensures there { IfOk result (λ event. IsEvent plan.now event) }
@@ -50,17 +51,22 @@ pub(crate) fn event(plan: &Plan, name: &[u8], words: Words<'_>) -> Result<Event,
     } else if is(name, b"close") {
         close(plan, words)
     } else if is(name, b"seal") {
-        seal(plan, words)
+        let (j, t) = core_and_second(plan, words)?;
+        Ok(Event::Seal(j, t))
     } else if is(name, b"ballot") {
-        ballot(plan, words)
+        let (j, t) = core_and_second(plan, words)?;
+        Ok(Event::Ballot(j, t))
     } else if is(name, b"deliver") {
         deliver(words)
     } else if is(name, b"tell") {
-        tell(plan, words)
+        let (j, t) = core_and_second(plan, words)?;
+        Ok(Event::Tell(j, t))
     } else if is(name, b"respond") {
-        respond(plan, words)
+        let (j, t) = core_and_second(plan, words)?;
+        Ok(Event::Respond(j, t))
     } else if is(name, b"publish") {
-        publish(plan, words)
+        let (j, t) = core_and_second(plan, words)?;
+        Ok(Event::Publish(j, t))
     } else if is(name, b"restart") {
         restart(plan, words)
     } else {
@@ -117,56 +123,13 @@ fn restart(plan: &Plan, words: Words<'_>) -> Result<Event, LineFault>
 }
 
 #[tactic(auto, unfolding(crate::specs::Words::form_at))]
-fn seal(plan: &Plan, words: Words<'_>) -> Result<Event, LineFault>
-    ensures value { result ≡ form_at plan.now seal_line.forms (words_left words.entry) }
-    ensures there { IfOk result (λ event. IsEvent plan.now event) }
+fn core_and_second(plan: &Plan, words: Words<'_>) -> Result<(u8, u64), LineFault>
+    ensures value { result ≡ form_at plan.now core_and_second (words_left words.entry) }
+    ensures core { IfOk result (λ said. said.0 < plan.now.cores) }
+    ensures second { IfOk result (λ said. InRange plan.now said.1) }
 {
     let Some((j, t)) = two(words) else {
         return Err(LineFault::Word)
     };
-    Ok(Event::Seal(core(plan, j)?, second(plan, t)?))
-}
-
-#[tactic(auto, unfolding(crate::specs::Words::form_at))]
-fn ballot(plan: &Plan, words: Words<'_>) -> Result<Event, LineFault>
-    ensures value { result ≡ form_at plan.now ballot_line.forms (words_left words.entry) }
-    ensures there { IfOk result (λ event. IsEvent plan.now event) }
-{
-    let Some((j, t)) = two(words) else {
-        return Err(LineFault::Word)
-    };
-    Ok(Event::Ballot(core(plan, j)?, second(plan, t)?))
-}
-
-#[tactic(auto, unfolding(crate::specs::Words::form_at))]
-fn tell(plan: &Plan, words: Words<'_>) -> Result<Event, LineFault>
-    ensures value { result ≡ form_at plan.now tell_line.forms (words_left words.entry) }
-    ensures there { IfOk result (λ event. IsEvent plan.now event) }
-{
-    let Some((j, t)) = two(words) else {
-        return Err(LineFault::Word)
-    };
-    Ok(Event::Tell(core(plan, j)?, second(plan, t)?))
-}
-
-#[tactic(auto, unfolding(crate::specs::Words::form_at))]
-fn respond(plan: &Plan, words: Words<'_>) -> Result<Event, LineFault>
-    ensures value { result ≡ form_at plan.now respond_line.forms (words_left words.entry) }
-    ensures there { IfOk result (λ event. IsEvent plan.now event) }
-{
-    let Some((j, t)) = two(words) else {
-        return Err(LineFault::Word)
-    };
-    Ok(Event::Respond(core(plan, j)?, second(plan, t)?))
-}
-
-#[tactic(auto, unfolding(crate::specs::Words::form_at))]
-fn publish(plan: &Plan, words: Words<'_>) -> Result<Event, LineFault>
-    ensures value { result ≡ form_at plan.now publish_line.forms (words_left words.entry) }
-    ensures there { IfOk result (λ event. IsEvent plan.now event) }
-{
-    let Some((j, t)) = two(words) else {
-        return Err(LineFault::Word)
-    };
-    Ok(Event::Publish(core(plan, j)?, second(plan, t)?))
+    Ok((core(plan, j)?, second(plan, t)?))
 }
