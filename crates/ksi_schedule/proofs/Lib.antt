@@ -8,3 +8,4 @@ pub mod Texts
 pub mod Again
 pub mod EventAgain
 pub mod Whole
+pub mod Within
