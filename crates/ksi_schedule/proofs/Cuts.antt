@@ -1,8 +1,7 @@
 -- Cutting at the first mark.
-use Rattle.std.proofs.Common.{subst, suc, zero, add-one, ◌≡◌, ℕ, ◌+◌, ◌<◌, eqb, false, Bool, List, [], ◌∷◌, ◌++◌, length, get_or, take, drop, refl, ap, ◌∙◌, arith}
+use Rattle.std.proofs.Common.{true, subst, suc, zero, ◌≡◌, ℕ, ◌<◌, eqb, false, Bool, List, [], ◌∷◌, ◌++◌, length, get_or, take, drop, refl, ap, ◌∙◌, arith}
 use Rattle.std.specs.List.{slice_split}
 use Rattle.std.proofs.lemmas.List.Splits.{length-slice_split}
-use Rattle.std.proofs.lemmas.Bool.{ne_eqb}
 use Rattle.ksi_schedule.specs.Pieces.{Text, lines, words}
 
 -- no byte is the mark
@@ -30,13 +29,16 @@ pub lines-some : (line : Text) → 0 < length line → Lacks 10 line → lines l
 lines-some [] some free = absurd (omega arith)
 lines-some (b ∷ line) some free = lines-whole b line free
 
-lacks_more : (i mark : ℕ) (bytes : Text) → i < length bytes → Lacks mark (take i bytes) → eqb (get_or bytes i 0) mark ≡ false → Lacks mark (take (suc i) bytes)
-lacks_more i mark [] lt free here = absurd (omega arith)
-lacks_more zero mark (b ∷ bytes) lt free here = (here, tt)
-lacks_more (suc i) mark (b ∷ bytes) lt free here = (free.0, lacks_more i mark bytes (omega arith) free.1 here)
+not_true : (b : Bool) → ¬ (b ≡ true) → b ≡ false
+not_true true not = absurd (not refl)
+not_true false not = refl
 
-pub lacks_next : (mark : ℕ) (bytes : Text) (i : ℕ) → i < length bytes → Lacks mark (take i bytes) → ¬ (get_or bytes i 0 ≡ mark) → Lacks mark (take (i + 1) bytes)
-lacks_next mark bytes i lt free ne = rw add-one (lacks_more i mark bytes lt free (ne_eqb _ _ ne))
+-- no byte before place i is the mark
+pub lacks_before : (mark i : ℕ) (bytes : Text) → ((k : ℕ) → k < i → ¬ (eqb (get_or bytes k 0) mark ≡ true)) → Lacks mark (take i bytes)
+lacks_before mark zero [] none = tt
+lacks_before mark zero (b ∷ bytes) none = tt
+lacks_before mark (suc i) [] none = tt
+lacks_before mark (suc i) (b ∷ bytes) none = (not_true _ (none 0 (omega arith)), lacks_before mark i bytes (λ k lt. none (suc k) (omega arith)))
 
 parts : (i mark : ℕ) (bytes : Text) → i < length bytes → get_or bytes i 0 ≡ mark → bytes ≡ take i bytes ++ (mark ∷ drop (suc i) bytes)
 parts i mark [] lt is = absurd (omega arith)

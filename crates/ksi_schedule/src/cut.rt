@@ -1,20 +1,22 @@
 // Cutting a text into lines, and a line into words.
 ghost use Rattle.ksi_schedule.specs.Reading.{IsCut, HasLine, HasOne, HasTwo, HasThree, words_left};
 
+use memchr::memchr;
+
 const SPACE: u8 = b' ';
 
 // What stands before the first mark, and what follows it.
 pub(crate) fn cut(mark: u8, bytes: &[u8]) -> (&[u8], Option<&[u8]>)
     ensures { IsCut mark bytes.now result }
 {
-    for (place, byte) in bytes.iter().enumerate() {
-        if *byte == mark {
+    match memchr(mark, bytes) {
+        Some(place) => {
             let (before, rest) = bytes.split_at(place);
             let (_, after) = rest.split_at(1);
-            return (before, Some(after));
+            (before, Some(after))
         }
+        None => (bytes, None),
     }
-    (bytes, None)
 }
 
 // The next line, and the text behind it.
