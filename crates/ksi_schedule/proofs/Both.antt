@@ -3,8 +3,8 @@ use Rattle.std.proofs.Common.{◌≡◌, ◌⊎◌, inl, inr, ℕ, ◌+◌, List
 use Rattle.ksi_schedule.specs.Pieces.{Text, lines}
 use Rattle.ksi_schedule.specs.Events.{History}
 use Rattle.ksi_schedule.specs.Lines.{Said, nothing, title, cores, history, with_line}
-use Rattle.ksi_schedule.specs.Spelled.{Says, IsPlanned, IsScheduleText, IsScheduleFault}
-use Rattle.ksi_schedule.specs.Reading.{Fault, ended, behind, read_from, schedule_at, Reads, Tells, Gives, Refuses}
+use Rattle.ksi_schedule.specs.Spelled.{Says, IsPlanned, IsScheduleText, IsScheduleFault, Tells, Gives, Refuses}
+use Rattle.ksi_schedule.specs.Reading.{Fault, ended, behind, read_from, schedule_at, Reads}
 use Rattle.ksi_schedule.specs.declared.fault.LineFault.{LineFault}
 use Rattle.ksi_schedule.specs.declared.fault.LineFault.TheVariants.{Header}
 use Rattle.ksi_schedule.specs.declared.fault.ScheduleFault.{ScheduleFault}

@@ -1,11 +1,10 @@
--- The schedule that a text spells, or its first fault, line by line. `Spelled` says the same in words; the law
--- `schedule_or_fault` ties both.
+-- The schedule that a text spells, or its first fault, line by line, as the code goes. `Spelled` says the same in words,
+-- and the clauses of `read_schedule` speak of it alone.
 use Rattle.std.specs.Borrow.{Bor}
 use Rattle.std.specs.Prelude.{◌≡◌, ◌<◌, ℕ, ◌+◌, List, [], ◌∷◌, length, Option, Some, None, IfSome, Result, Ok, Err}
 use Rattle.ksi_schedule.specs.Pieces.{Text, lines, words}
 use Rattle.ksi_schedule.specs.Events.{History}
 use Rattle.ksi_schedule.specs.Lines.{Said, nothing, history, with_line}
-use Rattle.ksi_schedule.specs.Spelled.{IsScheduleText, IsScheduleFault}
 use Rattle.ksi_schedule.specs.declared.fault.LineFault.{LineFault}
 use Rattle.ksi_schedule.specs.declared.fault.LineFault.TheVariants.{Header}
 use Rattle.ksi_schedule.specs.declared.fault.ScheduleFault.{ScheduleFault}
@@ -33,33 +32,13 @@ read_from n (line ∷ others) said = behind (read_from (n + 1) others) n (with_l
 unfoldable pub schedule_at : Text → Result History Fault
 schedule_at text = read_from 1 (lines text) nothing
 
--- ---- answers
+-- ---- in the code
 
 -- what was read, but for want of memory
 abbrev pub Reads : Result History Fault → Result History ScheduleFault → Type 0
 Reads expected (Ok h) = expected ≡ Ok h
 Reads expected (Err (faults.Line fault n)) = expected ≡ Err (fault, n)
 Reads expected (Err faults.NoMemory) = Unit {0}
-
--- the schedule is that of the text, and a fault is its first
-abbrev pub Tells : Text → Result History ScheduleFault → Type 0
-Tells text (Ok h) = IsScheduleText text h
-Tells text (Err (faults.Line fault n)) = IsScheduleFault text fault n
-Tells text (Err faults.NoMemory) = Unit {0}
-
--- this schedule is given, or there is no memory
-abbrev pub Gives : History → Result History ScheduleFault → Type 0
-Gives h (Ok read) = read ≡ h
-Gives h (Err (faults.Line fault n)) = ⊥
-Gives h (Err faults.NoMemory) = Unit {0}
-
--- this fault is given, or there is no memory
-abbrev pub Refuses : LineFault → ℕ → Result History ScheduleFault → Type 0
-Refuses fault n (Ok read) = ⊥
-Refuses fault n (Err (faults.Line given line)) = (given ≡ fault) × (line ≡ n)
-Refuses fault n (Err faults.NoMemory) = Unit {0}
-
--- ---- in the code
 
 -- what a line came to, but for want of memory
 abbrev pub Goes : Result History LineFault → History → Result (Unit {0}) Stop → Type 0

@@ -4,8 +4,8 @@ ghost use Rattle.ksi_schedule.specs.Pieces.{lines, words};
 ghost use Rattle.ksi_schedule.specs.Plans.{IsParent};
 ghost use Rattle.ksi_schedule.specs.Events.{History};
 ghost use Rattle.ksi_schedule.specs.Lines.{history, next_in, next_parent, within, number_behind, bare};
-ghost use Rattle.ksi_schedule.specs.Spelled.{IsScheduleText, IsScheduleFault};
-ghost use Rattle.ksi_schedule.specs.Reading.{Gives, Goes, Reads, Refuses, Tells, on_line, read_from, schedule_at, words_left};
+ghost use Rattle.ksi_schedule.specs.Spelled.{IsScheduleText, IsScheduleFault, Tells, Gives, Refuses};
+ghost use Rattle.ksi_schedule.specs.Reading.{Goes, Reads, on_line, read_from, schedule_at, words_left};
 ghost use Rattle.ksi_schedule.specs.declared.fault.LineFault.{LineFault as TheLineFault};
 
 use crate::actor::Actor;
