@@ -1,2 +1,10 @@
 pub mod Plans
 pub mod Events
+pub mod Schedules
+pub mod Pieces
+pub mod Words
+pub mod Forms
+pub mod Lines
+pub mod Spelled
+pub mod Reading
+pub mod Printed

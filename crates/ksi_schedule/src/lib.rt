@@ -1,11 +1,43 @@
-//! Schedules: a plan of cores and aggregators, and the events that are to happen.
+//! Schedules: a plan of cores and aggregators, and the events that are to happen, as values and as texts.
+//!
+//! A contract sees a [`Schedule`] as its plan and its list of events, and its type keeps the limits: at most a million
+//! events, each with an actor and a second of the plan. The layers above may rely on this: [`read_schedule`] gives exactly
+//! the schedule that the lines of a text say, or the first line that is not as it must be, with its fault; what [`print`]
+//! gives is a text that says the schedule again. Every text says one schedule or has one first fault, and not both, and
+//! what it says is within the limits, by the laws [`schedule_or_fault`] and [`spelled_is_schedule`]. Reading goes over the
+//! text once and keeps nothing but the schedule's own lists.
+//!
+//! ```text
+//! match read_schedule(alloc, b"ksi-schedule 1\ncores 3\nstart 1700000000\nseal 0 1700000000\n") {
+//!     Ok(schedule) => run(schedule.plan(), schedule.events()),
+//!     Err(ScheduleFault::Line(fault, line)) => tell(fault, line),
+//!     Err(ScheduleFault::NoMemory) => {}
+//! }
+//! ```
 #![tactic(auto)]
 
 mod actor;
+mod cut;
 mod event;
+mod fault;
+mod growing;
+mod laws;
 mod plan;
+mod printing;
+mod reading;
+mod rows;
+mod schedule;
+mod word;
 
 pub use actor::Actor;
 pub use event::Event;
+pub use fault::{LineFault, ScheduleFault};
 pub use ksi_imprint::NoMemory;
+pub use laws::{schedule_or_fault, spelled_is_schedule};
 pub use plan::{Parents, Plan};
+pub use printing::print;
+pub use reading::read_schedule;
+pub use schedule::{Events, Schedule};
+
+#[cfg(test)]
+mod tests;

@@ -1,4 +1,4 @@
-ghost use Rattle.std.specs.Prelude.{◌≡◌, ◌≤◌, ◌<◌, length, IfOk};
+ghost use Rattle.std.specs.Prelude.{◌≡◌, ◌≤◌, ◌<◌, ◌++◌, ◌∷◌, [], length, IfOk, OnOk, OnErr};
 ghost use Rattle.ksi_schedule.specs.Plans.{IsPlan, parent_of};
 
 use crate::actor::Actor;
@@ -34,6 +34,15 @@ impl Parents {
         ensures { result.now ≡ self.now }
     {
         self.parents.as_slice()
+    }
+
+    /// One parent more.
+    pub(crate) fn push(&mut self, parent: Actor) -> Result<(), NoMemory>
+        ensures ok { OnOk result (self.new ≡ self.old ++ parent ∷ []) }
+        ensures err { OnErr result (self.new ≡ self.old) }
+    {
+        self.parents.push(parent)?;
+        Ok(())
     }
 
     /// The parents in a `Vec`, which are not copied.

@@ -1,0 +1,11 @@
+pub mod Numbers
+pub mod Cuts
+pub mod Digests
+pub mod Next
+pub mod LineLoop
+pub mod Both
+pub mod Texts
+pub mod Again
+pub mod EventAgain
+pub mod Whole
+pub mod Within

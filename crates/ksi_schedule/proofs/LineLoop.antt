@@ -1,0 +1,29 @@
+-- Going over the lines of a text, as a loop does.
+use Rattle.std.proofs.Common.{◌≡◌, ℕ, ◌+◌, List, [], ◌∷◌, Ok, Err, Result, refl, sym, ap, ◌∙◌}
+use Rattle.ksi_schedule.specs.Pieces.{Text, words}
+use Rattle.ksi_schedule.specs.Events.{History}
+use Rattle.ksi_schedule.specs.Lines.{history, next_in, with_line}
+use Rattle.ksi_schedule.specs.Reading.{Fault, read_from, Goes, Reads, on_line}
+use Rattle.ksi_schedule.specs.declared.fault.LineFault.{LineFault}
+use Rattle.ksi_schedule.specs.declared.fault.Stop.{Stop}
+use Rattle.ksi_schedule.specs.declared.fault.Stop.TheVariants as stops
+
+pub goes_on : (n : ℕ) (ls others : List Text) (line : Text) (h new : History) (whole : Result History Fault) → read_from n ls (history h) ≡ whole → ls ≡ line ∷ others → next_in h (words line) ≡ Ok new → read_from (n + 1) others (history new) ≡ whole
+unfolding read_from with_line
+goes_on n ls others line h new whole left is one =
+    let here : read_from n (line ∷ others) (history h) ≡ read_from (n + 1) others (history new) = rw one refl in
+    sym here ∙ ap (λ (ls : List Text). read_from n ls (history h)) (sym is) ∙ left
+
+stopped : (n : ℕ) (ls others : List Text) (line : Text) (h : History) (fault : LineFault) (whole : Result History Fault) → read_from n ls (history h) ≡ whole → ls ≡ line ∷ others → next_in h (words line) ≡ Err fault → whole ≡ Err (fault, n)
+unfolding read_from with_line
+stopped n ls others line h fault whole left is one =
+    let here : read_from n (line ∷ others) (history h) ≡ Err (fault, n) = rw one refl in
+    sym left ∙ ap (λ (ls : List Text). read_from n ls (history h)) is ∙ here
+
+pub stops_there : (n : ℕ) (ls others : List Text) (line : Text) (h new : History) (stop : Stop) (whole : Result History Fault) → read_from n ls (history h) ≡ whole → ls ≡ line ∷ others → Goes (next_in h (words line)) new (Err stop) → Reads whole (Err (on_line n stop))
+stops_there n ls others line h new (stops.Fault fault) whole left is one = stopped n ls others line h fault whole left is one
+stops_there n ls others line h new stops.NoMemory whole left is one = tt
+
+pub ends : (n : ℕ) (ls : List Text) (h : History) (whole : Result History Fault) → read_from n ls (history h) ≡ whole → ls ≡ [] → whole ≡ Ok h
+unfolding read_from
+ends n ls h whole left is = sym left ∙ ap (λ (ls : List Text). read_from n ls (history h)) is

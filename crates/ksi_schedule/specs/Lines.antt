@@ -1,0 +1,80 @@
+-- What each line of a schedule adds to what the lines before it say.
+use Rattle.std.specs.Prelude.{ℕ, zero, suc, ◌-◌, ◌^◌, List, [], ◌∷◌, ◌++◌, length, codes, Bool, true, false, ◌&&◌, ◌==◌, nat_lt, nat_le, Option, Some, None, Result, Ok, Err, if◌then◌else◌}
+use Rattle.std.specs.Str.{bytes_eq}
+use Rattle.ksi_schedule.specs.Pieces.{Text, words}
+use Rattle.ksi_schedule.specs.Plans.{PlanState, parent_of}
+use Rattle.ksi_schedule.specs.Events.{History, with_event}
+use Rattle.ksi_schedule.specs.Words.{number_of, or_fault, form_at, kind_at, ◌>>=◌}
+use Rattle.ksi_schedule.specs.Forms.{event_kinds, aggregator_line}
+use Rattle.ksi_schedule.specs.declared.actor.Actor.{Actor}
+use Rattle.ksi_schedule.specs.declared.actor.Actor.TheVariants as actors
+use Rattle.ksi_schedule.specs.declared.fault.LineFault.{LineFault}
+use Rattle.ksi_schedule.specs.declared.fault.LineFault.TheVariants.{Word, TooManyEvents, Header}
+
+-- what the lines so far say
+pub data Said : Type 0 where
+  nothing : Said
+  title : Said
+  -- the number of cores
+  cores : ℕ → Said
+  history : History → Said
+
+-- ---- the first three lines
+
+abbrev pub title_in : Text → Result Said LineFault
+title_in line = if bytes_eq line (codes "ksi-schedule 1") then Ok title else Err Header
+
+abbrev pub number_behind : Text → List Text → Option ℕ
+number_behind name (first ∷ number ∷ []) = if bytes_eq first name then number_of number else None
+number_behind name words = None
+
+abbrev pub within : (low high : ℕ) → Option ℕ → Option ℕ
+within low high None = None
+within low high (Some n) = if nat_le low n && nat_le n high then Some n else None
+
+-- the number of a line of a name and a number that lies between both bounds
+unfoldable pub number_in : (name : Text) → (low high : ℕ) → (line : Text) → Result ℕ LineFault
+number_in name low high line = or_fault Header (within low high (number_behind name (words line)))
+
+-- no aggregators and no events
+abbrev pub bare : (cores start : ℕ) → History
+bare n start = record { plan = record { cores = n; start = start; parents = [] }; events = [] }
+
+-- ---- the lines behind them
+
+abbrev pub with_parent : PlanState → Actor → PlanState
+with_parent plan parent = record { cores = plan.cores; start = plan.start; parents = plan.parents ++ parent ∷ [] }
+
+-- whether a core is reached from the actor in so many steps up, or fewer
+unfoldable pub reaches_core : PlanState → (steps : ℕ) → Actor → Bool
+reaches_core plan steps (actors.Core j) = nat_lt j plan.cores
+reaches_core plan zero (actors.Aggregator k) = false
+reaches_core plan (suc steps) (actors.Aggregator k) = reaches_core plan steps (parent_of plan k)
+
+-- one aggregator more: the next number, at most 4,096 of them, and at most eight above one another
+unfoldable pub next_parent : History → ℕ × Actor → Result History LineFault
+next_parent h said =
+    if said.0 == length h.plan.parents && nat_lt (length h.plan.parents) 4096 && reaches_core h.plan 7 said.1
+    then Ok (record { plan = with_parent h.plan said.1; events = h.events }) else Err Header
+
+abbrev pub is_empty : {A : Type 0} → List A → Bool
+is_empty [] = true
+is_empty (x ∷ xs) = false
+
+-- a line of these words: an aggregator while there is no event, else the next event of at most a million
+unfoldable pub next_in : History → List Text → Result History LineFault
+next_in h [] = Err Word
+next_in h (name ∷ words) =
+    if nat_le 1000000 (length h.events) then Err TooManyEvents else (
+    if bytes_eq name aggregator_line.name && is_empty h.events
+    then (form_at h.plan aggregator_line.forms words >>= next_parent h)
+    else (kind_at h.plan event_kinds name words >>= λ event. Ok (with_event h event)))
+
+-- ---- any line
+
+-- what is said with one line more, or the fault of that line
+unfoldable pub with_line : Said → Text → Result Said LineFault
+with_line nothing line = title_in line
+with_line title line = number_in (codes "cores") 1 9 line >>= λ n. Ok (cores n)
+with_line (cores n) line = number_in (codes "start") 0 (2 ^ 63 - 2 ^ 24) line >>= λ start. Ok (history (bare n start))
+with_line (history h) line = next_in h (words line) >>= λ next. Ok (history next)

@@ -1,0 +1,76 @@
+-- The text that is written of a schedule.
+use Rattle.std.specs.Prelude.{◌≡◌, ◌<◌, ◌^◌, ℕ, ◌+◌, List, [], ◌∷◌, ◌++◌, drop, map, codes, Ok}
+use Rattle.std.specs.Fmt.{decimal}
+use Rattle.hex.specs.Hex.{encode_lower}
+use Rattle.ksi_imprint.specs.Reading.{hex_at}
+use Rattle.ksi_schedule.specs.Pieces.{Text}
+use Rattle.ksi_schedule.specs.Events.{History}
+use Rattle.ksi_schedule.specs.declared.actor.Actor.{Actor}
+use Rattle.ksi_schedule.specs.declared.actor.Actor.TheVariants as actors
+use Rattle.ksi_schedule.specs.declared.event.Event.{Event}
+use Rattle.ksi_schedule.specs.declared.event.Event.TheVariants as events
+use Rattle.ksi_schedule.specs.declared.printing.Piece.{Piece}
+use Rattle.ksi_schedule.specs.declared.printing.Piece.TheVariants as pieces
+
+-- the digest of an imprint, in lower case
+abbrev pub hex_of : List ℕ → Text
+hex_of imprint = encode_lower (drop 1 imprint)
+
+abbrev pub actor_word : Actor → Text
+actor_word (actors.Core j) = 99 ∷ decimal j
+actor_word (actors.Aggregator k) = 97 ∷ decimal k
+
+-- the words of the aggregators' lines, the first of them of number k
+abbrev pub parent_words : (k : ℕ) → List Actor → List (List Text)
+parent_words k [] = []
+parent_words k (parent ∷ parents) = (codes "aggregator" ∷ decimal k ∷ codes "parent" ∷ actor_word parent ∷ []) ∷ parent_words (k + 1) parents
+
+-- the words of an event's line
+abbrev pub event_words : Event → List Text
+event_words (events.Request k t imprint) = codes "request" ∷ decimal k ∷ decimal t ∷ hex_of imprint ∷ []
+event_words (events.Close k t) = codes "close" ∷ decimal k ∷ decimal t ∷ []
+event_words (events.Seal j t) = codes "seal" ∷ decimal j ∷ decimal t ∷ []
+event_words (events.Ballot j t) = codes "ballot" ∷ decimal j ∷ decimal t ∷ []
+event_words (events.Deliver number) = codes "deliver" ∷ decimal number ∷ []
+event_words (events.Tell j t) = codes "tell" ∷ decimal j ∷ decimal t ∷ []
+event_words (events.Respond j t) = codes "respond" ∷ decimal j ∷ decimal t ∷ []
+event_words (events.Publish j p) = codes "publish" ∷ decimal j ∷ decimal p ∷ []
+event_words (events.RestartCore j) = codes "restart" ∷ actor_word (actors.Core j) ∷ []
+event_words (events.RestartAggregator k) = codes "restart" ∷ actor_word (actors.Aggregator k) ∷ []
+
+-- the words of all lines
+abbrev pub all_words : History → List (List Text)
+all_words h =
+    (codes "ksi-schedule" ∷ codes "1" ∷ []) ∷ (codes "cores" ∷ decimal h.plan.cores ∷ []) ∷ (codes "start" ∷ decimal h.plan.start ∷ [])
+    ∷ (parent_words 0 h.plan.parents ++ map event_words h.events)
+
+-- a space before each word
+abbrev pub spaced : List Text → Text
+spaced [] = []
+spaced (word ∷ words) = 32 ∷ (word ++ spaced words)
+
+-- words parted by single spaces
+abbrev pub line_of : List Text → Text
+line_of [] = []
+line_of (word ∷ words) = word ++ spaced words
+
+-- a line feed behind each line
+abbrev pub text_of_lines : List (List Text) → Text
+text_of_lines [] = []
+text_of_lines (line ∷ others) = line_of line ++ 10 ∷ text_of_lines others
+
+abbrev pub schedule_text : History → Text
+schedule_text h = text_of_lines (all_words h)
+
+-- ---- in the code
+
+-- what the types of an event's parts say of it: its digest is read again from its hex digits, and its number fits 64 bits
+abbrev pub IsTyped : Event → Type 0
+IsTyped (events.Request k t imprint) = hex_at (hex_of imprint) ≡ Ok imprint
+IsTyped (events.Deliver number) = number < 2 ^ 64
+IsTyped _ = Unit {0}
+
+abbrev pub piece_text : Piece → Text
+piece_text (pieces.Text text) = text.now
+piece_text (pieces.Number n) = decimal n
+piece_text (pieces.Named actor) = actor_word actor

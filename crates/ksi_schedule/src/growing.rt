@@ -1,0 +1,39 @@
+// Plans while their lines are read.
+ghost use Rattle.std.specs.Prelude.{◌≡◌, ◌<◌, true, length, OnOk, OnErr};
+ghost use Rattle.ksi_schedule.specs.Plans.{IsParent, parent_of};
+ghost use Rattle.ksi_schedule.specs.Lines.{reaches_core, with_parent};
+
+use crate::actor::Actor;
+use crate::plan::Plan;
+use ksi_imprint::NoMemory;
+
+// Whether a core is reached from the actor in so many steps up, or fewer.
+pub(crate) fn reaches_core(plan: &Plan, steps: usize, actor: Actor) -> bool
+    ensures { result ≡ reaches_core plan.now steps actor }
+{
+    match actor {
+        Actor::Core(j) => j < plan.cores,
+        Actor::Aggregator(k) => steps > 0 && reaches_core(plan, steps - 1, parent_of(plan, k)),
+    }
+}
+
+// The aggregator's parent, or core 0 where there is no such aggregator.
+fn parent_of(plan: &Plan, aggregator: u32) -> Actor
+    ensures { result ≡ parent_of plan.now aggregator }
+{
+    match plan.parents.as_slice().get(aggregator as usize) {
+        Some(parent) => *parent,
+        None => Actor::Core(0),
+    }
+}
+
+// One aggregator more.
+pub(crate) fn push_parent(plan: &mut Plan, parent: Actor) -> Result<(), NoMemory>
+    requires room { length plan.old.parents < 4096 }
+    requires there { IsParent plan.old.cores (length plan.old.parents) parent }
+    requires low { reaches_core plan.old 7 parent ≡ true }
+    ensures ok { OnOk result (plan.new ≡ with_parent plan.old parent) }
+    ensures err { OnErr result (plan.new ≡ plan.old) }
+{
+    plan.parents.push(parent)
+}

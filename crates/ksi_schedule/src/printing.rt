@@ -1,0 +1,178 @@
+// The text of a schedule.
+ghost use Rattle.std.specs.Prelude.{◌≡◌, ◌<◌, ◌^◌, ◌++◌, ◌∷◌, [], OnOk, IfOk, map};
+ghost use Rattle.std.specs.List.{AllByRecursion};
+ghost use Rattle.ksi_schedule.specs.Spelled.{IsScheduleText};
+ghost use Rattle.ksi_schedule.specs.Printed.{IsTyped, piece_text, line_of, event_words, parent_words, text_of_lines, schedule_text};
+ghost use Rattle.std.specs.Fmt.{decimal};
+ghost use Rattle.ksi_schedule.specs.declared.printing.Piece.TheVariants as pieces;
+ghost use Rattle.ksi_schedule.specs.declared.event.Event.TheVariants as events;
+
+use crate::actor::Actor;
+use crate::event::Event;
+use crate::schedule::Schedule;
+use itoa::Buffer;
+use ksi_imprint::{Bytes, Imprint, NoMemory};
+use std::alloc::Global;
+
+// A word of a line.
+#[derive(Clone, Copy)]
+enum Piece<'a> {
+    Text(&'a [u8]),
+    Number(u64),
+    Named(Actor),
+}
+
+/// The text of a schedule: numbers without leading zeros, digests in lower case, a line feed after each line.
+///
+/// # Errors
+/// `NoMemory`: nothing is made.
+pub fn print(alloc: Global, schedule: &Schedule) -> Result<Bytes, NoMemory>
+    ensures text { IfOk result (λ text. text ≡ schedule_text schedule.now) }
+    ensures read_again { IfOk result (λ text. IsScheduleText text schedule.now) }
+{
+    let mut text = Vec::new(alloc);
+    put_line(
+        &mut text,
+        &[Piece::Text(b"ksi-schedule"), Piece::Text(b"1")],
+    )?;
+    put_line(
+        &mut text,
+        &[
+            Piece::Text(b"cores"),
+            number(u64::from(schedule.plan().cores)),
+        ],
+    )?;
+    put_line(
+        &mut text,
+        &[Piece::Text(b"start"), number(schedule.plan().start)],
+    )?;
+    put_parents(&mut text, schedule.plan().parents.as_slice())?;
+    put_events(&mut text, schedule.events())?;
+    Ok(Bytes::from_vec(text))
+}
+
+fn put_parents(text: &mut Vec<u8>, parents: &[Actor]) -> Result<(), NoMemory>
+    ensures { OnOk result (text.new.items ≡ text.old.items ++ text_of_lines (parent_words 0 parents.now)) }
+{
+    for (k, parent) in parents.iter().enumerate() {
+        put_line(
+            text,
+            &[
+                Piece::Text(b"aggregator"),
+                number(k as u64),
+                Piece::Text(b"parent"),
+                Piece::Named(*parent),
+            ],
+        )?;
+    }
+    Ok(())
+}
+
+fn put_events(text: &mut Vec<u8>, events: &[Event]) -> Result<(), NoMemory>
+    ensures text { OnOk result (text.new.items ≡ text.old.items ++ text_of_lines (map event_words events.now)) }
+    ensures typed { OnOk result (AllByRecursion IsTyped events.now) }
+{
+    for event in events {
+        put_event(text, event)?;
+    }
+    Ok(())
+}
+
+fn put_event(text: &mut Vec<u8>, event: &Event) -> Result<(), NoMemory>
+    ensures text { OnOk result (text.new.items ≡ text.old.items ++ (line_of (event_words event.now) ++ 10 ∷ [])) }
+    ensures typed { OnOk result (IsTyped event.now) }
+{
+    match event {
+        Event::Request(k, t, imprint) => put_request(text, *k, *t, imprint),
+        Event::Close(k, t) => put_of_second(text, b"close", u64::from(*k), *t),
+        Event::Seal(j, t) => put_of_second(text, b"seal", u64::from(*j), *t),
+        Event::Ballot(j, t) => put_of_second(text, b"ballot", u64::from(*j), *t),
+        Event::Deliver(n) => put_line(text, &[Piece::Text(b"deliver"), number(*n)]),
+        Event::Tell(j, t) => put_of_second(text, b"tell", u64::from(*j), *t),
+        Event::Respond(j, t) => put_of_second(text, b"respond", u64::from(*j), *t),
+        Event::Publish(j, p) => put_of_second(text, b"publish", u64::from(*j), *p),
+        Event::RestartCore(j) => put_line(
+            text,
+            &[Piece::Text(b"restart"), Piece::Named(Actor::Core(*j))],
+        ),
+        Event::RestartAggregator(k) => put_line(
+            text,
+            &[Piece::Text(b"restart"), Piece::Named(Actor::Aggregator(*k))],
+        ),
+    }
+}
+
+fn put_request(
+    text: &mut Vec<u8>,
+    aggregator: u32,
+    second: u64,
+    imprint: &Imprint,
+) -> Result<(), NoMemory>
+    ensures text { OnOk result (text.new.items ≡ text.old.items ++ (line_of (event_words (events.Request aggregator second imprint.now)) ++ 10 ∷ [])) }
+    ensures typed { OnOk result (IsTyped (events.Request aggregator second imprint.now)) }
+{
+    let mut digits = [0; 64];
+    imprint.write_hex(&mut digits);
+    put_line(
+        text,
+        &[
+            Piece::Text(b"request"),
+            number(u64::from(aggregator)),
+            number(second),
+            Piece::Text(&digits),
+        ],
+    )
+}
+
+// A name, an actor's number and a second.
+fn put_of_second(text: &mut Vec<u8>, name: &[u8], actor: u64, second: u64) -> Result<(), NoMemory>
+    ensures { OnOk result (text.new.items ≡ text.old.items ++ (line_of (name.now ∷ decimal actor ∷ decimal second ∷ []) ++ 10 ∷ [])) }
+{
+    put_line(text, &[Piece::Text(name), number(actor), number(second)])
+}
+
+fn number(n: u64) -> Piece<'static>
+    ensures value { result ≡ pieces.Number n }
+    ensures fits { n < 2 ^ 64 }
+{
+    Piece::Number(n)
+}
+
+// The pieces, parted by spaces, and a line feed.
+fn put_line(text: &mut Vec<u8>, pieces: &[Piece<'_>]) -> Result<(), NoMemory>
+    ensures { OnOk result (text.new.items ≡ text.old.items ++ (line_of (map piece_text pieces.now) ++ 10 ∷ [])) }
+{
+    if let [first, rest @ ..] = pieces {
+        put_piece(text, *first)?;
+        for piece in rest {
+            text.push(b' ')?;
+            put_piece(text, *piece)?;
+        }
+    }
+    text.push(b'\n')?;
+    Ok(())
+}
+
+fn put_piece(text: &mut Vec<u8>, piece: Piece<'_>) -> Result<(), NoMemory>
+    ensures { OnOk result (text.new.items ≡ text.old.items ++ piece_text piece.entry) }
+{
+    match piece {
+        Piece::Text(word) => text.extend_from_slice(word),
+        Piece::Number(n) => put_number(text, n),
+        Piece::Named(Actor::Core(j)) => {
+            text.push(b'c')?;
+            put_number(text, u64::from(j))
+        }
+        Piece::Named(Actor::Aggregator(k)) => {
+            text.push(b'a')?;
+            put_number(text, u64::from(k))
+        }
+    }
+}
+
+fn put_number(text: &mut Vec<u8>, n: u64) -> Result<(), NoMemory>
+    ensures { OnOk result (text.new.items ≡ text.old.items ++ decimal n) }
+{
+    let mut buffer = Buffer::new();
+    text.extend_from_slice(buffer.format(n).as_bytes())
+}

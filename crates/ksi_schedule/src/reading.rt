@@ -1,0 +1,170 @@
+// Reading the text of a schedule, line by line.
+ghost use Rattle.std.specs.Prelude.{◌≡◌, ◌≤◌, ◌-◌, ◌^◌, ◌∷◌, [], ℕ, length, IfSome};
+ghost use Rattle.ksi_schedule.specs.Pieces.{lines, words};
+ghost use Rattle.ksi_schedule.specs.Plans.{IsParent};
+ghost use Rattle.ksi_schedule.specs.Events.{History};
+ghost use Rattle.ksi_schedule.specs.Lines.{history, next_in, next_parent, within, number_behind, bare};
+ghost use Rattle.ksi_schedule.specs.Spelled.{IsScheduleText, IsScheduleFault, Tells, Gives, Refuses};
+ghost use Rattle.ksi_schedule.specs.Reading.{Goes, Reads, on_line, read_from, schedule_at, words_left};
+ghost use Rattle.ksi_schedule.specs.declared.fault.LineFault.{LineFault as TheLineFault};
+
+use crate::actor::Actor;
+use crate::cut::{Words, cut, next_line, one};
+use crate::fault::{LineFault, ScheduleFault, Stop};
+use crate::growing::reaches_core;
+use crate::plan::{Parents, Plan};
+use crate::rows::{event, is, parent};
+use crate::schedule::{Events, Schedule};
+use crate::word::value;
+use std::alloc::Global;
+
+const AGGREGATORS: usize = 4096;
+
+const EVENTS: usize = 1_000_000;
+
+// 2^63 - 2^24.
+const LAST_START: u64 = 0x7fff_ffff_ff00_0000;
+
+/// The schedule that the text spells.
+///
+/// # Errors
+/// The first line that is not as it must be, with its fault; `NoMemory` where the schedule has no room.
+#[tactic(auto, using(crate::proofs::Both::told, crate::proofs::Both::found, crate::proofs::Both::refused))]
+pub fn read_schedule(alloc: Global, text: &[u8]) -> Result<Schedule, ScheduleFault>
+    ensures told { Tells text.now result }
+    ensures found { (h : History) → IsScheduleText text.now h → Gives h result }
+    ensures refused { (fault : TheLineFault) (n : ℕ) → IsScheduleFault text.now fault n → Refuses fault n result }
+{
+    read(alloc, text)
+}
+
+#[tactic(auto, unfolding(crate::specs::Reading::schedule_at, crate::specs::Reading::read_from, crate::specs::Lines::with_line, crate::specs::Lines::number_in))]
+fn read(alloc: Global, text: &[u8]) -> Result<Schedule, ScheduleFault>
+    ensures { Reads (schedule_at text.now) result }
+{
+    let Some((line, text)) = next_line(text) else {
+        return Err(ScheduleFault::Line(LineFault::Header, 1))
+    };
+    if !is(line, b"ksi-schedule 1") {
+        return Err(ScheduleFault::Line(LineFault::Header, 1));
+    }
+    let Some((line, text)) = next_line(text) else {
+        return Err(ScheduleFault::Line(LineFault::Header, 2))
+    };
+    let Some(cores) = number_line(b"cores", 1, 9, line) else {
+        return Err(ScheduleFault::Line(LineFault::Header, 2))
+    };
+    let Some((line, text)) = next_line(text) else {
+        return Err(ScheduleFault::Line(LineFault::Header, 3))
+    };
+    let Some(start) = number_line(b"start", 0, LAST_START, line) else {
+        return Err(ScheduleFault::Line(LineFault::Header, 3))
+    };
+    read_rest(bare(alloc, cores as u8, start), text)
+}
+
+// The number of a line of a name and a number that lies between both bounds.
+fn number_line(name: &[u8], low: u64, high: u64, line: &[u8]) -> Option<u64>
+    ensures value { result ≡ within low high (number_behind name.now (words line.now)) }
+    ensures low { IfSome result (λ n. low ≤ n) }
+    ensures high { IfSome result (λ n. n ≤ high) }
+{
+    let (first, words) = cut(b' ', line);
+    let number = number_after(name, first, words)?;
+    if low <= number && number <= high {
+        Some(number)
+    } else {
+        None
+    }
+}
+
+fn number_after(name: &[u8], first: &[u8], words: Words<'_>) -> Option<u64>
+    ensures { result ≡ number_behind name.now (first.now ∷ words_left words.entry) }
+{
+    let word = one(words)?;
+    if is(first, name) { value(word) } else { None }
+}
+
+// The plan of no aggregators, and no events.
+fn bare(alloc: Global, cores: u8, start: u64) -> Schedule
+    requires some { 1 ≤ cores }
+    requires few { cores ≤ 9 }
+    requires early { start ≤ 2 ^ 63 - 2 ^ 24 }
+    ensures { result ≡ bare cores start }
+{
+    let parents = Parents::from_vec(Vec::new(alloc));
+    let plan = Plan {
+        cores,
+        start,
+        parents,
+    };
+    Schedule::new(plan, Events::from_vec(Vec::new(alloc)))
+}
+
+// The lines behind the first three.
+fn read_rest(schedule: Schedule, text: &[u8]) -> Result<Schedule, ScheduleFault>
+    ensures { Reads (read_from 4 (lines text.now) (history schedule)) result }
+{
+    let mut schedule = schedule;
+    let mut rest = text;
+    let mut number: u64 = 4;
+    'reading: while let Some((line, others)) = next_line(rest) {
+        match take_line(&mut schedule, line) {
+            Ok(()) => {}
+            Err(stop) => return Err(on_line(number, stop)),
+        }
+        rest = others;
+        number = number.saturating_add(1);
+    }
+    Ok(schedule)
+}
+
+fn on_line(number: u64, stop: Stop) -> ScheduleFault
+    ensures { result ≡ on_line number stop }
+{
+    match stop {
+        Stop::Fault(fault) => ScheduleFault::Line(fault, number),
+        Stop::NoMemory => ScheduleFault::NoMemory,
+    }
+}
+
+// One line more.
+#[tactic(auto, unfolding(crate::specs::Lines::next_in))]
+fn take_line(schedule: &mut Schedule, line: &[u8]) -> Result<(), Stop>
+    ensures { Goes (next_in schedule.old (words line.now)) schedule.new result }
+{
+    let (name, words) = cut(b' ', line);
+    if schedule.events().len() >= EVENTS {
+        return Err(Stop::Fault(LineFault::TooManyEvents));
+    }
+    if is(name, b"aggregator") && schedule.events().is_empty() {
+        return match parent(schedule.plan(), words) {
+            Ok((number, parent)) => take_parent(schedule, number, parent),
+            Err(fault) => Err(Stop::Fault(fault)),
+        };
+    }
+    match event(schedule.plan(), name, words) {
+        Ok(event) => match schedule.push_event(event) {
+            Ok(()) => Ok(()),
+            Err(_) => Err(Stop::NoMemory),
+        },
+        Err(fault) => Err(Stop::Fault(fault)),
+    }
+}
+
+// One aggregator more, of this number.
+#[tactic(auto, unfolding(crate::specs::Lines::next_parent))]
+fn take_parent(schedule: &mut Schedule, number: u64, parent: Actor) -> Result<(), Stop>
+    requires none { schedule.old.events ≡ [] }
+    requires there { IsParent schedule.old.plan.cores (length schedule.old.plan.parents) parent }
+    ensures { Goes (next_parent schedule.old (number, parent)) schedule.new result }
+{
+    let count = schedule.plan().aggregators();
+    if number != count as u64 || count >= AGGREGATORS || !reaches_core(schedule.plan(), 7, parent) {
+        return Err(Stop::Fault(LineFault::Header));
+    }
+    match schedule.push_parent(parent) {
+        Ok(()) => Ok(()),
+        Err(_) => Err(Stop::NoMemory),
+    }
+}
