@@ -1,5 +1,5 @@
--- The schedule that a text spells, or its first fault, line by line, as the code goes. `Spelled` says the same in words,
--- and the clauses of `read_schedule` speak of it alone.
+-- The schedule that a text spells, or its first fault, line by line, as the code goes. `Spelled` says the same in words;
+-- the law `schedule_is_read` says that these are one.
 use Rattle.std.specs.Borrow.{Bor}
 use Rattle.std.specs.Prelude.{◌≡◌, ◌<◌, ℕ, ◌+◌, List, [], ◌∷◌, length, Option, Some, None, IfSome, Result, Ok, Err}
 use Rattle.ksi_schedule.specs.Pieces.{Text, lines, words}

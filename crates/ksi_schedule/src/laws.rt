@@ -1,10 +1,10 @@
-//! Laws of schedule texts, for the proofs of the layers above. They do nothing when they are called.
-
-ghost use Rattle.std.specs.Prelude.{◌≡◌, ◌⊎◌, ℕ, List};
+//! What holds of schedule texts, for the layers above to cite. None of these functions does anything.
+ghost use Rattle.std.specs.Prelude.{◌≡◌, ◌⊎◌, ◌↔◌, ℕ, List, Ok, Err};
 ghost use Rattle.ksi_schedule.specs.declared.fault.LineFault.{LineFault};
 ghost use Rattle.ksi_schedule.specs.Events.{History};
 ghost use Rattle.ksi_schedule.specs.Schedules.{IsSchedule};
 ghost use Rattle.ksi_schedule.specs.Spelled.{IsScheduleText, IsScheduleFault};
+ghost use Rattle.ksi_schedule.specs.Reading.{schedule_at};
 
 /// A text is a schedule or has a first fault, and not both; it is one schedule, and it has one first fault.
 pub fn schedule_or_fault()
@@ -12,6 +12,12 @@ pub fn schedule_or_fault()
     ensures not_both { (text : List ℕ) (h : History) (fault : LineFault) (n : ℕ) → IsScheduleText text h → IsScheduleFault text fault n → ⊥ }
     ensures one_schedule { (text : List ℕ) (one two : History) → IsScheduleText text one → IsScheduleText text two → one ≡ two }
     ensures one_fault { (text : List ℕ) (one two : LineFault) (m n : ℕ) → IsScheduleFault text one m → IsScheduleFault text two n → (one ≡ two) × (m ≡ n) }
+{}
+
+/// What `schedule_at` gives is the schedule that the text spells, or its first fault.
+pub fn schedule_is_read()
+    ensures schedule { (text : List ℕ) (h : History) → (schedule_at text ≡ Ok h) ↔ IsScheduleText text h }
+    ensures fault { (text : List ℕ) (fault : LineFault) (n : ℕ) → (schedule_at text ≡ Err (fault, n)) ↔ IsScheduleFault text fault n }
 {}
 
 /// What a text spells is within the limits of a schedule.

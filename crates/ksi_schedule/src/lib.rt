@@ -33,7 +33,7 @@ pub use actor::Actor;
 pub use event::Event;
 pub use fault::{LineFault, ScheduleFault};
 pub use ksi_imprint::NoMemory;
-pub use laws::{schedule_or_fault, spelled_is_schedule};
+pub use laws::{schedule_is_read, schedule_or_fault, spelled_is_schedule};
 pub use plan::{Parents, Plan};
 pub use printing::print;
 pub use reading::read_schedule;
