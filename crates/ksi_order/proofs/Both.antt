@@ -1,5 +1,5 @@
 -- Walking gives what whole elements lead to, and else the first fault.
-use Rattle.std.proofs.Common.{◌≡◌, ℕ, Bool, true, false, cond, List, [], ◌∷◌, ◌++◌, Result, Ok, Err, refl, sym, ap, subst, ◌∙◌, append-nil}
+use Rattle.std.proofs.Common.{◌≡◌, ◌⊎◌, inl, inr, ℕ, Bool, true, false, cond, List, [], ◌∷◌, ◌++◌, Result, Ok, Err, refl, sym, ap, subst, ◌∙◌, append-nil}
 use Rattle.ksi_tlv.specs.Walking.{PlacedTlv, Cut, Items, items_of}
 use Rattle.ksi_order.specs.Order.{Order, one_more, may_stand, walked, Steps, ◌>>=◌}
 use Rattle.ksi_order.specs.Sequence.{Leads, IsWhole, StandsAt, IsFirstFault, Tells}
@@ -105,3 +105,31 @@ pub told : {S F : Type 0} (o : Order S F) (end : ℕ) (items : Items) (s t : S) 
 told o end items s t (Ok u) steps = walked_whole o end items s t steps
 told o end items s t (Err (stops.Fault f)) steps = walked_fault o end items s f steps
 told o end items s t (Err stops.NoMemory) steps = tt
+
+-- ---- exactly one
+
+by_walk : {S F : Type 0} (o : Order S F) (end : ℕ) (items : Items) (s : S) (r : Result S F) → walked o end items s ≡ r
+    → ((t : S) × IsWhole o items s t) ⊎ ((fault : F) × IsFirstFault o end items s fault)
+by_walk o end items s (Ok t) e = inl (t, walked_whole o end items s t e)
+by_walk o end items s (Err f) e = inr (f, walked_fault o end items s f e)
+
+pub one : {S F : Type 0} (o : Order S F) (end : ℕ) (items : Items) (s : S) → ((t : S) × IsWhole o items s t) ⊎ ((fault : F) × IsFirstFault o end items s fault)
+one o end items s = by_walk o end items s (walked o end items s) refl
+
+pub not_both : {S F : Type 0} (o : Order S F) (end : ℕ) (items : Items) (s t : S) (fault : F) → IsWhole o items s t → IsFirstFault o end items s fault → ⊥
+not_both {S} {F} o end items s t fault whole first =
+    let ok : walked o end items s ≡ Ok t = whole_walked o end items s t whole in
+    let err : walked o end items s ≡ Err fault = fault_walked o end items s fault first in
+    absurd cc
+
+pub one_state : {S F : Type 0} (o : Order S F) (items : Items) (s t u : S) → IsWhole o items s t → IsWhole o items s u → t ≡ u
+one_state {S} {F} o items s t u some other =
+    let a : walked o 0 items s ≡ Ok t = whole_walked o 0 items s t some in
+    let b : walked o 0 items s ≡ Ok u = whole_walked o 0 items s u other in
+    cc
+
+pub one_fault : {S F : Type 0} (o : Order S F) (end : ℕ) (items : Items) (s : S) (fault other : F) → IsFirstFault o end items s fault → IsFirstFault o end items s other → fault ≡ other
+one_fault {S} {F} o end items s fault other first second =
+    let a : walked o end items s ≡ Err fault = fault_walked o end items s fault first in
+    let b : walked o end items s ≡ Err other = fault_walked o end items s other second in
+    cc

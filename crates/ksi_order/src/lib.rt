@@ -19,10 +19,12 @@
 
 mod fault;
 mod field;
+mod laws;
 mod values;
 mod walking;
 
 pub use fault::{OrderFault, Stop};
 pub use field::Fields;
+pub use laws::whole_or_fault;
 pub use values::{imprint, number, time};
 pub use walking::{Ordered, walk};
