@@ -1,8 +1,12 @@
-ghost use Rattle.std.specs.Prelude.{◌≡◌};
+ghost use Rattle.std.specs.Prelude.{◌≡◌, ◌↔◌, ℕ, ◌<◌, ◌≤◌, ◌^◌, None, Some, IfOk, IfSome, IsSome, length};
+ghost use Rattle.ksi_journal.specs.Journal.{contents, IsJournal, root_at, items_at, kept_among};
+ghost use Rattle.ksi_journal.specs.Calendar.{calendar_of, first_missing, IsFirstMissing};
 
+use crate::calendar::calendar;
 use crate::second::Second;
 use ksi_calendar::Calendar;
-use ksi_imprint::{Bytes, Compress, Imprint};
+use ksi_imprint::{Bytes, Compress, Imprint, NoMemory};
+use std::alloc::Global;
 use std::marker::Model;
 
 /// What cores kept: the start, the kept seconds with their roots and items, the issued signatures, and the
@@ -31,6 +35,34 @@ impl<C: Compress> Model for Journal<C> {
 }
 
 impl<C: Compress> Journal<C> {
+    /// The journal of a start, kept seconds, issued signatures, each with its number, and publications, which are not
+    /// copied. All times are below 2^63, seconds, numbers and published times rise, and the tree of each second has
+    /// its root.
+    ///
+    /// # Errors
+    /// `NoMemory`: no journal is made.
+    #[tactic(auto, unfolding(crate::specs::Calendar::calendar_of))]
+    pub fn new(
+        alloc: Global,
+        start: u64,
+        seconds: Vec<Second>,
+        issued: Vec<(u64, Bytes)>,
+        publications: Vec<(u64, Imprint)>,
+    ) -> Result<Self, NoMemory>
+        requires { IsJournal C.image (contents start seconds.items issued.items publications.items) }
+        ensures { IfOk result (λ journal. journal ≡ contents start seconds.items issued.items publications.items) }
+    {
+        let calendar = calendar(alloc, start, &seconds)?;
+        Ok(Journal {
+            start,
+            seconds,
+            issued,
+            publications,
+            calendar,
+        })
+    }
+
+    /// The first second of the calendar.
     pub fn start(&self) -> u64
         ensures { result ≡ self.now.start }
     {
@@ -56,5 +88,12 @@ impl<C: Compress> Journal<C> {
         ensures { result.now ≡ self.now.publications }
     {
         &self.publications
+    }
+
+    /// The calendar of the seconds from the start up to the first one that is not kept.
+    pub fn calendar(&self) -> &Calendar<C>
+        ensures { result.now ≡ calendar_of self.now }
+    {
+        &self.calendar
     }
 }

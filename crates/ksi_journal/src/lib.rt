@@ -1,9 +1,13 @@
 //! Journals: what the cores kept, as a file.
 #![tactic(auto)]
 
+mod calendar;
 mod fault;
+mod fields;
 mod journal;
+mod loading;
 mod second;
+mod tree;
 
 pub use fault::JournalFault;
 pub use journal::Journal;

@@ -1,0 +1,24 @@
+-- What loading keeps, for its own proof.
+use Rattle.std.specs.Borrow.{Bor}
+use Rattle.std.specs.Prelude.{◌≡◌, ℕ, ◌+◌, ◌^◌, ◌<◌, ◌≤◌, List, [], length, Result, Ok, Err}
+use Rattle.ksi_order.specs.declared.fault.OrderFault.{OrderFault}
+use Rattle.ksi_aggchain.specs.declared.item.Item.{Item}
+use Rattle.ksi_journal.specs.declared.loading.Parts.{Parts}
+use Rattle.ksi_journal.specs.Journal.{Contents, contents}
+use Rattle.ksi_aggtree.specs.Rounds.{item_at}
+
+-- what a journal is made of, as a record of lists
+abbrev pub parts_of : Parts → Contents
+parts_of parts = contents parts.start parts.seconds.items parts.issued.items parts.publications.items
+
+-- a second whose items come is below 2^63, and those that are there and to come make a round
+pub record IsLoading (second : ℕ) (items : List Item) (left : ℕ) : Type 0 where
+  pub early : second < 2 ^ 63
+  pub few : length items + left ≤ 65536
+  pub none : left ≡ 0 → items ≡ []
+  pub low : (k : ℕ) → (item_at items k).level ≤ 239
+
+-- a number and bytes, wherever these lie in memory
+abbrev pub view_signature : Result (ℕ × Bor (List ℕ)) OrderFault → Result (ℕ × List ℕ) OrderFault
+view_signature (Ok found) = Ok (found.0, found.1.now)
+view_signature (Err fault) = Err fault
