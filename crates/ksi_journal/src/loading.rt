@@ -73,11 +73,12 @@ impl<C: Compress> Model for Loading<C> {
         current = record { second = s.second; root = s.root; items = s.items.items };
         left = s.left } };
 
-    ghost invariant = { λ s. IsLoading s.second s.items.items s.left };
+    ghost invariant = { λ s. IsLoading s.second s.items.items s.left s.issued.items };
 }
 
 impl<C: Compress> Loading<C> {
     ghost use Rattle.std.specs.Prelude.{◌≡◌, ◌+◌, ◌<◌, ◌≤◌, ◌^◌, length, Ok, ℕ};
+    ghost use Rattle.std.specs.List.{AllByRecursion};
     ghost use Rattle.ksi_tlv.specs.Seen.{view_placed};
     ghost use Rattle.ksi_order.specs.Order.{Steps};
     ghost use Rattle.ksi_aggtree.specs.Rounds as rounds;
@@ -107,7 +108,8 @@ impl<C: Compress> Loading<C> {
 
     /// The journal that whole elements make, but for its calendar.
     pub(crate) fn into_parts(self) -> Parts
-        ensures { parts_of result ≡ self.contents }
+        ensures contents { parts_of result ≡ self.contents }
+        ensures numbers { AllByRecursion (λ signature. signature.0 < 2 ^ 64) self.contents.issued }
     {
         let Loading {
             stage: _,
