@@ -3,7 +3,9 @@ ghost use Rattle.ksi_journal.specs.Journal.{contents, IsJournal, root_at, items_
 ghost use Rattle.ksi_journal.specs.Calendar.{calendar_of, first_missing, IsFirstMissing};
 
 use crate::calendar::calendar;
+use crate::finding::find;
 use crate::second::Second;
+use ksi_aggchain::Item;
 use ksi_calendar::Calendar;
 use ksi_imprint::{Bytes, Compress, Imprint, NoMemory};
 use std::alloc::Global;
@@ -95,5 +97,46 @@ impl<C: Compress> Journal<C> {
         ensures { result.now ≡ calendar_of self.now }
     {
         &self.calendar
+    }
+
+    /// The root of a second, none where it is not kept.
+    #[tactic(auto, unfolding(crate::specs::Journal::root_at))]
+    pub fn root(&self, second: u64) -> Option<Imprint>
+        ensures { result ≡ root_at self.now second }
+    {
+        match find(self.start, &self.seconds, second) {
+            Some(kept) => Some(kept.root),
+            None => None,
+        }
+    }
+
+    /// The items of a second, in order, none where it is not kept or its root is the zero imprint.
+    #[tactic(auto, unfolding(crate::specs::Journal::items_at))]
+    pub fn items(&self, second: u64) -> &[Item]
+        ensures { result.now ≡ items_at self.now second }
+    {
+        match find(self.start, &self.seconds, second) {
+            Some(kept) => kept.items.as_slice(),
+            None => &[],
+        }
+    }
+
+    /// The first second from the start to `p` that is not kept, none where all are.
+    pub fn first_missing(&self, p: u64) -> Option<u64>
+        ensures value { result ≡ first_missing self.now p }
+        ensures some { (second : ℕ) → (result ≡ Some second) ↔ IsFirstMissing self.now p second }
+        ensures none { (result ≡ None) ↔
+            ((t : ℕ) → self.now.start ≤ t → t ≤ p → IsSome (root_at self.now t)) }
+    {
+        self.missing(p)
+    }
+
+    #[tactic(auto, unfolding(crate::specs::Calendar::first_missing, crate::specs::Calendar::calendar_of))]
+    fn missing(&self, p: u64) -> Option<u64>
+        ensures value { result ≡ first_missing self.now p }
+        ensures journal { IsJournal C.image self.now }
+    {
+        let missing = self.start + self.calendar.count();
+        if missing <= p { Some(missing) } else { None }
     }
 }

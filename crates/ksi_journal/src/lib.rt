@@ -4,7 +4,9 @@
 mod calendar;
 mod fault;
 mod fields;
+mod finding;
 mod journal;
+pub mod laws;
 mod reader;
 mod loading;
 mod second;
