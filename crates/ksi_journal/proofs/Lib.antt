@@ -3,3 +3,4 @@ pub mod Sound
 pub mod Run
 pub mod Files
 pub mod Texts
+pub mod Again

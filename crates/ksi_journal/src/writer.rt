@@ -3,9 +3,11 @@ ghost use Rattle.std.specs.List.{AllByRecursion};
 ghost use Rattle.ksi_tlv.specs.Spelling.{plain, canonical};
 ghost use Rattle.ksi_tlv.specs.Writing.{texts};
 ghost use Rattle.ksi_journal.specs.Written.{head_elements, pair_elements, second_element, item_element, kept_elements, seconds_elements, issued_element, publication_element, journal_elements, journal_text};
-ghost use Rattle.ksi_journal.specs.Journal.{IsIssued};
+ghost use Rattle.ksi_journal.specs.Journal.{IsIssued, IsJournal};
+ghost use Rattle.ksi_journal.specs.File.{IsJournalFile};
 
 use crate::journal::Journal;
+use crate::laws::written_is_journal;
 use crate::loading::{END, ISSUED, ITEM, PUBLICATION, SECOND, START};
 use crate::reader::MAGIC;
 use crate::second::Second;
@@ -21,6 +23,15 @@ use std::alloc::Global;
 /// `NoMemory` where memory was wanting.
 pub fn write<C: Compress>(alloc: Global, journal: &Journal<C>) -> Result<Bytes, NoMemory>
     ensures text { IfOk result (λ text. text ≡ journal_text journal.now) }
+    ensures again { IfOk result (λ text. IsJournalFile C.image text journal.now) }
+{
+    written_is_journal();
+    written(alloc, journal)
+}
+
+fn written<C: Compress>(alloc: Global, journal: &Journal<C>) -> Result<Bytes, NoMemory>
+    ensures text { IfOk result (λ text. text ≡ journal_text journal.now) }
+    ensures journal { IsJournal C.image journal.now }
 {
     let writer = elements(alloc, journal)?;
     let mut text = Vec::new(alloc);
@@ -30,7 +41,8 @@ pub fn write<C: Compress>(alloc: Global, journal: &Journal<C>) -> Result<Bytes, 
 }
 
 fn elements<C: Compress>(alloc: Global, journal: &Journal<C>) -> Result<Writer, NoMemory>
-    ensures { IfOk result (λ writer. writer ≡ texts (journal_elements journal.now)) }
+    ensures text { IfOk result (λ writer. writer ≡ texts (journal_elements journal.now)) }
+    ensures journal { IsJournal C.image journal.now }
 {
     let mut writer = Writer::new(alloc);
     writer.put_number(START, journal.start())?;
