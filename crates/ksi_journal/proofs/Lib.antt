@@ -4,3 +4,4 @@ pub mod Run
 pub mod Files
 pub mod Texts
 pub mod Again
+pub mod Read

@@ -5,4 +5,5 @@ pub mod Calendar
 pub mod Elements
 pub mod Kept
 pub mod File
+pub mod Reading
 pub mod Written

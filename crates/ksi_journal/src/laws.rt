@@ -1,16 +1,17 @@
 //! What holds of journals, for the layers above to cite. None of these functions does anything.
-ghost use Rattle.std.specs.Prelude.{◌≡◌, ◌↔◌, ◌⊎◌, ◌<◌, ◌≤◌, ◌+◌, ◌^◌, ℕ, List, IsTrue, length};
+ghost use Rattle.std.specs.Prelude.{◌≡◌, ◌↔◌, ◌⊎◌, ◌<◌, ◌≤◌, ◌+◌, ◌^◌, ℕ, List, IsTrue, length, Ok, Err};
 ghost use Rattle.ksi_calendar.specs.Calendar.{calendar_leaf, is_covered};
 ghost use Rattle.ksi_journal.specs.declared.fault.JournalFault.{JournalFault};
 ghost use Rattle.ksi_journal.specs.Journal.{Contents, IsJournal};
 ghost use Rattle.ksi_journal.specs.Calendar.{IsCovered, calendar_of, leaf_at};
 ghost use Rattle.ksi_journal.specs.File.{IsJournalFile, IsJournalFault};
 ghost use Rattle.ksi_journal.specs.Written.{journal_text};
+ghost use Rattle.ksi_journal.specs.Reading.{journal_at};
 
 use crate::fault::JournalFault;
 use crate::loading::Loading;
 use ksi_imprint::Sha;
-use ksi_order::whole_or_fault;
+use ksi_order::{walked_says, whole_or_fault};
 use ksi_tlv::{numeral_is_read, written_is_read};
 
 /// The seconds of a journal's calendar are those that are covered, and its leaves are those of the journal.
@@ -44,4 +45,14 @@ pub fn written_is_journal()
 {
     written_is_read();
     numeral_is_read();
+}
+
+/// What `journal_at` gives is the journal that the bytes are, or their first fault.
+pub fn journal_is_read()
+    ensures journal { (image : List ℕ → List ℕ) (bytes : List ℕ) (journal : Contents) →
+        (journal_at image bytes ≡ Ok journal) ↔ IsJournalFile image bytes journal }
+    ensures fault { (image : List ℕ → List ℕ) (bytes : List ℕ) (fault : JournalFault) →
+        (journal_at image bytes ≡ Err fault) ↔ IsJournalFault image bytes fault }
+{
+    walked_says::<Loading<Sha>, JournalFault>();
 }

@@ -1,8 +1,8 @@
 //! What holds of elements in a stated order, for the layers above to cite. None of these functions does anything.
-ghost use Rattle.std.specs.Prelude.{◌≡◌, ◌⊎◌, ◌<◌, ◌^◌, ℕ, List, Ok};
+ghost use Rattle.std.specs.Prelude.{◌≡◌, ◌⊎◌, ◌↔◌, ◌<◌, ◌^◌, ℕ, List, Ok, Err};
 ghost use Rattle.ksi_imprint.specs.Imprints.{IsImprint};
 ghost use Rattle.ksi_tlv.specs.Walking.{PlacedTlv, Items};
-ghost use Rattle.ksi_order.specs.Order.{Order};
+ghost use Rattle.ksi_order.specs.Order.{Order, walked};
 ghost use Rattle.ksi_order.specs.Values.{time_at, imprint_at};
 ghost use Rattle.ksi_order.specs.Sequence.{IsWhole, IsFirstFault};
 
@@ -18,6 +18,15 @@ pub fn whole_or_fault<S, F>()
     ensures one_fault { (o : Order S F) (end : ℕ) (items : Items) (s : S) (fault other : F) →
         IsFirstFault o end items s fault → IsFirstFault o end items s other → fault ≡ other }
 {}
+
+/// What `walked` comes to is what whole elements lead to, or their first fault.
+pub fn walked_says<S, F>()
+    ensures whole { (o : Order S F) (end : ℕ) (items : Items) (s t : S) →
+        (walked o end items s ≡ Ok t) ↔ IsWhole o items s t }
+    ensures fault { (o : Order S F) (end : ℕ) (items : Items) (s : S) (fault : F) →
+        (walked o end items s ≡ Err fault) ↔ IsFirstFault o end items s fault }
+{
+}
 
 /// A time that was read is below 2^63, and an imprint that was read is one.
 pub fn values_are_bounded()
