@@ -375,10 +375,12 @@ module _ (laws : Written) where
       let signs : Goes image t b (map issued_element journal.issued ++ (map publication_element journal.publications ++ plain 6 [] ∷ [])) = issued_again image t b journal.issued (map publication_element journal.publications ++ plain 6 [] ∷ []) may_b is.issued (subst (λ (n : ℕ). RiseFrom n (map (λ (x : ℕ × List ℕ). x.0) journal.issued)) (sym less.0) is.numbers_rise) pubs in
       let seconds = seconds_again image t a journal.seconds (map issued_element journal.issued ++ (map publication_element journal.publications ++ plain 6 [] ∷ [])) refl is.seconds is.seconds_rise signs in
       let all = goes_on image t nothing_yet a (plain 1 (numeral journal.start)) (seconds_elements journal.seconds ++ (map issued_element journal.issued ++ (map publication_element journal.publications ++ plain 6 [] ∷ []))) (start_step image t journal.start is.start) seconds in
-      let fits : AllByRecursion FitsLong (journal_elements journal) =
-      (fits_number 1 journal.start (omega arith), seconds_fit image journal.seconds (map issued_element journal.issued ++ (map publication_element journal.publications ++ plain 6 [] ∷ [])) is.seconds
-      (issued_fit journal.issued (map publication_element journal.publications ++ plain 6 [] ∷ []) is.issued
-      (published_fit journal.publications (plain 6 [] ∷ []) is.publications (record { kind = omega arith; body = omega arith }, tt)))) in
+      let fits : AllByRecursion FitsLong (journal_elements journal) = (
+        fits_number 1 journal.start (omega arith),
+        seconds_fit image journal.seconds (map issued_element journal.issued ++ (map publication_element journal.publications ++ plain 6 [] ∷ [])) is.seconds
+            (issued_fit journal.issued (map publication_element journal.publications ++ plain 6 [] ∷ []) is.issued
+            (published_fit journal.publications (plain 6 [] ∷ []) is.publications (record { kind = omega arith; body = omega arith }, tt))),
+      ) in
       let contents_b = contents_after a journal.seconds in
       let contents_c = over_c.0 ∙ ap (λ (x : Contents). record x { issued = x.issued ++ journal.issued }) contents_b in
       let contents_d = published_contents c journal.publications ∙ ap (λ (x : Contents). record x { publications = x.publications ++ journal.publications }) contents_c in

@@ -57,10 +57,11 @@ module _ (laws : Laws) (image : List ℕ → List ℕ) where
 
   pub journal_read : (bytes : List ℕ) (journal : Contents) → (journal_at image bytes ≡ Ok journal) ↔ IsJournalFile image bytes journal
   unfolding journal_at
-  journal_read bytes journal =
-      (λ e. journal_of bytes journal (bytes_eq (take 8 bytes) magic) refl e,
-      λ file. ap (journal_at image) file.begins ∙ reads file.rest
-          ∙ ap contents_said ((laws.whole (journal_order image) (8 + length file.rest) (elements 8 file.rest) nothing_yet file.said).1 file.whole) ∙ ap Ok (sym file.holds))
+  journal_read bytes journal = (
+    λ e. journal_of bytes journal (bytes_eq (take 8 bytes) magic) refl e,
+    λ file. ap (journal_at image) file.begins ∙ reads file.rest
+        ∙ ap contents_said ((laws.whole (journal_order image) (8 + length file.rest) (elements 8 file.rest) nothing_yet file.said).1 file.whole) ∙ ap Ok (sym file.holds),
+  )
 
   other_at : (bytes : List ℕ) (fault : JournalFault) (is : Bool) → bytes_eq (take 8 bytes) magic ≡ is → IsOtherFile bytes fault → journal_at image bytes ≡ Err fault
   unfolding journal_at

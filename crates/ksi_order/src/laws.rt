@@ -25,8 +25,7 @@ pub fn walked_says<S, F>()
         (walked o end items s ≡ Ok t) ↔ IsWhole o items s t }
     ensures fault { (o : Order S F) (end : ℕ) (items : Items) (s : S) (fault : F) →
         (walked o end items s ≡ Err fault) ↔ IsFirstFault o end items s fault }
-{
-}
+{}
 
 /// A time that was read is below 2^63, and an imprint that was read is one.
 pub fn values_are_bounded()
