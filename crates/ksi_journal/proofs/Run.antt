@@ -1,15 +1,15 @@
 -- The seconds that follow the start without a gap are those that are covered.
-use Rattle.std.proofs.Common.{◌≡◌, ◌≢◌, ◌⊎◌, inl, inr, ℕ, zero, suc, ◌+◌, ◌-◌, ◌^◌, ◌<◌, ◌≤◌, Bool, true, false, cond, ◌&&◌, leb, ltb, eqb, List, [], ◌∷◌, length, map, get_or, Option, Some, None, refl, sym, ap, subst, ◌∙◌, arith}
+use Rattle.std.proofs.Common.{◌≡◌, ℕ, zero, suc, ◌+◌, ◌-◌, ◌^◌, ◌<◌, ◌≤◌, Bool, true, false, cond, ◌&&◌, leb, ltb, eqb, List, [], ◌∷◌, length, map, get_or, Option, Some, None, refl, sym, ap, subst, ◌∙◌, arith}
 use Rattle.std.specs.Borrow.{Bor}
 use Rattle.std.specs.Prelude.{IsSome, is_some, IfSome, IsTrue, ◌↔◌, unwrap_or}
 use Rattle.std.specs.List.{AllByRecursion}
-use Rattle.std.proofs.lemmas.Bool.{leb-true, leb-false, ltb-true, ltb-false, eqb-true, eqb-false, eq-eqb, ne_eqb, lt-ltb, le-ltb, le-leb, lt-leb, cases_eq}
+use Rattle.std.proofs.lemmas.Bool.{leb-true, leb-false, ltb-true, ltb-false, eqb-true, eqb-false, eq-eqb, ne_eqb, lt-ltb, le-leb}
 use Rattle.ksi_imprint.specs.Imprints.{zero_imprint}
-use Rattle.ksi_calendar.specs.Calendar.{Seconds, is_covered, calendar_leaf}
+use Rattle.ksi_calendar.specs.Calendar.{is_covered, calendar_leaf}
 use Rattle.ksi_journal.specs.declared.second.Second.{Second}
 use Rattle.ksi_journal.specs.Journal.{Contents, RiseFrom, IsSecond, IsJournal, kept_among, root_of, root_at}
 use Rattle.ksi_journal.specs.Kept.{at_place, place_of, view_kept}
-use Rattle.ksi_journal.specs.Calendar.{leaf_at, IsCovered, IsFirstMissing, roots_from, calendar_of, missing_to, first_missing}
+use Rattle.ksi_journal.specs.Calendar.{leaf_at, IsCovered, IsFirstMissing, roots_from, calendar_of, first_missing}
 
 abbrev times : List Second → List ℕ
 times seconds = map (λ (kept : Second). kept.second) seconds

@@ -1,29 +1,29 @@
 -- What whole elements say is a journal: the state keeps what a journal keeps.
-use Rattle.std.proofs.Common.{◌≡◌, ◌≢◌, ◌⊎◌, inl, inr, ℕ, zero, suc, ◌+◌, ◌-◌, ◌^◌, ◌<◌, ◌≤◌, Bool, true, false, cond, ◌&&◌, leb, ltb, eqb, List, [], ◌∷◌, ◌++◌, length, take, map, get_or, Result, Ok, Err, refl, sym, ap, subst, ◌∙◌, arith, length-append}
+use Rattle.std.proofs.Common.{◌≡◌, ◌≢◌, ◌⊎◌, inl, inr, ℕ, zero, suc, ◌+◌, ◌-◌, ◌^◌, ◌<◌, ◌≤◌, Bool, true, false, cond, ◌&&◌, leb, eqb, List, [], ◌∷◌, ◌++◌, length, take, map, get_or, Result, Ok, Err, refl, sym, ap, subst, ◌∙◌, arith, length-append}
 use Rattle.std.specs.List.{AllByRecursion}
 use Rattle.std.specs.Str.{bytes_eq}
-use Rattle.std.proofs.lemmas.Bool.{leb-true, ltb-true, eqb-true, lt-ltb}
+use Rattle.std.proofs.lemmas.Bool.{leb-true, eqb-true}
 use Rattle.std.proofs.lemmas.List.{map-append}
 use Rattle.std.proofs.lemmas.Slice.Eq.{bytes_eq-Decides}
 use Rattle.ksi_imprint.specs.declared.fault.ImprintFault.{ImprintFault}
 use Rattle.ksi_imprint.specs.declared.fault.ImprintFault.TheVariants as imprints_fault
 use Rattle.ksi_imprint.specs.Imprints.{IsImprint, zero_imprint}
 use Rattle.ksi_imprint.specs.Reading as imprints
-use Rattle.ksi_tlv.specs.Walking.{PlacedTlv, Items, items_of}
+use Rattle.ksi_tlv.specs.Walking.{PlacedTlv, Items}
 use Rattle.ksi_aggchain.specs.declared.item.Item.{Item}
 use Rattle.ksi_aggtree.specs.Rounds.{tree_of}
 use Rattle.ksi_order.specs.declared.fault.OrderFault.{OrderFault}
 use Rattle.ksi_order.specs.declared.fault.OrderFault.TheVariants as orders
-use Rattle.ksi_order.specs.Order.{Order, may_stand, ◌>>=◌}
+use Rattle.ksi_order.specs.Order.{may_stand, ◌>>=◌}
 use Rattle.ksi_order.specs.Sequence.{Leads, IsWhole}
-use Rattle.ksi_order.specs.Fields.{Inside, inside, field, done}
+use Rattle.ksi_order.specs.Fields.{inside, field, done}
 use Rattle.ksi_order.specs.Values.{number_at, time_at, imprint_at}
 use Rattle.ksi_journal.specs.declared.second.Second.{Second}
 use Rattle.ksi_journal.specs.declared.second.Stage.{Stage}
 use Rattle.ksi_journal.specs.declared.second.Stage.TheVariants as stages
 use Rattle.ksi_journal.specs.declared.fault.JournalFault.{JournalFault}
-use Rattle.ksi_journal.specs.Journal.{Contents, RiseFrom, IsItem, IsRootOf, IsSecond, IsIssued, IsPublication, IsJournal}
-use Rattle.ksi_journal.specs.Elements.{Loaded, kinds_next, or_named, rises, started, start_at, counts, closed, opened, counted, said_at, second_at, item_of, item_in, with_item, finished, added, item_at, short_at, signature_at, with_issued, issued_at, published_at, with_publication, publication_at, end_at, element_read, journal_order, nothing_yet, no_second}
+use Rattle.ksi_journal.specs.Journal.{RiseFrom, IsItem, IsRootOf, IsSecond, IsIssued, IsPublication, IsJournal}
+use Rattle.ksi_journal.specs.Elements.{Loaded, kinds_next, or_named, rises, started, start_at, counts, closed, opened, said_at, second_at, item_of, item_in, with_item, finished, item_at, short_at, signature_at, with_issued, issued_at, published_at, with_publication, publication_at, end_at, element_read, journal_order, nothing_yet}
 
 -- ---- rising
 
