@@ -1,8 +1,8 @@
 -- What is written is loaded again.
-use Rattle.std.proofs.Common.{◌≡◌, ◌≢◌, ℕ, zero, suc, ◌+◌, ◌-◌, ◌^◌, ◌<◌, ◌≤◌, Bool, true, false, cond, ◌&&◌, ltb, leb, eqb, List, [], ◌∷◌, ◌++◌, length, map, take, get_or, Result, Ok, Err, refl, sym, ap, subst, ◌∙◌, arith, append_assoc, append-nil, length-append}
+use Rattle.std.proofs.Common.{◌≡◌, ℕ, suc, ◌+◌, ◌-◌, ◌^◌, ◌<◌, ◌≤◌, Bool, true, false, cond, ◌&&◌, ltb, leb, eqb, List, [], ◌∷◌, ◌++◌, length, map, take, get_or, Ok, refl, sym, ap, subst, ◌∙◌, arith, append_assoc, append-nil, length-append}
 use Rattle.std.specs.List.{AllByRecursion}
 use Rattle.std.specs.Str.{bytes_eq}
-use Rattle.std.proofs.lemmas.Bool.{lt-ltb, le-ltb, le-leb, lt-leb, ne_eqb, eq-eqb, ltb-true, leb-true, eqb-true, cond_both}
+use Rattle.std.proofs.lemmas.Bool.{lt-ltb, le-ltb, le-leb, ne_eqb, eq-eqb, cond_both}
 use Rattle.std.proofs.Math.Seq.{take-append_seam, get_or-append_seam}
 use Rattle.std.proofs.lemmas.Slice.Eq.{bytes_eq-Decides}
 use Rattle.ksi_imprint.specs.Imprints.{IsImprint, zero_imprint}
@@ -11,18 +11,18 @@ use Rattle.ksi_tlv.specs.Spelling.{Tlv, FitsLong, plain, canonical, short_form, 
 use Rattle.ksi_tlv.specs.Walking.{PlacedTlv, placed_at, elements, items_of}
 use Rattle.ksi_tlv.specs.Numerals.{number_of, numeral}
 use Rattle.ksi_tlv.specs.Writing.{texts, placed}
-use Rattle.ksi_grammar.specs.Contents.{number_in, time_in, imprint_in}
+use Rattle.ksi_grammar.specs.Contents.{time_in, imprint_in}
 use Rattle.ksi_aggchain.specs.declared.item.Item.{Item}
 use Rattle.ksi_aggtree.specs.Rounds.{tree_of}
 use Rattle.ksi_order.specs.Order.{may_stand}
-use Rattle.ksi_order.specs.Sequence.{Leads, IsWhole}
-use Rattle.ksi_order.specs.Fields.{field, done, inside}
+use Rattle.ksi_order.specs.Sequence.{Leads}
+use Rattle.ksi_order.specs.Fields.{field, done}
 use Rattle.ksi_order.specs.Values.{number_at, time_at, imprint_at}
 use Rattle.ksi_journal.specs.declared.second.Second.{Second}
 use Rattle.ksi_journal.specs.declared.second.Stage.TheVariants as stages
 use Rattle.ksi_journal.specs.Journal.{Contents, RiseFrom, IsItem, IsRootOf, IsSecond, IsIssued, IsPublication, IsJournal}
 use Rattle.ksi_journal.specs.Elements.{Loaded, started, start_at, counts, closed, opened, said_at, second_at, item_in, with_item, item_at, signature_at, with_issued, issued_at, published_at, with_publication, publication_at, end_at, element_read, journal_order, nothing_yet, is_end, kinds_next}
-use Rattle.ksi_journal.specs.File.{magic, IsJournalFile}
+use Rattle.ksi_journal.specs.File.{IsJournalFile}
 use Rattle.ksi_journal.specs.Written.{head_elements, second_element, item_element, kept_elements, seconds_elements, pair_elements, issued_element, publication_element, journal_elements, journal_text}
 
 -- the laws of what is written

@@ -1,5 +1,5 @@
 -- What is written one after the other.
-use Rattle.std.proofs.Common.{◌≡◌, ℕ, List, [], ◌∷◌, ◌++◌, length, map, refl, sym, ap, ◌∙◌, append_assoc, append-nil}
+use Rattle.std.proofs.Common.{◌≡◌, ℕ, List, [], ◌∷◌, ◌++◌, map, refl, sym, ap, ◌∙◌, append_assoc, append-nil}
 use Rattle.ksi_tlv.specs.Spelling.{Tlv, canonical, plain}
 use Rattle.ksi_tlv.specs.Writing.{texts}
 use Rattle.ksi_tlv.specs.Numerals.{numeral}

@@ -37,10 +37,7 @@ fn put_publication(text: &mut Vec<u8>, time: u8, root: Imprint) -> Result<(), No
 }
 
 fn fault_of(alloc: Global, text: &[u8]) -> Option<JournalFault> {
-    match load::<Tiny>(alloc, text) {
-        Ok(_) => None,
-        Err(fault) => Some(fault),
-    }
+    load::<Tiny>(alloc, text).err()
 }
 
 #[test]

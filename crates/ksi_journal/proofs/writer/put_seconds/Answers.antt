@@ -1,4 +1,4 @@
-use Rattle.std.proofs.Common.{◌≡◌, ◌+◌, ◌∷◌, ◌∙◌, List, ap, sym, drop, get_or}
+use Rattle.std.proofs.Common.{◌+◌, ◌∷◌, ◌∙◌, ap, sym, drop}
 use Rattle.std.proofs.lemmas.List.{drop_more}
 use Rattle.ksi_journal.specs.declared.second.Second.{Second}
 use Rattle.ksi_journal.proofs.Texts.{seconds_told}

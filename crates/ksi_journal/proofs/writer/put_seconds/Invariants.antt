@@ -1,4 +1,4 @@
-use Rattle.std.proofs.Common.{◌≡◌, ◌++◌, drop, map}
+use Rattle.std.proofs.Common.{◌≡◌, ◌++◌, drop}
 use Rattle.ksi_tlv.specs.Writing.{texts}
 use Rattle.ksi_journal.specs.Written.{seconds_elements}
 use Rattle.ksi_journal.proofs.writer.put_seconds.Given as goal
