@@ -1,0 +1,31 @@
+-- Histories: a plan, and what happened.
+use Rattle.std.specs.Prelude.{ℕ, ◌<◌, List, [], ◌∷◌, ◌++◌, length}
+use Rattle.ksi_schedule.specs.Plans.{PlanState, InRange}
+use Rattle.ksi_schedule.specs.declared.event.Event.{Event}
+use Rattle.ksi_schedule.specs.declared.event.Event.TheVariants as events
+
+-- the event's actor is there, and its second is the plan's
+abbrev pub IsEvent : PlanState → Event → Type 0
+IsEvent plan (events.Request k t imprint) = (k < length plan.parents) × InRange plan t
+IsEvent plan (events.Close k t) = (k < length plan.parents) × InRange plan t
+IsEvent plan (events.Seal j t) = (j < plan.cores) × InRange plan t
+IsEvent plan (events.Ballot j t) = (j < plan.cores) × InRange plan t
+IsEvent plan (events.Deliver number) = Unit {0}
+IsEvent plan (events.Tell j t) = (j < plan.cores) × InRange plan t
+IsEvent plan (events.Respond j t) = (j < plan.cores) × InRange plan t
+IsEvent plan (events.Publish j p) = (j < plan.cores) × InRange plan p
+IsEvent plan (events.RestartCore j) = j < plan.cores
+IsEvent plan (events.RestartAggregator k) = k < length plan.parents
+
+abbrev pub AreEvents : PlanState → List Event → Type 0
+AreEvents plan [] = Unit {0}
+AreEvents plan (e ∷ es) = IsEvent plan e × AreEvents plan es
+
+-- a plan, and what happened
+pub record History : Type 0 where
+  pub plan : PlanState
+  pub events : List Event
+
+-- the history with one more event
+abbrev pub with_event : History → Event → History
+with_event h event = record { plan = h.plan; events = h.events ++ event ∷ [] }

@@ -1,0 +1,38 @@
+-- Plans: how many cores there are, the first second, and whom each aggregator submits to.
+use Rattle.std.specs.Prelude.{◌≡◌, ℕ, zero, suc, ◌+◌, ◌-◌, ◌^◌, ◌<◌, ◌≤◌, List, length, slice_get, slice_index_or, Some}
+use Rattle.ksi_schedule.specs.declared.actor.Actor.{Actor}
+use Rattle.ksi_schedule.specs.declared.actor.Actor.TheVariants as actors
+
+-- the number of cores, the first second, and the parent of each aggregator, that of aggregator 0 first
+pub record PlanState : Type 0 where
+  pub cores : ℕ
+  pub start : ℕ
+  pub parents : List Actor
+
+abbrev pub parent_of : PlanState → (aggregator : ℕ) → Actor
+parent_of plan k = slice_index_or plan.parents k (actors.Core 0)
+
+-- a parent of aggregator k: a core of the plan, or an aggregator with a smaller number
+abbrev pub IsParent : (cores k : ℕ) → Actor → Type 0
+IsParent cores k (actors.Core j) = j < cores
+IsParent cores k (actors.Aggregator i) = i < k
+
+-- from the actor a core is reached in so many steps up, or fewer
+unfoldable pub ReachesCore : PlanState → (steps : ℕ) → Actor → Type 0
+ReachesCore plan steps (actors.Core j) = j < plan.cores
+ReachesCore plan zero (actors.Aggregator k) = ⊥
+ReachesCore plan (suc steps) (actors.Aggregator k) = ReachesCore plan steps (parent_of plan k)
+
+-- one to nine cores, a start that leaves room for 2^24 seconds below 2^63, and at most 4,096 aggregators, at most eight of
+-- them above one another
+pub record IsPlan (plan : PlanState) : Type 0 where
+  pub some : 1 ≤ plan.cores
+  pub few : plan.cores ≤ 9
+  pub early : plan.start ≤ 2 ^ 63 - 2 ^ 24
+  pub many : length plan.parents ≤ 4096
+  pub parents : (k : ℕ) (parent : Actor) → slice_get plan.parents k ≡ Some parent → IsParent plan.cores k parent
+  pub low : (k : ℕ) → k < length plan.parents → ReachesCore plan 8 (actors.Aggregator k)
+
+-- the second is one of the plan's
+abbrev pub InRange : PlanState → (second : ℕ) → Type 0
+InRange plan t = (plan.start ≤ t) × (t < plan.start + 2 ^ 24)

@@ -1,0 +1,102 @@
+ghost use Rattle.std.specs.Prelude.{◌≡◌, ◌≤◌, ◌<◌, length, IfOk};
+ghost use Rattle.ksi_schedule.specs.Plans.{IsPlan, parent_of};
+
+use crate::actor::Actor;
+use ksi_imprint::NoMemory;
+use std::alloc::Global;
+use std::marker::Model;
+
+/// The parent of each aggregator, that of aggregator 0 first. A contract sees the list.
+#[derive(Drop, Debug)]
+pub struct Parents {
+    parents: Vec<Actor>,
+}
+
+impl Model for Parents {
+    ghost use Rattle.std.specs.Prelude.{List};
+    ghost use Rattle.ksi_schedule.specs.declared.actor.Actor as actor;
+
+    ghost Value = { List actor.Actor };
+
+    ghost view = { λ parents. parents.parents.items };
+}
+
+impl Parents {
+    /// These parents, which are not copied.
+    pub fn from_vec(parents: Vec<Actor>) -> Self
+        ensures { result ≡ parents.items }
+    {
+        Parents { parents }
+    }
+
+    /// The parents in order.
+    pub fn as_slice(&self) -> &[Actor]
+        ensures { result.now ≡ self.now }
+    {
+        self.parents.as_slice()
+    }
+
+    /// The parents in a `Vec`, which are not copied.
+    pub fn into_vec(self) -> Vec<Actor>
+        ensures { result.items ≡ self }
+    {
+        let Parents { parents } = self;
+        parents
+    }
+}
+
+/// How many cores there are, the first second, and whom each aggregator submits to.
+///
+/// There are 1 to 9 cores, the start is at most 2^63 - 2^24, and there are at most 4,096 aggregators. The parent of an
+/// aggregator is a core of the plan or an aggregator with a smaller number, and at most eight aggregators stand above one
+/// another.
+#[derive(Drop, Debug)]
+pub struct Plan {
+    pub cores: u8,
+    pub start: u64,
+    pub parents: Parents,
+}
+
+impl Model for Plan {
+    ghost use Rattle.ksi_schedule.specs.Plans.{PlanState, IsPlan};
+
+    ghost Value = { PlanState };
+
+    ghost view = { λ plan. record { cores = plan.cores; start = plan.start; parents = plan.parents } };
+
+    ghost invariant = { λ plan. IsPlan (record { cores = plan.cores; start = plan.start; parents = plan.parents }) };
+}
+
+impl Plan {
+    /// How many aggregators there are.
+    pub fn aggregators(&self) -> usize
+        ensures count { result ≡ length self.now.parents }
+        ensures few { length self.now.parents ≤ 4096 }
+    {
+        self.parents.as_slice().len()
+    }
+
+    /// The parent of an aggregator of the plan.
+    pub fn parent(&self, aggregator: u32) -> Actor
+        requires { aggregator < length self.now.parents }
+        ensures { result ≡ parent_of self.now aggregator }
+    {
+        self.parents.as_slice()[aggregator as usize]
+    }
+
+    /// A copy.
+    ///
+    /// # Errors
+    /// `NoMemory`: nothing is made.
+    pub fn copy(&self, alloc: Global) -> Result<Plan, NoMemory>
+        ensures copied { IfOk result (λ plan. plan ≡ self.now) }
+        ensures limits { IsPlan self.now }
+    {
+        let parents = self.parents.as_slice().to_vec(alloc)?;
+        Ok(Plan {
+            cores: self.cores,
+            start: self.start,
+            parents: Parents::from_vec(parents),
+        })
+    }
+}

@@ -1,0 +1,12 @@
+pub mod Turning
+pub mod RoundTurning
+pub mod Small
+pub mod Depths
+pub mod Sending
+pub mod Sounding
+pub mod Fitting
+pub mod Rising
+pub mod LetterLemmas
+pub mod Taking
+pub mod Delivering
+pub mod Running

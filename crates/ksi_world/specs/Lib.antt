@@ -1,0 +1,6 @@
+pub mod Histories
+pub mod Records
+pub mod Sound
+pub mod Nodes
+pub mod Letters
+pub mod Places
