@@ -23,6 +23,7 @@ mod builder;
 mod entries;
 #[cfg(test)]
 mod entries_tests;
+mod items;
 mod join;
 pub mod laws;
 mod links;
@@ -31,5 +32,6 @@ mod tests;
 
 pub use builder::{AddRefusal, Builder};
 pub use entries::{Entries, Entry, Origin};
+pub use items::Items;
 pub use ksi_rows::Steps;
 pub use links::Links;
