@@ -10,3 +10,12 @@ pub mod LetterLemmas
 pub mod Taking
 pub mod Delivering
 pub mod Running
+pub mod Leaving
+pub mod Voting
+pub mod Voted
+pub mod Listing
+pub mod Skipping
+pub mod Lowest
+pub mod Asking
+pub mod Deciding
+pub mod Listed

@@ -25,12 +25,14 @@ module _ (p : ℕ) (root : List ℕ) where
   pub put_known : (xs : List (ℕ × List ℕ)) → is_second p (slice_get xs (place_of p xs)) ≡ true → put_rising p root xs ≡ xs
   put_known [] is = absurd (cc is)
   put_known (x ∷ xs) is = elim (cases_lt x.0 p) [
-      inl lt ↦ put_after x xs lt ∙ ap (λ ys. x ∷ ys) (put_known xs (ap (λ n. is_second p (slice_get (x ∷ xs) n)) (sym (place_after x xs lt)) ∙ is))
-    | inr le ↦ put_on x xs (sym (eqb-true x.0 p (ap (λ n. is_second p (slice_get (x ∷ xs) n)) (sym (place_here x xs le)) ∙ is))) ]
+    | inl lt ↦ put_after x xs lt ∙ ap (λ ys. x ∷ ys) (put_known xs (ap (λ n. is_second p (slice_get (x ∷ xs) n)) (sym (place_after x xs lt)) ∙ is))
+    | inr le ↦ put_on x xs (sym (eqb-true x.0 p (ap (λ n. is_second p (slice_get (x ∷ xs) n)) (sym (place_here x xs le)) ∙ is)))
+  ]
 
   pub put_new : (xs : List (ℕ × List ℕ)) → is_second p (slice_get xs (place_of p xs)) ≡ false → insert xs (place_of p xs) (p, root) ≡ put_rising p root xs
   put_new [] is = refl
   put_new (x ∷ xs) is = elim (cases_lt x.0 p) [
-      inl lt ↦ ap (λ n. insert (x ∷ xs) n (p, root)) (place_after x xs lt) ∙ ap (λ ys. x ∷ ys) (put_new xs (ap (λ n. is_second p (slice_get (x ∷ xs) n)) (sym (place_after x xs lt)) ∙ is)) ∙ sym (put_after x xs lt)
+    | inl lt ↦ ap (λ n. insert (x ∷ xs) n (p, root)) (place_after x xs lt) ∙ ap (λ ys. x ∷ ys) (put_new xs (ap (λ n. is_second p (slice_get (x ∷ xs) n)) (sym (place_after x xs lt)) ∙ is)) ∙ sym (put_after x xs lt)
     | inr le ↦ let ne = eqb-false x.0 p (ap (λ n. is_second p (slice_get (x ∷ xs) n)) (sym (place_here x xs le)) ∙ is) in
-        ap (λ n. insert (x ∷ xs) n (p, root)) (place_here x xs le) ∙ sym (put_before x xs (omega (arith, le, ne))) ]
+        ap (λ n. insert (x ∷ xs) n (p, root)) (place_here x xs le) ∙ sym (put_before x xs (omega (arith, le, ne)))
+  ]

@@ -22,17 +22,25 @@ pub round_turned : (row : RoundState → RoundTurn) (plan : PlanState) (k t : �
     wire' ≡ wire ++ map (round_message plan k t) step.sends → outcome ≡ outcome_of step.answer (length step.sends) →
     RoundStep row plan k t aggregators (set aggregators k new) wire wire' outcome
 round_turned row plan k t aggregators wire wire' old new step outcome at me is posted told = record {
-    old = old; new = new; at = at; after = refl; me = me; rounds = is.after;
-    posted = posted ∙ ap (λ sends. wire ++ map (round_message plan k t) sends) is.sends;
-    told = told ∙ ap (λ answer. outcome_of answer (length step.sends)) is.answer ∙ ap (λ sends. outcome_of (row (rounds_of old t)).answer (length sends)) is.sends }
+  old = old;
+  new = new;
+  at = at;
+  after = refl;
+  me = me;
+  rounds = is.after;
+  posted = posted ∙ ap (λ sends. wire ++ map (round_message plan k t) sends) is.sends;
+  told = told ∙ ap (λ answer. outcome_of answer (length step.sends)) is.answer ∙ ap (λ sends. outcome_of (row (rounds_of old t)).answer (length sends)) is.sends;
+}
 
 pub aggregators_stay : (aggregators : List AggregatorState) (k : ℕ) (old new : AggregatorState) → slice_get aggregators k ≡ Some old → new.me ≡ old.me → SameRounds (rounds_of old) (rounds_of new) → AggregatorsStay aggregators (set aggregators k new)
 aggregators_stay aggregators k old new at me same plan rounds r = record {
-    many = length-set aggregators k new ∙ r.many;
-    each = λ i a here. elim (get_set aggregators k i new a here) [
-        inl is ↦ subst (λ a. IsAggregator (rounds i) i a) (sym is.1) (subst (λ i. IsAggregator (rounds i) i new) (sym is.0)
-          (let was = r.each k old at in record { me = me ∙ was.me; keeps = λ t. same t ∙ was.keeps t }))
-      | inr other ↦ r.each i a other.1 ] }
+  many = length-set aggregators k new ∙ r.many;
+  each = λ i a here. elim (get_set aggregators k i new a here) [
+    | inl is ↦ subst (λ a. IsAggregator (rounds i) i a) (sym is.1) (subst (λ i. IsAggregator (rounds i) i new) (sym is.0)
+        (let was = r.each k old at in record { me = me ∙ was.me; keeps = λ t. same t ∙ was.keeps t }))
+    | inr other ↦ r.each i a other.1
+  ];
+}
 
 -- WHAT IS SENT
 
@@ -60,10 +68,12 @@ one_closed image r = cond_both (is_some r.closed) _ _ (λ (turn : RoundTurn). le
 pub aggregators_turned : (plan : PlanState) (rounds : ℕ → ℕ → RoundState) (row : RoundState → RoundTurn) (k t : ℕ) (aggregators aggregators' : List AggregatorState) (wire wire' : List Message) (outcome : Outcome) →
     RoundStep row plan k t aggregators aggregators' wire wire' outcome → AreAggregators plan rounds aggregators → AreAggregators plan (put_at rounds k t (row (rounds k t)).after) aggregators'
 aggregators_turned plan rounds row k t aggregators aggregators' wire wire' outcome step r = subst (λ xs. AreAggregators plan after xs) (sym step.after) (record {
-    many = length-set aggregators k step.new ∙ r.many;
-    each = λ i a here. elim (get_set aggregators k i step.new a here) [
-        inl is ↦ subst (λ a. IsAggregator (after i) i a) (sym is.1) (subst (λ i. IsAggregator (after i) i step.new) (sym is.0) new_one)
-      | inr other ↦ let is = r.each i a other.1 in record { me = is.me; keeps = λ u. is.keeps u ∙ put_other rounds k t (row (rounds k t)).after i u other.0 } ] })
+  many = length-set aggregators k step.new ∙ r.many;
+  each = λ i a here. elim (get_set aggregators k i step.new a here) [
+    | inl is ↦ subst (λ a. IsAggregator (after i) i a) (sym is.1) (subst (λ i. IsAggregator (after i) i step.new) (sym is.0) new_one)
+    | inr other ↦ let is = r.each i a other.1 in record { me = is.me; keeps = λ u. is.keeps u ∙ put_other rounds k t (row (rounds k t)).after i u other.0 }
+  ];
+})
   where
     after : ℕ → ℕ → RoundState
     after = put_at rounds k t (row (rounds k t)).after
@@ -74,7 +84,8 @@ aggregators_turned plan rounds row k t aggregators aggregators' wire wire' outco
     new_one : IsAggregator (after k) k step.new
     new_one = record {
       me = step.me ∙ old_one.me;
-      keeps = λ u. step.rounds u ∙ ap (λ z. cond (eqb u t) (row z).after (rounds_of step.old u)) (old_one.keeps t) ∙ ap (λ z. cond (eqb u t) (row (rounds k t)).after z) (old_one.keeps u) ∙ put_here rounds k t (row (rounds k t)).after u }
+      keeps = λ u. step.rounds u ∙ ap (λ z. cond (eqb u t) (row z).after (rounds_of step.old u)) (old_one.keeps t) ∙ ap (λ z. cond (eqb u t) (row (rounds k t)).after z) (old_one.keeps u) ∙ put_here rounds k t (row (rounds k t)).after u;
+    }
 
 -- A RESPONSE
 

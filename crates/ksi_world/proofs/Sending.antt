@@ -160,15 +160,17 @@ module _ (plan : PlanState) where
   pub round_push : (here : Actor) (n : ℕ) (es : List Entry) (from : ℕ) (item : Item) → IsRoundAt plan here n es → has_from from es ≡ false → is_full es ≡ false → IsOf plan here n (origins.Aggregator from) item →
       IsRoundAt plan here n (es ++ submitted_entry from item ∷ [])
   round_push here n es from item r none room is = record {
-      are = are_push here n es (submitted_entry from item) r.are is;
-      few = let ne : length es ≡ 65536 → ⊥ = eqb-false (length es) 65536 room in omega (arith, length-append es (submitted_entry from item ∷ []), r.few, ne);
-      once = λ a. let one = cond_both (eqb from a) 1 0 (λ m. count_from a es + m ≤ 1) (λ same. omega (arith, ap (λ a. count_from a es) (eqb-true from a same), none_from from es none)) (λ _. omega (arith, r.once a)) in omega (arith, one, count_push a es (submitted_entry from item)) }
+    are = are_push here n es (submitted_entry from item) r.are is;
+    few = let ne : length es ≡ 65536 → ⊥ = eqb-false (length es) 65536 room in omega (arith, length-append es (submitted_entry from item ∷ []), r.few, ne);
+    once = λ a. let one = cond_both (eqb from a) 1 0 (λ m. count_from a es + m ≤ 1) (λ same. omega (arith, ap (λ a. count_from a es) (eqb-true from a same), none_from from es none)) (λ _. omega (arith, r.once a)) in omega (arith, one, count_push a es (submitted_entry from item));
+  }
 
   pub request_push : (here : Actor) (n : ℕ) (es : List Entry) (imprint : List ℕ) → IsRoundAt plan here n es → is_full es ≡ false → IsRoundAt plan here (suc n) (es ++ request_entry n imprint ∷ [])
   request_push here n es imprint r room = record {
-      are = are_push here (suc n) es (request_entry n imprint) (are_more here n (suc n) es (omega arith) r.are) (omega arith, refl);
-      few = let ne : length es ≡ 65536 → ⊥ = eqb-false (length es) 65536 room in omega (arith, length-append es (request_entry n imprint ∷ []), r.few, ne);
-      once = λ a. omega (arith, count_push a es (request_entry n imprint), r.once a) }
+    are = are_push here (suc n) es (request_entry n imprint) (are_more here n (suc n) es (omega arith) r.are) (omega arith, refl);
+    few = let ne : length es ≡ 65536 → ⊥ = eqb-false (length es) 65536 room in omega (arith, length-append es (request_entry n imprint ∷ []), r.few, ne);
+    once = λ a. omega (arith, count_push a es (request_entry n imprint), r.once a);
+  }
 
   -- LEVELS AND RESPONSES
 
@@ -177,7 +179,7 @@ module _ (plan : PlanState) where
     of_low here n (origins.Request number) item r = omega (arith, r.1, depth_most plan here)
     of_low here n (origins.Aggregator from) item r = omega (arith, r.2, depth_child plan is from r.0, ap (depth_of plan) r.1)
 
-    are_low : (here : Actor) (n : ℕ) (es : List Entry) → AreOf plan here n es → (i : ℕ) → (item_at (items_of es) i).level ≤ 144 - 16 * suc (depth_of plan here)
+    pub are_low : (here : Actor) (n : ℕ) (es : List Entry) → AreOf plan here n es → (i : ℕ) → (item_at (items_of es) i).level ≤ 144 - 16 * suc (depth_of plan here)
     are_low here n [] r zero = omega arith
     are_low here n [] r (suc i) = omega arith
     are_low here n (e ∷ es) r zero = omega (arith, of_low here n e.origin e.item r.0)

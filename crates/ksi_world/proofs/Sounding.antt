@@ -51,13 +51,14 @@ module _ (image : List ℕ → List ℕ) (plan : PlanState) (is : IsPlan plan) (
 
   core_sound : (w : WorldState) (j t : ℕ) (turn : Turn) → j < plan.cores → InRange plan t → IsSecond j (length w.requests) turn.after → FineSends plan j turn.sends → IsSound plan w → IsSound plan (at_core w j t turn).world
   core_sound w j t turn lt range second fine sound = record {
-      small = λ i u i_lt. cond_both (eqb i j && eqb u t) turn.after (w.seconds i u) (λ s. IsSmall s.vote) (λ _. second.small) (λ _. sound.small i u i_lt);
-      open_items = λ i u. cond_both (eqb i j && eqb u t) turn.after (w.seconds i u) (λ s. AreOf plan (actors.Core i) (length w.requests) s.open_items)
+    small = λ i u i_lt. cond_both (eqb i j && eqb u t) turn.after (w.seconds i u) (λ s. IsSmall s.vote) (λ _. second.small) (λ _. sound.small i u i_lt);
+    open_items = λ i u. cond_both (eqb i j && eqb u t) turn.after (w.seconds i u) (λ s. AreOf plan (actors.Core i) (length w.requests) s.open_items)
         (λ here. subst (λ i. AreOf plan (actors.Core i) (length w.requests) turn.after.open_items) (sym (same i u here)) second.open_items) (λ _. sound.open_items i u);
-      sealed = λ i u. cond_both (eqb i j && eqb u t) turn.after (w.seconds i u) (λ s. (entries : List Entry) → s.sealed ≡ Some entries → AreOf plan (actors.Core i) (length w.requests) entries)
+    sealed = λ i u. cond_both (eqb i j && eqb u t) turn.after (w.seconds i u) (λ s. (entries : List Entry) → s.sealed ≡ Some entries → AreOf plan (actors.Core i) (length w.requests) entries)
         (λ here. subst (λ i. (entries : List Entry) → turn.after.sealed ≡ Some entries → AreOf plan (actors.Core i) (length w.requests) entries) (sym (same i u here)) second.sealed) (λ _. sound.sealed i u);
-      rounds = sound.rounds;
-      wire = both_posts plan w.wire (map (core_message j t) turn.sends) sound.wire (core_posts plan j t turn.sends lt range fine) }
+    rounds = sound.rounds;
+    wire = both_posts plan w.wire (map (core_message j t) turn.sends) sound.wire (core_posts plan j t turn.sends lt range fine);
+  }
     where
       same : (i u : ℕ) → (eqb i j && eqb u t) ≡ true → i ≡ j
       same i u here = eqb-true i j (and_parts (eqb i j) (eqb u t) here).0
@@ -130,25 +131,27 @@ module _ (image : List ℕ → List ℕ) (plan : PlanState) (is : IsPlan plan) (
       by (Some entries) at (Some missing) root = still_sound w j t (answers.Undecided missing) lt range sound
       by (Some entries) at None None = still_sound w j t (answers.Undecided t) lt range sound
       by (Some entries) at None (Some root) = cond_both (is_mine image entries root) _ _ (λ turn. IsSound plan (at_core w j t turn).world)
-        (λ _. core_sound w j t (responded image held plan.start t entries root s) lt range old (core_responses plan is j (length w.requests) 0 (above_item image (held_seconds held plan.start t) t root (items_of entries)) entries (λ i. omega arith) (old.sealed entries at)) sound)
-        (λ _. still_sound w j t answers.NotMine lt range sound)
+          (λ _. core_sound w j t (responded image held plan.start t entries root s) lt range old (core_responses plan is j (length w.requests) 0 (above_item image (held_seconds held plan.start t) t root (items_of entries)) entries (λ i. omega arith) (old.sealed entries at)) sound)
+          (λ _. still_sound w j t answers.NotMine lt range sound)
 
   -- A TURN OF AN AGGREGATOR
 
   round_sound : (w : WorldState) (requests : List Asked) (k t : ℕ) (turn : RoundTurn) → length w.requests ≤ length requests → k < length plan.parents → InRange plan t →
       IsRoundState plan k (length requests) turn.after → FineOuts plan k turn.sends → IsSound plan w → IsSound plan (record (at_round plan w k t turn).world { requests = requests })
   round_sound w requests k t turn le lt range round fine sound = record {
-      small = sound.small;
-      open_items = λ j u. are_more plan (actors.Core j) (length w.requests) (length requests) (w.seconds j u).open_items le (sound.open_items j u);
-      sealed = λ j u entries at. are_more plan (actors.Core j) (length w.requests) (length requests) entries le (sound.sealed j u entries at);
-      rounds = λ i u. cond_both (eqb i k && eqb u t) turn.after (w.rounds i u) (λ r. IsRoundState plan i (length requests) r)
+    small = sound.small;
+    open_items = λ j u. are_more plan (actors.Core j) (length w.requests) (length requests) (w.seconds j u).open_items le (sound.open_items j u);
+    sealed = λ j u entries at. are_more plan (actors.Core j) (length w.requests) (length requests) entries le (sound.sealed j u entries at);
+    rounds = λ i u. cond_both (eqb i k && eqb u t) turn.after (w.rounds i u) (λ r. IsRoundState plan i (length requests) r)
         (λ here. subst (λ i. IsRoundState plan i (length requests) turn.after) (sym (eqb-true i k (and_parts (eqb i k) (eqb u t) here).0)) round) (λ _. state_more i u);
-      wire = both_posts plan w.wire (map (round_message plan k t) turn.sends) sound.wire (round_posts plan k t turn.sends lt range fine) }
+    wire = both_posts plan w.wire (map (round_message plan k t) turn.sends) sound.wire (round_posts plan k t turn.sends lt range fine);
+  }
     where
       state_more : (i u : ℕ) → IsRoundState plan i (length requests) (w.rounds i u)
       state_more i u = let r = sound.rounds i u in record {
         open_items = round_more plan (actors.Aggregator i) (length w.requests) (length requests) (w.rounds i u).open_items le r.open_items;
-        closed = λ entries at. round_more plan (actors.Aggregator i) (length w.requests) (length requests) entries le (r.closed entries at) }
+        closed = λ entries at. round_more plan (actors.Aggregator i) (length w.requests) (length requests) entries le (r.closed entries at);
+      }
 
   -- a turn that accepts no request
   plain_sound : (w : WorldState) (k t : ℕ) (turn : RoundTurn) → k < length plan.parents → InRange plan t → IsRoundState plan k (length w.requests) turn.after → FineOuts plan k turn.sends → IsSound plan w → IsSound plan (at_round plan w k t turn).world
@@ -163,8 +166,9 @@ module _ (image : List ℕ → List ℕ) (plan : PlanState) (is : IsPlan plan) (
   request_sound w k t imprint lt range sound = cond_both (is_some r.closed) _ _ (λ turn. Goes turn) (λ _. stays_sound w k t answers.Late lt range sound)
       (λ _. cond_both (is_full r.open_items) _ _ (λ turn. Goes turn) (λ _. stays_sound w k t answers.Full lt range sound)
       (λ room. round_sound w (w.requests ++ asked ∷ []) k t (round_added r (request_entry (length w.requests) imprint) (answers.Number (length w.requests))) (omega (arith, more)) lt range (record {
-          open_items = subst (λ n. IsRoundAt plan (actors.Aggregator k) n (r.open_items ++ request_entry (length w.requests) imprint ∷ [])) (sym more) (request_push plan (actors.Aggregator k) (length w.requests) r.open_items imprint old.open_items room);
-          closed = λ entries at. round_more plan (actors.Aggregator k) (length w.requests) (length (w.requests ++ asked ∷ [])) entries (omega (arith, more)) (old.closed entries at) }) tt sound))
+        open_items = subst (λ n. IsRoundAt plan (actors.Aggregator k) n (r.open_items ++ request_entry (length w.requests) imprint ∷ [])) (sym more) (request_push plan (actors.Aggregator k) (length w.requests) r.open_items imprint old.open_items room);
+        closed = λ entries at. round_more plan (actors.Aggregator k) (length w.requests) (length (w.requests ++ asked ∷ [])) entries (omega (arith, more)) (old.closed entries at);
+      }) tt sound))
     where
       r : RoundState
       r = w.rounds k t
@@ -198,7 +202,7 @@ module _ (image : List ℕ → List ℕ) (plan : PlanState) (is : IsPlan plan) (
       let old = sound.rounds k t in
       cond_both (is_some r.closed) _ _ (λ turn. IsSound plan (at_round plan w k t turn).world) (λ _. stays_sound w k t answers.Closed lt range sound)
       (λ _. plain_sound w k t (closed_now image r) lt range (record { open_items = no_round plan (actors.Aggregator k) (length w.requests); closed = λ entries at. let same : r.open_items ≡ entries = cc at in subst (λ es. IsRoundAt plan (actors.Aggregator k) (length w.requests) es) same old.open_items })
-        (sends r.open_items old.open_items) sound)
+      (sends r.open_items old.open_items) sound)
     where
       sends : (es : List Entry) → IsRoundAt plan (actors.Aggregator k) (length w.requests) es → FineOuts plan k (submission_of image es)
       sends [] round = tt
@@ -251,24 +255,31 @@ module _ (image : List ℕ → List ℕ) (plan : PlanState) (is : IsPlan plan) (
   happens_sound w (events.Respond j t) at sound = respond_sound w j t (held_in w j) at.0 at.1 sound
   happens_sound w (events.Publish j p) at sound = record { small = sound.small; open_items = sound.open_items; sealed = sound.sealed; rounds = sound.rounds; wire = sound.wire }
   happens_sound w (events.RestartCore j) at sound = record {
-      small = λ i u lt. cond_both (eqb i j) (restart_row (w.seconds i u)) (w.seconds i u) (λ s. IsSmall s.vote) (λ _. as_small (w.seconds i u).vote (sound.small i u lt) (restarted (w.seconds i u).vote) refl refl refl) (λ _. sound.small i u lt);
-      open_items = λ i u. cond_both (eqb i j) (restart_row (w.seconds i u)) (w.seconds i u) (λ s. AreOf plan (actors.Core i) (length w.requests) s.open_items) (λ _. tt) (λ _. sound.open_items i u);
-      sealed = λ i u. cond_both (eqb i j) (restart_row (w.seconds i u)) (w.seconds i u) (λ s. (entries : List Entry) → s.sealed ≡ Some entries → AreOf plan (actors.Core i) (length w.requests) entries) (λ _. sound.sealed i u) (λ _. sound.sealed i u);
-      rounds = sound.rounds; wire = sound.wire }
+    small = λ i u lt. cond_both (eqb i j) (restart_row (w.seconds i u)) (w.seconds i u) (λ s. IsSmall s.vote) (λ _. as_small (w.seconds i u).vote (sound.small i u lt) (restarted (w.seconds i u).vote) refl refl refl) (λ _. sound.small i u lt);
+    open_items = λ i u. cond_both (eqb i j) (restart_row (w.seconds i u)) (w.seconds i u) (λ s. AreOf plan (actors.Core i) (length w.requests) s.open_items) (λ _. tt) (λ _. sound.open_items i u);
+    sealed = λ i u. cond_both (eqb i j) (restart_row (w.seconds i u)) (w.seconds i u) (λ s. (entries : List Entry) → s.sealed ≡ Some entries → AreOf plan (actors.Core i) (length w.requests) entries) (λ _. sound.sealed i u) (λ _. sound.sealed i u);
+    rounds = sound.rounds;
+    wire = sound.wire;
+  }
   happens_sound w (events.RestartAggregator k) at sound = record {
-      small = sound.small; open_items = sound.open_items; sealed = sound.sealed; wire = sound.wire;
-      rounds = λ i u. cond_both (eqb i k) (round_restarted (w.rounds i u)) (w.rounds i u) (λ r. IsRoundState plan i (length w.requests) r)
-        (λ _. restarted_round i u) (λ _. sound.rounds i u) }
+    small = sound.small;
+    open_items = sound.open_items;
+    sealed = sound.sealed;
+    wire = sound.wire;
+    rounds = λ i u. cond_both (eqb i k) (round_restarted (w.rounds i u)) (w.rounds i u) (λ r. IsRoundState plan i (length w.requests) r)
+        (λ _. restarted_round i u) (λ _. sound.rounds i u);
+  }
     where
       restarted_round : (i u : ℕ) → IsRoundState plan i (length w.requests) (round_restarted (w.rounds i u))
       restarted_round i u = cond_both (is_some (w.rounds i u).closed) (w.rounds i u) fresh_round (λ r. IsRoundState plan i (length w.requests) r)
-        (λ _. sound.rounds i u) (λ _. record { open_items = no_round plan (actors.Aggregator i) (length w.requests); closed = λ entries at. absurd (cc at) })
+          (λ _. sound.rounds i u) (λ _. record { open_items = no_round plan (actors.Aggregator i) (length w.requests); closed = λ entries at. absurd (cc at) })
 
 pub first_sound : (plan : PlanState) → IsPlan plan → IsSound plan (first_world plan)
 unfolding first_world fresh_second fresh_vote
 first_sound plan is = record {
-    small = λ j t lt. record { tried = lit< tt; promised = lit< tt; me = omega (arith, is.few, lt) };
-    open_items = λ j t. tt;
-    sealed = λ j t entries at. absurd (cc at);
-    rounds = λ k t. record { open_items = no_round plan (actors.Aggregator k) 0; closed = λ entries at. absurd (cc at) };
-    wire = λ number m at. absurd (cc at) }
+  small = λ j t lt. record { tried = lit< tt; promised = lit< tt; me = omega (arith, is.few, lt) };
+  open_items = λ j t. tt;
+  sealed = λ j t entries at. absurd (cc at);
+  rounds = λ k t. record { open_items = no_round plan (actors.Aggregator k) 0; closed = λ entries at. absurd (cc at) };
+  wire = λ number m at. absurd (cc at);
+}

@@ -68,10 +68,12 @@ module _ (plan : PlanState) where
   flag_more : (m : ℕ) (o : Origin) → flag_below (suc m) o ≤ flag_below m o + flag_of m o
   flag_more m (origins.Request number) = omega arith
   flag_more m (origins.Aggregator from) = let one : ℕ = 1 in elim (cases_lt from m) [
-      inl lt ↦ omega (arith, cond-true (ltb from m) one 0 (lt-ltb from m lt), cond-true (ltb from (suc m)) one 0 (lt-ltb from (suc m) (omega (arith, lt))))
+    | inl lt ↦ omega (arith, cond-true (ltb from m) one 0 (lt-ltb from m lt), cond-true (ltb from (suc m)) one 0 (lt-ltb from (suc m) (omega (arith, lt))))
     | inr le ↦ elim (cases_eq from m) [
-        inl same ↦ omega (arith, cond-true (eqb from m) one 0 (eq-eqb from m same), cond-true (ltb from (suc m)) one 0 (lt-ltb from (suc m) (omega (arith, same))))
-      | inr other ↦ omega (arith, cond-false (ltb from (suc m)) one 0 (le-ltb from (suc m) (omega (arith, le, other)))) ] ]
+      | inl same ↦ omega (arith, cond-true (eqb from m) one 0 (eq-eqb from m same), cond-true (ltb from (suc m)) one 0 (lt-ltb from (suc m) (omega (arith, same))))
+      | inr other ↦ omega (arith, cond-false (ltb from (suc m)) one 0 (le-ltb from (suc m) (omega (arith, le, other))))
+    ]
+  ]
 
   count_more : (m : ℕ) (es : List Entry) → count_below (suc m) es ≤ count_below m es + count_from m es
   count_more m [] = omega arith
@@ -98,7 +100,7 @@ module _ (plan : PlanState) where
       by (Some []) at answered = omega arith
       by (Some (e ∷ es)) at (Some first) = omega arith
       by (Some (e ∷ es)) at None = let round = is.closed (e ∷ es) at in
-        omega (arith, count_lower image (actors.Aggregator k) n 0 above (items_of (e ∷ es)) (e ∷ es) round.are, few_below (length plan.parents) (e ∷ es) round.once)
+          omega (arith, count_lower image (actors.Aggregator k) n 0 above (items_of (e ∷ es)) (e ∷ es) round.are, few_below (length plan.parents) (e ∷ es) round.once)
 
   module _ (is : IsPlan plan) where
     lower_depth : (here : Actor) (n : ℕ) (es : List Entry) → AreOf plan here n es → has_lower es ≡ true → suc (depth_of plan here) ≤ 8
@@ -113,6 +115,7 @@ module _ (plan : PlanState) where
     can_take image w aggregators k t above sound are few a at =
         let r = w.rounds k t in
         let state = sound.rounds k t in
-        subst (λ r. HasPlace r above × (length (round_response image above r).sends ≤ length plan.parents)) (sym ((are.each k a at).keeps t))
-          ((λ lower. omega (arith, few, lower_depth (actors.Aggregator k) (length w.requests) (items_in r) (round_in k (length w.requests) r state).are lower)),
-           few_responses image k (length w.requests) above r state)
+        subst (λ r. HasPlace r above × (length (round_response image above r).sends ≤ length plan.parents)) (sym ((are.each k a at).keeps t)) (
+          (λ lower. omega (arith, few, lower_depth (actors.Aggregator k) (length w.requests) (items_in r) (round_in k (length w.requests) r state).are lower)),
+          few_responses image k (length w.requests) above r state,
+        )

@@ -54,44 +54,34 @@ pub core_turned : (row : CoreState → Turn) (j t : ℕ) (cores : List CoreState
     slice_get cores j ≡ Some old → IsTurn old new t (row old) step → wire' ≡ wire ++ map (core_message j t) step.sends → outcome ≡ outcome_of step.answer (length step.sends) →
     CoreStep row j t cores (set cores j new) wire wire' outcome
 core_turned row j t cores wire wire' old new step outcome at is posted told = record {
-    old = old; new = new; at = at; after = refl; me = is.me; members = is.members; start = is.start; seconds = is.seconds;
-    posted = posted ∙ ap (λ sends. wire ++ map (core_message j t) sends) is.sends;
-    told = told ∙ ap (λ answer. outcome_of answer (length step.sends)) is.answer ∙ ap (λ sends. outcome_of (row old).answer (length sends)) is.sends }
+  old = old;
+  new = new;
+  at = at;
+  after = refl;
+  me = is.me;
+  members = is.members;
+  start = is.start;
+  seconds = is.seconds;
+  posted = posted ∙ ap (λ sends. wire ++ map (core_message j t) sends) is.sends;
+  told = told ∙ ap (λ answer. outcome_of answer (length step.sends)) is.answer ∙ ap (λ sends. outcome_of (row old).answer (length sends)) is.sends;
+}
 
 pub core_same : (plan : PlanState) (seconds : ℕ → SecondState) (j : ℕ) (old new : CoreState) → IsSame old new → IsCore plan seconds j old → IsCore plan seconds j new
 core_same plan seconds j old new same is = record {
-    me = same.me ∙ is.me; members = same.members ∙ is.members; start = same.start ∙ is.start; keeps = λ t. same.seconds t ∙ is.keeps t }
+  me = same.me ∙ is.me;
+  members = same.members ∙ is.members;
+  start = same.start ∙ is.start;
+  keeps = λ t. same.seconds t ∙ is.keeps t;
+}
 
 pub cores_stay : (cores : List CoreState) (j : ℕ) (old new : CoreState) → slice_get cores j ≡ Some old → IsSame old new → CoresStay cores (set cores j new)
 cores_stay cores j old new at same plan seconds r = record {
-    many = length-set cores j new ∙ r.many;
-    each = λ k c here. elim (get_set cores j k new c here) [
-        inl is ↦ subst (λ c. IsCore plan (seconds k) k c) (sym is.1) (subst (λ k. IsCore plan (seconds k) k new) (sym is.0) (core_same plan (seconds j) j old new same (r.each j old at)))
-      | inr other ↦ r.each k c other.1 ] }
-
--- a core that responds stays as it is
-respond_stays : (image : List ℕ → List ℕ) (held : Held) (start second : ℕ) (s : SecondState) → (respond_row image held start second s).after ≡ s
-unfolding respond_row
-respond_stays image held start second s = by s.sealed (first_missing held start second) (held second)
-  where
-    by : (sealed : Option (List Entry)) (missing : Option ℕ) (root : Option (List ℕ)) → (respond_where image held start second sealed missing root s).after ≡ s
-    by None missing root = refl
-    by (Some entries) (Some missing) root = refl
-    by (Some entries) None None = refl
-    by (Some entries) None (Some root) = cond_both (is_mine image entries root) _ _ (λ (turn : Turn). turn.after ≡ s) (λ _. refl) (λ _. refl)
-
--- what it answers and sends is a turn
-pub responds : (image : List ℕ → List ℕ) (t : ℕ) (old new : CoreState) (step : core_turn.Step) → new ≡ old →
-    step.answer ≡ (respond_row image (held_by old) old.start t (second_at old t)).answer → step.sends ≡ (respond_row image (held_by old) old.start t (second_at old t)).sends →
-    IsTurn old new t (respond_row image (held_by old) old.start t (second_at old t)) step
-responds image t old new step same answer sends = record {
-    me = ap (λ (c : CoreState). c.me) same; members = ap (λ (c : CoreState). c.members) same; start = ap (λ (c : CoreState). c.start) same;
-    seconds = λ u. ap (λ (c : CoreState). second_at c u) same ∙ here u (eqb u t) refl;
-    answer = answer; sends = sends }
-  where
-    here : (u : ℕ) (b : Bool) → eqb u t ≡ b → second_at old u ≡ cond b (respond_row image (held_by old) old.start t (second_at old t)).after (second_at old u)
-    here u true is = ap (second_at old) (eqb-true u t is) ∙ sym (respond_stays image (held_by old) old.start t (second_at old t))
-    here u false is = refl
+  many = length-set cores j new ∙ r.many;
+  each = λ k c here. elim (get_set cores j k new c here) [
+    | inl is ↦ subst (λ c. IsCore plan (seconds k) k c) (sym is.1) (subst (λ k. IsCore plan (seconds k) k new) (sym is.0) (core_same plan (seconds j) j old new same (r.each j old at)))
+    | inr other ↦ r.each k c other.1
+  ];
+}
 
 -- AT MOST SO MANY SENDS AS THERE ARE CORES
 
@@ -135,15 +125,20 @@ none_submitted from item s = cond_both (is_some s.sealed) _ _ (λ (turn : Turn).
 pub cores_turned : (plan : PlanState) (seconds : ℕ → ℕ → SecondState) (row : CoreState → Turn) (j t : ℕ) (cores cores' : List CoreState) (wire wire' : List Message) (outcome : Outcome) (turn : Turn) →
     (step : CoreStep row j t cores cores' wire wire' outcome) → row step.old ≡ turn → AreCores plan seconds cores → AreCores plan (put_at seconds j t turn.after) cores'
 cores_turned plan seconds row j t cores cores' wire wire' outcome turn step same r = subst (λ xs. AreCores plan (put_at seconds j t turn.after) xs) (sym step.after) (record {
-    many = length-set cores j step.new ∙ r.many;
-    each = λ k c here. elim (get_set cores j k step.new c here) [
-        inl is ↦ subst (λ c. IsCore plan (put_at seconds j t turn.after k) k c) (sym is.1) (subst (λ k. IsCore plan (put_at seconds j t turn.after k) k step.new) (sym is.0) new_core)
-      | inr other ↦ let is = r.each k c other.1 in record { me = is.me; members = is.members; start = is.start; keeps = λ u. is.keeps u ∙ put_other seconds j t turn.after k u other.0 } ] })
+  many = length-set cores j step.new ∙ r.many;
+  each = λ k c here. elim (get_set cores j k step.new c here) [
+    | inl is ↦ subst (λ c. IsCore plan (put_at seconds j t turn.after k) k c) (sym is.1) (subst (λ k. IsCore plan (put_at seconds j t turn.after k) k step.new) (sym is.0) new_core)
+    | inr other ↦ let is = r.each k c other.1 in record { me = is.me; members = is.members; start = is.start; keeps = λ u. is.keeps u ∙ put_other seconds j t turn.after k u other.0 }
+  ];
+})
   where
     old_core : IsCore plan (seconds j) j step.old
     old_core = r.each j step.old step.at
 
     new_core : IsCore plan (put_at seconds j t turn.after j) j step.new
     new_core = record {
-      me = step.me ∙ old_core.me; members = step.members ∙ old_core.members; start = step.start ∙ old_core.start;
-      keeps = λ u. step.seconds u ∙ ap (λ (z : Turn). cond (eqb u t) z.after (second_at step.old u)) same ∙ ap (λ s. cond (eqb u t) turn.after s) (old_core.keeps u) ∙ put_here seconds j t turn.after u }
+      me = step.me ∙ old_core.me;
+      members = step.members ∙ old_core.members;
+      start = step.start ∙ old_core.start;
+      keeps = λ u. step.seconds u ∙ ap (λ (z : Turn). cond (eqb u t) z.after (second_at step.old u)) same ∙ ap (λ s. cond (eqb u t) turn.after s) (old_core.keeps u) ∙ put_here seconds j t turn.after u;
+    }

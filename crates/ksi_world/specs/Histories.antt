@@ -73,13 +73,15 @@ unchanged w answer = record { world = w; outcome = outcome_of answer 0 }
 abbrev pub at_core : WorldState → (core second : ℕ) → Turn → Happening
 at_core w j t turn = record {
   world = record w { seconds = put_at w.seconds j t turn.after; wire = w.wire ++ map (core_message j t) turn.sends };
-  outcome = outcome_of turn.answer (length turn.sends) }
+  outcome = outcome_of turn.answer (length turn.sends);
+}
 
 -- a turn of an aggregator's round
 abbrev pub at_round : PlanState → WorldState → (aggregator second : ℕ) → RoundTurn → Happening
 at_round plan w k t turn = record {
   world = record w { rounds = put_at w.rounds k t turn.after; wire = w.wire ++ map (round_message plan k t) turn.sends };
-  outcome = outcome_of turn.answer (length turn.sends) }
+  outcome = outcome_of turn.answer (length turn.sends);
+}
 
 -- a request that got a number is accepted
 abbrev pub asked_with : List Asked → Asked → Answer → List Asked
@@ -112,12 +114,14 @@ publish_happens w p answer = record { world = record w { published = published_w
 abbrev pub core_restarts : WorldState → (core : ℕ) → Happening
 core_restarts w core = record {
   world = record w { seconds = λ j t. if j == core then restart_row (w.seconds j t) else w.seconds j t };
-  outcome = outcome_of answers.Done 0 }
+  outcome = outcome_of answers.Done 0;
+}
 
 abbrev pub aggregator_restarts : WorldState → (aggregator : ℕ) → Happening
 aggregator_restarts w aggregator = record {
   world = record w { rounds = λ k t. if k == aggregator then round_restarted (w.rounds k t) else w.rounds k t };
-  outcome = outcome_of answers.Done 0 }
+  outcome = outcome_of answers.Done 0;
+}
 
 -- the world before anything happened
 unfoldable pub first_world : PlanState → WorldState

@@ -4,3 +4,6 @@ pub mod Sound
 pub mod Nodes
 pub mod Letters
 pub mod Places
+pub mod Deciding
+pub mod Validity
+pub mod Keeping

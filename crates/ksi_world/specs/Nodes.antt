@@ -16,7 +16,7 @@ use Rattle.ksi_world.specs.declared.message.Content.TheVariants as contents
 use Rattle.ksi_schedule.specs.declared.actor.Actor.{Actor}
 use Rattle.ksi_schedule.specs.Plans.{PlanState, IsPlan, InRange}
 use Rattle.ksi_world.specs.Histories.{WorldState, core_message, round_message, outcome_of, taken, happens, after}
-use Rattle.ksi_schedule.specs.Events.{IsEvent}
+use Rattle.ksi_schedule.specs.Events.{IsEvent, AreEvents}
 use Rattle.ksi_world.specs.Sound.{IsSent, IsSound}
 
 -- all nodes, the wire, the accepted requests and what was published
@@ -175,5 +175,6 @@ StoodStill plan nodes nodes' = (w : WorldState) → Fits plan w nodes → Fits p
 -- a plan and its nodes after these events
 pub record IsWorld (image : List ℕ → List ℕ) (plan : PlanState) (events : List Event) (nodes : NodesState) : Type 0 where
   pub plan_is : IsPlan plan
+  pub are : AreEvents plan events
   pub sound : IsSound plan (after image plan events)
   pub fits : Fits plan (after image plan events) nodes

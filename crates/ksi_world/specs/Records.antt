@@ -8,6 +8,7 @@ use Rattle.ksi_aggtree.specs.Entries.{items_of, candidate_of}
 use Rattle.ksi_corenode.specs.Held.{Held}
 use Rattle.ksi_aggregator.specs.Issuing.{IsIssued, NotIssued}
 use Rattle.ksi_schedule.specs.Plans.{PlanState}
+use Rattle.ksi_world.specs.declared.kept.KeptSecond.{KeptSecond}
 use Rattle.ksi_world.specs.declared.outcome.Asked.{Asked}
 use Rattle.ksi_world.specs.Histories.{WorldState, held_in}
 
@@ -26,15 +27,17 @@ lowest of_core core (suc n) = or_else (of_core core) (lowest of_core (suc core) 
 abbrev pub kept_root : PlanState → WorldState → Held
 kept_root plan w t = lowest (λ core. held_in w core t) 0 plan.cores
 
--- a decided second: its root, and the items of its tree
-pub record KeptState : Type 0 where
-  pub second : ℕ
-  pub root : List ℕ
-  pub items : List Item
-
-abbrev pub kept_before : Option KeptState → List KeptState → List KeptState
+abbrev pub kept_before : Option KeptSecond → List KeptSecond → List KeptSecond
 kept_before None later = later
 kept_before (Some kept) later = kept ∷ later
+
+-- of n seconds from this one on those that are kept, rising
+abbrev pub kept_among : (ℕ → Option KeptSecond) → (second n : ℕ) → List KeptSecond
+kept_among kept t zero = []
+kept_among kept t (suc n) = kept_before (kept t) (kept_among kept (suc t) n)
+
+abbrev pub kept_with : (second : ℕ) → (root : List ℕ) → (items : List Item) → KeptSecond
+kept_with t root items = record { second = t; root = root; items = items }
 
 module _ (image : List ℕ → List ℕ) where
   -- the sealed items, where their imprint is the root
@@ -46,17 +49,13 @@ module _ (image : List ℕ → List ℕ) where
   abbrev pub kept_items : PlanState → WorldState → (second : ℕ) → (root : List ℕ) → List Item
   kept_items plan w t root = if bytes_eq root zero_imprint then [] else unwrap_or (lowest (λ core. sealed_as root (w.seconds core t).sealed) 0 plan.cores) []
 
-  abbrev pub kept_at : PlanState → WorldState → (second : ℕ) → Option KeptState
-  kept_at plan w t = option_map (λ root. record { second = t; root = root; items = kept_items plan w t root }) (kept_root plan w t)
-
-  -- the decided ones of n seconds from this one on, rising
-  abbrev pub kept_among : PlanState → WorldState → (second n : ℕ) → List KeptState
-  kept_among plan w t zero = []
-  kept_among plan w t (suc n) = kept_before (kept_at plan w t) (kept_among plan w (suc t) n)
+  -- a decided second: its root, and the items of its tree
+  abbrev pub kept_at : PlanState → WorldState → (second : ℕ) → Option KeptSecond
+  kept_at plan w t = option_map (λ root. kept_with t root (kept_items plan w t root)) (kept_root plan w t)
 
   -- all decided seconds, rising
-  unfoldable pub kept_seconds : PlanState → WorldState → List KeptState
-  kept_seconds plan w = kept_among plan w plan.start (2 ^ 24)
+  unfoldable pub kept_seconds : PlanState → WorldState → List KeptSecond
+  kept_seconds plan w = kept_among (kept_at plan w) plan.start (2 ^ 24)
 
   -- ISSUED SIGNATURES
 

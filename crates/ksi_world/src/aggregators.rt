@@ -6,13 +6,13 @@ ghost use Rattle.ksi_world.specs.declared.message.Message.{Message};
 ghost use Rattle.ksi_schedule.specs.Plans.{PlanState};
 ghost use Rattle.ksi_world.specs.Nodes.{AreAggregators, EachAggregator, CanTake, response_row, RoundMove, RoundStep, RoundRestart, AggregatorsStay};
 
-use crate::outcome::Outcome;
 use crate::message::{Content, Message};
-use ksi_schedule::Plan;
+use crate::outcome::Outcome;
 use crate::posting::post_round;
 use ksi_aggchain::Item;
 use ksi_aggregator::{Aggregator, NoMemory, Step};
 use ksi_imprint::{Compress, Imprint};
+use ksi_schedule::Plan;
 use std::alloc::Global;
 
 /// The aggregators of a plan before anything came.

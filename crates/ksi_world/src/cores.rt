@@ -6,13 +6,13 @@ ghost use Rattle.ksi_corenode.specs.SecondState.{fresh_second};
 ghost use Rattle.ksi_corenode.specs.CoreState.{CoreState, second_at, held_by};
 ghost use Rattle.ksi_world.specs.Nodes.{AreCores, EachCore, CoreStep, CoreRestart, CoresStay};
 
-use crate::outcome::Outcome;
 use crate::message::Message;
-use ksi_schedule::Plan;
+use crate::outcome::Outcome;
 use crate::posting::post_core;
 use ksi_aggchain::Item;
 use ksi_corenode::{Answer, Core, NoMemory};
 use ksi_imprint::Compress;
+use ksi_schedule::Plan;
 use ksi_synod::SynodMessage;
 use std::alloc::Global;
 

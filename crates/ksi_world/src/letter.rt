@@ -2,9 +2,9 @@
 ghost use Rattle.std.specs.Prelude.{◌≡◌};
 ghost use Rattle.ksi_world.specs.Letters.{letter_of, vote_of, item_of};
 
-use ksi_schedule::Actor;
 use crate::message::{Content, Message};
 use ksi_aggchain::Item;
+use ksi_schedule::Actor;
 use ksi_synod::SynodMessage;
 
 /// A message without what it carries of chains.

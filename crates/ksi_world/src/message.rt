@@ -1,5 +1,5 @@
-use ksi_schedule::Actor;
 use ksi_aggchain::Item;
+use ksi_schedule::Actor;
 use ksi_signature::Above;
 use ksi_synod::SynodMessage;
 

@@ -5,21 +5,20 @@ ghost use Rattle.ksi_signature.specs.declared.above.Above.{Above};
 ghost use Rattle.ksi_world.specs.declared.message.Message.{Message};
 ghost use Rattle.ksi_schedule.specs.Plans.{PlanState};
 ghost use Rattle.ksi_world.specs.Histories.{asked_with, outcome_of, first_world};
+ghost use Rattle.ksi_world.specs.Keeping.{AreListed};
 ghost use Rattle.ksi_world.specs.Nodes.{Fits, IsReady, IsTaken, Happened, WasTaken, StoodStill};
 
-use ksi_schedule::Actor;
-use crate::aggregators;
-use crate::cores;
-use crate::outcome::{Asked, Outcome};
-use ksi_schedule::Event;
+use crate::kept::{KeptSecond, kept_seconds};
 use crate::letter::{Letter, letter_of};
 use crate::message::{Content, Message};
-use ksi_schedule::Plan;
+use crate::outcome::{Asked, Outcome};
 use crate::published::put_answer;
+use crate::{aggregators, cores};
 use ksi_aggchain::Item;
 use ksi_aggregator::Aggregator;
 use ksi_corenode::Core;
 use ksi_imprint::{Compress, Imprint, NoMemory};
+use ksi_schedule::{Actor, Event, Plan};
 use ksi_signature::{Above, Answer};
 use ksi_synod::SynodMessage;
 use std::alloc::Global;
@@ -313,6 +312,28 @@ impl<C: Compress> Nodes<C> {
         ensures { slice_get self.now.cores core ≡ Some result.now }
     {
         &self.cores[core as usize]
+    }
+
+    /// An aggregator that is there.
+    pub fn aggregator(&self, aggregator: u32) -> &Aggregator<C>
+        requires { aggregator < length self.now.aggregators }
+        ensures { slice_get self.now.aggregators aggregator ≡ Some result.now }
+    {
+        &self.aggregators[aggregator as usize]
+    }
+
+    /// The accepted request of a number.
+    pub fn asked(&self, number: u64) -> Option<&Asked>
+        ensures { option_copied result ≡ slice_get self.now.requests number }
+    {
+        self.requests.get(number as usize)
+    }
+
+    /// The decided seconds, rising.
+    pub fn kept(&self, alloc: Global) -> Result<Vec<KeptSecond>, NoMemory>
+        ensures { IfOk result (λ kept. AreListed C.image self.now.cores self.now.wire kept.items) }
+    {
+        kept_seconds(alloc, &self.cores, &self.wire)
     }
 
     /// The nodes of a plan before anything happened.

@@ -2,10 +2,9 @@
 ghost use Rattle.std.specs.Prelude.{◌≡◌, ◌≤◌, ◌<◌, ◌+◌, ◌++◌, ◌∷◌, [], map, length, vec_len, vec_capacity};
 ghost use Rattle.ksi_world.specs.Histories.{core_message, round_message, outcome_of};
 
-use ksi_schedule::Actor;
-use crate::outcome::Outcome;
 use crate::message::{Content, Message};
-use ksi_schedule::Plan;
+use crate::outcome::Outcome;
+use ksi_schedule::{Actor, Plan};
 
 /// Puts what a core sent in a second into the wire, where there is room.
 pub(crate) fn post_core(
@@ -71,12 +70,7 @@ fn core_message(core: u8, second: u64, send: ksi_corenode::Send) -> Message
 }
 
 /// The message of an aggregator's send: a submission goes to its parent.
-fn round_message(
-    plan: &Plan,
-    aggregator: u32,
-    second: u64,
-    send: ksi_aggregator::Send,
-) -> Message
+fn round_message(plan: &Plan, aggregator: u32, second: u64, send: ksi_aggregator::Send) -> Message
     requires there { aggregator < length plan.now.parents }
     ensures { result ≡ round_message plan.now aggregator second send }
 {

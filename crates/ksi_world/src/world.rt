@@ -1,22 +1,27 @@
-ghost use Rattle.std.specs.Prelude.{◌≡◌, ◌<◌, ◌++◌, ◌∷◌, [], ℕ, vec_len, vec_capacity, IfOk, OnOk, OnErr};
+ghost use Rattle.std.specs.Prelude.{◌≡◌, ◌<◌, ◌≤◌, ◌^◌, ◌++◌, ◌∷◌, [], ℕ, length, vec_len, vec_capacity, IfOk, IfSome, IfNone, OnOk, OnErr};
 ghost use Rattle.ksi_corenode.specs.CoreState.{second_at};
 ghost use Rattle.ksi_world.specs.Histories.{happens, held_in, world_of};
-ghost use Rattle.ksi_schedule.specs.Events.{with_event, IsEvent};
+ghost use Rattle.ksi_world.specs.Records.{IsIssuedOf, NotIssuedOf, kept_seconds};
+ghost use Rattle.ksi_world.specs.Validity.{AreRising, EachKept, IsKept};
+ghost use Rattle.ksi_schedule.specs.Plans.{IsPlan};
+ghost use Rattle.ksi_schedule.specs.Events.{with_event, IsEvent, AreEvents};
 
-use crate::outcome::{Asked, Outcome};
-use ksi_schedule::Event;
+use crate::kept::{Kept, kept_under};
 use crate::message::Message;
 use crate::nodes::Nodes;
-use ksi_schedule::Plan;
+use crate::outcome::{Asked, Outcome};
 use ksi_aggtree::laws::one_round;
 use ksi_corenode::Core;
-use ksi_imprint::{Compress, Imprint, NoMemory};
+use ksi_imprint::{Bytes, Compress, Imprint, NoMemory};
+use ksi_schedule::{Event, Plan};
+use ksi_synod::laws::steps_agree;
 use std::alloc::Global;
 use std::marker::Model;
 
 /// All nodes of a plan after a list of events. A contract sees the plan and the events.
 #[derive(Drop)]
 pub struct World<C: Compress> {
+    alloc: Global,
     plan: Plan,
     events: Vec<Event>,
     nodes: Nodes<C>,
@@ -44,6 +49,7 @@ impl<C: Compress> World<C> {
         let nodes = Nodes::new(alloc, plan)?;
         let plan = plan.copy(alloc)?;
         Ok(World {
+            alloc,
             plan,
             events: Vec::new(alloc),
             nodes,
@@ -68,9 +74,10 @@ impl<C: Compress> World<C> {
         Ok(outcome)
     }
 
-    /// The events so far.
+    /// The events so far, each of an actor and a second of the plan.
     pub fn events(&self) -> &[Event]
-        ensures { result.now ≡ self.now.events }
+        ensures events { result.now ≡ self.now.events }
+        ensures lawful { AreEvents self.now.plan self.now.events }
     {
         self.events.as_slice()
     }
@@ -98,7 +105,8 @@ impl<C: Compress> World<C> {
 
     /// The plan.
     pub fn plan(&self) -> &Plan
-        ensures { result.now ≡ self.now.plan }
+        ensures plan { result.now ≡ self.now.plan }
+        ensures limits { IsPlan self.now.plan }
     {
         &self.plan
     }
@@ -118,6 +126,40 @@ impl<C: Compress> World<C> {
         ensures seconds { (second : ℕ) → second_at result.now second ≡ (world_of C.image self.now).seconds core second }
     {
         self.nodes.core(core)
+    }
+
+    /// The signature of the request of this number, none exactly where no such request stands in a closed round that has
+    /// a response. It has at most 10,000 bytes.
+    ///
+    /// # Errors
+    /// `NoMemory`.
+    pub fn issued(&self, number: u64) -> Result<Option<Bytes>, NoMemory>
+        ensures some { IfOk result (λ found. IfSome found (IsIssuedOf C.image (world_of C.image self.now) number)) }
+        ensures none { IfOk result (λ found. IfNone found (NotIssuedOf (world_of C.image self.now) number)) }
+        ensures short { IfOk result (λ found. IfSome found (λ bytes. length bytes ≤ 10000)) }
+    {
+        match self.nodes.asked(number) {
+            Some(asked) => self.nodes.aggregator(asked.aggregator).issued(number),
+            None => Ok(None),
+        }
+    }
+
+    /// The decided seconds, rising from the start, all below 2^63: for each the root that the lowest core holds that holds
+    /// one, and the sealed items of the lowest core whose candidate it is. A second with the zero imprint has no items. Any
+    /// other has at least one and at most 65,536, of levels to 239, and its root is the imprint of their tree.
+    ///
+    /// # Errors
+    /// `NoMemory`.
+    pub fn kept(&self) -> Result<Kept, NoMemory>
+        ensures start { IfOk result (λ kept. kept.start ≡ self.now.plan.start) }
+        ensures seconds { IfOk result (λ kept. kept.seconds ≡ kept_seconds C.image self.now.plan (world_of C.image self.now)) }
+        ensures rising { IfOk result (λ kept. AreRising kept.start kept.seconds) }
+        ensures early { IfOk result (λ kept. EachKept (λ one. one.second < 2 ^ 63) kept.seconds) }
+        ensures trees { IfOk result (λ kept. EachKept (IsKept C.image) kept.seconds) }
+    {
+        steps_agree();
+        let seconds = self.nodes.kept(self.alloc)?;
+        Ok(kept_under(&self.plan, seconds))
     }
 }
 

@@ -8,4 +8,5 @@ use Rattle.ksi_world.proofs.aggregators.new.Given as goal
 abbrev pub invariant-adding : goal.invariant-adding
 invariant-adding g l = record {
   many : length l.aggregators.items ≡ l.me;
-  each : (k : ℕ) (aggregator : AggregatorState) → slice_get l.aggregators.items k ≡ Some aggregator → IsAggregator (λ t. fresh_round) k aggregator }
+  each : (k : ℕ) (aggregator : AggregatorState) → slice_get l.aggregators.items k ≡ Some aggregator → IsAggregator (λ t. fresh_round) k aggregator;
+}

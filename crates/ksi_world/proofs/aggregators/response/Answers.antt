@@ -27,4 +27,4 @@ returns-clause-ok g c = λ m at.
     let same : c.index.result.now ≡ m = c.index.ensures ∙ ap (λ xs. get_or xs c.args.number c.index.result.now) c.reserve.ensures.items ∙ get_or_from_slice_get c.args.wire.now.items c.args.number m c.index.result.now at in
     let move = subst (λ (m : Message). RoundMove (response_row g.C.Compress.image m.content) c.args.aggregator c.args.second c.args.aggregators.now.items c.answer.new.aggregators.items c.in_ok-step.step) same c.in_ok-step.ensures.ok in
     moved (response_row g.C.Compress.image m.content) c.args.plan.now c.args.aggregator c.args.second c.args.aggregators.now.items c.answer.new.aggregators.items c.args.wire.now.items c.post_round.new.wire.items c.in_ok-step.step c.post_round.result move
-      (c.post_round.ensures.wire ∙ ap (λ xs. xs ++ map (round_message c.args.plan.now c.args.aggregator c.args.second) c.in_ok-step.step.sends) c.reserve.ensures.items) c.post_round.ensures.outcome
+    (c.post_round.ensures.wire ∙ ap (λ xs. xs ++ map (round_message c.args.plan.now c.args.aggregator c.args.second) c.in_ok-step.step.sends) c.reserve.ensures.items) c.post_round.ensures.outcome

@@ -25,4 +25,4 @@ returns-clause-ok g c =
     let one = c.index_mut.result.now in
     let at : slice_get c.args.aggregators.now.items c.args.aggregator ≡ Some one = slice_get_read c.args.aggregators.now.items _ c.args.aggregator one refl c.requires.there c.index_mut.ensures.value in
     round_turned (round_submission c.args.from c.args.item) c.args.plan.now c.args.aggregator c.args.second c.args.aggregators.now.items c.args.wire.now.items c.post_round.new.wire.items one c.submission.new.self c.in_ok-step.step c.post_round.result at c.submission.ensures.me c.in_ok-step.ensures.step
-      c.post_round.ensures.wire c.post_round.ensures.outcome
+    c.post_round.ensures.wire c.post_round.ensures.outcome

@@ -14,9 +14,12 @@ adding-preserved g c =
     record {
       many = omega (arith, ap length items, length-append c.adding.cores.items (c.new.result ∷ []), old.many);
       each = λ j core at. elim (get_push c.adding.cores.items c.new.result j core (ap (λ xs. slice_get xs j) (sym items) ∙ at)) [
-          inl there ↦ old.each j core there
+        | inl there ↦ old.each j core there
         | inr new ↦ let same = sym old.many ∙ sym new.0 in record {
-            me = ap (λ (z : CoreState). z.me) new.1 ∙ c.new.ensures.me ∙ same;
-            members = ap (λ (z : CoreState). z.members) new.1 ∙ c.new.ensures.members ∙ cores;
-            start = ap (λ (z : CoreState). z.start) new.1 ∙ c.new.ensures.start ∙ ap (λ (p : PlanState). p.start) c.plan.view_is;
-            keeps = λ t. ap (λ (z : CoreState). second_at z t) new.1 ∙ c.new.ensures.seconds t ∙ ap (λ n. fresh_second c.adding.me n t) cores ∙ ap (λ j. fresh_second j c.args.plan.now.cores t) same } ] }
+          me = ap (λ (z : CoreState). z.me) new.1 ∙ c.new.ensures.me ∙ same;
+          members = ap (λ (z : CoreState). z.members) new.1 ∙ c.new.ensures.members ∙ cores;
+          start = ap (λ (z : CoreState). z.start) new.1 ∙ c.new.ensures.start ∙ ap (λ (p : PlanState). p.start) c.plan.view_is;
+          keeps = λ t. ap (λ (z : CoreState). second_at z t) new.1 ∙ c.new.ensures.seconds t ∙ ap (λ n. fresh_second c.adding.me n t) cores ∙ ap (λ j. fresh_second j c.args.plan.now.cores t) same;
+        }
+      ];
+    }

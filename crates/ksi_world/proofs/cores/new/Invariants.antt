@@ -8,4 +8,5 @@ use Rattle.ksi_world.proofs.cores.new.Given as goal
 abbrev pub invariant-adding : goal.invariant-adding
 invariant-adding g l = record {
   many : length l.cores.items ≡ l.me;
-  each : (j : ℕ) (core : CoreState) → slice_get l.cores.items j ≡ Some core → IsCore l.plan (λ t. fresh_second j l.plan.cores t) j core }
+  each : (j : ℕ) (core : CoreState) → slice_get l.cores.items j ≡ Some core → IsCore l.plan (λ t. fresh_second j l.plan.cores t) j core;
+}

@@ -24,4 +24,4 @@ returns-clause-ok g c =
     let core = c.index_mut.result.now in
     let at : slice_get c.args.cores.now.items c.args.core ≡ Some core = slice_get_read c.args.cores.now.items _ c.args.core core refl c.requires.there c.index_mut.ensures.value in
     core_turned (λ c'. seal_row g.C.Compress.image (second_at c' c.args.second)) c.args.core c.args.second c.args.cores.now.items c.args.wire.now.items c.post_core.new.wire.items core c.seal.new.self c.in_ok-step.step c.post_core.result at c.in_ok-step.ensures.turn
-      c.post_core.ensures.wire c.post_core.ensures.outcome
+    c.post_core.ensures.wire c.post_core.ensures.outcome

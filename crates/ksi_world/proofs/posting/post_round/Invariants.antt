@@ -8,4 +8,5 @@ invariant-posting l = record {
   sent : l.wire.items ≡ l.fn.wire.items ++ map (round_message l.plan l.aggregator l.second) l.yielded;
   rest : l.fn.step.sends ≡ l.yielded ++ into_iter_items l.send-iterator;
   len : vec_len l.wire ≡ vec_len l.fn.wire + length l.yielded;
-  room : vec_capacity l.fn.wire ≤ vec_capacity l.wire }
+  room : vec_capacity l.fn.wire ≤ vec_capacity l.wire;
+}

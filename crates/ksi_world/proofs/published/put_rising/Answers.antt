@@ -19,5 +19,5 @@ returns c =
     let place : c.place_of-place.result ≡ place_of c.args.second items = c.place_of-place.ensures.place ∙ ap (place_of c.args.second) c.deref.ensures.value in
     let found : slice_get c.deref-2.result.now c.place_of-place.result ≡ slice_get items (place_of c.args.second items) = ap (λ xs. slice_get xs c.place_of-place.result) c.deref-2.ensures.value ∙ ap (slice_get items) place in
     c.insert.ensures.items ∙ cond-true (is_ok c.insert.result) (insert items c.place_of-place.result (c.args.second, c.args.root)) items (ap is_ok c.in-Ok.is)
-      ∙ ap (λ n. insert items n (c.args.second, c.args.root)) place
-      ∙ put_new c.args.second c.args.root items (ap (is_second c.args.second) (sym found) ∙ sym c.is_second.ensures ∙ c.if-is_second.false)
+    ∙ ap (λ n. insert items n (c.args.second, c.args.root)) place
+    ∙ put_new c.args.second c.args.root items (ap (is_second c.args.second) (sym found) ∙ sym c.is_second.ensures ∙ c.if-is_second.false)

@@ -33,7 +33,7 @@ returns-in-Vote-clause-ok g c =
     let at : slice_get c.args.self.now.wire c.args.number ≡ Some m = ap (λ (n : NodesState). slice_get n.wire c.args.number) (sym c.self.view_is) ∙ ap (λ xs. slice_get xs c.args.number) (sym c.deref.ensures.value) ∙ sym c.message_at.ensures ∙ ap option_copied c.in-Some.is in
     let says = subst (λ l. Says m.sender m.addressee m.content l) (sym c.letter_of.ensures ∙ c.in-Vote.is) (letter_says m.sender m.addressee m.content) in
     IfOk-weaker c.vote.result _ _ (λ (outcome : Outcome) was. happened_taken g.C.Compress.image c.args.plan.now c.args.number c.args.self.now c.vote.new.self outcome m at
-      (along (λ s a content. WasTaken g.C.Compress.image c.args.plan.now s a m.second content c.args.self.now c.vote.new.self outcome) (actors.Core c.in-Vote.from) m.sender (actors.Core c.in-Vote.to) m.addressee (contents.Synod c.in-Vote.vote) m.content (sym says.0) (sym says.1) (sym says.2) (was c.args.plan.now))) c.vote.ensures.ok
+    (along (λ s a content. WasTaken g.C.Compress.image c.args.plan.now s a m.second content c.args.self.now c.vote.new.self outcome) (actors.Core c.in-Vote.from) m.sender (actors.Core c.in-Vote.to) m.addressee (contents.Synod c.in-Vote.vote) m.content (sym says.0) (sym says.1) (sym says.2) (was c.args.plan.now))) c.vote.ensures.ok
 
 pub returns-in-Vote-clause-err : goal.returns-in-Vote-clause-err
 returns-in-Vote-clause-err g c = on_err_weaker c.vote.result (λ still. still c.args.plan.now) c.vote.ensures.err
@@ -52,7 +52,7 @@ returns-in-ToCore-clause-ok g c =
     let at : slice_get c.args.self.now.wire c.args.number ≡ Some m = ap (λ (n : NodesState). slice_get n.wire c.args.number) (sym c.self.view_is) ∙ ap (λ xs. slice_get xs c.args.number) (sym c.deref.ensures.value) ∙ sym c.message_at.ensures ∙ ap option_copied c.in-Some.is in
     let says = subst (λ l. Says m.sender m.addressee m.content l) (sym c.letter_of.ensures ∙ c.in-ToCore.is) (letter_says m.sender m.addressee m.content) in
     IfOk-weaker c.item_to_core.result _ _ (λ (outcome : Outcome) was. happened_taken g.C.Compress.image c.args.plan.now c.args.number c.args.self.now c.item_to_core.new.self outcome m at
-      (along (λ s a content. WasTaken g.C.Compress.image c.args.plan.now s a m.second content c.args.self.now c.item_to_core.new.self outcome) (actors.Aggregator c.in-ToCore.from) m.sender (actors.Core c.in-ToCore.to) m.addressee (contents.Submission c.in-ToCore.item) m.content (sym says.0) (sym says.1) (sym says.2) (was c.args.plan.now))) c.item_to_core.ensures.ok
+    (along (λ s a content. WasTaken g.C.Compress.image c.args.plan.now s a m.second content c.args.self.now c.item_to_core.new.self outcome) (actors.Aggregator c.in-ToCore.from) m.sender (actors.Core c.in-ToCore.to) m.addressee (contents.Submission c.in-ToCore.item) m.content (sym says.0) (sym says.1) (sym says.2) (was c.args.plan.now))) c.item_to_core.ensures.ok
 
 pub returns-in-ToCore-clause-err : goal.returns-in-ToCore-clause-err
 returns-in-ToCore-clause-err g c = on_err_weaker c.item_to_core.result (λ still. still c.args.plan.now) c.item_to_core.ensures.err
@@ -71,7 +71,7 @@ returns-in-ToAggregator-clause-ok g c =
     let at : slice_get c.args.self.now.wire c.args.number ≡ Some m = ap (λ (n : NodesState). slice_get n.wire c.args.number) (sym c.self.view_is) ∙ ap (λ xs. slice_get xs c.args.number) (sym c.deref.ensures.value) ∙ sym c.message_at.ensures ∙ ap option_copied c.in-Some.is in
     let says = subst (λ l. Says m.sender m.addressee m.content l) (sym c.letter_of.ensures ∙ c.in-ToAggregator.is) (letter_says m.sender m.addressee m.content) in
     IfOk-weaker c.item_to_aggregator.result _ _ (λ (outcome : Outcome) was. happened_taken g.C.Compress.image c.args.plan.now c.args.number c.args.self.now c.item_to_aggregator.new.self outcome m at
-      (along (λ s a content. WasTaken g.C.Compress.image c.args.plan.now s a m.second content c.args.self.now c.item_to_aggregator.new.self outcome) (actors.Aggregator c.in-ToAggregator.from) m.sender (actors.Aggregator c.in-ToAggregator.to) m.addressee (contents.Submission c.in-ToAggregator.item) m.content (sym says.0) (sym says.1) (sym says.2) was)) c.item_to_aggregator.ensures.ok
+    (along (λ s a content. WasTaken g.C.Compress.image c.args.plan.now s a m.second content c.args.self.now c.item_to_aggregator.new.self outcome) (actors.Aggregator c.in-ToAggregator.from) m.sender (actors.Aggregator c.in-ToAggregator.to) m.addressee (contents.Submission c.in-ToAggregator.item) m.content (sym says.0) (sym says.1) (sym says.2) was)) c.item_to_aggregator.ensures.ok
 
 pub response-requires : goal.response-requires
 response-requires g c =
@@ -87,7 +87,7 @@ returns-in-Response-clause-ok g c =
     let at : slice_get c.args.self.now.wire c.args.number ≡ Some m = ap (λ (n : NodesState). slice_get n.wire c.args.number) (sym c.self.view_is) ∙ ap (λ xs. slice_get xs c.args.number) (sym c.deref.ensures.value) ∙ sym c.message_at.ensures ∙ ap option_copied c.in-Some.is in
     let says = subst (λ l. Says m.sender m.addressee m.content l) (sym c.letter_of.ensures ∙ c.in-Response.is) (letter_says m.sender m.addressee m.content) in
     IfOk-weaker c.response.result _ _ (λ (outcome : Outcome) was. happened_taken g.C.Compress.image c.args.plan.now c.args.number c.args.self.now c.response.new.self outcome m at
-      (along (λ s a content. WasTaken g.C.Compress.image c.args.plan.now s a m.second content c.args.self.now c.response.new.self outcome) m.sender m.sender (actors.Aggregator c.in-Response.to) m.addressee (contents.Response says.1.0) m.content refl (sym says.0) (sym says.1.1) (was m says.1.0 at says.1.1))) c.response.ensures.ok
+    (along (λ s a content. WasTaken g.C.Compress.image c.args.plan.now s a m.second content c.args.self.now c.response.new.self outcome) m.sender m.sender (actors.Aggregator c.in-Response.to) m.addressee (contents.Response says.1.0) m.content refl (sym says.0) (sym says.1.1) (was m says.1.0 at says.1.1))) c.response.ensures.ok
 
 pub returns-in-None-clause-ok : goal.returns-in-None-clause-ok
 returns-in-None-clause-ok g c =

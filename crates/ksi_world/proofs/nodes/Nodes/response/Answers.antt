@@ -27,23 +27,25 @@ response-requires-clause-response g c =
     let m = c.requires.0 in
     let above = c.requires.1 in
     let ready = c.requires.4 in
-    let fits = subst (λ (n : NodesState). Fits c.args.plan.now ready.world n) (sym c.self.view_is) ready.fits in
-    (m, ap (λ (n : NodesState). slice_get n.wire c.args.number) c.self.view_is ∙ c.requires.2,
-     subst (λ (content : Content). CanTake g.C.Compress.image c.args.plan.now c.args.to c.args.second c.self.inside.aggregators.items content) (sym c.requires.3)
-      (can_take c.args.plan.now ready.plan_is g.C.Compress.image ready.world c.self.inside.aggregators.items c.args.to c.args.second above ready.sound fits.aggregators (response_sent c.args.plan.now c.args.sender c.args.to above ready.sent).1))
+    let fits = subst (λ (n : NodesState). Fits c.args.plan.now ready.world n) (sym c.self.view_is) ready.fits in (
+      m,
+      ap (λ (n : NodesState). slice_get n.wire c.args.number) c.self.view_is ∙ c.requires.2,
+      subst (λ (content : Content). CanTake g.C.Compress.image c.args.plan.now c.args.to c.args.second c.self.inside.aggregators.items content) (sym c.requires.3)
+          (can_take c.args.plan.now ready.plan_is g.C.Compress.image ready.world c.self.inside.aggregators.items c.args.to c.args.second above ready.sound fits.aggregators (response_sent c.args.plan.now c.args.sender c.args.to above ready.sent).1),
+    )
 
 pub returns-clause-ok : goal.returns-clause-ok
 returns-clause-ok g c = IfOk-weaker c.response.result _ _
     (λ outcome steps m above at is w fits.
-      let step = subst (λ (content : Content). RoundStep (response_row g.C.Compress.image content) c.args.plan.now c.args.to c.args.second c.self.inside.aggregators.items c.response.new.aggregators.items c.self.inside.wire.items c.response.new.wire.items outcome) is (steps m (ap (λ (n : NodesState). slice_get n.wire c.args.number) c.self.view_is ∙ at)) in
-      subst (λ (h : Happening). Fits c.args.plan.now h.world (nodes_of c.self.inside.cores.items c.response.new.aggregators.items c.response.new.wire.items c.self.inside.requests.items c.self.inside.published.items) × (outcome ≡ h.outcome)) (sym (response_taken g.C.Compress.image c.args.plan.now w c.args.sender c.args.to c.args.second above))
-        (round_fits c.args.plan.now w c.self.inside.cores.items c.self.inside.cores.items c.self.inside.aggregators.items c.response.new.aggregators.items c.self.inside.wire.items c.response.new.wire.items c.self.inside.requests.items c.self.inside.requests.items c.self.inside.published.items c.self.inside.published.items
-        (subst (λ (n : NodesState). Fits c.args.plan.now w n) (sym c.self.view_is) fits) (round_response g.C.Compress.image above) c.args.to c.args.second outcome step))
+    let step = subst (λ (content : Content). RoundStep (response_row g.C.Compress.image content) c.args.plan.now c.args.to c.args.second c.self.inside.aggregators.items c.response.new.aggregators.items c.self.inside.wire.items c.response.new.wire.items outcome) is (steps m (ap (λ (n : NodesState). slice_get n.wire c.args.number) c.self.view_is ∙ at)) in
+    subst (λ (h : Happening). Fits c.args.plan.now h.world (nodes_of c.self.inside.cores.items c.response.new.aggregators.items c.response.new.wire.items c.self.inside.requests.items c.self.inside.published.items) × (outcome ≡ h.outcome)) (sym (response_taken g.C.Compress.image c.args.plan.now w c.args.sender c.args.to c.args.second above))
+    (round_fits c.args.plan.now w c.self.inside.cores.items c.self.inside.cores.items c.self.inside.aggregators.items c.response.new.aggregators.items c.self.inside.wire.items c.response.new.wire.items c.self.inside.requests.items c.self.inside.requests.items c.self.inside.published.items c.self.inside.published.items
+    (subst (λ (n : NodesState). Fits c.args.plan.now w n) (sym c.self.view_is) fits) (round_response g.C.Compress.image above) c.args.to c.args.second outcome step))
     c.response.ensures.ok
 
 pub returns-clause-err : goal.returns-clause-err
 returns-clause-err g c = on_err_weaker c.response.result
     (λ stayed w fits.
-      round_stands c.args.plan.now w c.self.inside.cores.items c.self.inside.cores.items c.self.inside.aggregators.items c.response.new.aggregators.items c.self.inside.wire.items c.response.new.wire.items c.self.inside.requests.items c.self.inside.requests.items c.self.inside.published.items c.self.inside.published.items
-        (subst (λ (n : NodesState). Fits c.args.plan.now w n) (sym c.self.view_is) fits) stayed.0 stayed.1)
+    round_stands c.args.plan.now w c.self.inside.cores.items c.self.inside.cores.items c.self.inside.aggregators.items c.response.new.aggregators.items c.self.inside.wire.items c.response.new.wire.items c.self.inside.requests.items c.self.inside.requests.items c.self.inside.published.items c.self.inside.published.items
+    (subst (λ (n : NodesState). Fits c.args.plan.now w n) (sym c.self.view_is) fits) stayed.0 stayed.1)
     (both_errors _ _ c.response.result c.response.ensures.aggregators c.response.ensures.wire)
