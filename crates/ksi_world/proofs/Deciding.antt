@@ -1,27 +1,27 @@
 -- What is held was sealed, and so is what is kept.
-use Rattle.std.proofs.Common.{◌≡◌, ◌≢◌, ℕ, zero, suc, ◌+◌, ◌-◌, ◌*◌, ◌^◌, ◌<◌, ◌≤◌, Bool, true, false, cond, List, [], ◌∷◌, length, refl, sym, ap, subst, ◌∙◌, arith, ◌⊎◌, inl, inr, Option, Some, None, Decides}
-use Rattle.std.specs.Prelude.{slice_get, map, option_map, unwrap_or}
+use Rattle.std.proofs.Common.{◌≡◌, ◌≢◌, ℕ, ◌-◌, ◌^◌, ◌<◌, ◌≤◌, Bool, true, false, cond, List, [], ◌∷◌, length, refl, sym, ap, subst, ◌∙◌, arith, inl, inr, Option, Some, None}
+use Rattle.std.specs.Prelude.{option_map, unwrap_or}
 use Rattle.std.specs.Str.{bytes_eq}
-use Rattle.std.proofs.lemmas.Bool.{cond-true, cond-false}
+use Rattle.std.proofs.lemmas.Bool.{cond-true}
 use Rattle.std.proofs.lemmas.List.{length-map}
 use Rattle.std.proofs.lemmas.Slice.Eq.{bytes_eq-Decides}
 use Rattle.ksi_imprint.specs.Imprints.{zero_imprint}
 use Rattle.ksi_aggchain.specs.declared.item.Item.{Item}
 use Rattle.ksi_aggtree.specs.declared.entries.Entry.{Entry}
-use Rattle.ksi_aggtree.specs.Rounds.{IsRound, item_at, tree_of}
+use Rattle.ksi_aggtree.specs.Rounds.{IsRound, tree_of}
 use Rattle.ksi_aggtree.specs.Entries.{items_of, candidate_of}
 use Rattle.ksi_synod.specs.VoteState.{VoteState}
 use Rattle.ksi_synod.specs.Reached.{Said, Reached}
 use Rattle.ksi_corenode.specs.SecondState.{voters_of}
 use Rattle.ksi_schedule.specs.declared.actor.Actor.TheVariants as actors
 use Rattle.ksi_schedule.specs.declared.event.Event.{Event}
-use Rattle.ksi_schedule.specs.Plans.{PlanState, IsPlan, InRange}
-use Rattle.ksi_schedule.specs.Events.{IsEvent, AreEvents}
+use Rattle.ksi_schedule.specs.Plans.{PlanState, IsPlan}
+use Rattle.ksi_schedule.specs.Events.{AreEvents}
 use Rattle.ksi_world.specs.declared.kept.KeptSecond.{KeptSecond}
 use Rattle.ksi_world.specs.Histories.{WorldState, happens, held_in, first_world, run, after}
-use Rattle.ksi_world.specs.Sound.{AreOf, IsSound}
+use Rattle.ksi_world.specs.Sound.{IsSound}
 use Rattle.ksi_world.specs.Records.{lowest, kept_root, kept_with, sealed_as, kept_items, kept_at, kept_seconds}
-use Rattle.ksi_world.specs.Validity.{IsProposed, IsMissed, HasTree, IsKept, EachKept, AreRising}
+use Rattle.ksi_world.specs.Validity.{IsProposed, IsKept, EachKept, AreRising}
 use Rattle.ksi_world.proofs.Sending.{TreeRises, are_low}
 use Rattle.ksi_world.proofs.Sounding.{happens_sound, first_sound}
 use Rattle.ksi_world.proofs.Voting.{votes_at, IsVoted}

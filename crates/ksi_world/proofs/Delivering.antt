@@ -12,7 +12,7 @@ use Rattle.ksi_world.specs.declared.message.Content.{Content}
 use Rattle.ksi_world.specs.declared.message.Content.TheVariants as contents
 use Rattle.ksi_world.specs.declared.message.Message.{Message}
 use Rattle.ksi_schedule.specs.Plans.{PlanState}
-use Rattle.ksi_world.specs.Histories.{WorldState, Happening, at_round, taken, delivered, happens}
+use Rattle.ksi_world.specs.Histories.{WorldState, at_round, taken, delivered, happens}
 use Rattle.ksi_world.specs.Sound.{depth_of, IsSent}
 use Rattle.ksi_world.specs.Nodes.{NodesState, Fits, IsReady, IsTaken, Happened, WasTaken}
 

@@ -1,5 +1,5 @@
 -- The nodes after a turn are those of the world after it.
-use Rattle.std.proofs.Common.{◌≡◌, ◌≢◌, ℕ, zero, suc, ◌+◌, ◌<◌, Bool, cond, ◌&&◌, eqb, List, [], ◌∷◌, ◌++◌, length, refl, sym, ap, subst, ◌∙◌, arith, inl, inr, Option, Some, None, set, length-set}
+use Rattle.std.proofs.Common.{◌≡◌, ℕ, zero, suc, ◌<◌, cond, eqb, List, [], ◌∷◌, ◌++◌, length, refl, sym, ap, subst, ◌∙◌, arith, inl, inr, Some, length-set}
 use Rattle.std.specs.Prelude.{slice_get, map, OnErr, Result, Ok, Err}
 use Rattle.std.proofs.lemmas.Bool.{cond-true, cond-false, eq-eqb, ne_eqb}
 use Rattle.ksi_corenode.specs.SecondState.{SecondState}
@@ -15,7 +15,7 @@ use Rattle.ksi_world.specs.declared.outcome.Asked.{Asked}
 use Rattle.ksi_world.specs.declared.outcome.Outcome.{Outcome}
 use Rattle.ksi_world.specs.declared.message.Message.{Message}
 use Rattle.ksi_schedule.specs.Plans.{PlanState}
-use Rattle.ksi_world.specs.Histories.{WorldState, put_at, core_message, round_message, outcome_of, at_core, at_round, held_in, asked_with, request_happens, published_with, publish_happens}
+use Rattle.ksi_world.specs.Histories.{WorldState, core_message, round_message, outcome_of, at_core, at_round, held_in, asked_with, request_happens, published_with, publish_happens}
 use Rattle.ksi_world.specs.Nodes.{NodesState, IsCore, AreCores, IsAggregator, AreAggregators, Fits, CoreStep, RoundStep, CoreRestart, RoundRestart, CoresStay, AggregatorsStay}
 use Rattle.ksi_world.proofs.Turning.{get_set, cores_turned}
 use Rattle.ksi_world.proofs.RoundTurning.{aggregators_turned}

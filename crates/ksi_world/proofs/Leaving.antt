@@ -1,5 +1,5 @@
 -- What a step of the vote leaves: the candidate, and what is held but for the messages that decide.
-use Rattle.std.proofs.Common.{◌≡◌, ℕ, Bool, true, is_some, ◌&&◌, eqb, ltb, List, refl, sym, ap, ◌∙◌, ◌⊎◌, inl, inr, Option, Some, None}
+use Rattle.std.proofs.Common.{◌≡◌, ℕ, Bool, true, ◌&&◌, eqb, ltb, List, refl, sym, ◌∙◌, ◌⊎◌, inl, inr, Option, Some, None}
 use Rattle.std.proofs.lemmas.Bool.{cond_both}
 use Rattle.ksi_synod.specs.declared.messages.LastVote.{LastVote}
 use Rattle.ksi_synod.specs.declared.messages.SynodMessage.{SynodMessage}
@@ -8,7 +8,7 @@ use Rattle.ksi_synod.specs.declared.messages.Took.{Took}
 use Rattle.ksi_synod.specs.declared.messages.Begun.{Begun}
 use Rattle.ksi_synod.specs.Ballots.{last_round}
 use Rattle.ksi_synod.specs.VoteState.{VoteState, Hand}
-use Rattle.ksi_synod.specs.Rows.{counts_last, decree_now, with_last, is_older, voted_for, with_voted, completes, on_next, on_begin, on_last, on_last_of, on_voted, on_voted_of, on_voted_for, on_success, on_success_of, try_ballot, try_ballot_of, greater_round, receive, seal, seal_of}
+use Rattle.ksi_synod.specs.Rows.{counts_last, is_older, voted_for, with_voted, completes, on_next, on_begin, on_last, on_last_of, on_voted, on_voted_of, on_voted_for, on_success, on_success_of, try_ballot, try_ballot_of, greater_round, receive, seal, seal_of}
 use Rattle.ksi_world.specs.Deciding.{decides_vote}
 
 -- neither the candidate nor what is held changes

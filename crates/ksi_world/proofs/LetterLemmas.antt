@@ -1,8 +1,6 @@
 -- What the letter of a message says of it.
-use Rattle.std.proofs.Common.{◌≡◌, ℕ, refl, ap}
-use Rattle.ksi_aggchain.specs.declared.item.Item.{Item}
+use Rattle.std.proofs.Common.{◌≡◌, refl}
 use Rattle.ksi_signature.specs.declared.above.Above.{Above}
-use Rattle.ksi_synod.specs.declared.messages.SynodMessage.{SynodMessage}
 use Rattle.ksi_schedule.specs.declared.actor.Actor.{Actor}
 use Rattle.ksi_schedule.specs.declared.actor.Actor.TheVariants as actors
 use Rattle.ksi_world.specs.declared.message.Content.{Content}

@@ -1,24 +1,21 @@
 -- What is listed for the seconds of the wire is what is kept.
-use Rattle.std.proofs.Common.{◌≡◌, ℕ, zero, suc, ◌+◌, ◌^◌, ◌<◌, ◌≤◌, Bool, cond, List, [], ◌∷◌, length, refl, sym, ap, subst, ◌∙◌, arith, ◌⊎◌, inl, inr, Option, Some, None}
-use Rattle.std.specs.Prelude.{slice_get, option_map, unwrap_or}
+use Rattle.std.proofs.Common.{◌≡◌, ℕ, ◌^◌, ◌≤◌, cond, List, [], ◌∷◌, refl, sym, ap, subst, ◌∙◌, arith, ◌⊎◌, inl, inr, Option, Some, None}
+use Rattle.std.specs.Prelude.{option_map, unwrap_or}
 use Rattle.std.specs.Str.{bytes_eq}
 use Rattle.ksi_imprint.specs.Imprints.{zero_imprint}
-use Rattle.ksi_aggchain.specs.declared.item.Item.{Item}
 use Rattle.ksi_corenode.specs.SecondState.{SecondState}
 use Rattle.ksi_corenode.specs.CoreState.{CoreState, second_at, held_by}
 use Rattle.ksi_schedule.specs.Plans.{PlanState, InRange}
 use Rattle.ksi_world.specs.declared.kept.KeptSecond.{KeptSecond}
-use Rattle.ksi_world.specs.declared.message.Message.{Message}
 use Rattle.ksi_world.specs.Histories.{WorldState, held_in}
 use Rattle.ksi_world.specs.Sound.{IsSound}
 use Rattle.ksi_world.specs.Nodes.{NodesState, AreCores, Fits}
 use Rattle.ksi_world.specs.Records.{lowest, kept_root, kept_with, sealed_as, kept_items, kept_at, kept_seconds}
 use Rattle.ksi_world.specs.Deciding.{IsTold, In, IsRising}
-use Rattle.ksi_world.specs.Keeping.{first_of, root_among, sealed_among, items_among, second_among, kept_listed, AreListed}
+use Rattle.ksi_world.specs.Keeping.{root_among, sealed_among, items_among, second_among, kept_listed, AreListed}
 use Rattle.ksi_world.proofs.Fitting.{same_function}
 use Rattle.ksi_world.proofs.Voting.{IsVoted}
 use Rattle.ksi_world.proofs.Lowest.{first_lowest, lowest_some}
-use Rattle.ksi_world.proofs.Listing.{in_above}
 use Rattle.ksi_world.proofs.Skipping.{listed_all}
 
 module _ (image : List ℕ → List ℕ) (plan : PlanState) (w : WorldState) where
@@ -48,6 +45,9 @@ module _ (image : List ℕ → List ℕ) (plan : PlanState) (w : WorldState) whe
   module _ (voted : IsVoted image plan w.seconds w.wire) (sound : IsSound plan w) where
     told_range : (t : ℕ) → IsTold w.wire t → InRange plan t
     told_range t told = subst (λ t. InRange plan t) told.about (sound.wire told.number told.message told.at).second
+
+    pub held_range : (j t : ℕ) (root : List ℕ) → held_in w j t ≡ Some root → InRange plan t
+    held_range j t root held = told_range t (voted.told j t root held)
 
     from_start : (from : ℕ) (ts : List ℕ) → ((t : ℕ) → In t ts → plan.start ≤ t) → IsRising from ts → IsRising plan.start ts
     from_start from [] within rising = tt

@@ -1,5 +1,5 @@
 -- One aggregator of many takes a turn.
-use Rattle.std.proofs.Common.{◌≡◌, ◌≢◌, ℕ, zero, suc, ◌+◌, ◌<◌, ◌≤◌, Bool, true, false, cond, ◌&&◌, eqb, List, [], ◌∷◌, ◌++◌, length, refl, sym, ap, subst, ◌∙◌, arith, ◌⊎◌, inl, inr, is_some, Option, Some, None, set, length-set}
+use Rattle.std.proofs.Common.{◌≡◌, ℕ, ◌≤◌, cond, eqb, List, [], ◌∷◌, ◌++◌, length, refl, sym, ap, subst, ◌∙◌, arith, inl, inr, is_some, Some, set, length-set}
 use Rattle.std.specs.Prelude.{slice_get, map}
 use Rattle.std.proofs.lemmas.Bool.{cond_both}
 use Rattle.ksi_aggchain.specs.declared.item.Item.{Item}
@@ -14,7 +14,7 @@ use Rattle.ksi_world.specs.declared.message.Content.{Content}
 use Rattle.ksi_world.specs.declared.message.Content.TheVariants as contents
 use Rattle.ksi_schedule.specs.Plans.{PlanState}
 use Rattle.ksi_world.specs.Histories.{put_at, round_message, outcome_of}
-use Rattle.ksi_world.specs.Nodes.{IsAggregator, AreAggregators, RoundStep, RoundRestart, RoundMove, CanTake, response_row, AggregatorsStay}
+use Rattle.ksi_world.specs.Nodes.{IsAggregator, AreAggregators, RoundStep, RoundMove, CanTake, response_row, AggregatorsStay}
 use Rattle.ksi_world.proofs.Turning.{get_set, put_here, put_other}
 
 pub round_turned : (row : RoundState → RoundTurn) (plan : PlanState) (k t : ℕ) (aggregators : List AggregatorState) (wire wire' : List Message) (old new : AggregatorState) (step : round_turn.Step) (outcome : Outcome) →

@@ -1,5 +1,5 @@
 -- What is sent, and the items that came in, are as they always are.
-use Rattle.std.proofs.Common.{◌≡◌, ◌≢◌, ℕ, zero, suc, ◌+◌, ◌-◌, ◌*◌, ◌<◌, ◌≤◌, Bool, true, false, cond, ◌&&◌, eqb, List, [], ◌∷◌, ◌++◌, length, refl, sym, ap, subst, ◌∙◌, arith, ◌⊎◌, inl, inr, is_some, Option, Some, None, length-append, lit<}
+use Rattle.std.proofs.Common.{◌≡◌, ℕ, zero, suc, ◌+◌, ◌-◌, ◌*◌, ◌<◌, ◌≤◌, false, cond, eqb, List, [], ◌∷◌, ◌++◌, length, refl, ap, subst, arith, ◌⊎◌, inl, inr, Option, Some, None, length-append}
 use Rattle.std.specs.Prelude.{slice_get, map}
 use Rattle.std.proofs.lemmas.Bool.{cond_both, cond-false, eqb-true, eqb-false, or_parts}
 use Rattle.std.proofs.lemmas.List.{length-map}
@@ -12,35 +12,24 @@ use Rattle.ksi_aggtree.specs.Entries.{items_of, is_from, has_from, is_full}
 use Rattle.ksi_synod.specs.declared.messages.SynodMessage.{SynodMessage}
 use Rattle.ksi_synod.specs.declared.messages.SynodMessage.TheVariants as message
 use Rattle.ksi_synod.specs.Voters.{cores_below}
-use Rattle.ksi_synod.specs.VoteState.{VoteState, fresh_vote}
-use Rattle.ksi_synod.specs.Rows.{OfBallot, OfReply, seal, seal_of, sealed_with, try_ballot, ballot_told, receive, held_told}
+use Rattle.ksi_synod.specs.Rows.{OfBallot, OfReply}
 use Rattle.ksi_signature.specs.declared.above.Above.{Above}
-use Rattle.ksi_signature.specs.declared.answer.Answer.{Answer}
-use Rattle.ksi_signature.specs.declared.answer.Answer.TheVariants as answers
 use Rattle.ksi_corenode.specs.declared.step.Send as core_step
 use Rattle.ksi_corenode.specs.declared.step.Send.TheVariants as core_sends
-use Rattle.ksi_corenode.specs.SecondState.{SecondState, fresh_second}
 use Rattle.ksi_corenode.specs.Turns.{Turn, to_each}
 use Rattle.ksi_corenode.specs.Turns as turns
-use Rattle.ksi_corenode.specs.Held.{Held, first_missing}
-use Rattle.ksi_corenode.specs.Rows.{submission_row, submitted, seal_row, ballot_row, receive_row, tell_row, respond_row, respond_where, responded, responses_from, response_to, is_mine, publish_answer, restart_row}
+use Rattle.ksi_corenode.specs.Rows.{responses_from, response_to}
 use Rattle.ksi_aggregator.specs.declared.step.Send as round_step
 use Rattle.ksi_aggregator.specs.declared.step.Send.TheVariants as round_sends
 use Rattle.ksi_aggregator.specs.Responses as told
-use Rattle.ksi_aggregator.specs.Rows.{RoundState, RoundTurn, fresh_round, request_entry, submitted_entry, round_request, round_submission, round_close, round_response, response_where, round_restarted, submission_of}
+use Rattle.ksi_aggregator.specs.Rows.{request_entry, submitted_entry}
 use Rattle.ksi_schedule.specs.declared.actor.Actor.{Actor}
 use Rattle.ksi_schedule.specs.declared.actor.Actor.TheVariants as actors
-use Rattle.ksi_world.specs.declared.outcome.Asked.{Asked}
-use Rattle.ksi_schedule.specs.declared.event.Event.{Event}
-use Rattle.ksi_schedule.specs.declared.event.Event.TheVariants as events
-use Rattle.ksi_world.specs.declared.message.Content.{Content}
-use Rattle.ksi_world.specs.declared.message.Content.TheVariants as contents
 use Rattle.ksi_world.specs.declared.message.Message.{Message}
-use Rattle.ksi_schedule.specs.Plans.{PlanState, IsPlan, IsParent, parent_of, InRange}
-use Rattle.ksi_world.specs.Histories.{WorldState, Happening, put_at, core_message, round_message, at_core, at_round}
-use Rattle.ksi_world.specs.Sound.{depth_of, IsLow, IsSmall, IsSent, IsPost, IsOf, AreOf, count_from, IsRoundAt, IsRoundState, IsSound}
-use Rattle.ksi_world.proofs.Small.{fine_receive, fine_try, fine_held, as_small}
-use Rattle.ksi_world.proofs.Depths.{depth_most, depth_core, depth_child, parent_is}
+use Rattle.ksi_schedule.specs.Plans.{PlanState, IsPlan, InRange}
+use Rattle.ksi_world.specs.Histories.{core_message, round_message}
+use Rattle.ksi_world.specs.Sound.{depth_of, IsLow, IsPost, IsOf, AreOf, count_from, IsRoundAt}
+use Rattle.ksi_world.proofs.Depths.{depth_most, depth_child}
 
 -- LISTS
 

@@ -1,23 +1,20 @@
 -- Whatever happens, what always holds of the world goes on to hold.
-use Rattle.std.proofs.Common.{◌≡◌, ℕ, zero, suc, ◌+◌, ◌*◌, ◌<◌, ◌≤◌, Bool, true, false, cond, ◌&&◌, eqb, List, [], ◌∷◌, ◌++◌, length, refl, sym, ap, subst, ◌∙◌, arith, inl, inr, is_some, Option, Some, None, length-append, lit<}
+use Rattle.std.proofs.Common.{◌≡◌, ℕ, suc, ◌<◌, ◌≤◌, true, ◌&&◌, eqb, List, [], ◌∷◌, ◌++◌, length, refl, sym, subst, arith, is_some, Option, Some, None, length-append, lit<}
 use Rattle.std.specs.Prelude.{slice_get, map}
 use Rattle.std.proofs.lemmas.Bool.{cond_both, eqb-true, and_parts}
 use Rattle.ksi_aggchain.specs.declared.item.Item.{Item}
 use Rattle.ksi_aggtree.specs.declared.entries.Entry.{Entry}
-use Rattle.ksi_aggtree.specs.declared.entries.Origin.TheVariants as origins
 use Rattle.ksi_aggtree.specs.Entries.{items_of, has_from, is_full, candidate_of}
 use Rattle.ksi_synod.specs.declared.messages.SynodMessage.{SynodMessage}
 use Rattle.ksi_synod.specs.VoteState.{VoteState, fresh_vote}
-use Rattle.ksi_synod.specs.Rows.{OfBallot, seal, seal_of, sealed_with, try_ballot, ballot_told, receive, held_told, restarted}
+use Rattle.ksi_synod.specs.Rows.{seal, seal_of, sealed_with, try_ballot, ballot_told, receive, held_told, restarted}
 use Rattle.ksi_signature.specs.declared.above.Above.{Above}
 use Rattle.ksi_signature.specs.declared.answer.Answer.{Answer}
 use Rattle.ksi_signature.specs.declared.answer.Answer.TheVariants as answers
-use Rattle.ksi_corenode.specs.declared.step.Send as core_step
 use Rattle.ksi_corenode.specs.SecondState.{SecondState, fresh_second}
 use Rattle.ksi_corenode.specs.Turns.{Turn, still}
 use Rattle.ksi_corenode.specs.Held.{Held, first_missing, held_seconds}
 use Rattle.ksi_corenode.specs.Rows.{submission_row, submitted, item_taken, seal_row, sealed_now, ballot_row, receive_row, tell_row, respond_row, respond_where, responded, above_item, is_mine, restart_row}
-use Rattle.ksi_aggregator.specs.declared.step.Send as round_step
 use Rattle.ksi_aggregator.specs.Responses.{responses}
 use Rattle.ksi_aggregator.specs.Rows.{RoundState, RoundTurn, fresh_round, round_still, round_added, closed_now, answered_now, request_entry, submitted_entry, round_request, round_submission, round_close, round_response, response_where, round_restarted, submission_of}
 use Rattle.ksi_schedule.specs.declared.actor.Actor.{Actor}
@@ -28,14 +25,14 @@ use Rattle.ksi_schedule.specs.declared.event.Event.TheVariants as events
 use Rattle.ksi_world.specs.declared.message.Content.{Content}
 use Rattle.ksi_world.specs.declared.message.Content.TheVariants as contents
 use Rattle.ksi_world.specs.declared.message.Message.{Message}
-use Rattle.ksi_schedule.specs.Plans.{PlanState, IsPlan, parent_of, InRange}
+use Rattle.ksi_schedule.specs.Plans.{PlanState, IsPlan, InRange}
 use Rattle.ksi_world.specs.Histories.{WorldState, Happening, put_at, core_message, round_message, at_core, at_round, accepted_where, delivered, happens, held_in, first_world}
 use Rattle.ksi_schedule.specs.Events.{IsEvent}
 use Rattle.ksi_world.specs.Histories as histories
-use Rattle.ksi_world.specs.Sound.{depth_of, IsLow, IsSmall, IsSent, IsPost, AreOf, IsRoundAt, IsRoundState, IsSound}
+use Rattle.ksi_world.specs.Sound.{depth_of, IsSmall, IsSent, AreOf, IsRoundAt, IsRoundState, IsSound}
 use Rattle.ksi_world.proofs.Small.{fine_receive, fine_try, fine_held, as_small}
 use Rattle.ksi_world.proofs.Depths.{core_parent, aggregator_parent}
-use Rattle.ksi_world.proofs.Sending.{TreeRises, ArePosts, both_posts, FineSends, fine_told, core_posts, FineOuts, round_posts, are_more, are_push, round_more, no_round, round_push, request_push, tree_low, core_responses, round_responses}
+use Rattle.ksi_world.proofs.Sending.{TreeRises, both_posts, FineSends, fine_told, core_posts, FineOuts, round_posts, are_more, are_push, round_more, no_round, round_push, request_push, tree_low, core_responses, round_responses}
 
 module _ (image : List ℕ → List ℕ) (plan : PlanState) (is : IsPlan plan) (rises : TreeRises image) where
   -- A TURN OF A CORE

@@ -1,7 +1,7 @@
 -- What a node may take, by what always holds of the world.
-use Rattle.std.proofs.Common.{◌≡◌, ℕ, zero, suc, ◌+◌, ◌<◌, ◌≤◌, Bool, true, false, ◌||◌, cond, eqb, ltb, List, [], ◌∷◌, ◌++◌, length, refl, sym, ap, subst, ◌∙◌, arith, inl, inr, Option, Some, None, length-append}
+use Rattle.std.proofs.Common.{◌≡◌, ℕ, zero, suc, ◌+◌, ◌≤◌, true, ◌||◌, cond, eqb, ltb, List, [], ◌∷◌, length, refl, sym, ap, subst, ◌∙◌, arith, inl, inr, Option, Some, None, length-append}
 use Rattle.std.specs.Prelude.{slice_get, unwrap_or}
-use Rattle.std.proofs.lemmas.Bool.{cases_lt, cases_eq, cond-true, cond-false, lt-ltb, le-ltb, eq-eqb, cond_both}
+use Rattle.std.proofs.lemmas.Bool.{cases_lt, cases_eq, cond-true, cond-false, lt-ltb, le-ltb, eq-eqb}
 use Rattle.ksi_aggchain.specs.declared.item.Item.{Item}
 use Rattle.ksi_aggtree.specs.declared.entries.Entry.{Entry}
 use Rattle.ksi_aggtree.specs.declared.entries.Origin.{Origin}

@@ -1,7 +1,7 @@
 -- One core or one aggregator of many takes a turn.
-use Rattle.std.proofs.Common.{◌≡◌, ◌≢◌, ℕ, zero, suc, ◌+◌, ◌<◌, ◌≤◌, Bool, true, false, cond, ◌&&◌, eqb, List, [], ◌∷◌, ◌++◌, length, refl, sym, ap, subst, ◌∙◌, arith, ◌⊎◌, inl, inr, is_some, Option, Some, None, length-append, set, length-set}
+use Rattle.std.proofs.Common.{◌≡◌, ◌≢◌, ℕ, zero, suc, ◌≤◌, cond, ◌&&◌, eqb, List, [], ◌∷◌, ◌++◌, length, refl, sym, ap, subst, ◌∙◌, arith, ◌⊎◌, inl, inr, is_some, Option, Some, None, length-append, set, length-set}
 use Rattle.std.specs.Prelude.{slice_get, map, OnErr, Result, Ok, Err}
-use Rattle.std.proofs.lemmas.Bool.{cond-true, cond-false, cond_both, eq-eqb, eqb-true, ne_eqb, and_left}
+use Rattle.std.proofs.lemmas.Bool.{cond-false, cond_both, eq-eqb, ne_eqb, and_left}
 use Rattle.std.proofs.lemmas.List.{length-map}
 use Rattle.ksi_synod.specs.declared.messages.SynodMessage.{SynodMessage}
 use Rattle.ksi_synod.specs.declared.messages.SynodMessage.TheVariants as message
@@ -11,11 +11,9 @@ use Rattle.ksi_corenode.specs.declared.step.Send.TheVariants as core_sends
 use Rattle.ksi_corenode.specs.declared.step.Step as core_turn
 use Rattle.ksi_corenode.specs.SecondState.{SecondState}
 use Rattle.ksi_corenode.specs.Turns.{Turn, told, to_each}
-use Rattle.ksi_corenode.specs.Rows.{ballot_row, receive_row, tell_row, seal_row, submission_row, respond_row, respond_where, is_mine, taken}
-use Rattle.ksi_corenode.specs.Held.{Held, first_missing}
+use Rattle.ksi_corenode.specs.Rows.{ballot_row, receive_row, tell_row, seal_row, submission_row}
 use Rattle.ksi_aggchain.specs.declared.item.Item.{Item}
-use Rattle.ksi_aggtree.specs.declared.entries.Entry.{Entry}
-use Rattle.ksi_corenode.specs.CoreState.{CoreState, second_at, held_by, IsSame, IsTurn}
+use Rattle.ksi_corenode.specs.CoreState.{CoreState, second_at, IsSame, IsTurn}
 use Rattle.ksi_world.specs.declared.outcome.Outcome.{Outcome}
 use Rattle.ksi_world.specs.declared.message.Message.{Message}
 use Rattle.ksi_schedule.specs.Plans.{PlanState}

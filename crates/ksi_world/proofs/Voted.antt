@@ -1,17 +1,16 @@
 -- Whatever happens, what always holds of the vote on each second goes on to hold.
-use Rattle.std.proofs.Common.{◌≡◌, ℕ, zero, suc, ◌+◌, ◌<◌, ◌≤◌, Bool, true, false, cond, ◌&&◌, eqb, is_some, List, [], ◌∷◌, ◌++◌, length, refl, sym, ap, subst, ◌∙◌, arith, inl, inr, Option, Some, None, length-append}
-use Rattle.std.specs.Prelude.{slice_get, map, option_map}
-use Rattle.std.proofs.lemmas.Bool.{cond_both, cond-true, cond-false, eq-eqb, eqb-true, eqb-false, ne_eqb}
+use Rattle.std.proofs.Common.{◌≡◌, ℕ, ◌<◌, ◌≤◌, false, cond, eqb, is_some, List, [], ◌∷◌, ◌++◌, length, refl, sym, ap, subst, ◌∙◌, arith, inl, inr, Option, Some, None, length-append}
+use Rattle.std.specs.Prelude.{slice_get, option_map}
+use Rattle.std.proofs.lemmas.Bool.{cond_both, cond-true, cond-false, eq-eqb, eqb-false, ne_eqb}
 use Rattle.ksi_aggchain.specs.declared.item.Item.{Item}
 use Rattle.ksi_aggtree.specs.declared.entries.Entry.{Entry}
 use Rattle.ksi_aggtree.specs.Entries.{items_of, has_from, is_full, candidate_of}
 use Rattle.ksi_synod.specs.declared.messages.SynodMessage.{SynodMessage}
-use Rattle.ksi_synod.specs.VoteState.{VoteState, fresh_vote}
+use Rattle.ksi_synod.specs.VoteState.{fresh_vote}
 use Rattle.ksi_synod.specs.Rows.{seal, try_ballot, ballot_told, receive, held_told, restarted}
-use Rattle.ksi_synod.specs.Reached.{Said, says, IsStep, seals, tries, tells, takes, restarts, Reached, start, step}
+use Rattle.ksi_synod.specs.Reached.{seals, tries, tells, takes, restarts, start, step}
 use Rattle.ksi_signature.specs.declared.answer.Answer.TheVariants as answers
-use Rattle.ksi_corenode.specs.SecondState.{SecondState, fresh_second, voters_of}
-use Rattle.ksi_corenode.specs.Turns.{Turn}
+use Rattle.ksi_corenode.specs.SecondState.{SecondState, fresh_second}
 use Rattle.ksi_corenode.specs.Held.{Held, first_missing, held_seconds}
 use Rattle.ksi_corenode.specs.Rows.{submission_row, submitted, item_taken, seal_row, sealed_now, ballot_row, receive_row, tell_row, respond_row, respond_where, responded, above_item, is_mine, restart_row}
 use Rattle.ksi_aggregator.specs.Rows.{round_request, round_submission, round_close, round_response}
@@ -28,7 +27,7 @@ use Rattle.ksi_world.specs.Histories.{WorldState, at_core, at_round, delivered, 
 use Rattle.ksi_world.specs.Histories as histories
 use Rattle.ksi_world.specs.Deciding.{decides, IsTold}
 use Rattle.ksi_world.proofs.Leaving.{receive_leaves, try_leaves, seal_sets, seal_holds}
-use Rattle.ksi_world.proofs.Voting.{only_told, only_responses, Heard, IsVote, IsSealedSo, IsVoted, turn_voted, quiet_voted, still_voted, round_voted}
+use Rattle.ksi_world.proofs.Voting.{only_told, only_responses, IsSealedSo, IsVoted, turn_voted, quiet_voted, still_voted, round_voted}
 
 none_sealed : {A : Type 0} (o : Option A) → is_some o ≡ false → o ≡ None
 none_sealed None is = refl

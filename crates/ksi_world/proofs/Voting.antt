@@ -1,47 +1,35 @@
 -- What always holds of the vote on each second, whatever happens.
-use Rattle.std.proofs.Common.{◌≡◌, ◌≢◌, ℕ, zero, suc, ◌+◌, ◌<◌, ◌≤◌, Bool, true, false, cond, ◌&&◌, eqb, is_some, List, [], ◌∷◌, ◌++◌, length, refl, sym, ap, subst, ◌∙◌, arith, ◌⊎◌, inl, inr, Option, Some, None, length-append}
+use Rattle.std.proofs.Common.{◌≡◌, ◌≢◌, ℕ, zero, suc, ◌<◌, ◌≤◌, ◌&&◌, eqb, List, [], ◌∷◌, ◌++◌, length, refl, sym, ap, subst, ◌∙◌, ◌⊎◌, inl, inr, Option, Some, None}
 use Rattle.std.specs.Prelude.{slice_get, map, option_map}
-use Rattle.std.proofs.lemmas.Bool.{cond_both, cond-true, cond-false, cases_eq, eq-eqb, eqb-true, eqb-false, ne_eqb, and_parts}
-use Rattle.ksi_aggchain.specs.declared.item.Item.{Item}
+use Rattle.std.proofs.lemmas.Bool.{cond_both, cond-true, cases_eq, eq-eqb, eqb-true, and_parts}
 use Rattle.ksi_aggtree.specs.declared.entries.Entry.{Entry}
 use Rattle.ksi_aggtree.specs.declared.entries.Origin.{Origin}
 use Rattle.ksi_aggtree.specs.declared.entries.Origin.TheVariants as origins
-use Rattle.ksi_aggtree.specs.Entries.{items_of, has_from, is_full, candidate_of}
+use Rattle.ksi_aggtree.specs.Entries.{candidate_of}
 use Rattle.ksi_synod.specs.declared.messages.SynodMessage.{SynodMessage}
 use Rattle.ksi_synod.specs.declared.messages.SynodMessage.TheVariants as message
 use Rattle.ksi_synod.specs.Voters.{cores_below}
-use Rattle.ksi_synod.specs.VoteState.{VoteState, fresh_vote}
-use Rattle.ksi_synod.specs.Rows.{seal, try_ballot, ballot_told, receive, held_told, restarted}
-use Rattle.ksi_synod.specs.Reached.{Said, says, Has, here, there, more, IsStep, seals, tries, tells, takes, restarts, Reached, start, step}
+use Rattle.ksi_synod.specs.VoteState.{VoteState}
+use Rattle.ksi_synod.specs.Reached.{Said, says, Has, here, there, more, IsStep, Reached, step}
 use Rattle.ksi_signature.specs.declared.above.Above.{Above}
 use Rattle.ksi_signature.specs.declared.answer.Answer.{Answer}
-use Rattle.ksi_signature.specs.declared.answer.Answer.TheVariants as answers
 use Rattle.ksi_corenode.specs.declared.step.Send as core_step
 use Rattle.ksi_corenode.specs.declared.step.Send.TheVariants as core_sends
-use Rattle.ksi_corenode.specs.SecondState.{SecondState, fresh_second, voters_of}
+use Rattle.ksi_corenode.specs.SecondState.{SecondState, voters_of}
 use Rattle.ksi_corenode.specs.Turns.{Turn, still, to_each}
 use Rattle.ksi_corenode.specs.Turns as turns
-use Rattle.ksi_corenode.specs.Held.{Held, first_missing, held_seconds}
-use Rattle.ksi_corenode.specs.Rows.{submission_row, submitted, item_taken, seal_row, sealed_now, ballot_row, receive_row, tell_row, respond_row, respond_where, responded, above_item, responses_from, response_to, is_mine, restart_row}
+use Rattle.ksi_corenode.specs.Rows.{responses_from, response_to}
 use Rattle.ksi_aggregator.specs.declared.step.Send as round_step
 use Rattle.ksi_aggregator.specs.declared.step.Send.TheVariants as round_sends
-use Rattle.ksi_aggregator.specs.Rows.{RoundTurn, round_request, round_submission, round_close, round_response}
-use Rattle.ksi_schedule.specs.declared.actor.Actor.{Actor}
 use Rattle.ksi_schedule.specs.declared.actor.Actor.TheVariants as actors
-use Rattle.ksi_schedule.specs.declared.event.Event.{Event}
-use Rattle.ksi_schedule.specs.declared.event.Event.TheVariants as events
-use Rattle.ksi_schedule.specs.Plans.{PlanState, IsPlan}
-use Rattle.ksi_schedule.specs.Events.{IsEvent, AreEvents}
-use Rattle.ksi_world.specs.declared.message.Content.{Content}
+use Rattle.ksi_schedule.specs.Plans.{PlanState}
 use Rattle.ksi_world.specs.declared.message.Content.TheVariants as contents
 use Rattle.ksi_world.specs.declared.message.Message.{Message}
-use Rattle.ksi_world.specs.Histories.{WorldState, put_at, core_message, round_message, at_core, at_round, delivered, happens, held_in, first_world, run, after}
-use Rattle.ksi_world.specs.Histories as histories
+use Rattle.ksi_world.specs.Histories.{put_at, core_message, round_message}
 use Rattle.ksi_world.specs.Deciding.{IsTold}
 use Rattle.ksi_world.proofs.Turning.{put_here, put_other}
 use Rattle.ksi_world.proofs.Fitting.{same_function}
 use Rattle.ksi_world.proofs.Sending.{get_in_either}
-use Rattle.ksi_world.proofs.Leaving.{receive_leaves, try_leaves, seal_sets, seal_holds}
 
 -- LISTS AND FUNCTIONS
 

@@ -1,5 +1,4 @@
 -- What a message asks of its addressee.
-use Rattle.std.specs.Prelude.{ℕ}
 use Rattle.ksi_aggchain.specs.declared.item.Item.{Item}
 use Rattle.ksi_synod.specs.declared.messages.SynodMessage.{SynodMessage}
 use Rattle.ksi_schedule.specs.declared.actor.Actor.{Actor}

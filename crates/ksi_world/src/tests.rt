@@ -4,6 +4,7 @@ ghost use Rattle.ksi_schedule.specs.Plans.{IsPlan, InRange};
 use crate::*;
 use ksi_aggchain::Item;
 use ksi_imprint::{Compress, Imprint, Sha};
+use ksi_signature::read;
 use std::alloc::Global;
 use std::test::Fail;
 
@@ -145,6 +146,21 @@ fn issued(world: &World<Sha>, number: u64) -> Option<usize> {
     }
 }
 
+/// Whether chain `k` of the issued signature of a number has this index.
+fn has_index(alloc: Global, world: &World<Sha>, number: u64, k: usize, index: &[u64]) -> bool {
+    let bytes = match world.issued(number) {
+        Ok(Some(bytes)) => bytes,
+        _ => return false,
+    };
+    match read(alloc, bytes.as_slice()) {
+        Ok(signature) => match signature.chains.as_slice().get(k) {
+            Some(chain) => chain.index.as_slice() == index,
+            None => false,
+        },
+        Err(_) => false,
+    }
+}
+
 /// Whether this one second is kept, with this root and one item of it.
 fn keeps(world: &World<Sha>, root: Imprint) -> bool {
     let kept = match world.kept() {
@@ -152,16 +168,15 @@ fn keeps(world: &World<Sha>, root: Imprint) -> bool {
         Err(_) => return false,
     };
     match kept.seconds.as_slice() {
-        [one] => {
-            kept.start == T
-                && one.second == T
-                && one.root == root
-                && one.items.as_slice()
-                    == [Item {
-                        imprint: root,
-                        level: 0,
-                    }]
-        }
+        [one] => kept.start == T && one.second == T && one.root == root && is_alone(one, root),
+        _ => false,
+    }
+}
+
+/// Whether the imprint is the only item.
+fn is_alone(one: &KeptSecond, imprint: Imprint) -> bool {
+    match one.items.as_slice() {
+        [item] => *item == Item { imprint, level: 0 },
         _ => false,
     }
 }
@@ -193,7 +208,8 @@ fn a_request_is_decided_issued_and_published(rt: HostRuntime) -> Result<(), Fail
         ) => root,
         _ => Imprint::ZERO,
     };
-    assert_eq!(rt; world.published(), &[(T, root)]);
+    assert_eq!(rt; world.published().len(), 1);
+    assert!(rt; world.published().first() == Some(&(T, root)));
     assert_eq!(rt; world.events().len(), 12);
     assert_eq!(rt; world.wire().len(), 7);
     assert_eq!(rt; world.requests().len(), 1);
@@ -226,8 +242,11 @@ fn a_response_goes_down_the_aggregators(rt: HostRuntime) -> Result<(), Fail> {
         (Event::Deliver(8), Answer::Nothing, 0),
     ];
     assert!(rt; goes(&mut world, &answered));
-    assert!(rt; issued(&world, 0).is_some());
-    assert!(rt; issued(&world, 1).is_some());
+    assert!(rt; has_index(rt.alloc(), &world, 0, 0, &[1, 3, 1]));
+    assert!(rt; has_index(rt.alloc(), &world, 0, 1, &[1, 3]));
+    assert!(rt; has_index(rt.alloc(), &world, 0, 2, &[1]));
+    assert!(rt; has_index(rt.alloc(), &world, 1, 0, &[1, 2]));
+    assert!(rt; has_index(rt.alloc(), &world, 1, 1, &[1]));
     Ok(())
 }
 

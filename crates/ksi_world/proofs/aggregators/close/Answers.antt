@@ -1,4 +1,4 @@
-use Rattle.std.proofs.Common.{◌≡◌, ℕ, ◌<◌, ◌≤◌, ◌+◌, ◌++◌, length, refl, sym, ap, ◌∙◌, arith, vec_len, Some}
+use Rattle.std.proofs.Common.{◌≡◌, ◌++◌, length, refl, ap, ◌∙◌, arith, Some}
 use Rattle.std.specs.Prelude.{slice_get, map}
 use Rattle.std.proofs.lemmas.Option.{slice_get_read}
 use Rattle.ksi_aggregator.specs.Rounds.{rounds_of}

@@ -1,9 +1,8 @@
-use Rattle.std.proofs.Common.{◌≡◌, ℕ, ◌<◌, ◌≤◌, ◌+◌, ◌++◌, length, refl, sym, ap, ◌∙◌, arith, vec_len, Some}
-use Rattle.std.specs.Prelude.{slice_get, map}
+use Rattle.std.proofs.Common.{◌≡◌, length, refl, ap, ◌∙◌, arith, Some}
+use Rattle.std.specs.Prelude.{slice_get}
 use Rattle.std.proofs.lemmas.Option.{slice_get_read}
 use Rattle.ksi_aggregator.specs.Rounds.{rounds_of}
 use Rattle.ksi_aggregator.specs.Rows.{round_request}
-use Rattle.ksi_world.specs.Histories.{round_message}
 use Rattle.ksi_world.proofs.Turning.{at_error}
 use Rattle.ksi_world.proofs.RoundTurning.{round_turned, aggregators_stay, none_requested}
 use Rattle.ksi_world.proofs.aggregators.request.Goals as goal

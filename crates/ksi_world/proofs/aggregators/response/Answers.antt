@@ -1,8 +1,7 @@
-use Rattle.std.proofs.Common.{◌≡◌, ℕ, ◌≤◌, ◌++◌, length, refl, sym, ap, subst, ◌∙◌, arith, get_or, Some}
-use Rattle.std.specs.Prelude.{slice_get, map}
+use Rattle.std.proofs.Common.{◌≡◌, ◌++◌, sym, ap, subst, ◌∙◌, arith, get_or}
+use Rattle.std.specs.Prelude.{map}
 use Rattle.std.proofs.lemmas.Option.{get_or_from_slice_get}
 use Rattle.ksi_world.specs.declared.message.Message.{Message}
-use Rattle.ksi_world.specs.declared.message.Content.{Content}
 use Rattle.ksi_world.specs.Histories.{round_message}
 use Rattle.ksi_world.specs.Nodes.{CanTake, RoundMove, response_row}
 use Rattle.ksi_world.proofs.RoundTurning.{moved, few_taken}

@@ -1,9 +1,8 @@
-use Rattle.std.proofs.Common.{◌≡◌, ℕ, ◌<◌, ◌≤◌, ◌+◌, ◌++◌, length, refl, sym, ap, ◌∙◌, arith, vec_len, Some}
-use Rattle.std.specs.Prelude.{slice_get, map}
+use Rattle.std.proofs.Common.{◌≡◌, length, refl, ap, ◌∙◌, arith, Some}
+use Rattle.std.specs.Prelude.{slice_get}
 use Rattle.std.proofs.lemmas.Option.{slice_get_read}
 use Rattle.ksi_corenode.specs.CoreState.{second_at}
 use Rattle.ksi_corenode.specs.Rows.{seal_row}
-use Rattle.ksi_world.specs.Histories.{core_message}
 use Rattle.ksi_world.proofs.Turning.{at_error, core_turned, cores_stay, none_sealed}
 use Rattle.ksi_world.proofs.cores.seal.Goals as goal
 

@@ -1,11 +1,8 @@
-use Rattle.std.proofs.Common.{◌≡◌, ℕ, refl, sym, ap, subst}
+use Rattle.std.proofs.Common.{sym, subst}
 use Rattle.std.proofs.lemmas.Result.{IfOk-weaker, on_err_weaker}
-use Rattle.ksi_corenode.specs.CoreState.{second_at, held_by}
+use Rattle.ksi_corenode.specs.CoreState.{second_at}
 use Rattle.ksi_corenode.specs.Rows.{ballot_row}
-use Rattle.ksi_schedule.specs.declared.event.Event.TheVariants as events
-use Rattle.ksi_world.specs.declared.outcome.Outcome.{Outcome}
-use Rattle.ksi_schedule.specs.Plans.{PlanState}
-use Rattle.ksi_world.specs.Histories.{WorldState, happens, held_in}
+use Rattle.ksi_world.specs.Histories.{happens}
 use Rattle.ksi_world.specs.Nodes.{NodesState, Fits}
 use Rattle.ksi_world.proofs.Fitting.{core_fits, core_stands, both_errors, ballot_same}
 use Rattle.ksi_world.proofs.nodes.Nodes.ballot.Goals as goal

@@ -1,7 +1,6 @@
-use Rattle.std.proofs.Common.{◌≡◌, ℕ, refl, sym, ap, subst, arith}
+use Rattle.std.proofs.Common.{sym, subst, arith}
 use Rattle.std.proofs.lemmas.Result.{IfOk-weaker, on_err_weaker}
 use Rattle.ksi_aggregator.specs.Rows.{round_submission}
-use Rattle.ksi_world.specs.Histories.{happens}
 use Rattle.ksi_world.specs.Nodes.{NodesState, Fits}
 use Rattle.ksi_world.proofs.Fitting.{round_fits, round_stands, both_errors}
 use Rattle.ksi_world.proofs.Depths.{aggregator_parent}

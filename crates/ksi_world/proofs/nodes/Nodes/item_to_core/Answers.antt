@@ -1,13 +1,9 @@
-use Rattle.std.proofs.Common.{◌≡◌, ℕ, refl, sym, ap, subst, arith}
+use Rattle.std.proofs.Common.{sym, ap, subst, arith}
 use Rattle.std.proofs.lemmas.Result.{IfOk-weaker, on_err_weaker}
-use Rattle.ksi_corenode.specs.CoreState.{second_at, held_by}
+use Rattle.ksi_corenode.specs.CoreState.{second_at}
 use Rattle.ksi_corenode.specs.Rows.{submission_row}
-use Rattle.ksi_schedule.specs.declared.event.Event.TheVariants as events
-use Rattle.ksi_world.specs.declared.outcome.Outcome.{Outcome}
-use Rattle.ksi_schedule.specs.Plans.{PlanState}
-use Rattle.ksi_world.specs.Histories.{WorldState, happens, held_in}
 use Rattle.ksi_world.specs.Nodes.{NodesState, Fits}
-use Rattle.ksi_world.proofs.Fitting.{core_fits, core_stands, both_errors, receive_same}
+use Rattle.ksi_world.proofs.Fitting.{core_fits, core_stands, both_errors}
 use Rattle.ksi_world.proofs.Depths.{core_parent}
 use Rattle.ksi_world.proofs.nodes.Nodes.item_to_core.Goals as goal
 

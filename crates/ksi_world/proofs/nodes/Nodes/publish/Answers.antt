@@ -1,4 +1,4 @@
-use Rattle.std.proofs.Common.{◌≡◌, ℕ, ◌<◌, length, refl, sym, ap, subst, ◌∙◌, arith}
+use Rattle.std.proofs.Common.{sym, ap, subst, ◌∙◌, arith}
 use Rattle.ksi_corenode.specs.Rows.{publish_answer}
 use Rattle.ksi_world.specs.Histories.{happens, held_in, published_with}
 use Rattle.ksi_world.specs.Nodes.{NodesState, Fits}

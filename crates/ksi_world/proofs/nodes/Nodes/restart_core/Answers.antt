@@ -1,4 +1,4 @@
-use Rattle.std.proofs.Common.{◌≡◌, ℕ, refl, sym, ap, subst}
+use Rattle.std.proofs.Common.{refl, sym, subst}
 use Rattle.ksi_corenode.specs.Rows.{restart_row}
 use Rattle.ksi_world.specs.Histories.{happens}
 use Rattle.ksi_world.specs.Nodes.{NodesState, Fits}

@@ -1,4 +1,4 @@
-use Rattle.std.proofs.Common.{[], sym, subst}
+use Rattle.std.proofs.Common.{sym, subst}
 use Rattle.ksi_world.specs.Nodes.{IsWorld}
 use Rattle.ksi_world.proofs.Running.{world_first}
 use Rattle.ksi_world.proofs.world.World.new.Goals as goal

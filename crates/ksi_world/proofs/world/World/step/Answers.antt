@@ -1,4 +1,4 @@
-use Rattle.std.proofs.Common.{◌≡◌, ◌++◌, ◌∷◌, [], sym, ap, subst, ◌∙◌}
+use Rattle.std.proofs.Common.{◌++◌, ◌∷◌, [], sym, ap, subst, ◌∙◌}
 use Rattle.ksi_schedule.specs.Events.{History, IsEvent}
 use Rattle.ksi_world.specs.Histories.{after}
 use Rattle.ksi_world.specs.Nodes.{IsWorld}
