@@ -1,5 +1,5 @@
 -- The aggregator of an accepted request is one of the plan's.
-use Rattle.std.proofs.Common.{◌≡◌, ℕ, ◌<◌, List, [], ◌∷◌, length, sym, subst, inl, inr, Option, Some, None}
+use Rattle.std.proofs.Common.{◌≡◌, ℕ, ◌<◌, List, [], ◌∷◌, length, refl, sym, subst, inl, inr, Option, Some, None}
 use Rattle.std.specs.Prelude.{slice_get}
 use Rattle.ksi_signature.specs.declared.answer.Answer.{Answer}
 use Rattle.ksi_signature.specs.declared.answer.Answer.TheVariants as answers
@@ -40,23 +40,28 @@ module _ (image : List ℕ → List ℕ) (plan : PlanState) where
   with_asked requests new answers.Nothing lt are = are
   with_asked requests new answers.Last lt are = are
 
-  taken_asks : (w : WorldState) (sender addressee : Actor) (t : ℕ) (content : Content) → AreAsked w.requests → AreAsked (histories.taken image plan w sender addressee t content).world.requests
-  taken_asks w (actors.Core from) (actors.Core j) t (contents.Synod m) are = are
-  taken_asks w (actors.Core from) (actors.Core j) t (contents.Submission item) are = are
-  taken_asks w (actors.Core from) (actors.Core j) t (contents.Response above) are = are
-  taken_asks w (actors.Core from) (actors.Aggregator k) t (contents.Synod m) are = are
-  taken_asks w (actors.Core from) (actors.Aggregator k) t (contents.Submission item) are = are
-  taken_asks w (actors.Core from) (actors.Aggregator k) t (contents.Response above) are = are
-  taken_asks w (actors.Aggregator from) (actors.Core j) t (contents.Synod m) are = are
-  taken_asks w (actors.Aggregator from) (actors.Core j) t (contents.Submission item) are = are
-  taken_asks w (actors.Aggregator from) (actors.Core j) t (contents.Response above) are = are
-  taken_asks w (actors.Aggregator from) (actors.Aggregator k) t (contents.Synod m) are = are
-  taken_asks w (actors.Aggregator from) (actors.Aggregator k) t (contents.Submission item) are = are
-  taken_asks w (actors.Aggregator from) (actors.Aggregator k) t (contents.Response above) are = are
+  -- a message that is taken accepts no request, and publishes nothing
+  pub record Leaves (w : WorldState) (h : histories.Happening) : Type 0 where
+    pub requests : h.world.requests ≡ w.requests
+    pub published : h.world.published ≡ w.published
 
-  delivered_asks : (w : WorldState) (found : Option Message) → AreAsked w.requests → AreAsked (delivered image plan w found).world.requests
-  delivered_asks w None are = are
-  delivered_asks w (Some m) are = taken_asks w m.sender m.addressee m.second m.content are
+  taken_leaves : (w : WorldState) (sender addressee : Actor) (t : ℕ) (content : Content) → Leaves w (histories.taken image plan w sender addressee t content)
+  taken_leaves w (actors.Core from) (actors.Core j) t (contents.Synod m) = record { requests = refl; published = refl }
+  taken_leaves w (actors.Core from) (actors.Core j) t (contents.Submission item) = record { requests = refl; published = refl }
+  taken_leaves w (actors.Core from) (actors.Core j) t (contents.Response above) = record { requests = refl; published = refl }
+  taken_leaves w (actors.Core from) (actors.Aggregator k) t (contents.Synod m) = record { requests = refl; published = refl }
+  taken_leaves w (actors.Core from) (actors.Aggregator k) t (contents.Submission item) = record { requests = refl; published = refl }
+  taken_leaves w (actors.Core from) (actors.Aggregator k) t (contents.Response above) = record { requests = refl; published = refl }
+  taken_leaves w (actors.Aggregator from) (actors.Core j) t (contents.Synod m) = record { requests = refl; published = refl }
+  taken_leaves w (actors.Aggregator from) (actors.Core j) t (contents.Submission item) = record { requests = refl; published = refl }
+  taken_leaves w (actors.Aggregator from) (actors.Core j) t (contents.Response above) = record { requests = refl; published = refl }
+  taken_leaves w (actors.Aggregator from) (actors.Aggregator k) t (contents.Synod m) = record { requests = refl; published = refl }
+  taken_leaves w (actors.Aggregator from) (actors.Aggregator k) t (contents.Submission item) = record { requests = refl; published = refl }
+  taken_leaves w (actors.Aggregator from) (actors.Aggregator k) t (contents.Response above) = record { requests = refl; published = refl }
+
+  pub delivered_leaves : (w : WorldState) (found : Option Message) → Leaves w (delivered image plan w found)
+  delivered_leaves w None = record { requests = refl; published = refl }
+  delivered_leaves w (Some m) = taken_leaves w m.sender m.addressee m.second m.content
 
   happens_asks : (w : WorldState) (e : Event) → IsEvent plan e → AreAsked w.requests → AreAsked (happens image plan w e).world.requests
   unfolding happens
@@ -64,7 +69,7 @@ module _ (image : List ℕ → List ℕ) (plan : PlanState) where
   happens_asks w (events.Close k t) is are = are
   happens_asks w (events.Seal j t) is are = are
   happens_asks w (events.Ballot j t) is are = are
-  happens_asks w (events.Deliver number) is are = delivered_asks w (slice_get w.wire number) are
+  happens_asks w (events.Deliver number) is are = subst AreAsked (sym (delivered_leaves w (slice_get w.wire number)).requests) are
   happens_asks w (events.Tell j t) is are = are
   happens_asks w (events.Respond j t) is are = are
   happens_asks w (events.Publish j p) is are = are

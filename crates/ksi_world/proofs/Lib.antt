@@ -17,5 +17,6 @@ pub mod Listing
 pub mod Skipping
 pub mod Lowest
 pub mod Asking
+pub mod Publishing
 pub mod Deciding
 pub mod Listed

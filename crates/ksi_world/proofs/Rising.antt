@@ -13,13 +13,13 @@ module _ (p : ℕ) (root : List ℕ) where
   place_here : (x : ℕ × List ℕ) (xs : List (ℕ × List ℕ)) → p ≤ x.0 → place_of p (x ∷ xs) ≡ 0
   place_here x xs le = cond-false (ltb x.0 p) (suc (place_of p xs)) 0 (le-ltb x.0 p le)
 
-  put_after : (x : ℕ × List ℕ) (xs : List (ℕ × List ℕ)) → x.0 < p → put_rising p root (x ∷ xs) ≡ x ∷ put_rising p root xs
+  pub put_after : (x : ℕ × List ℕ) (xs : List (ℕ × List ℕ)) → x.0 < p → put_rising p root (x ∷ xs) ≡ x ∷ put_rising p root xs
   put_after x xs lt = cond-false (ltb p x.0) _ _ (le-ltb p x.0 (omega (arith, lt))) ∙ cond-false (eqb p x.0) _ _ (ne_eqb p x.0 (λ e. omega (arith, e, lt)))
 
-  put_on : (x : ℕ × List ℕ) (xs : List (ℕ × List ℕ)) → p ≡ x.0 → put_rising p root (x ∷ xs) ≡ x ∷ xs
+  pub put_on : (x : ℕ × List ℕ) (xs : List (ℕ × List ℕ)) → p ≡ x.0 → put_rising p root (x ∷ xs) ≡ x ∷ xs
   put_on x xs e = cond-false (ltb p x.0) _ _ (le-ltb p x.0 (omega (arith, e))) ∙ cond-true (eqb p x.0) _ _ (eq-eqb p x.0 e)
 
-  put_before : (x : ℕ × List ℕ) (xs : List (ℕ × List ℕ)) → p < x.0 → put_rising p root (x ∷ xs) ≡ (p, root) ∷ x ∷ xs
+  pub put_before : (x : ℕ × List ℕ) (xs : List (ℕ × List ℕ)) → p < x.0 → put_rising p root (x ∷ xs) ≡ (p, root) ∷ x ∷ xs
   put_before x xs lt = cond-true (ltb p x.0) _ _ (lt-ltb p x.0 lt)
 
   pub put_known : (xs : List (ℕ × List ℕ)) → is_second p (slice_get xs (place_of p xs)) ≡ true → put_rising p root xs ≡ xs

@@ -1,4 +1,4 @@
--- What a decided second is: missed, or the tree of items that a core sealed.
+-- What a decided second is: missed, or the tree of items that a core sealed. And which seconds were published.
 use Rattle.std.specs.Prelude.{◌≡◌, ◌≢◌, ◌⊎◌, ℕ, suc, ◌<◌, ◌≤◌, List, [], ◌∷◌, length, Some}
 use Rattle.ksi_imprint.specs.Imprints.{zero_imprint}
 use Rattle.ksi_aggtree.specs.declared.entries.Entry.{Entry}
@@ -41,3 +41,8 @@ EachKept P (kept ∷ others) = P kept × EachKept P others
 abbrev pub AreRising : (from : ℕ) → List KeptSecond → Type 0
 AreRising from [] = Unit {0}
 AreRising from (kept ∷ others) = (from ≤ kept.second) × AreRising (suc kept.second) others
+
+-- the published times rise from this one on, and are before the other
+abbrev pub AreTimes : (from before : ℕ) → List (ℕ × List ℕ) → Type 0
+AreTimes from before [] = Unit {0}
+AreTimes from before (x ∷ xs) = (from ≤ x.0) × (x.0 < before) × AreTimes (suc x.0) before xs

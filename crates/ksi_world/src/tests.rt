@@ -1,5 +1,6 @@
 ghost use Rattle.std.specs.Prelude.{◌≡◌, ◌<◌, ◌≤◌, ◌∷◌, [], length, IfOk, IsTrue};
 ghost use Rattle.ksi_schedule.specs.Plans.{IsPlan, InRange};
+ghost use Rattle.ksi_schedule.specs.Events.{IsEvent};
 
 use crate::*;
 use ksi_aggchain::Item;
@@ -66,26 +67,31 @@ fn of_aggregator(world: &World<Sha>, aggregator: u32, second: u64) -> bool
     is_second(world.plan(), second)
 }
 
+/// Whether the event is of an actor and a second of the plan.
+fn is_event(world: &World<Sha>, event: Event) -> bool
+    ensures { IsTrue result → IsEvent world.now.plan event }
+{
+    match event {
+        Event::Request(k, t, _) => of_aggregator(world, k, t),
+        Event::Close(k, t) => of_aggregator(world, k, t),
+        Event::Seal(j, t) => of_core(world, j, t),
+        Event::Ballot(j, t) => of_core(world, j, t),
+        Event::Deliver(_) => true,
+        Event::Tell(j, t) => of_core(world, j, t),
+        Event::Respond(j, t) => of_core(world, j, t),
+        Event::Publish(j, t) => of_core(world, j, t),
+        Event::RestartCore(j) => j < world.plan().cores,
+        Event::RestartAggregator(k) => (k as usize) < world.plan().aggregators(),
+    }
+}
+
 /// What comes of the event, where it is one of the plan.
 fn outcome(world: &mut World<Sha>, event: Event) -> Option<Outcome> {
-    let result = match event {
-        Event::Request(k, t, imprint) if of_aggregator(world, k, t) => {
-            world.step(Event::Request(k, t, imprint))
-        }
-        Event::Close(k, t) if of_aggregator(world, k, t) => world.step(Event::Close(k, t)),
-        Event::Seal(j, t) if of_core(world, j, t) => world.step(Event::Seal(j, t)),
-        Event::Ballot(j, t) if of_core(world, j, t) => world.step(Event::Ballot(j, t)),
-        Event::Deliver(number) => world.step(Event::Deliver(number)),
-        Event::Tell(j, t) if of_core(world, j, t) => world.step(Event::Tell(j, t)),
-        Event::Respond(j, t) if of_core(world, j, t) => world.step(Event::Respond(j, t)),
-        Event::Publish(j, t) if of_core(world, j, t) => world.step(Event::Publish(j, t)),
-        Event::RestartCore(j) if of_core(world, j, T) => world.step(Event::RestartCore(j)),
-        Event::RestartAggregator(k) if of_aggregator(world, k, T) => {
-            world.step(Event::RestartAggregator(k))
-        }
-        _ => return None,
-    };
-    result.ok()
+    if is_event(world, event) {
+        world.step(event).ok()
+    } else {
+        None
+    }
 }
 
 /// Whether the event has this answer and sends so many messages.

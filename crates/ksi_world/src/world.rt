@@ -2,7 +2,7 @@ ghost use Rattle.std.specs.Prelude.{◌≡◌, ◌<◌, ◌≤◌, ◌^◌, ◌+
 ghost use Rattle.ksi_corenode.specs.CoreState.{second_at};
 ghost use Rattle.ksi_world.specs.Histories.{happens, held_in, world_of};
 ghost use Rattle.ksi_world.specs.Records.{IsIssuedOf, NotIssuedOf, kept_seconds};
-ghost use Rattle.ksi_world.specs.Validity.{AreRising, EachKept, IsKept};
+ghost use Rattle.ksi_world.specs.Validity.{AreRising, AreTimes, EachKept, IsKept};
 ghost use Rattle.ksi_schedule.specs.Plans.{IsPlan};
 ghost use Rattle.ksi_schedule.specs.Events.{with_event, IsEvent, AreEvents};
 
@@ -96,9 +96,10 @@ impl<C: Compress> World<C> {
         self.nodes.requests()
     }
 
-    /// The published seconds, rising, each with its root.
+    /// The published seconds, each with its root. They rise from the start and are below 2^63.
     pub fn published(&self) -> &[(u64, Imprint)]
-        ensures { result.now ≡ (world_of C.image self.now).published }
+        ensures published { result.now ≡ (world_of C.image self.now).published }
+        ensures rising { AreTimes self.now.plan.start (2 ^ 63) (world_of C.image self.now).published }
     {
         self.nodes.published()
     }
