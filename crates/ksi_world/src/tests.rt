@@ -68,10 +68,10 @@ fn of_aggregator(world: &World<Sha>, aggregator: u32, second: u64) -> bool
 }
 
 /// Whether the event is of an actor and a second of the plan.
-fn is_event(world: &World<Sha>, event: Event) -> bool
-    ensures { IsTrue result → IsEvent world.now.plan event }
+fn is_event(world: &World<Sha>, event: &Event) -> bool
+    ensures { IsTrue result → IsEvent world.now.plan event.now }
 {
-    match event {
+    match *event {
         Event::Request(k, t, _) => of_aggregator(world, k, t),
         Event::Close(k, t) => of_aggregator(world, k, t),
         Event::Seal(j, t) => of_core(world, j, t),
@@ -87,7 +87,7 @@ fn is_event(world: &World<Sha>, event: Event) -> bool
 
 /// What comes of the event, where it is one of the plan.
 fn outcome(world: &mut World<Sha>, event: Event) -> Option<Outcome> {
-    if is_event(world, event) {
+    if is_event(world, &event) {
         world.step(event).ok()
     } else {
         None
