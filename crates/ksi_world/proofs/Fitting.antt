@@ -1,0 +1,171 @@
+-- The nodes after a turn are those of the world after it.
+use Rattle.std.proofs.Common.{◌≡◌, ℕ, zero, suc, ◌<◌, cond, eqb, List, [], ◌∷◌, ◌++◌, length, refl, sym, ap, subst, ◌∙◌, arith, inl, inr, Some, length-set}
+use Rattle.std.specs.Prelude.{slice_get, map, OnErr, Result, Ok, Err}
+use Rattle.std.proofs.lemmas.Bool.{cond-true, cond-false, eq-eqb, ne_eqb}
+use Rattle.ksi_corenode.specs.SecondState.{SecondState}
+use Rattle.ksi_corenode.specs.Turns.{Turn}
+use Rattle.ksi_corenode.specs.Held.{Held}
+use Rattle.ksi_corenode.specs.Rows.{ballot_row, tell_row, receive_row, respond_row, publish_answer}
+use Rattle.ksi_corenode.specs.CoreState.{CoreState, second_at, held_by}
+use Rattle.ksi_aggregator.specs.Rows.{RoundState, RoundTurn, round_request}
+use Rattle.ksi_aggregator.specs.Rounds.{AggregatorState, rounds_of}
+use Rattle.ksi_synod.specs.declared.messages.SynodMessage.{SynodMessage}
+use Rattle.ksi_signature.specs.declared.answer.Answer.{Answer}
+use Rattle.ksi_world.specs.declared.outcome.Asked.{Asked}
+use Rattle.ksi_world.specs.declared.outcome.Outcome.{Outcome}
+use Rattle.ksi_world.specs.declared.message.Message.{Message}
+use Rattle.ksi_schedule.specs.Plans.{PlanState}
+use Rattle.ksi_world.specs.Histories.{WorldState, core_message, round_message, outcome_of, at_core, at_round, held_in, asked_with, request_happens, published_with, publish_happens}
+use Rattle.ksi_world.specs.Nodes.{NodesState, IsCore, AreCores, IsAggregator, AreAggregators, Fits, CoreStep, RoundStep, CoreRestart, RoundRestart, CoresStay, AggregatorsStay}
+use Rattle.ksi_world.proofs.Turning.{get_set, cores_turned}
+use Rattle.ksi_world.proofs.RoundTurning.{aggregators_turned}
+
+abbrev pub nodes_of : List CoreState → List AggregatorState → List Message → List Asked → List (ℕ × List ℕ) → NodesState
+nodes_of cores aggregators wire requests published = record { cores = cores; aggregators = aggregators; wire = wire; requests = requests; published = published }
+
+pub same_function : {A B : Type 0} (f g : A → B) → ((x : A) → f x ≡ g x) → f ≡ g
+same_function f g same = λ i x. same x i
+
+-- two facts at an error
+pub both_errors : {A B : Type 0} (P Q : Type 0) (r : Result A B) → OnErr r P → OnErr r Q → OnErr r (P × Q)
+both_errors P Q (Ok x) p q = tt
+both_errors P Q (Err e) p q = (p, q)
+
+module _ (plan : PlanState) (w : WorldState) (cores cores' : List CoreState) (aggregators aggregators' : List AggregatorState) (wire wire' : List Message) (requests requests' : List Asked) (published published' : List (ℕ × List ℕ)) (fits : Fits plan w (nodes_of cores aggregators wire requests published)) where
+  -- a turn of a core
+  pub core_fits : (row : CoreState → Turn) (j t : ℕ) (outcome : Outcome) (turn : Turn) (step : CoreStep row j t cores cores' wire wire' outcome) → row step.old ≡ turn →
+      Fits plan (at_core w j t turn).world (nodes_of cores' aggregators wire' requests published) × (outcome ≡ (at_core w j t turn).outcome)
+  core_fits row j t outcome turn step same = (
+    record {
+      cores = cores_turned plan w.seconds row j t cores cores' wire wire' outcome turn step same fits.cores;
+      aggregators = record { many = fits.aggregators.many; each = fits.aggregators.each };
+      wire = step.posted ∙ ap (λ xs. xs ++ map (core_message j t) (row step.old).sends) fits.wire ∙ ap (λ (z : Turn). w.wire ++ map (core_message j t) z.sends) same;
+      requests = fits.requests;
+      published = fits.published;
+    },
+    step.told ∙ ap (λ (z : Turn). outcome_of z.answer (length z.sends)) same,
+  )
+
+  pub core_stands : CoresStay cores cores' → wire' ≡ wire → Fits plan w (nodes_of cores' aggregators wire' requests published)
+  core_stands stay same = record { cores = stay plan w.seconds fits.cores; aggregators = fits.aggregators; wire = same ∙ fits.wire; requests = fits.requests; published = fits.published }
+
+  -- a turn of an aggregator
+  pub round_fits : (row : RoundState → RoundTurn) (k t : ℕ) (outcome : Outcome) → (step : RoundStep row plan k t aggregators aggregators' wire wire' outcome) →
+      Fits plan (at_round plan w k t (row (w.rounds k t))).world (nodes_of cores aggregators' wire' requests published) × (outcome ≡ (at_round plan w k t (row (w.rounds k t))).outcome)
+  round_fits row k t outcome step =
+      let same = ap row ((fits.aggregators.each k step.old step.at).keeps t) in (
+        record {
+          cores = record { many = fits.cores.many; each = fits.cores.each };
+          aggregators = aggregators_turned plan w.rounds row k t aggregators aggregators' wire wire' outcome step fits.aggregators;
+          wire = step.posted ∙ ap (λ xs. xs ++ map (round_message plan k t) (row (rounds_of step.old t)).sends) fits.wire ∙ ap (λ (z : RoundTurn). w.wire ++ map (round_message plan k t) z.sends) same;
+          requests = fits.requests;
+          published = fits.published;
+        },
+        step.told ∙ ap (λ (z : RoundTurn). outcome_of z.answer (length z.sends)) same,
+      )
+
+  pub round_stands : AggregatorsStay aggregators aggregators' → wire' ≡ wire → Fits plan w (nodes_of cores aggregators' wire' requests published)
+  round_stands stay same = record { cores = fits.cores; aggregators = stay plan w.rounds fits.aggregators; wire = same ∙ fits.wire; requests = fits.requests; published = fits.published }
+
+  -- a restart
+  pub core_restarts_fits : (row : SecondState → SecondState) (j : ℕ) → CoreRestart row j cores cores' → AreCores plan (λ i t. cond (eqb i j) (row (w.seconds i t)) (w.seconds i t)) cores'
+  core_restarts_fits row j step = subst (λ xs. AreCores plan after xs) (sym step.after) (record {
+    many = length-set cores j step.new ∙ fits.cores.many;
+    each = λ k c here. elim (get_set cores j k step.new c here) [
+      | inl is ↦ subst (λ c. IsCore plan (after k) k c) (sym is.1) (subst (λ k. IsCore plan (after k) k step.new) (sym is.0) new_core)
+      | inr other ↦ let is = fits.cores.each k c other.1 in record { me = is.me; members = is.members; start = is.start; keeps = λ u. is.keeps u ∙ sym (cond-false (eqb k j) (row (w.seconds k u)) (w.seconds k u) (ne_eqb k j other.0)) }
+    ];
+  })
+    where
+      after : ℕ → ℕ → SecondState
+      after i t = cond (eqb i j) (row (w.seconds i t)) (w.seconds i t)
+
+      old_core : IsCore plan (w.seconds j) j step.old
+      old_core = fits.cores.each j step.old step.at
+
+      new_core : IsCore plan (after j) j step.new
+      new_core = record {
+        me = step.me ∙ old_core.me;
+        members = step.members ∙ old_core.members;
+        start = step.start ∙ old_core.start;
+        keeps = λ u. step.seconds u ∙ ap row (old_core.keeps u) ∙ sym (cond-true (eqb j j) (row (w.seconds j u)) (w.seconds j u) (eq-eqb j j refl));
+      }
+
+  pub round_restarts_fits : (row : RoundState → RoundState) (k : ℕ) → RoundRestart row k aggregators aggregators' → AreAggregators plan (λ i t. cond (eqb i k) (row (w.rounds i t)) (w.rounds i t)) aggregators'
+  round_restarts_fits row k step = subst (λ xs. AreAggregators plan after xs) (sym step.after) (record {
+    many = length-set aggregators k step.new ∙ fits.aggregators.many;
+    each = λ i a here. elim (get_set aggregators k i step.new a here) [
+      | inl is ↦ subst (λ a. IsAggregator (after i) i a) (sym is.1) (subst (λ i. IsAggregator (after i) i step.new) (sym is.0) new_one)
+      | inr other ↦ let is = fits.aggregators.each i a other.1 in record { me = is.me; keeps = λ u. is.keeps u ∙ sym (cond-false (eqb i k) (row (w.rounds i u)) (w.rounds i u) (ne_eqb i k other.0)) }
+    ];
+  })
+    where
+      after : ℕ → ℕ → RoundState
+      after i t = cond (eqb i k) (row (w.rounds i t)) (w.rounds i t)
+
+      old_one : IsAggregator (w.rounds k) k step.old
+      old_one = fits.aggregators.each k step.old step.at
+
+      new_one : IsAggregator (after k) k step.new
+      new_one = record {
+        me = step.me ∙ old_one.me;
+        keeps = λ u. step.rounds u ∙ ap row (old_one.keeps u) ∙ sym (cond-true (eqb k k) (row (w.rounds k u)) (w.rounds k u) (eq-eqb k k refl));
+      }
+
+  -- a request
+  pub request_fits : (number k t : ℕ) (imprint : List ℕ) (outcome : Outcome) → number ≡ length w.requests → RoundStep (round_request number imprint) plan k t aggregators aggregators' wire wire' outcome →
+      requests' ≡ asked_with requests (record { aggregator = k; second = t; imprint = imprint }) outcome.answer →
+      Fits plan (request_happens plan w k t imprint).world (nodes_of cores aggregators' wire' requests' published) × (outcome ≡ (request_happens plan w k t imprint).outcome)
+  request_fits number k t imprint outcome same step accepted =
+      let new : Asked = record { aggregator = k; second = t; imprint = imprint } in
+      let r = round_fits (round_request (length w.requests) imprint) k t outcome (subst (λ n. RoundStep (round_request n imprint) plan k t aggregators aggregators' wire wire' outcome) same step) in (
+        record {
+          cores = record { many = r.0.cores.many; each = r.0.cores.each };
+          aggregators = record { many = r.0.aggregators.many; each = r.0.aggregators.each };
+          wire = r.0.wire;
+          requests = accepted ∙ ap (λ rs. asked_with rs new outcome.answer) fits.requests ∙ ap (λ (o : Outcome). asked_with w.requests new o.answer) r.1;
+          published = r.0.published;
+        },
+        r.1,
+      )
+
+  -- a second that is to be published
+  pub publish_fits : (p : ℕ) (answer answer' : Answer) → CoresStay cores cores' → answer ≡ answer' → published' ≡ published_with published p answer →
+      Fits plan (publish_happens w p answer').world (nodes_of cores' aggregators wire requests published') × (outcome_of answer 0 ≡ (publish_happens w p answer').outcome)
+  publish_fits p answer answer' stay same put = (
+    record {
+      cores = let are = stay plan w.seconds fits.cores in record { many = are.many; each = are.each };
+      aggregators = record { many = fits.aggregators.many; each = fits.aggregators.each };
+      wire = fits.wire;
+      requests = fits.requests;
+      published = put ∙ ap (λ xs. published_with xs p answer) fits.published ∙ ap (λ a. published_with w.published p a) same;
+    },
+    ap (λ a. outcome_of a 0) same,
+  )
+
+-- an element below the length is there
+pub get_there : {A : Type 0} (xs : List A) (i : ℕ) → i < length xs → (x : A) × (slice_get xs i ≡ Some x)
+get_there [] i lt = absurd (omega (arith, lt))
+get_there (x ∷ xs) zero lt = (x, refl)
+get_there (x ∷ xs) (suc i) lt = get_there xs i (omega (arith, lt))
+
+-- THE ROWS OF A CORE are those of its second in the world
+
+module _ (plan : PlanState) (w : WorldState) (j : ℕ) (core : CoreState) (is : IsCore plan (w.seconds j) j core) (t : ℕ) where
+  pub ballot_same : ballot_row core.members t core.me (second_at core t) ≡ ballot_row plan.cores t j (w.seconds j t)
+  ballot_same = ap (λ n. ballot_row n t core.me (second_at core t)) is.members ∙ ap (λ me. ballot_row plan.cores t me (second_at core t)) is.me ∙ ap (λ s. ballot_row plan.cores t j s) (is.keeps t)
+
+  pub tell_same : tell_row core.members t core.me (second_at core t) ≡ tell_row plan.cores t j (w.seconds j t)
+  tell_same = ap (λ n. tell_row n t core.me (second_at core t)) is.members ∙ ap (λ me. tell_row plan.cores t me (second_at core t)) is.me ∙ ap (λ s. tell_row plan.cores t j s) (is.keeps t)
+
+  pub receive_same : (from : ℕ) (m : SynodMessage) → receive_row core.members t from m (second_at core t) ≡ receive_row plan.cores t from m (w.seconds j t)
+  receive_same from m = ap (λ n. receive_row n t from m (second_at core t)) is.members ∙ ap (λ s. receive_row plan.cores t from m s) (is.keeps t)
+
+  held_same : held_by core ≡ held_in w j
+  held_same = same_function (held_by core) (held_in w j) (λ u. ap (λ (s : SecondState). s.vote.held) (is.keeps u))
+
+  pub respond_same : (image : List ℕ → List ℕ) → respond_row image (held_by core) core.start t (second_at core t) ≡ respond_row image (held_in w j) plan.start t (w.seconds j t)
+  respond_same image = ap (λ (held : Held). respond_row image held core.start t (second_at core t)) held_same ∙ ap (λ start. respond_row image (held_in w j) start t (second_at core t)) is.start ∙ ap (λ s. respond_row image (held_in w j) plan.start t s) (is.keeps t)
+
+  pub publish_same : (image : List ℕ → List ℕ) → publish_answer image (held_by core) core.start t ≡ publish_answer image (held_in w j) plan.start t
+  publish_same image = ap (λ (held : Held). publish_answer image held core.start t) held_same ∙ ap (λ start. publish_answer image (held_in w j) start t) is.start

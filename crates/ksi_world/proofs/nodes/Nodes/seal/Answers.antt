@@ -1,0 +1,25 @@
+use Rattle.std.proofs.Common.{sym, ap, subst}
+use Rattle.std.proofs.lemmas.Result.{IfOk-weaker, on_err_weaker}
+use Rattle.ksi_corenode.specs.CoreState.{second_at}
+use Rattle.ksi_corenode.specs.Rows.{seal_row}
+use Rattle.ksi_world.specs.Histories.{happens}
+use Rattle.ksi_world.specs.Nodes.{NodesState, Fits}
+use Rattle.ksi_world.proofs.Fitting.{core_fits, core_stands, both_errors}
+use Rattle.ksi_world.proofs.nodes.Nodes.seal.Goals as goal
+
+pub returns-clause-ok : goal.returns-clause-ok
+unfolding happens
+returns-clause-ok g c = IfOk-weaker c.seal.result _ _
+    (λ outcome step plan w fits.
+    let fits' = subst (λ (n : NodesState). Fits plan w n) (sym c.self.view_is) fits in
+    let is = fits'.cores.each c.args.core step.old step.at in
+    core_fits plan w c.self.inside.cores.items c.seal.new.cores.items c.self.inside.aggregators.items c.self.inside.aggregators.items c.self.inside.wire.items c.seal.new.wire.items c.self.inside.requests.items c.self.inside.requests.items c.self.inside.published.items c.self.inside.published.items
+    fits' (λ core. seal_row g.C.Compress.image (second_at core c.args.second)) c.args.core c.args.second outcome (seal_row g.C.Compress.image (w.seconds c.args.core c.args.second)) step (ap (seal_row g.C.Compress.image) (is.keeps c.args.second)))
+    c.seal.ensures.ok
+
+pub returns-clause-err : goal.returns-clause-err
+returns-clause-err g c = on_err_weaker c.seal.result
+    (λ stayed plan w fits.
+    core_stands plan w c.self.inside.cores.items c.seal.new.cores.items c.self.inside.aggregators.items c.self.inside.aggregators.items c.self.inside.wire.items c.seal.new.wire.items c.self.inside.requests.items c.self.inside.requests.items c.self.inside.published.items c.self.inside.published.items
+    (subst (λ (n : NodesState). Fits plan w n) (sym c.self.view_is) fits) stayed.0 stayed.1)
+    (both_errors _ _ c.seal.result c.seal.ensures.cores c.seal.ensures.wire)

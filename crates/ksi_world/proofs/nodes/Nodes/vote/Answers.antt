@@ -1,0 +1,23 @@
+use Rattle.std.proofs.Common.{sym, subst}
+use Rattle.std.proofs.lemmas.Result.{IfOk-weaker, on_err_weaker}
+use Rattle.ksi_corenode.specs.CoreState.{second_at}
+use Rattle.ksi_corenode.specs.Rows.{receive_row}
+use Rattle.ksi_world.specs.Nodes.{NodesState, Fits}
+use Rattle.ksi_world.proofs.Fitting.{core_fits, core_stands, both_errors, receive_same}
+use Rattle.ksi_world.proofs.nodes.Nodes.vote.Goals as goal
+
+pub returns-clause-ok : goal.returns-clause-ok
+returns-clause-ok g c = IfOk-weaker c.receive.result _ _
+    (λ outcome step plan w fits.
+    let fits' = subst (λ (n : NodesState). Fits plan w n) (sym c.self.view_is) fits in
+    let is = fits'.cores.each c.args.to step.old step.at in
+    core_fits plan w c.self.inside.cores.items c.receive.new.cores.items c.self.inside.aggregators.items c.self.inside.aggregators.items c.self.inside.wire.items c.receive.new.wire.items c.self.inside.requests.items c.self.inside.requests.items c.self.inside.published.items c.self.inside.published.items
+    fits' (λ core. receive_row core.members c.args.second c.args.from c.args.vote.now (second_at core c.args.second)) c.args.to c.args.second outcome (receive_row plan.cores c.args.second c.args.from c.args.vote.now (w.seconds c.args.to c.args.second)) step (receive_same plan w c.args.to step.old is c.args.second c.args.from c.args.vote.now))
+    c.receive.ensures.ok
+
+pub returns-clause-err : goal.returns-clause-err
+returns-clause-err g c = on_err_weaker c.receive.result
+    (λ stayed plan w fits.
+    core_stands plan w c.self.inside.cores.items c.receive.new.cores.items c.self.inside.aggregators.items c.self.inside.aggregators.items c.self.inside.wire.items c.receive.new.wire.items c.self.inside.requests.items c.self.inside.requests.items c.self.inside.published.items c.self.inside.published.items
+    (subst (λ (n : NodesState). Fits plan w n) (sym c.self.view_is) fits) stayed.0 stayed.1)
+    (both_errors _ _ c.receive.result c.receive.ensures.cores c.receive.ensures.wire)

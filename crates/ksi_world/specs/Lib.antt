@@ -1,0 +1,9 @@
+pub mod Histories
+pub mod Records
+pub mod Sound
+pub mod Nodes
+pub mod Letters
+pub mod Places
+pub mod Deciding
+pub mod Validity
+pub mod Keeping

@@ -1,0 +1,70 @@
+-- What a history has decided and issued.
+use Rattle.std.specs.Prelude.{◌≡◌, ℕ, zero, suc, ◌^◌, if◌then◌else◌, List, [], ◌∷◌, slice_get, Option, Some, None, option_map, unwrap_or}
+use Rattle.std.specs.Str.{bytes_eq}
+use Rattle.ksi_imprint.specs.Imprints.{zero_imprint}
+use Rattle.ksi_aggchain.specs.declared.item.Item.{Item}
+use Rattle.ksi_aggtree.specs.declared.entries.Entry.{Entry}
+use Rattle.ksi_aggtree.specs.Entries.{items_of, candidate_of}
+use Rattle.ksi_corenode.specs.Held.{Held}
+use Rattle.ksi_aggregator.specs.Issuing.{IsIssued, NotIssued}
+use Rattle.ksi_schedule.specs.Plans.{PlanState}
+use Rattle.ksi_world.specs.declared.kept.KeptSecond.{KeptSecond}
+use Rattle.ksi_world.specs.declared.outcome.Asked.{Asked}
+use Rattle.ksi_world.specs.Histories.{WorldState, held_in}
+
+abbrev pub or_else : {A : Type 0} → Option A → Option A → Option A
+or_else None later = later
+or_else (Some x) later = Some x
+
+-- what the lowest of n cores from this one on has that has something
+abbrev pub lowest : {A : Type 0} → (ℕ → Option A) → (core n : ℕ) → Option A
+lowest of_core core zero = None
+lowest of_core core (suc n) = or_else (of_core core) (lowest of_core (suc core) n)
+
+-- DECIDED SECONDS
+
+-- the root that the lowest core holds that holds one
+abbrev pub kept_root : PlanState → WorldState → Held
+kept_root plan w t = lowest (λ core. held_in w core t) 0 plan.cores
+
+abbrev pub kept_before : Option KeptSecond → List KeptSecond → List KeptSecond
+kept_before None later = later
+kept_before (Some kept) later = kept ∷ later
+
+-- of n seconds from this one on those that are kept, rising
+abbrev pub kept_among : (ℕ → Option KeptSecond) → (second n : ℕ) → List KeptSecond
+kept_among kept t zero = []
+kept_among kept t (suc n) = kept_before (kept t) (kept_among kept (suc t) n)
+
+abbrev pub kept_with : (second : ℕ) → (root : List ℕ) → (items : List Item) → KeptSecond
+kept_with t root items = record { second = t; root = root; items = items }
+
+module _ (image : List ℕ → List ℕ) where
+  -- the sealed items, where their imprint is the root
+  abbrev pub sealed_as : (root : List ℕ) → (sealed : Option (List Entry)) → Option (List Item)
+  sealed_as root None = None
+  sealed_as root (Some entries) = if bytes_eq (candidate_of image entries) root then Some (items_of entries) else None
+
+  -- those of the lowest core whose candidate the root is; none for the zero imprint
+  abbrev pub kept_items : PlanState → WorldState → (second : ℕ) → (root : List ℕ) → List Item
+  kept_items plan w t root = if bytes_eq root zero_imprint then [] else unwrap_or (lowest (λ core. sealed_as root (w.seconds core t).sealed) 0 plan.cores) []
+
+  -- a decided second: its root, and the items of its tree
+  abbrev pub kept_at : PlanState → WorldState → (second : ℕ) → Option KeptSecond
+  kept_at plan w t = option_map (λ root. kept_with t root (kept_items plan w t root)) (kept_root plan w t)
+
+  -- all decided seconds, rising
+  unfoldable pub kept_seconds : PlanState → WorldState → List KeptSecond
+  kept_seconds plan w = kept_among (kept_at plan w) plan.start (2 ^ 24)
+
+  -- ISSUED SIGNATURES
+
+  -- the bytes are the signature of the request of this number, issued by the aggregator that took it
+  pub record IsIssuedOf (w : WorldState) (number : ℕ) (bytes : List ℕ) : Type 0 where
+    pub asked : Asked
+    pub accepted : slice_get w.requests number ≡ Some asked
+    pub issued : IsIssued image (w.rounds asked.aggregator) number bytes
+
+-- nothing is issued of the request of this number
+abbrev pub NotIssuedOf : WorldState → (number : ℕ) → Type 0
+NotIssuedOf w number = (asked : Asked) → slice_get w.requests number ≡ Some asked → NotIssued (w.rounds asked.aggregator) number

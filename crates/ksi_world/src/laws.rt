@@ -1,0 +1,33 @@
+//! What holds after every history of a plan: whichever messages are lost, repeated, late or out of order, and whichever
+//! nodes restart, at any moment. Each law is the contract of a function that does nothing.
+ghost use Rattle.std.specs.Prelude.{◌≡◌, ◌≢◌, ℕ, List, Some};
+ghost use Rattle.ksi_imprint.specs.Imprints.{zero_imprint};
+ghost use Rattle.ksi_schedule.specs.Plans.{IsPlan, InRange};
+ghost use Rattle.ksi_schedule.specs.Events.{History, AreEvents};
+ghost use Rattle.ksi_world.specs.Histories.{held_in, world_of};
+ghost use Rattle.ksi_world.specs.Validity.{IsProposed};
+
+use ksi_aggtree::laws::one_round;
+use ksi_synod::laws::steps_agree;
+
+/// Agreement: two cores that hold a root for a second hold the same.
+pub fn agreement()
+    ensures { (image : List ℕ → List ℕ) (history : History) → IsPlan history.plan → AreEvents history.plan history.events →
+        (one other second : ℕ) (d e : List ℕ) → held_in (world_of image history) one second ≡ Some d →
+        held_in (world_of image history) other second ≡ Some e → d ≡ e }
+{
+    steps_agree();
+}
+
+/// Validity: a held root other than the zero imprint is the candidate of a core of the plan that sealed items for this
+/// second, at least one. Roots are held for seconds of the plan alone.
+pub fn validity()
+    ensures root { (image : List ℕ → List ℕ) (history : History) → IsPlan history.plan → AreEvents history.plan history.events →
+        (core second : ℕ) (root : List ℕ) → held_in (world_of image history) core second ≡ Some root → root ≢ zero_imprint →
+        IsProposed image history.plan (world_of image history) second root }
+    ensures range { (image : List ℕ → List ℕ) (history : History) → IsPlan history.plan → AreEvents history.plan history.events →
+        (core second : ℕ) (root : List ℕ) → held_in (world_of image history) core second ≡ Some root → InRange history.plan second }
+{
+    one_round();
+    steps_agree();
+}

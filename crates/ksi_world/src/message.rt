@@ -1,0 +1,25 @@
+use ksi_aggchain::Item;
+use ksi_schedule::Actor;
+use ksi_signature::Above;
+use ksi_synod::SynodMessage;
+
+/// What is sent.
+#[derive(Drop, Debug)]
+pub enum Content {
+    /// A message of the vote on a second.
+    Synod(SynodMessage),
+    /// The item of an aggregator's round.
+    Submission(Item),
+    /// What stands above the addressee's item.
+    Response(Above),
+}
+
+/// A message.
+#[derive(Drop, Debug)]
+pub struct Message {
+    pub sender: Actor,
+    pub addressee: Actor,
+    /// The second that it is about.
+    pub second: u64,
+    pub content: Content,
+}

@@ -1,0 +1,394 @@
+//! All nodes, the wire between them, and what one event makes of them.
+ghost use Rattle.std.specs.Prelude.{◌≡◌, ◌<◌, ◌++◌, ◌∷◌, [], vec_len, vec_capacity, length, slice_get, Some, IfOk, OnErr};
+ghost use Rattle.std.specs.Option.{option_copied};
+ghost use Rattle.ksi_signature.specs.declared.above.Above.{Above};
+ghost use Rattle.ksi_world.specs.declared.message.Message.{Message};
+ghost use Rattle.ksi_schedule.specs.Plans.{PlanState};
+ghost use Rattle.ksi_world.specs.Histories.{asked_with, outcome_of, first_world};
+ghost use Rattle.ksi_world.specs.Keeping.{AreListed};
+ghost use Rattle.ksi_world.specs.Nodes.{Fits, IsReady, IsTaken, Happened, WasTaken, StoodStill};
+
+use crate::kept::{KeptSecond, kept_seconds};
+use crate::letter::{Letter, letter_of};
+use crate::message::{Content, Message};
+use crate::outcome::{Asked, Outcome};
+use crate::published::put_answer;
+use crate::{aggregators, cores};
+use ksi_aggchain::Item;
+use ksi_aggregator::Aggregator;
+use ksi_corenode::Core;
+use ksi_imprint::{Compress, Imprint, NoMemory};
+use ksi_schedule::{Actor, Event, Plan};
+use ksi_signature::{Above, Answer};
+use ksi_synod::SynodMessage;
+use std::alloc::Global;
+use std::marker::Model;
+
+/// All nodes, all messages ever sent, the accepted requests, and what was published.
+#[derive(Drop)]
+pub(crate) struct Nodes<C: Compress> {
+    cores: Vec<Core<C>>,
+    aggregators: Vec<Aggregator<C>>,
+    wire: Vec<Message>,
+    requests: Vec<Asked>,
+    published: Vec<(u64, Imprint)>,
+}
+
+impl<C: Compress> Model for Nodes<C> {
+    ghost use Rattle.ksi_world.specs.Nodes.{NodesState};
+
+    ghost Value = { NodesState };
+
+    ghost view = { λ n. record { cores = n.cores.items; aggregators = n.aggregators.items; wire = n.wire.items; requests = n.requests.items; published = n.published.items } };
+}
+
+impl<C: Compress> Nodes<C> {
+    /// A core seals a second.
+    fn seal(&mut self, core: u8, second: u64) -> Result<Outcome, NoMemory>
+        requires { (plan : PlanState) × IsReady plan (Event.Seal core second) self.old }
+        ensures ok { IfOk result (λ outcome. (plan : PlanState) → Happened C.image plan (Event.Seal core second) self.old self.new outcome) }
+        ensures err { OnErr result ((plan : PlanState) → StoodStill plan self.old self.new) }
+    {
+        cores::seal(&mut self.cores, &mut self.wire, core, second)
+    }
+
+    /// A core tries a ballot for a second.
+    fn ballot(&mut self, core: u8, second: u64) -> Result<Outcome, NoMemory>
+        requires { (plan : PlanState) × IsReady plan (Event.Ballot core second) self.old }
+        ensures ok { IfOk result (λ outcome. (plan : PlanState) → Happened C.image plan (Event.Ballot core second) self.old self.new outcome) }
+        ensures err { OnErr result ((plan : PlanState) → StoodStill plan self.old self.new) }
+    {
+        cores::ballot(&mut self.cores, &mut self.wire, core, second)
+    }
+
+    /// A core tells what it holds for a second.
+    fn tell(&mut self, core: u8, second: u64) -> Result<Outcome, NoMemory>
+        requires { (plan : PlanState) × IsReady plan (Event.Tell core second) self.old }
+        ensures ok { IfOk result (λ outcome. (plan : PlanState) → Happened C.image plan (Event.Tell core second) self.old self.new outcome) }
+        ensures err { OnErr result ((plan : PlanState) → StoodStill plan self.old self.new) }
+    {
+        cores::tell(&mut self.cores, &mut self.wire, core, second)
+    }
+
+    /// A core answers the aggregators whose items it sealed for a second.
+    fn respond(&mut self, core: u8, second: u64) -> Result<Outcome, NoMemory>
+        requires { (plan : PlanState) × IsReady plan (Event.Respond core second) self.old }
+        ensures ok { IfOk result (λ outcome. (plan : PlanState) → Happened C.image plan (Event.Respond core second) self.old self.new outcome) }
+        ensures err { OnErr result ((plan : PlanState) → StoodStill plan self.old self.new) }
+    {
+        cores::respond(&mut self.cores, &mut self.wire, core, second)
+    }
+
+    /// A core restarts.
+    fn restart_core(&mut self, core: u8) -> Outcome
+        requires { (plan : PlanState) × IsReady plan (Event.RestartCore core) self.old }
+        ensures { (plan : PlanState) → Happened C.image plan (Event.RestartCore core) self.old self.new result }
+    {
+        cores::restart(&mut self.cores, core);
+        Outcome {
+            answer: Answer::Done,
+            sent: 0,
+        }
+    }
+
+    /// An aggregator restarts.
+    fn restart_aggregator(&mut self, aggregator: u32) -> Outcome
+        requires { (plan : PlanState) × IsReady plan (Event.RestartAggregator aggregator) self.old }
+        ensures { (plan : PlanState) → Happened C.image plan (Event.RestartAggregator aggregator) self.old self.new result }
+    {
+        aggregators::restart(&mut self.aggregators, aggregator);
+        Outcome {
+            answer: Answer::Done,
+            sent: 0,
+        }
+    }
+
+    /// An aggregator closes its round of a second.
+    fn close(&mut self, plan: &Plan, aggregator: u32, second: u64) -> Result<Outcome, NoMemory>
+        requires { IsReady plan.now (Event.Close aggregator second) self.old }
+        ensures ok { IfOk result (Happened C.image plan.now (Event.Close aggregator second) self.old self.new) }
+        ensures err { OnErr result (StoodStill plan.now self.old self.new) }
+    {
+        aggregators::close(
+            plan,
+            &mut self.aggregators,
+            &mut self.wire,
+            aggregator,
+            second,
+        )
+    }
+
+    /// An aggregator takes a request, whose number is how many were accepted before.
+    fn request(
+        &mut self,
+        plan: &Plan,
+        aggregator: u32,
+        second: u64,
+        imprint: Imprint,
+    ) -> Result<Outcome, NoMemory>
+        requires { IsReady plan.now (Event.Request aggregator second imprint) self.old }
+        ensures ok { IfOk result (Happened C.image plan.now (Event.Request aggregator second imprint) self.old self.new) }
+        ensures err { OnErr result (StoodStill plan.now self.old self.new) }
+    {
+        let number = self.requests.len() as u64;
+        self.requests.reserve(1)?;
+        let outcome = aggregators::request(
+            plan,
+            &mut self.aggregators,
+            &mut self.wire,
+            aggregator,
+            number,
+            second,
+            imprint,
+        )?;
+        let asked = Asked {
+            aggregator,
+            second,
+            imprint,
+        };
+        accept(&mut self.requests, asked, &outcome.answer);
+        Ok(outcome)
+    }
+
+    /// A core publishes the root of the calendar to a second.
+    fn publish(&mut self, core: u8, second: u64) -> Result<Outcome, NoMemory>
+        requires { (plan : PlanState) × IsReady plan (Event.Publish core second) self.old }
+        ensures ok { IfOk result (λ outcome. (plan : PlanState) → Happened C.image plan (Event.Publish core second) self.old self.new outcome) }
+        ensures err { OnErr result ((plan : PlanState) → StoodStill plan self.old self.new) }
+    {
+        self.published.reserve(1)?;
+        let answer = cores::publish(&mut self.cores, core, second)?;
+        put_answer(&mut self.published, second, &answer);
+        Ok(Outcome { answer, sent: 0 })
+    }
+
+    /// A core takes a message of the vote.
+    fn vote(
+        &mut self,
+        from: u8,
+        to: u8,
+        second: u64,
+        vote: &SynodMessage,
+    ) -> Result<Outcome, NoMemory>
+        requires { (plan : PlanState) × IsTaken plan (Actor.Core from) (Actor.Core to) second (Content.Synod vote.now) self.old }
+        ensures ok { IfOk result (λ outcome. (plan : PlanState) → WasTaken C.image plan (Actor.Core from) (Actor.Core to) second (Content.Synod vote.now) self.old self.new outcome) }
+        ensures err { OnErr result ((plan : PlanState) → StoodStill plan self.old self.new) }
+    {
+        cores::receive(&mut self.cores, &mut self.wire, from, to, second, vote)
+    }
+
+    /// A core takes the item of an aggregator.
+    fn item_to_core(
+        &mut self,
+        from: u32,
+        to: u8,
+        second: u64,
+        item: Item,
+    ) -> Result<Outcome, NoMemory>
+        requires { (plan : PlanState) × IsTaken plan (Actor.Aggregator from) (Actor.Core to) second (Content.Submission item) self.old }
+        ensures ok { IfOk result (λ outcome. (plan : PlanState) → WasTaken C.image plan (Actor.Aggregator from) (Actor.Core to) second (Content.Submission item) self.old self.new outcome) }
+        ensures err { OnErr result ((plan : PlanState) → StoodStill plan self.old self.new) }
+    {
+        cores::submission(&mut self.cores, &mut self.wire, from, to, second, item)
+    }
+
+    /// An aggregator takes the item of another.
+    fn item_to_aggregator(
+        &mut self,
+        plan: &Plan,
+        from: u32,
+        to: u32,
+        second: u64,
+        item: Item,
+    ) -> Result<Outcome, NoMemory>
+        requires { IsTaken plan.now (Actor.Aggregator from) (Actor.Aggregator to) second (Content.Submission item) self.old }
+        ensures ok { IfOk result (WasTaken C.image plan.now (Actor.Aggregator from) (Actor.Aggregator to) second (Content.Submission item) self.old self.new) }
+        ensures err { OnErr result (StoodStill plan.now self.old self.new) }
+    {
+        aggregators::submission(
+            plan,
+            &mut self.aggregators,
+            &mut self.wire,
+            from,
+            to,
+            second,
+            item,
+        )
+    }
+
+    /// An aggregator takes a response of the wire.
+    fn response(
+        &mut self,
+        plan: &Plan,
+        sender: Actor,
+        to: u32,
+        second: u64,
+        number: usize,
+    ) -> Result<Outcome, NoMemory>
+        requires { (message : Message) × (above : Above) × (slice_get self.old.wire number ≡ Some message) × (message.content ≡ Content.Response above) × IsTaken plan.now sender (Actor.Aggregator to) second (Content.Response above) self.old }
+        ensures ok { IfOk result (λ outcome. (message : Message) (above : Above) → slice_get self.old.wire number ≡ Some message → message.content ≡ Content.Response above →
+            WasTaken C.image plan.now sender (Actor.Aggregator to) second (Content.Response above) self.old self.new outcome) }
+        ensures err { OnErr result (StoodStill plan.now self.old self.new) }
+    {
+        aggregators::response(
+            plan,
+            &mut self.aggregators,
+            &mut self.wire,
+            to,
+            second,
+            number,
+        )
+    }
+
+    /// The message of a number comes to its addressee.
+    fn deliver(&mut self, plan: &Plan, number: u64) -> Result<Outcome, NoMemory>
+        requires { IsReady plan.now (Event.Deliver number) self.old }
+        ensures ok { IfOk result (Happened C.image plan.now (Event.Deliver number) self.old self.new) }
+        ensures err { OnErr result (StoodStill plan.now self.old self.new) }
+    {
+        let number = number as usize;
+        let Some(message) = message_at(&self.wire, number) else {
+            return Ok(nothing());
+        };
+        let sender = message.sender;
+        let second = message.second;
+        match letter_of(message) {
+            Letter::Vote(from, to, vote) => self.vote(from, to, second, &vote),
+            Letter::ToCore(from, to, item) => self.item_to_core(from, to, second, item),
+            Letter::ToAggregator(from, to, item) => {
+                self.item_to_aggregator(plan, from, to, second, item)
+            }
+            Letter::Response(to) => self.response(plan, sender, to, second, number),
+            Letter::None => Ok(nothing()),
+        }
+    }
+
+    /// One event, whose row says what it makes of the nodes.
+    pub fn happen(&mut self, plan: &Plan, event: &Event) -> Result<Outcome, NoMemory>
+        requires { IsReady plan.now event.now self.old }
+        ensures ok { IfOk result (Happened C.image plan.now event.now self.old self.new) }
+        ensures err { OnErr result (StoodStill plan.now self.old self.new) }
+    {
+        match *event {
+            Event::Request(aggregator, second, imprint) => {
+                self.request(plan, aggregator, second, imprint)
+            }
+            Event::Close(aggregator, second) => self.close(plan, aggregator, second),
+            Event::Seal(core, second) => self.seal(core, second),
+            Event::Ballot(core, second) => self.ballot(core, second),
+            Event::Deliver(number) => self.deliver(plan, number),
+            Event::Tell(core, second) => self.tell(core, second),
+            Event::Respond(core, second) => self.respond(core, second),
+            Event::Publish(core, second) => self.publish(core, second),
+            Event::RestartCore(core) => Ok(self.restart_core(core)),
+            Event::RestartAggregator(aggregator) => Ok(self.restart_aggregator(aggregator)),
+        }
+    }
+
+    /// All messages ever sent.
+    pub fn wire(&self) -> &[Message]
+        ensures { result.now ≡ self.now.wire }
+    {
+        self.wire.as_slice()
+    }
+
+    /// The accepted requests.
+    pub fn requests(&self) -> &[Asked]
+        ensures { result.now ≡ self.now.requests }
+    {
+        self.requests.as_slice()
+    }
+
+    /// The published seconds, rising.
+    pub fn published(&self) -> &[(u64, Imprint)]
+        ensures { result.now ≡ self.now.published }
+    {
+        self.published.as_slice()
+    }
+
+    /// A core that is there.
+    pub fn core(&self, core: u8) -> &Core<C>
+        requires { core < length self.now.cores }
+        ensures { slice_get self.now.cores core ≡ Some result.now }
+    {
+        &self.cores[core as usize]
+    }
+
+    /// An aggregator that is there.
+    pub fn aggregator(&self, aggregator: u32) -> &Aggregator<C>
+        requires { aggregator < length self.now.aggregators }
+        ensures { slice_get self.now.aggregators aggregator ≡ Some result.now }
+    {
+        &self.aggregators[aggregator as usize]
+    }
+
+    /// The accepted request of a number.
+    pub fn asked(&self, number: u64) -> Option<&Asked>
+        ensures { option_copied result ≡ slice_get self.now.requests number }
+    {
+        self.requests.get(number as usize)
+    }
+
+    /// The decided seconds, rising.
+    pub fn kept(&self, alloc: Global) -> Result<Vec<KeptSecond>, NoMemory>
+        ensures { IfOk result (λ kept. AreListed C.image self.now.cores self.now.wire kept.items) }
+    {
+        kept_seconds(alloc, &self.cores, &self.wire)
+    }
+
+    /// The nodes of a plan before anything happened.
+    pub fn new(alloc: Global, plan: &Plan) -> Result<Self, NoMemory>
+        ensures { IfOk result (Fits plan.now (first_world plan.now)) }
+    {
+        let cores = cores::new(alloc, plan)?;
+        let aggregators = aggregators::new(alloc, plan)?;
+        let wire = Vec::new(alloc);
+        let requests = Vec::new(alloc);
+        let published = Vec::new(alloc);
+        Ok(Nodes {
+            cores,
+            aggregators,
+            wire,
+            requests,
+            published,
+        })
+    }
+}
+
+/// The message of a number.
+fn message_at(wire: &[Message], number: usize) -> Option<&Message>
+    ensures { option_copied result ≡ slice_get wire.now number }
+{
+    wire.get(number)
+}
+
+/// No message was sent, and nothing was done.
+fn nothing() -> Outcome
+    ensures { result ≡ outcome_of Answer.Nothing 0 }
+{
+    Outcome {
+        answer: Answer::Nothing,
+        sent: 0,
+    }
+}
+
+/// A request that got a number is accepted, where there is room.
+fn accept(requests: &mut Vec<Asked>, asked: Asked, answer: &Answer)
+    requires { vec_len requests.old < vec_capacity requests.old }
+    ensures { requests.new.items ≡ asked_with requests.old.items asked answer.now }
+{
+    if let Answer::Number(_) = answer {
+        put(requests, asked);
+    }
+}
+
+/// Puts a request behind the others, where there is room.
+fn put(requests: &mut Vec<Asked>, asked: Asked)
+    requires { vec_len requests.old < vec_capacity requests.old }
+    ensures { requests.new.items ≡ requests.old.items ++ asked ∷ [] }
+{
+    match requests.push(asked) {
+        Ok(()) => {}
+        Err(_) => unreachable!(),
+    }
+}

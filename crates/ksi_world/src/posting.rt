@@ -1,0 +1,105 @@
+//! What is sent goes into the wire.
+ghost use Rattle.std.specs.Prelude.{◌≡◌, ◌≤◌, ◌<◌, ◌+◌, ◌++◌, ◌∷◌, [], map, length, vec_len, vec_capacity};
+ghost use Rattle.ksi_world.specs.Histories.{core_message, round_message, outcome_of};
+
+use crate::message::{Content, Message};
+use crate::outcome::Outcome;
+use ksi_schedule::{Actor, Plan};
+
+/// Puts what a core sent in a second into the wire, where there is room.
+pub(crate) fn post_core(
+    wire: &mut Vec<Message>,
+    core: u8,
+    second: u64,
+    step: ksi_corenode::Step,
+) -> Outcome
+    requires room { vec_len wire.old + length step.sends ≤ vec_capacity wire.old }
+    ensures wire { wire.new.items ≡ wire.old.items ++ map (core_message core second) step.sends }
+    ensures outcome { result ≡ outcome_of step.answer (length step.sends) }
+{
+    let answer = step.answer;
+    let sends = step.sends.into_vec();
+    let sent = sends.len();
+    'posting: for send in sends {
+        put(wire, core_message(core, second, send));
+    }
+    Outcome { answer, sent }
+}
+
+/// Puts what an aggregator of the plan sent in a second into the wire, where there is room.
+pub(crate) fn post_round(
+    plan: &Plan,
+    wire: &mut Vec<Message>,
+    aggregator: u32,
+    second: u64,
+    step: ksi_aggregator::Step,
+) -> Outcome
+    requires there { aggregator < length plan.now.parents }
+    requires room { vec_len wire.old + length step.sends ≤ vec_capacity wire.old }
+    ensures wire { wire.new.items ≡ wire.old.items ++ map (round_message plan.now aggregator second) step.sends }
+    ensures outcome { result ≡ outcome_of step.answer (length step.sends) }
+{
+    let answer = step.answer;
+    let sends = step.sends.into_vec();
+    let sent = sends.len();
+    'posting: for send in sends {
+        put(wire, round_message(plan, aggregator, second, send));
+    }
+    Outcome { answer, sent }
+}
+
+/// The message of a core's send.
+fn core_message(core: u8, second: u64, send: ksi_corenode::Send) -> Message
+    ensures { result ≡ core_message core second send }
+{
+    let sender = Actor::Core(core);
+    match send {
+        ksi_corenode::Send::Synod(to, message) => Message {
+            sender,
+            addressee: Actor::Core(to),
+            second,
+            content: Content::Synod(message),
+        },
+        ksi_corenode::Send::Response(to, above) => Message {
+            sender,
+            addressee: Actor::Aggregator(to),
+            second,
+            content: Content::Response(above),
+        },
+    }
+}
+
+/// The message of an aggregator's send: a submission goes to its parent.
+fn round_message(plan: &Plan, aggregator: u32, second: u64, send: ksi_aggregator::Send) -> Message
+    requires there { aggregator < length plan.now.parents }
+    ensures { result ≡ round_message plan.now aggregator second send }
+{
+    let sender = Actor::Aggregator(aggregator);
+    match send {
+        ksi_aggregator::Send::Submission(item) => Message {
+            sender,
+            addressee: plan.parent(aggregator),
+            second,
+            content: Content::Submission(item),
+        },
+        ksi_aggregator::Send::Response(to, above) => Message {
+            sender,
+            addressee: Actor::Aggregator(to),
+            second,
+            content: Content::Response(above),
+        },
+    }
+}
+
+/// Puts a message behind the others, where there is room.
+fn put(wire: &mut Vec<Message>, message: Message)
+    requires { vec_len wire.old < vec_capacity wire.old }
+    ensures items { wire.new.items ≡ wire.old.items ++ message ∷ [] }
+    ensures room { vec_capacity wire.old ≤ vec_capacity wire.new }
+    ensures len { vec_len wire.new ≡ vec_len wire.old + 1 }
+{
+    match wire.push(message) {
+        Ok(()) => {}
+        Err(_) => unreachable!(),
+    }
+}
