@@ -85,18 +85,42 @@ fn is_event(world: &World<Sha>, event: &Event) -> bool
     }
 }
 
-/// What comes of the event, where it is one of the plan.
-fn outcome(world: &mut World<Sha>, event: Event) -> Option<Outcome> {
-    if is_event(world, &event) {
-        world.step(event).ok()
-    } else {
-        None
+/// Whether the event is one of the plan, has this answer and sends so many messages.
+fn answers(world: &mut World<Sha>, event: Event, answer: Answer, sent: usize) -> bool {
+    if !is_event(world, &event) {
+        return false;
+    }
+    match world.step(event) {
+        Ok(outcome) => outcome.answer == answer && outcome.sent == sent,
+        Err(_) => false,
     }
 }
 
-/// Whether the event has this answer and sends so many messages.
-fn answers(world: &mut World<Sha>, event: Event, answer: Answer, sent: usize) -> bool {
-    outcome(world, event) == Some(Outcome { answer, sent })
+/// The root that core 0 publishes for the first second.
+fn published_root(world: &mut World<Sha>) -> Option<Imprint> {
+    let event = Event::Publish(0, T);
+    if !is_event(world, &event) {
+        return None;
+    }
+    match world.step(event) {
+        Ok(outcome) => root_in(&outcome.answer),
+        Err(_) => None,
+    }
+}
+
+/// The first published root.
+fn published_first(world: &World<Sha>) -> Option<Imprint> {
+    match world.published() {
+        [(T, root), ..] => Some(*root),
+        _ => None,
+    }
+}
+
+fn root_in(answer: &Answer) -> Option<Imprint> {
+    match answer {
+        Answer::Published(root) => Some(*root),
+        _ => None,
+    }
 }
 
 /// What a core holds for the first second.
@@ -205,17 +229,10 @@ fn a_request_is_decided_issued_and_published(rt: HostRuntime) -> Result<(), Fail
         (Event::Deliver(6), Answer::Done, 0),
     ];
     assert!(rt; goes(&mut world, &answered));
-    let root = match outcome(&mut world, Event::Publish(0, T)) {
-        Some(
-            Outcome {
-                answer: Answer::Published(root),
-                sent: 0,
-            },
-        ) => root,
-        _ => Imprint::ZERO,
-    };
+    let root = published_root(&mut world);
+    assert!(rt; root.is_some());
     assert_eq!(rt; world.published().len(), 1);
-    assert!(rt; world.published().first() == Some(&(T, root)));
+    assert!(rt; published_first(&world) == root);
     assert_eq!(rt; world.events().len(), 12);
     assert_eq!(rt; world.wire().len(), 7);
     assert_eq!(rt; world.requests().len(), 1);
