@@ -5,3 +5,5 @@ pub mod Kept
 pub mod Leaves
 pub mod Whole
 pub mod Told
+pub mod Imprints
+pub mod Again

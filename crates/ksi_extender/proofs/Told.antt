@@ -1,12 +1,13 @@
 -- What the steps together answer.
 use Rattle.std.proofs.Common.{◌≡◌, ◌≢◌, ℕ, ◌-◌, ◌^◌, min, Bool, true, false, not, nat_le, Option, Some, None, length, List, Result, Ok, Err, refl, sym, ap, subst, ◌∙◌, ◌⊎◌, inl, inr}
+use Rattle.std.specs.Prelude.{IfOk}
 use Rattle.std.specs.Str.{bytes_eq}
 use Rattle.ksi_imprint.specs.Imprints.{zero_imprint}
 use Rattle.ksi_signature.specs.declared.fault.SigFault.{SigFault}
 use Rattle.ksi_signature.specs.declared.fault.SigFault.TheVariants as answers
 use Rattle.ksi_signature.specs.declared.signature.Signature.{Signature}
 use Rattle.ksi_signature.specs.Values.{Calendar, Publishing}
-use Rattle.ksi_signature.specs.File.{IsSignatureFault}
+use Rattle.ksi_signature.specs.File.{IsSignature, IsSignatureFault}
 use Rattle.ksi_signature.specs.Extended.{extended_content, extended_text}
 use Rattle.ksi_signature.specs.Reading.{signature_at}
 use Rattle.ksi_verifier.specs.declared.aggregated.Aggregated.{Aggregated}
@@ -18,6 +19,7 @@ use Rattle.ksi_journal.specs.Calendar.{leaf_at, first_missing}
 use Rattle.ksi_extender.specs.declared.refusal.ExtendRefusal.{ExtendRefusal}
 use Rattle.ksi_extender.specs.declared.refusal.ExtendRefusal.TheVariants as refusals
 use Rattle.ksi_extender.specs.Checks.{◌>>=◌, ◌>>◌, need}
+use Rattle.ksi_extender.specs.Accepted.{taken_on, AcceptedBy, IsExtended}
 use Rattle.ksi_extender.proofs.Faults.{no_memory}
 use Rattle.ksi_extender.specs.Extended.{or_malformed, or_refused, chains_in, all_kept, kept_to, chain_to, record_to, fitting, extended}
 
@@ -96,3 +98,12 @@ pub never_memory : (image : List ℕ → List ℕ) (journal : Contents) (bytes :
     → (result ≡ extended image journal bytes p) ⊎ (result ≡ Err refusals.NoMemory) → result ≡ Err (refusals.Malformed answers.NoMemory) → ⊥
 never_memory image journal bytes p result fault (inl is) e = no_memory bytes (fault (malformed_by image journal bytes p answers.NoMemory (sym is ∙ e)))
 never_memory image journal bytes p result fault (inr wanting) e = absurd cc
+
+-- what is answered is accepted where what is defined is
+pub accepted_answer : (image : List ℕ → List ℕ) (journal : Contents) (bytes : List ℕ) (p : ℕ) (result : Result (List ℕ) ExtendRefusal)
+    → ((text : List ℕ) (signature : Signature) → IsSignature bytes signature → extended image journal bytes p ≡ Ok text → (publications : List (ℕ × List ℕ)) → AcceptedBy image journal signature p publications)
+    → (result ≡ extended image journal bytes p) ⊎ (result ≡ Err refusals.NoMemory)
+    → IfOk result (λ text. (signature : Signature) × IsSignature bytes signature × IsSignature text (taken_on image journal signature p)) → IfOk result (IsExtended image journal bytes p)
+accepted_answer image journal bytes p (Ok text) law (inl is) again = record { signature = again.0; before = again.1; after = again.2; accepted = law text again.0 again.1 (sym is) }
+accepted_answer image journal bytes p (Ok text) law (inr wanting) again = absurd cc
+accepted_answer image journal bytes p (Err refusal) law answer again = tt

@@ -149,7 +149,6 @@ fn check_kept<C: Compress, L: Ledger>(
     p: u64,
     steps: &mut Steps<L>,
 ) -> Result<(), ExtendRefusal>
-    requires { p < 2 ^ 63 }
     ensures kept { result ≡ kept_to journal.now chains.now p }
     ensures most { steps.new ≤ steps.old + 1 }
 {
