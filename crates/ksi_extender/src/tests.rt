@@ -1,4 +1,4 @@
-ghost use Rattle.std.specs.Prelude.{◌≡◌};
+ghost use Rattle.std.specs.Prelude.{◌≡◌, ◌<◌};
 
 use crate::{ExtendRefusal, extend, extend_counted};
 use ksi_calchain::CalLink;
@@ -101,6 +101,15 @@ fn journal(
     load::<Sha>(alloc, file.as_slice())
 }
 
+/// The journal's root of `p`, if it has one, as the only publication.
+fn published(alloc: Global, journal: &Journal<Sha>, p: u32) -> Result<Publications, NoMemory> {
+    let mut pairs = Vec::new(alloc);
+    if let Some(root) = journal.calendar().root_at(p as u64) {
+        pairs.push((p as u64, root))?;
+    }
+    Ok(Publications::from_vec(pairs))
+}
+
 /// The verdict where the journal's root of `p` is published.
 fn judged(
     alloc: Global,
@@ -110,11 +119,7 @@ fn judged(
     p: u32,
 ) -> Result<Verdict, SigFault> {
     let signature = read(alloc, bytes)?;
-    let mut pairs = Vec::new(alloc);
-    if let Some(root) = journal.calendar().root_at(p as u64) {
-        pairs.push((p as u64, root))?;
-    }
-    let publications = Publications::from_vec(pairs);
+    let publications = published(alloc, journal, p)?;
     Ok(verify::<Sha>(&signature, hash, &publications))
 }
 
@@ -196,15 +201,21 @@ fn refused(
     }
 }
 
+/// A signature of this second is not taken on to the one before it.
+fn before(second: u32) -> ExtendRefusal
+    requires { 0 < second }
+{
+    ExtendRefusal::TooEarly {
+        second: second as u64,
+        publication: second as u64 - 1,
+    }
+}
+
 #[test]
 fn the_first_refusal_is_given(rt: HostRuntime) -> Result<(), Fail> {
     let hash = Sha::of(b"");
     let other = Sha::of(b"abc");
     let time = T as u64;
-    let early = ExtendRefusal::TooEarly {
-        second: time,
-        publication: time - 1,
-    };
     let differs = ExtendRefusal::RootDiffers {
         second: time,
         kept: other,
@@ -212,7 +223,7 @@ fn the_first_refusal_is_given(rt: HostRuntime) -> Result<(), Fail> {
     };
     let missed = ExtendRefusal::Refused(Refusal::MissedSecond);
     let rows: [(u32, &[(u32, Imprint)], (u32, Imprint), u32, ExtendRefusal); 8] = [
-        (T, &[(T, hash)], (T, hash), T - 1, early),
+        (T, &[(T, hash)], (T, hash), T - 1, before(T)),
         (
             T,
             &[(T, hash)],
@@ -223,7 +234,7 @@ fn the_first_refusal_is_given(rt: HostRuntime) -> Result<(), Fail> {
         (T, &[(T, hash)], (0, hash), 5, ExtendRefusal::BeforeStart(0)),
         (T, &[(T, other)], (T, hash), T, differs),
         (T, &[], (T, hash), T, ExtendRefusal::Undecided(time)),
-        (T, &[], (T, hash), T - 1, early),
+        (T, &[], (T, hash), T - 1, before(T)),
         (
             8,
             &[(8, Imprint::ZERO), (9, hash)],
