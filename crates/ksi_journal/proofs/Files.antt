@@ -9,7 +9,7 @@ use Rattle.ksi_journal.specs.declared.fault.JournalFault.{JournalFault}
 use Rattle.ksi_journal.specs.declared.fault.JournalFault.TheVariants as faults
 use Rattle.ksi_journal.specs.Journal.{Contents}
 use Rattle.ksi_journal.specs.Elements.{Loaded, journal_order, nothing_yet}
-use Rattle.ksi_journal.specs.File.{magic, IsJournalFile, IsOtherFile, IsFaultInside, IsJournalFault}
+use Rattle.ksi_journal.specs.File.{magic, IsJournalFile, IsJournalFault}
 
 -- the laws of elements in a stated order
 pub record Laws : Type 0 where

@@ -2,3 +2,5 @@ pub mod Halves
 pub mod Sound
 pub mod Run
 pub mod Files
+pub mod Texts
+pub mod Again

@@ -1,15 +1,15 @@
 -- The seconds that follow the start without a gap are those that are covered.
-use Rattle.std.proofs.Common.{◌≡◌, ◌≢◌, ◌⊎◌, inl, inr, ℕ, zero, suc, ◌+◌, ◌-◌, ◌^◌, ◌<◌, ◌≤◌, Bool, true, false, cond, ◌&&◌, leb, ltb, eqb, List, [], ◌∷◌, length, map, get_or, Option, Some, None, refl, sym, ap, subst, ◌∙◌, arith}
+use Rattle.std.proofs.Common.{◌≡◌, ℕ, zero, suc, ◌+◌, ◌-◌, ◌^◌, ◌<◌, ◌≤◌, Bool, true, false, cond, ◌&&◌, leb, ltb, eqb, List, [], ◌∷◌, length, map, get_or, Option, Some, None, refl, sym, ap, subst, ◌∙◌, arith}
 use Rattle.std.specs.Borrow.{Bor}
 use Rattle.std.specs.Prelude.{IsSome, is_some, IfSome, IsTrue, ◌↔◌, unwrap_or}
 use Rattle.std.specs.List.{AllByRecursion}
-use Rattle.std.proofs.lemmas.Bool.{leb-true, leb-false, ltb-true, ltb-false, eqb-true, eqb-false, eq-eqb, ne_eqb, lt-ltb, le-ltb, le-leb, lt-leb, cases_eq}
+use Rattle.std.proofs.lemmas.Bool.{leb-true, leb-false, ltb-true, ltb-false, eqb-true, eqb-false, eq-eqb, ne_eqb, lt-ltb, le-leb}
 use Rattle.ksi_imprint.specs.Imprints.{zero_imprint}
-use Rattle.ksi_calendar.specs.Calendar.{Seconds, is_covered, calendar_leaf}
+use Rattle.ksi_calendar.specs.Calendar.{is_covered, calendar_leaf}
 use Rattle.ksi_journal.specs.declared.second.Second.{Second}
 use Rattle.ksi_journal.specs.Journal.{Contents, RiseFrom, IsSecond, IsJournal, kept_among, root_of, root_at}
 use Rattle.ksi_journal.specs.Kept.{at_place, place_of, view_kept}
-use Rattle.ksi_journal.specs.Calendar.{leaf_at, IsCovered, IsFirstMissing, roots_from, calendar_of, missing_to, first_missing}
+use Rattle.ksi_journal.specs.Calendar.{leaf_at, IsCovered, IsFirstMissing, roots_from, calendar_of, first_missing}
 
 abbrev times : List Second → List ℕ
 times seconds = map (λ (kept : Second). kept.second) seconds
@@ -138,10 +138,12 @@ module _ (image : List ℕ → List ℕ) (journal : Contents) (is : IsJournal im
   first_by p s true le = (
     λ e. (let same : journal.start + length run ≡ s = cc in
         subst (IsFirstMissing journal p) same (record {
-          from = omega arith; to = leb-true (journal.start + length run) p le; missing = not_kept;
+          from = omega arith;
+          to = leb-true (journal.start + length run) p le;
+          missing = not_kept;
           before = λ t from lt. some_root t from lt;
         })),
-    λ first. ap some_second (one_end p s first)
+    λ first. ap some_second (one_end p s first),
   )
   first_by p s false le = (λ e. absurd cc, λ first. absurd (let to = first.to in missing_not s first.from (let more = leb-false (journal.start + length run) p le in omega arith) first.missing))
 
@@ -170,7 +172,7 @@ module _ (image : List ℕ → List ℕ) (journal : Contents) (is : IsJournal im
     λ e. (let b = both_true (leb journal.start p) (ltb p (journal.start + length run)) e in
         let early = ltb-true p (journal.start + length run) b.1 in
         record { from = leb-true journal.start p b.0; kept = λ t from to. some_root t from (omega arith) }),
-    λ covered. rw (le-leb journal.start p covered.from, lt-ltb p (journal.start + length run) (kept_to p covered.kept)) refl
+    λ covered. rw (le-leb journal.start p covered.from, lt-ltb p (journal.start + length run) (kept_to p covered.kept)) refl,
   )
 
   leaf_by : (t : ℕ) (early : Bool) → ltb t journal.start ≡ early → t < journal.start + length run
@@ -181,7 +183,6 @@ module _ (image : List ℕ → List ℕ) (journal : Contents) (is : IsJournal im
   pub leaves_words : (t : ℕ) → t < journal.start + length (calendar_of journal).roots → calendar_leaf (calendar_of journal) t ≡ leaf_at journal t
   unfolding calendar_of
   leaves_words t lt = leaf_by t (ltb t journal.start) refl lt
-
   -- ---- finding a second
 
 pub found : (least t n : ℕ) (seconds : List Second) → RiseFrom least (times seconds) → ((j : ℕ) (d : Second) → j < n → (get_or seconds j d).second < t) → ((j : ℕ) (d : Second) → n ≤ j → j < length seconds → t ≤ (get_or seconds j d).second)

@@ -5,11 +5,13 @@ ghost use Rattle.ksi_journal.specs.declared.fault.JournalFault.{JournalFault};
 ghost use Rattle.ksi_journal.specs.Journal.{Contents, IsJournal};
 ghost use Rattle.ksi_journal.specs.Calendar.{IsCovered, calendar_of, leaf_at};
 ghost use Rattle.ksi_journal.specs.File.{IsJournalFile, IsJournalFault};
+ghost use Rattle.ksi_journal.specs.Written.{journal_text};
 
 use crate::fault::JournalFault;
 use crate::loading::Loading;
 use ksi_imprint::Sha;
 use ksi_order::whole_or_fault;
+use ksi_tlv::{numeral_is_read, written_is_read};
 
 /// The seconds of a journal's calendar are those that are covered, and its leaves are those of the journal.
 pub fn calendar_is_covered()
@@ -19,8 +21,7 @@ pub fn calendar_is_covered()
         t < journal.start + length (calendar_of journal).roots → calendar_leaf (calendar_of journal) t ≡ leaf_at journal t }
     ensures early { (image : List ℕ → List ℕ) (journal : Contents) → IsJournal image journal →
         journal.start + length (calendar_of journal).roots ≤ 2 ^ 63 }
-{
-}
+{}
 
 /// Bytes are a journal or have a first fault, and not both; and they are one journal and have one first fault.
 pub fn file_or_fault()
@@ -34,4 +35,13 @@ pub fn file_or_fault()
         IsJournalFault image bytes fault → IsJournalFault image bytes other → fault ≡ other }
 {
     whole_or_fault::<Loading<Sha>, JournalFault>();
+}
+
+/// The text of a journal is a file of that journal.
+pub fn written_is_journal()
+    ensures { (image : List ℕ → List ℕ) (journal : Contents) → IsJournal image journal →
+        IsJournalFile image (journal_text journal) journal }
+{
+    written_is_read();
+    numeral_is_read();
 }

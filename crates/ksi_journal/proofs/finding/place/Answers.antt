@@ -1,4 +1,4 @@
-use Rattle.std.proofs.Common.{◌<◌, ◌-◌, ◌+◌, ◌/◌, ◌≤◌, length, arith}
+use Rattle.std.proofs.Common.{◌<◌, ◌-◌, ◌+◌, ◌/◌, arith}
 use Rattle.ksi_journal.proofs.Run.{before_middle, behind_middle, found}
 use Rattle.ksi_journal.proofs.finding.place.Goals as goal
 

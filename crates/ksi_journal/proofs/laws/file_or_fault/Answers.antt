@@ -1,4 +1,4 @@
-use Rattle.ksi_journal.proofs.Files.{Laws, one_of, not_both, one_journal, one_fault}
+use Rattle.ksi_journal.proofs.Files.{one_of, not_both, one_journal, one_fault}
 use Rattle.ksi_journal.proofs.laws.file_or_fault.Goals as goal
 
 pub returns-clause-one : goal.returns-clause-one

@@ -1,4 +1,4 @@
-use Rattle.std.proofs.Common.{◌≤◌, ◌-◌, ◌^◌, arith}
+use Rattle.std.proofs.Common.{arith}
 use Rattle.ksi_journal.proofs.Halves.{left_half}
 use Rattle.ksi_journal.proofs.tree.left_half.Goals as goal
 

@@ -1,4 +1,4 @@
-use Rattle.std.proofs.Common.{◌≡◌, length, ap, arith}
+use Rattle.std.proofs.Common.{length, ap, arith}
 use Rattle.ksi_calendar.specs.Calendar.{Seconds}
 use Rattle.ksi_journal.proofs.Run.{early_words}
 use Rattle.ksi_journal.proofs.journal.Journal.missing.Goals as goal
