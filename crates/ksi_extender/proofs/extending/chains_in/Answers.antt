@@ -1,0 +1,24 @@
+use Rattle.std.proofs.Common.{◌<◌, ◌≡◌, Result, Ok, Err, ap, ◌∙◌, inl, inr, arith}
+use Rattle.std.proofs.lemmas.List.Elements.{All-from_get_or}
+use Rattle.ksi_verifier.specs.declared.aggregated.Aggregated.{Aggregated}
+use Rattle.ksi_verifier.specs.declared.refusal.Refusal.{Refusal}
+use Rattle.ksi_extender.specs.Extended.{or_refused}
+use Rattle.ksi_extender.proofs.Steps.{read_then, unread}
+use Rattle.ksi_extender.proofs.extending.chains_in.Goals as goal
+
+pub returns-in-Ok-aggregate : goal.returns-in-Ok-aggregate
+returns-in-Ok-aggregate g c =
+    let fits = All-from_get_or (λ b. b < 256) c.args.bytes.now 0 (λ i lt. omega (arith, c.type_inv.bytes i)) in
+    let read = (c.signature_is_read.ensures.signature c.args.bytes.now c.in-Ok.signature fits).1 c.in-Ok.ensures.signature in
+    inl (ap (λ (r : Result Aggregated Refusal). or_refused r) c.in-Ok-aggregate.ensures ∙ read_then g.C.Compress.image c.args.bytes.now c.in-Ok.signature read)
+
+pub returns-in-Ok : goal.returns-in-Ok
+returns-in-Ok g c =
+    let fits = All-from_get_or (λ b. b < 256) c.args.bytes.now 0 (λ i lt. omega (arith, c.type_inv.bytes i)) in
+    let read = (c.signature_is_read.ensures.signature c.args.bytes.now c.in-Ok.signature fits).1 c.in-Ok.ensures.signature in
+    inl (ap (λ (r : Result Aggregated Refusal). or_refused r) c.in-Err-aggregate.ensures ∙ read_then g.C.Compress.image c.args.bytes.now c.in-Ok.signature read)
+
+pub returns : goal.returns
+returns g c =
+    let fits = All-from_get_or (λ b. b < 256) c.args.bytes.now 0 (λ i lt. omega (arith, c.type_inv.bytes i)) in
+    unread g.C.Compress.image c.args.bytes.now c.in-Err.fault c.named.result c.named.ensures.fault c.named.ensures.memory (c.signature_is_read.ensures.fault c.args.bytes.now c.in-Err.fault fits).1 c.in-Err.ensures.refused

@@ -1,0 +1,37 @@
+-- What a signature is that was taken on to a later second.
+use Rattle.std.specs.Prelude.{◌≡◌, ℕ, List, Some}
+use Rattle.ksi_publications.specs.Finding.{find}
+use Rattle.ksi_signature.specs.declared.signature.Signature.{Signature}
+use Rattle.ksi_signature.specs.File.{IsSignature}
+use Rattle.ksi_signature.specs.Extended.{renewed}
+use Rattle.ksi_verifier.specs.declared.verdict.Verdict.TheVariants.{Accepted}
+use Rattle.ksi_verifier.specs.Chains.{plain_chains, first_chain}
+use Rattle.ksi_verifier.specs.Verdict.{verdict}
+use Rattle.ksi_journal.specs.Journal.{Contents}
+use Rattle.ksi_journal.specs.Calendar.{kept_root}
+use Rattle.ksi_extender.specs.Extended.{chain_to, record_to}
+
+-- the time and the input hash of the first chain
+abbrev pub first_time : Signature → ℕ
+first_time signature = (first_chain (plain_chains signature.chains)).time
+
+abbrev pub first_input : Signature → List ℕ
+first_input signature = (first_chain (plain_chains signature.chains)).input
+
+-- the signature with the calendar chain to p and the record of p in place of what it had of both
+abbrev pub taken_on : (List ℕ → List ℕ) → Contents → Signature → ℕ → Signature
+taken_on image journal signature p = renewed signature (chain_to image journal (first_time signature) p) (record_to image journal p)
+
+-- no check of it fails against publications whose first record of p is the root of the calendar to p, and its second is
+-- the time that it stated
+abbrev pub AcceptedBy : (List ℕ → List ℕ) → Contents → Signature → ℕ → List (ℕ × List ℕ) → Type 0
+AcceptedBy image journal signature p publications =
+    find p publications ≡ Some (kept_root image journal p)
+    → verdict image (taken_on image journal signature p) (first_input signature) publications ≡ Accepted (first_time signature)
+
+-- The text is the signature of the bytes taken on to p, and is accepted.
+pub record IsExtended (image : List ℕ → List ℕ) (journal : Contents) (bytes : List ℕ) (p : ℕ) (text : List ℕ) : Type 0 where
+  pub signature : Signature
+  pub before : IsSignature bytes signature
+  pub after : IsSignature text (taken_on image journal signature p)
+  pub accepted : (publications : List (ℕ × List ℕ)) → AcceptedBy image journal signature p publications

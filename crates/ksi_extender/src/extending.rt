@@ -1,0 +1,250 @@
+ghost use Rattle.std.specs.Prelude.{◌≡◌, ◌≢◌, [], ◌⊎◌, ◌<◌, ◌≤◌, ◌+◌, ◌^◌, length, Ok, Err, IfOk};
+ghost use Rattle.ksi_calendar.specs.Calendar.{calendar_leaf};
+ghost use Rattle.ksi_journal.specs.Calendar.{calendar_of, leaf_at};
+ghost use Rattle.ksi_signature.specs.declared.fault.SigFault.TheVariants as answers;
+ghost use Rattle.ksi_signature.specs.declared.signature.Signature.{Signature};
+ghost use Rattle.ksi_signature.specs.File.{IsSignature};
+ghost use Rattle.ksi_signature.specs.Extended.{renewed};
+ghost use Rattle.ksi_extender.specs.declared.refusal.ExtendRefusal.TheVariants as refusals;
+ghost use Rattle.ksi_extender.specs.Extended.{chains_in, kept_to, chain_to, record_to, fitting, extended};
+ghost use Rattle.ksi_extender.specs.Accepted.{IsExtended, taken_on};
+
+use crate::laws::extended_is_accepted;
+use crate::refusal::ExtendRefusal;
+use ksi_calchain::climb_cal;
+use ksi_calchain::laws::one_climb;
+use ksi_calendar::Steps;
+use ksi_imprint::{Bytes, Compress, Imprint, NoMemory};
+use ksi_journal::Journal;
+use ksi_signature::{
+    Bodies, CalChain, CalLinks, PubRecord, SigFault, WithRefusal, read, signature_is_read,
+    signature_or_fault, with_calendar,
+};
+use ksi_verifier::laws::aggregation;
+use ksi_verifier::{Aggregated, Refusal, aggregate};
+use std::alloc::Global;
+use std::marker::Brand;
+use std::sync::ledger::{Blank, Ledger};
+
+/// Takes a signature on to second `p`: its aggregation chains and the unknown elements that are to be passed on, byte
+/// for byte and in their order, with the calendar chain from the root that they lead to up to the root of the seconds
+/// from 0 to `p`, and the record of that root. What it had of both is not looked at beyond its grammar.
+///
+/// # Errors
+/// The first of these that stands: the bytes are no signature; V2 to V6; the chains lead to the zero imprint (V9); their
+/// time is before the journal's start, or after `p`; a second from the start to `p` is not kept; the root that is kept
+/// for their time is another than the one that they lead to; the new content has more than 65,535 bytes. `NoMemory` may
+/// come in place of any other answer.
+pub fn extend<C: Compress>(
+    alloc: Global,
+    journal: &Journal<C>,
+    bytes: &[u8],
+    p: u64,
+) -> Result<Bytes, ExtendRefusal>
+    requires { p < 2 ^ 63 }
+    ensures answer { (result ≡ extended C.image journal.now bytes.now p) ⊎ (result ≡ Err refusals.NoMemory) }
+    ensures accepted { IfOk result (IsExtended C.image journal.now bytes.now p) }
+    ensures memory { result ≢ Err (refusals.Malformed answers.NoMemory) }
+{
+    extend_from::<C, Brand>(alloc, journal, bytes, p, Blank::new(1))
+}
+
+fn extend_from<C: Compress, L: Ledger>(
+    alloc: Global,
+    journal: &Journal<C>,
+    bytes: &[u8],
+    p: u64,
+    blank: Blank,
+) -> Result<Bytes, ExtendRefusal>
+    requires name { blank.name ≡ L.name }
+    requires parts { blank.parts ≡ L.parts }
+    requires one { blank.parts ≡ 1 }
+    requires early { p < 2 ^ 63 }
+    ensures answer { (result ≡ extended C.image journal.now bytes.now p) ⊎ (result ≡ Err refusals.NoMemory) }
+    ensures accepted { IfOk result (IsExtended C.image journal.now bytes.now p) }
+    ensures memory { result ≢ Err (refusals.Malformed answers.NoMemory) }
+{
+    let mut steps = Steps::<L>::open(blank);
+    extend_counted(alloc, journal, bytes, p, &mut steps)
+}
+
+/// The same, with its steps, which are one look-up of a kept root and at most 126 of a stored node of the calendar.
+///
+/// # Errors
+/// As `extend`.
+pub fn extend_counted<C: Compress, L: Ledger>(
+    alloc: Global,
+    journal: &Journal<C>,
+    bytes: &[u8],
+    p: u64,
+    steps: &mut Steps<L>,
+) -> Result<Bytes, ExtendRefusal>
+    requires { p < 2 ^ 63 }
+    ensures answer { (result ≡ extended C.image journal.now bytes.now p) ⊎ (result ≡ Err refusals.NoMemory) }
+    ensures accepted { IfOk result (IsExtended C.image journal.now bytes.now p) }
+    ensures memory { result ≢ Err (refusals.Malformed answers.NoMemory) }
+    ensures most { steps.new ≤ steps.old + 127 }
+{
+    extended_is_accepted();
+    signature_is_read();
+    taken_on(alloc, journal, bytes, p, steps)
+}
+
+/// What is taken on, and what it is read as.
+fn taken_on<C: Compress, L: Ledger>(
+    alloc: Global,
+    journal: &Journal<C>,
+    bytes: &[u8],
+    p: u64,
+    steps: &mut Steps<L>,
+) -> Result<Bytes, ExtendRefusal>
+    requires { p < 2 ^ 63 }
+    ensures answer { (result ≡ extended C.image journal.now bytes.now p) ⊎ (result ≡ Err refusals.NoMemory) }
+    ensures again { IfOk result (λ text. (signature : Signature) × IsSignature bytes.now signature
+        × IsSignature text (taken_on C.image journal.now signature p)) }
+    ensures most { steps.new ≤ steps.old + 127 }
+{
+    aggregation();
+    signature_is_read();
+    let chains = match chains_in::<C>(alloc, bytes) {
+        Ok(chains) => chains,
+        Err(refusal) => return Err(refusal),
+    };
+    if let Err(refusal) = check_kept(journal, &chains, p, steps) {
+        return Err(refusal);
+    }
+    let (chain, published) = proof_to(alloc, journal, &chains, p, steps)?;
+    renewed_with(alloc, bytes, &chain, &published)
+}
+
+/// What the aggregation chains of a signature come to.
+fn chains_in<C: Compress>(alloc: Global, bytes: &[u8]) -> Result<Aggregated, ExtendRefusal>
+    ensures { (result ≡ chains_in C.image bytes.now) ⊎ (result ≡ Err refusals.NoMemory) }
+{
+    signature_is_read();
+    match read(alloc, bytes) {
+        Ok(signature) => match aggregate::<C>(&signature) {
+            Ok(chains) => Ok(chains),
+            Err(refusal) => Err(ExtendRefusal::Refused(refusal)),
+        },
+        Err(fault) => Err(named(fault)),
+    }
+}
+
+/// The refusal where a signature was not read.
+fn named(fault: SigFault) -> ExtendRefusal
+    ensures fault { fault ≢ answers.NoMemory → result ≡ refusals.Malformed fault }
+    ensures memory { fault ≡ answers.NoMemory → result ≡ refusals.NoMemory }
+{
+    match fault {
+        SigFault::NoMemory => ExtendRefusal::NoMemory,
+        _ => ExtendRefusal::Malformed(fault),
+    }
+}
+
+/// V9, E4, E3, E2 and E1.
+fn check_kept<C: Compress, L: Ledger>(
+    journal: &Journal<C>,
+    chains: &Aggregated,
+    p: u64,
+    steps: &mut Steps<L>,
+) -> Result<(), ExtendRefusal>
+    ensures kept { result ≡ kept_to journal.now chains.now p }
+    ensures most { steps.new ≤ steps.old + 1 }
+{
+    let given = chains.item.imprint;
+    let second = chains.time;
+    if given == Imprint::ZERO {
+        return Err(ExtendRefusal::Refused(Refusal::MissedSecond));
+    }
+    if second < journal.start() {
+        return Err(ExtendRefusal::BeforeStart(second));
+    }
+    if p < second {
+        return Err(ExtendRefusal::TooEarly {
+            second,
+            publication: p,
+        });
+    }
+    if let Some(missing) = journal.first_missing(p) {
+        return Err(ExtendRefusal::Undecided(missing));
+    }
+    steps.tick();
+    let kept = match journal.root(second) {
+        Some(root) => root,
+        None => Imprint::ZERO,
+    };
+    if kept != given {
+        return Err(ExtendRefusal::RootDiffers {
+            second,
+            kept,
+            given,
+        });
+    }
+    Ok(())
+}
+
+/// The calendar chain from the root that the chains lead to, up to the root of the seconds from 0 to `p`, and the
+/// record of that root.
+fn proof_to<C: Compress, L: Ledger>(
+    alloc: Global,
+    journal: &Journal<C>,
+    chains: &Aggregated,
+    p: u64,
+    steps: &mut Steps<L>,
+) -> Result<(CalChain, PubRecord), NoMemory>
+    requires below { p < 2 ^ 63 }
+    requires to { chains.now.time ≤ p }
+    requires covered { p < (calendar_of journal.now).start + length (calendar_of journal.now).roots }
+    requires root { calendar_leaf (calendar_of journal.now) chains.now.time ≡ chains.now.item.imprint }
+    requires leaf { leaf_at journal.now chains.now.time ≡ chains.now.item.imprint }
+    ensures chain { IfOk result (λ proof. proof.0 ≡ chain_to C.image journal.now chains.now.time p) }
+    ensures published { IfOk result (λ proof. proof.1 ≡ record_to C.image journal.now p) }
+    ensures most { steps.new ≤ steps.old + 126 }
+{
+    one_climb();
+    let input = chains.item.imprint;
+    let links = journal.calendar().chain_to_counted(chains.time, p, steps)?;
+    let root = climb_cal::<C>(input, links.as_slice());
+    let chain = CalChain {
+        publication: p,
+        time: chains.time,
+        input,
+        links: CalLinks::from_vec(links.into_vec()),
+    };
+    Ok((chain, record(alloc, p, root)))
+}
+
+/// The record of a root, which names no place where it was published.
+fn record(alloc: Global, time: u64, hash: Imprint) -> PubRecord
+    requires { time < 2 ^ 63 }
+    ensures { result ≡ record { time = time; hash = hash; references = []; repositories = [] } }
+{
+    PubRecord {
+        time,
+        hash,
+        references: Bodies::from_vec(Vec::new(alloc)),
+        repositories: Bodies::from_vec(Vec::new(alloc)),
+    }
+}
+
+/// The bytes of a signature with this chain and this record.
+fn renewed_with(
+    alloc: Global,
+    bytes: &[u8],
+    chain: &CalChain,
+    published: &PubRecord,
+) -> Result<Bytes, ExtendRefusal>
+    ensures answer { (signature : Signature) → IsSignature bytes.now signature →
+        (result ≡ fitting bytes.now chain.now published.now) ⊎ (result ≡ Err refusals.NoMemory) }
+    ensures again { IfOk result (λ text. (signature : Signature) × IsSignature bytes.now signature
+        × IsSignature text (renewed signature chain.now published.now)) }
+{
+    signature_or_fault();
+    match with_calendar(alloc, bytes, chain, published) {
+        Ok(text) => Ok(text),
+        Err(WithRefusal::TooLong(size)) => Err(ExtendRefusal::TooLarge(size)),
+        Err(WithRefusal::Malformed(fault)) => Err(ExtendRefusal::Malformed(fault)),
+        Err(WithRefusal::NoMemory) => Err(ExtendRefusal::NoMemory),
+    }
+}

@@ -1,0 +1,29 @@
+//! Signatures taken on to a later second of the calendar: to its root, over what a journal keeps.
+//!
+//! The layer above may rely on this: [`extend`] gives exactly the bytes, or the first refusal, that the definition
+//! `extended` gives for the journal's record, the signature's bytes and the second; only want of memory may come in its
+//! place. What it gives is read as the same signature with another calendar chain and publication record, and is
+//! accepted: at the time of its chains, for the input hash of the first, by all publications whose first record of the
+//! second is the journal's root of the calendar to it. [`extend_counted`] does the same and counts its look-ups of stored
+//! nodes, at most 127. The law [`extended_is_accepted`] says of the definition what `extend` says of its answer.
+//!
+//! ```text
+//! let journal = load::<Sha>(alloc, file)?;
+//! match extend(alloc, &journal, bytes, p) {
+//!     Ok(text) => .., // to be verified against a publications file with the root of p
+//!     Err(ExtendRefusal::Undecided(second)) => .., // p is not covered yet
+//!     Err(refusal) => ..,
+//! }
+//! ```
+#![tactic(auto)]
+
+mod extending;
+mod laws;
+mod refusal;
+#[cfg(test)]
+mod tests;
+
+pub use extending::{extend, extend_counted};
+pub use ksi_imprint::NoMemory;
+pub use laws::extended_is_accepted;
+pub use refusal::ExtendRefusal;
