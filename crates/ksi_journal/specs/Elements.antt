@@ -1,0 +1,215 @@
+-- The elements of a journal in their order: what each says behind those before it, or its fault.
+use Rattle.std.specs.Prelude.{ℕ, zero, suc, ◌+◌, ◌-◌, ◌==◌, ◌&&◌, nat_le, List, [], ◌∷◌, ◌++◌, length, take, slice_index, Bool, true, false, Result, Ok, Err, if◌then◌else◌}
+use Rattle.std.specs.Str.{bytes_eq}
+use Rattle.ksi_imprint.specs.declared.fault.ImprintFault.{ImprintFault}
+use Rattle.ksi_imprint.specs.Imprints.{zero_imprint}
+use Rattle.ksi_imprint.specs.Reading as imprints
+use Rattle.ksi_tlv.specs.Walking.{PlacedTlv}
+use Rattle.ksi_aggchain.specs.declared.item.Item.{Item}
+use Rattle.ksi_aggtree.specs.Rounds.{tree_of}
+use Rattle.ksi_order.specs.declared.fault.OrderFault.{OrderFault}
+use Rattle.ksi_order.specs.declared.fault.OrderFault.TheVariants as orders
+use Rattle.ksi_order.specs.Order.{Order, ◌>>=◌}
+use Rattle.ksi_order.specs.Fields.{inside, field, done}
+use Rattle.ksi_order.specs.Values.{number_at, time_at, imprint_at}
+use Rattle.ksi_journal.specs.declared.second.Second.{Second}
+use Rattle.ksi_journal.specs.declared.second.Stage.{Stage}
+use Rattle.ksi_journal.specs.declared.second.Stage.TheVariants.{Start, Seconds, Items, Issued, Publications, End}
+use Rattle.ksi_journal.specs.declared.fault.JournalFault.{JournalFault}
+use Rattle.ksi_journal.specs.declared.fault.JournalFault.TheVariants as faults
+use Rattle.ksi_journal.specs.Journal.{Contents}
+
+-- What the elements so far say: where in the file they end, what the journal then holds, the least second, number and
+-- time that may stand next, and the second whose items come, with how many are still to come.
+pub record Loaded : Type 0 where
+  pub stage : Stage
+  pub contents : Contents
+  pub least_second : ℕ
+  pub least_number : ℕ
+  pub least_time : ℕ
+  pub current : Second
+  pub left : ℕ
+
+-- the kinds that may stand next: 1 start, 2 second, 3 item, 4 issued signature, 5 publication, 6 end
+abbrev pub kinds_next : Stage → List ℕ
+kinds_next Start = 1 ∷ []
+kinds_next Seconds = 2 ∷ 4 ∷ 5 ∷ 6 ∷ []
+kinds_next Items = 3 ∷ []
+kinds_next Issued = 4 ∷ 5 ∷ 6 ∷ []
+kinds_next Publications = 5 ∷ 6 ∷ []
+kinds_next End = []
+
+abbrev pub is_end : Stage → Bool
+is_end End = true
+is_end _ = false
+
+-- a fault of order by its name here
+abbrev pub named : OrderFault → JournalFault
+named (orders.Tlv place) = faults.Tlv place
+named (orders.Order place) = faults.Order place
+named (orders.Ends place) = faults.Ends place
+named (orders.Bound place) = faults.Bound place
+named (orders.Imprint place) = faults.Imprint place
+
+abbrev pub or_named : {A : Type 0} → Result A OrderFault → Result A JournalFault
+or_named (Ok value) = Ok value
+or_named (Err fault) = Err (named fault)
+
+-- a value that rises
+abbrev pub rises : ℕ → ℕ → ℕ → Result (Unit {0}) OrderFault
+rises least n place = if nat_le least n then Ok tt else Err (orders.Order place)
+
+-- ---- 1: the start, a time
+
+abbrev pub no_second : Second
+no_second = record { second = 0; root = zero_imprint; items = [] }
+
+abbrev pub started : ℕ → Loaded
+started t = record {
+  stage = Seconds;
+  contents = record { start = t; seconds = []; issued = []; publications = [] };
+  least_second = t;
+  least_number = 0;
+  least_time = 0;
+  current = no_second;
+  left = 0;
+}
+
+unfoldable pub start_at : PlacedTlv → Result Loaded OrderFault
+start_at at = time_at at >>= λ t. Ok (started t)
+
+-- ---- 2: a second: 1 its time, 2 its root, 3 how many items it has
+
+-- the zero root alone has no items
+abbrev pub counts : List ℕ → ℕ → Bool
+counts root n = if bytes_eq root zero_imprint then n == 0 else nat_le 1 n && nat_le n 65536
+
+-- a second all of whose items are there
+abbrev pub closed : Loaded → Second → Loaded
+closed s kept = record s {
+  stage = Seconds;
+  contents = record s.contents { seconds = s.contents.seconds ++ kept ∷ [] };
+  least_second = kept.second + 1;
+  current = no_second;
+  left = 0;
+}
+
+-- a second of which so many items are to come
+abbrev pub opened : Loaded → Second → ℕ → Loaded
+opened s kept zero = closed s kept
+opened s kept (suc n) = record s { stage = Items; current = kept; left = suc n }
+
+abbrev pub counted : Loaded → ℕ → List ℕ → ℕ → Result Loaded JournalFault
+counted s t root n =
+    if counts root n then Ok (opened s (record { second = t; root = root; items = [] }) n) else Err (faults.Count t)
+
+-- what the elements inside say
+unfoldable pub said_at : ℕ → PlacedTlv → Result (ℕ × List ℕ × ℕ) OrderFault
+said_at least at =
+    field 1 (inside at) >>= λ one. time_at one.0 >>= λ t. rises least t one.0.place >>= λ _.
+    field 2 one.1 >>= λ two. imprint_at two.0 >>= λ root.
+    field 3 two.1 >>= λ three. number_at three.0 >>= λ n.
+    done three.1 >>= λ _. Ok (t, root, n)
+
+unfoldable pub second_at : Loaded → PlacedTlv → Result Loaded JournalFault
+second_at s at = or_named (said_at s.least_second at) >>= λ said. counted s said.0 said.1 said.2
+
+-- ---- 3: an item: 34 bytes, an imprint and a level of at most 239
+
+abbrev pub item_of : ℕ → ℕ → Result (List ℕ) ImprintFault → Result Item OrderFault
+item_of place level (Ok imprint) = if nat_le level 239 then Ok (record { imprint = imprint; level = level }) else Err (orders.Bound place)
+item_of place level (Err fault) = Err (orders.Imprint place)
+
+unfoldable pub item_in : PlacedTlv → Result Item OrderFault
+item_in at =
+    if length at.element.body == 34
+    then item_of at.place (slice_index at.element.body 33) (imprints.imprint_at (take 33 at.element.body))
+    else Err (orders.Imprint at.place)
+
+abbrev pub with_item : Second → Item → Second
+with_item kept item = record kept { items = kept.items ++ item ∷ [] }
+
+-- the last item closes its second, where the tree has its root
+abbrev pub added : (List ℕ → List ℕ) → Loaded → Second → ℕ → Result Loaded JournalFault
+added image s kept zero =
+    if bytes_eq (tree_of image kept.items).imprint kept.root then Ok (closed s kept)
+    else Err (faults.TreeRoot kept.second kept.root (tree_of image kept.items).imprint)
+added image s kept (suc n) = Ok (record s { current = kept; left = suc n })
+
+unfoldable pub item_at : (List ℕ → List ℕ) → Loaded → PlacedTlv → Result Loaded JournalFault
+item_at image s at = or_named (item_in at) >>= λ item. added image s (with_item s.current item) (s.left - 1)
+
+-- ---- 4: an issued signature: 1 the number of its request, 2 its bytes
+
+abbrev pub short_at : PlacedTlv → Result (List ℕ) OrderFault
+short_at at = if nat_le (length at.element.body) 60000 then Ok at.element.body else Err (orders.Bound at.place)
+
+unfoldable pub signature_at : ℕ → PlacedTlv → Result (ℕ × List ℕ) OrderFault
+signature_at least at =
+    field 1 (inside at) >>= λ one. number_at one.0 >>= λ n. rises least n one.0.place >>= λ _.
+    field 2 one.1 >>= λ two. short_at two.0 >>= λ bytes.
+    done two.1 >>= λ _. Ok (n, bytes)
+
+abbrev pub with_issued : Loaded → ℕ × List ℕ → Loaded
+with_issued s signature = record s {
+  stage = Issued;
+  contents = record s.contents { issued = s.contents.issued ++ signature ∷ [] };
+  least_number = signature.0 + 1;
+}
+
+unfoldable pub issued_at : Loaded → PlacedTlv → Result Loaded JournalFault
+issued_at s at = or_named (signature_at s.least_number at) >>= λ signature. Ok (with_issued s signature)
+
+-- ---- 5: a publication: 1 its time, 2 the root that was published
+
+unfoldable pub published_at : ℕ → PlacedTlv → Result (ℕ × List ℕ) OrderFault
+published_at least at =
+    field 1 (inside at) >>= λ one. time_at one.0 >>= λ t. rises least t one.0.place >>= λ _.
+    field 2 one.1 >>= λ two. imprint_at two.0 >>= λ root.
+    done two.1 >>= λ _. Ok (t, root)
+
+abbrev pub with_publication : Loaded → ℕ × List ℕ → Loaded
+with_publication s publication = record s {
+  stage = Publications;
+  contents = record s.contents { publications = s.contents.publications ++ publication ∷ [] };
+  least_time = publication.0 + 1;
+}
+
+unfoldable pub publication_at : Loaded → PlacedTlv → Result Loaded JournalFault
+publication_at s at = or_named (published_at s.least_time at) >>= λ publication. Ok (with_publication s publication)
+
+-- ---- 6: the end, of no content
+
+unfoldable pub end_at : Loaded → PlacedTlv → Result Loaded JournalFault
+end_at s at = if length at.element.body == 0 then Ok (record s { stage = End }) else Err (faults.Ends at.place)
+
+-- ---- all
+
+unfoldable pub element_read : (List ℕ → List ℕ) → Loaded → PlacedTlv → Result Loaded JournalFault
+element_read image s at =
+    if at.element.kind == 1 then or_named (start_at at)
+    else if at.element.kind == 2 then second_at s at
+    else if at.element.kind == 3 then item_at image s at
+    else if at.element.kind == 4 then issued_at s at
+    else if at.element.kind == 5 then publication_at s at
+    else end_at s at
+
+abbrev pub journal_order : (List ℕ → List ℕ) → Order Loaded JournalFault
+journal_order image = record {
+  next = λ s. kinds_next s.stage;
+  read = element_read image;
+  closed = λ s. is_end s.stage;
+  whole = λ s. is_end s.stage;
+  named = named;
+}
+
+abbrev pub nothing_yet : Loaded
+nothing_yet = record {
+  stage = Start;
+  contents = record { start = 0; seconds = []; issued = []; publications = [] };
+  least_second = 0;
+  least_number = 0;
+  least_time = 0;
+  current = no_second;
+  left = 0;
+}

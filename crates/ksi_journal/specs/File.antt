@@ -1,0 +1,34 @@
+-- Which bytes are which journal, and the first fault of bytes that are none.
+use Rattle.std.specs.Prelude.{◌≡◌, ℕ, ◌+◌, ◌⊎◌, List, ◌++◌, length, codes}
+use Rattle.ksi_tlv.specs.Walking.{elements}
+use Rattle.ksi_order.specs.Sequence.{IsWhole, IsFirstFault}
+use Rattle.ksi_journal.specs.declared.fault.JournalFault.{JournalFault}
+use Rattle.ksi_journal.specs.declared.fault.JournalFault.TheVariants as faults
+use Rattle.ksi_journal.specs.Journal.{Contents}
+use Rattle.ksi_journal.specs.Elements.{Loaded, journal_order, nothing_yet}
+
+-- the eight bytes that a journal begins with
+abbrev pub magic : List ℕ
+magic = codes "KSIJRNL1"
+
+-- behind the magic stand whole elements in their order, which say that the journal holds this
+pub record IsJournalFile (image : List ℕ → List ℕ) (bytes : List ℕ) (journal : Contents) : Type 0 where
+  pub rest : List ℕ
+  pub begins : bytes ≡ magic ++ rest
+  pub said : Loaded
+  pub whole : IsWhole (journal_order image) (elements 8 rest) nothing_yet said
+  pub holds : journal ≡ said.contents
+
+-- the bytes begin with others than the magic
+pub record IsOtherFile (bytes : List ℕ) (fault : JournalFault) : Type 0 where
+  pub begins : (rest : List ℕ) → bytes ≡ magic ++ rest → ⊥
+  pub named : fault ≡ faults.Magic
+
+-- the first fault of the elements behind the magic
+pub record IsFaultInside (image : List ℕ → List ℕ) (bytes : List ℕ) (fault : JournalFault) : Type 0 where
+  pub rest : List ℕ
+  pub begins : bytes ≡ magic ++ rest
+  pub first : IsFirstFault (journal_order image) (8 + length rest) (elements 8 rest) nothing_yet fault
+
+abbrev pub IsJournalFault : (List ℕ → List ℕ) → List ℕ → JournalFault → Type 0
+IsJournalFault image bytes fault = IsOtherFile bytes fault ⊎ IsFaultInside image bytes fault

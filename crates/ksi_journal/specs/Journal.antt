@@ -1,0 +1,82 @@
+-- What a journal holds.
+use Rattle.std.specs.Prelude.{◌≡◌, ◌≢◌, ℕ, ◌+◌, ◌^◌, ◌<◌, ◌≤◌, ◌==◌, List, [], ◌∷◌, length, map, Option, None, Some, if◌then◌else◌}
+use Rattle.std.specs.List.{AllByRecursion}
+use Rattle.ksi_imprint.specs.Imprints.{IsImprint, zero_imprint}
+use Rattle.ksi_aggchain.specs.declared.item.Item.{Item}
+use Rattle.ksi_aggtree.specs.Rounds.{tree_of}
+use Rattle.ksi_journal.specs.declared.second.Second.{Second}
+
+-- The first second of the calendar; the kept seconds, each with its root and the items of its tree; the number and the
+-- bytes of each issued signature; and each published time with the root of the calendar to it.
+pub record Contents : Type 0 where
+  pub start : ℕ
+  pub seconds : List Second
+  pub issued : List (ℕ × List ℕ)
+  pub publications : List (ℕ × List ℕ)
+
+abbrev pub contents : ℕ → List Second → List (ℕ × List ℕ) → List (ℕ × List ℕ) → Contents
+contents start seconds issued publications = record { start = start; seconds = seconds; issued = issued; publications = publications }
+
+-- ---- what every journal keeps
+
+-- the first is at least the least, and each is greater than the one before it
+abbrev pub RiseFrom : ℕ → List ℕ → Type 0
+RiseFrom least [] = Unit {0}
+RiseFrom least (n ∷ others) = (least ≤ n) × RiseFrom (n + 1) others
+
+pub record IsItem (item : Item) : Type 0 where
+  pub imprint : IsImprint item.imprint
+  pub level : item.level ≤ 239
+
+-- the tree of the items has the root, which is the zero imprint where there are none, and there alone
+abbrev pub IsRootOf : (List ℕ → List ℕ) → List Item → List ℕ → Type 0
+IsRootOf image [] root = root ≡ zero_imprint
+IsRootOf image (item ∷ items) root = (root ≢ zero_imprint) × ((tree_of image (item ∷ items)).imprint ≡ root)
+
+pub record IsSecond (image : List ℕ → List ℕ) (kept : Second) : Type 0 where
+  pub early : kept.second < 2 ^ 63
+  pub imprint : IsImprint kept.root
+  pub few : length kept.items ≤ 65536
+  pub items : AllByRecursion IsItem kept.items
+  pub tree : IsRootOf image kept.items kept.root
+
+pub record IsIssued (signature : ℕ × List ℕ) : Type 0 where
+  pub number : signature.0 < 2 ^ 64
+  pub short : length signature.1 ≤ 60000
+
+pub record IsPublication (publication : ℕ × List ℕ) : Type 0 where
+  pub early : publication.0 < 2 ^ 63
+  pub imprint : IsImprint publication.1
+
+-- The start and all times are below 2^63, no second stands before the start, and seconds, numbers and published times
+-- rise; the tree of each second has its root.
+pub record IsJournal (image : List ℕ → List ℕ) (journal : Contents) : Type 0 where
+  pub start : journal.start < 2 ^ 63
+  pub seconds : AllByRecursion (IsSecond image) journal.seconds
+  pub seconds_rise : RiseFrom journal.start (map (λ kept. kept.second) journal.seconds)
+  pub issued : AllByRecursion IsIssued journal.issued
+  pub numbers_rise : RiseFrom 0 (map (λ signature. signature.0) journal.issued)
+  pub publications : AllByRecursion IsPublication journal.publications
+  pub times_rise : RiseFrom 0 (map (λ publication. publication.0) journal.publications)
+
+-- ---- what is kept for a second
+
+abbrev pub kept_among : List Second → ℕ → Option Second
+kept_among [] t = None
+kept_among (kept ∷ others) t = if kept.second == t then Some kept else kept_among others t
+
+abbrev pub root_of : Option Second → Option (List ℕ)
+root_of None = None
+root_of (Some kept) = Some kept.root
+
+-- the root of a second, where it is kept
+unfoldable pub root_at : Contents → ℕ → Option (List ℕ)
+root_at journal t = root_of (kept_among journal.seconds t)
+
+abbrev pub items_of : Option Second → List Item
+items_of None = []
+items_of (Some kept) = kept.items
+
+-- the items of a second, none where it is not kept
+unfoldable pub items_at : Contents → ℕ → List Item
+items_at journal t = items_of (kept_among journal.seconds t)

@@ -1,0 +1,89 @@
+ghost use Rattle.std.specs.Prelude.{◌≡◌, ◌+◌, ◌^◌, ◌<◌, length};
+ghost use Rattle.ksi_tlv.specs.Walking.{elements};
+ghost use Rattle.ksi_tlv.specs.Seen.{view_placed, view_item};
+ghost use Rattle.ksi_order.specs.Sequence.{Tells};
+ghost use Rattle.ksi_order.specs.Order.{Order, may_stand, walked, one_more, Steps};
+
+use crate::fault::{OrderFault, Stop};
+use ksi_tlv::{Elements, Placed, TlvFault};
+
+/// What the elements so far say, and what may stand behind them. `F` has the faults that the elements can have.
+pub trait Ordered<F> {
+    ghost order: { Order Self F };
+
+    /// Whether an element of the kind may stand next.
+    fn may_stand(&self, kind: u16) -> bool
+        ensures { result ≡ may_stand (order.next self.now) kind };
+
+    /// Whether nothing may follow.
+    fn is_closed(&self) -> bool
+        ensures { result ≡ order.closed self.now };
+
+    /// Whether the sequence may end here.
+    fn is_whole(&self) -> bool
+        ensures { result ≡ order.whole self.now };
+
+    /// What a fault of order is called.
+    fn named(fault: OrderFault) -> F
+        ensures { result ≡ order.named fault };
+
+    /// One element more, of a kind that may stand.
+    fn take(&mut self, at: &Placed<'_>) -> Result<(), Stop<F>>
+        ensures { Steps (order.read self.old (view_placed at.now)) self.new result };
+}
+
+/// Reads the elements of bytes, whose first byte stands at a place, one after the other.
+pub fn walk<F, S: Ordered<F>>(state: &mut S, place: usize, bytes: &[u8]) -> Result<(), Stop<F>>
+    requires { place + length bytes.now < 2 ^ 64 }
+    // Whole elements in their order lead to the new state, or the first fault stands there.
+    ensures told { Tells S.order (place + length bytes.now) (elements place bytes.now) state.old state.new result }
+    ensures exact { Steps (walked S.order (place + length bytes.now) (elements place bytes.now) state.old) state.new result }
+{
+    go(state, place, bytes)
+}
+
+#[tactic(auto, unfolding(crate::specs::Order::walked))]
+fn go<F, S: Ordered<F>>(state: &mut S, place: usize, bytes: &[u8]) -> Result<(), Stop<F>>
+    requires { place + length bytes.now < 2 ^ 64 }
+    ensures { Steps (walked S.order (place + length bytes.now) (elements place bytes.now) state.old) state.new result }
+{
+    let end = place + bytes.len();
+    let mut elements = Elements::at(place, bytes);
+    'walking: while let Some(item) = elements.next() {
+        if let Err(stop) = step(state, item) {
+            return Err(stop);
+        }
+    }
+    if state.is_whole() {
+        Ok(())
+    } else {
+        Err(Stop::Fault(S::named(OrderFault::Ends(end))))
+    }
+}
+
+/// One element more, or its fault.
+#[tactic(auto, unfolding(crate::specs::Order::one_more))]
+fn step<F, S: Ordered<F>>(
+    state: &mut S,
+    item: Result<Placed<'_>, (usize, TlvFault)>,
+) -> Result<(), Stop<F>>
+    ensures { Steps (one_more S.order (view_item item.entry) state.old) state.new result }
+{
+    match item {
+        Ok(at) => {
+            if state.is_closed() {
+                return Err(Stop::Fault(S::named(OrderFault::Ends(at.place))));
+            }
+            if !state.may_stand(at.element.kind) {
+                return Err(Stop::Fault(S::named(OrderFault::Order(at.place))));
+            }
+            state.take(&at)
+        }
+        Err((cut, _)) => {
+            if state.is_closed() {
+                return Err(Stop::Fault(S::named(OrderFault::Ends(cut))));
+            }
+            Err(Stop::Fault(S::named(OrderFault::Tlv(cut))))
+        }
+    }
+}
