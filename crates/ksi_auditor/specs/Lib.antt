@@ -1,0 +1,5 @@
+pub mod Beside
+pub mod Kept
+pub mod Walks
+pub mod Audit
+pub mod Shown

@@ -1,0 +1,24 @@
+ghost use Rattle.std.specs.Prelude.{ℕ, List, ◌≡◌, Option, option_map};
+ghost use Rattle.ksi_split.specs.declared.side.Side.{Side};
+ghost use Rattle.ksi_auditor.specs.Walks.{parts_text};
+
+use crate::place::Place;
+use ksi_imprint::Imprint;
+
+/// Both parts of a node, and its level.
+#[derive(Drop, Debug)]
+pub(crate) struct Parts {
+    pub(crate) left: Imprint,
+    pub(crate) right: Imprint,
+    pub(crate) level: u8,
+}
+
+/// A kept tree, whose nodes are reached by the sides from its top.
+pub(crate) trait KeptTree {
+    /// The string that the node at the sides is made of, where it has two parts.
+    ghost text: { Self → List Side → Option (List ℕ) };
+
+    /// Both parts of the node at a place, where it has two.
+    fn parts(&self, place: &Place) -> Option<Parts>
+        ensures { option_map parts_text result ≡ text self.now place.now };
+}

@@ -1,0 +1,11 @@
+//! Where an accepted hash stands in what the cores kept.
+#![tactic(auto)]
+
+mod answer;
+mod kept;
+mod place;
+mod rung;
+mod walk;
+
+pub use answer::Audit;
+pub use ksi_imprint::{Clash, NoMemory};
