@@ -3,11 +3,17 @@ use Rattle.std.specs.Prelude.{ℕ, List, [], ◌∷◌, ◌++◌, Option, Some, 
 use Rattle.std.specs.Str.{bytes_eq}
 use Rattle.ksi_imprint.specs.Imprints.{join_text}
 use Rattle.ksi_split.specs.declared.side.Side.{Side}
+use Rattle.ksi_split.specs.declared.side.Side.TheVariants.{Left, Right}
 use Rattle.ksi_auditor.specs.declared.kept.Parts.{Parts}
 use Rattle.ksi_auditor.specs.declared.rung.Rung as rungs
 use Rattle.ksi_auditor.specs.declared.walk.Walk.{Walk}
 use Rattle.ksi_auditor.specs.declared.walk.Walk.TheVariants.{Apart, At, Past}
 use Rattle.ksi_auditor.specs.Beside.{Rung, rung_text}
+
+-- the bit of a side in a place
+abbrev pub bit_of : Side → ℕ
+bit_of Left = 0
+bit_of Right = 1
 
 -- a link of the code, wherever its bytes lie in memory
 abbrev pub view_rung : rungs.Rung → Rung

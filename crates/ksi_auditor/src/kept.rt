@@ -1,9 +1,11 @@
-ghost use Rattle.std.specs.Prelude.{ℕ, List, ◌≡◌, Option, option_map};
+ghost use Rattle.std.specs.Prelude.{ℕ, List, ◌≡◌, Option, option_map, IfOk};
 ghost use Rattle.ksi_split.specs.declared.side.Side.{Side};
 ghost use Rattle.ksi_auditor.specs.Walks.{parts_text};
 
 use crate::place::Place;
-use ksi_imprint::Imprint;
+use crate::rung::join_text;
+use ksi_imprint::{Bytes, Imprint, NoMemory};
+use std::alloc::Global;
 
 /// Both parts of a node, and its level.
 #[derive(Drop, Debug)]
@@ -11,6 +13,20 @@ pub(crate) struct Parts {
     pub(crate) left: Imprint,
     pub(crate) right: Imprint,
     pub(crate) level: u8,
+}
+
+impl Parts {
+    /// The string that both parts make.
+    pub(crate) fn text(&self, alloc: Global) -> Result<Bytes, NoMemory>
+        ensures { IfOk result (λ text. text ≡ parts_text self.now) }
+    {
+        join_text(
+            alloc,
+            self.left.bytes(),
+            self.right.bytes(),
+            self.level,
+        )
+    }
 }
 
 /// A kept tree, whose nodes are reached by the sides from its top.

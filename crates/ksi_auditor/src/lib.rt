@@ -5,6 +5,7 @@ mod answer;
 mod kept;
 mod place;
 mod rung;
+mod top;
 mod walk;
 
 pub use answer::Audit;

@@ -1,4 +1,5 @@
 ghost use Rattle.std.specs.Prelude.{◌≡◌, ◌<◌, ◌≤◌, [], ◌∷◌, ◌++◌, length};
+ghost use Rattle.ksi_auditor.specs.Walks.{bit_of};
 
 use ksi_split::laws::{one_split, one_way};
 use ksi_split::{Side, Way, way};
@@ -49,12 +50,8 @@ impl Place {
     {
         one_way();
         one_split();
-        let bit = match side {
-            Side::Left => 0,
-            Side::Right => 1,
-        };
         Place {
-            bits: 2 * self.bits + bit,
+            bits: 2 * self.bits + bit_of(side),
             depth: self.depth + 1,
         }
     }
@@ -63,5 +60,14 @@ impl Place {
         ensures { result ≡ self.now }
     {
         way(self.bits, 1 << self.depth)
+    }
+}
+
+fn bit_of(side: Side) -> u64
+    ensures { result ≡ bit_of side }
+{
+    match side {
+        Side::Left => 0,
+        Side::Right => 1,
     }
 }

@@ -50,7 +50,7 @@ pub(crate) fn text_of(alloc: Global, rung: &Rung<'_>) -> Result<Bytes, NoMemory>
     }
 }
 
-fn join_text(alloc: Global, left: &[u8], right: &[u8], level: u8) -> Result<Bytes, NoMemory>
+pub(crate) fn join_text(alloc: Global, left: &[u8], right: &[u8], level: u8) -> Result<Bytes, NoMemory>
     ensures { IfOk result (λ text. text ≡ join_text left.now right.now level) }
 {
     let mut text = Vec::with_capacity(alloc, left.len() + right.len() + 1)?;
@@ -65,7 +65,13 @@ fn is_text_of(left: &[u8], right: &[u8], level: u8, parts: &Parts) -> bool
     requires { (length left.now ≡ 33) ⊎ (length right.now ≡ 33) }
     ensures { result ≡ bytes_eq (join_text left.now right.now level) (parts_text parts.now) }
 {
-    left == parts.left.bytes().as_slice()
-        && right == parts.right.bytes().as_slice()
-        && level == parts.level
+    let first = parts.left.bytes().as_slice();
+    let second = parts.right.bytes().as_slice();
+    if left != first {
+        return false;
+    }
+    if right != second {
+        return false;
+    }
+    level == parts.level
 }
