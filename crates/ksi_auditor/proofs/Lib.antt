@@ -1,3 +1,5 @@
 pub mod Cases
 pub mod Strings
 pub mod Bits
+pub mod Climbing
+pub mod Going

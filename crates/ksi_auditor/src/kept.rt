@@ -1,4 +1,4 @@
-ghost use Rattle.std.specs.Prelude.{ℕ, List, ◌≡◌, Option, option_map, IfOk};
+ghost use Rattle.std.specs.Prelude.{ℕ, List, ◌≡◌, Option, ◌<◌, length, option_map, IfOk, IfSome};
 ghost use Rattle.ksi_split.specs.declared.side.Side.{Side};
 ghost use Rattle.ksi_auditor.specs.Walks.{parts_text};
 
@@ -36,5 +36,6 @@ pub(crate) trait KeptTree {
 
     /// Both parts of the node at a place, where it has two.
     fn parts(&self, place: &Place) -> Option<Parts>
-        ensures { option_map parts_text result ≡ text self.now place.now };
+        ensures text { option_map parts_text result ≡ text self.now place.now }
+        ensures room { IfSome result (λ parts. length place.now < 63) };
 }

@@ -2,6 +2,9 @@
 #![tactic(auto)]
 
 mod answer;
+mod calendar;
+mod deep;
+mod items;
 mod kept;
 mod place;
 mod rung;

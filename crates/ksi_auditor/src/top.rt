@@ -13,6 +13,9 @@ pub(crate) fn top_of<C: Compress>(below: &Item, links: &[Link]) -> Item
 {
     match climb::<C>(below.imprint, below.level, links) {
         Ok(top) => top,
-        Err(_) => *below,
+        Err(_) => Item {
+            imprint: below.imprint,
+            level: below.level,
+        },
     }
 }
