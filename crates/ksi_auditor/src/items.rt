@@ -1,5 +1,6 @@
 use crate::deep::deep_places;
 use crate::kept::{KeptTree, Parts};
+use crate::nodes::joined_nodes;
 use crate::place::Place;
 use ksi_aggtree::Builder;
 use ksi_imprint::Compress;
@@ -18,6 +19,7 @@ impl<C: Compress> KeptTree for ItemsOf<'_, C> {
 
     fn parts(&self, place: &Place) -> Option<Parts> {
         deep_places();
+        joined_nodes();
         let _count = self.round.count();
         if place.depth() >= 63 {
             return None;
@@ -28,10 +30,12 @@ impl<C: Compress> KeptTree for ItemsOf<'_, C> {
         let right = self
             .round
             .node(place.below(Side::Right).way().as_slice())?;
+        // the level of their join
+        let node = self.round.node(place.way().as_slice())?;
         Some(Parts {
             left: left.imprint,
             right: right.imprint,
-            level: left.level.max(right.level) + 1,
+            level: node.level,
         })
     }
 }

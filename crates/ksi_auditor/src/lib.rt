@@ -6,6 +6,7 @@ mod calendar;
 mod deep;
 mod items;
 mod kept;
+mod nodes;
 mod place;
 mod rung;
 mod top;
