@@ -5,3 +5,5 @@ pub mod Climbing
 pub mod Going
 pub mod Parts
 pub mod Rounds
+pub mod Walking
+pub mod Rungs
