@@ -1,5 +1,5 @@
 -- The elements of a journal in their order: what each says behind those before it, or its fault.
-use Rattle.std.specs.Prelude.{ℕ, zero, suc, ◌+◌, ◌-◌, ◌==◌, ◌&&◌, nat_le, List, [], ◌∷◌, ◌++◌, length, take, slice_index, Bool, true, false, Result, Ok, Err, if◌then◌else◌}
+use Rattle.std.specs.Prelude.{ℕ, ◌+◌, ◌-◌, ◌==◌, ◌&&◌, nat_le, List, [], ◌∷◌, ◌++◌, length, take, slice_index, Bool, true, false, Result, Ok, Err, if◌then◌else◌}
 use Rattle.std.specs.Str.{bytes_eq}
 use Rattle.ksi_imprint.specs.declared.fault.ImprintFault.{ImprintFault}
 use Rattle.ksi_imprint.specs.Imprints.{zero_imprint}
@@ -64,19 +64,11 @@ rises least n place = if nat_le least n then Ok tt else Err (orders.Order place)
 abbrev pub no_second : Second
 no_second = record { second = 0; root = zero_imprint; items = [] }
 
-abbrev pub started : ℕ → Loaded
-started t = record {
-  stage = Seconds;
-  contents = record { start = t; seconds = []; issued = []; publications = [] };
-  least_second = t;
-  least_number = 0;
-  least_time = 0;
-  current = no_second;
-  left = 0;
-}
+abbrev pub started : Loaded → ℕ → Loaded
+started s t = record s { stage = Seconds; contents = record s.contents { start = t }; least_second = t }
 
-unfoldable pub start_at : PlacedTlv → Result Loaded OrderFault
-start_at at = time_at at >>= λ t. Ok (started t)
+unfoldable pub start_at : Loaded → PlacedTlv → Result Loaded JournalFault
+start_at s at = or_named (time_at at) >>= λ t. Ok (started s t)
 
 -- ---- 2: a second: 1 its time, 2 its root, 3 how many items it has
 
@@ -96,8 +88,7 @@ closed s kept = record s {
 
 -- a second of which so many items are to come
 abbrev pub opened : Loaded → Second → ℕ → Loaded
-opened s kept zero = closed s kept
-opened s kept (suc n) = record s { stage = Items; current = kept; left = suc n }
+opened s kept n = if n == 0 then closed s kept else record s { stage = Items; current = kept; left = n }
 
 abbrev pub counted : Loaded → ℕ → List ℕ → ℕ → Result Loaded JournalFault
 counted s t root n =
@@ -130,11 +121,13 @@ abbrev pub with_item : Second → Item → Second
 with_item kept item = record kept { items = kept.items ++ item ∷ [] }
 
 -- the last item closes its second, where the tree has its root
-abbrev pub added : (List ℕ → List ℕ) → Loaded → Second → ℕ → Result Loaded JournalFault
-added image s kept zero =
+abbrev pub finished : (List ℕ → List ℕ) → Loaded → Second → Result Loaded JournalFault
+finished image s kept =
     if bytes_eq (tree_of image kept.items).imprint kept.root then Ok (closed s kept)
     else Err (faults.TreeRoot kept.second kept.root (tree_of image kept.items).imprint)
-added image s kept (suc n) = Ok (record s { current = kept; left = suc n })
+
+abbrev pub added : (List ℕ → List ℕ) → Loaded → Second → ℕ → Result Loaded JournalFault
+added image s kept left = if left == 0 then finished image s kept else Ok (record s { current = kept; left = left })
 
 unfoldable pub item_at : (List ℕ → List ℕ) → Loaded → PlacedTlv → Result Loaded JournalFault
 item_at image s at = or_named (item_in at) >>= λ item. added image s (with_item s.current item) (s.left - 1)
@@ -187,7 +180,7 @@ end_at s at = if length at.element.body == 0 then Ok (record s { stage = End }) 
 
 unfoldable pub element_read : (List ℕ → List ℕ) → Loaded → PlacedTlv → Result Loaded JournalFault
 element_read image s at =
-    if at.element.kind == 1 then or_named (start_at at)
+    if at.element.kind == 1 then start_at s at
     else if at.element.kind == 2 then second_at s at
     else if at.element.kind == 3 then item_at image s at
     else if at.element.kind == 4 then issued_at s at

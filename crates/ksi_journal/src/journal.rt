@@ -1,8 +1,14 @@
-ghost use Rattle.std.specs.Prelude.{◌≡◌};
+ghost use Rattle.std.specs.Prelude.{◌≡◌, ◌↔◌, ℕ, ◌<◌, ◌≤◌, ◌^◌, None, Some, IfOk, IfSome, IsSome, length};
+ghost use Rattle.ksi_journal.specs.Journal.{contents, IsJournal, root_at, items_at, kept_among};
+ghost use Rattle.ksi_journal.specs.Calendar.{calendar_of, first_missing, IsFirstMissing};
 
+use crate::calendar::calendar;
+use crate::finding::find;
 use crate::second::Second;
+use ksi_aggchain::Item;
 use ksi_calendar::Calendar;
-use ksi_imprint::{Bytes, Compress, Imprint};
+use ksi_imprint::{Bytes, Compress, Imprint, NoMemory};
+use std::alloc::Global;
 use std::marker::Model;
 
 /// What cores kept: the start, the kept seconds with their roots and items, the issued signatures, and the
@@ -31,6 +37,34 @@ impl<C: Compress> Model for Journal<C> {
 }
 
 impl<C: Compress> Journal<C> {
+    /// The journal of a start, kept seconds, issued signatures, each with its number, and publications, which are not
+    /// copied. All times are below 2^63, seconds, numbers and published times rise, and the tree of each second has
+    /// its root.
+    ///
+    /// # Errors
+    /// `NoMemory`: no journal is made.
+    #[tactic(auto, unfolding(crate::specs::Calendar::calendar_of))]
+    pub fn new(
+        alloc: Global,
+        start: u64,
+        seconds: Vec<Second>,
+        issued: Vec<(u64, Bytes)>,
+        publications: Vec<(u64, Imprint)>,
+    ) -> Result<Self, NoMemory>
+        requires { IsJournal C.image (contents start seconds.items issued.items publications.items) }
+        ensures { IfOk result (λ journal. journal ≡ contents start seconds.items issued.items publications.items) }
+    {
+        let calendar = calendar(alloc, start, &seconds)?;
+        Ok(Journal {
+            start,
+            seconds,
+            issued,
+            publications,
+            calendar,
+        })
+    }
+
+    /// The first second of the calendar.
     pub fn start(&self) -> u64
         ensures { result ≡ self.now.start }
     {
@@ -56,5 +90,53 @@ impl<C: Compress> Journal<C> {
         ensures { result.now ≡ self.now.publications }
     {
         &self.publications
+    }
+
+    /// The calendar of the seconds from the start up to the first one that is not kept.
+    pub fn calendar(&self) -> &Calendar<C>
+        ensures { result.now ≡ calendar_of self.now }
+    {
+        &self.calendar
+    }
+
+    /// The root of a second, none where it is not kept.
+    #[tactic(auto, unfolding(crate::specs::Journal::root_at))]
+    pub fn root(&self, second: u64) -> Option<Imprint>
+        ensures { result ≡ root_at self.now second }
+    {
+        match find(self.start, &self.seconds, second) {
+            Some(kept) => Some(kept.root),
+            None => None,
+        }
+    }
+
+    /// The items of a second, in order, none where it is not kept or its root is the zero imprint.
+    #[tactic(auto, unfolding(crate::specs::Journal::items_at))]
+    pub fn items(&self, second: u64) -> &[Item]
+        ensures { result.now ≡ items_at self.now second }
+    {
+        match find(self.start, &self.seconds, second) {
+            Some(kept) => kept.items.as_slice(),
+            None => &[],
+        }
+    }
+
+    /// The first second from the start to `p` that is not kept, none where all are.
+    pub fn first_missing(&self, p: u64) -> Option<u64>
+        ensures value { result ≡ first_missing self.now p }
+        ensures some { (second : ℕ) → (result ≡ Some second) ↔ IsFirstMissing self.now p second }
+        ensures none { (result ≡ None) ↔
+            ((t : ℕ) → self.now.start ≤ t → t ≤ p → IsSome (root_at self.now t)) }
+    {
+        self.missing(p)
+    }
+
+    #[tactic(auto, unfolding(crate::specs::Calendar::first_missing, crate::specs::Calendar::calendar_of))]
+    fn missing(&self, p: u64) -> Option<u64>
+        ensures value { result ≡ first_missing self.now p }
+        ensures journal { IsJournal C.image self.now }
+    {
+        let missing = self.start + self.calendar.count();
+        if missing <= p { Some(missing) } else { None }
     }
 }

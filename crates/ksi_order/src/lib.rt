@@ -25,6 +25,6 @@ mod walking;
 
 pub use fault::{OrderFault, Stop};
 pub use field::Fields;
-pub use laws::whole_or_fault;
+pub use laws::{values_are_bounded, whole_or_fault};
 pub use values::{imprint, number, time};
 pub use walking::{Ordered, walk};

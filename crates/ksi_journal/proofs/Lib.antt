@@ -1,0 +1,4 @@
+pub mod Halves
+pub mod Sound
+pub mod Run
+pub mod Files

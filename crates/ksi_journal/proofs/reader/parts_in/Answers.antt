@@ -1,0 +1,14 @@
+use Rattle.std.proofs.Common.{subst, sym}
+use Rattle.ksi_tlv.specs.Walking.{elements}
+use Rattle.ksi_order.specs.Sequence.{IsWhole}
+use Rattle.ksi_journal.specs.Journal.{IsJournal}
+use Rattle.ksi_journal.specs.Elements.{Loaded, journal_order}
+use Rattle.ksi_journal.proofs.Sound.{whole_journal}
+use Rattle.ksi_journal.proofs.reader.parts_in.Goals as goal
+
+pub returns-in-Ok-clause-journal : goal.returns-in-Ok-clause-journal
+returns-in-Ok-clause-journal g c =
+    let image = g.C.Compress.image in
+    let whole = subst (λ (s : Loaded). IsWhole (journal_order image) (elements 8 c.args.rest.now) s c.walk.new.state) c.new-loading.ensures c.in-Ok.ensures.told in
+    subst (IsJournal image) (sym c.into_parts.ensures.contents)
+    (whole_journal image _ c.walk.new.state (record { early = c.values_are_bounded.ensures.early; imprint = c.values_are_bounded.ensures.imprint }) whole c.into_parts.ensures.numbers)

@@ -1,0 +1,67 @@
+ghost use Rattle.std.specs.Prelude.{◌≡◌, ◌⊎◌, ◌++◌, ◌+◌, ◌<◌, ◌^◌, ℕ, List, None, IfOk, IfErr, IfSome, length};
+ghost use Rattle.ksi_tlv.specs.Walking.{elements};
+ghost use Rattle.ksi_order.specs.Sequence.{IsWhole, IsFirstFault};
+ghost use Rattle.ksi_journal.specs.declared.fault.JournalFault.TheVariants as answers;
+ghost use Rattle.ksi_journal.specs.Journal.{IsJournal};
+ghost use Rattle.ksi_journal.specs.Elements.{Loaded, journal_order, nothing_yet};
+ghost use Rattle.ksi_journal.specs.File.{magic, IsJournalFile, IsJournalFault};
+ghost use Rattle.ksi_journal.specs.Kept.{parts_of};
+
+use crate::fault::JournalFault;
+use crate::journal::Journal;
+use crate::loading::{Loading, Parts};
+use ksi_imprint::Compress;
+use ksi_order::{Stop, values_are_bounded, walk};
+use std::alloc::Global;
+
+/// The bytes that a journal begins with.
+pub(crate) const MAGIC: &[u8; 8] = b"KSIJRNL1";
+
+/// Loads a journal, whose trees it computes.
+///
+/// # Errors
+/// The first fault in order of bytes, or `NoMemory`.
+pub fn load<C: Compress>(alloc: Global, bytes: &[u8]) -> Result<Journal<C>, JournalFault>
+    ensures journal { IfOk result (λ journal. IsJournalFile C.image bytes.now journal) }
+    ensures fault { IfErr result (λ fault.
+        (fault ≡ answers.NoMemory) ⊎ IsJournalFault C.image bytes.now fault) }
+{
+    let Some(rest) = after_magic(bytes) else {
+        return Err(JournalFault::Magic);
+    };
+    let parts = parts_in::<C>(alloc, rest)?;
+    let journal = Journal::new(
+        alloc,
+        parts.start,
+        parts.seconds,
+        parts.issued,
+        parts.publications,
+    )?;
+    Ok(journal)
+}
+
+fn after_magic(bytes: &[u8]) -> Option<&[u8]>
+    ensures some { IfSome result (λ rest. bytes.now ≡ magic ++ rest.now) }
+    ensures short { IfSome result (λ rest. 8 + length rest.now < 2 ^ 64) }
+    ensures none { result ≡ None → (rest : List ℕ) → bytes.now ≡ magic ++ rest → ⊥ }
+{
+    bytes.strip_prefix(MAGIC)
+}
+
+/// What the elements behind the magic say.
+fn parts_in<C: Compress>(alloc: Global, rest: &[u8]) -> Result<Parts, JournalFault>
+    requires { 8 + length rest.now < 2 ^ 64 }
+    ensures journal { IfOk result (λ parts. IsJournal C.image (parts_of parts)) }
+    ensures whole { IfOk result (λ parts. (said : Loaded) ×
+        IsWhole (journal_order C.image) (elements 8 rest.now) nothing_yet said × (parts_of parts ≡ said.contents)) }
+    ensures fault { IfErr result (λ fault. (fault ≡ answers.NoMemory)
+        ⊎ IsFirstFault (journal_order C.image) (8 + length rest.now) (elements 8 rest.now) nothing_yet fault) }
+{
+    values_are_bounded();
+    let mut loading = Loading::<C>::new(alloc);
+    match walk(&mut loading, MAGIC.len(), rest) {
+        Ok(()) => Ok(loading.into_parts()),
+        Err(Stop::Fault(fault)) => Err(fault),
+        Err(Stop::NoMemory) => Err(JournalFault::NoMemory),
+    }
+}
