@@ -7,3 +7,6 @@ pub mod Parts
 pub mod Rounds
 pub mod Walking
 pub mod Rungs
+pub mod Laws
+pub mod Keeping
+pub mod Outcomes

@@ -25,9 +25,12 @@ use Rattle.ksi_auditor.specs.Kept.{calendar_text, items_text}
 abbrev pub links_of : Signature → List PlainLink
 links_of signature = all_links (plain_chains signature.chains)
 
--- their sides, from the top
+-- the sides of links, from the top
+abbrev pub sides_of : List PlainLink → List Side
+sides_of links = reverse (map (λ link. link.side) links)
+
 abbrev pub link_sides : Signature → List Side
-link_sides signature = reverse (map (λ link. link.side) (links_of signature))
+link_sides signature = sides_of (links_of signature)
 
 -- ---- the strings that are compared, from the top
 
@@ -36,8 +39,8 @@ abbrev pub calendar_pairs : (List ℕ → List ℕ) → Contents → Calendar �
 calendar_pairs image journal calendar = pairs_below (calendar_text image (calendar_of journal) calendar.publication) [] (cal_rungs_from image calendar.input calendar.links)
 
 -- each aggregation link's string and that of the tree of the items, as far as an item
-abbrev pub item_pairs : (List ℕ → List ℕ) → List Item → Signature → List ℕ → List Pair
-item_pairs image items signature hash = pairs_below (items_text image items) [] (rungs_from image (at_level_zero hash) (links_of signature))
+abbrev pub item_pairs : (List ℕ → List ℕ) → List Item → List PlainLink → List ℕ → List Pair
+item_pairs image items links hash = pairs_below (items_text image items) [] (rungs_from image (at_level_zero hash) links)
 
 -- ---- where the links end
 
@@ -58,13 +61,14 @@ found t count sides passed None = ends t count sides passed
 
 -- ---- the audit
 
-abbrev pub compared : (List ℕ → List ℕ) → List Item → Signature → List ℕ → ℕ → List Pair → Audit
-compared image items signature hash t above =
-    found t (length items) (link_sides signature) (length (item_pairs image items signature hash)) (differing (above ++ item_pairs image items signature hash))
+-- of links that lead up from a hash, beside the tree of items, where strings above were compared before
+abbrev pub compared : (List ℕ → List ℕ) → List Item → List PlainLink → List ℕ → ℕ → List Pair → Audit
+compared image items links hash t above =
+    found t (length items) (sides_of links) (length (item_pairs image items links hash)) (differing (above ++ item_pairs image items links hash))
 
 -- of an accepted signature, whose publication is decided
 abbrev pub laid_beside : (List ℕ → List ℕ) → Contents → Signature → List ℕ → ℕ → Calendar → Audit
-laid_beside image journal signature hash t calendar = compared image (items_at journal t) signature hash t (calendar_pairs image journal calendar)
+laid_beside image journal signature hash t calendar = compared image (items_at journal t) (links_of signature) hash t (calendar_pairs image journal calendar)
 
 abbrev pub decided : (List ℕ → List ℕ) → Contents → Signature → List ℕ → ℕ → Calendar → Option ℕ → Audit
 decided image journal signature hash t calendar (Some second) = Undecided second

@@ -2,6 +2,7 @@
 #![tactic(auto)]
 
 mod answer;
+mod auditing;
 mod calendar;
 mod deep;
 mod items;
