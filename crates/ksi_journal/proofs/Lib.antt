@@ -2,3 +2,4 @@ pub mod Halves
 pub mod Sound
 pub mod Run
 pub mod Files
+pub mod Texts

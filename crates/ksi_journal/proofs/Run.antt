@@ -138,10 +138,12 @@ module _ (image : List ℕ → List ℕ) (journal : Contents) (is : IsJournal im
   first_by p s true le = (
     λ e. (let same : journal.start + length run ≡ s = cc in
         subst (IsFirstMissing journal p) same (record {
-          from = omega arith; to = leb-true (journal.start + length run) p le; missing = not_kept;
+          from = omega arith;
+          to = leb-true (journal.start + length run) p le;
+          missing = not_kept;
           before = λ t from lt. some_root t from lt;
         })),
-    λ first. ap some_second (one_end p s first)
+    λ first. ap some_second (one_end p s first),
   )
   first_by p s false le = (λ e. absurd cc, λ first. absurd (let to = first.to in missing_not s first.from (let more = leb-false (journal.start + length run) p le in omega arith) first.missing))
 
@@ -170,7 +172,7 @@ module _ (image : List ℕ → List ℕ) (journal : Contents) (is : IsJournal im
     λ e. (let b = both_true (leb journal.start p) (ltb p (journal.start + length run)) e in
         let early = ltb-true p (journal.start + length run) b.1 in
         record { from = leb-true journal.start p b.0; kept = λ t from to. some_root t from (omega arith) }),
-    λ covered. rw (le-leb journal.start p covered.from, lt-ltb p (journal.start + length run) (kept_to p covered.kept)) refl
+    λ covered. rw (le-leb journal.start p covered.from, lt-ltb p (journal.start + length run) (kept_to p covered.kept)) refl,
   )
 
   leaf_by : (t : ℕ) (early : Bool) → ltb t journal.start ≡ early → t < journal.start + length run
@@ -181,7 +183,6 @@ module _ (image : List ℕ → List ℕ) (journal : Contents) (is : IsJournal im
   pub leaves_words : (t : ℕ) → t < journal.start + length (calendar_of journal).roots → calendar_leaf (calendar_of journal) t ≡ leaf_at journal t
   unfolding calendar_of
   leaves_words t lt = leaf_by t (ltb t journal.start) refl lt
-
   -- ---- finding a second
 
 pub found : (least t n : ℕ) (seconds : List Second) → RiseFrom least (times seconds) → ((j : ℕ) (d : Second) → j < n → (get_or seconds j d).second < t) → ((j : ℕ) (d : Second) → n ≤ j → j < length seconds → t ≤ (get_or seconds j d).second)

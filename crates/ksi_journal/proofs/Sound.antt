@@ -192,8 +192,10 @@ module _ (image : List ℕ → List ℕ) where
     fresh = λ e. absurd cc;
     seconds = all_more (IsSecond image) s.contents.seconds kept sound.seconds is;
     seconds_rise = rises_more (λ (kept : Second). kept.second) s.contents.start s.contents.seconds s.least_second kept sound.seconds_rise le;
-    issued = sound.issued; numbers_rise = sound.numbers_rise;
-    publications = sound.publications; times_rise = sound.times_rise;
+    issued = sound.issued;
+    numbers_rise = sound.numbers_rise;
+    publications = sound.publications;
+    times_rise = sound.times_rise;
     opened = λ e. absurd cc;
   }
 
@@ -209,8 +211,10 @@ module _ (image : List ℕ → List ℕ) where
         fresh = λ e. absurd cc;
         seconds = sound.seconds;
         seconds_rise = subst (λ (xs : List Second). Rises (λ (kept : Second). kept.second) time.0 xs time.0) (sym none) (record { rise = tt; behind = omega arith });
-        issued = sound.issued; numbers_rise = sound.numbers_rise;
-        publications = sound.publications; times_rise = sound.times_rise;
+        issued = sound.issued;
+        numbers_rise = sound.numbers_rise;
+        publications = sound.publications;
+        times_rise = sound.times_rise;
         opened = λ e. absurd cc;
       })
 
@@ -224,9 +228,12 @@ module _ (image : List ℕ → List ℕ) where
   open_second s u t root n false is sound le early imprint other some few e = subst (IsSound image) e (record {
     start = sound.start;
     fresh = λ e. absurd cc;
-    seconds = sound.seconds; seconds_rise = sound.seconds_rise;
-    issued = sound.issued; numbers_rise = sound.numbers_rise;
-    publications = sound.publications; times_rise = sound.times_rise;
+    seconds = sound.seconds;
+    seconds_rise = sound.seconds_rise;
+    issued = sound.issued;
+    numbers_rise = sound.numbers_rise;
+    publications = sound.publications;
+    times_rise = sound.times_rise;
     opened = λ e. record { least = le; early = early; imprint = imprint; other = other; some = omega arith; few = omega arith; items = tt };
   })
 
@@ -281,11 +288,18 @@ module _ (image : List ℕ → List ℕ) where
       subst (IsSound image) same (record {
         start = sound.start;
         fresh = sound.fresh;
-        seconds = sound.seconds; seconds_rise = sound.seconds_rise;
-        issued = sound.issued; numbers_rise = sound.numbers_rise;
-        publications = sound.publications; times_rise = sound.times_rise;
+        seconds = sound.seconds;
+        seconds_rise = sound.seconds_rise;
+        issued = sound.issued;
+        numbers_rise = sound.numbers_rise;
+        publications = sound.publications;
+        times_rise = sound.times_rise;
         opened = λ e. record {
-          least = waits.least; early = waits.early; imprint = waits.imprint; other = waits.other; some = some;
+          least = waits.least;
+          early = waits.early;
+          imprint = waits.imprint;
+          other = waits.other;
+          some = some;
           few = omega (arith, length-append s.current.items (item ∷ []));
           items = all_more IsItem s.current.items item waits.items is;
         };
@@ -310,10 +324,12 @@ module _ (image : List ℕ → List ℕ) where
       subst (IsSound image) same (record {
         start = sound.start;
         fresh = λ e. absurd cc;
-        seconds = sound.seconds; seconds_rise = sound.seconds_rise;
+        seconds = sound.seconds;
+        seconds_rise = sound.seconds_rise;
         issued = all_more (λ (x : ℕ × List ℕ). length x.1 ≤ 60000) s.contents.issued signature.0 sound.issued is.1;
         numbers_rise = rises_more (λ (x : ℕ × List ℕ). x.0) 0 s.contents.issued s.least_number signature.0 sound.numbers_rise is.0;
-        publications = sound.publications; times_rise = sound.times_rise;
+        publications = sound.publications;
+        times_rise = sound.times_rise;
         opened = λ e. absurd cc;
       })
 
@@ -326,8 +342,10 @@ module _ (image : List ℕ → List ℕ) where
       subst (IsSound image) same (record {
         start = sound.start;
         fresh = λ e. absurd cc;
-        seconds = sound.seconds; seconds_rise = sound.seconds_rise;
-        issued = sound.issued; numbers_rise = sound.numbers_rise;
+        seconds = sound.seconds;
+        seconds_rise = sound.seconds_rise;
+        issued = sound.issued;
+        numbers_rise = sound.numbers_rise;
         publications = all_more IsPublication s.contents.publications publication.0 sound.publications is.1;
         times_rise = rises_more (λ (x : ℕ × List ℕ). x.0) 0 s.contents.publications s.least_time publication.0 sound.times_rise is.0;
         opened = λ e. absurd cc;
@@ -340,9 +358,12 @@ module _ (image : List ℕ → List ℕ) where
       subst (IsSound image) t.1 (record {
         start = sound.start;
         fresh = λ e. absurd cc;
-        seconds = sound.seconds; seconds_rise = sound.seconds_rise;
-        issued = sound.issued; numbers_rise = sound.numbers_rise;
-        publications = sound.publications; times_rise = sound.times_rise;
+        seconds = sound.seconds;
+        seconds_rise = sound.seconds_rise;
+        issued = sound.issued;
+        numbers_rise = sound.numbers_rise;
+        publications = sound.publications;
+        times_rise = sound.times_rise;
         opened = λ e. absurd cc;
       })
 
@@ -385,9 +406,12 @@ module _ (image : List ℕ → List ℕ) where
   nothing_sound = record {
     start = omega arith;
     fresh = λ e. refl;
-    seconds = tt; seconds_rise = record { rise = tt; behind = omega arith };
-    issued = tt; numbers_rise = record { rise = tt; behind = omega arith };
-    publications = tt; times_rise = record { rise = tt; behind = omega arith };
+    seconds = tt;
+    seconds_rise = record { rise = tt; behind = omega arith };
+    issued = tt;
+    numbers_rise = record { rise = tt; behind = omega arith };
+    publications = tt;
+    times_rise = record { rise = tt; behind = omega arith };
     opened = λ e. absurd cc;
   }
 
@@ -401,7 +425,10 @@ module _ (image : List ℕ → List ℕ) where
       let sound = leads_sound nothing_yet said whole.es bounded nothing_sound whole.leads in
       record {
         start = sound.start;
-        seconds = sound.seconds; seconds_rise = sound.seconds_rise.rise;
-        issued = issued_of said.contents.issued sound.issued small; numbers_rise = sound.numbers_rise.rise;
-        publications = sound.publications; times_rise = sound.times_rise.rise;
+        seconds = sound.seconds;
+        seconds_rise = sound.seconds_rise.rise;
+        issued = issued_of said.contents.issued sound.issued small;
+        numbers_rise = sound.numbers_rise.rise;
+        publications = sound.publications;
+        times_rise = sound.times_rise.rise;
       }

@@ -8,8 +8,12 @@ use Rattle.ksi_journal.specs.declared.second.Second.{Second}
 use Rattle.ksi_journal.specs.Journal.{Contents}
 use Rattle.ksi_journal.specs.File.{magic}
 
+-- inside a second
+abbrev pub head_elements : Second → List Tlv
+head_elements kept = plain 1 (numeral kept.second) ∷ plain 2 kept.root ∷ plain 3 (numeral (length kept.items)) ∷ []
+
 abbrev pub second_element : Second → Tlv
-second_element kept = plain 2 (texts (plain 1 (numeral kept.second) ∷ plain 2 kept.root ∷ plain 3 (numeral (length kept.items)) ∷ []))
+second_element kept = plain 2 (texts (head_elements kept))
 
 abbrev pub item_element : Item → Tlv
 item_element item = plain 3 (item.imprint ++ item.level ∷ [])
@@ -22,11 +26,15 @@ abbrev pub seconds_elements : List Second → List Tlv
 seconds_elements [] = []
 seconds_elements (kept ∷ others) = kept_elements kept ++ seconds_elements others
 
+-- inside an issued signature, and inside a publication
+abbrev pub pair_elements : ℕ × List ℕ → List Tlv
+pair_elements pair = plain 1 (numeral pair.0) ∷ plain 2 pair.1 ∷ []
+
 abbrev pub issued_element : ℕ × List ℕ → Tlv
-issued_element signature = plain 4 (texts (plain 1 (numeral signature.0) ∷ plain 2 signature.1 ∷ []))
+issued_element signature = plain 4 (texts (pair_elements signature))
 
 abbrev pub publication_element : ℕ × List ℕ → Tlv
-publication_element publication = plain 5 (texts (plain 1 (numeral publication.0) ∷ plain 2 publication.1 ∷ []))
+publication_element publication = plain 5 (texts (pair_elements publication))
 
 abbrev pub journal_elements : Contents → List Tlv
 journal_elements journal =

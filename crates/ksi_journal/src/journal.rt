@@ -66,7 +66,8 @@ impl<C: Compress> Journal<C> {
 
     /// The first second of the calendar.
     pub fn start(&self) -> u64
-        ensures { result ≡ self.now.start }
+        ensures start { result ≡ self.now.start }
+        ensures journal { IsJournal C.image self.now }
     {
         self.start
     }

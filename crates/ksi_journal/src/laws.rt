@@ -19,8 +19,7 @@ pub fn calendar_is_covered()
         t < journal.start + length (calendar_of journal).roots → calendar_leaf (calendar_of journal) t ≡ leaf_at journal t }
     ensures early { (image : List ℕ → List ℕ) (journal : Contents) → IsJournal image journal →
         journal.start + length (calendar_of journal).roots ≤ 2 ^ 63 }
-{
-}
+{}
 
 /// Bytes are a journal or have a first fault, and not both; and they are one journal and have one first fault.
 pub fn file_or_fault()

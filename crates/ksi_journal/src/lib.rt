@@ -1,4 +1,20 @@
-//! Journals: what the cores kept, as a file.
+//! Journals: what cores kept, as a file. A journal is eight bytes of magic and then, in exactly this order, elements: a
+//! start, the decided seconds, each with its root and right behind it its items, the issued signatures, the
+//! publications, and an end, as docs/FORMATS.md tells it.
+//!
+//! A contract sees a [`Journal`] as a record of lists. The layer above may rely on this: [`load`] gives exactly the
+//! journal of the file that the bytes are, or the first fault in order of bytes, and computes each tree; in every
+//! journal the tree of a second has its root, and seconds, numbers and published times rise; `calendar` is that of the
+//! covered seconds, and `root` and `first_missing` say what is kept; what [`write`] gives is the journal's text. The
+//! readers of a journal take no memory. What holds of the definitions is in `laws`.
+//!
+//! ```text
+//! let journal = load::<Sha>(alloc, bytes)?;
+//! if journal.first_missing(p).is_none() {
+//!     let root = journal.calendar().root_at(p);
+//! }
+//! let text = write(alloc, &journal)?;
+//! ```
 #![tactic(auto)]
 
 mod calendar;
@@ -7,13 +23,17 @@ mod fields;
 mod finding;
 mod journal;
 pub mod laws;
-mod reader;
 mod loading;
+mod reader;
 mod second;
+#[cfg(test)]
+mod tests;
 mod tree;
+mod writer;
 
 pub use fault::JournalFault;
 pub use journal::Journal;
 pub use ksi_imprint::NoMemory;
 pub use reader::load;
 pub use second::Second;
+pub use writer::write;

@@ -67,11 +67,14 @@ impl<C: Compress> Model for Loading<C> {
     ghost Value = { Loaded };
 
     ghost view = { λ s. record {
-        stage = s.stage;
-        contents = contents s.start s.seconds.items s.issued.items s.publications.items;
-        least_second = s.least_second; least_number = s.least_number; least_time = s.least_time;
-        current = record { second = s.second; root = s.root; items = s.items.items };
-        left = s.left } };
+      stage = s.stage;
+      contents = contents s.start s.seconds.items s.issued.items s.publications.items;
+      least_second = s.least_second;
+      least_number = s.least_number;
+      least_time = s.least_time;
+      current = record { second = s.second; root = s.root; items = s.items.items };
+      left = s.left;
+    } };
 
     ghost invariant = { λ s. IsLoading s.second s.items.items s.left s.issued.items };
 }
@@ -185,7 +188,12 @@ impl<C: Compress> Loading<C> {
     }
 
     /// A second all of whose items are there.
-    fn close(&mut self, second: u64, root: Imprint, items: Vec<Item>) -> Result<(), Stop<JournalFault>>
+    fn close(
+        &mut self,
+        second: u64,
+        root: Imprint,
+        items: Vec<Item>,
+    ) -> Result<(), Stop<JournalFault>>
         requires { second < 2 ^ 63 }
         ensures { Steps (Ok (closed self.old (record { second = second; root = root; items = items.items }))) self.new result }
     {
@@ -236,11 +244,7 @@ impl<C: Compress> Loading<C> {
     {
         let computed = tree::<C>(&items).imprint;
         if !is_same(&computed, &self.root) {
-            return Err(Stop::Fault(JournalFault::TreeRoot(
-                self.second,
-                self.root,
-                computed,
-            )));
+            return Err(Stop::Fault(JournalFault::TreeRoot(self.second, self.root, computed)));
         }
         self.close(self.second, self.root, items)
     }

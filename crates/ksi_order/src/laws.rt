@@ -17,12 +17,10 @@ pub fn whole_or_fault<S, F>()
         IsWhole o items s t → IsWhole o items s u → t ≡ u }
     ensures one_fault { (o : Order S F) (end : ℕ) (items : Items) (s : S) (fault other : F) →
         IsFirstFault o end items s fault → IsFirstFault o end items s other → fault ≡ other }
-{
-}
+{}
 
 /// A time that was read is below 2^63, and an imprint that was read is one.
 pub fn values_are_bounded()
     ensures early { (at : PlacedTlv) (t : ℕ) → time_at at ≡ Ok t → t < 2 ^ 63 }
     ensures imprint { (at : PlacedTlv) (imprint : List ℕ) → imprint_at at ≡ Ok imprint → IsImprint imprint }
-{
-}
+{}

@@ -1,0 +1,166 @@
+ghost use Rattle.std.specs.Prelude.{◌≡◌, ◌++◌, ◌∷◌, [], ◌≤◌, ◌<◌, length, map, OnOk, IfOk};
+ghost use Rattle.std.specs.List.{AllByRecursion};
+ghost use Rattle.ksi_tlv.specs.Spelling.{plain, canonical};
+ghost use Rattle.ksi_tlv.specs.Writing.{texts};
+ghost use Rattle.ksi_journal.specs.Written.{head_elements, pair_elements, second_element, item_element, kept_elements, seconds_elements, issued_element, publication_element, journal_elements, journal_text};
+ghost use Rattle.ksi_journal.specs.Journal.{IsIssued};
+
+use crate::journal::Journal;
+use crate::loading::{END, ISSUED, ITEM, PUBLICATION, SECOND, START};
+use crate::reader::MAGIC;
+use crate::second::Second;
+use ksi_aggchain::Item;
+use ksi_grammar::put_short;
+use ksi_imprint::{Bytes, Compress, Imprint, NoMemory};
+use ksi_tlv::{Writer, numeral_is_read};
+use std::alloc::Global;
+
+/// The text of a journal, which loads again as the journal.
+///
+/// # Errors
+/// `NoMemory` where memory was wanting.
+pub fn write<C: Compress>(alloc: Global, journal: &Journal<C>) -> Result<Bytes, NoMemory>
+    ensures text { IfOk result (λ text. text ≡ journal_text journal.now) }
+{
+    let writer = elements(alloc, journal)?;
+    let mut text = Vec::new(alloc);
+    text.extend_from_slice(MAGIC)?;
+    text.extend_from_slice(writer.bytes())?;
+    Ok(Bytes::from_vec(text))
+}
+
+fn elements<C: Compress>(alloc: Global, journal: &Journal<C>) -> Result<Writer, NoMemory>
+    ensures { IfOk result (λ writer. writer ≡ texts (journal_elements journal.now)) }
+{
+    let mut writer = Writer::new(alloc);
+    writer.put_number(START, journal.start())?;
+    put_seconds(&mut writer, alloc, journal.seconds())?;
+    put_issued(&mut writer, alloc, journal.issued())?;
+    put_publications(&mut writer, alloc, journal.publications())?;
+    put_short(&mut writer, END, &[])?;
+    Ok(writer)
+}
+
+fn put_seconds(writer: &mut Writer, alloc: Global, seconds: &[Second]) -> Result<(), NoMemory>
+    ensures { OnOk result (writer.new ≡ writer.old ++ texts (seconds_elements seconds.now)) }
+{
+    for kept in seconds {
+        put_second(writer, alloc, kept)?;
+    }
+    Ok(())
+}
+
+/// A second and its items.
+fn put_second(writer: &mut Writer, alloc: Global, kept: &Second) -> Result<(), NoMemory>
+    ensures { OnOk result (writer.new ≡ writer.old ++ texts (kept_elements kept.now)) }
+{
+    put_head(writer, alloc, kept)?;
+    put_items(writer, kept.items.as_slice())
+}
+
+fn put_head(writer: &mut Writer, alloc: Global, kept: &Second) -> Result<(), NoMemory>
+    ensures { OnOk result (writer.new ≡ writer.old ++ canonical (second_element kept.now)) }
+{
+    let inside = head_body(alloc, kept)?;
+    put_short(writer, SECOND, inside.bytes())
+}
+
+fn put_items(writer: &mut Writer, items: &[Item]) -> Result<(), NoMemory>
+    ensures { OnOk result (writer.new ≡ writer.old ++ texts (map item_element items.now)) }
+{
+    for item in items {
+        put_item(writer, item)?;
+    }
+    Ok(())
+}
+
+fn put_item(writer: &mut Writer, item: &Item) -> Result<(), NoMemory>
+    ensures { OnOk result (writer.new ≡ writer.old ++ canonical (item_element item.now)) }
+{
+    let mut body = [0; 34];
+    let (imprint, level) = body.split_at_mut(33);
+    imprint.copy_from_slice(item.imprint.bytes());
+    level[0] = item.level;
+    put_short(writer, ITEM, &body)
+}
+
+fn head_body(alloc: Global, kept: &Second) -> Result<Writer, NoMemory>
+    ensures text { IfOk result (λ body. body ≡ texts (head_elements kept.now)) }
+    ensures short { IfOk result (λ body. length body ≤ 65535) }
+{
+    numeral_is_read();
+    let mut body = Writer::new(alloc);
+    body.put_number(0x01, kept.second)?;
+    put_short(&mut body, 0x02, kept.root.bytes())?;
+    body.put_number(0x03, kept.items.as_slice().len() as u64)?;
+    Ok(body)
+}
+
+fn put_issued(writer: &mut Writer, alloc: Global, issued: &[(u64, Bytes)]) -> Result<(), NoMemory>
+    requires { AllByRecursion IsIssued issued.now }
+    ensures { OnOk result (writer.new ≡ writer.old ++ texts (map issued_element issued.now)) }
+{
+    for signature in issued {
+        put_signature(writer, alloc, signature)?;
+    }
+    Ok(())
+}
+
+fn put_signature(
+    writer: &mut Writer,
+    alloc: Global,
+    signature: &(u64, Bytes),
+) -> Result<(), NoMemory>
+    requires { length signature.now.1 ≤ 60000 }
+    ensures { OnOk result (writer.new ≡ writer.old ++ canonical (issued_element signature.now)) }
+{
+    let body = signature_body(alloc, signature)?;
+    put_short(writer, ISSUED, body.bytes())
+}
+
+fn signature_body(alloc: Global, signature: &(u64, Bytes)) -> Result<Writer, NoMemory>
+    requires { length signature.now.1 ≤ 60000 }
+    ensures text { IfOk result (λ body. body ≡ texts (pair_elements signature.now)) }
+    ensures short { IfOk result (λ body. length body ≤ 65535) }
+{
+    numeral_is_read();
+    let mut body = Writer::new(alloc);
+    body.put_number(0x01, signature.0)?;
+    put_short(&mut body, 0x02, signature.1.as_slice())?;
+    Ok(body)
+}
+
+fn put_publications(
+    writer: &mut Writer,
+    alloc: Global,
+    publications: &[(u64, Imprint)],
+) -> Result<(), NoMemory>
+    ensures { OnOk result (writer.new ≡ writer.old ++ texts (map publication_element publications.now)) }
+{
+    for publication in publications {
+        put_publication(writer, alloc, publication)?;
+    }
+    Ok(())
+}
+
+fn put_publication(
+    writer: &mut Writer,
+    alloc: Global,
+    publication: &(u64, Imprint),
+) -> Result<(), NoMemory>
+    ensures { OnOk result (writer.new ≡ writer.old ++ canonical (publication_element publication.now)) }
+{
+    let body = publication_body(alloc, publication)?;
+    put_short(writer, PUBLICATION, body.bytes())
+}
+
+fn publication_body(alloc: Global, publication: &(u64, Imprint)) -> Result<Writer, NoMemory>
+    ensures text { IfOk result (λ body. body ≡ texts (pair_elements publication.now)) }
+    ensures short { IfOk result (λ body. length body ≤ 65535) }
+{
+    numeral_is_read();
+    let mut body = Writer::new(alloc);
+    body.put_number(0x01, publication.0)?;
+    put_short(&mut body, 0x02, publication.1.bytes())?;
+    Ok(body)
+}
