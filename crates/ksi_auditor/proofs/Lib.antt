@@ -7,6 +7,8 @@ pub mod Parts
 pub mod Rounds
 pub mod Walking
 pub mod Rungs
-pub mod Laws
+pub mod Cited
 pub mod Keeping
 pub mod Outcomes
+pub mod Showing
+pub mod Beneath

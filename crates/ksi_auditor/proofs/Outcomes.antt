@@ -1,19 +1,14 @@
 -- What the walk along links comes to, by the pairs of strings.
-use Rattle.std.proofs.Common.{◌≡◌, ◌≢◌, ℕ, suc, ◌+◌, ◌-◌, ◌<◌, ◌≤◌, List, [], ◌∷◌, ◌++◌, map, take, drop, length, get_or, Option, Some, None, refl, sym, ap, ◌∙◌, arith, inl, inr, ◌⊎◌, append_assoc, append-nil, length-append}
-use Rattle.std.specs.Prelude.{reverse}
-use Rattle.std.proofs.lemmas.List.{length-take-le, length-map, drop_more}
-use Rattle.std.proofs.lemmas.List.Concat.{flat_map-cons}
+use Rattle.std.proofs.Common.{◌≡◌, ◌≢◌, ℕ, suc, ◌+◌, ◌-◌, ◌<◌, ◌≤◌, List, [], ◌∷◌, ◌++◌, map, take, length, Option, Some, None, refl, sym, ap, ◌∙◌, arith, inl, inr, ◌⊎◌, append_assoc, append-nil, length-append}
+use Rattle.std.proofs.lemmas.List.{length-take-le, length-map}
 use Rattle.ksi_imprint.specs.declared.clash.Clash.{Clash}
 use Rattle.ksi_split.specs.declared.side.Side.{Side}
 use Rattle.ksi_aggchain.specs.Links.{PlainLink}
-use Rattle.ksi_aggchain.specs.Owned.{plain_link}
 use Rattle.ksi_aggchain.specs.declared.item.Item.{Item}
-use Rattle.ksi_signature.specs.Values.{Aggregation}
-use Rattle.ksi_verifier.specs.Chains.{at_level_zero, plain_chain, plain_chains}
-use Rattle.ksi_verifier.specs.Leading.{all_links, chain_links}
+use Rattle.ksi_verifier.specs.Chains.{at_level_zero}
 use Rattle.ksi_auditor.specs.Beside.{Rung, rung_side, rung_text, rungs_from, Pair, pairs_below, differing}
 use Rattle.ksi_auditor.specs.Kept.{items_text}
-use Rattle.ksi_auditor.specs.Walks.{step, go}
+use Rattle.ksi_auditor.specs.Walks.{step, go, clash_in}
 use Rattle.ksi_auditor.specs.Audit.{sides_of, item_pairs, item_named, ends, found, compared}
 use Rattle.ksi_auditor.specs.declared.walk.Walk.{Walk}
 use Rattle.ksi_auditor.specs.declared.walk.Walk.TheVariants.{Apart, At, Past}
@@ -58,17 +53,17 @@ module _ (text : List Side → Option (List ℕ)) where
   -- no pair differs, and so many links were passed
   pub record Ended (above : List Side) (rungs : List Rung) (sides : List Side) : Type 0 where
     pub none : differing (pairs_below text above rungs) ≡ None
-    pub sides : sides ≡ above ++ take (length (pairs_below text above rungs)) (map rung_side rungs)
+    pub is : sides ≡ above ++ take (length (pairs_below text above rungs)) (map rung_side rungs)
 
   pub at_is : (above : List Side) (rungs : List Rung) (sides : List Side) → At sides ≡ go text (At above) rungs → Ended above rungs sides × (length (pairs_below text above rungs) ≡ length rungs)
-  at_is above [] sides e = let is : sides ≡ above = cc in (record { none = refl; sides = is ∙ sym (append-nil above) }, refl)
+  at_is above [] sides e = let is : sides ≡ above = cc in (record { none = refl; is = is ∙ sym (append-nil above) }, refl)
   at_is above (rung ∷ rungs) sides e = elim (option_cases above) [
     | inl none ↦ (let past = rw none at e in let over = past ∙ go_past above rungs in absurd cc)
     | inr kept ↦ (let laid = rw kept.1 at e in
         elim (same_cases (rung_text rung) kept.0) [
           | inl same ↦ (let on = rw same.0 at laid in
               let rest = at_is (above ++ rung.side ∷ []) rungs sides on in
-              (record { none = rw (kept.1, same.0) rest.0.none; sides = rw kept.1 (rest.0.sides ∙ append_assoc above (rung.side ∷ []) _) }, rw kept.1 (ap suc rest.1)))
+              (record { none = rw (kept.1, same.0) rest.0.none; is = rw kept.1 (rest.0.is ∙ append_assoc above (rung.side ∷ []) _) }, rw kept.1 (ap suc rest.1)))
           | inr other ↦ (let here = rw other.0 at laid in
               let both = here ∙ go_apart (record { one = rung_text rung; two = kept.0 }) rungs in absurd cc)
         ])
@@ -80,17 +75,33 @@ module _ (text : List Side → Option (List ℕ)) where
     | inl none ↦ (let past = rw none at e in
         let over = past ∙ go_past above rungs in
         let is : sides ≡ above = cc in
-        (record { none = rw none refl; sides = rw none (is ∙ sym (append-nil above)) }, rw none (omega arith)))
+        (record { none = rw none refl; is = rw none (is ∙ sym (append-nil above)) }, rw none (omega arith)))
     | inr kept ↦ (let laid = rw kept.1 at e in
         elim (same_cases (rung_text rung) kept.0) [
           | inl same ↦ (let on = rw same.0 at laid in
               let rest = past_is (above ++ rung.side ∷ []) rungs sides on in
               let fewer = rest.1 in
-              (record { none = rw (kept.1, same.0) rest.0.none; sides = rw kept.1 (rest.0.sides ∙ append_assoc above (rung.side ∷ []) _) }, rw kept.1 (omega (arith, fewer))))
+              (record { none = rw (kept.1, same.0) rest.0.none; is = rw kept.1 (rest.0.is ∙ append_assoc above (rung.side ∷ []) _) }, rw kept.1 (omega (arith, fewer))))
           | inr other ↦ (let here = rw other.0 at laid in
               let both = here ∙ go_apart (record { one = rung_text rung; two = kept.0 }) rungs in absurd cc)
         ])
   ]
+
+  apart_none : (above : List Side) (rungs : List Rung) (walk : Walk) → walk ≡ go text (At above) rungs → None ≡ clash_in walk → differing (pairs_below text above rungs) ≡ None
+  apart_none above rungs (Apart clash) e is = absurd cc
+  apart_none above rungs (At sides) e is = (at_is above rungs sides e).0.none
+  apart_none above rungs (Past sides) e is = (past_is above rungs sides e).0.none
+
+  pub no_clash : (above : List Side) (rungs : List Rung) (walk : Walk) (found : Option Clash) → walk ≡ go text (At above) rungs → found ≡ clash_in walk → found ≡ None → differing (pairs_below text above rungs) ≡ None
+  no_clash above rungs walk found e is none = apart_none above rungs walk e (sym none ∙ is)
+
+  apart_some : (above : List Side) (rungs : List Rung) (walk : Walk) (clash : Clash) → walk ≡ go text (At above) rungs → Some clash ≡ clash_in walk → differing (pairs_below text above rungs) ≡ Some (pair_of clash)
+  apart_some above rungs (Apart other) clash e is = let same : clash ≡ other = cc in apart_is above rungs clash (ap Apart same ∙ e)
+  apart_some above rungs (At sides) clash e is = absurd cc
+  apart_some above rungs (Past sides) clash e is = absurd cc
+
+  pub a_clash : (above : List Side) (rungs : List Rung) (walk : Walk) (found : Option Clash) (clash : Clash) → walk ≡ go text (At above) rungs → found ≡ clash_in walk → found ≡ Some clash → differing (pairs_below text above rungs) ≡ Some (pair_of clash)
+  a_clash above rungs walk found clash e is some = apart_some above rungs walk clash e (sym some ∙ is)
 
 -- ---- pairs of two trees, one list after the other
 
@@ -127,7 +138,7 @@ module _ (image : List ℕ → List ℕ) (items : List Item) (links : List Plain
   clash_below clash e = ap (found t (length items) (sides_of links) passed) (sym (apart_is (items_text image items) [] rungs clash e))
 
   sides_length : length (sides_of links) ≡ length rungs
-  sides_length = ap length (sym (agg_sides image (at_level_zero hash) links)) ∙ length-map rung_side rungs
+  sides_length = ap length (sym (agg_sides image (at_level_zero hash) links)) ∙ length-map rungs rung_side
 
   take_all : (n : ℕ) (sides : List Side) → n ≡ length sides → take n sides ≡ sides
   take_all n sides e = ap (λ (k : ℕ). take k sides) e ∙ all sides
@@ -140,7 +151,7 @@ module _ (image : List ℕ → List ℕ) (items : List Item) (links : List Plain
   inside_at place e =
       let all = at_is (items_text image items) [] rungs place e in
       let count : passed ≡ length (sides_of links) = all.1 ∙ sym sides_length in
-      let is : place ≡ sides_of links = all.0.sides ∙ ap (take passed) (agg_sides image (at_level_zero hash) links) ∙ take_all passed (sides_of links) count in
+      let is : place ≡ sides_of links = all.0.is ∙ ap (take passed) (agg_sides image (at_level_zero hash) links) ∙ take_all passed (sides_of links) count in
       ap (answers.Inside t) is
       ∙ (elim (eq_cases passed (length (sides_of links))) as (λ z. answers.Inside t (sides_of links) ≡ ends t (length items) (sides_of links) passed) [ inl same ↦ rw same.0 refl | inr other ↦ absurd (other.1 count) ])
       ∙ ap (found t (length items) (sides_of links) passed) (sym all.0.none)
@@ -151,7 +162,7 @@ module _ (image : List ℕ → List ℕ) (items : List Item) (links : List Plain
       let fewer = all.1 in
       let sides = sides_length in
       let same = rungs_count image (at_level_zero hash) links in
-      let is : place ≡ take passed (sides_of links) = all.0.sides ∙ ap (take passed) (agg_sides image (at_level_zero hash) links) in
+      let is : place ≡ take passed (sides_of links) = all.0.is ∙ ap (take passed) (agg_sides image (at_level_zero hash) links) in
       let depth : length place ≡ passed = ap length is ∙ length-take-le passed (sides_of links) (omega (arith, fewer, sides)) in
       let left : count - length place ≡ length (sides_of links) - passed = omega (arith, n, same, sides, depth) in
       (omega (arith, depth, fewer, same, n),
@@ -163,12 +174,17 @@ module _ (image : List ℕ → List ℕ) (items : List Item) (links : List Plain
       ])
       ∙ ap (found t (length items) (sides_of links) passed) (sym all.0.none))
 
--- ---- how many links there are
+-- ---- the same with the walk of the code, beside a round that is these items
 
-pub count_more : (xs : List Aggregation) (i : ℕ) (x : Aggregation) → i < length xs → x ≡ get_or xs i x → length (all_links (plain_chains (drop i xs))) ≡ length x.links + length (all_links (plain_chains (drop (i + 1) xs)))
-count_more xs i x lt is =
-    let next : drop i xs ≡ x ∷ drop (i + 1) xs = drop_more xs i x lt ∙ ap (λ (y : Aggregation). y ∷ drop (i + 1) xs) (sym is) in
-    ap (λ (l : List Aggregation). length (all_links (plain_chains l))) next
-    ∙ ap length (flat_map-cons chain_links (plain_chain x) (plain_chains (drop (i + 1) xs)))
-    ∙ length-append (plain_chain x).links (all_links (plain_chains (drop (i + 1) xs)))
-    ∙ ap (λ (n : ℕ). n + length (all_links (plain_chains (drop (i + 1) xs)))) (length-map plain_link x.links)
+module _ (image : List ℕ → List ℕ) (round items : List Item) (links : List PlainLink) (hash : List ℕ) (t : ℕ) (walk : Walk) (same : round ≡ items) (e : walk ≡ go (items_text image round) (At []) (rungs_from image (at_level_zero hash) links)) where
+  went : walk ≡ go (items_text image items) (At []) (rungs_from image (at_level_zero hash) links)
+  went = e ∙ ap (λ (x : List Item). go (items_text image x) (At []) (rungs_from image (at_level_zero hash) links)) same
+
+  pub code_clash : (clash : Clash) → walk ≡ Apart clash → answers.Clash clash ≡ compared image items links hash t []
+  code_clash clash is = clash_below image items links hash t clash (sym is ∙ went)
+
+  pub code_inside : (place : List Side) → walk ≡ At place → answers.Inside t place ≡ compared image items links hash t []
+  code_inside place is = inside_at image items links hash t place (sym is ∙ went)
+
+  pub code_beneath : (place : List Side) (count : ℕ) → walk ≡ Past place → count ≡ length links → (length place ≤ count) × (answers.Beneath t (item_named (length items) place) (count - length place) ≡ compared image items links hash t [])
+  code_beneath place count is n = beneath_at image items links hash t place count (sym is ∙ went) n

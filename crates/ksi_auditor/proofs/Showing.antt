@@ -1,11 +1,11 @@
 -- An answer shows what it says.
 use Rattle.std.proofs.Common.{◌≡◌, ◌≢◌, ℕ, suc, ◌+◌, ◌-◌, ◌<◌, ◌≤◌, Bool, true, false, List, [], ◌∷◌, ◌++◌, map, take, reverse, length, Result, Ok, Err, Option, Some, None, option_map, refl, sym, ap, subst, ◌∙◌, arith, inl, inr, ◌⊎◌, length-append, append-nil, add-one}
-use Rattle.std.specs.Prelude.{max, nat_le, nat_lt}
+use Rattle.std.specs.Prelude.{max, nat_le, nat_lt, ◌&&◌, ◌↔◌}
 use Rattle.std.specs.Result.{result_unwrap_or}
 use Rattle.std.proofs.Math.Seq.{take-append_seam}
 use Rattle.std.proofs.lemmas.List.{length-map, map-append}
 use Rattle.std.proofs.lemmas.List.Sums.{sum_by-take-le}
-use Rattle.std.proofs.lemmas.Bool.{leb-false, le-leb}
+use Rattle.std.proofs.lemmas.Bool.{leb-false, leb-true, le-leb}
 use Rattle.ksi_imprint.specs.Imprints.{IsImprint, IsClash, join_text, zero_imprint}
 use Rattle.ksi_imprint.specs.declared.clash.Clash.{Clash}
 use Rattle.ksi_split.specs.declared.side.Side.{Side}
@@ -23,19 +23,20 @@ use Rattle.ksi_calchain.specs.Sides.{sides_from_top}
 use Rattle.ksi_calendar.specs.Calendar as calendars
 use Rattle.ksi_signature.specs.Values.{Calendar}
 use Rattle.ksi_signature.specs.declared.signature.Signature.{Signature}
-use Rattle.ksi_verifier.specs.Accepted.{IsAccepted}
-use Rattle.ksi_verifier.specs.Chains.{plain_chains, at_level_zero}
+use Rattle.ksi_verifier.specs.Accepted.{ChainsLead, IsAccepted}
+use Rattle.ksi_verifier.specs.Chains.{PlainChain, plain_chains, at_level_zero}
+use Rattle.ksi_verifier.specs.Leading.{all_links}
 use Rattle.ksi_verifier.specs.Verdict.{root_of, verdict}
 use Rattle.ksi_verifier.specs.declared.verdict.Verdict.{Verdict}
 use Rattle.ksi_verifier.specs.declared.verdict.Verdict.TheVariants.{Accepted, Refused}
 use Rattle.ksi_journal.specs.Journal.{Contents, IsJournal, items_at}
-use Rattle.ksi_journal.specs.Calendar.{calendar_of, roots_from, first_missing, kept_root, leaf_at}
+use Rattle.ksi_journal.specs.Calendar.{IsCovered, calendar_of, roots_from, first_missing, kept_root, leaf_at}
 use Rattle.ksi_auditor.specs.declared.answer.Audit.TheVariants as answers
 use Rattle.ksi_auditor.specs.Beside.{Rung, rung_side, rungs_from, cal_rungs_from, Pair, differing}
 use Rattle.ksi_auditor.specs.Climbed.{climbed_to}
 use Rattle.ksi_auditor.specs.Kept.{calendar_text, joined_imprints, items_text, joined_items}
 use Rattle.ksi_auditor.specs.Audit.{links_of, sides_of, link_sides, calendar_pairs, item_pairs, item_named, ends, found, compared, laid_beside, decided, kept_or_not, accepted_or_not, audit}
-use Rattle.ksi_auditor.specs.Shown.{Names, imprint_at, IsInside, IsBeneath, Shows}
+use Rattle.ksi_auditor.specs.Shown.{Names, imprint_at, IsDecided, IsInside, IsBeneath, Shows}
 use Rattle.ksi_auditor.proofs.Cases.{lt_cases, eq_cases}
 use Rattle.ksi_auditor.proofs.Strings.{same_cases}
 use Rattle.ksi_auditor.proofs.Parts.{whole, part_goes_on, node_past, node_below}
@@ -44,11 +45,11 @@ use Rattle.ksi_auditor.proofs.Rungs.{cal_sides, agg_sides, rungs_count, climbed_
 use Rattle.ksi_auditor.proofs.Climbing.{rise, climbed_is}
 use Rattle.ksi_auditor.proofs.Keeping.{all_of_tree, item_size, leaf_size, items_kept, HasItems, leaf_has_items}
 use Rattle.ksi_auditor.proofs.Outcomes.{pair_of, differing_first, first_above, none_above}
-use Rattle.ksi_auditor.proofs.Laws.{Laws}
+use Rattle.ksi_auditor.proofs.Cited.{Laws}
 
 -- ---- parts
 
-part_with : ℕ → ℕ → Part
+abbrev part_with : ℕ → ℕ → Part
 part_with first count = record { first = first; count = count }
 
 ok_is : {A B : Type 0} {x y : A} → ◌≡◌ {A = Result A B} (Ok x) (Ok y) → x ≡ y
@@ -98,6 +99,50 @@ covered_is j p from none = of (nat_le (j.start + length (roots_from j.start j.se
     of false e =
         let below = leb-false (j.start + length (roots_from j.start j.seconds)) p e in
         (rw (le-leb j.start p from, lt_true p (j.start + length (roots_from j.start j.seconds)) below) refl, below)
+
+le_false : (a b : ℕ) → b < a → nat_le a b ≡ false
+le_false a b h = of (nat_le a b) refl
+  where
+    of : (t : Bool) → nat_le a b ≡ t → nat_le a b ≡ false
+    of true e = let le = leb-true a b e in absurd (omega (arith, h, le))
+    of false e = e
+
+not_both : (b : Bool) → (b && false) ≡ true → ⊥
+not_both true e = cc
+not_both false e = cc
+
+missing_none : (j : Contents) (p : ℕ) → calendars.is_covered (calendar_of j) p ≡ true → first_missing j p ≡ None
+unfolding calendar_of first_missing
+missing_none j p e = elim (lt_cases p (j.start + length (roots_from j.start j.seconds))) [
+  | inl below ↦ rw (le_false (j.start + length (roots_from j.start j.seconds)) p below.1) refl
+  | inr above ↦ (let both = rw above.0 at e in absurd (not_both (nat_le j.start p) both))
+]
+
+-- the kept root as the code reads it
+pub root_is : (image : List ℕ → List ℕ) (j : Contents) (p : ℕ) (seconds : calendars.Seconds) (found : Option (List ℕ)) → seconds ≡ calendar_of j → found ≡ calendars.root_at image seconds p → j.start ≤ p → first_missing j p ≡ None → found ≡ Some (kept_root image j p)
+root_is image j p seconds found same e from none =
+    let covered = (covered_is j p from none).0 in
+    e ∙ ap (λ (s : calendars.Seconds). calendars.root_at image s p) same ∙ rw covered refl
+
+-- an audit of an accepted signature, whose publication is decided
+audit_laid : (image : List ℕ → List ℕ) (j : Contents) (signature : Signature) (hash : List ℕ) (publications : List (ℕ × List ℕ)) (t : ℕ) (calendar : Calendar) → verdict image signature hash publications ≡ Accepted t → signature.calendar ≡ Some calendar
+    → j.start ≤ calendar.publication → first_missing j calendar.publication ≡ None → root_of image calendar ≡ kept_root image j calendar.publication → audit image j signature hash publications ≡ laid_beside image j signature hash t calendar
+unfolding audit
+audit_laid image j signature hash publications t calendar passes has from none root =
+    ap (accepted_or_not image j signature hash) passes ∙ ap (kept_or_not image j signature hash t) has
+    ∙ (elim (lt_cases calendar.publication j.start) as (λ z. kept_or_not image j signature hash t (Some calendar) ≡ decided image j signature hash t calendar (first_missing j calendar.publication)) [ inl early ↦ absurd (omega (arith, early.1, from)) | inr late ↦ rw late.0 refl ])
+    ∙ ap (decided image j signature hash t calendar) none
+    ∙ (elim (same_cases (root_of image calendar) (kept_root image j calendar.publication)) as (λ z. decided image j signature hash t calendar None ≡ laid_beside image j signature hash t calendar) [ inl same ↦ rw same.0 refl | inr other ↦ absurd (other.1 root) ])
+
+-- no level of an accepted signature passes 255
+pub low : (climbs : (image : List ℕ → List ℕ) (start top : Item) (links : List PlainLink) → (climbed image 0 start links ≡ Ok top) ↔ Climbs image start links top)
+    (lead : (image : List ℕ → List ℕ) (chains : List PlainChain) (start item : Item) → ChainsLead image start chains item → Climbs image start (all_links chains) item)
+    (image : List ℕ → List ℕ) (signature : Signature) (hash : List ℕ) (publications : List (ℕ × List ℕ)) (t : ℕ) → IsAccepted image signature hash publications t → level_after 0 (links_of signature) ≤ 255
+low climbs lead image signature hash publications t a =
+    (climbed_ends image 0 (at_level_zero hash) a.item (links_of signature) ((climbs image (at_level_zero hash) a.item (links_of signature)).1 (lead image (plain_chains signature.chains) (at_level_zero hash) a.item a.chains.lead)) (omega arith)).1
+
+some_is : {A : Type 0} {x y : A} → ◌≡◌ {A = Option A} (Some x) (Some y) → x ≡ y
+some_is e = cc
 
 module _ (laws : Laws) (image : List ℕ → List ℕ) (lawful : (bytes : List ℕ) → IsImprint (image bytes)) (j : Contents) (journal : IsJournal image j) where
   sizes : (x : List ℕ) → length (image x) ≡ 33
@@ -234,15 +279,15 @@ module _ (laws : Laws) (image : List ℕ → List ℕ) (lawful : (bytes : List �
       each : (k : ℕ) → length (rounds.item_at items k).imprint ≡ 33
       each k = item_size items k (items_kept image j t journal).each
 
-      root_is : (climbed_to image start links).imprint ≡ agg_imprint items each last len (whole (last + 1))
-      root_is = input_is ∙ leaf ∙ sym h.root ∙ ap (λ (n : ℕ). (rounds.tree_from image items 0 n).imprint) len1
+      tree_root_is : (climbed_to image start links).imprint ≡ agg_imprint items each last len (whole (last + 1))
+      tree_root_is = input_is ∙ leaf ∙ sym h.root ∙ ap (λ (n : ℕ). (rounds.tree_from image items 0 n).imprint) len1
 
       abbrev passed_links : ℕ
       passed_links = length (item_pairs image items links hash)
 
       agg_clash : (pair : Pair) → differing (item_pairs image items links hash) ≡ Some pair → IsClash image (record { one = pair.0; two = pair.1 })
       agg_clash pair e = first_is_clash image (items_text image items) (last + 1) (agg_imprint items each last len) (agg_string items each last len) (agg_level items each last len) laws.split (agg_one items each last len) (agg_more items each last len)
-          (agg_hashes items each last len) (λ q. refl) (agg_sizes items each last len) (rungs_from image start links) [] (whole (last + 1)) hash (climbed_to image start links).imprint pair refl (omega arith) (agg_holds image sizes start links size) root_is e
+          (agg_hashes items each last len) (λ q. refl) (agg_sizes items each last len) (rungs_from image start links) [] (whole (last + 1)) hash (climbed_to image start links).imprint pair refl (omega arith) (agg_holds image sizes start links size) tree_root_is e
 
       inside : (passed : List Rung) (part : Part) → rungs_from image start links ≡ passed → part_at 0 (whole (last + 1)) (map rung_side passed) ≡ Ok part → hash ≡ agg_imprint items each last len part → IsInside image j signature hash t (link_sides signature)
       inside passed part split reached rest =
@@ -264,7 +309,7 @@ module _ (laws : Laws) (image : List ℕ → List ℕ) (lawful : (bytes : List �
           let sides : link_sides signature ≡ map rung_side passed ++ map rung_side (rung ∷ left) = sym (agg_sides image start links) ∙ ap (map rung_side) split ∙ map-append rung_side passed (rung ∷ left) in
           let second : IsSecond last (map rung_side passed) part.first = (laws.second last part.first (map rung_side passed)).0 (leaf_second last (map rung_side passed) part reached one) in
           let within = second.within in
-          let depth : length (map rung_side passed) ≡ length passed = length-map rung_side passed in
+          let depth : length (map rung_side passed) ≡ length passed = length-map passed rung_side in
           let front : take (length links - m) (link_sides signature) ≡ map rung_side passed
           = (let k : length links - m ≡ length (map rung_side passed) = omega (arith, count, depth) in ap (λ (n : ℕ). take n (link_sides signature)) k)
           ∙ ap (take (length (map rung_side passed))) sides ∙ take-append_seam (map rung_side passed) (map rung_side (rung ∷ left)) in
@@ -288,13 +333,13 @@ module _ (laws : Laws) (image : List ℕ → List ℕ) (lawful : (bytes : List �
       ended passed [] part split reached count stops rest =
           let whole_is = split ∙ append-nil passed in
           let sides : link_sides signature ≡ map rung_side passed = sym (agg_sides image start links) ∙ ap (map rung_side) whole_is in
-          let same : passed_links ≡ length (link_sides signature) = count ∙ sym (ap length sides ∙ length-map rung_side passed) in
+          let same : passed_links ≡ length (link_sides signature) = count ∙ sym (ap length sides ∙ length-map passed rung_side) in
           elim (eq_cases passed_links (length (link_sides signature))) [ inl equal ↦ rw equal.0 (inside passed part whole_is reached rest) | inr other ↦ absurd (other.1 same) ]
       ended passed (rung ∷ left) part split reached count stops rest =
           let one : part.count ≡ 1 = elim stops [ inl none ↦ absurd cc | inr one ↦ one ] in
           let sides : link_sides signature ≡ map rung_side passed ++ map rung_side (rung ∷ left) = sym (agg_sides image start links) ∙ ap (map rung_side) split ∙ map-append rung_side passed (rung ∷ left) in
-          let depth = length-map rung_side passed in
-          let rest_length = length-map rung_side (rung ∷ left) in
+          let depth = length-map passed rung_side in
+          let rest_length = length-map (rung ∷ left) rung_side in
           let all : length (link_sides signature) ≡ length passed + length (rung ∷ left) = ap length sides ∙ length-append (map rung_side passed) (map rung_side (rung ∷ left)) ∙ (omega (arith, depth, rest_length)) in
           let front : take passed_links (link_sides signature) ≡ map rung_side passed
           = ap (λ (n : ℕ). take n (link_sides signature)) (count ∙ sym depth) ∙ ap (take (length (map rung_side passed))) sides ∙ take-append_seam (map rung_side passed) (map rung_side (rung ∷ left)) in
@@ -311,7 +356,7 @@ module _ (laws : Laws) (image : List ℕ → List ℕ) (lawful : (bytes : List �
       on_items (Some pair) e = agg_clash pair e
       on_items None e =
           let w = none_differs image (items_text image items) (last + 1) (agg_imprint items each last len) (agg_string items each last len) (agg_level items each last len) laws.split (agg_one items each last len) (agg_more items each last len)
-          (agg_hashes items each last len) (λ q. refl) (agg_sizes items each last len) (rungs_from image start links) [] (whole (last + 1)) hash (climbed_to image start links).imprint refl (omega arith) (agg_holds image sizes start links size) root_is e in
+          (agg_hashes items each last len) (λ q. refl) (agg_sizes items each last len) (rungs_from image start links) [] (whole (last + 1)) hash (climbed_to image start links).imprint refl (omega arith) (agg_holds image sizes start links size) tree_root_is e in
           ended w.passed w.left w.part w.split w.reached w.count w.stops w.rest
 
       items_show : Shows image j signature hash (compared image items links hash t [])
@@ -364,3 +409,13 @@ module _ (laws : Laws) (image : List ℕ → List ℕ) (lawful : (bytes : List �
     pub audit_shows : Shows image j signature hash (audit image j signature hash publications)
     unfolding audit
     audit_shows = of_verdict (verdict image signature hash publications) refl
+
+    pub missed_shows : (t : ℕ) → verdict image signature hash publications ≡ Accepted t → IsDecided image j signature → leaf_at j t ≡ zero_imprint → (clash : Clash) × (audit image j signature hash publications ≡ answers.Clash clash) × IsClash image clash
+    missed_shows t passes d missed =
+        let a = (laws.accepted image signature hash publications t).0 passes in
+        let same : a.calendar ≡ d.calendar = some_is (sym a.has_calendar ∙ d.has_calendar) in
+        let covered : IsCovered j a.calendar.publication = subst (λ (c : Calendar). IsCovered j c.publication) (sym same) d.covered in
+        let root : root_of image a.calendar ≡ kept_root image j a.calendar.publication = subst (λ (c : Calendar). root_of image c ≡ kept_root image j c.publication) (sym same) d.root in
+        let none = missing_none j a.calendar.publication ((laws.covered image j a.calendar.publication journal).1 covered) in
+        let m = missed_is_clash signature hash publications t size a covered.from none root missed in
+        (m.0, audit_laid image j signature hash publications t a.calendar passes a.has_calendar covered.from none root ∙ m.1, m.2)

@@ -10,7 +10,9 @@ use Rattle.ksi_calchain.specs.Sides.{sides_from_top}
 use Rattle.ksi_signature.specs.Values.{Calendar}
 use Rattle.ksi_signature.specs.declared.signature.Signature.{Signature}
 use Rattle.ksi_verifier.specs.Chains.{at_level_zero}
+use Rattle.ksi_verifier.specs.Verdict.{root_of}
 use Rattle.ksi_journal.specs.Journal.{Contents, items_at}
+use Rattle.ksi_journal.specs.Calendar.{IsCovered, kept_root}
 use Rattle.ksi_auditor.specs.declared.answer.Audit.{Audit}
 use Rattle.ksi_auditor.specs.declared.answer.Audit.TheVariants.{Inside, Beneath, Clash, NotAccepted, BeforeStart, Undecided, NotDecided, NoMemory}
 use Rattle.ksi_auditor.specs.Audit.{links_of, link_sides}
@@ -41,6 +43,13 @@ pub record IsBeneath (image : List ℕ → List ℕ) (journal : Contents) (signa
   pub climbs : Climbs image (at_level_zero hash) (take links (links_of signature)) top
   pub imprint : top.imprint ≡ (item_at (items_at journal t) item).imprint
   pub way : IsWay item (length (items_at journal t)) (take (length (links_of signature) - links) (link_sides signature))
+
+-- the signature's publication is decided: all seconds from the start to its time are kept, and its links lead to their root
+pub record IsDecided (image : List ℕ → List ℕ) (journal : Contents) (signature : Signature) : Type 0 where
+  pub calendar : Calendar
+  pub has_calendar : signature.calendar ≡ Some calendar
+  pub covered : IsCovered journal calendar.publication
+  pub root : root_of image calendar ≡ kept_root image journal calendar.publication
 
 -- what an answer about an accepted signature, whose publication is decided, shows
 abbrev pub Shows : (List ℕ → List ℕ) → Contents → Signature → List ℕ → Audit → Type 0

@@ -2,6 +2,7 @@
 use Rattle.std.specs.Prelude.{ℕ, List, [], ◌∷◌, ◌++◌, Option, Some, None, if◌then◌else◌}
 use Rattle.std.specs.Str.{bytes_eq}
 use Rattle.ksi_imprint.specs.Imprints.{join_text}
+use Rattle.ksi_imprint.specs.declared.clash.Clash.{Clash}
 use Rattle.ksi_split.specs.declared.side.Side.{Side}
 use Rattle.ksi_split.specs.declared.side.Side.TheVariants.{Left, Right}
 use Rattle.ksi_auditor.specs.declared.kept.Parts.{Parts}
@@ -37,3 +38,8 @@ step kept (Past sides) rung = Past sides
 abbrev pub go : (List Side → Option (List ℕ)) → Walk → List Rung → Walk
 go kept walk [] = walk
 go kept walk (rung ∷ rungs) = go kept (step kept walk rung) rungs
+
+abbrev pub clash_in : Walk → Option Clash
+clash_in (Apart clash) = Some clash
+clash_in (At sides) = None
+clash_in (Past sides) = None

@@ -1,29 +1,123 @@
-ghost use Rattle.std.specs.Prelude.{◌≡◌, ◌≢◌, ◌<◌, ◌≤◌, ◌-◌, ◌^◌, ℕ, [], IfOk, length};
+ghost use Rattle.std.specs.Prelude.{◌≡◌, ◌≢◌, ◌<◌, ◌≤◌, ◌-◌, ◌^◌, ℕ, [], Some, None, IfOk, length};
 ghost use Rattle.ksi_aggchain.specs.Climbing.{level_after};
 ghost use Rattle.ksi_aggtree.specs.Rounds.{item_at};
 ghost use Rattle.ksi_verifier.specs.Chains.{plain_chains};
 ghost use Rattle.ksi_verifier.specs.Leading.{all_links};
 ghost use Rattle.ksi_journal.specs.Journal.{IsJournal};
 ghost use Rattle.ksi_journal.specs.Calendar.{first_missing, kept_root};
-ghost use Rattle.ksi_auditor.specs.Audit.{audit, compared, item_named, laid_beside, links_of};
+ghost use Rattle.ksi_auditor.specs.Audit.{audit, compared, item_named, kept_or_not, laid_beside, links_of};
 ghost use Rattle.ksi_auditor.specs.Shown.{Shows};
 ghost use Rattle.ksi_auditor.specs.declared.answer.Audit.TheVariants as answers;
 
 use crate::answer::Audit;
 use crate::calendar::CalendarTo;
 use crate::items::ItemsOf;
+use crate::laws::{audit_shows, low_levels};
 use crate::place::Place;
 use crate::walk::{Walk, along_calendar, along_chains};
 use ksi_aggchain::Item;
 use ksi_aggtree::Builder;
+use ksi_calchain::climb_cal;
 use ksi_imprint::{Compress, Imprint, NoMemory};
 use ksi_journal::Journal;
+use ksi_publications::Publications;
 use ksi_signature::{AggChain, CalChain, Signature};
 use ksi_split::second_of;
+use ksi_verifier::{Refusal, Verdict, verify};
 use std::alloc::{AllocError, Global};
 
+/// Where the hash of a signature stands in a journal.
+///
+/// First come the checks of the signature, then whether all seconds from the start to its publication time are kept, and
+/// then whether the root that it leads to is the kept one. Then each link's string, from the top, is compared with the one
+/// of the kept tree: the first that differs is a clash. Where none does, the hash is a node of the tree of its second, or
+/// leads to one of its items.
+pub fn audit<C: Compress>(
+    alloc: Global,
+    journal: &Journal<C>,
+    signature: &Signature,
+    hash: &Imprint,
+    publications: &Publications,
+) -> Audit
+    ensures answer { result ≢ answers.NoMemory →
+        result ≡ audit C.image journal.now signature.now hash.now publications.now }
+    ensures shown { Shows C.image journal.now signature.now hash.now result }
+{
+    audit_shows();
+    let _start = journal.start();
+    let _bytes = hash.bytes();
+    match answer::<C>(alloc, journal, signature, hash, publications) {
+        Ok(answer) => answer,
+        Err(_) => Audit::NoMemory,
+    }
+}
+
+#[tactic(auto, unfolding(crate::specs::Audit::audit))]
+fn answer<C: Compress>(
+    alloc: Global,
+    journal: &Journal<C>,
+    signature: &Signature,
+    hash: &Imprint,
+    publications: &Publications,
+) -> Result<Audit, NoMemory>
+    ensures { IfOk result (λ answer. answer ≡
+        audit C.image journal.now signature.now hash.now publications.now) }
+{
+    low_levels();
+    match verify::<C>(signature, hash, publications) {
+        Verdict::Refused(refusal) => Ok(Audit::NotAccepted(refusal)),
+        Verdict::Accepted(second) => match &signature.calendar {
+            None => Ok(Audit::NotAccepted(Refusal::NoCalendar)),
+            Some(calendar) => decide::<C>(alloc, journal, signature, hash, second, calendar),
+        },
+    }
+}
+
+/// Of an accepted signature: whether its publication is decided, and then where its hash stands.
+fn decide<C: Compress>(
+    alloc: Global,
+    journal: &Journal<C>,
+    signature: &Signature,
+    hash: &Imprint,
+    second: u64,
+    calendar: &CalChain,
+) -> Result<Audit, NoMemory>
+    requires levels { level_after 0 (links_of signature.now) ≤ 255 }
+    ensures { IfOk result (λ answer. answer ≡
+        kept_or_not C.image journal.now signature.now hash.now second (Some calendar.now)) }
+{
+    let publication = calendar.publication;
+    if publication < journal.start() {
+        return Ok(Audit::BeforeStart(publication));
+    }
+    match journal.first_missing(publication) {
+        Some(second) => Ok(Audit::Undecided(second)),
+        None => {
+            let given = climb_cal::<C>(calendar.input, calendar.links.as_slice());
+            let kept = root_to(journal, publication);
+            if given == kept {
+                lay_beside::<C>(alloc, journal, signature, hash, second, calendar)
+            } else {
+                Ok(Audit::NotDecided(publication, given, kept))
+            }
+        }
+    }
+}
+
+/// The kept root of the seconds from 0 to one that is covered.
+fn root_to<C: Compress>(journal: &Journal<C>, last: u64) -> Imprint
+    requires from { journal.now.start ≤ last }
+    requires kept { first_missing journal.now last ≡ None }
+    ensures { result ≡ kept_root C.image journal.now last }
+{
+    match journal.calendar().root_at(last) {
+        Some(root) => root,
+        None => Imprint::ZERO,
+    }
+}
+
 /// Lays the links of an accepted signature, whose publication is decided, beside the kept trees.
-pub(crate) fn lay_beside<C: Compress>(
+fn lay_beside<C: Compress>(
     alloc: Global,
     journal: &Journal<C>,
     signature: &Signature,
@@ -42,9 +136,9 @@ pub(crate) fn lay_beside<C: Compress>(
     };
     let links = calendar.links.as_slice();
     let above = along_calendar::<C, CalendarTo<'_, C>>(alloc, &kept, &calendar.input, links)?;
-    match above {
-        Walk::Apart(clash) => Ok(Audit::Clash(clash)),
-        Walk::At(_) | Walk::Past(_) => {
+    match above.clash() {
+        Some(clash) => Ok(Audit::Clash(clash)),
+        None => {
             let items = journal.items(second);
             let chains = signature.chains.as_slice();
             lay_below::<C>(alloc, items, chains, hash, second)

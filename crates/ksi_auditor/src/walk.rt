@@ -6,7 +6,7 @@ ghost use Rattle.ksi_verifier.specs.Chains.{plain_chains};
 ghost use Rattle.ksi_verifier.specs.Leading.{all_links};
 ghost use Rattle.ksi_auditor.specs.Beside.{cal_rungs_from, rungs_from};
 ghost use Rattle.ksi_auditor.specs.Climbed.{climbed_to};
-ghost use Rattle.ksi_auditor.specs.Walks.{go, step, laid, view_rung};
+ghost use Rattle.ksi_auditor.specs.Walks.{clash_in, go, step, laid, view_rung};
 ghost use Rattle.ksi_auditor.specs.declared.walk.Walk.TheVariants as walks;
 
 use crate::kept::KeptTree;
@@ -28,6 +28,19 @@ pub(crate) enum Walk {
     At(Place),
     /// Each link's string is the kept one down to this place, which has no parts, and further links are left.
     Past(Place),
+}
+
+impl Walk {
+    /// The clash that it came to, if any.
+    pub(crate) fn clash(self) -> Option<Clash>
+        ensures { result ≡ clash_in self }
+    {
+        match self {
+            Walk::Apart(clash) => Some(clash),
+            Walk::At(_) => None,
+            Walk::Past(_) => None,
+        }
+    }
 }
 
 /// Lays the links of a calendar chain, which lead up from an imprint, beside a tree.
