@@ -164,15 +164,16 @@ module _ (image : List ℕ → List ℕ) (items : List Item) (links : List Plain
       let same = rungs_count image (at_level_zero hash) links in
       let is : place ≡ take passed (sides_of links) = all.0.is ∙ ap (take passed) (agg_sides image (at_level_zero hash) links) in
       let depth : length place ≡ passed = ap length is ∙ length-take-le passed (sides_of links) (omega (arith, fewer, sides)) in
-      let left : count - length place ≡ length (sides_of links) - passed = omega (arith, n, same, sides, depth) in
-      (omega (arith, depth, fewer, same, n),
-      ap (answers.Beneath t (item_named (length items) place)) left
-      ∙ ap (λ (s : List Side). answers.Beneath t (item_named (length items) s) (length (sides_of links) - passed)) is
-      ∙ (elim (eq_cases passed (length (sides_of links))) as (λ z. answers.Beneath t (item_named (length items) (take passed (sides_of links))) (length (sides_of links) - passed) ≡ ends t (length items) (sides_of links) passed) [
-        | inl equal ↦ absurd (omega (arith, equal.1, fewer, sides))
-        | inr other ↦ rw other.0 refl
-      ])
-      ∙ ap (found t (length items) (sides_of links) passed) (sym all.0.none))
+      let left : count - length place ≡ length (sides_of links) - passed = omega (arith, n, same, sides, depth) in (
+        omega (arith, depth, fewer, same, n),
+        ap (answers.Beneath t (item_named (length items) place)) left
+            ∙ ap (λ (s : List Side). answers.Beneath t (item_named (length items) s) (length (sides_of links) - passed)) is
+            ∙ (elim (eq_cases passed (length (sides_of links))) as (λ z. answers.Beneath t (item_named (length items) (take passed (sides_of links))) (length (sides_of links) - passed) ≡ ends t (length items) (sides_of links) passed) [
+              | inl equal ↦ absurd (omega (arith, equal.1, fewer, sides))
+              | inr other ↦ rw other.0 refl
+            ])
+            ∙ ap (found t (length items) (sides_of links) passed) (sym all.0.none),
+      )
 
 -- ---- the same with the walk of the code, beside a round that is these items
 

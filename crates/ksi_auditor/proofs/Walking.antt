@@ -72,13 +72,22 @@ module _ (image : List ℕ → List ℕ) (kept : List Side → Option (List ℕ)
   pub none_differs : (rungs : List Rung) (above : List Side) (p : Part) (x y : List ℕ) → part_at 0 (whole n) above ≡ Ok p → 0 < p.count → Holds image x y rungs → y ≡ at p → differing (pairs_below kept above rungs) ≡ None
       → Walked image kept n at above x rungs
   none_differs [] above p x y there some h e is = record {
-    passed = []; left = []; split = refl; part = p;
+    passed = [];
+    left = [];
+    split = refl;
+    part = p;
     reached = ap (part_at 0 (whole n)) (append-nil above) ∙ there;
-    some = some; count = refl; stops = inl refl; rest = h ∙ e;
+    some = some;
+    count = refl;
+    stops = inl refl;
+    rest = h ∙ e;
   }
   none_differs (rung ∷ rungs) above p x y there some h e is = elim (lt_cases 1 p.count) [
     | inr one ↦ record {
-      passed = []; left = rung ∷ rungs; split = refl; part = p;
+      passed = [];
+      left = rung ∷ rungs;
+      split = refl;
+      part = p;
       reached = ap (part_at 0 (whole n)) (append-nil above) ∙ there;
       some = some;
       count = rw (kept_one above p there (omega (arith, one.1, some))) refl;
@@ -92,13 +101,15 @@ module _ (image : List ℕ → List ℕ) (kept : List Side → Option (List ℕ)
               let w = none_differs rungs (above ++ rung.side ∷ []) (half_of p rung.side) x rung.below (part_below above rung.side (whole n) p there more.1) (half_some rung.side p more.1) h.2
               (below_is rung.side rung.below rung.sibling rung.level p h.1 same.1) further in
               record {
-                passed = rung ∷ w.passed; left = w.left;
+                passed = rung ∷ w.passed;
+                left = w.left;
                 split = ap (λ (r : List Rung). rung ∷ r) w.split;
                 part = w.part;
                 reached = ap (part_at 0 (whole n)) (sym (append_assoc above (rung.side ∷ []) (map rung_side w.passed))) ∙ w.reached;
                 some = w.some;
                 count = rw text (ap suc w.count);
-                stops = w.stops; rest = w.rest;
+                stops = w.stops;
+                rest = w.rest;
               })
           | inr other ↦ (let found = rw other.0 at here in absurd cc)
         ])

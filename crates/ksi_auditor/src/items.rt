@@ -24,12 +24,8 @@ impl<C: Compress> KeptTree for ItemsOf<'_, C> {
         if place.depth() >= 63 {
             return None;
         }
-        let left = self
-            .round
-            .node(place.below(Side::Left).way().as_slice())?;
-        let right = self
-            .round
-            .node(place.below(Side::Right).way().as_slice())?;
+        let left = self.round.node(place.below(Side::Left).way().as_slice())?;
+        let right = self.round.node(place.below(Side::Right).way().as_slice())?;
         // the level of their join
         let node = self.round.node(place.way().as_slice())?;
         Some(Parts {

@@ -20,12 +20,7 @@ impl Parts {
     pub(crate) fn text(&self, alloc: Global) -> Result<Bytes, NoMemory>
         ensures { IfOk result (λ text. text ≡ parts_text self.now) }
     {
-        join_text(
-            alloc,
-            self.left.bytes(),
-            self.right.bytes(),
-            self.level,
-        )
+        join_text(alloc, self.left.bytes(), self.right.bytes(), self.level)
     }
 }
 

@@ -50,7 +50,12 @@ pub(crate) fn text_of(alloc: Global, rung: &Rung<'_>) -> Result<Bytes, NoMemory>
     }
 }
 
-pub(crate) fn join_text(alloc: Global, left: &[u8], right: &[u8], level: u8) -> Result<Bytes, NoMemory>
+pub(crate) fn join_text(
+    alloc: Global,
+    left: &[u8],
+    right: &[u8],
+    level: u8,
+) -> Result<Bytes, NoMemory>
     ensures { IfOk result (λ text. text ≡ join_text left.now right.now level) }
 {
     let mut text = Vec::with_capacity(alloc, left.len() + right.len() + 1)?;

@@ -26,13 +26,7 @@ fn answer_of<C: Compress>(
         Err(_) => return Ok(None),
     };
     match read(alloc, signature.as_slice()) {
-        Ok(signature) => Ok(Some(audit(
-            alloc,
-            &journal,
-            &signature,
-            &hash,
-            &publications,
-        ))),
+        Ok(signature) => Ok(Some(audit(alloc, &journal, &signature, &hash, &publications))),
         Err(_) => Ok(None),
     }
 }
@@ -59,13 +53,7 @@ fn a_lone_item_is_inside_at_the_top(rt: HostRuntime) -> Result<(), Fail> {
         },
     ];
     let journal = journal_of(rt.alloc(), second, hash, &[(hash, 0)])?;
-    let signature = signature_of(
-        rt.alloc(),
-        second,
-        &chains,
-        hash,
-        links.as_slice(),
-    )?;
+    let signature = signature_of(rt.alloc(), second, &chains, hash, links.as_slice())?;
     match answer_of::<Sha>(rt.alloc(), &journal, &signature, hash, (second, root))? {
         Some(Audit::Inside(at, way)) => {
             assert_eq!(rt; at, second);
@@ -168,10 +156,14 @@ fn refuses_in_order(rt: HostRuntime) -> Result<(), Fail> {
         links: &[],
     };
     match tiny(rt.alloc(), 5, 0, &[], &[lone], 7, 6)? {
-        Some(Audit::NotAccepted(Refusal::WrongHash {
-            in_signature,
-            given,
-        })) => {
+        Some(
+            Audit::NotAccepted(
+                Refusal::WrongHash {
+                    in_signature,
+                    given,
+                },
+            ),
+        ) => {
             assert_eq!(rt; (in_signature, given), (named(6), named(7)));
         }
         _ => assert!(rt; false),

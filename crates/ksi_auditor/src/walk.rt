@@ -121,12 +121,7 @@ fn along_links<C: Compress, K: KeptTree>(
 }
 
 /// Lays one link more beside a tree, further down.
-fn step<K: KeptTree>(
-    alloc: Global,
-    tree: &K,
-    walk: Walk,
-    rung: &Rung<'_>,
-) -> Result<Walk, NoMemory>
+fn step<K: KeptTree>(alloc: Global, tree: &K, walk: Walk, rung: &Rung<'_>) -> Result<Walk, NoMemory>
     ensures { IfOk result (λ next. next ≡ step (K.text tree.now) walk (view_rung rung.now)) }
 {
     match walk {
