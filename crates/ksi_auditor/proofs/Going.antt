@@ -1,5 +1,5 @@
 -- Links laid beside a tree, the ones of the code beside those of the definitions.
-use Rattle.std.proofs.Common.{◌≡◌, ℕ, ◌+◌, ◌≤◌, List, [], ◌∷◌, ◌++◌, map, Result, Ok, Err, Option, refl, sym, ap, ◌∙◌, arith, append_assoc, append-nil}
+use Rattle.std.proofs.Common.{◌≡◌, ℕ, ◌+◌, List, [], ◌∷◌, ◌++◌, Result, Ok, Err, Option, refl, sym, ap, ◌∙◌, arith, append_assoc, append-nil}
 use Rattle.std.specs.Prelude.{IfOk}
 use Rattle.std.proofs.lemmas.List.Concat.{flat_map-cons}
 use Rattle.std.proofs.lemmas.List.Sums.{sum_by-append}
@@ -17,7 +17,7 @@ use Rattle.ksi_auditor.specs.Beside.{Rung, rung_text, rung_from, rungs_from, cal
 use Rattle.ksi_auditor.specs.Climbed.{climbed_to}
 use Rattle.ksi_auditor.specs.Walks.{step, go}
 use Rattle.ksi_auditor.specs.declared.walk.Walk.{Walk}
-use Rattle.ksi_auditor.proofs.Climbing.{rise, climbed_level}
+use Rattle.ksi_auditor.proofs.Climbing.{rise}
 
 pub ok_goes_on : {A E : Type 0} (r : Result A E) (x y : A) → IfOk r (λ z. z ≡ x) → x ≡ y → IfOk r (λ z. z ≡ y)
 ok_goes_on (Ok z) x y is e = is ∙ e

@@ -8,7 +8,7 @@ use Rattle.ksi_aggchain.specs.declared.item.Item.{Item}
 use Rattle.ksi_aggtree.specs.Rounds.{item_at, tree_of}
 use Rattle.ksi_calendar.specs.Calendar.{calendar_leaf}
 use Rattle.ksi_journal.specs.declared.second.Second.{Second}
-use Rattle.ksi_journal.specs.Journal.{Contents, IsItem, IsRootOf, IsSecond, IsJournal, kept_among, root_of, root_at, items_of, items_at}
+use Rattle.ksi_journal.specs.Journal.{Contents, IsItem, IsRootOf, IsSecond, IsJournal, kept_among, root_at, items_of, items_at}
 use Rattle.ksi_journal.specs.Calendar.{calendar_of, roots_from, leaf_at}
 use Rattle.ksi_auditor.proofs.Cases.{lt_cases, eq_cases}
 

@@ -1,5 +1,5 @@
 -- What the walk along links comes to, by the pairs of strings.
-use Rattle.std.proofs.Common.{◌≡◌, ◌≢◌, ℕ, suc, ◌+◌, ◌-◌, ◌<◌, ◌≤◌, List, [], ◌∷◌, ◌++◌, map, take, length, Option, Some, None, refl, sym, ap, ◌∙◌, arith, inl, inr, ◌⊎◌, append_assoc, append-nil, length-append}
+use Rattle.std.proofs.Common.{◌≡◌, ℕ, suc, ◌-◌, ◌<◌, ◌≤◌, List, [], ◌∷◌, ◌++◌, map, take, length, Option, Some, None, refl, sym, ap, ◌∙◌, arith, inl, inr, ◌⊎◌, append_assoc, append-nil}
 use Rattle.std.proofs.lemmas.List.{length-take-le, length-map}
 use Rattle.ksi_imprint.specs.declared.clash.Clash.{Clash}
 use Rattle.ksi_split.specs.declared.side.Side.{Side}
@@ -8,7 +8,7 @@ use Rattle.ksi_aggchain.specs.declared.item.Item.{Item}
 use Rattle.ksi_verifier.specs.Chains.{at_level_zero}
 use Rattle.ksi_auditor.specs.Beside.{Rung, rung_side, rung_text, rungs_from, Pair, pairs_below, differing}
 use Rattle.ksi_auditor.specs.Kept.{items_text}
-use Rattle.ksi_auditor.specs.Walks.{step, go, clash_in}
+use Rattle.ksi_auditor.specs.Walks.{go, clash_in}
 use Rattle.ksi_auditor.specs.Audit.{sides_of, item_pairs, item_named, ends, found, compared}
 use Rattle.ksi_auditor.specs.declared.walk.Walk.{Walk}
 use Rattle.ksi_auditor.specs.declared.walk.Walk.TheVariants.{Apart, At, Past}

@@ -1,5 +1,5 @@
 -- The links of chains, from the top.
-use Rattle.std.proofs.Common.{◌≡◌, ℕ, ◌+◌, ◌≤◌, List, [], ◌∷◌, ◌++◌, map, reverse, length, take, drop, Ok, Some, None, refl, sym, ap, subst, ◌∙◌, arith, inl, inr, length-append, append_assoc, append-nil}
+use Rattle.std.proofs.Common.{◌≡◌, ℕ, ◌+◌, ◌≤◌, List, [], ◌∷◌, ◌++◌, map, reverse, length, take, drop, Ok, None, refl, sym, ap, subst, ◌∙◌, arith, inl, inr, length-append}
 use Rattle.std.proofs.lemmas.List.{map-append, take-append-drop, length-take-le}
 use Rattle.std.proofs.lemmas.Grind.{reverse_onto}
 use Rattle.ksi_split.specs.declared.side.Side.{Side}
@@ -15,7 +15,7 @@ use Rattle.ksi_auditor.specs.Beside.{Rung, rung_side, rung_text, rung_from, rung
 use Rattle.ksi_auditor.specs.Climbed.{climbed_to}
 use Rattle.ksi_auditor.proofs.Cases.{lt_cases}
 use Rattle.ksi_auditor.proofs.Strings.{back_same}
-use Rattle.ksi_auditor.proofs.Climbing.{level_more, level_most}
+use Rattle.ksi_auditor.proofs.Climbing.{level_more}
 use Rattle.ksi_auditor.proofs.Going.{cal_text_is, rungs_append}
 use Rattle.ksi_auditor.proofs.Walking.{Holds}
 

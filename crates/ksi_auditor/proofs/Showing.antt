@@ -1,5 +1,5 @@
 -- An answer shows what it says.
-use Rattle.std.proofs.Common.{◌≡◌, ◌≢◌, ℕ, suc, ◌+◌, ◌-◌, ◌<◌, ◌≤◌, Bool, true, false, List, [], ◌∷◌, ◌++◌, map, take, reverse, length, Result, Ok, Err, Option, Some, None, option_map, refl, sym, ap, subst, ◌∙◌, arith, inl, inr, ◌⊎◌, length-append, append-nil, add-one}
+use Rattle.std.proofs.Common.{◌≡◌, ℕ, suc, ◌+◌, ◌-◌, ◌<◌, ◌≤◌, Bool, true, false, List, [], ◌∷◌, ◌++◌, map, take, length, Result, Ok, Err, Option, Some, None, option_map, refl, sym, ap, subst, ◌∙◌, arith, inl, inr, ◌⊎◌, length-append, append-nil}
 use Rattle.std.specs.Prelude.{max, nat_le, nat_lt, ◌&&◌, ◌↔◌}
 use Rattle.std.specs.Result.{result_unwrap_or}
 use Rattle.std.proofs.Math.Seq.{take-append_seam}
@@ -12,7 +12,7 @@ use Rattle.ksi_split.specs.declared.side.Side.{Side}
 use Rattle.ksi_split.specs.declared.side.Side.TheVariants.{Left, Right}
 use Rattle.ksi_split.specs.Powers.{split_of}
 use Rattle.ksi_split.specs.Parts.{Part, half_of, part_at, second_in, second_at}
-use Rattle.ksi_split.specs.Trees.{tree, climb_links, node_in, node_at}
+use Rattle.ksi_split.specs.Trees.{node_in, node_at}
 use Rattle.ksi_split.specs.Ways.{IsWay, IsSecond}
 use Rattle.ksi_aggchain.specs.Links.{PlainLink}
 use Rattle.ksi_aggchain.specs.Climbing.{Climbs, climbed, level_after}
@@ -35,16 +35,16 @@ use Rattle.ksi_auditor.specs.declared.answer.Audit.TheVariants as answers
 use Rattle.ksi_auditor.specs.Beside.{Rung, rung_side, rungs_from, cal_rungs_from, Pair, differing}
 use Rattle.ksi_auditor.specs.Climbed.{climbed_to}
 use Rattle.ksi_auditor.specs.Kept.{calendar_text, joined_imprints, items_text, joined_items}
-use Rattle.ksi_auditor.specs.Audit.{links_of, sides_of, link_sides, calendar_pairs, item_pairs, item_named, ends, found, compared, laid_beside, decided, kept_or_not, accepted_or_not, audit}
+use Rattle.ksi_auditor.specs.Audit.{links_of, link_sides, calendar_pairs, item_pairs, item_named, ends, found, compared, laid_beside, decided, kept_or_not, accepted_or_not, audit}
 use Rattle.ksi_auditor.specs.Shown.{Names, imprint_at, IsDecided, IsInside, IsBeneath, Shows}
 use Rattle.ksi_auditor.proofs.Cases.{lt_cases, eq_cases}
 use Rattle.ksi_auditor.proofs.Strings.{same_cases}
 use Rattle.ksi_auditor.proofs.Parts.{whole, part_goes_on, node_past, node_below}
-use Rattle.ksi_auditor.proofs.Walking.{Holds, Walked, first_is_clash, none_differs}
+use Rattle.ksi_auditor.proofs.Walking.{Holds, first_is_clash, none_differs}
 use Rattle.ksi_auditor.proofs.Rungs.{cal_sides, agg_sides, rungs_count, climbed_ends, cal_holds, agg_holds, climbed_size, left_climbs}
 use Rattle.ksi_auditor.proofs.Climbing.{rise, climbed_is}
 use Rattle.ksi_auditor.proofs.Keeping.{all_of_tree, item_size, leaf_size, items_kept, HasItems, leaf_has_items}
-use Rattle.ksi_auditor.proofs.Outcomes.{pair_of, differing_first, first_above, none_above}
+use Rattle.ksi_auditor.proofs.Outcomes.{first_above, none_above}
 use Rattle.ksi_auditor.proofs.Cited.{Laws}
 
 -- ---- parts

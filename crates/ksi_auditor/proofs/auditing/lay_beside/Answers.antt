@@ -1,7 +1,5 @@
-use Rattle.std.proofs.Common.{◌≡◌, ◌≤◌, List, [], length, sym, ap, subst, ◌∙◌}
-use Rattle.std.specs.Prelude.{IfOk}
+use Rattle.std.proofs.Common.{◌≡◌, ◌≤◌, List, [], length, sym, ap, subst}
 use Rattle.ksi_aggchain.specs.Climbing.{level_after}
-use Rattle.ksi_aggchain.specs.declared.item.Item.{Item}
 use Rattle.ksi_signature.specs.Values.{Aggregation, Calendar}
 use Rattle.ksi_verifier.specs.Chains.{plain_chains}
 use Rattle.ksi_verifier.specs.Leading.{all_links}

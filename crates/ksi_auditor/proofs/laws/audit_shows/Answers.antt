@@ -1,5 +1,5 @@
 use Rattle.ksi_auditor.proofs.Cited.{Laws}
-use Rattle.ksi_auditor.proofs.Showing.{audit_shows, missed_shows}
+use Rattle.ksi_auditor.proofs.Showing.{audit_shows}
 use Rattle.ksi_auditor.proofs.laws.audit_shows.Goals as goal
 
 pub returns : goal.returns

@@ -1,4 +1,4 @@
-use Rattle.std.proofs.Common.{List, length, sym, ap, ◌∙◌}
+use Rattle.std.proofs.Common.{length, sym, ap, ◌∙◌}
 use Rattle.std.specs.Str.{bytes_eq}
 use Rattle.ksi_auditor.proofs.Strings.{equal, unequal, test_is, test_not, test_levels, left_differs, right_differs}
 use Rattle.ksi_auditor.proofs.rung.is_text_of.Goals as goal

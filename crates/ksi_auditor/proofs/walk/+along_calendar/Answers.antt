@@ -1,4 +1,4 @@
-use Rattle.std.proofs.Common.{[], sym, ap, ◌∙◌}
+use Rattle.std.proofs.Common.{[]}
 use Rattle.ksi_auditor.specs.declared.walk.Walk.TheVariants.{At}
 use Rattle.ksi_auditor.proofs.Going.{ok_goes_on, cal_down}
 use Rattle.ksi_auditor.proofs.walk.+along_calendar.Goals as goal

@@ -1,4 +1,4 @@
-use Rattle.std.proofs.Common.{rules, [], ◌≤◌, refl, sym, ap, ◌∙◌, arith}
+use Rattle.std.proofs.Common.{rules, [], ◌≤◌, ap, ◌∙◌, arith}
 use Rattle.ksi_aggchain.specs.Owned.{plain_links}
 use Rattle.ksi_aggchain.specs.declared.item.Item.{Item}
 use Rattle.ksi_aggchain.specs.Climbing.{level_after}

@@ -1,4 +1,4 @@
-use Rattle.std.proofs.Common.{◌≡◌, ◌≤◌, ◌+◌, List, ◌++◌, ◌∷◌, [], length, sym, ap, ◌∙◌, arith, ℕ, ◌*◌, ◌^◌}
+use Rattle.std.proofs.Common.{◌+◌, List, ◌++◌, ◌∷◌, [], length, ap, ◌∙◌, arith, ℕ, ◌*◌, ◌^◌}
 use Rattle.ksi_split.specs.declared.side.Side.{Side}
 use Rattle.ksi_split.specs.Ways.{way_of}
 use Rattle.ksi_auditor.proofs.Bits.{way_length, next_fits, next_way}
