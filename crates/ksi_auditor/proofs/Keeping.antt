@@ -1,0 +1,91 @@
+-- What a journal keeps, as the walk goes beside it.
+use Rattle.std.proofs.Common.{◌≡◌, ◌≢◌, ℕ, zero, suc, ◌+◌, ◌-◌, ◌^◌, ◌<◌, ◌≤◌, List, [], ◌∷◌, length, Option, Some, None, refl, sym, ap, ◌∙◌, arith, inl, inr}
+use Rattle.std.specs.Prelude.{slice_index_or, nat_lt, false}
+use Rattle.std.specs.List.{AllByRecursion}
+use Rattle.ksi_imprint.specs.Imprints.{zero_imprint}
+use Rattle.ksi_split.specs.Trees.{tree, tree_within}
+use Rattle.ksi_aggchain.specs.declared.item.Item.{Item}
+use Rattle.ksi_aggtree.specs.Rounds.{item_at, tree_of}
+use Rattle.ksi_calendar.specs.Calendar.{calendar_leaf}
+use Rattle.ksi_journal.specs.declared.second.Second.{Second}
+use Rattle.ksi_journal.specs.Journal.{Contents, IsItem, IsRootOf, IsSecond, IsJournal, kept_among, root_at, items_of, items_at}
+use Rattle.ksi_journal.specs.Calendar.{calendar_of, roots_from, leaf_at}
+use Rattle.ksi_auditor.proofs.Cases.{lt_cases, eq_cases}
+
+-- what holds of each leaf and of each join holds of a tree
+module _ {A : Type 0} (P : A → Type 0) (join : A → A → A) (leaf : ℕ → A) (joins : (a b : A) → P (join a b)) (leaves : (t : ℕ) → P (leaf t)) where
+  all_within : (k lo n : ℕ) → P (tree_within join leaf k lo n)
+  unfolding tree_within
+  all_within zero lo n = leaves lo
+  all_within (suc k) lo n = elim (lt_cases (2 ^ k) n) [ inl t ↦ rw t.0 (joins _ _) | inr f ↦ rw f.0 (all_within k lo n) ]
+
+  pub all_of_tree : (lo n : ℕ) → P (tree join leaf lo n)
+  unfolding tree
+  all_of_tree lo n = all_within n lo n
+
+-- ---- sizes
+
+pub item_size : (items : List Item) (k : ℕ) → AllByRecursion IsItem items → length (item_at items k).imprint ≡ 33
+item_size [] k all = refl
+item_size (item ∷ items) zero all = all.0.imprint.size
+item_size (item ∷ items) (suc k) all = item_size items k all.1
+
+pub item_level : (items : List Item) (k : ℕ) → AllByRecursion IsItem items → (item_at items k).level ≤ 239
+item_level [] k all = omega arith
+item_level (item ∷ items) zero all = all.0.level
+item_level (item ∷ items) (suc k) all = item_level items k all.1
+
+module _ (image : List ℕ → List ℕ) where
+  root_size : (seconds : List Second) (t k : ℕ) → AllByRecursion (IsSecond image) seconds → length (slice_index_or (roots_from t seconds) k zero_imprint) ≡ 33
+  root_size [] t k all = refl
+  root_size (kept ∷ others) t zero all = elim (eq_cases kept.second t) [ inl here ↦ rw here.0 all.0.imprint.size | inr gap ↦ rw gap.0 refl ]
+  root_size (kept ∷ others) t (suc k) all = elim (eq_cases kept.second t) [ inl here ↦ rw here.0 (root_size others (t + 1) k all.1) | inr gap ↦ rw gap.0 refl ]
+
+  pub leaf_size : (j : Contents) (t : ℕ) → IsJournal image j → length (calendar_leaf (calendar_of j) t) ≡ 33
+  unfolding calendar_of
+  leaf_size j t journal = elim (lt_cases t j.start) [ inl before ↦ rw before.0 refl | inr from ↦ rw from.0 (root_size j.seconds j.start (t - j.start) journal.seconds) ]
+
+  -- ---- a kept second
+
+  kept_is : (seconds : List Second) (t : ℕ) (kept : Second) → AllByRecursion (IsSecond image) seconds → kept_among seconds t ≡ Some kept → IsSecond image kept
+  kept_is [] t kept all e = absurd cc
+  kept_is (one ∷ others) t kept all e = elim (eq_cases one.second t) [
+    | inl here ↦ (let found = rw here.0 at e in let is : one ≡ kept = cc in rw is at all.0)
+    | inr other ↦ (let found = rw other.0 at e in kept_is others t kept all.1 found)
+  ]
+
+  pub record KeptItems (items : List Item) : Type 0 where
+    pub few : length items ≤ 65536
+    pub each : AllByRecursion IsItem items
+
+  pub items_kept : (j : Contents) (t : ℕ) → IsJournal image j → KeptItems (items_at j t)
+  unfolding items_at
+  items_kept j t journal = of (kept_among j.seconds t) refl
+    where
+      of : (found : Option Second) → kept_among j.seconds t ≡ found → KeptItems (items_of found)
+      of None e = record { few = omega arith; each = tt }
+      of (Some kept) e = let is = kept_is j.seconds t kept journal.seconds e in record { few = is.few; each = is.items }
+
+  -- the leaf of a second that is not the zero imprint is the root of its items
+  pub record HasItems (j : Contents) (t : ℕ) : Type 0 where
+    pub some : 0 < length (items_at j t)
+    pub root : (tree_of image (items_at j t)).imprint ≡ leaf_at j t
+
+  rooted : (items : List Item) (root : List ℕ) → IsRootOf image items root → root ≢ zero_imprint → (0 < length items) × ((tree_of image items).imprint ≡ root)
+  rooted [] root is other = absurd (other is)
+  rooted (item ∷ items) root is other = (omega arith, is.1)
+
+  pub leaf_has_items : (j : Contents) (t : ℕ) → IsJournal image j → leaf_at j t ≢ zero_imprint → HasItems j t
+  unfolding items_at root_at
+  leaf_has_items j t journal other = elim (lt_cases t j.start) [
+    | inl before ↦ absurd (other (rw before.0 refl))
+    | inr from ↦ of (kept_among j.seconds t) refl from.0
+  ]
+    where
+      of : (found : Option Second) → kept_among j.seconds t ≡ found → nat_lt t j.start ≡ false → HasItems j t
+      of None e from = absurd (other (rw (from, e) refl))
+      of (Some kept) e from =
+          let leaf : leaf_at j t ≡ kept.root = rw (from, e) refl in
+          let is = rooted kept.items kept.root (kept_is j.seconds t kept journal.seconds e).tree (λ zero_root. other (leaf ∙ zero_root)) in
+          let items : items_at j t ≡ kept.items = ap items_of e in
+          record { some = rw items is.0; root = rw items (is.1 ∙ sym leaf) }

@@ -1,0 +1,14 @@
+pub mod Cases
+pub mod Strings
+pub mod Bits
+pub mod Climbing
+pub mod Going
+pub mod Parts
+pub mod Rounds
+pub mod Walking
+pub mod Rungs
+pub mod Cited
+pub mod Keeping
+pub mod Outcomes
+pub mod Showing
+pub mod Beneath

@@ -1,0 +1,22 @@
+use Rattle.ksi_auditor.proofs.Cited.{Laws}
+use Rattle.ksi_auditor.proofs.Showing.{audit_shows}
+use Rattle.ksi_auditor.proofs.laws.audit_shows.Goals as goal
+
+pub returns : goal.returns
+returns c =
+    let laws : Laws = record {
+      parts = c.parts.ensures.leaves;
+      split = c.one_split.ensures.split;
+      second = c.one_answer.ensures.second;
+      cal_one = c.one_calendar.ensures.one_second;
+      cal_cut = c.one_calendar.ensures.cut;
+      agg_one = c.one_round.ensures.one_item;
+      agg_cut = c.one_round.ensures.cut;
+      climbs = c.one_climb.ensures.climbs;
+      cal_climbs = c.one_climb-2.ensures.value;
+      lead = c.joined.ensures.links;
+      accepted = c.accepted.ensures;
+      leaves = c.calendar_is_covered.ensures.leaves;
+      covered = c.calendar_is_covered.ensures.covered;
+    } in
+    λ image journal signature hash publications lawful is_journal imprint. audit_shows laws image lawful journal is_journal signature hash publications imprint.size

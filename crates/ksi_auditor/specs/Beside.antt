@@ -1,0 +1,60 @@
+-- Links as they are climbed, the top one first, beside the strings of a kept tree.
+use Rattle.std.specs.Prelude.{ℕ, List, [], ◌∷◌, ◌++◌, Option, Some, None, if◌then◌else◌}
+use Rattle.std.specs.Str.{bytes_eq}
+use Rattle.ksi_split.specs.declared.side.Side.{Side}
+use Rattle.ksi_split.specs.declared.tree_link.TreeLink.{TreeLink}
+use Rattle.ksi_aggchain.specs.Links.{PlainLink, side_text, level_above}
+use Rattle.ksi_aggchain.specs.Climbing.{above}
+use Rattle.ksi_aggchain.specs.declared.item.Item.{Item}
+use Rattle.ksi_calchain.specs.Climbing.{cal_text}
+
+-- a link as it is climbed: the side on which the node below it stands, that node's imprint, the other part, and the level
+-- of the join
+pub record Rung : Type 0 where
+  pub side : Side
+  pub below : List ℕ
+  pub sibling : List ℕ
+  pub level : ℕ
+
+abbrev pub rung_side : Rung → Side
+rung_side rung = rung.side
+
+-- the string of the link: what its join hashes
+abbrev pub rung_text : Rung → List ℕ
+rung_text rung = side_text rung.side rung.below rung.sibling rung.level
+
+abbrev pub rung_from : Item → PlainLink → Rung
+rung_from item link = record { side = link.side; below = item.imprint; sibling = link.sibling; level = level_above item.level link }
+
+-- the links of aggregation chains, from an item up
+abbrev pub rungs_from : (List ℕ → List ℕ) → Item → List PlainLink → List Rung
+rungs_from image item [] = []
+rungs_from image item (link ∷ links) = rungs_from image (above image item link) links ++ rung_from item link ∷ []
+
+abbrev pub cal_rung_from : List ℕ → TreeLink (List ℕ) → Rung
+cal_rung_from imprint link = record { side = link.side; below = imprint; sibling = link.sibling; level = 255 }
+
+-- the links of a calendar chain, from an imprint up
+abbrev pub cal_rungs_from : (List ℕ → List ℕ) → List ℕ → List (TreeLink (List ℕ)) → List Rung
+cal_rungs_from image imprint [] = []
+cal_rungs_from image imprint (link ∷ links) = cal_rungs_from image (image (cal_text imprint link)) links ++ cal_rung_from imprint link ∷ []
+
+-- ---- beside a kept tree
+
+-- two strings
+abbrev pub Pair : Type 0
+Pair = List ℕ × List ℕ
+
+abbrev pub pair_before : Option (List ℕ) → Rung → List Pair → List Pair
+pair_before None rung pairs = []
+pair_before (Some text) rung pairs = (rung_text rung, text) ∷ pairs
+
+-- each link's string and the kept tree's string at the sides above it, as far down as the tree has one
+abbrev pub pairs_below : (List Side → Option (List ℕ)) → List Side → List Rung → List Pair
+pairs_below kept sides [] = []
+pairs_below kept sides (rung ∷ rungs) = pair_before (kept sides) rung (pairs_below kept (sides ++ rung.side ∷ []) rungs)
+
+-- the first pair of different strings
+abbrev pub differing : List Pair → Option Pair
+differing [] = None
+differing (pair ∷ pairs) = if bytes_eq pair.0 pair.1 then differing pairs else Some pair

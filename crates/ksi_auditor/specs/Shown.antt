@@ -1,0 +1,63 @@
+-- What the answers of an audit show.
+use Rattle.std.specs.Prelude.{◌≡◌, ℕ, ◌-◌, ◌<◌, ◌≤◌, List, length, take, Option, Some, option_map}
+use Rattle.ksi_imprint.specs.Imprints.{IsClash}
+use Rattle.ksi_split.specs.declared.side.Side.{Side}
+use Rattle.ksi_split.specs.Ways.{IsWay, IsSecond}
+use Rattle.ksi_aggchain.specs.Climbing.{Climbs}
+use Rattle.ksi_aggchain.specs.declared.item.Item.{Item}
+use Rattle.ksi_aggtree.specs.Rounds.{item_at, node_of}
+use Rattle.ksi_calchain.specs.Sides.{sides_from_top}
+use Rattle.ksi_signature.specs.Values.{Calendar}
+use Rattle.ksi_signature.specs.declared.signature.Signature.{Signature}
+use Rattle.ksi_verifier.specs.Chains.{at_level_zero}
+use Rattle.ksi_verifier.specs.Verdict.{root_of}
+use Rattle.ksi_journal.specs.Journal.{Contents, items_at}
+use Rattle.ksi_journal.specs.Calendar.{IsCovered, kept_root}
+use Rattle.ksi_auditor.specs.declared.answer.Audit.{Audit}
+use Rattle.ksi_auditor.specs.declared.answer.Audit.TheVariants.{Inside, Beneath, Clash, NotAccepted, BeforeStart, Undecided, NotDecided, NoMemory}
+use Rattle.ksi_auditor.specs.Audit.{links_of, link_sides}
+
+-- the sides of the signature's calendar links name second t
+pub record Names (signature : Signature) (t : ℕ) : Type 0 where
+  pub calendar : Calendar
+  pub has_calendar : signature.calendar ≡ Some calendar
+  pub second : IsSecond calendar.publication (sides_from_top calendar.links) t
+
+abbrev pub imprint_at : (List ℕ → List ℕ) → List Item → List Side → Option (List ℕ)
+imprint_at image items sides = option_map (λ node. node.imprint) (node_of image items sides)
+
+-- the hash is a node of the tree that is kept for the second: the one that the sides of all aggregation links lead to
+pub record IsInside (image : List ℕ → List ℕ) (journal : Contents) (signature : Signature) (hash : List ℕ) (t : ℕ) (way : List Side) : Type 0 where
+  pub second : Names signature t
+  pub all : way ≡ link_sides signature
+  pub node : imprint_at image (items_at journal t) way ≡ Some hash
+
+-- the lowest `links` links lead from the hash, at level 0, to an item that is kept for the second, and the sides of the
+-- other ones are that item's way
+pub record IsBeneath (image : List ℕ → List ℕ) (journal : Contents) (signature : Signature) (hash : List ℕ) (t item links : ℕ) : Type 0 where
+  pub second : Names signature t
+  pub there : item < length (items_at journal t)
+  pub some : 1 ≤ links
+  pub within : links ≤ length (links_of signature)
+  pub top : Item
+  pub climbs : Climbs image (at_level_zero hash) (take links (links_of signature)) top
+  pub imprint : top.imprint ≡ (item_at (items_at journal t) item).imprint
+  pub way : IsWay item (length (items_at journal t)) (take (length (links_of signature) - links) (link_sides signature))
+
+-- the signature's publication is decided: all seconds from the start to its time are kept, and its links lead to their root
+pub record IsDecided (image : List ℕ → List ℕ) (journal : Contents) (signature : Signature) : Type 0 where
+  pub calendar : Calendar
+  pub has_calendar : signature.calendar ≡ Some calendar
+  pub covered : IsCovered journal calendar.publication
+  pub root : root_of image calendar ≡ kept_root image journal calendar.publication
+
+-- what an answer about an accepted signature, whose publication is decided, shows
+abbrev pub Shows : (List ℕ → List ℕ) → Contents → Signature → List ℕ → Audit → Type 0
+Shows image journal signature hash (Inside t way) = IsInside image journal signature hash t way
+Shows image journal signature hash (Beneath t item links) = IsBeneath image journal signature hash t item links
+Shows image journal signature hash (Clash clash) = IsClash image clash
+Shows image journal signature hash (NotAccepted refusal) = Unit {0}
+Shows image journal signature hash (BeforeStart p) = Unit {0}
+Shows image journal signature hash (Undecided second) = Unit {0}
+Shows image journal signature hash (NotDecided p given kept) = Unit {0}
+Shows image journal signature hash NoMemory = Unit {0}

@@ -1,0 +1,36 @@
+ghost use Rattle.std.specs.Prelude.{ℕ, List, ◌≡◌, Option, ◌<◌, length, option_map, IfOk, IfSome};
+ghost use Rattle.ksi_split.specs.declared.side.Side.{Side};
+ghost use Rattle.ksi_auditor.specs.Walks.{parts_text};
+
+use crate::place::Place;
+use crate::rung::join_text;
+use ksi_imprint::{Bytes, Imprint, NoMemory};
+use std::alloc::Global;
+
+/// Both parts of a node, and its level.
+#[derive(Drop, Debug)]
+pub(crate) struct Parts {
+    pub(crate) left: Imprint,
+    pub(crate) right: Imprint,
+    pub(crate) level: u8,
+}
+
+impl Parts {
+    /// The string that both parts make.
+    pub(crate) fn text(&self, alloc: Global) -> Result<Bytes, NoMemory>
+        ensures { IfOk result (λ text. text ≡ parts_text self.now) }
+    {
+        join_text(alloc, self.left.bytes(), self.right.bytes(), self.level)
+    }
+}
+
+/// A kept tree, whose nodes are reached by the sides from its top.
+pub(crate) trait KeptTree {
+    /// The string that the node at the sides is made of, where it has two parts.
+    ghost text: { Self → List Side → Option (List ℕ) };
+
+    /// Both parts of the node at a place, where it has two.
+    fn parts(&self, place: &Place) -> Option<Parts>
+        ensures text { option_map parts_text result ≡ text self.now place.now }
+        ensures room { IfSome result (λ parts. length place.now < 63) };
+}
