@@ -1,5 +1,5 @@
 pub mod Keeping
-pub mod Calendars
-pub mod Responses
 pub mod Missing
+pub mod Kept
+pub mod Responses
 pub mod Words

@@ -1,5 +1,6 @@
 -- What stands above the items of a round.
 use Rattle.std.proofs.Common.{◌≡◌, ◌∙◌, ℕ, zero, suc, ◌+◌, ◌≤◌, List, [], ◌∷◌, ◌++◌, length, drop, slice_get, Option, Some, None, sym, ap, subst, append_assoc, add-one}
+use Rattle.std.specs.Prelude.{option_map, unwrap_or, IfSome}
 use Rattle.std.specs.List.{AllByRecursion}
 use Rattle.std.proofs.lemmas.Option.{slice_get_within, get_or_from_slice_get}
 use Rattle.std.proofs.Math.Seq.{drop-cons}
@@ -45,3 +46,8 @@ responses_later above sends entries k entry is =
     append_assoc sends (response_to entry.origin (above k)) (responses_from above (k + 1) (drop (k + 1) entries))
     ∙ ap (λ (n : ℕ). sends ++ (response_to entry.origin (above k) ++ responses_from above n (drop n entries))) (add-one k)
     ∙ ap (λ (es : List Entry). sends ++ responses_from above k es) (sym rest)
+
+-- what holds of the entries that were found holds of those that are sealed
+pub of_sealed : (sealed found : Option (List Entry)) (P : List Entry → Type 0) → option_map (λ (s : List Entry). unwrap_or found []) sealed ≡ sealed → P (unwrap_or found []) → IfSome sealed P
+of_sealed None found P is holds = tt
+of_sealed (Some entries) found P is holds = subst P (cc is) holds

@@ -1,5 +1,6 @@
 pub mod SecondState
 pub mod Held
+pub mod Kept
 pub mod Turns
 pub mod Rows
 pub mod CoreState

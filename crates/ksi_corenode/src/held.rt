@@ -1,6 +1,7 @@
 //! The calendar of what a core holds.
-ghost use Rattle.std.specs.Prelude.{◌≡◌, ◌↔◌, ℕ, ◌<◌, ◌≤◌, ◌+◌, ◌^◌, [], length, IfOk};
-ghost use Rattle.ksi_corenode.specs.Held.{first_missing, IsFirstMissing, held_seconds};
+ghost use Rattle.std.specs.Prelude.{◌≡◌, ◌↔◌, ℕ, ◌<◌, ◌≤◌, ◌+◌, ◌^◌, [], length, IfOk, IsNone};
+ghost use Rattle.ksi_corenode.specs.Held.{first_missing, IsFirstMissing};
+ghost use Rattle.ksi_corenode.specs.Kept.{IsKept};
 ghost use Rattle.ksi_signature.specs.declared.answer.Answer.TheVariants.{Undecided};
 ghost use Rattle.ksi_corenode.specs.Rows.{publish_answer};
 ghost use Rattle.ksi_corenode.specs.CoreState.{held_by};
@@ -8,7 +9,8 @@ ghost use Rattle.ksi_corenode.specs.CoreState.{held_by};
 use crate::node::Core;
 use crate::step::Step;
 use ksi_calendar::Calendar;
-use ksi_imprint::{Compress, Imprint, NoMemory};
+use ksi_calendar::laws::one_calendar;
+use ksi_imprint::{Compress, NoMemory};
 use ksi_signature::Answer;
 
 impl<C: Compress> Core<C> {
@@ -28,54 +30,47 @@ impl<C: Compress> Core<C> {
         ensures sends { IfOk result (λ step. step.sends ≡ []) }
         ensures same { self.new ≡ self.old }
     {
-        let answer = self.published(p)?;
-        Ok(Step::without_sends(self.alloc(), answer))
+        let mut calendar = self.take_calendar()?;
+        let answer = self.published(&mut calendar, p);
+        self.keep(calendar);
+        Ok(Step::without_sends(self.alloc(), answer?))
     }
 
-    #[tactic(auto, unfolding(crate::specs::Rows::publish_answer, crate::specs::Held::held_seconds))]
-    fn published(&self, p: u64) -> Result<Answer, NoMemory>
+    #[tactic(auto, unfolding(crate::specs::Rows::publish_answer))]
+    fn published(&self, calendar: &mut Calendar<C>, p: u64) -> Result<Answer, NoMemory>
         requires from { self.now.start ≤ p }
         requires below { p < 2 ^ 63 }
-        ensures { IfOk result (λ answer. answer ≡ publish_answer C.image (held_by self.now) self.now.start p) }
+        requires kept { IsKept (held_by self.now) self.now.start calendar.old }
+        ensures kept { IsKept (held_by self.now) self.now.start calendar.new }
+        ensures answer { IfOk result (λ answer. answer ≡ publish_answer C.image (held_by self.now) self.now.start p) }
     {
-        if let Some(missing) = self.first_missing(p) {
+        one_calendar();
+        if let Some(missing) = self.take_on(calendar, p)? {
             return Ok(Answer::Undecided(missing));
         }
-        let calendar = self.calendar(p)?;
         match calendar.root_at(p) {
             Some(root) => Ok(Answer::Published(root)),
             None => Ok(Answer::Nothing),
         }
     }
 
-    /// The first second from the start to the last that nothing is held for.
-    #[tactic(auto, unfolding(crate::specs::Held::first_missing))]
-    pub(crate) fn first_missing(&self, last: u64) -> Option<u64>
-        requires { last < 2 ^ 63 }
-        ensures { result ≡ first_missing (held_by self.now) self.now.start last }
-    {
-        'looking: for t in self.start()..last + 1 {
-            if self.held(t).is_none() {
-                return Some(t);
-            }
-        }
-        None
-    }
-
-    /// The calendar of what is held from the start to the last second.
-    #[tactic(auto, unfolding(crate::specs::Held::held_seconds))]
-    pub(crate) fn calendar(&self, last: u64) -> Result<Calendar<C>, NoMemory>
+    /// Takes the calendar on to the last second, or as far as all is held: then the answer is the first second from the
+    /// start to the last that nothing is held for.
+    pub(crate) fn take_on(&self, calendar: &mut Calendar<C>, last: u64) -> Result<Option<u64>, NoMemory>
         requires from { self.now.start ≤ last }
         requires below { last < 2 ^ 63 }
-        ensures seconds { IfOk result (λ calendar. calendar ≡ held_seconds (held_by self.now) self.now.start last) }
-        ensures covered { IfOk result (λ calendar. last < calendar.start + length calendar.roots) }
+        requires kept { IsKept (held_by self.now) self.now.start calendar.old }
+        ensures kept { IsKept (held_by self.now) self.now.start calendar.new }
+        ensures missing { IfOk result (λ missing. missing ≡ first_missing (held_by self.now) self.now.start last) }
+        ensures covered { IfOk result (λ missing. IsNone missing → last < calendar.new.start + length calendar.new.roots) }
     {
-        let start = self.start();
-        let mut calendar = Calendar::new(self.alloc(), start)?;
-        'adding: for t in start..last + 1 {
-            let root = self.held(t).unwrap_or(Imprint::ZERO);
-            calendar.append(root)?;
+        let next = self.start() + calendar.count();
+        'adding: for t in next..last + 1 {
+            match self.held(t) {
+                None => return Ok(Some(t)),
+                Some(root) => calendar.append(root)?,
+            }
         }
-        Ok(calendar)
+        Ok(None)
     }
 }

@@ -1,4 +1,4 @@
-ghost use Rattle.std.specs.Prelude.{◌≡◌, ℕ, ◌<◌, ◌≤◌, ◌↔◌, length, IfOk, OnOk, OnErr, IsTrue, IsSome, IsNone, Some, false, option_map};
+ghost use Rattle.std.specs.Prelude.{◌≡◌, ℕ, ◌<◌, ◌≤◌, ◌^◌, ◌↔◌, length, IfOk, OnOk, OnErr, IsTrue, IsSome, IsNone, Some, false, option_map};
 ghost use Rattle.std.specs.Option.{option_copied};
 ghost use Rattle.std.specs.Ordering.{nat_cmp};
 ghost use Rattle.std.specs.BTreeMap.{is_at};
@@ -10,11 +10,13 @@ ghost use Rattle.ksi_synod.specs.Ballots.{last_round};
 ghost use Rattle.ksi_synod.specs.Rows.{greater_round, OfBallot};
 ghost use Rattle.ksi_corenode.specs.Rows.{submission_row, seal_row, ballot_row, receive_row, tell_row, restart_row, is_news};
 ghost use Rattle.ksi_corenode.specs.CoreState.{second_at, held_by, IsSame, IsTurn};
+ghost use Rattle.ksi_corenode.specs.Kept.{IsKept};
 
 use crate::second::Second;
 use crate::sending::{push_each, push_told};
 use crate::step::{Sends, Step};
 use ksi_aggchain::Item;
+use ksi_calendar::Calendar;
 use ksi_imprint::{Compress, Imprint, NoMemory};
 use ksi_signature::Answer;
 use ksi_synod::{Begun, SynodMessage};
@@ -22,7 +24,8 @@ use std::alloc::Global;
 use std::collections::BTreeMap;
 use std::marker::Model;
 
-/// A core: its number, how many cores there are, the first second, and what it keeps for each second.
+/// A core: its number, how many cores there are, the first second, what it keeps for each second, and the calendar of the
+/// first seconds that it holds, once that was asked for. A contract sees all but the calendar.
 #[derive(Drop)]
 pub struct Core<C: Compress> {
     alloc: Global,
@@ -30,17 +33,20 @@ pub struct Core<C: Compress> {
     members: u8,
     start: u64,
     seconds: BTreeMap<u64, Second<C>>,
+    calendar: Option<Calendar<C>>,
 }
 
 impl<C: Compress> Model for Core<C> {
-    ghost use Rattle.std.specs.Prelude.{◌<◌, ◌≤◌};
-    ghost use Rattle.ksi_corenode.specs.CoreState.{CoreState};
+    ghost use Rattle.std.specs.Prelude.{◌<◌, ◌≤◌, IfSome};
+    ghost use Rattle.ksi_corenode.specs.CoreState.{CoreState, held_by};
+    ghost use Rattle.ksi_corenode.specs.Kept.{IsKept};
 
     ghost Value = { CoreState };
 
     ghost view = { λ c. record { me = c.me; members = c.members; start = c.start; kept = c.seconds.entries } };
 
-    ghost invariant = { λ c. (c.me < c.members) × (c.members ≤ 9) };
+    ghost invariant = { λ c. (c.me < c.members) × (c.members ≤ 9)
+        × IfSome c.calendar (IsKept (held_by (record { me = c.me; members = c.members; start = c.start; kept = c.seconds.entries })) c.start) };
 }
 
 impl<C: Compress> Core<C> {
@@ -60,6 +66,7 @@ impl<C: Compress> Core<C> {
             members,
             start,
             seconds: BTreeMap::new(alloc),
+            calendar: None,
         }
     }
 
@@ -114,6 +121,26 @@ impl<C: Compress> Core<C> {
         ensures { option_copied result ≡ lookup (is_at (nat_cmp second)) self.now.kept }
     {
         self.seconds.get(&second)
+    }
+
+    /// The calendar that is kept, in the caller's hands until `keep`; a new one where none is kept.
+    pub(crate) fn take_calendar(&mut self) -> Result<Calendar<C>, NoMemory>
+        requires { self.old.start ≤ 2 ^ 63 }
+        ensures same { self.new ≡ self.old }
+        ensures kept { IfOk result (λ calendar. IsKept (held_by self.old) self.old.start calendar) }
+    {
+        match self.calendar.take() {
+            Some(calendar) => Ok(calendar),
+            None => Calendar::new(self.alloc, self.start),
+        }
+    }
+
+    /// Keeps a calendar of the first seconds that are held.
+    pub(crate) fn keep(&mut self, calendar: Calendar<C>)
+        requires { IsKept (held_by self.old) self.old.start calendar }
+        ensures { self.new ≡ self.old }
+    {
+        self.calendar = Some(calendar);
     }
 
     /// Takes an item of an aggregator for a second; its level is at most 239.

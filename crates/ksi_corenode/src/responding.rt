@@ -1,20 +1,23 @@
 //! How a core answers the aggregators whose items it sealed.
-ghost use Rattle.std.specs.Prelude.{◌≡◌, ◌↔◌, ℕ, ◌<◌, ◌≤◌, ◌+◌, ◌^◌, ◌++◌, length, IfOk, OnOk, IsSome, IsNone, Some, slice_get};
+ghost use Rattle.std.specs.Prelude.{◌≡◌, ◌↔◌, ℕ, ◌<◌, ◌≤◌, ◌+◌, ◌^◌, ◌++◌, length, IfOk, IfSome, OnOk, IsSome, IsNone, Some, slice_get};
 ghost use Rattle.ksi_aggtree.specs.declared.entries.Entry.{Entry};
 ghost use Rattle.ksi_aggtree.specs.Entries.{items_of};
 ghost use Rattle.ksi_aggtree.specs.Paths.{chain_of};
-ghost use Rattle.ksi_calendar.specs.Calendar.{calendar_path};
+ghost use Rattle.ksi_calendar.specs.Calendar.{Seconds, calendar_path};
 ghost use Rattle.ksi_signature.specs.declared.answer.Answer.TheVariants.{Unsealed, Undecided, NotMine};
-ghost use Rattle.ksi_corenode.specs.Held.{IsFirstMissing};
+ghost use Rattle.ksi_corenode.specs.Held.{IsFirstMissing, held_seconds};
+ghost use Rattle.ksi_corenode.specs.Kept.{IsKept};
 ghost use Rattle.ksi_corenode.specs.Rows.{respond_row, IsNotMine, responses_from, response_to, above_item};
 ghost use Rattle.ksi_corenode.specs.CoreState.{second_at, held_by, IsTurn};
 
 use crate::node::Core;
+use crate::second::Second;
 use crate::step::{Send, Sends, Step};
 use ksi_aggtree::{Entries, Origin};
-use ksi_calendar::Calendar;
+use ksi_calendar::{CalLinks as Path, Calendar};
 use ksi_imprint::{Compress, Imprint, NoMemory};
 use ksi_signature::{Above, AboveChain, AboveChains, AboveLinks, Answer, CalLinks};
+use ksi_split::trees::one_path;
 use std::alloc::Global;
 
 impl<C: Compress> Core<C> {
@@ -38,14 +41,19 @@ impl<C: Compress> Core<C> {
             IsNotMine C.image (held_by self.old) self.old.start second (second_at self.old second)) }
         ensures same { self.new ≡ self.old }
     {
-        let step = self.responded(second)?;
+        let mut calendar = self.take_calendar()?;
+        let outcome = self.responded(&mut calendar, second);
+        self.keep(calendar);
+        let step = outcome?;
         Ok(step)
     }
 
     #[tactic(auto, unfolding(crate::specs::CoreState::second_at, crate::specs::SecondState::fresh_second, crate::specs::Rows::respond_row))]
-    fn responded(&self, second: u64) -> Result<Step, NoMemory>
+    fn responded(&self, calendar: &mut Calendar<C>, second: u64) -> Result<Step, NoMemory>
         requires from { self.now.start ≤ second }
         requires below { second < 2 ^ 63 }
+        requires kept { IsKept (held_by self.now) self.now.start calendar.old }
+        ensures kept { IsKept (held_by self.now) self.now.start calendar.new }
         ensures answer { IfOk result (λ step. step.answer ≡
             (respond_row C.image (held_by self.now) self.now.start second (second_at self.now second)).answer) }
         ensures sends { IfOk result (λ step. step.sends ≡
@@ -58,7 +66,7 @@ impl<C: Compress> Core<C> {
         if !kept.is_sealed() {
             return Ok(Step::without_sends(alloc, Answer::Unsealed));
         }
-        if let Some(missing) = self.first_missing(second) {
+        if let Some(missing) = self.take_on(calendar, second)? {
             return Ok(Step::without_sends(alloc, Answer::Undecided(missing)));
         }
         let Some(root) = kept.held() else {
@@ -67,15 +75,36 @@ impl<C: Compress> Core<C> {
         if !kept.is_mine(&root) {
             return Ok(Step::without_sends(alloc, Answer::NotMine));
         }
-        let calendar = self.calendar(second)?;
-        let sends = match kept.entries() {
-            Some(entries) => responses(alloc, entries, &root, &calendar, second)?,
-            None => Vec::new(alloc),
-        };
+        let sends = self.sends(calendar, second, kept, &root)?;
         Ok(Step {
             answer: Answer::Done,
             sends: Sends::from_vec(sends),
         })
+    }
+
+    /// The responses for a second, where the calendar covers it.
+    fn sends(
+        &self,
+        calendar: &Calendar<C>,
+        second: u64,
+        kept: &Second<C>,
+        root: &Imprint,
+    ) -> Result<Vec<Send>, NoMemory>
+        requires below { second < 2 ^ 63 }
+        requires kept { IsKept (held_by self.now) self.now.start calendar.now }
+        requires covered { second < calendar.now.start + length calendar.now.roots }
+        ensures { IfOk result (λ sends. IfSome kept.now.sealed (λ entries. sends.items ≡ responses_from
+            (above_item C.image (held_seconds (held_by self.now) self.now.start second) second root.now (items_of entries)) 0 entries)) }
+    {
+        one_path::<Imprint>();
+        let links = calendar.chain_to(second, second)?;
+        match kept.entries() {
+            Some(entries) => {
+                let sends = responses(self.alloc(), entries, root, &links)?;
+                Ok(sends)
+            }
+            None => Ok(Vec::new(self.alloc())),
+        }
     }
 }
 
@@ -84,17 +113,16 @@ fn responses<C: Compress>(
     alloc: Global,
     entries: &Entries<C>,
     root: &Imprint,
-    calendar: &Calendar<C>,
-    second: u64,
+    links: &Path,
 ) -> Result<Vec<Send>, NoMemory>
-    requires below { second < 2 ^ 63 }
-    requires covered { second < calendar.now.start + length calendar.now.roots }
-    ensures { IfOk result (λ sends. sends.items ≡
-        responses_from (above_item C.image calendar.now second root.now (items_of entries.now)) 0 entries.now) }
+    requires few { length links.now ≤ 63 }
+    ensures { IfOk result (λ sends. (seconds : Seconds) (second : ℕ) →
+        links.now ≡ calendar_path C.image seconds second second →
+        sends.items ≡ responses_from (above_item C.image seconds second root.now (items_of entries.now)) 0 entries.now) }
 {
     let mut sends = Vec::new(alloc);
     'answering: for k in 0..entries.count() {
-        put_response(alloc, entries, k, root, calendar, second, &mut sends)?;
+        put_response(alloc, entries, k, root, links, &mut sends)?;
     }
     Ok(sends)
 }
@@ -105,20 +133,19 @@ fn put_response<C: Compress>(
     entries: &Entries<C>,
     k: usize,
     root: &Imprint,
-    calendar: &Calendar<C>,
-    second: u64,
+    links: &Path,
     sends: &mut Vec<Send>,
 ) -> Result<(), NoMemory>
     requires there { k < length entries.now }
-    requires below { second < 2 ^ 63 }
-    requires covered { second < calendar.now.start + length calendar.now.roots }
-    ensures { OnOk result ((entry : Entry) → slice_get entries.now k ≡ Some entry → sends.new.items ≡
-        sends.old.items ++ response_to entry.origin (above_item C.image calendar.now second root.now (items_of entries.now) k)) }
+    requires few { length links.now ≤ 63 }
+    ensures { OnOk result ((entry : Entry) (seconds : Seconds) (second : ℕ) → slice_get entries.now k ≡ Some entry →
+        links.now ≡ calendar_path C.image seconds second second → sends.new.items ≡
+        sends.old.items ++ response_to entry.origin (above_item C.image seconds second root.now (items_of entries.now) k)) }
 {
     match entries.entry(k).origin {
         Origin::Request(_) => Ok(()),
         Origin::Aggregator(from) => {
-            let above = above(alloc, entries, k, root, calendar, second)?;
+            let above = above(alloc, entries, k, root, links)?;
             sends.push(Send::Response(from, above))?;
             Ok(())
         }
@@ -131,25 +158,24 @@ fn above<C: Compress>(
     entries: &Entries<C>,
     k: usize,
     root: &Imprint,
-    calendar: &Calendar<C>,
-    second: u64,
+    links: &Path,
 ) -> Result<Above, NoMemory>
     requires there { k < length entries.now }
-    requires below { second < 2 ^ 63 }
-    requires covered { second < calendar.now.start + length calendar.now.roots }
-    ensures { IfOk result (λ above. above ≡ above_item C.image calendar.now second root.now (items_of entries.now) k) }
+    requires few { length links.now ≤ 63 }
+    ensures { IfOk result (λ above. (seconds : Seconds) (second : ℕ) →
+        links.now ≡ calendar_path C.image seconds second second →
+        above ≡ above_item C.image seconds second root.now (items_of entries.now) k) }
 {
     let chain = AboveChain {
         input: entries.entry(k).item.imprint,
         links: round_links(entries, k)?,
     };
-    let calendar = calendar_links(calendar, second)?;
     let mut chains = Vec::with_capacity(alloc, 1)?;
     chains.push(chain)?;
     Ok(Above {
         root: *root,
         chains: AboveChains::from_vec(chains),
-        calendar,
+        calendar: CalLinks::from_vec(links.as_slice().to_vec(alloc)?),
     })
 }
 
@@ -160,14 +186,4 @@ fn round_links<C: Compress>(entries: &Entries<C>, k: usize) -> Result<AboveLinks
 {
     let links = entries.path(k)?;
     Ok(AboveLinks::from_vec(links.into_vec()))
-}
-
-/// The links from a second up to the calendar of this second.
-fn calendar_links<C: Compress>(calendar: &Calendar<C>, second: u64) -> Result<CalLinks, NoMemory>
-    requires below { second < 2 ^ 63 }
-    requires covered { second < calendar.now.start + length calendar.now.roots }
-    ensures { IfOk result (λ links. links ≡ calendar_path C.image calendar.now second second) }
-{
-    let links = calendar.chain_to(second, second)?;
-    Ok(CalLinks::from_vec(links.into_vec()))
 }

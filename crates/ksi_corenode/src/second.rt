@@ -5,6 +5,7 @@ ghost use Rattle.ksi_signature.specs.declared.answer.Answer.TheVariants.{Late, K
 ghost use Rattle.ksi_synod.specs.Ballots.{last_round};
 ghost use Rattle.ksi_synod.specs.Rows.{greater_round, try_ballot, receive, OfBallot};
 ghost use Rattle.ksi_corenode.specs.SecondState.{fresh_second};
+ghost use Rattle.ksi_corenode.specs.Kept.{StillHolds};
 ghost use Rattle.ksi_corenode.specs.Rows.{taken, submission_row, seal_row, is_mine, restart_row, is_news, news_answer};
 
 use ksi_aggchain::Item;
@@ -127,6 +128,7 @@ impl<C: Compress> Second<C> {
             (IsNone self.old.sealed × IsTrue (has_from aggregator self.old.open_items))) }
         ensures full { IfOk result (λ answer. (answer ≡ Full) ↔ (IsNone self.old.sealed ×
             (has_from aggregator self.old.open_items ≡ false) × (length self.old.open_items ≡ 65536))) }
+        ensures held { StillHolds self.old self.new }
         ensures unchanged { OnErr result (self.new ≡ self.old) }
     {
         if self.is_sealed {
@@ -149,6 +151,7 @@ impl<C: Compress> Second<C> {
         ensures after { self.new ≡ (seal_row C.image self.old).after }
         ensures answer { result ≡ (seal_row C.image self.old).answer }
         ensures sealed { (result ≡ Sealed) ↔ IsSome self.old.sealed }
+        ensures held { StillHolds self.old self.new }
     {
         if self.is_sealed {
             return Answer::Sealed;
@@ -163,24 +166,26 @@ impl<C: Compress> Second<C> {
     }
 
     /// Tries a ballot.
-    #[tactic(auto, using(crate::proofs::Keeping::try_keeps))]
+    #[tactic(auto, using(crate::proofs::Keeping::try_keeps, crate::proofs::Keeping::try_holds))]
     pub fn ballot(&mut self) -> Begun
         ensures after { self.new ≡ record self.old { vote = (try_ballot self.old.vote).0 } }
         ensures answer { result ≡ (try_ballot self.old.vote).1 }
         ensures unsealed { (result ≡ Begun.Unsealed) ↔ IsNone self.old.sealed }
         ensures last { (result ≡ Begun.Last) ↔ (IsSome self.old.sealed × (greater_round self.old.vote ≡ last_round)) }
+        ensures held { StillHolds self.old self.new }
     {
         self.vote.try_ballot()
     }
 
     /// Takes a message of the vote: the answer, and what is to be sent for it.
-    #[tactic(auto, using(crate::proofs::Keeping::receive_keeps))]
+    #[tactic(auto, using(crate::proofs::Keeping::receive_keeps, crate::proofs::Keeping::receive_holds))]
     pub fn receive(&mut self, from: u8, message: &SynodMessage) -> (Answer, Option<SynodMessage>)
         requires member { from < 9 }
         requires ballot { OfBallot message.now }
         ensures after { self.new ≡ record self.old { vote = (receive self.old.vote from message.now).0 } }
         ensures answer { result.0 ≡ news_answer (is_news self.old.vote from message.now) }
         ensures sends { result.1 ≡ (receive self.old.vote from message.now).1 }
+        ensures held { StillHolds self.old self.new }
     {
         receive(&mut self.vote, from, message)
     }

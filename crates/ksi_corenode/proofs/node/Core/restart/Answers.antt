@@ -7,7 +7,8 @@ use Rattle.std.proofs.lemmas.Map.Made.{map_same_pairs, lookup-map_values}
 use Rattle.ksi_synod.specs.VoteState.{fresh_vote}
 use Rattle.ksi_corenode.specs.SecondState.{SecondState, fresh_second}
 use Rattle.ksi_corenode.specs.Rows.{restart_row}
-use Rattle.ksi_corenode.specs.CoreState.{CoreState, second_at}
+use Rattle.ksi_corenode.specs.CoreState.{CoreState, second_at, held_by}
+use Rattle.ksi_corenode.proofs.Kept.{kept_lasts}
 use Rattle.ksi_corenode.proofs.node.Core.restart.Goals as goal
 
 -- a second that nothing came for has nothing to forget
@@ -26,3 +27,20 @@ returns-clause-seconds g c = λ t.
     ∙ ap (λ (o : Option SecondState). unwrap_or o fresh) (lookup-map_values restart_row (is_at (nat_cmp t)) inside.seconds.entries)
     ∙ restarted_or (lookup (is_at (nat_cmp t)) inside.seconds.entries) inside.me inside.members t
     ∙ ap (λ (core : CoreState). restart_row (second_at core t)) c.self.view_is
+
+pub invariant_of-self : goal.invariant_of-self
+unfolding second_at
+invariant_of-self g c =
+    let inside = c.self.inside in
+    let kept = c.self.invariant in
+    let mapped = map_same_pairs _ restart_row _ (λ k v b w f' s. search rules) _ _ c.retain.ensures.filtered in
+    let old : CoreState = record { me = inside.me; members = inside.members; start = inside.start; kept = inside.seconds.entries } in
+    let new : CoreState = record { me = inside.me; members = inside.members; start = inside.start; kept = c.retain.new.self.entries } in
+    (kept.0, kept.1, kept_lasts (held_by old) (held_by new) inside.start inside.calendar
+        (λ t d is.
+            let fresh = fresh_second inside.me inside.members t in
+            ap (λ (kept : List (ℕ × SecondState)). (unwrap_or (lookup (is_at (nat_cmp t)) kept) fresh).vote.held) mapped
+            ∙ ap (λ (o : Option SecondState). (unwrap_or o fresh).vote.held) (lookup-map_values restart_row (is_at (nat_cmp t)) inside.seconds.entries)
+            ∙ ap (λ (s : SecondState). s.vote.held) (restarted_or (lookup (is_at (nat_cmp t)) inside.seconds.entries) inside.me inside.members t)
+            ∙ is)
+        kept.2)

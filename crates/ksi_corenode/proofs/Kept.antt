@@ -1,0 +1,199 @@
+-- The calendar that is kept: it stays one as long as nothing that is held is lost, and as it is taken on. Its leaves are
+-- those of all that is held.
+use Rattle.std.proofs.Common.{◌≡◌, ◌∙◌, ℕ, zero, suc, ◌+◌, ◌-◌, ◌^◌, ◌<◌, ◌≤◌, List, [], ◌∷◌, ◌++◌, length, get_or, Option, Some, None, true, false, Bool, ◌&&◌, cond, refl, sym, ap, subst, arith, inl, inr, length-append, ltb, leb, le-leb, lt-ltb}
+use Rattle.std.specs.Prelude.{◌==◌, if◌then◌else◌, is_some, IfSome, IsSome, unwrap_or}
+use Rattle.std.proofs.lemmas.Bool.{le-ltb, ltb-true, cond-true, cond-false, cases_lt}
+use Rattle.std.proofs.lemmas.List.{get_or_append_left}
+use Rattle.std.proofs.Math.Seq.{get_or-append_seam}
+use Rattle.std.proofs.Math.Nat.{eq-or-lt_of_le}
+use Rattle.ksi_imprint.specs.Imprints.{zero_imprint}
+use Rattle.ksi_calendar.specs.Calendar.{Seconds, calendar_leaf, calendar_root, root_at}
+use Rattle.std.specs.Ordering.{nat_cmp}
+use Rattle.std.specs.BTreeMap.{is_at}
+use Rattle.std.specs.Map.{lookup, set_value}
+use Rattle.ksi_corenode.specs.SecondState.{SecondState, fresh_second}
+use Rattle.ksi_corenode.specs.Held.{Held, roots_among, held_seconds, first_missing, IsFirstMissing}
+use Rattle.ksi_corenode.specs.Kept.{IsKept, StillHolds}
+use Rattle.ksi_corenode.specs.CoreState.{CoreState, second_at, held_by}
+use Rattle.ksi_signature.specs.declared.answer.Answer.TheVariants.{Published}
+use Rattle.ksi_corenode.specs.Rows.{publish_answer, publish_where}
+use Rattle.ksi_corenode.proofs.Missing.{first_words, all_held}
+
+-- NOTHING IS LOST
+
+abbrev pub Lasts : (old new : Held) → Type 0
+Lasts old new = (t : ℕ) (root : List ℕ) → old t ≡ Some root → new t ≡ Some root
+
+pub kept_lasts : (old new : Held) (start : ℕ) (calendar : Option Seconds) → Lasts old new → IfSome calendar (IsKept old start) → IfSome calendar (IsKept new start)
+kept_lasts old new start None lasts kept = kept
+kept_lasts old new start (Some calendar) lasts kept = record {
+  begins = kept.begins;
+  most = kept.most;
+  roots = λ t from below. lasts t (calendar_leaf calendar t) (kept.roots t from below);
+}
+
+-- nothing is held before anything came
+pub kept_new : (held : Held) (start : ℕ) (calendar : Seconds) → start ≤ 2 ^ 63 → calendar ≡ record { start = start; roots = [] } → IsKept held start calendar
+kept_new held start calendar few is =
+    let none : length calendar.roots ≡ 0 = ap (λ (s : Seconds). length s.roots) is in
+    record {
+      begins = ap (λ (s : Seconds). s.start) is;
+      most = omega (arith, none, few);
+      roots = λ t from below. absurd (omega (arith, none, from, below));
+    }
+
+-- THE CALENDAR IS TAKEN ON
+
+-- the leaf of a second from the start on
+leaf_from : (seconds : Seconds) (t : ℕ) → seconds.start ≤ t → calendar_leaf seconds t ≡ get_or seconds.roots (t - seconds.start) zero_imprint
+leaf_from seconds t from = cond-false (ltb t seconds.start) zero_imprint (get_or seconds.roots (t - seconds.start) zero_imprint) (le-ltb t seconds.start from)
+
+-- the leaf of a second before the start
+leaf_before : (seconds : Seconds) (t : ℕ) → t < seconds.start → calendar_leaf seconds t ≡ zero_imprint
+leaf_before seconds t before = cond-true (ltb t seconds.start) zero_imprint (get_or seconds.roots (t - seconds.start) zero_imprint) (lt-ltb t seconds.start before)
+
+pub kept_append : (held : Held) (start last : ℕ) (calendar after : Seconds) (root : List ℕ) → IsKept held start calendar →
+    last < 2 ^ 63 → start + length calendar.roots < last + 1 → held (start + length calendar.roots) ≡ Some root →
+    after ≡ record { start = calendar.start; roots = calendar.roots ++ root ∷ [] } → IsKept held start after
+kept_append held start last calendar after root kept below within holds is = subst (IsKept held start) (sym is) (record {
+  begins = kept.begins;
+  most = omega (arith, counts, below, within);
+  roots = λ t from before.
+      let at_most : t ≤ start + length calendar.roots = omega (arith, counts, before) in
+      elim (eq-or-lt_of_le at_most) [
+    | inl same ↦ subst (λ (u : ℕ). held u ≡ Some (calendar_leaf more u)) (sym same) (holds ∙ ap Some (sym newest))
+    | inr earlier ↦ kept.roots t from earlier ∙ ap Some (sym (older t from earlier))
+  ];
+})
+  where
+    more : Seconds
+    more = record { start = calendar.start; roots = calendar.roots ++ root ∷ [] }
+
+    counts : length more.roots ≡ length calendar.roots + 1
+    counts = length-append calendar.roots (root ∷ [])
+
+    newest : calendar_leaf more (start + length calendar.roots) ≡ root
+    newest =
+        let from : calendar.start ≤ start + length calendar.roots = omega (arith, kept.begins) in
+        let place : start + length calendar.roots - calendar.start ≡ length calendar.roots = omega (arith, kept.begins) in
+        leaf_from more (start + length calendar.roots) from
+        ∙ ap (λ (k : ℕ). get_or more.roots k zero_imprint) place
+        ∙ get_or-append_seam calendar.roots root [] zero_imprint
+
+    older : (t : ℕ) → start ≤ t → t < start + length calendar.roots → calendar_leaf more t ≡ calendar_leaf calendar t
+    older t from before =
+        let after : calendar.start ≤ t = omega (arith, kept.begins, from) in
+        leaf_from more t after
+        ∙ get_or_append_left calendar.roots (root ∷ []) zero_imprint (t - calendar.start) (omega (arith, kept.begins, from, before))
+        ∙ sym (leaf_from calendar t after)
+
+is_held : (held : Held) (t : ℕ) (root : List ℕ) → held t ≡ Some root → IsSome (held t)
+is_held held t root is = ap (λ (o : Option (List ℕ)). is_some o) is
+
+-- the first second behind the calendar is the first missing one
+pub kept_missing : (held : Held) (start last t : ℕ) (calendar : Seconds) → IsKept held start calendar → start + length calendar.roots ≡ t → t < last + 1 → held t ≡ None →
+    first_missing held start last ≡ Some t
+kept_missing held start last t calendar kept here within none = (first_words held start last t).1 (record {
+  from = omega (arith, here);
+  to = omega (arith, within);
+  missing = none;
+  before = λ u from before. is_held held u (calendar_leaf calendar u) (kept.roots u from (omega (arith, here, before)));
+})
+
+-- none is missing in the calendar
+pub kept_none : (held : Held) (start last : ℕ) (calendar : Seconds) → IsKept held start calendar → last < start + length calendar.roots → first_missing held start last ≡ None
+kept_none held start last calendar kept covered =
+    all_held held start last (λ t from to. is_held held t (calendar_leaf calendar t) (kept.roots t from (omega (arith, to, covered))))
+
+-- ITS LEAVES
+
+-- what is held for a second among n
+among_at : (held : Held) (n t k : ℕ) → k < n → get_or (roots_among held t n) k zero_imprint ≡ unwrap_or (held (t + k)) zero_imprint
+among_at held zero t k below = absurd (omega (arith, below))
+among_at held (suc n) t zero below = ap (λ (u : ℕ). unwrap_or (held u) zero_imprint) (omega arith)
+among_at held (suc n) t (suc k) below =
+    among_at held n (suc t) k (omega (arith, below)) ∙ ap (λ (u : ℕ). unwrap_or (held u) zero_imprint) (omega arith)
+
+pub kept_leaves : (held : Held) (start last : ℕ) (calendar : Seconds) → IsKept held start calendar → last < start + length calendar.roots →
+    (i : ℕ) → 0 ≤ i → i < 0 + (last + 1) → calendar_leaf calendar i ≡ calendar_leaf (held_seconds held start last) i
+unfolding held_seconds
+kept_leaves held start last calendar kept covered i above below = elim (cases_lt i start) [
+  | inl before ↦ leaf_before calendar i (omega (arith, before, kept.begins)) ∙ sym (leaf_before all i before)
+  | inr from ↦ ap (λ (o : Option (List ℕ)). unwrap_or o zero_imprint) (sym (kept.roots i from (omega (arith, below, covered))))
+      ∙ ap (λ (u : ℕ). unwrap_or (held u) zero_imprint) (omega (arith, from))
+      ∙ sym (among_at held (suc last - start) start (i - start) (omega (arith, from, below)))
+      ∙ sym (leaf_from all i from)
+]
+  where
+    all : Seconds
+    all = record { start = start; roots = roots_among held start (suc last - start) }
+
+-- a second that the calendar covers has a root
+pub rooted : (image : List ℕ → List ℕ) (start p : ℕ) (seconds : Seconds) → seconds.start ≡ start → start ≤ p → p < start + length seconds.roots → root_at image seconds p ≡ Some (calendar_root image seconds p)
+rooted image start p seconds begins from covered =
+    let after : leb seconds.start p ≡ true = le-leb seconds.start p (omega (arith, begins, from)) in
+    let before : ltb p (seconds.start + length seconds.roots) ≡ true = lt-ltb p (seconds.start + length seconds.roots) (omega (arith, begins, covered)) in
+    rw (after, before) refl
+
+-- A SECOND IS WRITTEN
+
+-- what is held for any second is held after one of them is written, if what was held for that one is
+lasts_write : (fresh : SecondState) (test other : ℕ → Bool) (es : List (ℕ × SecondState)) (before after : SecondState) → lookup test es ≡ Some before → StillHolds before after →
+    StillHolds (unwrap_or (lookup other es) fresh) (unwrap_or (lookup other (set_value test es after)) fresh)
+lasts_write fresh test other [] before after is still d holds = holds
+lasts_write fresh test other (e ∷ es) before after is still d holds = by (λ later now. lasts_write fresh test other es before after later still d now) (test e.0) is
+  where
+    held_of : Option SecondState → Option (List ℕ)
+    held_of o = (unwrap_or o fresh).vote.held
+
+    here : (there : Bool) → e.1 ≡ before → held_of (cond there (Some e.1) (lookup other es)) ≡ Some d → held_of (cond there (Some after) (lookup other es)) ≡ Some d
+    here true same now = still d (subst (λ (s : SecondState). s.vote.held ≡ Some d) same now)
+    here false same now = now
+
+    behind : (there : Bool) (rest : List (ℕ × SecondState)) → (held_of (lookup other es) ≡ Some d → held_of (lookup other rest) ≡ Some d) →
+        held_of (cond there (Some e.1) (lookup other es)) ≡ Some d → held_of (cond there (Some e.1) (lookup other rest)) ≡ Some d
+    behind true rest later now = now
+    behind false rest later now = later now
+
+    by : (lookup test es ≡ Some before → held_of (lookup other es) ≡ Some d → held_of (lookup other (set_value test es after)) ≡ Some d) →
+        (found : Bool) → cond found (Some e.1) (lookup test es) ≡ Some before → held_of (lookup other (cond found ((e.0, after) ∷ es) (e ∷ set_value test es after))) ≡ Some d
+    by later true same = here (other e.0) (cc same) holds
+    by later false rest = behind (other e.0) (set_value test es after) (later rest) holds
+
+pub kept_write : (me members start second : ℕ) (old new : List (ℕ × SecondState)) (calendar : Option Seconds) (before after : SecondState) →
+    lookup (is_at (nat_cmp second)) old ≡ Some before → new ≡ set_value (is_at (nat_cmp second)) old after → StillHolds before after →
+    IfSome calendar (IsKept (held_by (record { me = me; members = members; start = start; kept = old })) start) →
+    IfSome calendar (IsKept (held_by (record { me = me; members = members; start = start; kept = new })) start)
+unfolding second_at
+kept_write me members start second old new calendar before after there written still = kept_lasts
+    (held_by (record { me = me; members = members; start = start; kept = old })) (held_by (record { me = me; members = members; start = start; kept = new })) start calendar
+    (λ t d holds. subst (λ (es : List (ℕ × SecondState)). (unwrap_or (lookup (is_at (nat_cmp t)) es) (fresh_second me members t)).vote.held ≡ Some d) (sym written)
+        (lasts_write (fresh_second me members t) (is_at (nat_cmp second)) (is_at (nat_cmp t)) old before after there still d holds))
+
+-- where each second is as it was, so is what is kept
+pub kept_same : (old new : CoreState) (calendar : Option Seconds) (start : ℕ) → ((t : ℕ) → second_at new t ≡ second_at old t) →
+    IfSome calendar (IsKept (held_by old) start) → IfSome calendar (IsKept (held_by new) start)
+kept_same old new calendar start same = kept_lasts (held_by old) (held_by new) start calendar (λ t d is. ap (λ (s : SecondState). s.vote.held) (same t) ∙ is)
+
+-- WHAT IS PUBLISHED
+
+covered_of : (image : List ℕ → List ℕ) (calendar : Seconds) (p : ℕ) (root : List ℕ) → root_at image calendar p ≡ Some root → p < calendar.start + length calendar.roots
+covered_of image calendar p root is = by (leb calendar.start p) (ltb p (calendar.start + length calendar.roots)) refl is
+  where
+    by : (from before : Bool) → ltb p (calendar.start + length calendar.roots) ≡ before →
+        (if from && before then Some (calendar_root image calendar p) else None) ≡ Some root → p < calendar.start + length calendar.roots
+    by from true test found = ltb-true p (calendar.start + length calendar.roots) test
+    by true false test found = absurd (cc found)
+    by false false test found = absurd (cc found)
+
+-- the root of the calendar that is kept is that of all that is held
+pub published_root : (image : List ℕ → List ℕ) (held : Held) (start p : ℕ) (calendar : Seconds) (root : List ℕ) → IsKept held start calendar → start ≤ p →
+    (((i : ℕ) → 0 ≤ i → i < 0 + (p + 1) → calendar_leaf calendar i ≡ calendar_leaf (held_seconds held start p) i) → calendar_root image calendar p ≡ calendar_root image (held_seconds held start p) p) →
+    root_at image calendar p ≡ Some root → Published root ≡ publish_answer image held start p
+unfolding publish_answer
+published_root image held start p calendar root kept from own is =
+    let inside = covered_of image calendar p root is in
+    let covered : p < start + length calendar.roots = omega (arith, inside, kept.begins) in
+    let same : root ≡ calendar_root image calendar p = cc (sym is ∙ rooted image start p calendar kept.begins from covered) in
+    ap Published (same ∙ own (kept_leaves held start p calendar kept covered))
+    ∙ ap (λ (missing : Option ℕ). publish_where image held start p missing) (sym (kept_none held start p calendar kept covered))

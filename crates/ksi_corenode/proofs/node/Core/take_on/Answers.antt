@@ -1,0 +1,16 @@
+use Rattle.std.proofs.Common.{◌∙◌, sym, arith}
+use Rattle.ksi_corenode.specs.CoreState.{held_by}
+use Rattle.ksi_corenode.proofs.Kept.{kept_missing, kept_none}
+use Rattle.ksi_corenode.proofs.node.Core.take_on.Goals as goal
+
+pub returns-in-None-clause-missing : goal.returns-in-None-clause-missing
+returns-in-None-clause-missing g c =
+    let now = c.args.self.now in
+    let before = c.adding.invariant in
+    sym (kept_missing (held_by now) now.start c.args.last c.adding.t c.adding.calendar before.kept before.next c.adding-test.true (sym c.held.ensures ∙ c.in-None.is))
+
+pub returns-clause-missing : goal.returns-clause-missing
+returns-clause-missing g c =
+    let now = c.args.self.now in
+    let before = c.adding.invariant in
+    sym (kept_none (held_by now) now.start c.args.last c.adding.calendar before.kept (omega (arith, c.adding-test.false, before.next)))

@@ -1,0 +1,15 @@
+-- The calendar that a core keeps of the first seconds that it holds. It may lag behind what is held.
+use Rattle.std.specs.Prelude.{◌≡◌, ℕ, ◌+◌, ◌^◌, ◌<◌, ◌≤◌, List, length, Some}
+use Rattle.ksi_calendar.specs.Calendar.{Seconds, calendar_leaf}
+use Rattle.ksi_corenode.specs.SecondState.{SecondState}
+use Rattle.ksi_corenode.specs.Held.{Held}
+
+-- it begins at the start, and each of its roots is what is held for its second
+pub record IsKept (held : Held) (start : ℕ) (calendar : Seconds) : Type 0 where
+  pub begins : calendar.start ≡ start
+  pub most : start + length calendar.roots ≤ 2 ^ 63
+  pub roots : (t : ℕ) → start ≤ t → t < start + length calendar.roots → held t ≡ Some (calendar_leaf calendar t)
+
+-- what is held for a second is held after a step too
+abbrev pub StillHolds : (old new : SecondState) → Type 0
+StillHolds old new = (root : List ℕ) → old.vote.held ≡ Some root → new.vote.held ≡ Some root
