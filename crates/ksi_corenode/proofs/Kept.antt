@@ -61,9 +61,9 @@ kept_append held start last calendar after root kept below within holds is = sub
   roots = λ t from before.
       let at_most : t ≤ start + length calendar.roots = omega (arith, counts, before) in
       elim (eq-or-lt_of_le at_most) [
-    | inl same ↦ subst (λ (u : ℕ). held u ≡ Some (calendar_leaf more u)) (sym same) (holds ∙ ap Some (sym newest))
-    | inr earlier ↦ kept.roots t from earlier ∙ ap Some (sym (older t from earlier))
-  ];
+        | inl same ↦ subst (λ (u : ℕ). held u ≡ Some (calendar_leaf more u)) (sym same) (holds ∙ ap Some (sym newest))
+        | inr earlier ↦ kept.roots t from earlier ∙ ap Some (sym (older t from earlier))
+      ];
 })
   where
     more : Seconds
@@ -168,7 +168,7 @@ unfolding second_at
 kept_write me members start second old new calendar before after there written still = kept_lasts
     (held_by (record { me = me; members = members; start = start; kept = old })) (held_by (record { me = me; members = members; start = start; kept = new })) start calendar
     (λ t d holds. subst (λ (es : List (ℕ × SecondState)). (unwrap_or (lookup (is_at (nat_cmp t)) es) (fresh_second me members t)).vote.held ≡ Some d) (sym written)
-        (lasts_write (fresh_second me members t) (is_at (nat_cmp second)) (is_at (nat_cmp t)) old before after there still d holds))
+    (lasts_write (fresh_second me members t) (is_at (nat_cmp second)) (is_at (nat_cmp t)) old before after there still d holds))
 
 -- where each second is as it was, so is what is kept
 pub kept_same : (old new : CoreState) (calendar : Option Seconds) (start : ℕ) → ((t : ℕ) → second_at new t ≡ second_at old t) →

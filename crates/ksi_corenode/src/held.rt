@@ -56,7 +56,11 @@ impl<C: Compress> Core<C> {
 
     /// Takes the calendar on to the last second, or as far as all is held: then the answer is the first second from the
     /// start to the last that nothing is held for.
-    pub(crate) fn take_on(&self, calendar: &mut Calendar<C>, last: u64) -> Result<Option<u64>, NoMemory>
+    pub(crate) fn take_on(
+        &self,
+        calendar: &mut Calendar<C>,
+        last: u64,
+    ) -> Result<Option<u64>, NoMemory>
         requires from { self.now.start ≤ last }
         requires below { last < 2 ^ 63 }
         requires kept { IsKept (held_by self.now) self.now.start calendar.old }

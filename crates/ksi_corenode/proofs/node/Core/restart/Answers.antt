@@ -35,12 +35,15 @@ invariant_of-self g c =
     let kept = c.self.invariant in
     let mapped = map_same_pairs _ restart_row _ (λ k v b w f' s. search rules) _ _ c.retain.ensures.filtered in
     let old : CoreState = record { me = inside.me; members = inside.members; start = inside.start; kept = inside.seconds.entries } in
-    let new : CoreState = record { me = inside.me; members = inside.members; start = inside.start; kept = c.retain.new.self.entries } in
-    (kept.0, kept.1, kept_lasts (held_by old) (held_by new) inside.start inside.calendar
-        (λ t d is.
-            let fresh = fresh_second inside.me inside.members t in
-            ap (λ (kept : List (ℕ × SecondState)). (unwrap_or (lookup (is_at (nat_cmp t)) kept) fresh).vote.held) mapped
-            ∙ ap (λ (o : Option SecondState). (unwrap_or o fresh).vote.held) (lookup-map_values restart_row (is_at (nat_cmp t)) inside.seconds.entries)
-            ∙ ap (λ (s : SecondState). s.vote.held) (restarted_or (lookup (is_at (nat_cmp t)) inside.seconds.entries) inside.me inside.members t)
-            ∙ is)
-        kept.2)
+    let new : CoreState = record { me = inside.me; members = inside.members; start = inside.start; kept = c.retain.new.self.entries } in (
+      kept.0,
+      kept.1,
+      kept_lasts (held_by old) (held_by new) inside.start inside.calendar
+          (λ t d is.
+          let fresh = fresh_second inside.me inside.members t in
+          ap (λ (kept : List (ℕ × SecondState)). (unwrap_or (lookup (is_at (nat_cmp t)) kept) fresh).vote.held) mapped
+          ∙ ap (λ (o : Option SecondState). (unwrap_or o fresh).vote.held) (lookup-map_values restart_row (is_at (nat_cmp t)) inside.seconds.entries)
+          ∙ ap (λ (s : SecondState). s.vote.held) (restarted_or (lookup (is_at (nat_cmp t)) inside.seconds.entries) inside.me inside.members t)
+          ∙ is)
+          kept.2,
+    )

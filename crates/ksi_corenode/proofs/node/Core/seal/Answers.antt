@@ -11,9 +11,13 @@ invariant_of-self g c =
     let kept = c.self-2.invariant in
     elim c.match-get_mut.branch [
       | in-Some w ↦
-        let step = w.seal-answer in
-        let there = sym c.get_mut.ensures.value ∙ ap option_copied_mut w.in-Some.is in
-        rw w.self-inside-is (kept.0, kept.1, kept_write core.me core.members core.start c.args.second core.seconds.entries (c.get_mut.follows.lender step.new.self).entries core.calendar
-            w.in-Some.kept.now step.new.self there (c.get_mut.follows.holds step.new.self).0 step.ensures.held kept.2)
+          let step = w.seal-answer in
+          let there = sym c.get_mut.ensures.value ∙ ap option_copied_mut w.in-Some.is in
+          rw w.self-inside-is (
+            kept.0,
+            kept.1,
+            kept_write core.me core.members core.start c.args.second core.seconds.entries (c.get_mut.follows.lender step.new.self).entries core.calendar
+                w.in-Some.kept.now step.new.self there (c.get_mut.follows.holds step.new.self).0 step.ensures.held kept.2,
+          )
       | in-None w ↦ rw (w.self-inside-is, c.get_mut.follows.holds-at-none) kept
     ]

@@ -19,9 +19,9 @@ returns-in-Some g c =
     let calendar = c.args.calendar.now in
     let all = held_seconds (held_by now) now.start second in
     let path : c.in_ok-links.links ≡ calendar_path image all second second =
-        c.in_ok-links.ensures.links
-        ∙ c.one_path.ensures.own_leaves (cal_join image) (calendar_leaf calendar) (calendar_leaf all) 0 second (second + 1)
-            (kept_leaves (held_by now) now.start second calendar c.requires.kept (omega (arith, c.requires.covered, c.requires.kept.begins))) in
+    c.in_ok-links.ensures.links
+    ∙ c.one_path.ensures.own_leaves (cal_join image) (calendar_leaf calendar) (calendar_leaf all) 0 second (second + 1)
+    (kept_leaves (held_by now) now.start second calendar c.requires.kept (omega (arith, c.requires.covered, c.requires.kept.begins))) in
     of_sealed c.args.kept.now.sealed (option_copied c.entries.result)
     (λ (entries : List Entry). c.in_ok-sends-in-Some.sends.items ≡ responses_from (above_item image all second c.args.root.now (items_of entries)) 0 entries)
     c.entries.ensures (rw c.in-Some.is (c.in_ok-sends-in-Some.ensures all second path))
