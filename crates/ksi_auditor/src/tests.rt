@@ -85,13 +85,13 @@ fn tiny(
 
 #[test]
 fn an_inner_node_is_inside(rt: HostRuntime) -> Result<(), Fail> {
-    let chain = ChainRow {
+    let chains = [ChainRow {
         index: &[3],
         input: named(0x0f),
         links: &[(Side::Left, 1, 9)],
-    };
+    }];
     let items = [(5, 0), (7, 0), (9, 0)];
-    match tiny(rt.alloc(), 0, 0x1c, &items, &[chain], 0x0f, 0x1c)? {
+    match tiny(rt.alloc(), 0, 0x1c, &items, &chains, 0x0f, 0x1c)? {
         Some(Audit::Inside(0, way)) => {
             assert_eq!(rt; way.as_slice(), [Side::Left].as_slice());
         }
@@ -102,12 +102,12 @@ fn an_inner_node_is_inside(rt: HostRuntime) -> Result<(), Fail> {
 
 #[test]
 fn two_strings_of_one_sum_clash(rt: HostRuntime) -> Result<(), Fail> {
-    let chain = ChainRow {
+    let chains = [ChainRow {
         index: &[3],
         input: named(6),
         links: &[(Side::Left, 0, 6)],
-    };
-    match tiny(rt.alloc(), 0, 0x0f, &[(5, 0), (7, 0)], &[chain], 6, 0x0f)? {
+    }];
+    match tiny(rt.alloc(), 0, 0x0f, &[(5, 0), (7, 0)], &chains, 6, 0x0f)? {
         Some(Audit::Clash(clash)) => {
             assert_eq!(rt; clash.one.as_slice().len(), 67);
             assert_eq!(rt; clash.two.as_slice().len(), 67);
@@ -150,12 +150,12 @@ fn a_lower_request_is_beneath_an_item(rt: HostRuntime) -> Result<(), Fail> {
 
 #[test]
 fn refuses_in_order(rt: HostRuntime) -> Result<(), Fail> {
-    let lone = ChainRow {
+    let chains = [ChainRow {
         index: &[1],
         input: named(6),
         links: &[],
-    };
-    match tiny(rt.alloc(), 5, 0, &[], &[lone], 7, 6)? {
+    }];
+    match tiny(rt.alloc(), 5, 0, &[], &chains, 7, 6)? {
         Some(
             Audit::NotAccepted(
                 Refusal::WrongHash {
@@ -168,15 +168,15 @@ fn refuses_in_order(rt: HostRuntime) -> Result<(), Fail> {
         }
         _ => assert!(rt; false),
     }
-    match tiny(rt.alloc(), 5, 0, &[], &[lone], 6, 6)? {
+    match tiny(rt.alloc(), 5, 0, &[], &chains, 6, 6)? {
         Some(Audit::BeforeStart(at)) => assert_eq!(rt; at, 0),
         _ => assert!(rt; false),
     }
-    match tiny(rt.alloc(), 0, 0, &[], &[lone], 6, 6)? {
+    match tiny(rt.alloc(), 0, 0, &[], &chains, 6, 6)? {
         Some(Audit::Undecided(at)) => assert_eq!(rt; at, 0),
         _ => assert!(rt; false),
     }
-    match tiny(rt.alloc(), 0, 9, &[(9, 0)], &[lone], 6, 6)? {
+    match tiny(rt.alloc(), 0, 9, &[(9, 0)], &chains, 6, 6)? {
         Some(Audit::NotDecided(at, given, kept)) => {
             assert_eq!(rt; (at, given, kept), (0, named(6), named(9)));
         }
