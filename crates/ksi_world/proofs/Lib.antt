@@ -20,3 +20,6 @@ pub mod Asking
 pub mod Publishing
 pub mod Deciding
 pub mod Listed
+pub mod Numbered
+pub mod IssuedOf
+pub mod IssuedAll

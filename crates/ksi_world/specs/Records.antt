@@ -1,12 +1,15 @@
 -- What a history has decided and issued.
-use Rattle.std.specs.Prelude.{◌≡◌, ℕ, zero, suc, ◌^◌, if◌then◌else◌, List, [], ◌∷◌, slice_get, Option, Some, None, option_map, unwrap_or}
+use Rattle.std.specs.Prelude.{◌≡◌, ℕ, zero, suc, ◌^◌, Bool, false, ◌==◌, if◌then◌else◌, List, [], ◌∷◌, length, slice_get, Option, Some, None, option_map, unwrap_or}
 use Rattle.std.specs.Str.{bytes_eq}
 use Rattle.ksi_imprint.specs.Imprints.{zero_imprint}
 use Rattle.ksi_aggchain.specs.declared.item.Item.{Item}
 use Rattle.ksi_aggtree.specs.declared.entries.Entry.{Entry}
+use Rattle.ksi_aggtree.specs.declared.entries.Origin.{Origin}
+use Rattle.ksi_aggtree.specs.declared.entries.Origin.TheVariants as origins
 use Rattle.ksi_aggtree.specs.Entries.{items_of, candidate_of}
 use Rattle.ksi_corenode.specs.Held.{Held}
-use Rattle.ksi_aggregator.specs.Issuing.{IsIssued, NotIssued}
+use Rattle.ksi_signature.specs.declared.above.Above.{Above}
+use Rattle.ksi_aggregator.specs.Issuing.{IsIssued, NotIssued, issued_text}
 use Rattle.ksi_schedule.specs.Plans.{PlanState}
 use Rattle.ksi_world.specs.declared.kept.KeptSecond.{KeptSecond}
 use Rattle.ksi_world.specs.declared.outcome.Asked.{Asked}
@@ -57,7 +60,47 @@ module _ (image : List ℕ → List ℕ) where
   unfoldable pub kept_seconds : PlanState → WorldState → List KeptSecond
   kept_seconds plan w = kept_among (kept_at plan w) plan.start (2 ^ 24)
 
-  -- ISSUED SIGNATURES
+-- ISSUED SIGNATURES
+
+-- the origin is the request of this number
+abbrev pub is_request : (number : ℕ) → Origin → Bool
+is_request number (origins.Request n) = n == number
+is_request number (origins.Aggregator from) = false
+
+-- the request's item with its place, where they are counted from this one on
+abbrev pub placed_from : (number place : ℕ) → List Entry → Option (ℕ × Item)
+placed_from number place [] = None
+placed_from number place (entry ∷ entries) = if is_request number entry.origin then Some (place, entry.item) else placed_from number (suc place) entries
+
+abbrev pub issued_before : (number : ℕ) → Option (List ℕ) → List (ℕ × List ℕ) → List (ℕ × List ℕ)
+issued_before number None later = later
+issued_before number (Some text) later = (number, text) ∷ later
+
+module _ (image : List ℕ → List ℕ) where
+  -- the signature of the request's item, where the round is closed, has a response and has such an item
+  abbrev pub issued_where : (second number : ℕ) → (closed : Option (List Entry)) → (answered : Option Above) → Option (List ℕ)
+  issued_where second number None answered = None
+  issued_where second number (Some entries) None = None
+  issued_where second number (Some entries) (Some above) =
+      option_map (λ (placed : ℕ × Item). issued_text image second entries placed.0 placed.1 above) (placed_from number 0 entries)
+
+  -- by the round of the aggregator that took it, of its second
+  abbrev pub issued_for : WorldState → (number : ℕ) → Option Asked → Option (List ℕ)
+  issued_for w number None = None
+  issued_for w number (Some asked) = issued_where asked.second number (w.rounds asked.aggregator asked.second).closed (w.rounds asked.aggregator asked.second).answered
+
+  -- the signature that is issued of the accepted request of this number
+  unfoldable pub issued_of : WorldState → (number : ℕ) → Option (List ℕ)
+  issued_of w number = issued_for w number (slice_get w.requests number)
+
+  -- of n requests from this number on those that have a signature, with it
+  abbrev pub issued_among : WorldState → (number n : ℕ) → List (ℕ × List ℕ)
+  issued_among w number zero = []
+  issued_among w number (suc n) = issued_before number (issued_of w number) (issued_among w (suc number) n)
+
+  -- all issued signatures, each behind the number of its request, rising
+  unfoldable pub issued_all : WorldState → List (ℕ × List ℕ)
+  issued_all w = issued_among w 0 (length w.requests)
 
   -- the bytes are the signature of the request of this number, issued by the aggregator that took it
   pub record IsIssuedOf (w : WorldState) (number : ℕ) (bytes : List ℕ) : Type 0 where

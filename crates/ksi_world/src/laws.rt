@@ -1,10 +1,11 @@
 //! What holds after every history of a plan: whichever messages are lost, repeated, late or out of order, and whichever
 //! nodes restart, at any moment. Each law is the contract of a function that does nothing.
-ghost use Rattle.std.specs.Prelude.{◌≡◌, ◌≢◌, ℕ, List, Some};
+ghost use Rattle.std.specs.Prelude.{◌≡◌, ◌≢◌, ◌<◌, ℕ, List, slice_get, Some};
 ghost use Rattle.ksi_imprint.specs.Imprints.{zero_imprint};
 ghost use Rattle.ksi_schedule.specs.Plans.{IsPlan, InRange};
 ghost use Rattle.ksi_schedule.specs.Events.{History, AreEvents};
-ghost use Rattle.ksi_world.specs.Histories.{held_in, world_of};
+ghost use Rattle.ksi_world.specs.Histories.{WorldState, held_in, world_of};
+ghost use Rattle.ksi_world.specs.Records.{issued_of, issued_all};
 ghost use Rattle.ksi_world.specs.Validity.{IsProposed};
 
 use ksi_aggtree::laws::one_round;
@@ -31,3 +32,13 @@ pub fn validity()
     one_round();
     steps_agree();
 }
+
+/// The list of all issued signatures has each of them once, and the numbers of their requests rise.
+pub fn all_issued()
+    ensures are { (image : List ℕ → List ℕ) (w : WorldState) (k : ℕ) (x : ℕ × List ℕ) →
+        slice_get (issued_all image w) k ≡ Some x → issued_of image w x.0 ≡ Some x.1 }
+    ensures there { (image : List ℕ → List ℕ) (w : WorldState) (number : ℕ) (text : List ℕ) →
+        issued_of image w number ≡ Some text → (k : ℕ) × (slice_get (issued_all image w) k ≡ Some (number, text)) }
+    ensures rising { (image : List ℕ → List ℕ) (w : WorldState) (j k : ℕ) (x y : ℕ × List ℕ) → j < k →
+        slice_get (issued_all image w) j ≡ Some x → slice_get (issued_all image w) k ≡ Some y → x.0 < y.0 }
+{}

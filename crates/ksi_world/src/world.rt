@@ -1,7 +1,7 @@
 ghost use Rattle.std.specs.Prelude.{◌≡◌, ◌<◌, ◌≤◌, ◌^◌, ◌++◌, ◌∷◌, [], ℕ, length, vec_len, vec_capacity, IfOk, IfSome, IfNone, OnOk, OnErr};
 ghost use Rattle.ksi_corenode.specs.CoreState.{second_at};
 ghost use Rattle.ksi_world.specs.Histories.{happens, held_in, world_of};
-ghost use Rattle.ksi_world.specs.Records.{IsIssuedOf, NotIssuedOf, kept_seconds};
+ghost use Rattle.ksi_world.specs.Records.{issued_of, IsIssuedOf, NotIssuedOf, kept_seconds};
 ghost use Rattle.ksi_world.specs.Validity.{AreRising, AreTimes, EachKept, IsKept};
 ghost use Rattle.ksi_schedule.specs.Plans.{IsPlan};
 ghost use Rattle.ksi_schedule.specs.Events.{with_event, IsEvent, AreEvents};
@@ -135,6 +135,7 @@ impl<C: Compress> World<C> {
     /// # Errors
     /// `NoMemory`.
     pub fn issued(&self, number: u64) -> Result<Option<Bytes>, NoMemory>
+        ensures exact { IfOk result (λ found. found ≡ issued_of C.image (world_of C.image self.now) number) }
         ensures some { IfOk result (λ found. IfSome found (IsIssuedOf C.image (world_of C.image self.now) number)) }
         ensures none { IfOk result (λ found. IfNone found (NotIssuedOf (world_of C.image self.now) number)) }
         ensures short { IfOk result (λ found. IfSome found (λ bytes. length bytes ≤ 10000)) }
