@@ -68,7 +68,7 @@ fn extend_from<C: Compress, L: Ledger>(
     extend_counted(alloc, journal, bytes, p, &mut steps)
 }
 
-/// The same, with its steps, which are one look-up of a kept root and at most 126 of a stored node of the calendar.
+/// The same, with its steps: one for the search of the kept root, and at most 126 for stored nodes of the calendar.
 ///
 /// # Errors
 /// As `extend`.

@@ -4,8 +4,8 @@
 //! `extended` gives for the journal's record, the signature's bytes and the second; only want of memory may come in its
 //! place. What it gives is read as the same signature with another calendar chain and publication record, and is
 //! accepted: at the time of its chains, for the input hash of the first, by all publications whose first record of the
-//! second is the journal's root of the calendar to it. [`extend_counted`] does the same and counts its look-ups of stored
-//! nodes, at most 127. The law [`extended_is_accepted`] says of the definition what `extend` says of its answer.
+//! second is the journal's root of the calendar to it. [`extend_counted`] does the same and counts its steps over what is
+//! stored, at most 127. The law [`extended_is_accepted`] says of the definition what `extend` says of its answer.
 //!
 //! ```text
 //! let journal = load::<Sha>(alloc, file)?;
