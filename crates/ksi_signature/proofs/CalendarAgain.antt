@@ -97,11 +97,14 @@ length-links (link ∷ links) all =
     rw (length-append (canonical (cal_link_element link)) (texts (map cal_link_element links)))
     (omega (arith, length-canonical (cal_link_element link), all.0.size, length-links links all.1))
 
-pub length-calendar : Written → (c : Calendar) → IsCalendar c → length (texts (calendar_elements c)) ≤ 65535
-length-calendar laws c is =
+pub calendar_small : ((n : ℕ) → length (numeral n) ≤ 8) → (c : Calendar) → IsCalendar c → length (texts (calendar_elements c)) ≤ 2392
+calendar_small short c is =
     let links = texts (map cal_link_element c.links) in
     rw (length-append (canonical (plain 1 (numeral c.publication))) (canonical (plain 2 (numeral c.time)) ++ (canonical (plain 5 c.input) ++ links)), length-append (canonical (plain 2 (numeral c.time))) (canonical (plain 5 c.input) ++ links), length-append (canonical (plain 5 c.input)) links)
-    (omega (arith, length-canonical (plain 1 (numeral c.publication)), length-canonical (plain 2 (numeral c.time)), length-canonical (plain 5 c.input), laws.size c.publication, laws.size c.time, is.input.size, is.count, length-links c.links is.links))
+    (omega (arith, length-canonical (plain 1 (numeral c.publication)), length-canonical (plain 2 (numeral c.time)), length-canonical (plain 5 c.input), short c.publication, short c.time, is.input.size, is.count, length-links c.links is.links))
+
+pub length-calendar : Written → (c : Calendar) → IsCalendar c → length (texts (calendar_elements c)) ≤ 65535
+length-calendar laws c is = omega (arith, calendar_small laws.size c is)
 
 -- ---- what it says
 

@@ -17,3 +17,4 @@ pub mod SignatureAgain
 pub mod IssuedAgain
 pub mod Moved
 pub mod ExtendedAgain
+pub mod Lasting

@@ -1,16 +1,21 @@
 //! Laws of signatures. None of these functions does anything; a body that calls one may use what it says.
 
-ghost use Rattle.std.specs.Prelude.{◌≡◌, ◌↔◌, ◌⊎◌, ◌≤◌, ℕ, List, length, None, Ok, Err};
+ghost use Rattle.std.specs.Prelude.{◌≡◌, ◌↔◌, ◌⊎◌, ◌≤◌, ◌+◌, ℕ, List, [], length, None, Ok, Err};
+ghost use Rattle.ksi_imprint.specs.Imprints.{IsImprint};
+ghost use Rattle.ksi_aggchain.specs.declared.link.Link.{Link};
 ghost use Rattle.ksi_tlv.specs.Spelling.{AreBytes};
 ghost use Rattle.ksi_tlv.specs.Walking.{PlacedTlv};
 ghost use Rattle.ksi_signature.specs.Values.{Calendar, Publishing, Fall};
 ghost use Rattle.ksi_signature.specs.Contents.{signature_of};
 ghost use Rattle.ksi_signature.specs.Order.{chains_among, with_parts};
+ghost use Rattle.ksi_signature.specs.declared.above.Above.{Above};
 ghost use Rattle.ksi_signature.specs.declared.fault.SigFault.{SigFault};
 ghost use Rattle.ksi_signature.specs.declared.signature.Signature.{Signature};
 ghost use Rattle.ksi_signature.specs.File.{IsSignature, IsSignatureFault, answer_of};
 ghost use Rattle.ksi_signature.specs.Reading.{elements_in, signature_at};
 ghost use Rattle.ksi_signature.specs.Kept.{IsCalendar, IsPublishing, IsKept};
+ghost use Rattle.ksi_signature.specs.Carried.{MayBeIssued};
+ghost use Rattle.ksi_signature.specs.Issued.{issued};
 ghost use Rattle.ksi_signature.specs.Extended.{extended_content, extended_text, renewed};
 ghost use Rattle.ksi_signature.specs.Written.{signature_text, sizes_of, first_long};
 
@@ -77,6 +82,17 @@ pub fn written_is_signature()
     numeral_is_read();
 }
 
+/// What is issued is that signature, in at most 10,000 bytes.
+pub fn issued_is_signature()
+    ensures signature { (second : ℕ) (input : List ℕ) (links : List Link) (above : Above) → MayBeIssued second input links above →
+        IsSignature (signature_text (issued second input links above)) (issued second input links above) }
+    ensures short { (second : ℕ) (input : List ℕ) (links : List Link) (above : Above) → MayBeIssued second input links above →
+        length (signature_text (issued second input links above)) ≤ 10000 }
+{
+    written_is_signature();
+    numeral_is_read();
+}
+
 /// A signature with another calendar chain and publication record is the signature with these, where their parts are
 /// what their types keep and the content is not too long.
 pub fn extended_is_signature()
@@ -89,6 +105,24 @@ pub fn extended_is_signature()
     front_by_spelling();
     reading_is_elements();
     written_is_read();
+    written_is_whole();
+    held_is_whole();
+    published_is_read();
+    record_is_read();
+    canonical_is_shortest();
+    numeral_is_read();
+}
+
+/// A signature with another calendar chain and with a publication record that says a time and a hash alone: its content
+/// has at most 2,453 bytes more than the signature.
+pub fn extended_is_short()
+    ensures { (bytes : List ℕ) (signature : Signature) (chain : Calendar) (time : ℕ) (hash : List ℕ) → AreBytes bytes →
+        IsSignature bytes signature → IsCalendar chain → IsImprint hash →
+        length (extended_content bytes chain (record { time = time; hash = hash; references = []; repositories = [] })) ≤ length bytes + 2453 }
+{
+    whole_or_fault();
+    front_by_spelling();
+    reading_is_elements();
     written_is_whole();
     held_is_whole();
     published_is_read();
