@@ -1,14 +1,17 @@
 -- Words that are digests in hex.
-use Rattle.std.proofs.Common.{◌≡◌, ◌≢◌, ℕ, suc, zero, ◌+◌, ◌<◌, ◌≤◌, Bool, true, false, not, cond, ◌&&◌, eqb, List, [], ◌∷◌, length, Option, Some, None, Result, Ok, Err, refl, arith}
+use Rattle.std.proofs.Common.{◌≡◌, ◌≢◌, ℕ, suc, zero, ◌+◌, ◌*◌, ◌<◌, ◌≤◌, Bool, true, false, not, cond, ◌&&◌, eqb, List, [], ◌∷◌, length, Option, Some, None, Result, Ok, Err, refl, ap, subst, arith}
 use Rattle.std.specs.List.{list_all, position_from}
 use Rattle.std.specs.Str.{IsUtf8, IsAscii}
 use Rattle.std.proofs.lemmas.Bool.{ne_eqb}
 use Rattle.std.proofs.lemmas.Str.{IsUtf8-from_ascii}
 use Rattle.hex.specs.Hex.{is_hex_digit}
-use Rattle.ksi_imprint.specs.Reading.{hex_at, digits_at}
+use Rattle.std.proofs.lemmas.Bool.{eqb-true}
+use Rattle.ksi_imprint.specs.Imprints.{IsImprint}
+use Rattle.ksi_imprint.specs.Reading.{hex_at, digits_at, hex_bytes}
 use Rattle.ksi_imprint.specs.declared.fault.HexFault.{HexFault}
 use Rattle.ksi_schedule.specs.Pieces.{Text}
 use Rattle.ksi_schedule.specs.Words.{digest_at, or_hash}
+use Rattle.ksi_schedule.specs.declared.fault.LineFault.{LineFault}
 use Rattle.ksi_schedule.specs.declared.fault.LineFault.TheVariants.{Hash}
 use Rattle.ksi_schedule.proofs.Cuts.{Lacks}
 
@@ -38,6 +41,31 @@ hex_digits word imprint is = by_length (eqb (length word) 64) is
     by_length : (b : Bool) → cond b (digits_at word (position_from is_bad 0 word)) (Err (Rattle.ksi_imprint.specs.declared.fault.HexFault.TheVariants.Length (length word))) ≡ Ok imprint → list_all is_hex_digit word ≡ true
     by_length true is = by_place (position_from is_bad 0 word) refl is
     by_length false is = absurd cc
+
+abbrev okay_of : List ℕ → Result (List ℕ) LineFault
+okay_of x = Ok x
+
+ok_same : {x y : List ℕ} → okay_of x ≡ okay_of y → x ≡ y
+ok_same is = cc
+
+bytes_half : (n : ℕ) (word : List ℕ) → length word ≡ 2 * n → length (hex_bytes word) ≡ n
+bytes_half n [] is = omega (arith, is)
+bytes_half n (c ∷ []) is = absurd (omega (arith, is))
+bytes_half zero (c ∷ d ∷ word) is = absurd (omega (arith, is))
+bytes_half (suc n) (c ∷ d ∷ word) is = ap suc (bytes_half n word (omega (arith, is)))
+
+-- what is read as a digest is an imprint
+pub read_imprint : (word imprint : List ℕ) → digest_at word ≡ Ok imprint → IsImprint imprint
+unfolding hex_at
+read_imprint word imprint is = by_length (eqb (length word) 64) refl is
+  where
+    by_place : (place : Option ℕ) → length word ≡ 64 → or_hash (digits_at word place) ≡ Ok imprint → IsImprint imprint
+    by_place None size is = subst IsImprint (ok_same is) (record { algorithm = refl; size = ap suc (bytes_half 32 word size) })
+    by_place (Some place) size is = absurd cc
+
+    by_length : (b : Bool) → eqb (length word) 64 ≡ b → or_hash (cond b (digits_at word (position_from is_bad 0 word)) (Err (Rattle.ksi_imprint.specs.declared.fault.HexFault.TheVariants.Length (length word)))) ≡ Ok imprint → IsImprint imprint
+    by_length true size is = by_place (position_from is_bad 0 word) (eqb-true (length word) 64 size) is
+    by_length false size is = absurd cc
 
 both : (b c : Bool) → (b && c) ≡ true → (b ≡ true) × (c ≡ true)
 both true c e = (refl, e)

@@ -9,3 +9,4 @@ pub mod Again
 pub mod EventAgain
 pub mod Whole
 pub mod Within
+pub mod Asking

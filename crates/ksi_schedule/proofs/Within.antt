@@ -15,21 +15,23 @@ use Rattle.ksi_schedule.specs.Words.{Sort, the_word, number, core, aggregator, s
 use Rattle.ksi_schedule.specs.Forms.{event_kinds, aggregator_line}
 use Rattle.ksi_schedule.specs.Lines.{Said, nothing, title, cores, history, bare, with_parent, reaches_core, is_empty, next_parent, next_in, number_in, number_behind, within, with_line}
 use Rattle.ksi_schedule.specs.Spelled.{Says, IsScheduleText}
+use Rattle.ksi_imprint.specs.Imprints.{IsImprint}
+use Rattle.ksi_schedule.proofs.Digests.{read_imprint}
 use Rattle.ksi_schedule.proofs.Next.{plan_next, events_next, no_events}
 
 -- ---- steps of a reading
 
-abbrev okay : {A : Type 0} → A → Result A LineFault
+abbrev pub okay : {A : Type 0} → A → Result A LineFault
 okay x = Ok x
 
-same : {A : Type 0} (x y : A) → okay x ≡ okay y → x ≡ y
+pub same : {A : Type 0} (x y : A) → okay x ≡ okay y → x ≡ y
 same x y e = cc
 
-bind_ok : {A B : Type 0} (r : Result A LineFault) (f : A → Result B LineFault) (y : B) → (r >>= f) ≡ Ok y → (x : A) × (r ≡ Ok x) × (f x ≡ Ok y)
+pub bind_ok : {A B : Type 0} (r : Result A LineFault) (f : A → Result B LineFault) (y : B) → (r >>= f) ≡ Ok y → (x : A) × (r ≡ Ok x) × (f x ≡ Ok y)
 bind_ok (Ok x) f y is = (x, refl, is)
 bind_ok (Err fault) f y is = absurd cc
 
-picked : {A : Type 0} (b : Bool) (x y : A) (fault : LineFault) → cond b (Ok x) (Err fault) ≡ Ok y → (b ≡ true) × (x ≡ y)
+pub picked : {A : Type 0} (b : Bool) (x y : A) (fault : LineFault) → cond b (Ok x) (Err fault) ≡ Ok y → (b ≡ true) × (x ≡ y)
 picked true x y fault is = (refl, same x y is)
 picked false x y fault is = absurd cc
 
@@ -39,17 +41,17 @@ both false c e = absurd cc
 
 -- ---- words
 
-abbrev Holds : PlanState → (sort : Sort) → Value sort → Type 0
+abbrev pub Holds : PlanState → (sort : Sort) → Value sort → Type 0
 Holds plan (the_word text) v = Unit {0}
 Holds plan number v = Unit {0}
 Holds plan core j = j < plan.cores
 Holds plan aggregator k = k < length plan.parents
 Holds plan second t = InRange plan t
-Holds plan digest v = Unit {0}
+Holds plan digest v = IsImprint v
 Holds plan core_actor j = j < plan.cores
 Holds plan aggregator_actor k = k < length plan.parents
 
-abbrev AllHold : PlanState → (sorts : List Sort) → Values sorts → Type 0
+abbrev pub AllHold : PlanState → (sorts : List Sort) → Values sorts → Type 0
 AllHold plan [] vs = Unit {0}
 AllHold plan (sort ∷ sorts) vs = Holds plan sort vs.0 × AllHold plan sorts vs.1
 
@@ -78,7 +80,7 @@ value_holds plan number word v is = tt
 value_holds plan core word v is = core_holds plan word v is
 value_holds plan aggregator word v is = aggregator_holds plan word v is
 value_holds plan second word v is = second_holds plan word v is
-value_holds plan digest word v is = tt
+value_holds plan digest word v is = read_imprint word v is
 value_holds plan core_actor [] v is = core_holds plan [] v is
 value_holds plan core_actor (b ∷ word) v is = core_holds plan word v is
 value_holds plan aggregator_actor [] v is = aggregator_holds plan [] v is
@@ -94,7 +96,7 @@ values_hold plan (sort ∷ sorts) (word ∷ ws) vs is =
 
 -- ---- forms
 
-abbrev Good : {A : Type 0} → PlanState → (A → Type 0) → List (Form A) → Type 0
+abbrev pub Good : {A : Type 0} → PlanState → (A → Type 0) → List (Form A) → Type 0
 Good plan P [] = Unit {0}
 Good plan P (form ∷ forms) = ((vs : Values form.sorts) → AllHold plan form.sorts vs → P (form.makes vs)) × Good plan P forms
 
@@ -109,11 +111,11 @@ form_holds plan P (form ∷ forms) ws x good is = by_fit (fits form.sorts ws) is
         subst P (same (form.makes vs.0) x vs.2) (good.0 vs.0 (values_hold plan form.sorts ws vs.0 vs.1))
     by_fit false is others = others is
 
-abbrev GoodKinds : {A : Type 0} → PlanState → (A → Type 0) → List (Kind A) → Type 0
+abbrev pub GoodKinds : {A : Type 0} → PlanState → (A → Type 0) → List (Kind A) → Type 0
 GoodKinds plan P [] = Unit {0}
 GoodKinds plan P (kind ∷ kinds) = Good plan P kind.forms × GoodKinds plan P kinds
 
-kind_holds : {A : Type 0} (plan : PlanState) (P : A → Type 0) (kinds : List (Kind A)) (name : Text) (ws : List Text) (x : A) → GoodKinds plan P kinds → kind_at plan kinds name ws ≡ Ok x → P x
+pub kind_holds : {A : Type 0} (plan : PlanState) (P : A → Type 0) (kinds : List (Kind A)) (name : Text) (ws : List Text) (x : A) → GoodKinds plan P kinds → kind_at plan kinds name ws ≡ Ok x → P x
 kind_holds plan P [] name ws x good is = absurd cc
 kind_holds plan P (kind ∷ kinds) name ws x good is = by_name (bytes_eq name kind.name) is (λ is. kind_holds plan P kinds name ws x good.1 is)
   where
@@ -133,7 +135,7 @@ good_events plan =
 
 -- ---- lines
 
-none_in : (es : List Event) → is_empty es ≡ true → es ≡ []
+pub none_in : (es : List Event) → is_empty es ≡ true → es ≡ []
 none_in [] is = refl
 none_in (e ∷ es) is = absurd cc
 
@@ -163,7 +165,7 @@ event_within h g name ws is room limits =
       few = omega (arith, length-append h.events (event.0 ∷ []));
     })
 
-abbrev Either : History → Text → List Text → Bool → Result History LineFault
+abbrev pub Either : History → Text → List Text → Bool → Result History LineFault
 Either h name ws b = cond b (form_at h.plan aggregator_line.forms ws >>= next_parent h) (kind_at h.plan event_kinds name ws >>= λ event. Ok (with_event h event))
 
 either_within : (h g : History) (name : Text) (ws : List Text) (a b : Bool) → is_empty h.events ≡ b → Either h name ws (a && b) ≡ Ok g → length h.events < 1000000 → IsSchedule h → IsSchedule g

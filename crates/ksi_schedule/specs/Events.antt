@@ -1,5 +1,7 @@
 -- Histories: a plan, and what happened.
 use Rattle.std.specs.Prelude.{◌<◌, List, [], ◌∷◌, ◌++◌, length}
+use Rattle.std.specs.List.{AllByRecursion}
+use Rattle.ksi_imprint.specs.Imprints.{IsImprint}
 use Rattle.ksi_schedule.specs.Plans.{PlanState, InRange}
 use Rattle.ksi_schedule.specs.declared.event.Event.{Event}
 use Rattle.ksi_schedule.specs.declared.event.Event.TheVariants as events
@@ -20,6 +22,14 @@ IsEvent plan (events.RestartAggregator k) = k < length plan.parents
 abbrev pub AreEvents : PlanState → List Event → Type 0
 AreEvents plan [] = Unit {0}
 AreEvents plan (e ∷ es) = IsEvent plan e × AreEvents plan es
+
+-- what a request asks to sign is an imprint
+abbrev pub AsksForImprint : Event → Type 0
+AsksForImprint (events.Request k t imprint) = IsImprint imprint
+AsksForImprint _ = Unit {0}
+
+abbrev pub AskForImprints : List Event → Type 0
+AskForImprints es = AllByRecursion AsksForImprint es
 
 -- a plan, and what happened
 pub record History : Type 0 where
