@@ -12,3 +12,4 @@ pub mod Keeping
 pub mod Outcomes
 pub mod Showing
 pub mod Beneath
+pub mod Telling

@@ -111,7 +111,7 @@ not_both : (b : Bool) → (b && false) ≡ true → ⊥
 not_both true e = cc
 not_both false e = cc
 
-missing_none : (j : Contents) (p : ℕ) → calendars.is_covered (calendar_of j) p ≡ true → first_missing j p ≡ None
+pub missing_none : (j : Contents) (p : ℕ) → calendars.is_covered (calendar_of j) p ≡ true → first_missing j p ≡ None
 unfolding calendar_of first_missing
 missing_none j p e = elim (lt_cases p (j.start + length (roots_from j.start j.seconds))) [
   | inl below ↦ rw (le_false (j.start + length (roots_from j.start j.seconds)) p below.1) refl
@@ -125,7 +125,7 @@ root_is image j p seconds found same e from none =
     e ∙ ap (λ (s : calendars.Seconds). calendars.root_at image s p) same ∙ rw covered refl
 
 -- an audit of an accepted signature, whose publication is decided
-audit_laid : (image : List ℕ → List ℕ) (j : Contents) (signature : Signature) (hash : List ℕ) (publications : List (ℕ × List ℕ)) (t : ℕ) (calendar : Calendar) → verdict image signature hash publications ≡ Accepted t → signature.calendar ≡ Some calendar
+pub audit_laid : (image : List ℕ → List ℕ) (j : Contents) (signature : Signature) (hash : List ℕ) (publications : List (ℕ × List ℕ)) (t : ℕ) (calendar : Calendar) → verdict image signature hash publications ≡ Accepted t → signature.calendar ≡ Some calendar
     → j.start ≤ calendar.publication → first_missing j calendar.publication ≡ None → root_of image calendar ≡ kept_root image j calendar.publication → audit image j signature hash publications ≡ laid_beside image j signature hash t calendar
 unfolding audit
 audit_laid image j signature hash publications t calendar passes has from none root =

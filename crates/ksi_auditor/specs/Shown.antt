@@ -61,3 +61,14 @@ Shows image journal signature hash (BeforeStart p) = Unit {0}
 Shows image journal signature hash (Undecided second) = Unit {0}
 Shows image journal signature hash (NotDecided p given kept) = Unit {0}
 Shows image journal signature hash NoMemory = Unit {0}
+
+-- the answer says where the hash stands, or has a clash
+abbrev pub Tells : Audit → Type 0
+Tells (Inside t way) = Unit {0}
+Tells (Beneath t item links) = Unit {0}
+Tells (Clash clash) = Unit {0}
+Tells (NotAccepted refusal) = ⊥
+Tells (BeforeStart p) = ⊥
+Tells (Undecided second) = ⊥
+Tells (NotDecided p given kept) = ⊥
+Tells NoMemory = ⊥

@@ -11,7 +11,7 @@ ghost use Rattle.ksi_journal.specs.Journal.{Contents, IsJournal};
 ghost use Rattle.ksi_journal.specs.Calendar.{leaf_at};
 ghost use Rattle.ksi_auditor.specs.declared.answer.Audit.TheVariants as answers;
 ghost use Rattle.ksi_auditor.specs.Audit.{audit, links_of};
-ghost use Rattle.ksi_auditor.specs.Shown.{IsDecided, Shows};
+ghost use Rattle.ksi_auditor.specs.Shown.{IsDecided, Shows, Tells};
 
 use ksi_aggtree::laws::one_round;
 use ksi_calendar::laws::one_calendar;
@@ -34,6 +34,16 @@ pub fn audit_shows()
     ksi_calchain::laws::one_climb();
     joined();
     accepted();
+    calendar_is_covered();
+}
+
+/// An audit of an accepted signature, whose publication is decided, tells where the hash stands, or has a clash.
+pub fn decided_tells()
+    ensures { (image : List ℕ → List ℕ) (journal : Contents) (signature : Signature) (hash : List ℕ)
+        (publications : List (ℕ × List ℕ)) (t : ℕ) → IsJournal image journal →
+        verdict image signature hash publications ≡ verdicts.Accepted t → IsDecided image journal signature →
+        Tells (audit image journal signature hash publications) }
+{
     calendar_is_covered();
 }
 

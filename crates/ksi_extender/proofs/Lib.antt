@@ -7,3 +7,4 @@ pub mod Whole
 pub mod Told
 pub mod Imprints
 pub mod Again
+pub mod Covered

@@ -1,14 +1,17 @@
 -- What a signature is that was taken on to a later second.
-use Rattle.std.specs.Prelude.{◌≡◌, ℕ, List, Some}
+use Rattle.std.specs.Prelude.{◌≡◌, ◌≢◌, ◌≤◌, ℕ, List, length, Some, Ok}
+use Rattle.ksi_imprint.specs.Imprints.{zero_imprint}
 use Rattle.ksi_publications.specs.Finding.{find}
 use Rattle.ksi_signature.specs.declared.signature.Signature.{Signature}
 use Rattle.ksi_signature.specs.File.{IsSignature}
 use Rattle.ksi_signature.specs.Extended.{renewed}
+use Rattle.ksi_verifier.specs.declared.aggregated.Aggregated.{Aggregated}
 use Rattle.ksi_verifier.specs.declared.verdict.Verdict.TheVariants.{Accepted}
 use Rattle.ksi_verifier.specs.Chains.{plain_chains, first_chain}
+use Rattle.ksi_verifier.specs.ChainChecks.{aggregated}
 use Rattle.ksi_verifier.specs.Verdict.{verdict}
-use Rattle.ksi_journal.specs.Journal.{Contents}
-use Rattle.ksi_journal.specs.Calendar.{kept_root}
+use Rattle.ksi_journal.specs.Journal.{Contents, root_at}
+use Rattle.ksi_journal.specs.Calendar.{kept_root, IsCovered}
 use Rattle.ksi_extender.specs.Extended.{chain_to, record_to}
 
 -- the time and the input hash of the first chain
@@ -35,3 +38,15 @@ pub record IsExtended (image : List ℕ → List ℕ) (journal : Contents) (byte
   pub before : IsSignature bytes signature
   pub after : IsSignature text (taken_on image journal signature p)
   pub accepted : (publications : List (ℕ × List ℕ)) → AcceptedBy image journal signature p publications
+
+-- The bytes are a short signature whose chains lead to the root of a kept second, which was not missed; p is that second
+-- or a later one, and is covered.
+pub record LeadsToKept (image : List ℕ → List ℕ) (journal : Contents) (bytes : List ℕ) (signature : Signature) (chains : Aggregated) (p : ℕ) : Type 0 where
+  pub whole : IsSignature bytes signature
+  pub short : length bytes ≤ 60000
+  pub aggregation : aggregated image signature ≡ Ok chains
+  pub real : chains.item.imprint ≢ zero_imprint
+  pub from : journal.start ≤ chains.time
+  pub root : root_at journal chains.time ≡ Some chains.item.imprint
+  pub to : chains.time ≤ p
+  pub covered : IsCovered journal p

@@ -5,13 +5,16 @@ ghost use Rattle.ksi_imprint.specs.Imprints.{IsImprint};
 ghost use Rattle.ksi_tlv.specs.Spelling.{AreBytes};
 ghost use Rattle.ksi_signature.specs.declared.signature.Signature.{Signature};
 ghost use Rattle.ksi_signature.specs.File.{IsSignature};
+ghost use Rattle.ksi_signature.specs.Extended.{extended_text};
+ghost use Rattle.ksi_verifier.specs.declared.aggregated.Aggregated.{Aggregated};
 ghost use Rattle.ksi_journal.specs.Journal.{Contents, IsJournal};
-ghost use Rattle.ksi_extender.specs.Extended.{extended};
-ghost use Rattle.ksi_extender.specs.Accepted.{AcceptedBy, taken_on};
+ghost use Rattle.ksi_extender.specs.Extended.{chain_to, extended, record_to};
+ghost use Rattle.ksi_extender.specs.Accepted.{AcceptedBy, LeadsToKept, taken_on};
 
 use ksi_calendar::laws::one_chain;
 use ksi_imprint::Imprint;
-use ksi_signature::{extended_is_signature, signature_is_read};
+use ksi_journal::laws::calendar_is_covered;
+use ksi_signature::{extended_is_short, extended_is_signature, signature_is_read};
 use ksi_split::laws::one_way;
 use ksi_split::trees::one_path;
 use ksi_verifier::laws::{accepted, aggregation};
@@ -36,4 +39,18 @@ pub fn extended_is_accepted()
     extended_is_signature();
     accepted();
     aggregation();
+}
+
+/// Over a journal, and where what is hashed are imprints, a short signature is taken on to each covered second from its
+/// own on, where its chains lead to the root that is kept for its own, which was not missed.
+pub fn covered_is_extended()
+    ensures { (image : List ℕ → List ℕ) (journal : Contents) (bytes : List ℕ) (signature : Signature) (chains : Aggregated) (p : ℕ) →
+        ((x : List ℕ) → IsImprint (image x)) → IsJournal image journal → AreBytes bytes →
+        LeadsToKept image journal bytes signature chains p →
+        extended image journal bytes p ≡ Ok (extended_text bytes (chain_to image journal chains.time p) (record_to image journal p)) }
+{
+    one_path::<Imprint>();
+    signature_is_read();
+    extended_is_short();
+    calendar_is_covered();
 }

@@ -5,7 +5,8 @@
 //! place. What it gives is read as the same signature with another calendar chain and publication record, and is
 //! accepted: at the time of its chains, for the input hash of the first, by all publications whose first record of the
 //! second is the journal's root of the calendar to it. [`extend_counted`] does the same and counts its steps over what is
-//! stored, at most 127. The law [`extended_is_accepted`] says of the definition what `extend` says of its answer.
+//! stored, at most 127. The law [`extended_is_accepted`] says of the definition what `extend` says of its answer, and
+//! [`covered_is_extended`] which signatures are not refused.
 //!
 //! ```text
 //! let journal = load::<Sha>(alloc, file)?;
@@ -25,5 +26,5 @@ mod tests;
 
 pub use extending::{extend, extend_counted};
 pub use ksi_imprint::NoMemory;
-pub use laws::extended_is_accepted;
+pub use laws::{covered_is_extended, extended_is_accepted};
 pub use refusal::ExtendRefusal;

@@ -1,12 +1,12 @@
 -- How long what is issued and what is extended is, and that what is issued is that signature.
-use Rattle.std.proofs.Common.{◌≡◌, ℕ, ◌+◌, ◌*◌, ◌^◌, ◌<◌, ◌≤◌, Bool, true, false, cond, List, [], ◌∷◌, ◌++◌, length, drop, map, None, refl, sym, ap, ◌∙◌, arith, length-drop}
+use Rattle.std.proofs.Common.{◌≡◌, ℕ, ◌+◌, ◌*◌, ◌≤◌, Bool, true, false, cond, List, [], ◌∷◌, ◌++◌, length, map, None, refl, ap, ◌∙◌, arith, length-drop}
 use Rattle.std.specs.List.{AllByRecursion}
 use Rattle.std.proofs.lemmas.List.{length-append}
 use Rattle.ksi_imprint.specs.Imprints.{IsImprint}
 use Rattle.ksi_aggchain.specs.declared.link.Link.{Link}
 use Rattle.ksi_tlv.specs.Spelling.{Tlv, plain, canonical, AreBytes}
 use Rattle.ksi_tlv.specs.Numerals.{numeral}
-use Rattle.ksi_tlv.specs.Walking.{PlacedTlv, laid, joined}
+use Rattle.ksi_tlv.specs.Walking.{joined}
 use Rattle.ksi_tlv.specs.Writing.{texts}
 use Rattle.ksi_signature.specs.declared.signature.Signature.{Signature}
 use Rattle.ksi_signature.specs.declared.above.AboveChain.{AboveChain}
@@ -18,7 +18,7 @@ use Rattle.ksi_signature.specs.File.{IsSignature}
 use Rattle.ksi_signature.specs.Reading.{elements_in}
 use Rattle.ksi_signature.specs.Extended.{is_retained, retained_texts, extended_content}
 use Rattle.ksi_signature.specs.Issued.{index_of, issued_chains, own_chain, issued}
-use Rattle.ksi_signature.specs.Written.{chain_element, chain_elements, calendar_element, publishing_element, signature_elements, signature_text, sizes_of, first_long}
+use Rattle.ksi_signature.specs.Written.{chain_element, calendar_element, publishing_element, signature_elements, signature_text, sizes_of, first_long}
 use Rattle.ksi_signature.proofs.Again.{Written}
 use Rattle.ksi_signature.proofs.CalendarAgain.{calendar_small}
 use Rattle.ksi_signature.proofs.Capped.{length-joined}

@@ -1,0 +1,155 @@
+-- Trees, chains and calendars of imprints have imprints alone.
+use Rattle.std.proofs.Common.{◌≡◌, ℕ, zero, suc, ◌+◌, ◌-◌, ◌^◌, ◌<◌, ◌≤◌, Bool, true, false, List, [], ◌∷◌, ◌++◌, length, nat_lt, if◌then◌else◌, refl, arith, Option, Some, None, max}
+use Rattle.std.specs.Prelude.{slice_index_or, unwrap_or}
+use Rattle.std.specs.List.{AllByRecursion}
+use Rattle.std.proofs.lemmas.List.Sums.{sum_by-cons}
+use Rattle.ksi_imprint.specs.Imprints.{IsImprint, join_text, zero_imprint}
+use Rattle.ksi_split.specs.declared.side.Side.TheVariants.{Left, Right}
+use Rattle.ksi_split.specs.declared.tree_link.TreeLink.{TreeLink}
+use Rattle.ksi_split.specs.Trees.{tree_within, tree, path_within, path_of}
+use Rattle.ksi_calchain.specs.Climbing.{cal_join, cal_join_text}
+use Rattle.ksi_calendar.specs.Calendar.{calendar_leaf, calendar_path}
+use Rattle.ksi_aggchain.specs.Climbing.{Climbs, level_after}
+use Rattle.ksi_aggchain.specs.Links.{PlainLink}
+use Rattle.ksi_aggchain.specs.Owned.{plain_link, plain_links}
+use Rattle.ksi_aggchain.specs.declared.item.Item.{Item}
+use Rattle.ksi_aggchain.specs.declared.link.Link.{Link}
+use Rattle.ksi_aggtree.specs.declared.entries.Entry.{Entry}
+use Rattle.ksi_aggtree.specs.Rounds.{IsRound, agg_join, item_at, tree_of, tree_path}
+use Rattle.ksi_aggtree.specs.Paths.{links_from, chain_of}
+use Rattle.ksi_aggtree.specs.Entries.{items_of, candidate_of}
+use Rattle.ksi_signature.specs.Above.{IsNode}
+use Rattle.ksi_signature.specs.Kept.{HasImprint, IsLink}
+use Rattle.ksi_signature.specs.Carried.{IsAboveChain}
+use Rattle.ksi_corenode.specs.Held.{Held, roots_among, held_seconds}
+use Rattle.ksi_aggregator.specs.Responses.{chain_at}
+use Rattle.ksi_world.proofs.Joining.{ItemClimbs}
+use Rattle.ksi_world.proofs.Sending.{TreeRises}
+
+-- ANY TREE
+
+either : {A : Type 0} (P : A → Type 0) (b : Bool) (x y : A) → P x → P y → P (if b then x else y)
+either P true x y one other = one
+either P false x y one other = other
+
+abbrev pub EachSibling : {A : Type 0} → (A → Type 0) → List (TreeLink A) → Type 0
+EachSibling P links = AllByRecursion (λ link. P link.sibling) links
+
+module _ (A : Type 0) (P : A → Type 0) where
+  with_last : (links : List (TreeLink A)) (last : TreeLink A) → EachSibling P links → P last.sibling → EachSibling P (links ++ last ∷ [])
+  with_last [] last all is = (is, tt)
+  with_last (link ∷ links) last all is = (all.0, with_last links last all.1 is)
+
+  module _ (join : A → A → A) (joins : (a b : A) → P (join a b)) (leaf : ℕ → A) (are : (t : ℕ) → P (leaf t)) where
+    within_is : (k lo n : ℕ) → P (tree_within join leaf k lo n)
+    unfolding tree_within
+    within_is zero lo n = are lo
+    within_is (suc k) lo n =
+        either P (nat_lt (2 ^ k) n) (join (tree_within join leaf k lo (2 ^ k)) (tree_within join leaf k (lo + 2 ^ k) (n - 2 ^ k))) (tree_within join leaf k lo n)
+        (joins (tree_within join leaf k lo (2 ^ k)) (tree_within join leaf k (lo + 2 ^ k) (n - 2 ^ k))) (within_is k lo n)
+
+    pub tree_is : (lo n : ℕ) → P (tree join leaf lo n)
+    unfolding tree
+    tree_is lo n = within_is n lo n
+
+    path_within_is : (k lo t n : ℕ) → EachSibling P (path_within join leaf k lo t n)
+    unfolding path_within
+    path_within_is zero lo t n = tt
+    path_within_is (suc k) lo t n =
+        let left = path_within join leaf k lo t (2 ^ k) in
+        let right = path_within join leaf k (lo + 2 ^ k) (t - 2 ^ k) (n - 2 ^ k) in
+        let behind : TreeLink A = record { side = Left; sibling = tree join leaf (lo + 2 ^ k) (n - 2 ^ k) } in
+        let before : TreeLink A = record { side = Right; sibling = tree join leaf lo (2 ^ k) } in
+        either (EachSibling P) (nat_lt (2 ^ k) n) (if nat_lt t (2 ^ k) then left ++ behind ∷ [] else right ++ before ∷ []) (path_within join leaf k lo t n)
+        (either (EachSibling P) (nat_lt t (2 ^ k)) (left ++ behind ∷ []) (right ++ before ∷ [])
+        (with_last left behind (path_within_is k lo t (2 ^ k)) (tree_is (lo + 2 ^ k) (n - 2 ^ k)))
+        (with_last right before (path_within_is k (lo + 2 ^ k) (t - 2 ^ k) (n - 2 ^ k)) (tree_is lo (2 ^ k))))
+        (path_within_is k lo t n)
+
+    pub path_is : (lo t n : ℕ) → EachSibling P (path_of join leaf lo t n)
+    unfolding path_of
+    path_is lo t n = path_within_is n lo t n
+
+pub zero_is : IsImprint zero_imprint
+zero_is = record { algorithm = refl; size = refl }
+
+-- ROUNDS
+
+abbrev pub HasImprintItem : Item → Type 0
+HasImprintItem item = IsImprint item.imprint
+
+-- each item is of an imprint
+abbrev pub HaveImprints : List Entry → Type 0
+HaveImprints entries = AllByRecursion (λ entry. IsImprint entry.item.imprint) entries
+
+pub imprints_push : (es : List Entry) (e : Entry) → HaveImprints es → IsImprint e.item.imprint → HaveImprints (es ++ e ∷ [])
+imprints_push [] e all is = (is, tt)
+imprints_push (x ∷ es) e all is = (all.0, imprints_push es e all.1 is)
+
+pub item_is : (es : List Entry) → HaveImprints es → (k : ℕ) → HasImprintItem (item_at (items_of es) k)
+item_is [] all k = zero_is
+item_is (e ∷ es) all zero = all.0
+item_is (e ∷ es) all (suc k) = item_is es all.1 k
+
+nodes : (level : ℕ) (others : List (TreeLink Item)) → AllByRecursion (λ link. IsNode link.sibling) (links_from level others)
+nodes level [] = tt
+nodes level (other ∷ others) = (tt, nodes (max level other.sibling.level + 1) others)
+
+beside : (level : ℕ) (others : List (TreeLink Item)) → EachSibling HasImprintItem others → AllByRecursion (λ link. HasImprint link.sibling) (links_from level others)
+beside level [] all = tt
+beside level (other ∷ others) all = (all.0, beside (max level other.sibling.level + 1) others all.1)
+
+-- links that do not pass level 255
+low_links : (level : ℕ) (links : List Link) → level_after level (plain_links links) ≤ 255 → AllByRecursion (λ link. HasImprint link.sibling) links → AllByRecursion IsLink links
+low_links level [] low all = tt
+low_links level (link ∷ links) low all =
+    let cons = sum_by-cons (λ (link : PlainLink). link.correction + 1) (plain_link link) (plain_links links) in
+    (record { correction = omega (arith, low, cons); sibling = all.0 }, low_links level links (omega (arith, low, cons)) all.1)
+
+module _ (image : List ℕ → List ℕ) (images : (bytes : List ℕ) → IsImprint (image bytes)) where
+  joined_is : (a b : Item) → HasImprintItem (agg_join image a b)
+  joined_is a b = images (join_text a.imprint b.imprint (max a.level b.level + 1))
+
+  pub round_imprint : (es : List Entry) → HaveImprints es → HasImprintItem (tree_of image (items_of es))
+  round_imprint es all = tree_is Item HasImprintItem (agg_join image) joined_is (item_at (items_of es)) (item_is es all) 0 (length (items_of es))
+
+  pub candidate_imprint : (es : List Entry) → HaveImprints es → IsImprint (candidate_of image es)
+  candidate_imprint [] all = zero_is
+  candidate_imprint (e ∷ es) all = round_imprint (e ∷ es) all
+
+  module _ (rises : TreeRises image) (climb : ItemClimbs image) (few : (items : List Item) (k : ℕ) → length items ≤ 65536 → length (chain_of image items k) ≤ 16)
+      (sum : (start top : Item) (links : List PlainLink) → Climbs image start links top → top.level ≡ level_after start.level links) where
+    pub chain_carried : (es : List Entry) (k : ℕ) → IsRound (items_of es) → k < length (items_of es) → HaveImprints es → IsAboveChain (chain_at image (items_of es) k)
+    chain_carried es k round lt all =
+        let items = items_of es in
+        let top = rises items 239 round.few round.low in
+        let high = sum (item_at items k) (tree_of image items) (plain_links (chain_of image items k)) (climb items k round lt) in
+        record {
+          input = item_is es all k;
+          limits = record { count = few items k round.few; nodes = nodes (item_at items k).level (tree_path image items k) };
+          links = low_links (item_at items k).level (chain_of image items k) (omega (arith, top, high))
+              (beside (item_at items k).level (tree_path image items k) (path_is Item HasImprintItem (agg_join image) joined_is (item_at items) (item_is es all) 0 k (length items)));
+        }
+
+  -- CALENDARS
+
+  module _ (held : Held) (are : (t : ℕ) (root : List ℕ) → held t ≡ Some root → IsImprint root) where
+    one_root : (o : Option (List ℕ)) → ((root : List ℕ) → o ≡ Some root → IsImprint root) → IsImprint (unwrap_or o zero_imprint)
+    one_root None is = zero_is
+    one_root (Some root) is = is root refl
+
+    roots_are : (s n : ℕ) → AllByRecursion IsImprint (roots_among held s n)
+    roots_are s zero = tt
+    roots_are s (suc n) = (one_root (held s) (are s), roots_are (suc s) n)
+
+    place_is : (roots : List (List ℕ)) (place : ℕ) → AllByRecursion IsImprint roots → IsImprint (slice_index_or roots place zero_imprint)
+    place_is [] place all = zero_is
+    place_is (root ∷ roots) zero all = all.0
+    place_is (root ∷ roots) (suc place) all = place_is roots place all.1
+
+    leaf_is : (start last t : ℕ) → IsImprint (calendar_leaf (held_seconds held start last) t)
+    unfolding held_seconds
+    leaf_is start last t = either IsImprint (nat_lt t start) zero_imprint (slice_index_or (roots_among held start (suc last - start)) (t - start) zero_imprint) zero_is (place_is (roots_among held start (suc last - start)) (t - start) (roots_are start (suc last - start)))
+
+    pub calendar_imprints : (start last t p : ℕ) → EachSibling IsImprint (calendar_path image (held_seconds held start last) t p)
+    calendar_imprints start last t p = path_is (List ℕ) IsImprint (cal_join image) (λ a b. images (cal_join_text a b)) (calendar_leaf (held_seconds held start last)) (leaf_is start last) 0 t (p + 1)
