@@ -10,7 +10,9 @@
 //! ```
 #![tactic(auto)]
 
+mod journal;
 mod replay;
 
+pub use journal::journal_of;
 pub use ksi_imprint::NoMemory;
 pub use replay::replay;

@@ -11,8 +11,9 @@ use crate::report::{Halt, Report};
 use crate::status::Status;
 use ksi_imprint::Sha;
 use ksi_journal::Journal;
+use ksi_journal::laws::journal_is_read;
 use ksi_publications::{Publications, publications_are_read};
-use ksi_schedule::Schedule;
+use ksi_schedule::{Schedule, schedule_is_read};
 use ksi_signature::{Signature, signature_is_read};
 use std::alloc::Global;
 
@@ -51,6 +52,7 @@ pub(crate) fn read_journal(alloc: Global, n: usize, bytes: &[u8]) -> Result<Jour
     ensures told { Gives (journal_or_malformed n bytes.now) result }
     ensures judged { HaltsJudged result }
 {
+    journal_is_read();
     match ksi_journal::load::<Sha>(alloc, bytes) {
         Ok(journal) => Ok(journal),
         Err(fault) => {
@@ -65,6 +67,7 @@ pub(crate) fn read_schedule(alloc: Global, n: usize, bytes: &[u8]) -> Result<Sch
     ensures told { Gives (schedule_or_malformed n bytes.now) result }
     ensures judged { HaltsJudged result }
 {
+    schedule_is_read();
     match ksi_schedule::read_schedule(alloc, bytes) {
         Ok(schedule) => Ok(schedule),
         Err(fault) => {
