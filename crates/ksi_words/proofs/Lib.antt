@@ -5,3 +5,4 @@ pub mod Numbers
 pub mod Misfits
 pub mod Parsed
 pub mod WordLemmas
+pub mod Early
