@@ -6,3 +6,4 @@ pub mod Misfits
 pub mod Parsed
 pub mod WordLemmas
 pub mod Early
+pub mod Unnamed

@@ -13,6 +13,8 @@ pub enum Command<'a> {
     Extend(&'a str, &'a str, u64, &'a str),
     /// The signature's file, the hash, the publications' file.
     Verify(&'a str, Imprint, &'a str),
+    /// The journal's file, the signature's file, the hash, the publications' file.
+    Audit(&'a str, &'a str, Imprint, &'a str),
 }
 
 /// Why words are no command.

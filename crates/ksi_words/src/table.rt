@@ -1,7 +1,7 @@
 // The commands: a row of the table each, and what the words after its name ask for.
 ghost use Rattle.std.specs.Prelude.{◌≡◌, ◌<◌, ◌^◌, ℕ, IfOk, map};
 ghost use Rattle.ksi_words.specs.Sorts.{hash_of, number_of, time_of};
-ghost use Rattle.ksi_words.specs.Words.{Reads, asked_by, command_named, table, replay_row, sign_row, publish_row, extend_row, verify_row, word_at, IsEarly};
+ghost use Rattle.ksi_words.specs.Words.{Reads, asked_by, command_named, table, replay_row, sign_row, publish_row, extend_row, verify_row, audit_row, word_at, IsEarly};
 
 use crate::values::{hash, number, time};
 use crate::{Command, WordsRefusal};
@@ -14,7 +14,7 @@ pub(crate) struct Row {
     pub(crate) words: usize,
 }
 
-pub(crate) static TABLE: [Row; 5] = [
+pub(crate) static TABLE: [Row; 6] = [
     Row {
         name: "replay",
         words: 2,
@@ -35,6 +35,10 @@ pub(crate) static TABLE: [Row; 5] = [
         name: "verify",
         words: 3,
     },
+    Row {
+        name: "audit",
+        words: 4,
+    },
 ];
 
 /// The command of a name and the words after it.
@@ -48,6 +52,7 @@ pub(crate) fn asked<'a>(name: &str, words: &[&'a str]) -> Result<Command<'a>, Wo
         "publish" => publish(words),
         "extend" => extend(words),
         "verify" => verify(words),
+        "audit" => audit(words),
         _ => Err(WordsRefusal::Words),
     }
 }
@@ -105,6 +110,21 @@ fn verify<'a>(words: &[&'a str]) -> Result<Command<'a>, WordsRefusal>
         return Err(WordsRefusal::Words);
     };
     Ok(Command::Verify(signature, hash_at(2, hash)?, publications))
+}
+
+fn audit<'a>(words: &[&'a str]) -> Result<Command<'a>, WordsRefusal>
+    ensures reads { Reads (asked_by audit_row (map (λ word. word.now) words.now)) result }
+    ensures early { IfOk result IsEarly }
+{
+    let [journal, signature, hash, publications] = words else {
+        return Err(WordsRefusal::Words);
+    };
+    Ok(Command::Audit(
+        journal,
+        signature,
+        hash_at(3, hash)?,
+        publications,
+    ))
 }
 
 // The hash that word n is.

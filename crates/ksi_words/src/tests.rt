@@ -48,6 +48,13 @@ fn told(alloc: Global, command: &Command<'_>) -> Result<String, Fail> {
             };
             Ok(format!(in alloc; "verify {signature} {digits} {publications}")?)
         }
+        Command::Audit(journal, signature, imprint, publications) => {
+            let digits = match hash(DIGITS) {
+                Some(other) if other == *imprint => "#",
+                _ => "other",
+            };
+            Ok(format!(in alloc; "audit {journal} {signature} {digits} {publications}")?)
+        }
     }
 }
 
@@ -112,7 +119,11 @@ fn each_line_of_words_has_its_answer(rt: HostRuntime) -> Result<(), Fail> {
         ("ksi verify s # p", "words refused"),
         ("help", "words refused"),
         ("help verify", "words refused"),
-        ("audit j s # p", "words refused"),
+        ("audit j s # p", "audit j s # p"),
+        ("audit j s 12 p", "bad word 3"),
+        ("audit j s #", "words refused"),
+        ("audit j s # p q", "words refused"),
+        ("make 1 f", "words refused"),
         (" verify s # p", "words refused"),
         ("-", "words refused"),
         ("--", "words refused"),
