@@ -29,4 +29,6 @@ pub use status::Status;
 pub use top::ksi;
 
 #[cfg(test)]
+mod path_tests;
+#[cfg(test)]
 mod tests;
