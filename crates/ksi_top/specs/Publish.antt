@@ -1,5 +1,5 @@
 -- The command `publish`.
-use Rattle.std.specs.Prelude.{ℕ, List, [], ◌∷◌, length, ◌==◌, if◌then◌else◌}
+use Rattle.std.specs.Prelude.{ℕ, ◌-◌, List, length, ◌==◌, Option, Some, None, slice_get, if◌then◌else◌}
 use Rattle.ksi_ports.specs.Stored.{Held}
 use Rattle.ksi_publications.specs.File.{publications_text}
 use Rattle.ksi_top.specs.declared.report.Report.{Report}
@@ -7,11 +7,13 @@ use Rattle.ksi_top.specs.Reports.{saving, on}
 use Rattle.ksi_top.specs.Loading.{loaded, journal_or_malformed, file_limit, no_limit}
 use Rattle.ksi_top.specs.Lines.{published_line}
 
+abbrev pub time_of : Option (ℕ × List ℕ) → ℕ
+time_of None = 0
+time_of (Some publication) = publication.0
+
 -- the time of the last publication, 0 where there is none
 abbrev pub last_time : List (ℕ × List ℕ) → ℕ
-last_time [] = 0
-last_time (publication ∷ []) = publication.0
-last_time (publication ∷ other ∷ others) = last_time (other ∷ others)
+last_time publications = time_of (slice_get publications (length publications - 1))
 
 -- the publications file of a journal's publications, created when the last was published
 abbrev pub published : (out : List ℕ) → List (ℕ × List ℕ) → Report
