@@ -41,6 +41,20 @@ too_long_line n = line_of (codes "too" ∷ codes "long" ∷ decimal n ∷ [])
 abbrev pub malformed_line : ℕ → List (List ℕ) → List ℕ
 malformed_line n fault = line_of (codes "malformed" ∷ decimal n ∷ fault)
 
+abbrev pub replayed_line : (events messages seconds issued published : ℕ) → List ℕ
+replayed_line events messages seconds issued published = line_of (
+    codes "events" ∷ decimal events ∷ codes "messages" ∷ decimal messages ∷ codes "seconds" ∷ decimal seconds
+    ∷ codes "issued" ∷ decimal issued ∷ codes "published" ∷ decimal published ∷ [])
+
+abbrev pub signed_line : ℕ → List ℕ
+signed_line number = line_of (codes "signed" ∷ decimal number ∷ [])
+
+abbrev pub not_issued_line : ℕ → List ℕ
+not_issued_line number = line_of (codes "not" ∷ codes "issued" ∷ decimal number ∷ [])
+
+abbrev pub published_line : ℕ → List ℕ
+published_line n = line_of (codes "published" ∷ decimal n ∷ [])
+
 abbrev pub accepted_line : ℕ → List ℕ
 accepted_line t = line_of (codes "accepted" ∷ decimal t ∷ [])
 

@@ -9,7 +9,10 @@ ghost use Rattle.ksi_words.specs.Words.{asked, texts, command_of};
 
 use crate::printed::Word::{Number, Text};
 use crate::printed::print;
+use crate::publish::publish;
+use crate::replay::replay;
 use crate::report::{Cut, Halt, Report};
+use crate::sign::sign;
 use crate::status::Status;
 use crate::verify::verify;
 use ksi_imprint::NoMemory;
@@ -55,6 +58,9 @@ fn perform<F: Files>(alloc: Global, files: &mut F, command: &Command<'_>) -> Res
     ensures causes { ReportCaused (limits_of (asked command.now)) (counts (F.faults files.old) (F.taken files.old)) (counts (F.faults files.new) (F.taken files.new)) result }
 {
     match command {
+        Command::Replay(schedule, journal) => replay(alloc, files, schedule, journal),
+        Command::Sign(journal, number, out) => sign(alloc, files, journal, *number, out),
+        Command::Publish(journal, out) => publish(alloc, files, journal, out),
         Command::Verify(signature, hash, publications) => {
             verify(alloc, files, signature, hash, publications)
         }
