@@ -33,4 +33,6 @@ pub use status::Status;
 pub use top::ksi;
 
 #[cfg(test)]
+mod path_tests;
+#[cfg(test)]
 mod tests;

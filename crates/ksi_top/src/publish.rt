@@ -32,11 +32,7 @@ pub(crate) fn publish<F: Files>(
     Ok(published(alloc, out, journal.publications())?)
 }
 
-fn published(
-    alloc: Global,
-    out: &str,
-    publications: &[(u64, Imprint)],
-) -> Result<Report, NoMemory>
+fn published(alloc: Global, out: &str, publications: &[(u64, Imprint)]) -> Result<Report, NoMemory>
     ensures published { IfOk result (λ report. report ≡ published out.now publications.now) }
     ensures judged { IfOk result (λ report. IsJudged report) }
 {

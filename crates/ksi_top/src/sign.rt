@@ -32,12 +32,7 @@ pub(crate) fn sign<F: Files>(
 {
     let bytes = load_file(alloc, files, FILE_LIMIT, 1, journal)?;
     let journal = read_journal(alloc, 1, bytes.as_slice())?;
-    Ok(signed(
-        alloc,
-        number,
-        out,
-        signature_of(journal.issued(), number),
-    )?)
+    Ok(signed(alloc, number, out, signature_of(journal.issued(), number))?)
 }
 
 /// The bytes that stand beside the number.
