@@ -6,6 +6,8 @@ pub mod Loading
 pub mod Replay
 pub mod Sign
 pub mod Publish
+pub mod Extend
+pub mod Audit
 pub mod Verify
 pub mod Run
 pub mod Causes

@@ -10,6 +10,10 @@
 //! ```
 #![tactic(auto)]
 
+mod audit;
+mod audit_line;
+mod extend;
+mod extend_line;
 mod fault_line;
 mod line;
 mod loading;

@@ -94,12 +94,7 @@ fn extend<'a>(words: &[&'a str]) -> Result<Command<'a>, WordsRefusal>
     let [journal, signature, publication, out] = words else {
         return Err(WordsRefusal::Words);
     };
-    Ok(Command::Extend(
-        journal,
-        signature,
-        time_at(3, publication)?,
-        out,
-    ))
+    Ok(Command::Extend(journal, signature, time_at(3, publication)?, out))
 }
 
 fn verify<'a>(words: &[&'a str]) -> Result<Command<'a>, WordsRefusal>
@@ -119,12 +114,7 @@ fn audit<'a>(words: &[&'a str]) -> Result<Command<'a>, WordsRefusal>
     let [journal, signature, hash, publications] = words else {
         return Err(WordsRefusal::Words);
     };
-    Ok(Command::Audit(
-        journal,
-        signature,
-        hash_at(3, hash)?,
-        publications,
-    ))
+    Ok(Command::Audit(journal, signature, hash_at(3, hash)?, publications))
 }
 
 // The hash that word n is.

@@ -84,7 +84,10 @@ fn each_line_of_words_has_its_answer(rt: HostRuntime) -> Result<(), Fail> {
         ("sign j -1 s", "words refused"),
         ("publish j p", "publish j p"),
         ("publish j", "words refused"),
-        ("extend j s 9223372036854775807 t", "extend j s 9223372036854775807 t"),
+        (
+            "extend j s 9223372036854775807 t",
+            "extend j s 9223372036854775807 t",
+        ),
         ("extend j s 9223372036854775808 t", "bad word 3"),
         ("extend j s # t", "bad word 3"),
         ("extend j s 1", "words refused"),
