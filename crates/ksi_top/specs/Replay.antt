@@ -3,7 +3,7 @@ use Rattle.std.specs.Prelude.{ℕ, List, length, ◌==◌, if◌then◌else◌}
 use Rattle.ksi_imprint.specs.Imprints.{imprint_of}
 use Rattle.ksi_ports.specs.Stored.{Held}
 use Rattle.ksi_schedule.specs.Events.{History}
-use Rattle.ksi_world.specs.Histories.{WorldState, world_of}
+use Rattle.ksi_world.specs.Histories.{world_of}
 use Rattle.ksi_journal.specs.Journal.{Contents}
 use Rattle.ksi_journal.specs.Written.{journal_text}
 use Rattle.ksi_replay.specs.Journals.{journal_of}
@@ -12,14 +12,17 @@ use Rattle.ksi_top.specs.Reports.{saving, on}
 use Rattle.ksi_top.specs.Loading.{loaded, schedule_or_malformed, file_limit, no_limit}
 use Rattle.ksi_top.specs.Lines.{replayed_line}
 
--- how many events, messages, kept seconds, issued signatures and publications there are; the journal is saved
-abbrev pub replayed_as : (name : List ℕ) → History → WorldState → Contents → Report
-replayed_as name h world journal =
-    saving (replayed_line (length h.events) (length world.wire) (length journal.seconds) (length journal.issued) (length journal.publications))
-    name (journal_text journal)
+-- how many events, messages, kept seconds, issued signatures and publications there are
+unfoldable pub counted : History → Contents → List ℕ
+counted h journal =
+    replayed_line (length h.events) (length (world_of imprint_of h).wire) (length journal.seconds) (length journal.issued) (length journal.publications)
+
+-- the counts are told, and the journal is saved
+abbrev pub replayed_as : (name : List ℕ) → History → Contents → Report
+replayed_as name h journal = saving (counted h journal) name (journal_text journal)
 
 abbrev pub replayed : (name : List ℕ) → History → Report
-replayed name h = replayed_as name h (world_of imprint_of h) (journal_of imprint_of h)
+replayed name h = replayed_as name h (journal_of imprint_of h)
 
 -- word 1 is the schedule's file
 abbrev pub replay_limits : ℕ → ℕ
