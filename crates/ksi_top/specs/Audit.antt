@@ -32,7 +32,7 @@ audit_run journal signature hash publications held =
     on (loaded file_limit 1 held journal) (λ a. on (journal_or_malformed 1 a) (λ j.
     on (loaded signature_limit 2 held signature) (λ b. on (signature_or_malformed 2 b) (λ s.
     on (loaded file_limit 4 held publications) (λ c. on (publications_or_malformed 4 c) (λ p.
-    audited (audit imprint_of j s hash p))))))))
+    audited (audit imprint_of j s hash p)))))))
 
 -- how many files are loaded: each only behind those that are read
 unfoldable pub audit_loads : List ℕ → List ℕ → Held → ℕ

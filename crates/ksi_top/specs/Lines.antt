@@ -111,10 +111,13 @@ too_large_line size = line_of (codes "refused" ∷ codes "E5" ∷ decimal size �
 
 -- ---- an audit
 
+abbrev pub letter : Side → List ℕ
+letter Left = codes "L"
+letter Right = codes "R"
+
 abbrev pub letters : List Side → List ℕ
 letters [] = []
-letters (Left ∷ sides) = codes "L" ++ letters sides
-letters (Right ∷ sides) = codes "R" ++ letters sides
+letters (side ∷ sides) = letter side ++ letters sides
 
 -- the sides of a way, and a dash where there are none
 abbrev pub way_text : List Side → List ℕ
