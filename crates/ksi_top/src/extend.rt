@@ -42,14 +42,7 @@ pub(crate) fn extend<F: Files>(
     let bytes = load_file(alloc, files, SIGNATURE_LIMIT, 2, signature)?;
     let signature = read_signature(alloc, 2, bytes.as_slice())?;
     let first = first_time(&signature);
-    Ok(taken_on(
-        alloc,
-        &journal,
-        bytes.as_slice(),
-        first,
-        second,
-        out,
-    )?)
+    Ok(taken_on(alloc, &journal, bytes.as_slice(), first, second, out)?)
 }
 
 /// The time of the aggregation chains.

@@ -37,13 +37,7 @@ pub(crate) fn not_extended(alloc: Global, refusal: &ExtendRefusal) -> Result<Rep
             second,
             kept,
             given,
-        } => {
-            refused(
-                alloc,
-                "E1",
-                &[Number(*second), Digest(kept), Digest(given)],
-            )?
-        }
+        } => { refused(alloc, "E1", &[Number(*second), Digest(kept), Digest(given)])? }
         ExtendRefusal::TooLarge(size) => refused(alloc, "E5", &[Number(*size)])?,
         ExtendRefusal::NoMemory => return Err(NoMemory),
     };

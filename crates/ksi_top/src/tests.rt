@@ -379,9 +379,10 @@ fn each_status_has_its_number(rt: HostRuntime) {
         Status::Malformed,
         Status::Fault,
         Status::NoMemory,
+        Status::Clash,
         Status::TooLong,
     ];
-    let numbers = [0, 1, 2, 3, 4, 5, 7];
+    let numbers = [0, 1, 2, 3, 4, 5, 6, 7];
     for (status, number) in statuses.iter().zip(numbers) {
         assert_eq!(rt; status.code(), number);
     }
