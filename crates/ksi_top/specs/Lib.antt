@@ -3,6 +3,11 @@ pub mod Reports
 pub mod Lines
 pub mod FaultWords
 pub mod Loading
+pub mod Replay
+pub mod Sign
+pub mod Publish
+pub mod Extend
+pub mod Audit
 pub mod Verify
 pub mod Run
 pub mod Causes

@@ -5,11 +5,16 @@ ghost use Rattle.ksi_top.specs.Causes.{ReportCaused, counts};
 ghost use Rattle.ksi_top.specs.Run.{performed, limits_of, loads_of, most_loads, run_loads, refused, run};
 ghost use Rattle.ksi_top.specs.Top.{ReportedAs, RunCaused};
 ghost use Rattle.ksi_words.specs.declared.asked.WordsRefusal.TheVariants as refusals;
-ghost use Rattle.ksi_words.specs.Words.{asked, texts, command_of};
+ghost use Rattle.ksi_words.specs.Words.{IsEarly, asked, texts, command_of};
 
+use crate::audit::audit;
+use crate::extend::extend;
 use crate::printed::Word::{Number, Text};
 use crate::printed::print;
+use crate::publish::publish;
+use crate::replay::replay;
 use crate::report::{Cut, Halt, Report};
+use crate::sign::sign;
 use crate::status::Status;
 use crate::verify::verify;
 use ksi_imprint::NoMemory;
@@ -47,6 +52,7 @@ pub(crate) fn report_of<F: Files>(
 
 /// What a command reports: a case for each.
 fn perform<F: Files>(alloc: Global, files: &mut F, command: &Command<'_>) -> Result<Report, Halt>
+    requires early { IsEarly command.now }
     ensures told { IsTrue F.tells → Reports (performed (asked command.now) (F.held files.old)) result }
     ensures stays { IsTrue F.tells → F.held files.new ≡ F.held files.old }
     ensures calls { IsTrue F.tells → F.calls files.new ≤ F.calls files.old + loads_of (asked command.now) (F.held files.old) }
@@ -55,8 +61,17 @@ fn perform<F: Files>(alloc: Global, files: &mut F, command: &Command<'_>) -> Res
     ensures causes { ReportCaused (limits_of (asked command.now)) (counts (F.faults files.old) (F.taken files.old)) (counts (F.faults files.new) (F.taken files.new)) result }
 {
     match command {
+        Command::Replay(schedule, journal) => replay(alloc, files, schedule, journal),
+        Command::Sign(journal, number, out) => sign(alloc, files, journal, *number, out),
+        Command::Publish(journal, out) => publish(alloc, files, journal, out),
+        Command::Extend(journal, signature, second, out) => {
+            extend(alloc, files, journal, signature, *second, out)
+        }
         Command::Verify(signature, hash, publications) => {
             verify(alloc, files, signature, hash, publications)
+        }
+        Command::Audit(journal, signature, hash, publications) => {
+            audit(alloc, files, journal, signature, hash, publications)
         }
     }
 }
