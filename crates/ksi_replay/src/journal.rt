@@ -1,9 +1,8 @@
-ghost use Rattle.std.specs.Prelude.{◌≡◌, ◌<◌, ◌^◌, IfOk, length, map};
+ghost use Rattle.std.specs.Prelude.{◌≡◌, ◌<◌, ◌≤◌, ◌^◌, ◌++◌, [], IfOk, IfSome, OnOk, length, map};
 ghost use Rattle.std.specs.List.{AllByRecursion};
 ghost use Rattle.ksi_imprint.specs.Imprints.{IsImprint};
-ghost use Rattle.ksi_aggtree.specs.Rounds.{IsRound};
 ghost use Rattle.ksi_world.specs.Histories.{world_of};
-ghost use Rattle.ksi_world.specs.Records.{issued_all};
+ghost use Rattle.ksi_world.specs.Records.{issued_all, issued_before};
 ghost use Rattle.ksi_world.specs.Validity.{EachKept, IsKept};
 ghost use Rattle.ksi_journal.specs.Journal.{IsIssued, IsSecond};
 ghost use Rattle.ksi_replay.specs.Journals.{journal_of, second_of};
@@ -28,9 +27,7 @@ pub fn journal_of<C: Compress>(alloc: Global, world: &World<C>) -> Result<Journa
     let start = kept.start;
     let seconds = seconds_of::<C>(alloc, kept.seconds.into_vec())?;
     let issued = issued(alloc, world)?;
-    let published = world.published();
-    imprints_of(published);
-    let publications = published.to_vec(alloc)?;
+    let publications = publications_of(alloc, world.published())?;
     Journal::new(alloc, start, seconds, issued, publications)
 }
 
@@ -70,11 +67,28 @@ fn issued<C: Compress>(alloc: Global, world: &World<C>) -> Result<Vec<(u64, Byte
 {
     let mut issued = Vec::new(alloc);
     'numbers: for number in 0..world.requests().len() as u64 {
-        if let Some(bytes) = world.issued(number)? {
-            issued.push((number, bytes))?;
-        }
+        let found = world.issued(number)?;
+        push_issued(&mut issued, number, found)?;
     }
     Ok(issued)
+}
+
+/// What is issued of a request, where there is something.
+#[tactic(auto, using(crate::proofs::Lawful::lawful_more))]
+fn push_issued(
+    issued: &mut Vec<(u64, Bytes)>,
+    number: u64,
+    found: Option<Bytes>,
+) -> Result<(), NoMemory>
+    requires lawful { AllByRecursion IsIssued issued.old.items }
+    requires short { IfSome found (λ bytes. length bytes ≤ 10000) }
+    ensures listing { OnOk result (issued.new.items ≡ issued.old.items ++ issued_before number found []) }
+    ensures lawful { OnOk result (AllByRecursion IsIssued issued.new.items) }
+{
+    if let Some(bytes) = found {
+        issued.push((number, bytes))?;
+    }
+    Ok(())
 }
 
 /// All are imprints, as their type keeps it.
@@ -86,10 +100,18 @@ fn imprints_in(items: &[Item])
     }
 }
 
-fn imprints_of(publications: &[(u64, Imprint)])
-    ensures { AllByRecursion (λ publication. IsImprint publication.1) publications.now }
+/// A copy of what is published.
+fn publications_of(
+    alloc: Global,
+    published: &[(u64, Imprint)],
+) -> Result<Vec<(u64, Imprint)>, NoMemory>
+    ensures same { IfOk result (λ copy. copy.items ≡ published.now) }
+    ensures imprints { IfOk result (λ copy. AllByRecursion (λ publication. IsImprint publication.1) copy.items) }
 {
-    'publications: for publication in publications {
+    let mut copy = Vec::with_capacity(alloc, published.len())?;
+    'publications: for publication in published {
         let _imprint = publication.1.bytes();
+        copy.push(*publication)?;
     }
+    Ok(copy)
 }
