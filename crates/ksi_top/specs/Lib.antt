@@ -13,3 +13,5 @@ pub mod Run
 pub mod Causes
 pub mod Top
 pub mod Printed
+pub mod Headline
+pub mod Lawful

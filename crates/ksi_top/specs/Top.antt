@@ -70,6 +70,11 @@ abbrev pub ReportedAs : Report → Result Report Cut → Type 0
 ReportedAs expected (Ok report) = report ≡ expected
 ReportedAs expected (Err cut) = Unit {0}
 
+-- what the report means
+abbrev pub MeansUnlessCut : (Report → Type 0) → Result Report Cut → Type 0
+MeansUnlessCut P (Ok report) = P report
+MeansUnlessCut P (Err cut) = Unit {0}
+
 -- a report has its cause in the words or in the files
 pub record HasCause (asked : Result Asked WordsRefusal) (before now : Counts) (report : Report) : Type 0 where
   pub quiet : Quiet before now

@@ -2,7 +2,9 @@
 ghost use Rattle.std.specs.Prelude.{◌≡◌, ◌≤◌, ◌+◌, ℕ, IsTrue, IfOk};
 ghost use Rattle.ksi_imprint.specs.Imprints.{imprint_of};
 ghost use Rattle.ksi_auditor.specs.Audit as audits;
-ghost use Rattle.ksi_top.specs.Reports.{Reports};
+ghost use Rattle.ksi_top.specs.Reports.{Reports, Means, WhereRead};
+ghost use Rattle.ksi_top.specs.Headline.{IsAudited, IsAnswered};
+ghost use Rattle.ksi_top.specs.Loading.{content};
 ghost use Rattle.ksi_top.specs.Causes.{ReportCaused, IsJudged, counts};
 ghost use Rattle.ksi_top.specs.Audit.{audit_limits, audit_loads, audit_run, audited};
 
@@ -12,6 +14,7 @@ use crate::reading::{read_journal, read_publications, read_signature};
 use crate::report::{Halt, Report};
 use ksi_imprint::{Imprint, NoMemory, Sha};
 use ksi_journal::Journal;
+use ksi_auditor::laws::decided_tells;
 use ksi_ports::Files;
 use ksi_publications::Publications;
 use ksi_signature::Signature;
@@ -28,6 +31,7 @@ pub(crate) fn audit<F: Files>(
     publications: &str,
 ) -> Result<Report, Halt>
     ensures told { IsTrue F.tells → Reports (audit_run journal.now signature.now hash.now publications.now (F.held files.old)) result }
+    ensures headline { IsTrue F.tells → Means (WhereRead (IsAudited (content (F.held files.old) journal.now) (content (F.held files.old) signature.now) hash.now (content (F.held files.old) publications.now))) result }
     ensures stays { IsTrue F.tells → F.held files.new ≡ F.held files.old }
     ensures calls { IsTrue F.tells → F.calls files.new ≤ F.calls files.old + audit_loads journal.now signature.now (F.held files.old) }
     ensures few_calls { F.calls files.new ≤ F.calls files.old + 3 }
@@ -51,8 +55,11 @@ fn answer(
     publications: &Publications,
 ) -> Result<Report, NoMemory>
     ensures answer { IfOk result (λ report. report ≡ audited (audits.audit imprint_of journal.now signature.now hash.now publications.now)) }
+    ensures answered { IfOk result (IsAnswered journal.now signature.now hash.now publications.now) }
     ensures judged { IfOk result (λ report. IsJudged report) }
 {
+    decided_tells();
+    let _start = journal.start();
     let audit = ksi_auditor::audit::<Sha>(alloc, journal, signature, hash, publications);
     audited(alloc, &audit)
 }

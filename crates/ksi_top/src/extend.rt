@@ -3,7 +3,10 @@ ghost use Rattle.std.specs.Prelude.{◌≡◌, ◌≤◌, ◌<◌, ◌+◌, ◌^
 ghost use Rattle.ksi_imprint.specs.Imprints.{imprint_of};
 ghost use Rattle.ksi_extender.specs.Accepted.{first_time};
 ghost use Rattle.ksi_extender.specs.Extended.{extended};
-ghost use Rattle.ksi_top.specs.Reports.{Reports};
+ghost use Rattle.ksi_top.specs.Reports.{Reports, Means, WhereRead};
+ghost use Rattle.ksi_top.specs.declared.status.Status.TheVariants as statuses;
+ghost use Rattle.ksi_top.specs.Headline.{IsExtension, IsTakenOn};
+ghost use Rattle.ksi_top.specs.Loading.{content};
 ghost use Rattle.ksi_top.specs.Causes.{ReportCaused, IsJudged, counts};
 ghost use Rattle.ksi_top.specs.Extend.{extend_limits, extend_loads, extend_run, taken_on};
 
@@ -31,6 +34,7 @@ pub(crate) fn extend<F: Files>(
 ) -> Result<Report, Halt>
     requires { second < 2 ^ 63 }
     ensures told { IsTrue F.tells → Reports (extend_run journal.now signature.now second out.now (F.held files.old)) result }
+    ensures headline { IsTrue F.tells → Means (WhereRead (IsExtension (content (F.held files.old) journal.now) (content (F.held files.old) signature.now) second out.now)) result }
     ensures stays { IsTrue F.tells → F.held files.new ≡ F.held files.old }
     ensures calls { IsTrue F.tells → F.calls files.new ≤ F.calls files.old + extend_loads journal.now (F.held files.old) }
     ensures few_calls { F.calls files.new ≤ F.calls files.old + 2 }
@@ -66,6 +70,7 @@ fn taken_on(
 ) -> Result<Report, NoMemory>
     requires { publication < 2 ^ 63 }
     ensures taken { IfOk result (λ report. report ≡ taken_on second publication out.now (extended imprint_of journal.now bytes.now publication)) }
+    ensures extended { IfOk result (λ report. report.status ≡ statuses.Done → IsTakenOn journal.now bytes.now publication out.now report) }
     ensures judged { IfOk result (λ report. IsJudged report) }
 {
     match ksi_extender::extend::<Sha>(alloc, journal, bytes, publication) {

@@ -1,9 +1,10 @@
 // What a run reports, before anything is saved or put.
 ghost use Rattle.std.specs.Prelude.{◌≡◌, ◌≤◌, ◌+◌, ℕ, IsTrue, IfOk, IfErr};
-ghost use Rattle.ksi_top.specs.Reports.{Reports};
+ghost use Rattle.ksi_top.specs.Reports.{Reports, Means};
 ghost use Rattle.ksi_top.specs.Causes.{ReportCaused, counts};
 ghost use Rattle.ksi_top.specs.Run.{performed, limits_of, loads_of, most_loads, run_loads, refused, run};
-ghost use Rattle.ksi_top.specs.Top.{ReportedAs, RunCaused};
+ghost use Rattle.ksi_top.specs.Top.{ReportedAs, MeansUnlessCut, RunCaused};
+ghost use Rattle.ksi_top.specs.Headline.{Headline};
 ghost use Rattle.ksi_words.specs.declared.asked.WordsRefusal.TheVariants as refusals;
 ghost use Rattle.ksi_words.specs.Words.{IsEarly, asked, texts, command_of};
 
@@ -30,6 +31,7 @@ pub(crate) fn report_of<F: Files>(
     files: &mut F,
 ) -> Result<Report, Cut>
     ensures told { IsTrue F.tells → ReportedAs (run (texts words.now) (F.held files.old)) result }
+    ensures headline { IsTrue F.tells → IfOk (command_of (texts words.now)) (λ asked. MeansUnlessCut (Headline asked (F.held files.old)) result) }
     ensures stays { IsTrue F.tells → F.held files.new ≡ F.held files.old }
     ensures calls { IsTrue F.tells → F.calls files.new ≤ F.calls files.old + run_loads (command_of (texts words.now)) (F.held files.old) }
     ensures few_calls { IfOk (command_of (texts words.now)) (λ command. F.calls files.new ≤ F.calls files.old + most_loads command) }
@@ -54,6 +56,7 @@ pub(crate) fn report_of<F: Files>(
 fn perform<F: Files>(alloc: Global, files: &mut F, command: &Command<'_>) -> Result<Report, Halt>
     requires early { IsEarly command.now }
     ensures told { IsTrue F.tells → Reports (performed (asked command.now) (F.held files.old)) result }
+    ensures headline { IsTrue F.tells → Means (Headline (asked command.now) (F.held files.old)) result }
     ensures stays { IsTrue F.tells → F.held files.new ≡ F.held files.old }
     ensures calls { IsTrue F.tells → F.calls files.new ≤ F.calls files.old + loads_of (asked command.now) (F.held files.old) }
     ensures few_calls { F.calls files.new ≤ F.calls files.old + most_loads (asked command.now) }

@@ -1,17 +1,25 @@
 // The command `replay`.
 ghost use Rattle.std.specs.Prelude.{◌≡◌, ◌≤◌, ◌+◌, IsTrue, IfOk};
-ghost use Rattle.ksi_top.specs.Reports.{Reports};
+ghost use Rattle.ksi_top.specs.Reports.{Reports, Means, WhereRead};
+ghost use Rattle.ksi_imprint.specs.Imprints.{imprint_of};
+ghost use Rattle.ksi_journal.specs.File.{IsJournalFile};
+ghost use Rattle.ksi_journal.specs.Written.{journal_text};
+ghost use Rattle.ksi_replay.specs.Journals.{journal_of};
+ghost use Rattle.ksi_top.specs.Headline.{IsReplayed};
+ghost use Rattle.ksi_top.specs.Lawful.{IsLawful, AreTexts};
+ghost use Rattle.ksi_top.specs.Loading.{content};
 ghost use Rattle.ksi_top.specs.Causes.{ReportCaused, IsJudged, counts};
 ghost use Rattle.ksi_top.specs.Replay.{replay_limits, replay_run, replayed, replayed_as, counted};
 ghost use Rattle.ksi_top.specs.Lines.{replayed_line};
 
+use crate::headline::histories_hold;
 use crate::line::Line;
 use crate::loading::{FILE_LIMIT, load_file};
 use crate::printed::Word::{Number, Text};
 use crate::printed::print;
 use crate::reading::read_schedule;
 use crate::report::{Halt, Report, Saved};
-use ksi_imprint::{NoMemory, Sha};
+use ksi_imprint::{Bytes, NoMemory, Sha};
 use ksi_journal::Journal;
 use ksi_ports::Files;
 use ksi_replay::journal_of;
@@ -28,11 +36,13 @@ pub(crate) fn replay<F: Files>(
     journal: &str,
 ) -> Result<Report, Halt>
     ensures told { IsTrue F.tells → Reports (replay_run schedule.now journal.now (F.held files.old)) result }
+    ensures headline { IsTrue F.tells → Means (WhereRead (IsReplayed (content (F.held files.old) schedule.now) journal.now)) result }
     ensures stays { IsTrue F.tells → F.held files.new ≡ F.held files.old }
     ensures calls { F.calls files.new ≤ F.calls files.old + 1 }
     ensures later { F.calls files.old ≤ F.calls files.new }
     ensures causes { ReportCaused replay_limits (counts (F.faults files.old) (F.taken files.old)) (counts (F.faults files.new) (F.taken files.new)) result }
 {
+    histories_hold();
     let bytes = load_file(alloc, files, FILE_LIMIT, 1, schedule)?;
     let schedule = read_schedule(alloc, 1, bytes.as_slice())?;
     Ok(replayed(alloc, journal, &schedule)?)
@@ -40,6 +50,7 @@ pub(crate) fn replay<F: Files>(
 
 fn replayed(alloc: Global, name: &str, schedule: &Schedule) -> Result<Report, NoMemory>
     ensures replayed { IfOk result (λ report. report ≡ replayed name.now schedule.now) }
+    ensures lawful { IfOk result (λ _. IsLawful (journal_of imprint_of schedule.now)) }
     ensures judged { IfOk result (λ report. IsJudged report) }
 {
     let world = ksi_replay::replay::<Sha>(alloc, schedule)?;
@@ -49,11 +60,27 @@ fn replayed(alloc: Global, name: &str, schedule: &Schedule) -> Result<Report, No
 /// The journal of a world, saved under a name.
 fn kept(alloc: Global, name: &str, world: &World<Sha>) -> Result<Report, NoMemory>
     ensures replayed { IfOk result (λ report. report ≡ replayed name.now world.now) }
+    ensures lawful { IfOk result (λ _. IsLawful (journal_of imprint_of world.now)) }
     ensures judged { IfOk result (λ report. IsJudged report) }
 {
     let journal = journal_of(alloc, world)?;
+    let _start = journal.start();
+    are_texts(journal.issued());
     saving(alloc, name, world, &journal)
 }
+
+/// Signatures are bytes, as their type keeps it.
+fn are_texts(issued: &[(u64, Bytes)])
+    ensures { AreTexts issued.now }
+{
+    'texts: for signature in issued {
+        is_text(signature.1.as_slice());
+    }
+}
+
+fn is_text(_text: &[u8])
+    ensures { AreBytes _text.now }
+{}
 
 fn saving(
     alloc: Global,
