@@ -1,12 +1,10 @@
 -- The journal of what the cores keep keeps their roots.
-use Rattle.std.proofs.Common.{◌≡◌, ◌≢◌, ℕ, zero, suc, ◌+◌, ◌-◌, ◌^◌, ◌<◌, ◌≤◌, Bool, true, false, leb, cond, List, [], ◌∷◌, map, refl, sym, ap, ◌∙◌, arith, inl, inr, ◌⊎◌, Option, Some, None}
+use Rattle.std.proofs.Common.{◌≡◌, ◌≢◌, ℕ, zero, suc, ◌+◌, ◌^◌, ◌<◌, ◌≤◌, Bool, true, false, leb, cond, List, map, refl, sym, ap, ◌∙◌, arith, inl, inr, ◌⊎◌, Option, Some, None}
 use Rattle.std.specs.Prelude.{option_map}
 use Rattle.std.proofs.lemmas.Bool.{cases_eq, eq-eqb, ne_eqb, leb-true, leb-false}
-use Rattle.ksi_aggchain.specs.declared.item.Item.{Item}
 use Rattle.ksi_journal.specs.declared.second.Second.{Second}
-use Rattle.ksi_journal.specs.Journal.{contents, kept_among, root_of, root_at}
+use Rattle.ksi_journal.specs.Journal.{kept_among, root_of, root_at}
 use Rattle.ksi_schedule.specs.Plans.{PlanState, InRange}
-use Rattle.ksi_world.specs.declared.kept.KeptSecond.{KeptSecond}
 use Rattle.ksi_world.specs.Histories.{WorldState}
 use Rattle.ksi_world.specs.Records as records
 use Rattle.ksi_world.specs.Records.{kept_root, kept_with, kept_items, kept_at, kept_seconds}

@@ -1,5 +1,5 @@
 -- Issued signatures are taken on and accepted.
-use Rattle.std.proofs.Common.{◌≡◌, ◌≢◌, ℕ, ◌+◌, ◌^◌, ◌<◌, ◌≤◌, Bool, true, false, List, ◌∷◌, length, refl, sym, ap, subst, ◌∙◌, arith, is_some, Option, Some, nat_lt, nat_le}
+use Rattle.std.proofs.Common.{◌≡◌, ℕ, ◌+◌, ◌^◌, ◌<◌, ◌≤◌, Bool, true, false, List, ◌∷◌, length, refl, sym, ap, subst, ◌∙◌, arith, is_some, Some, nat_lt, nat_le}
 use Rattle.std.specs.Prelude.{◌↔◌, ◌&&◌, Ok, IsTrue, slice_get}
 use Rattle.std.proofs.lemmas.Bool.{ltb-true}
 use Rattle.ksi_imprint.specs.Imprints.{IsImprint}
@@ -21,7 +21,7 @@ use Rattle.ksi_verifier.specs.declared.aggregated.Aggregated.{Aggregated}
 use Rattle.ksi_verifier.specs.declared.verdict.Verdict.TheVariants.{Accepted}
 use Rattle.ksi_verifier.specs.ChainChecks.{aggregated}
 use Rattle.ksi_verifier.specs.Verdict.{root_of, verdict}
-use Rattle.ksi_journal.specs.Journal.{Contents, root_at}
+use Rattle.ksi_journal.specs.Journal.{Contents}
 use Rattle.ksi_journal.specs.Calendar.{calendar_of, leaf_at}
 use Rattle.ksi_journal.specs.Calendar as calendars
 use Rattle.ksi_extender.specs.Extended.{chain_to, record_to, extended}
@@ -31,7 +31,6 @@ use Rattle.ksi_auditor.specs.Shown.{IsDecided, Shows, Tells}
 use Rattle.ksi_schedule.specs.Plans.{PlanState}
 use Rattle.ksi_world.specs.declared.outcome.Asked.{Asked}
 use Rattle.ksi_world.specs.Histories.{WorldState}
-use Rattle.ksi_world.specs.Records.{kept_root}
 use Rattle.ksi_world.specs.Joined.{ChainsClimb, IsCovered, IsJoined}
 use Rattle.ksi_history.specs.Lasting.{KeepsRoots, Publish, LastsTo}
 
@@ -74,6 +73,10 @@ module _ (plan : PlanState) (w : WorldState) (journal : Contents) (keeps : Keeps
     from = subst (λ start. start ≤ p) (sym keeps.start) from;
     kept = λ t le to. ap is_some (keeps.roots t) ∙ covered t (subst (λ start. start ≤ t) keeps.start le) to;
   }
+
+  -- and the other way round
+  pub covered_back : (p : ℕ) → calendars.IsCovered journal p → IsCovered plan w p
+  covered_back p covered t from to = ap is_some (sym (keeps.roots t)) ∙ covered.kept t (subst (λ start. start ≤ t) (sym keeps.start) from) to
 
   module _ (image : List ℕ → List ℕ) (laws : Laws image journal) where
     -- the calendar chain leads to the root

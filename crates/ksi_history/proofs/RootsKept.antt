@@ -1,10 +1,11 @@
 -- What was published is the root of the journal's calendar.
-use Rattle.std.proofs.Common.{◌≡◌, ℕ, zero, suc, ◌+◌, ◌-◌, ◌<◌, ◌≤◌, Bool, true, false, List, refl, sym, ap, ◌∙◌, arith, Option, nat_lt, if◌then◌else◌}
-use Rattle.std.specs.Prelude.{slice_index_or, unwrap_or}
-use Rattle.std.proofs.lemmas.Bool.{ltb-false}
+use Rattle.std.proofs.Common.{◌≡◌, ℕ, zero, suc, ◌+◌, ◌-◌, ◌<◌, ◌≤◌, Bool, true, false, List, [], ◌∷◌, refl, sym, ap, ◌∙◌, arith, Option, Some, nat_lt, if◌then◌else◌}
+use Rattle.std.specs.Prelude.{◌==◌, slice_get, slice_index_or, unwrap_or}
+use Rattle.std.proofs.lemmas.Bool.{eq-eqb, eqb-true, ltb-false}
 use Rattle.ksi_imprint.specs.Imprints.{zero_imprint}
 use Rattle.ksi_calendar.specs.Calendar.{Seconds, calendar_leaf, calendar_tree}
 use Rattle.ksi_corenode.specs.Held.{Held, roots_among, held_seconds}
+use Rattle.ksi_publications.specs.Finding.{find}
 use Rattle.ksi_journal.specs.Journal.{Contents, root_at}
 use Rattle.ksi_journal.specs.Calendar.{leaf_at, calendar_of}
 use Rattle.ksi_journal.specs.Calendar as calendars
@@ -13,6 +14,22 @@ use Rattle.ksi_world.specs.Histories.{WorldState}
 use Rattle.ksi_world.specs.Records.{kept_root}
 use Rattle.ksi_world.specs.Joined.{IsRootOf}
 use Rattle.ksi_history.specs.Lasting.{KeepsRoots}
+
+-- where all pairs of a time have one root, and there is one, it is found
+pub found_root : (pairs : List (ℕ × List ℕ)) (p : ℕ) (root : List ℕ) → ((k : ℕ) (other : List ℕ) → slice_get pairs k ≡ Some (p, other) → other ≡ root) → (k : ℕ) (one : List ℕ) → slice_get pairs k ≡ Some (p, one) → find p pairs ≡ Some root
+found_root [] p root all k one at = absurd (cc at)
+found_root (pair ∷ pairs) p root all k one at = by (pair.0 == p) refl k at (λ k at. found_root pairs p root (λ k other there. all (suc k) other there) k one at)
+  where
+    by : (b : Bool) → (pair.0 == p) ≡ b → (k : ℕ) → slice_get (pair ∷ pairs) k ≡ Some (p, one) → ((k : ℕ) → slice_get pairs k ≡ Some (p, one) → find p pairs ≡ Some root)
+        → (if b then Some pair.1 else find p pairs) ≡ Some root
+    by true is k at rest =
+        let same : pair ≡ (p, pair.1) = ap (λ (t : ℕ). (t, pair.1)) (eqb-true pair.0 p is) in
+        ap (λ (root : List ℕ). Some root) (all 0 pair.1 (ap (λ (x : ℕ × List ℕ). Some x) same))
+    by false is zero at rest =
+        let same : pair ≡ (p, one) = cc at in
+        let time : pair.0 ≡ p = ap (λ (x : ℕ × List ℕ). x.0) same in
+        absurd (cc (sym is ∙ eq-eqb pair.0 p time))
+    by false is (suc k) at rest = rest k at
 
 -- what is held for the k-th of n seconds
 among : (held : Held) (s n k : ℕ) → k < n → slice_index_or (roots_among held s n) k zero_imprint ≡ unwrap_or (held (s + k)) zero_imprint

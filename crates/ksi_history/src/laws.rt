@@ -17,7 +17,8 @@ ghost use Rattle.ksi_world.specs.Histories.{after, world_of};
 ghost use Rattle.ksi_world.specs.Joined.{ChainsClimb, IsCovered};
 ghost use Rattle.ksi_world.specs.Records.{issued_of};
 ghost use Rattle.ksi_replay.specs.Journals.{journal_of};
-ghost use Rattle.ksi_history.specs.Lasting.{KeepsRoots, LastsTo};
+ghost use Rattle.ksi_history.specs.Joined.{Joined};
+ghost use Rattle.ksi_history.specs.Lasting.{KeepsRoots, LastsTo, Publish};
 
 use ksi_auditor::laws::{audit_shows, decided_tells};
 use ksi_calchain::laws::one_climb;
@@ -26,7 +27,7 @@ use ksi_extender::{covered_is_extended, extended_is_accepted};
 use ksi_journal::laws::calendar_is_covered;
 use ksi_signature::issued_is_signature;
 use ksi_verifier::laws::aggregation;
-use ksi_world::laws::{issued_is_carried, published_roots, validity};
+use ksi_world::laws::{issued_is_carried, issued_is_joined, published_roots, validity};
 
 /// Chains that climb from an imprint at level 0 to an item pass the checks of aggregation chains, as they are issued: they
 /// lead to this item, in the second that they were issued for.
@@ -63,7 +64,7 @@ pub fn issued_lasts()
 }
 
 /// Each pair that was published, at any moment, is a second that is covered at the end, with the root of the journal's
-/// calendar to it, whichever core published it.
+/// calendar to it, whichever core published it. So what was published publishes each of its seconds as the journal has it.
 pub fn published_is_kept()
     ensures covered { (image : List ℕ → List ℕ) (plan : PlanState) (before later : List Event) (journal : Contents) →
         IsPlan plan → AreEvents plan (before ++ later) → KeepsRoots plan (after image plan (before ++ later)) journal →
@@ -73,10 +74,27 @@ pub fn published_is_kept()
         KeepsRoots plan (after image plan (before ++ later)) journal →
         (k p : ℕ) (root : List ℕ) → slice_get (after image plan before).published k ≡ Some (p, root) →
         root ≡ calendars.kept_root image journal p }
+    ensures publish { (image : List ℕ → List ℕ) (plan : PlanState) (before later : List Event) (journal : Contents) →
+        IsPlan plan → AreEvents plan (before ++ later) → IsJournal image journal →
+        KeepsRoots plan (after image plan (before ++ later)) journal →
+        (k p : ℕ) (root : List ℕ) → slice_get (after image plan before).published k ≡ Some (p, root) →
+        Publish image journal p (after image plan before).published }
 {
     calendar_is_covered();
     one_calendar();
     published_roots();
+}
+
+/// After every history, what was issued lasts and what was published is kept, over a journal that keeps what the cores
+/// keep. What is hashed, and what was asked for, are imprints.
+pub fn history_is_joined()
+    ensures { (image : List ℕ → List ℕ) (history : History) (journal : Contents) → ((bytes : List ℕ) → IsImprint (image bytes)) →
+        IsPlan history.plan → AreEvents history.plan history.events → AskForImprints history.events →
+        IsJournal image journal → KeepsRoots history.plan (world_of image history) journal → Joined image history journal }
+{
+    issued_is_joined();
+    issued_lasts();
+    published_is_kept();
 }
 
 /// The journal of a history keeps the roots that its cores keep.

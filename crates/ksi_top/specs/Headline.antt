@@ -1,8 +1,6 @@
 -- The headline: what the result of a command means, over the files that were held.
-use Rattle.std.specs.Prelude.{◌≡◌, ◌≢◌, ◌≤◌, ◌++◌, ℕ, List, length, slice_get, Some}
-use Rattle.std.specs.List.{AllByRecursion}
+use Rattle.std.specs.Prelude.{◌≡◌, ◌≢◌, ◌++◌, ℕ, List, slice_get, Some}
 use Rattle.ksi_imprint.specs.Imprints.{imprint_of, zero_imprint}
-use Rattle.ksi_tlv.specs.Spelling.{AreBytes}
 use Rattle.ksi_ports.specs.Stored.{Held}
 use Rattle.ksi_signature.specs.declared.signature.Signature.{Signature}
 use Rattle.ksi_signature.specs.File.{IsSignature}
@@ -12,17 +10,14 @@ use Rattle.ksi_verifier.specs.Verdict.{verdict}
 use Rattle.ksi_schedule.specs.declared.event.Event.{Event}
 use Rattle.ksi_schedule.specs.Events.{History}
 use Rattle.ksi_schedule.specs.Spelled.{IsScheduleText}
-use Rattle.ksi_world.specs.declared.outcome.Asked as requests
 use Rattle.ksi_world.specs.Histories.{held_in, after, world_of}
-use Rattle.ksi_world.specs.Joined.{IsCovered, IsJoined}
 use Rattle.ksi_world.specs.Records.{issued_of}
 use Rattle.ksi_world.specs.Validity.{IsProposed}
-use Rattle.ksi_journal.specs.Journal.{Contents, IsJournal}
-use Rattle.ksi_journal.specs.Calendar as calendars
+use Rattle.ksi_journal.specs.Journal.{Contents}
 use Rattle.ksi_journal.specs.File.{IsJournalFile}
 use Rattle.ksi_journal.specs.Written.{journal_text}
 use Rattle.ksi_replay.specs.Journals.{journal_of}
-use Rattle.ksi_history.specs.Lasting.{LastsTo}
+use Rattle.ksi_history.specs.Joined.{IsPublished, Lasts}
 use Rattle.ksi_extender.specs.Accepted.{IsExtended}
 use Rattle.ksi_auditor.specs.declared.answer.Audit.{Audit}
 use Rattle.ksi_auditor.specs.Audit as audits
@@ -46,17 +41,12 @@ pub record HoldsOver (history : History) : Type 0 where
   -- a held root, other than that of a missed second, is the root of items that a core sealed for this second
   pub validity : (core second : ℕ) (root : List ℕ) → held_in (world_of imprint_of history) core second ≡ Some root → root ≢ zero_imprint →
       IsProposed imprint_of history.plan (world_of imprint_of history) second root
-  -- what is issued climbs from the request's imprint to the root that is kept for its second; all seconds up to it are kept
-  pub joined : (number : ℕ) (text : List ℕ) → issued_of imprint_of (world_of imprint_of history) number ≡ Some text →
-      IsJoined imprint_of history.plan (world_of imprint_of history) number text
-  -- it is taken on to each later second to which all are kept, and is then accepted; and an audit tells where it stands
-  pub lasts : (number : ℕ) (asked : requests.Asked) (text : List ℕ) (p : ℕ) → slice_get (world_of imprint_of history).requests number ≡ Some asked →
-      issued_of imprint_of (world_of imprint_of history) number ≡ Some text → asked.second ≤ p → IsCovered history.plan (world_of imprint_of history) p →
-      LastsTo imprint_of (journal_of imprint_of history) asked text p
+  -- what was issued is taken on to each covered second from its own on, and is then accepted; an audit tells where it stands
+  pub lasts : (number : ℕ) (text : List ℕ) → issued_of imprint_of (world_of imprint_of history) number ≡ Some text →
+      Lasts imprint_of history (journal_of imprint_of history) number text
   -- what any core published, at any moment, is the root of the calendar over what is kept
-  pub published : (before later : List Event) (k p : ℕ) (root : List ℕ) → history.events ≡ before ++ later →
-      slice_get (after imprint_of history.plan before).published k ≡ Some (p, root) →
-      calendars.IsCovered (journal_of imprint_of history) p × (root ≡ calendars.kept_root imprint_of (journal_of imprint_of history) p)
+  pub published : (before later : List Event) → history.events ≡ before ++ later → (k p : ℕ) (root : List ℕ) →
+      slice_get (after imprint_of history.plan before).published k ≡ Some (p, root) → IsPublished imprint_of (journal_of imprint_of history) p root
 
 -- the schedule spells a history; what is saved is the journal of what its cores kept and published and what was issued,
 -- and is read as this journal

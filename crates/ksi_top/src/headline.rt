@@ -9,10 +9,10 @@ ghost use Rattle.ksi_replay.specs.Journals.{journal_of};
 ghost use Rattle.ksi_top.specs.Headline.{HoldsOver};
 ghost use Rattle.ksi_top.specs.Lawful.{IsLawful};
 
-use ksi_history::laws::{issued_lasts, journal_keeps_roots, published_is_kept};
+use ksi_history::laws::{history_is_joined, journal_keeps_roots};
 use ksi_journal::laws::written_is_journal;
 use ksi_schedule::spelled_is_schedule;
-use ksi_world::laws::{agreement, all_issued, issued_is_joined, validity};
+use ksi_world::laws::{agreement, all_issued, validity};
 
 /// What holds over every history that a schedule spells, where its journal is one.
 pub(crate) fn histories_hold()
@@ -24,10 +24,8 @@ pub(crate) fn histories_hold()
     spelled_is_schedule();
     agreement();
     validity();
-    issued_is_joined();
     all_issued();
     journal_keeps_roots();
-    issued_lasts();
-    published_is_kept();
+    history_is_joined();
     written_is_journal();
 }
