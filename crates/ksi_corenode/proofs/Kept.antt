@@ -32,16 +32,6 @@ kept_lasts old new start (Some calendar) lasts kept = record {
   roots = λ t from below. lasts t (calendar_leaf calendar t) (kept.roots t from below);
 }
 
--- nothing is held before anything came
-pub kept_new : (held : Held) (start : ℕ) (calendar : Seconds) → start ≤ 2 ^ 63 → calendar ≡ record { start = start; roots = [] } → IsKept held start calendar
-kept_new held start calendar few is =
-    let none : length calendar.roots ≡ 0 = ap (λ (s : Seconds). length s.roots) is in
-    record {
-      begins = ap (λ (s : Seconds). s.start) is;
-      most = omega (arith, none, few);
-      roots = λ t from below. absurd (omega (arith, none, from, below));
-    }
-
 -- THE CALENDAR IS TAKEN ON
 
 -- the leaf of a second from the start on
@@ -51,41 +41,6 @@ leaf_from seconds t from = cond-false (ltb t seconds.start) zero_imprint (get_or
 -- the leaf of a second before the start
 leaf_before : (seconds : Seconds) (t : ℕ) → t < seconds.start → calendar_leaf seconds t ≡ zero_imprint
 leaf_before seconds t before = cond-true (ltb t seconds.start) zero_imprint (get_or seconds.roots (t - seconds.start) zero_imprint) (lt-ltb t seconds.start before)
-
-pub kept_append : (held : Held) (start last : ℕ) (calendar after : Seconds) (root : List ℕ) → IsKept held start calendar →
-    last < 2 ^ 63 → start + length calendar.roots < last + 1 → held (start + length calendar.roots) ≡ Some root →
-    after ≡ record { start = calendar.start; roots = calendar.roots ++ root ∷ [] } → IsKept held start after
-kept_append held start last calendar after root kept below within holds is = subst (IsKept held start) (sym is) (record {
-  begins = kept.begins;
-  most = omega (arith, counts, below, within);
-  roots = λ t from before.
-      let at_most : t ≤ start + length calendar.roots = omega (arith, counts, before) in
-      elim (eq-or-lt_of_le at_most) [
-        | inl same ↦ subst (λ (u : ℕ). held u ≡ Some (calendar_leaf more u)) (sym same) (holds ∙ ap Some (sym newest))
-        | inr earlier ↦ kept.roots t from earlier ∙ ap Some (sym (older t from earlier))
-      ];
-})
-  where
-    more : Seconds
-    more = record { start = calendar.start; roots = calendar.roots ++ root ∷ [] }
-
-    counts : length more.roots ≡ length calendar.roots + 1
-    counts = length-append calendar.roots (root ∷ [])
-
-    newest : calendar_leaf more (start + length calendar.roots) ≡ root
-    newest =
-        let from : calendar.start ≤ start + length calendar.roots = omega (arith, kept.begins) in
-        let place : start + length calendar.roots - calendar.start ≡ length calendar.roots = omega (arith, kept.begins) in
-        leaf_from more (start + length calendar.roots) from
-        ∙ ap (λ (k : ℕ). get_or more.roots k zero_imprint) place
-        ∙ get_or-append_seam calendar.roots root [] zero_imprint
-
-    older : (t : ℕ) → start ≤ t → t < start + length calendar.roots → calendar_leaf more t ≡ calendar_leaf calendar t
-    older t from before =
-        let after : calendar.start ≤ t = omega (arith, kept.begins, from) in
-        leaf_from more t after
-        ∙ get_or_append_left calendar.roots (root ∷ []) zero_imprint (t - calendar.start) (omega (arith, kept.begins, from, before))
-        ∙ sym (leaf_from calendar t after)
 
 is_held : (held : Held) (t : ℕ) (root : List ℕ) → held t ≡ Some root → IsSome (held t)
 is_held held t root is = ap (λ (o : Option (List ℕ)). is_some o) is
@@ -169,11 +124,6 @@ kept_write me members start second old new calendar before after there written s
     (held_by (record { me = me; members = members; start = start; kept = old })) (held_by (record { me = me; members = members; start = start; kept = new })) start calendar
     (λ t d holds. subst (λ (es : List (ℕ × SecondState)). (unwrap_or (lookup (is_at (nat_cmp t)) es) (fresh_second me members t)).vote.held ≡ Some d) (sym written)
     (lasts_write (fresh_second me members t) (is_at (nat_cmp second)) (is_at (nat_cmp t)) old before after there still d holds))
-
--- where each second is as it was, so is what is kept
-pub kept_same : (old new : CoreState) (calendar : Option Seconds) (start : ℕ) → ((t : ℕ) → second_at new t ≡ second_at old t) →
-    IfSome calendar (IsKept (held_by old) start) → IfSome calendar (IsKept (held_by new) start)
-kept_same old new calendar start same = kept_lasts (held_by old) (held_by new) start calendar (λ t d is. ap (λ (s : SecondState). s.vote.held) (same t) ∙ is)
 
 -- WHAT IS PUBLISHED
 

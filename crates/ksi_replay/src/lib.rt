@@ -11,8 +11,10 @@
 #![tactic(auto)]
 
 mod journal;
-mod replay;
+mod replaying;
+#[cfg(test)]
+mod tests;
 
 pub use journal::journal_of;
 pub use ksi_imprint::NoMemory;
-pub use replay::replay;
+pub use replaying::replay;

@@ -83,18 +83,14 @@ module _ (image : List ℕ → List ℕ) (w : WorldState) (number : ℕ) where
             record {
               asked = asked;
               accepted = accepted;
-              issued = (
-                asked.second,
-                x.0,
-                record {
-                  entries = entries;
-                  above = above;
-                  item = x.1;
-                  answered = record { closed = c; answered = a };
-                  request = subst (λ k. slice_get entries k ≡ Some (from_request number x.1)) (sym at) r.2;
-                  text = sym text;
-                },
-              );
+              issued = (asked.second, x.0, record {
+                entries = entries;
+                above = above;
+                item = x.1;
+                answered = record { closed = c; answered = a };
+                request = subst (λ k. slice_get entries k ≡ Some (from_request number x.1)) (sym at) r.2;
+                text = sym text;
+              });
             }
 
   pub issued_there : (bytes : List ℕ) → issued_of image w number ≡ Some bytes → IsIssuedOf image w number bytes
@@ -111,10 +107,10 @@ module _ (image : List ℕ → List ℕ) (w : WorldState) (number : ℕ) where
   issued_is numbered bytes p =
       ap (issued_for image w number) p.accepted
       ∙ subst (λ t. issued_where image t number (w.rounds k t).closed (w.rounds k t).answered ≡ Some bytes) second_is (
-      ap (λ closed. issued_where image t number closed (w.rounds k t).answered) at.answered.closed
-      ∙ ap (λ answered. issued_where image t number (Some at.entries) answered) at.answered.answered
-      ∙ ap (option_map (λ (placed : ℕ × Item). issued_text image t at.entries placed.0 placed.1 at.above)) placed
-      ∙ sym (ap Some at.text))
+        ap (λ closed. issued_where image t number closed (w.rounds k t).answered) at.answered.closed
+        ∙ ap (λ answered. issued_where image t number (Some at.entries) answered) at.answered.answered
+        ∙ ap (option_map (λ (placed : ℕ × Item). issued_text image t at.entries placed.0 placed.1 at.above)) placed
+        ∙ sym (ap Some at.text))
     where
       k : ℕ
       k = p.asked.aggregator

@@ -1,5 +1,6 @@
 -- What a step of the vote leaves: the candidate, and what is held but for the messages that decide.
-use Rattle.std.proofs.Common.{◌≡◌, ℕ, Bool, true, ◌&&◌, eqb, ltb, List, refl, sym, ◌∙◌, ◌⊎◌, inl, inr, Option, Some, None}
+use Rattle.std.proofs.Common.{◌≡◌, ℕ, Bool, true, ◌&&◌, eqb, ltb, List, refl, sym, ap, ◌∙◌, ◌⊎◌, inl, inr, Option, Some, None}
+use Rattle.std.specs.Prelude.{unwrap_or}
 use Rattle.std.proofs.lemmas.Bool.{cond_both}
 use Rattle.ksi_synod.specs.declared.messages.LastVote.{LastVote}
 use Rattle.ksi_synod.specs.declared.messages.SynodMessage.{SynodMessage}
@@ -16,10 +17,11 @@ pub record IsQuiet (s after : VoteState) : Type 0 where
   pub candidate : after.candidate ≡ s.candidate
   pub held : after.held ≡ s.held
 
--- the candidate stays, and so does what is held, where the message is none that decides
+-- the candidate stays, and so does what is held; nothing comes to be held but by a message that decides
 pub record Leaves (s : VoteState) (m : SynodMessage) (after : VoteState) : Type 0 where
   pub candidate : after.candidate ≡ s.candidate
   pub held : (d : List ℕ) → after.held ≡ Some d → (s.held ≡ Some d) ⊎ (decides_vote m ≡ true)
+  pub stays : (d : List ℕ) → s.held ≡ Some d → after.held ≡ Some d
 
 module _ (s : VoteState) where
   same : IsQuiet s s
@@ -65,8 +67,29 @@ module _ (s : VoteState) where
       by None = refl
       by (Some h) = refl
 
+  stays_voted : (from b : ℕ) (d : List ℕ) → s.held ≡ Some d → (on_voted s from b).0.held ≡ Some d
+  unfolding on_voted
+  stays_voted from b d is = by s.hand
+    where
+      for_by : (h : Hand) (o : Option (List ℕ)) → (on_voted_for o h s from).0.held ≡ Some d
+      for_by h None = is
+      for_by h (Some e) = cond_both (completes s.voters h (with_voted h from)) _ _ (λ (r : VoteState × Took). r.0.held ≡ Some d)
+          (λ _. ap (λ held. Some (unwrap_or held e)) is) (λ _. is)
+
+      by : (o : Option Hand) → (on_voted_of o s from b).0.held ≡ Some d
+      by None = is
+      by (Some h) = for_by h (voted_for s.voters (Some h) from b)
+
+  stays_success : (d e : List ℕ) → s.held ≡ Some e → (on_success s d).0.held ≡ Some e
+  unfolding on_success
+  stays_success d e is = by s.held refl
+    where
+      by : (o : Option (List ℕ)) → s.held ≡ o → (on_success_of o s d).0.held ≡ Some e
+      by None none = absurd (cc (none, is))
+      by (Some h) some = is
+
   leaves_quiet : (m : SynodMessage) (after : VoteState) → IsQuiet s after → Leaves s m after
-  leaves_quiet m after quiet = record { candidate = quiet.candidate; held = λ d is. inl (sym quiet.held ∙ is) }
+  leaves_quiet m after quiet = record { candidate = quiet.candidate; held = λ d is. inl (sym quiet.held ∙ is); stays = λ d is. quiet.held ∙ is }
 
   -- A MESSAGE
   pub receive_leaves : (from : ℕ) (m : SynodMessage) → Leaves s m (receive s from m).0
@@ -74,8 +97,8 @@ module _ (s : VoteState) where
   receive_leaves from (message.NextBallot b) = leaves_quiet (message.NextBallot b) _ (quiet_next b)
   receive_leaves from (message.LastVote l) = leaves_quiet (message.LastVote l) _ (quiet_last from l)
   receive_leaves from (message.BeginBallot b d) = leaves_quiet (message.BeginBallot b d) _ (quiet_begin b d)
-  receive_leaves from (message.Voted b) = record { candidate = candidate_voted from b; held = λ d is. inr refl }
-  receive_leaves from (message.Success d) = record { candidate = candidate_success d; held = λ e is. inr refl }
+  receive_leaves from (message.Voted b) = record { candidate = candidate_voted from b; held = λ d is. inr refl; stays = stays_voted from b }
+  receive_leaves from (message.Success d) = record { candidate = candidate_success d; held = λ e is. inr refl; stays = stays_success d }
 
   -- A BALLOT
   pub try_leaves : IsQuiet s (try_ballot s).0

@@ -23,3 +23,10 @@ pub mod Listed
 pub mod Numbered
 pub mod IssuedOf
 pub mod IssuedAll
+pub mod Covering
+pub mod Growing
+pub mod Rooted
+pub mod Joining
+pub mod JoinedTurns
+pub mod JoinedRows
+pub mod IssuedJoined

@@ -139,7 +139,7 @@ module _ (image : List ℕ → List ℕ) (plan : PlanState) where
   round_numbered : (w : WorldState) (k t : ℕ) (turn : RoundTurn) → IsNumberedRound w.requests k t turn.after → IsNumbered w → IsNumbered (at_round plan w k t turn).world
   round_numbered w k t turn round is i u = cond_both (eqb i k && eqb u t) turn.after (w.rounds i u) (λ r. IsNumberedRound w.requests i u r)
       (λ here. let same = and_parts (eqb i k) (eqb u t) here in
-      subst (λ i. IsNumberedRound w.requests i u turn.after) (sym (eqb-true i k same.0)) (subst (λ u. IsNumberedRound w.requests k u turn.after) (sym (eqb-true u t same.1)) round))
+        subst (λ i. IsNumberedRound w.requests i u turn.after) (sym (eqb-true i k same.0)) (subst (λ u. IsNumberedRound w.requests k u turn.after) (sym (eqb-true u t same.1)) round))
       (λ _. is i u)
 
   stays_numbered : (w : WorldState) (k t : ℕ) (answer : Answer) → IsNumbered w → IsNumbered (at_round plan w k t (round_still (w.rounds k t) answer)).world

@@ -34,7 +34,7 @@ none_sealed None is = refl
 none_sealed (Some x) is = absurd (cc is)
 
 module _ (image : List ℕ → List ℕ) (plan : PlanState) where
-  abbrev Voted : WorldState → Type 0
+  abbrev pub Voted : WorldState → Type 0
   Voted w = IsVoted image plan w.seconds w.wire
 
   module _ (w : WorldState) (voted : Voted w) where
@@ -167,7 +167,7 @@ module _ (image : List ℕ → List ℕ) (plan : PlanState) where
       told = λ i t d. cond_both (eqb i j) (restart_row (w.seconds i t)) (w.seconds i t) (λ s. s.vote.held ≡ Some d → IsTold w.wire t) (λ _. voted.told i t d) (λ _. voted.told i t d);
     }
 
-    happens_voted : (e : Event) → plan.cores ≤ 9 → IsEvent plan e → Voted (happens image plan w e).world
+    pub happens_voted : (e : Event) → plan.cores ≤ 9 → IsEvent plan e → Voted (happens image plan w e).world
     unfolding happens
     happens_voted (events.Request k u imprint) few at = round_voted image plan w.seconds w.wire voted k u (round_request (length w.requests) imprint (w.rounds k u)).sends
     happens_voted (events.Close k u) few at = round_voted image plan w.seconds w.wire voted k u (round_close image (w.rounds k u)).sends
@@ -186,7 +186,7 @@ module _ (image : List ℕ → List ℕ) (plan : PlanState) where
   run_voted few [] w are voted = voted
   run_voted few (e ∷ es) w are voted = run_voted few es (happens image plan w e).world are.1 (happens_voted w voted e few are.0)
 
-  first_voted : Voted (first_world plan)
+  pub first_voted : Voted (first_world plan)
   unfolding first_world fresh_second fresh_vote
   first_voted = record {
     vote = λ t. record { said = []; reached = start (λ k. refl); heard = λ k x at second from sender m content. absurd (cc at) };

@@ -38,7 +38,7 @@ get_before [] ys k x at = absurd (cc at)
 get_before (y ∷ xs) ys zero x at = at
 get_before (y ∷ xs) ys (suc k) x at = get_before xs ys k x at
 
-put_same : {A : Type 0} (f : ℕ → ℕ → A) (j u : ℕ) (new : A) → put_at f j u new j u ≡ new
+pub put_same : {A : Type 0} (f : ℕ → ℕ → A) (j u : ℕ) (new : A) → put_at f j u new j u ≡ new
 put_same f j u new = sym (put_here f j u new u) ∙ cond-true (eqb u u) new (f j u) (eq-eqb u u refl)
 
 put_elsewhere : {A : Type 0} (f : ℕ → ℕ → A) (j u : ℕ) (new : A) (k t : ℕ) → (t ≡ u → ⊥) → put_at f j u new k t ≡ f k t

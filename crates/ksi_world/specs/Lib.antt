@@ -7,3 +7,4 @@ pub mod Places
 pub mod Deciding
 pub mod Validity
 pub mod Keeping
+pub mod Joined

@@ -1,14 +1,16 @@
 //! What holds after every history of a plan: whichever messages are lost, repeated, late or out of order, and whichever
 //! nodes restart, at any moment. Each law is the contract of a function that does nothing.
-ghost use Rattle.std.specs.Prelude.{◌≡◌, ◌≢◌, ◌<◌, ℕ, List, slice_get, Some};
+ghost use Rattle.std.specs.Prelude.{◌≡◌, ◌≢◌, ◌<◌, ◌++◌, ℕ, List, slice_get, Some};
 ghost use Rattle.ksi_imprint.specs.Imprints.{zero_imprint};
-ghost use Rattle.ksi_schedule.specs.Plans.{IsPlan, InRange};
+ghost use Rattle.ksi_schedule.specs.declared.event.Event.{Event};
+ghost use Rattle.ksi_schedule.specs.Plans.{PlanState, IsPlan, InRange};
 ghost use Rattle.ksi_schedule.specs.Events.{History, AreEvents};
-ghost use Rattle.ksi_world.specs.Histories.{WorldState, held_in, world_of};
+ghost use Rattle.ksi_world.specs.Histories.{WorldState, held_in, after, world_of};
+ghost use Rattle.ksi_world.specs.Joined.{IsRootOf, IsJoined};
 ghost use Rattle.ksi_world.specs.Records.{issued_of, issued_all};
 ghost use Rattle.ksi_world.specs.Validity.{IsProposed};
 
-use ksi_aggtree::laws::one_round;
+use ksi_aggtree::laws::{one_chain, one_round};
 use ksi_synod::laws::steps_agree;
 
 /// Agreement: two cores that hold a root for a second hold the same.
@@ -42,3 +44,25 @@ pub fn all_issued()
     ensures rising { (image : List ℕ → List ℕ) (w : WorldState) (j k : ℕ) (x y : ℕ × List ℕ) → j < k →
         slice_get (issued_all image w) j ≡ Some x → slice_get (issued_all image w) k ≡ Some y → x.0 < y.0 }
 {}
+
+/// Each pair that was published, at any moment, is a second of the plan and the root of the calendar to it over what is
+/// kept at the end, whichever core published it. All seconds up to it are kept.
+pub fn published_roots()
+    ensures { (image : List ℕ → List ℕ) (plan : PlanState) (before later : List Event) → IsPlan plan → AreEvents plan (before ++ later) →
+        (k p : ℕ) (root : List ℕ) → slice_get (after image plan before).published k ≡ Some (p, root) →
+        IsRootOf image plan (after image plan (before ++ later)) p root }
+{
+    steps_agree();
+}
+
+/// Joined: what is issued of a request is a signature whose chains climb from the request's imprint, at level 0, to the
+/// root that is kept for its second, and whose calendar chain leads from there to the calendar of this second.
+pub fn issued_is_joined()
+    ensures { (image : List ℕ → List ℕ) (history : History) → IsPlan history.plan → AreEvents history.plan history.events →
+        (number : ℕ) (text : List ℕ) → issued_of image (world_of image history) number ≡ Some text →
+        IsJoined image history.plan (world_of image history) number text }
+{
+    one_round();
+    one_chain();
+    steps_agree();
+}

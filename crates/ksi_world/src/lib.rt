@@ -6,10 +6,12 @@
 //! and the list of events, and `specs/Histories` says what every node keeps and what was sent after them.
 //!
 //! The layer above may rely on this: each call's answer is that of `happens`, all readers are those of the events so far,
-//! `issued` has the signature of an accepted request exactly where its round has a response, and `kept` has each second
-//! that a core holds a root for, with the items of its tree. [`laws`] says what holds after every history: no two cores
-//! hold different roots for a second, and a held root is a missed second's or the imprint of the tree of items that a core
-//! sealed. After `NoMemory` all is as it was. The readers but `issued` and `kept` take no memory.
+//! `issued` is `issued_of`, the signature of an accepted request exactly where its round has a response, and `kept` has each
+//! second that a core holds a root for, with the items of its tree. [`laws`] says what holds after every history: no two
+//! cores hold different roots for a second, and a held root is a missed second's or the imprint of the tree of items that a
+//! core sealed; what was published at any moment is the calendar's root over what is kept; and the chains of an issued
+//! signature climb from the request's imprint to the root that is kept for its second. After `NoMemory` all is as it was.
+//! The readers but `issued` and `kept` take no memory.
 //!
 //! ```text
 //! let mut world = World::<Sha>::new(alloc, &plan)?;

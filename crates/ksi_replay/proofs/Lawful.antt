@@ -1,0 +1,120 @@
+-- What a world keeps, issues and publishes is what a journal asks for.
+use Rattle.std.proofs.Common.{◌≡◌, ◌≢◌, inl, inr, ℕ, zero, suc, ◌+◌, ◌<◌, ◌≤◌, ◌-◌, ◌^◌, List, [], ◌∷◌, ◌++◌, map, length, get_or, refl, sym, ap, ◌∙◌, subst, arith, Option, Some, None}
+use Rattle.std.specs.List.{AllByRecursion}
+use Rattle.std.proofs.lemmas.List.{append_assoc}
+use Rattle.ksi_imprint.specs.Imprints.{IsImprint, zero_imprint}
+use Rattle.ksi_aggchain.specs.declared.item.Item.{Item}
+use Rattle.ksi_aggtree.specs.Rounds.{IsRound, item_at, tree_of}
+use Rattle.ksi_schedule.specs.declared.event.Event.{Event}
+use Rattle.ksi_schedule.specs.Plans.{PlanState}
+use Rattle.ksi_schedule.specs.Events.{IsEvent, AreEvents}
+use Rattle.ksi_world.specs.declared.kept.KeptSecond.{KeptSecond}
+use Rattle.ksi_world.specs.Histories.{WorldState}
+use Rattle.ksi_world.specs.Records.{issued_all, issued_among, issued_before, issued_of}
+use Rattle.ksi_world.specs.Validity.{AreRising, AreTimes, EachKept, IsKept}
+use Rattle.ksi_journal.specs.Journal.{IsIssued, IsItem, IsPublication, IsRootOf, IsSecond, RiseFrom}
+use Rattle.ksi_replay.specs.Journals.{second_of}
+
+-- ALL OF A LIST
+
+pub each_event : (plan : PlanState) (events : List Event) (k : ℕ) (other : Event) → AreEvents plan events → k < length events → IsEvent plan (get_or events k other)
+each_event plan [] k other are lt = absurd (omega (arith, lt))
+each_event plan (event ∷ events) zero other are lt = are.0
+each_event plan (event ∷ events) (suc k) other are lt = each_event plan events k other are.1 (omega (arith, lt))
+
+pub all_more : {A : Type 0} (P : A → Type 0) (xs : List A) (x : A) → AllByRecursion P xs → P x → AllByRecursion P (xs ++ x ∷ [])
+all_more P [] x all more = (more, tt)
+all_more P (y ∷ xs) x all more = (all.0, all_more P xs x all.1 more)
+
+pub each_there : (P : KeptSecond → Type 0) (before : List KeptSecond) (one : KeptSecond) (after : List KeptSecond) → EachKept P (before ++ one ∷ after) → P one
+each_there P [] one after each = each.0
+each_there P (other ∷ before) one after each = each_there P before one after each.1
+
+-- WHAT RISES
+
+rise_earlier : (least most : ℕ) (ns : List ℕ) → least ≤ most → RiseFrom most ns → RiseFrom least ns
+rise_earlier least most [] le rise = tt
+rise_earlier least most (n ∷ ns) le rise = (omega (arith, le, rise.0), rise.1)
+
+pub seconds_rise : (from : ℕ) (kept : List KeptSecond) → AreRising from kept → RiseFrom from (map (λ one. one.second) (map second_of kept))
+seconds_rise from [] rising = tt
+seconds_rise from (one ∷ kept) rising = (rising.0, rise_earlier (one.second + 1) (suc one.second) _ (omega arith) (seconds_rise (suc one.second) kept rising.1))
+
+times_from : (from before : ℕ) (xs : List (ℕ × List ℕ)) → AreTimes from before xs → RiseFrom from (map (λ x. x.0) xs)
+times_from from before [] times = tt
+times_from from before (x ∷ xs) times = (times.0, rise_earlier (x.0 + 1) (suc x.0) _ (omega arith) (times_from (suc x.0) before xs times.2))
+
+pub times_rise : (from before : ℕ) (xs : List (ℕ × List ℕ)) → AreTimes from before xs → RiseFrom 0 (map (λ x. x.0) xs)
+times_rise from before xs times = rise_earlier 0 from (map (λ x. x.0) xs) (omega arith) (times_from from before xs times)
+
+-- WHAT IS ISSUED
+
+module _ (image : List ℕ → List ℕ) (w : WorldState) where
+  numbers_before : (n : ℕ) (o : Option (List ℕ)) (later : List (ℕ × List ℕ)) → RiseFrom (suc n) (map (λ x. x.0) later) → RiseFrom n (map (λ x. x.0) (issued_before n o later))
+  numbers_before n None later rise = rise_earlier n (suc n) _ (omega arith) rise
+  numbers_before n (Some text) later rise = (omega arith, rise_earlier (n + 1) (suc n) _ (omega arith) rise)
+
+  numbers_from : (n m : ℕ) → RiseFrom n (map (λ x. x.0) (issued_among image w n m))
+  numbers_from n zero = tt
+  numbers_from n (suc m) = numbers_before n (issued_of image w n) (issued_among image w (suc n) m) (numbers_from (suc n) m)
+
+  pub numbers_rise : RiseFrom 0 (map (λ x. x.0) (issued_all image w))
+  unfolding issued_all
+  numbers_rise = numbers_from 0 (length w.requests)
+
+  pub listing_begins : (n : ℕ) → n ≡ length w.requests → issued_among image w 0 n ≡ issued_all image w
+  unfolding issued_all
+  listing_begins n is = ap (issued_among image w 0) is
+
+  before_is : (n : ℕ) (o : Option (List ℕ)) (later : List (ℕ × List ℕ)) → issued_before n o [] ++ later ≡ issued_before n o later
+  before_is n None later = refl
+  before_is n (Some text) later = refl
+
+  pub listing_more : (xs all : List (ℕ × List ℕ)) (n end : ℕ) (o : Option (List ℕ)) → n < end → o ≡ issued_of image w n →
+      xs ++ issued_among image w n (end - n) ≡ all → (xs ++ issued_before n o []) ++ issued_among image w (n + 1) (end - (n + 1)) ≡ all
+  listing_more xs all n end o lt is before =
+      let one : suc n ≡ n + 1 = omega arith in
+      let count : end - n ≡ suc (end - (n + 1)) = omega (arith, lt) in
+      let step : issued_among image w n (end - n) ≡ issued_before n o (issued_among image w (n + 1) (end - (n + 1))) =
+      ap (issued_among image w n) count
+      ∙ ap (λ found. issued_before n found (issued_among image w (suc n) (end - (n + 1)))) (sym is)
+      ∙ ap (λ k. issued_before n o (issued_among image w k (end - (n + 1)))) one in
+      append_assoc xs (issued_before n o []) (issued_among image w (n + 1) (end - (n + 1)))
+      ∙ ap (λ ys. xs ++ ys) (before_is n o (issued_among image w (n + 1) (end - (n + 1))) ∙ sym step)
+      ∙ before
+
+pub lawful_more : (xs : List (ℕ × List ℕ)) (n : ℕ) (text : List ℕ) → AllByRecursion IsIssued xs → n < 2 ^ 64 → length text ≤ 10000 → AllByRecursion IsIssued (xs ++ (n, text) ∷ [])
+lawful_more xs n text all early short = all_more IsIssued xs (n, text) all (record { number = early; short = omega (arith, short) })
+
+-- WHAT IS PUBLISHED
+
+pub are_publications : (from : ℕ) (xs : List (ℕ × List ℕ)) → AreTimes from (2 ^ 63) xs → AllByRecursion (λ x. IsImprint x.1) xs → AllByRecursion IsPublication xs
+are_publications from [] times imprints = tt
+are_publications from (x ∷ xs) times imprints = (record { early = times.1; imprint = imprints.0 }, are_publications (suc x.0) xs times.2 imprints.1)
+
+-- A KEPT SECOND
+
+are_items : (items : List Item) → ((k : ℕ) → (item_at items k).level ≤ 239) → AllByRecursion (λ item. IsImprint item.imprint) items → AllByRecursion IsItem items
+are_items [] low imprints = tt
+are_items (item ∷ items) low imprints = (record { imprint = imprints.0; level = low 0 }, are_items items (λ k. low (suc k)) imprints.1)
+
+rooted : (image : List ℕ → List ℕ) (root : List ℕ) (items : List Item) → root ≢ zero_imprint → 1 ≤ length items → (tree_of image items).imprint ≡ root → IsRootOf image items root
+rooted image root [] real some tree = absurd (omega (arith, some))
+rooted image root (item ∷ items) real some tree = (real, tree)
+
+pub is_second : (image : List ℕ → List ℕ) (kept : KeptSecond) → kept.second < 2 ^ 63 → IsKept image kept → IsImprint kept.root →
+    AllByRecursion (λ item. IsImprint item.imprint) kept.items → IsSecond image (second_of kept)
+is_second image kept early (inl missed) root imprints = record {
+  early = early;
+  imprint = root;
+  few = subst (λ items. length items ≤ 65536) (sym missed.none) (omega arith);
+  items = subst (λ items. AllByRecursion IsItem items) (sym missed.none) tt;
+  tree = subst (λ items. IsRootOf image items kept.root) (sym missed.none) missed.zero;
+}
+is_second image kept early (inr tree) root imprints = record {
+  early = early;
+  imprint = root;
+  few = tree.round.few;
+  items = are_items kept.items tree.round.low imprints;
+  tree = rooted image kept.root kept.items tree.real tree.some tree.tree;
+}

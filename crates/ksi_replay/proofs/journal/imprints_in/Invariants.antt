@@ -1,0 +1,7 @@
+use Rattle.std.proofs.Common.{take}
+use Rattle.std.specs.List.{AllByRecursion}
+use Rattle.ksi_imprint.specs.Imprints.{IsImprint}
+use Rattle.ksi_replay.proofs.journal.imprints_in.Given as goal
+
+abbrev pub invariant-items : goal.invariant-items
+invariant-items l = AllByRecursion (λ item. IsImprint item.imprint) (take l.item-index l.items)

@@ -1,0 +1,28 @@
+use Rattle.std.proofs.Common.{◌≡◌, ℕ, List, map, ap, sym, subst, ◌∙◌, arith}
+use Rattle.std.specs.List.{AllByRecursion}
+use Rattle.ksi_imprint.specs.Imprints.{IsImprint}
+use Rattle.ksi_world.specs.Histories.{world_of}
+use Rattle.ksi_journal.specs.Journal.{IsPublication, RiseFrom}
+use Rattle.ksi_replay.specs.Journals.{second_of}
+use Rattle.ksi_replay.proofs.Lawful.{seconds_rise, numbers_rise, are_publications, times_rise}
+use Rattle.ksi_replay.proofs.journal.journal_of.Goals as goal
+
+pub new-requires : goal.new-requires
+new-requires g c =
+    let image = g.C.Compress.image in
+    let w = world_of image c.args.world.now in
+    let kept = c.in_ok-kept.kept in
+    let published = c.in_ok-publications.ensures.same ∙ c.published.ensures.published in
+    let seconds = c.in_ok-seconds.ensures.seconds ∙ ap (map second_of) c.into_vec.ensures in
+    record {
+      start = omega (arith, c.in_ok-kept.ensures.start, c.plan-plan.ensures.limits.early);
+      seconds = c.in_ok-seconds.ensures.lawful;
+      seconds_rise = subst (λ xs. RiseFrom kept.start (map (λ one. one.second) xs)) (sym seconds) (seconds_rise kept.start kept.seconds c.in_ok-kept.ensures.rising);
+      issued = c.in_ok-issued.ensures.lawful;
+      numbers_rise = subst (λ xs. RiseFrom 0 (map (λ signature. signature.0) xs)) (sym c.in_ok-issued.ensures.issued) (numbers_rise image w);
+      publications = subst (AllByRecursion IsPublication) (sym published)
+          (are_publications c.args.world.now.plan.start w.published c.published.ensures.rising
+          (subst (AllByRecursion (λ publication. IsImprint publication.1)) published c.in_ok-publications.ensures.imprints));
+      times_rise = subst (λ xs. RiseFrom 0 (map (λ publication. publication.0) xs)) (sym published)
+          (times_rise c.args.world.now.plan.start _ w.published c.published.ensures.rising);
+    }
