@@ -1,6 +1,7 @@
 // What is reported of an audit.
 ghost use Rattle.std.specs.Prelude.{◌≡◌, ◌≢◌, ◌≤◌, ◌+◌, ◌++◌, IfOk, OnOk, length, string_bytes};
 ghost use Rattle.ksi_auditor.specs.declared.answer.Audit.TheVariants as answers;
+ghost use Rattle.ksi_auditor.specs.Shown.{IsShort};
 ghost use Rattle.ksi_top.specs.Causes.{IsJudged};
 ghost use Rattle.ksi_top.specs.Audit.{audited};
 ghost use Rattle.ksi_top.specs.Lines.{inside_line, clash_line, letter, letters, way_text};
@@ -18,6 +19,7 @@ use std::alloc::Global;
 
 /// An audit's answer, with its line and its status.
 pub(crate) fn audited(alloc: Global, audit: &Audit) -> Result<Report, NoMemory>
+    requires { IsShort audit.now }
     ensures report { IfOk result (λ report. report ≡ audited audit.now) }
     ensures judged { IfOk result (λ report. IsJudged report) }
     ensures memory { IfOk result (λ _. audit.now ≢ answers.NoMemory) }
@@ -109,18 +111,13 @@ fn letter(side: Side) -> &'static str
     }
 }
 
-/// The most bytes of a string that is hashed for a link: an imprint, a sibling and a level.
-const LONGEST: usize = 4_130;
-
-/// Two strings in hex.
+/// Two strings in hex, which are so short that a line holds both.
 #[tactic(auto, using(crate::proofs::LineLengths::hex_length))]
 fn clash_line(alloc: Global, one: &[u8], two: &[u8]) -> Result<Line, NoMemory>
+    requires one { length one.now ≤ 4130 }
+    requires two { length two.now ≤ 4130 }
     ensures { IfOk result (λ line. line ≡ clash_line one.now two.now) }
 {
-    // a line has no room for longer ones, which no signature that was read comes to
-    if one.len() > LONGEST || two.len() > LONGEST {
-        return Err(NoMemory);
-    }
     let one = hex::encode(alloc, one)?;
     let two = hex::encode(alloc, two)?;
     print(
