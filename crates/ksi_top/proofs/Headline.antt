@@ -1,6 +1,6 @@
 -- What the headline's parts follow from.
-use Rattle.std.proofs.Common.{◌≡◌, ◌≢◌, ℕ, zero, suc, List, [], ◌∷◌, Option, Some, None, Result, Ok, Err, refl, ap, subst}
-use Rattle.std.specs.Prelude.{slice_get}
+use Rattle.std.proofs.Common.{◌≡◌, ◌≢◌, ℕ, zero, suc, List, [], ◌∷◌, Option, Some, None, Result, Ok, Err, refl, sym, ap, subst}
+use Rattle.std.specs.Prelude.{slice_get, IfOk}
 use Rattle.std.specs.List.{AllByRecursion}
 use Rattle.sha2.proofs.Facts256.{length-sha256}
 use Rattle.ksi_imprint.specs.Imprints.{IsImprint, imprint_of}
@@ -9,37 +9,17 @@ use Rattle.ksi_world.specs.Histories.{world_of}
 use Rattle.ksi_world.specs.Records.{issued_all}
 use Rattle.ksi_replay.specs.Journals.{journal_of}
 use Rattle.ksi_journal.specs.Journal.{Contents}
-use Rattle.ksi_extender.specs.declared.refusal.ExtendRefusal.{ExtendRefusal}
-use Rattle.ksi_extender.specs.declared.refusal.ExtendRefusal.TheVariants as refusals
+use Rattle.std.specs.declared.alloc.AllocError.{AllocError}
+use Rattle.ksi_signature.specs.declared.signature.Signature.{Signature}
+use Rattle.ksi_verifier.specs.declared.verdict.Verdict.TheVariants.{Accepted}
+use Rattle.ksi_verifier.specs.Verdict.{verdict}
+use Rattle.ksi_auditor.specs.declared.answer.Audit.{Audit}
+use Rattle.ksi_auditor.specs.declared.answer.Audit.TheVariants as answers
+use Rattle.ksi_auditor.specs.Audit as audits
+use Rattle.ksi_auditor.specs.Shown.{IsDecided, Shows, Tells}
+use Rattle.ksi_top.specs.Audit.{audited}
+use Rattle.ksi_top.specs.Headline.{IsAnswered}
 use Rattle.ksi_top.specs.declared.report.Report.{Report}
-use Rattle.ksi_top.specs.declared.report.Halt.{Halt}
-use Rattle.ksi_top.specs.declared.report.Halt.TheVariants as halts
-use Rattle.ksi_top.specs.declared.status.Status.TheVariants.{Done, Malformed, TooLong}
-use Rattle.ksi_top.specs.Reports.{HaltsAs, Means, WhereRead}
-use Rattle.ksi_top.specs.Extend.{not_extended}
-
--- WHERE A FILE WAS NOT READ
-
-pub unread_long : {T : Type 0} (P : Report → Type 0) (halt : Halt) → HaltsAs {T} TooLong (Err halt) → Means (WhereRead P) (Err halt)
-unread_long P (halts.Reported report) ends = λ long malformed. absurd (long ends)
-unread_long P halts.Fault ends = tt
-unread_long P halts.NoMemory ends = tt
-
-pub unread_malformed : {T : Type 0} (P : Report → Type 0) (halt : Halt) → HaltsAs {T} Malformed (Err halt) → Means (WhereRead P) (Err halt)
-unread_malformed P (halts.Reported report) ends = λ long malformed. absurd (malformed ends)
-unread_malformed P halts.Fault ends = tt
-unread_malformed P halts.NoMemory ends = tt
-
--- a refusal is no result
-pub refusal_not_done : (refusal : ExtendRefusal) → (not_extended refusal).status ≢ Done
-refusal_not_done (refusals.Malformed fault) is = absurd (cc is)
-refusal_not_done (refusals.Refused refusal) is = absurd (cc is)
-refusal_not_done (refusals.BeforeStart second) is = absurd (cc is)
-refusal_not_done (refusals.TooEarly second publication) is = absurd (cc is)
-refusal_not_done (refusals.Undecided second) is = absurd (cc is)
-refusal_not_done (refusals.RootDiffers second kept given) is = absurd (cc is)
-refusal_not_done (refusals.TooLarge size) is = absurd (cc is)
-refusal_not_done refusals.NoMemory is = absurd (cc is)
 
 -- THE JOURNAL OF A HISTORY
 
@@ -54,3 +34,19 @@ sha_imprints bytes = record { algorithm = refl; size = ap suc (length-sha256 byt
 pub issued_listed : (h : History) → (journal_of imprint_of h).issued ≡ issued_all imprint_of (world_of imprint_of h)
 unfolding journal_of
 issued_listed h = refl
+
+-- THE ANSWER OF AN AUDIT
+
+pub answered : (journal : Contents) (signature : Signature) (hash : List ℕ) (pairs : List (ℕ × List ℕ)) (answer : Audit) (result : Result Report AllocError)
+    → IfOk result (λ _. answer ≢ answers.NoMemory) → IfOk result (λ report. report ≡ audited answer)
+    → (answer ≢ answers.NoMemory → answer ≡ audits.audit imprint_of journal signature hash pairs) → Shows imprint_of journal signature hash answer
+    → ((t : ℕ) → verdict imprint_of signature hash pairs ≡ Accepted t → IsDecided imprint_of journal signature → Tells (audits.audit imprint_of journal signature hash pairs))
+    → IfOk result (IsAnswered journal signature hash pairs)
+answered journal signature hash pairs answer (Ok report) memory reported is shown tells = record {
+  answer = answer;
+  audit_is = is memory;
+  reported = reported;
+  shown = shown;
+  tells = λ t accepted decided. subst Tells (sym (is memory)) (tells t accepted decided);
+}
+answered journal signature hash pairs answer (Err none) memory reported is shown tells = tt

@@ -5,7 +5,7 @@ use Rattle.ksi_ports.specs.Stored.{Held}
 use Rattle.ksi_signature.specs.declared.signature.Signature.{Signature}
 use Rattle.ksi_signature.specs.File.{IsSignature}
 use Rattle.ksi_publications.specs.File.{IsPublications}
-use Rattle.ksi_verifier.specs.Accepted.{IsAccepted}
+use Rattle.ksi_verifier.specs.declared.verdict.Verdict.TheVariants.{Accepted}
 use Rattle.ksi_verifier.specs.Verdict.{verdict}
 use Rattle.ksi_schedule.specs.declared.event.Event.{Event}
 use Rattle.ksi_schedule.specs.Events.{History}
@@ -89,7 +89,7 @@ pub record IsAnswered (journal : Contents) (signature : Signature) (hash : List 
   pub audit_is : answer ≡ audits.audit imprint_of journal signature hash pairs
   pub reported : report ≡ audited answer
   pub shown : Shows imprint_of journal signature hash answer
-  pub tells : (t : ℕ) → IsAccepted imprint_of signature hash pairs t → IsDecided imprint_of journal signature → Tells answer
+  pub tells : (t : ℕ) → verdict imprint_of signature hash pairs ≡ Accepted t → IsDecided imprint_of journal signature → Tells answer
 
 pub record IsAudited (journal signature hash publications : List ℕ) (report : Report) : Type 0 where
   pub contents : Contents

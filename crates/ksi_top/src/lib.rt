@@ -15,7 +15,7 @@ mod audit_line;
 mod extend;
 mod extend_line;
 mod fault_line;
-mod headline;
+mod histories;
 mod line;
 mod loading;
 mod perform;

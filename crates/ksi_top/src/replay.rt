@@ -2,6 +2,7 @@
 ghost use Rattle.std.specs.Prelude.{◌≡◌, ◌≤◌, ◌+◌, IsTrue, IfOk};
 ghost use Rattle.ksi_top.specs.Reports.{Reports, Means, WhereRead};
 ghost use Rattle.ksi_imprint.specs.Imprints.{imprint_of};
+ghost use Rattle.ksi_tlv.specs.Spelling.{AreBytes};
 ghost use Rattle.ksi_journal.specs.File.{IsJournalFile};
 ghost use Rattle.ksi_journal.specs.Written.{journal_text};
 ghost use Rattle.ksi_replay.specs.Journals.{journal_of};
@@ -12,7 +13,7 @@ ghost use Rattle.ksi_top.specs.Causes.{ReportCaused, IsJudged, counts};
 ghost use Rattle.ksi_top.specs.Replay.{replay_limits, replay_run, replayed, replayed_as, counted};
 ghost use Rattle.ksi_top.specs.Lines.{replayed_line};
 
-use crate::headline::histories_hold;
+use crate::histories::histories_hold;
 use crate::line::Line;
 use crate::loading::{FILE_LIMIT, load_file};
 use crate::printed::Word::{Number, Text};
@@ -78,9 +79,11 @@ fn are_texts(issued: &[(u64, Bytes)])
     }
 }
 
-fn is_text(_text: &[u8])
-    ensures { AreBytes _text.now }
-{}
+fn is_text(text: &[u8])
+    ensures { AreBytes text.now }
+{
+    let _bytes = text;
+}
 
 fn saving(
     alloc: Global,

@@ -6,7 +6,7 @@ use Rattle.ksi_world.specs.Histories.{world_of}
 use Rattle.ksi_world.specs.Records.{issued_all}
 use Rattle.ksi_replay.specs.Journals.{journal_of}
 use Rattle.ksi_top.proofs.Headline.{all_at, sha_imprints, issued_listed}
-use Rattle.ksi_top.proofs.headline.histories_hold.Goals as goal
+use Rattle.ksi_top.proofs.histories.histories_hold.Goals as goal
 
 pub returns-clause-holds : goal.returns-clause-holds
 returns-clause-holds c = λ text h spelled lawful.
