@@ -13,7 +13,7 @@ returns-clause-holds c = λ text h spelled lawful.
     let is = c.spelled_is_schedule.ensures.schedule text h spelled in
     let w = world_of imprint_of h in
     let joined = c.history_is_joined.ensures imprint_of h (journal_of imprint_of h) sha_imprints is.plan is.events (c.spelled_is_schedule.ensures.imprints text h spelled) lawful.kept
-        (c.journal_keeps_roots.ensures imprint_of h is.plan is.events) in
+    (c.journal_keeps_roots.ensures imprint_of h is.plan is.events) in
     let texts = subst (AllByRecursion (λ (x : ℕ × List ℕ). AreBytes x.1)) (issued_listed h) lawful.texts in
     record {
       agreement = c.agreement.ensures imprint_of h is.plan is.events;
