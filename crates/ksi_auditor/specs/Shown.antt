@@ -1,6 +1,7 @@
 -- What the answers of an audit show.
 use Rattle.std.specs.Prelude.{◌≡◌, ℕ, ◌-◌, ◌<◌, ◌≤◌, List, length, take, Option, Some, option_map}
 use Rattle.ksi_imprint.specs.Imprints.{IsClash}
+use Rattle.ksi_imprint.specs.declared.clash.Clash as clashes
 use Rattle.ksi_split.specs.declared.side.Side.{Side}
 use Rattle.ksi_split.specs.Ways.{IsWay, IsSecond}
 use Rattle.ksi_aggchain.specs.Climbing.{Climbs}
@@ -50,6 +51,14 @@ pub record IsDecided (image : List ℕ → List ℕ) (journal : Contents) (signa
   pub has_calendar : signature.calendar ≡ Some calendar
   pub covered : IsCovered journal calendar.publication
   pub root : root_of image calendar ≡ kept_root image journal calendar.publication
+
+-- so short strings that a line can show both: each is an imprint, a sibling of at most 4,096 bytes and a level
+abbrev pub AreShort : clashes.Clash → Type 0
+AreShort clash = (length clash.one ≤ 4130) × (length clash.two ≤ 4130)
+
+abbrev pub IsShort : Audit → Type 0
+IsShort (Clash clash) = AreShort clash
+IsShort _ = Unit {0}
 
 -- what an answer about an accepted signature, whose publication is decided, shows
 abbrev pub Shows : (List ℕ → List ℕ) → Contents → Signature → List ℕ → Audit → Type 0

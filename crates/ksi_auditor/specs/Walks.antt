@@ -1,5 +1,5 @@
 -- Going down a kept tree along links, the top one first, for the proof of the code.
-use Rattle.std.specs.Prelude.{ℕ, List, [], ◌∷◌, ◌++◌, Option, Some, None, if◌then◌else◌}
+use Rattle.std.specs.Prelude.{ℕ, ◌≤◌, List, [], ◌∷◌, ◌++◌, length, Option, Some, None, if◌then◌else◌}
 use Rattle.std.specs.Str.{bytes_eq}
 use Rattle.ksi_imprint.specs.Imprints.{join_text}
 use Rattle.ksi_imprint.specs.declared.clash.Clash.{Clash}
@@ -38,6 +38,11 @@ step kept (Past sides) rung = Past sides
 abbrev pub go : (List Side → Option (List ℕ)) → Walk → List Rung → Walk
 go kept walk [] = walk
 go kept walk (rung ∷ rungs) = go kept (step kept walk rung) rungs
+
+abbrev pub IsShortWalk : Walk → Type 0
+IsShortWalk (Apart clash) = (length clash.one ≤ 4130) × (length clash.two ≤ 4130)
+IsShortWalk (At sides) = Unit {0}
+IsShortWalk (Past sides) = Unit {0}
 
 abbrev pub clash_in : Walk → Option Clash
 clash_in (Apart clash) = Some clash

@@ -6,7 +6,7 @@ ghost use Rattle.ksi_verifier.specs.Leading.{all_links};
 ghost use Rattle.ksi_journal.specs.Journal.{IsJournal};
 ghost use Rattle.ksi_journal.specs.Calendar.{first_missing, kept_root};
 ghost use Rattle.ksi_auditor.specs.Audit.{audit, compared, item_named, kept_or_not, laid_beside, links_of};
-ghost use Rattle.ksi_auditor.specs.Shown.{Shows};
+ghost use Rattle.ksi_auditor.specs.Shown.{IsShort, Shows};
 ghost use Rattle.ksi_auditor.specs.declared.answer.Audit.TheVariants as answers;
 
 use crate::answer::Audit;
@@ -42,6 +42,7 @@ pub fn audit<C: Compress>(
     ensures answer { result ≢ answers.NoMemory →
         result ≡ audit C.image journal.now signature.now hash.now publications.now }
     ensures shown { Shows C.image journal.now signature.now hash.now result }
+    ensures short { IsShort result }
 {
     audit_shows();
     let _start = journal.start();
@@ -60,8 +61,9 @@ fn answer<C: Compress>(
     hash: &Imprint,
     publications: &Publications,
 ) -> Result<Audit, NoMemory>
-    ensures { IfOk result (λ answer. answer ≡
+    ensures answer { IfOk result (λ answer. answer ≡
         audit C.image journal.now signature.now hash.now publications.now) }
+    ensures short { IfOk result IsShort }
 {
     low_levels();
     match verify::<C>(signature, hash, publications) {
@@ -83,8 +85,9 @@ fn decide<C: Compress>(
     calendar: &CalChain,
 ) -> Result<Audit, NoMemory>
     requires levels { level_after 0 (links_of signature.now) ≤ 255 }
-    ensures { IfOk result (λ answer. answer ≡
+    ensures answer { IfOk result (λ answer. answer ≡
         kept_or_not C.image journal.now signature.now hash.now second (Some calendar.now)) }
+    ensures short { IfOk result IsShort }
 {
     let publication = calendar.publication;
     if publication < journal.start() {
@@ -127,8 +130,9 @@ fn lay_beside<C: Compress>(
 ) -> Result<Audit, NoMemory>
     requires levels { level_after 0 (links_of signature.now) ≤ 255 }
     requires journal { IsJournal C.image journal.now }
-    ensures { IfOk result (λ audit. audit ≡
+    ensures audit { IfOk result (λ audit. audit ≡
         laid_beside C.image journal.now signature.now hash.now second calendar.now) }
+    ensures short { IfOk result IsShort }
 {
     let kept = CalendarTo {
         calendar: journal.calendar(),
@@ -158,8 +162,9 @@ fn lay_below<C: Compress>(
     requires low { (k : ℕ) → (item_at items.now k).level ≤ 239 }
     requires count { length chains.now ≤ 16 }
     requires levels { level_after 0 (all_links (plain_chains chains.now)) ≤ 255 }
-    ensures { IfOk result (λ audit. audit ≡
+    ensures audit { IfOk result (λ audit. audit ≡
         compared C.image items.now (all_links (plain_chains chains.now)) hash.now second []) }
+    ensures short { IfOk result IsShort }
 {
     let round = round_of::<C>(alloc, items)?;
     let tree = ItemsOf { round: &round };

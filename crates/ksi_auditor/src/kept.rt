@@ -1,4 +1,4 @@
-ghost use Rattle.std.specs.Prelude.{ℕ, List, ◌≡◌, Option, ◌<◌, length, option_map, IfOk, IfSome};
+ghost use Rattle.std.specs.Prelude.{ℕ, List, ◌≡◌, Option, ◌<◌, ◌≤◌, length, option_map, IfOk, IfSome};
 ghost use Rattle.ksi_split.specs.declared.side.Side.{Side};
 ghost use Rattle.ksi_auditor.specs.Walks.{parts_text};
 
@@ -18,7 +18,8 @@ pub(crate) struct Parts {
 impl Parts {
     /// The string that both parts make.
     pub(crate) fn text(&self, alloc: Global) -> Result<Bytes, NoMemory>
-        ensures { IfOk result (λ text. text ≡ parts_text self.now) }
+        ensures text { IfOk result (λ text. text ≡ parts_text self.now) }
+        ensures short { IfOk result (λ text. length text ≤ 4130) }
     {
         join_text(alloc, self.left.bytes(), self.right.bytes(), self.level)
     }

@@ -1,4 +1,4 @@
-ghost use Rattle.std.specs.Prelude.{◌≡◌, ◌⊎◌, length, IfOk};
+ghost use Rattle.std.specs.Prelude.{◌≡◌, ◌≤◌, ◌+◌, ◌⊎◌, length, IfOk};
 ghost use Rattle.ksi_imprint.specs.Imprints.{join_text};
 ghost use Rattle.std.specs.Str.{bytes_eq};
 ghost use Rattle.ksi_auditor.specs.Beside.{rung_text};
@@ -42,7 +42,9 @@ pub(crate) fn is_joined_of(rung: &Rung<'_>, parts: &Parts) -> bool
 
 /// The string of a link.
 pub(crate) fn text_of(alloc: Global, rung: &Rung<'_>) -> Result<Bytes, NoMemory>
-    ensures { IfOk result (λ text. text ≡ rung_text (view_rung rung.now)) }
+    requires { length rung.now.sibling.now ≤ 4096 }
+    ensures text { IfOk result (λ text. text ≡ rung_text (view_rung rung.now)) }
+    ensures short { IfOk result (λ text. length text ≤ 4130) }
 {
     match rung.side {
         Side::Left => join_text(alloc, rung.below.bytes(), rung.sibling, rung.level),
@@ -56,7 +58,8 @@ pub(crate) fn join_text(
     right: &[u8],
     level: u8,
 ) -> Result<Bytes, NoMemory>
-    ensures { IfOk result (λ text. text ≡ join_text left.now right.now level) }
+    ensures text { IfOk result (λ text. text ≡ join_text left.now right.now level) }
+    ensures size { IfOk result (λ text. length text ≡ length left.now + length right.now + 1) }
 {
     let mut text = Vec::with_capacity(alloc, left.len() + right.len() + 1)?;
     text.extend_from_slice(left)?;

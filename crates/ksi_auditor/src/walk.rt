@@ -1,19 +1,22 @@
-ghost use Rattle.std.specs.Prelude.{◌≡◌, ◌≤◌, [], IfOk, map};
+ghost use Rattle.std.specs.Prelude.{◌≡◌, ◌≤◌, [], length, IfOk, IfSome, map};
+ghost use Rattle.std.specs.List.{AllByRecursion};
 ghost use Rattle.ksi_split.specs.declared.side.Side.{Side};
-ghost use Rattle.ksi_aggchain.specs.Owned.{plain_links};
+ghost use Rattle.ksi_aggchain.specs.Owned.{plain_links, sibling_bytes};
 ghost use Rattle.ksi_aggchain.specs.Climbing.{level_after};
+ghost use Rattle.ksi_signature.specs.Values.{HasSize};
 ghost use Rattle.ksi_verifier.specs.Chains.{plain_chains};
 ghost use Rattle.ksi_verifier.specs.Leading.{all_links};
 ghost use Rattle.ksi_auditor.specs.Beside.{cal_rungs_from, rungs_from};
 ghost use Rattle.ksi_auditor.specs.Climbed.{climbed_to};
-ghost use Rattle.ksi_auditor.specs.Walks.{clash_in, go, step, laid, view_rung};
+ghost use Rattle.ksi_auditor.specs.Walks.{IsShortWalk, clash_in, go, step, laid, view_rung};
 ghost use Rattle.ksi_auditor.specs.declared.walk.Walk.TheVariants as walks;
+ghost use Rattle.ksi_auditor.specs.Shown.{AreShort};
 
 use crate::kept::KeptTree;
 use crate::place::Place;
 use crate::rung::{Rung, is_joined_of, join_of, text_of};
 use crate::top::top_of;
-use ksi_aggchain::{Item, Link};
+use ksi_aggchain::{Item, Link, Sibling};
 use ksi_calchain::CalLink;
 use ksi_imprint::{Bytes, Clash, Compress, Imprint, NoMemory};
 use ksi_signature::AggChain;
@@ -33,7 +36,9 @@ pub(crate) enum Walk {
 impl Walk {
     /// The clash that it came to, if any.
     pub(crate) fn clash(self) -> Option<Clash>
-        ensures { result ≡ clash_in self }
+        requires { IsShortWalk self }
+        ensures clash { result ≡ clash_in self }
+        ensures short { IfSome result AreShort }
     {
         match self {
             Walk::Apart(clash) => Some(clash),
@@ -50,8 +55,9 @@ pub(crate) fn along_calendar<C: Compress, K: KeptTree>(
     below: &Imprint,
     links: &[CalLink],
 ) -> Result<Walk, NoMemory>
-    ensures { IfOk result (λ walk. walk ≡
+    ensures walk { IfOk result (λ walk. walk ≡
         go (K.text tree.now) (walks.At []) (cal_rungs_from C.image below.now links.now)) }
+    ensures short { IfOk result IsShortWalk }
 {
     let (link, higher) = match links.split_first() {
         None => return Ok(Walk::At(Place::top())),
@@ -76,8 +82,9 @@ pub(crate) fn along_chains<C: Compress, K: KeptTree>(
     chains: &[AggChain],
 ) -> Result<Walk, NoMemory>
     requires { level_after below.now.level (all_links (plain_chains chains.now)) ≤ 255 }
-    ensures { IfOk result (λ walk. walk ≡
+    ensures walk { IfOk result (λ walk. walk ≡
         go (K.text tree.now) (walks.At []) (rungs_from C.image below.now (all_links (plain_chains chains.now)))) }
+    ensures short { IfOk result IsShortWalk }
 {
     let (chain, higher) = match chains.split_first() {
         None => return Ok(Walk::At(Place::top())),
@@ -97,19 +104,23 @@ fn along_links<C: Compress, K: KeptTree>(
     below: &Item,
     links: &[Link],
 ) -> Result<Walk, NoMemory>
-    requires { level_after below.now.level (plain_links links.now) ≤ 255 }
-    ensures { IfOk result (λ walk. walk ≡
+    requires levels { level_after below.now.level (plain_links links.now) ≤ 255 }
+    requires sizes { AllByRecursion (λ link. HasSize link.sibling) links.now }
+    requires start { IsShortWalk start }
+    ensures walk { IfOk result (λ walk. walk ≡
         go (K.text tree.now) start (rungs_from C.image below.now (plain_links links.now))) }
+    ensures short { IfOk result IsShortWalk }
 {
     let (link, higher) = match links.split_first() {
         None => return Ok(start),
         Some(first) => first,
     };
     let level = below.level + link.correction + 1;
+    let sibling = bytes_of(&link.sibling);
     let rung = Rung {
         side: link.side,
         below: &below.imprint,
-        sibling: link.sibling.bytes(),
+        sibling,
         level,
     };
     let above = Item {
@@ -120,9 +131,24 @@ fn along_links<C: Compress, K: KeptTree>(
     step(alloc, tree, walk, &rung)
 }
 
+/// The bytes of a sibling in a signature.
+fn bytes_of(sibling: &Sibling) -> &[u8]
+    requires { HasSize sibling.now }
+    ensures bytes { result.now ≡ sibling_bytes sibling.now }
+    ensures small { length result.now ≤ 4096 }
+{
+    match sibling {
+        Sibling::Imprint(imprint) => imprint.bytes(),
+        Sibling::Legacy(bytes) | Sibling::Metadata(bytes) => bytes.as_slice(),
+    }
+}
+
 /// Lays one link more beside a tree, further down.
 fn step<K: KeptTree>(alloc: Global, tree: &K, walk: Walk, rung: &Rung<'_>) -> Result<Walk, NoMemory>
-    ensures { IfOk result (λ next. next ≡ step (K.text tree.now) walk (view_rung rung.now)) }
+    requires small { length rung.now.sibling.now ≤ 4096 }
+    requires walk { IsShortWalk walk }
+    ensures next { IfOk result (λ next. next ≡ step (K.text tree.now) walk (view_rung rung.now)) }
+    ensures short { IfOk result IsShortWalk }
 {
     match walk {
         Walk::Apart(clash) => Ok(Walk::Apart(clash)),
@@ -138,7 +164,9 @@ fn lay<K: KeptTree>(
     place: Place,
     rung: &Rung<'_>,
 ) -> Result<Walk, NoMemory>
-    ensures { IfOk result (λ next. next ≡ laid (K.text tree.now place) place (view_rung rung.now)) }
+    requires { length rung.now.sibling.now ≤ 4096 }
+    ensures next { IfOk result (λ next. next ≡ laid (K.text tree.now place) place (view_rung rung.now)) }
+    ensures short { IfOk result IsShortWalk }
 {
     let parts = match tree.parts(&place) {
         None => return Ok(Walk::Past(place)),

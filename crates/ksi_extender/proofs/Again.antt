@@ -1,5 +1,5 @@
 -- What is extended is that signature again.
-use Rattle.std.proofs.Common.{◌≡◌, ℕ, ◌+◌, ◌^◌, ◌<◌, ◌≤◌, List, length, Result, Ok, Err, refl, sym, ap, subst, ◌∙◌, arith, nat_le, min, ◌-◌}
+use Rattle.std.proofs.Common.{◌≡◌, ℕ, ◌+◌, ◌^◌, ◌<◌, ◌≤◌, List, length, Result, Ok, sym, ap, subst, arith, nat_le, min, ◌-◌}
 use Rattle.std.specs.Prelude.{◌↔◌}
 use Rattle.ksi_imprint.specs.Imprints.{IsImprint}
 use Rattle.ksi_tlv.specs.Spelling.{AreBytes}
@@ -18,13 +18,13 @@ use Rattle.ksi_journal.specs.Journal.{Contents, IsJournal}
 use Rattle.ksi_journal.specs.Calendar.{calendar_of}
 use Rattle.ksi_extender.specs.declared.refusal.ExtendRefusal.{ExtendRefusal}
 use Rattle.ksi_extender.specs.declared.refusal.ExtendRefusal.TheVariants as refusals
-use Rattle.ksi_extender.specs.Checks.{◌>>◌, need}
+use Rattle.ksi_extender.specs.Checks.{need}
 use Rattle.ksi_extender.specs.Extended.{chain_to, record_to, fitting, extended}
-use Rattle.ksi_extender.specs.Accepted.{first_time, first_input, taken_on}
+use Rattle.ksi_extender.specs.Accepted.{first_input, taken_on}
 use Rattle.ksi_extender.proofs.Passing.{then_ok, need_le}
 use Rattle.ksi_extender.proofs.Leaves.{leaves}
 use Rattle.ksi_extender.proofs.Imprints.{leaf_is, root_is, links_are}
-use Rattle.ksi_extender.proofs.Whole.{Passed, passed, is_time}
+use Rattle.ksi_extender.proofs.Whole.{passed, is_time}
 
 -- the bytes that fit
 fits : (bytes text : List ℕ) (chain : Calendar) (published : Publishing) → fitting bytes chain published ≡ Ok text → (length (extended_content bytes chain published) ≤ 65535) × (extended_text bytes chain published ≡ text)

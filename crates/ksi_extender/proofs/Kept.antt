@@ -1,12 +1,11 @@
 -- What the checks against the journal leave.
-use Rattle.std.proofs.Common.{◌≡◌, ◌≢◌, ℕ, ◌<◌, ◌≤◌, ◌+◌, not, List, length, Option, Some, None, Result, Ok, Err, refl, ap, ◌∙◌, inl, inr, nat_le, if◌then◌else◌}
+use Rattle.std.proofs.Common.{◌≡◌, ◌≢◌, ℕ, ◌<◌, ◌≤◌, ◌+◌, not, length, Option, Some, None, Ok, refl, ap, inl, inr, nat_le, if◌then◌else◌}
 use Rattle.std.specs.Str.{bytes_eq}
 use Rattle.ksi_imprint.specs.Imprints.{zero_imprint}
 use Rattle.ksi_verifier.specs.declared.aggregated.Aggregated.{Aggregated}
 use Rattle.ksi_verifier.specs.declared.refusal.Refusal.TheVariants.{MissedSecond}
 use Rattle.ksi_journal.specs.Journal.{Contents}
 use Rattle.ksi_journal.specs.Calendar.{leaf_at, calendar_of, first_missing, missing_to, roots_from}
-use Rattle.ksi_extender.specs.declared.refusal.ExtendRefusal.{ExtendRefusal}
 use Rattle.ksi_extender.specs.declared.refusal.ExtendRefusal.TheVariants as refusals
 use Rattle.ksi_extender.specs.Checks.{◌>>◌, need}
 use Rattle.ksi_extender.specs.Extended.{all_kept, kept_to}

@@ -1,5 +1,5 @@
 -- The leaves of the calendar of the covered seconds are those of the journal.
-use Rattle.std.proofs.Common.{◌≡◌, ◌≢◌, ℕ, zero, suc, ◌+◌, ◌-◌, ◌<◌, ◌≤◌, Bool, true, false, List, [], ◌∷◌, length, Option, Some, None, refl, sym, ap, ◌∙◌, inl, inr, ◌⊎◌, arith, nat_lt, if◌then◌else◌}
+use Rattle.std.proofs.Common.{◌≡◌, ◌≢◌, ℕ, zero, suc, ◌+◌, ◌-◌, ◌<◌, ◌≤◌, Bool, true, false, List, [], ◌∷◌, length, Some, refl, sym, ap, ◌∙◌, inl, inr, ◌⊎◌, arith, nat_lt, if◌then◌else◌}
 use Rattle.std.specs.Prelude.{◌==◌, slice_index_or, unwrap_or}
 use Rattle.std.proofs.lemmas.Bool.Decides.{Decides-eqb, leb_tells, not_from_Decides}
 use Rattle.ksi_imprint.specs.Imprints.{zero_imprint}

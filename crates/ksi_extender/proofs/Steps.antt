@@ -1,5 +1,5 @@
 -- The steps of an extension, one by one.
-use Rattle.std.proofs.Common.{◌≡◌, ◌≢◌, ℕ, ◌<◌, ◌≤◌, ◌-◌, ◌^◌, min, Bool, true, false, List, length, Result, Ok, Err, refl, sym, ap, subst, ◌∙◌, ◌⊎◌, inl, inr, arith, nat_le}
+use Rattle.std.proofs.Common.{◌≡◌, ◌≢◌, ℕ, ◌-◌, ◌^◌, min, Bool, true, false, List, length, Result, Ok, Err, refl, sym, ap, subst, ◌∙◌, ◌⊎◌, inl, inr, arith, nat_le}
 use Rattle.ksi_split.specs.declared.tree_link.TreeLink.{TreeLink}
 use Rattle.ksi_split.specs.Trees.{climb_links}
 use Rattle.ksi_calchain.specs.Climbing.{ClimbsCal, cal_join}
@@ -13,11 +13,10 @@ use Rattle.ksi_signature.specs.Reading.{signature_at}
 use Rattle.ksi_signature.specs.Extended.{extended_content, extended_text, IsTooLong}
 use Rattle.ksi_verifier.specs.declared.aggregated.Aggregated.{Aggregated}
 use Rattle.ksi_verifier.specs.ChainChecks.{aggregated}
-use Rattle.ksi_journal.specs.Journal.{Contents}
 use Rattle.ksi_extender.specs.declared.refusal.ExtendRefusal.{ExtendRefusal}
 use Rattle.ksi_extender.specs.declared.refusal.ExtendRefusal.TheVariants as refusals
 use Rattle.ksi_extender.specs.Checks.{◌>>=◌, ◌>>◌, need}
-use Rattle.ksi_extender.specs.Extended.{or_malformed, or_refused, chains_in, kept_to, chain_to, record_to, fitting, extended}
+use Rattle.ksi_extender.specs.Extended.{or_malformed, or_refused, chains_in, fitting}
 use Rattle.ksi_extender.proofs.Passing.{le_cases}
 use Rattle.ksi_extender.proofs.Faults.{no_memory}
 

@@ -1,17 +1,15 @@
 -- What is extended is accepted.
-use Rattle.std.proofs.Common.{◌≡◌, ◌≢◌, ℕ, ◌+◌, ◌-◌, ◌<◌, ◌≤◌, List, [], ◌∷◌, length, Result, Ok, Err, Option, Some, None, refl, sym, ap, subst, ◌∙◌, arith}
+use Rattle.std.proofs.Common.{◌≡◌, ◌≢◌, ℕ, ◌+◌, ◌<◌, ◌≤◌, List, [], ◌∷◌, length, Result, Ok, Err, Some, refl, sym, ap, subst, ◌∙◌, arith}
 use Rattle.std.specs.Prelude.{◌↔◌}
 use Rattle.std.specs.List.{AllByRecursion}
 use Rattle.ksi_imprint.specs.Imprints.{zero_imprint}
 use Rattle.ksi_split.specs.declared.side.Side.{Side}
-use Rattle.ksi_split.specs.Ways.{IsWay, way_of, IsSecond}
-use Rattle.ksi_aggchain.specs.declared.item.Item.{Item}
+use Rattle.ksi_split.specs.Ways.{IsWay, way_of}
 use Rattle.ksi_calchain.specs.Climbing.{ClimbsCal}
 use Rattle.ksi_calchain.specs.Sides.{sides_from_top}
 use Rattle.ksi_calendar.specs.Calendar.{Seconds, calendar_leaf, calendar_root, calendar_path}
 use Rattle.ksi_publications.specs.Finding.{find}
 use Rattle.ksi_signature.specs.Values.{Aggregation, Calendar, Publishing}
-use Rattle.ksi_signature.specs.declared.fault.SigFault.{SigFault}
 use Rattle.ksi_signature.specs.declared.signature.Signature.{Signature}
 use Rattle.ksi_signature.specs.File.{IsSignature}
 use Rattle.ksi_signature.specs.Extended.{renewed}
@@ -25,8 +23,7 @@ use Rattle.ksi_verifier.specs.Verdict.{verdict}
 use Rattle.ksi_verifier.specs.Accepted.{IsAggregated, IsAccepted}
 use Rattle.ksi_journal.specs.Journal.{Contents}
 use Rattle.ksi_journal.specs.Calendar.{leaf_at, calendar_of, kept_root}
-use Rattle.ksi_extender.specs.declared.refusal.ExtendRefusal.{ExtendRefusal}
-use Rattle.ksi_extender.specs.Checks.{◌>>=◌, ◌>>◌}
+use Rattle.ksi_extender.specs.Checks.{◌>>◌}
 use Rattle.ksi_extender.specs.Extended.{or_refused, chains_in, kept_to, chain_to, record_to, fitting, extended}
 use Rattle.ksi_extender.specs.Accepted.{first_time, first_input, taken_on, AcceptedBy}
 use Rattle.ksi_extender.proofs.Passing.{bind_ok, then_ok}

@@ -2,7 +2,7 @@
 use Rattle.std.proofs.Common.{ℕ, List, Option, arith, sym, subst}
 use Rattle.ksi_top.specs.declared.report.Report.{Report}
 use Rattle.ksi_top.specs.declared.status.Status.{Status}
-use Rattle.ksi_top.specs.declared.status.Status.TheVariants.{Done, Refused, Words, Malformed, Fault, NoMemory, TooLong}
+use Rattle.ksi_top.specs.declared.status.Status.TheVariants.{Done, Refused, Words, Malformed, Fault, NoMemory, Clash, TooLong}
 use Rattle.ksi_top.specs.Causes.{IsJudged, JudgedAs, CausedAs, Counts, Quiet, Caused, PassesLimit, SomePasses}
 
 judged_caused : (limits : ℕ → ℕ) (before now : Counts) (line : List ℕ) (status : Status) (saved : Option (List ℕ × List ℕ)) → JudgedAs status saved → CausedAs limits before now line status saved
@@ -12,6 +12,7 @@ judged_caused limits before now line Words saved judged = absurd judged
 judged_caused limits before now line Malformed saved judged = judged
 judged_caused limits before now line Fault saved judged = absurd judged
 judged_caused limits before now line NoMemory saved judged = absurd judged
+judged_caused limits before now line Clash saved judged = judged
 judged_caused limits before now line TooLong saved judged = absurd judged
 
 -- a report that what was read is the cause of needs no other

@@ -2,3 +2,4 @@ pub mod CauseLemmas
 pub mod LineLengths
 pub mod Read
 pub mod Spacing
+pub mod Headline

@@ -7,7 +7,7 @@ use Rattle.ksi_top.specs.declared.report.Report.{Report}
 use Rattle.ksi_top.specs.declared.report.Halt.{Halt}
 use Rattle.ksi_top.specs.declared.report.Halt.TheVariants as halts
 use Rattle.ksi_top.specs.declared.status.Status.{Status}
-use Rattle.ksi_top.specs.declared.status.Status.TheVariants.{Done, Refused, Words, Malformed, Fault, NoMemory, TooLong}
+use Rattle.ksi_top.specs.declared.status.Status.TheVariants.{Done, Refused, Words, Malformed, Fault, NoMemory, Clash, TooLong}
 
 -- the counts of files at a moment: how often a call failed, and how many bytes were taken
 pub record Counts : Type 0 where
@@ -37,6 +37,7 @@ JudgedAs Words saved = ⊥
 JudgedAs Malformed saved = saved ≡ None
 JudgedAs Fault saved = ⊥
 JudgedAs NoMemory saved = ⊥
+JudgedAs Clash saved = saved ≡ None
 JudgedAs TooLong saved = ⊥
 
 abbrev pub IsJudged : Report → Type 0
@@ -76,6 +77,7 @@ CausedAs limits before now line Words saved = ⊥
 CausedAs limits before now line Malformed saved = saved ≡ None
 CausedAs limits before now line Fault saved = ⊥
 CausedAs limits before now line NoMemory saved = ⊥
+CausedAs limits before now line Clash saved = saved ≡ None
 CausedAs limits before now line TooLong saved = (saved ≡ None) × SomePasses limits before now line
 
 pub record Caused (limits : ℕ → ℕ) (before now : Counts) (report : Report) : Type 0 where

@@ -3,8 +3,15 @@ pub mod Reports
 pub mod Lines
 pub mod FaultWords
 pub mod Loading
+pub mod Replay
+pub mod Sign
+pub mod Publish
+pub mod Extend
+pub mod Audit
 pub mod Verify
 pub mod Run
 pub mod Causes
 pub mod Top
 pub mod Printed
+pub mod Headline
+pub mod Lawful

@@ -4,6 +4,8 @@ use Rattle.std.specs.Fmt.{decimal}
 use Rattle.hex.specs.Hex.{encode_lower}
 use Rattle.ksi_split.specs.declared.fault.ShapeFault.{ShapeFault}
 use Rattle.ksi_split.specs.declared.fault.ShapeFault.TheVariants.{TooMany, TooFew}
+use Rattle.ksi_split.specs.declared.side.Side.{Side}
+use Rattle.ksi_split.specs.declared.side.Side.TheVariants.{Left, Right}
 use Rattle.ksi_verifier.specs.declared.difference.RecordDifference.{RecordDifference}
 use Rattle.ksi_verifier.specs.declared.difference.RecordDifference.TheVariants as differences
 use Rattle.ksi_verifier.specs.declared.refusal.Refusal.{Refusal}
@@ -41,6 +43,20 @@ too_long_line n = line_of (codes "too" ∷ codes "long" ∷ decimal n ∷ [])
 abbrev pub malformed_line : ℕ → List (List ℕ) → List ℕ
 malformed_line n fault = line_of (codes "malformed" ∷ decimal n ∷ fault)
 
+abbrev pub replayed_line : (events messages seconds issued published : ℕ) → List ℕ
+replayed_line events messages seconds issued published = line_of (
+    codes "events" ∷ decimal events ∷ codes "messages" ∷ decimal messages ∷ codes "seconds" ∷ decimal seconds
+    ∷ codes "issued" ∷ decimal issued ∷ codes "published" ∷ decimal published ∷ [])
+
+abbrev pub signed_line : ℕ → List ℕ
+signed_line number = line_of (codes "signed" ∷ decimal number ∷ [])
+
+abbrev pub not_issued_line : ℕ → List ℕ
+not_issued_line number = line_of (codes "not" ∷ codes "issued" ∷ decimal number ∷ [])
+
+abbrev pub published_line : ℕ → List ℕ
+published_line n = line_of (codes "published" ∷ decimal n ∷ [])
+
 abbrev pub accepted_line : ℕ → List ℕ
 accepted_line t = line_of (codes "accepted" ∷ decimal t ∷ [])
 
@@ -72,3 +88,57 @@ refusal_words (PublicationDiffers time in_file computed) = codes "V14" ∷ decim
 
 abbrev pub refused_line : Refusal → List ℕ
 refused_line refusal = line_of (codes "refused" ∷ refusal_words refusal)
+
+-- ---- a signature that is taken on to a later second
+
+abbrev pub extended_line : (second publication : ℕ) → List ℕ
+extended_line second publication = line_of (codes "extended" ∷ decimal second ∷ decimal publication ∷ [])
+
+abbrev pub root_differs_line : (second : ℕ) → (kept given : List ℕ) → List ℕ
+root_differs_line second kept given = line_of (codes "refused" ∷ codes "E1" ∷ decimal second ∷ digest_text kept ∷ digest_text given ∷ [])
+
+abbrev pub undecided_to_line : ℕ → List ℕ
+undecided_to_line second = line_of (codes "refused" ∷ codes "E2" ∷ decimal second ∷ [])
+
+abbrev pub too_early_line : (second publication : ℕ) → List ℕ
+too_early_line second publication = line_of (codes "refused" ∷ codes "E3" ∷ decimal second ∷ decimal publication ∷ [])
+
+abbrev pub before_journal_line : ℕ → List ℕ
+before_journal_line second = line_of (codes "refused" ∷ codes "E4" ∷ decimal second ∷ [])
+
+abbrev pub too_large_line : ℕ → List ℕ
+too_large_line size = line_of (codes "refused" ∷ codes "E5" ∷ decimal size ∷ [])
+
+-- ---- an audit
+
+abbrev pub letter : Side → List ℕ
+letter Left = codes "L"
+letter Right = codes "R"
+
+abbrev pub letters : List Side → List ℕ
+letters [] = []
+letters (side ∷ sides) = letter side ++ letters sides
+
+-- the sides of a way, and a dash where there are none
+abbrev pub way_text : List Side → List ℕ
+way_text [] = codes "-"
+way_text (side ∷ sides) = letters (side ∷ sides)
+
+abbrev pub inside_line : (second : ℕ) → List Side → List ℕ
+inside_line second way = line_of (codes "inside" ∷ decimal second ∷ way_text way ∷ [])
+
+abbrev pub beneath_line : (second item links : ℕ) → List ℕ
+beneath_line second item links = line_of (codes "beneath" ∷ decimal second ∷ decimal item ∷ decimal links ∷ [])
+
+-- two strings in hex
+abbrev pub clash_line : (one two : List ℕ) → List ℕ
+clash_line one two = line_of (codes "clash" ∷ encode_lower one ∷ encode_lower two ∷ [])
+
+abbrev pub before_start_line : ℕ → List ℕ
+before_start_line publication = line_of (codes "before" ∷ codes "start" ∷ decimal publication ∷ [])
+
+abbrev pub undecided_line : ℕ → List ℕ
+undecided_line second = line_of (codes "undecided" ∷ decimal second ∷ [])
+
+abbrev pub not_decided_line : (publication : ℕ) → (given kept : List ℕ) → List ℕ
+not_decided_line publication given kept = line_of (codes "not" ∷ codes "decided" ∷ decimal publication ∷ digest_text given ∷ digest_text kept ∷ [])

@@ -4,10 +4,15 @@ use Rattle.ksi_ports.specs.Stored.{Held}
 use Rattle.ksi_signature.specs.declared.signature.Signature.{Signature}
 use Rattle.ksi_signature.specs.Reading.{signature_at}
 use Rattle.ksi_publications.specs.Reading.{publications_at}
+use Rattle.ksi_imprint.specs.Imprints.{imprint_of}
+use Rattle.ksi_journal.specs.Journal.{Contents}
+use Rattle.ksi_journal.specs.Reading.{journal_at}
+use Rattle.ksi_schedule.specs.Events.{History}
+use Rattle.ksi_schedule.specs.Reading.{schedule_at}
 use Rattle.ksi_top.specs.declared.report.Report.{Report}
 use Rattle.ksi_top.specs.declared.status.Status.TheVariants.{Malformed, TooLong}
 use Rattle.ksi_top.specs.Reports.{report}
-use Rattle.ksi_top.specs.FaultWords.{signature_fault, publications_fault}
+use Rattle.ksi_top.specs.FaultWords.{signature_fault, publications_fault, journal_fault, schedule_fault}
 use Rattle.ksi_top.specs.Lines.{too_long_line, malformed_line}
 
 -- the most bytes that a signature file may have, and those of any other file
@@ -43,3 +48,9 @@ signature_or_malformed n bytes = or_malformed signature_fault n (signature_at by
 
 abbrev pub publications_or_malformed : ℕ → List ℕ → Result (List (ℕ × List ℕ)) Report
 publications_or_malformed n bytes = or_malformed publications_fault n (publications_at bytes)
+
+abbrev pub journal_or_malformed : ℕ → List ℕ → Result Contents Report
+journal_or_malformed n bytes = or_malformed journal_fault n (journal_at imprint_of bytes)
+
+abbrev pub schedule_or_malformed : ℕ → List ℕ → Result History Report
+schedule_or_malformed n bytes = or_malformed schedule_fault n (schedule_at bytes)

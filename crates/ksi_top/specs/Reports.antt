@@ -1,10 +1,10 @@
 -- Reports, and how one follows from what was read.
-use Rattle.std.specs.Prelude.{◌≡◌, ℕ, List, Some, None, Result, Ok, Err}
+use Rattle.std.specs.Prelude.{◌≡◌, ◌≢◌, ℕ, List, Some, None, Result, Ok, Err}
 use Rattle.ksi_top.specs.declared.report.Report.{Report}
 use Rattle.ksi_top.specs.declared.report.Halt.{Halt}
 use Rattle.ksi_top.specs.declared.report.Halt.TheVariants.{Reported, Fault, NoMemory}
 use Rattle.ksi_top.specs.declared.status.Status.{Status}
-use Rattle.ksi_top.specs.declared.status.Status.TheVariants.{Done}
+use Rattle.ksi_top.specs.declared.status.Status.TheVariants.{Done, Malformed, TooLong}
 
 -- a status and a line, and nothing to save
 abbrev pub report : Status → List ℕ → Report
@@ -42,3 +42,21 @@ Reports expected (Ok report) = report ≡ expected
 Reports expected (Err (Reported report)) = report ≡ expected
 Reports expected (Err Fault) = Unit {0}
 Reports expected (Err NoMemory) = Unit {0}
+
+-- a report that a call may end with has this status
+abbrev pub HaltsAs : {T : Type 0} → Status → Result T Halt → Type 0
+HaltsAs status (Ok value) = Unit {0}
+HaltsAs status (Err (Reported report)) = report.status ≡ status
+HaltsAs status (Err Fault) = Unit {0}
+HaltsAs status (Err NoMemory) = Unit {0}
+
+-- what a report means, of a call that gives one unless a fault or want of memory ended it
+abbrev pub Means : (Report → Type 0) → Result Report Halt → Type 0
+Means P (Ok report) = P report
+Means P (Err (Reported report)) = P report
+Means P (Err Fault) = Unit {0}
+Means P (Err NoMemory) = Unit {0}
+
+-- what a report means where all files were read: none passed its limit or was malformed
+abbrev pub WhereRead : (Report → Type 0) → Report → Type 0
+WhereRead P report = report.status ≢ TooLong → report.status ≢ Malformed → P report

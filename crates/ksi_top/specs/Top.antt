@@ -7,7 +7,7 @@ use Rattle.ksi_top.specs.declared.report.Cut.{Cut}
 use Rattle.ksi_top.specs.declared.report.Cut.TheVariants as cuts
 use Rattle.ksi_words.specs.declared.asked.WordsRefusal.{WordsRefusal}
 use Rattle.ksi_top.specs.declared.status.Status.{Status}
-use Rattle.ksi_top.specs.declared.status.Status.TheVariants.{Done, Refused, Words, Malformed, Fault, NoMemory, TooLong}
+use Rattle.ksi_top.specs.declared.status.Status.TheVariants.{Done, Refused, Words, Malformed, Fault, NoMemory, Clash, TooLong}
 use Rattle.ksi_top.specs.Causes.{Counts, Quiet, Faulty, SomePasses}
 use Rattle.ksi_words.specs.Words.{Asked}
 use Rattle.ksi_top.specs.Run.{limits_of, refused, saved_into}
@@ -20,6 +20,7 @@ UnlessCut Words P = P
 UnlessCut Malformed P = P
 UnlessCut Fault P = Unit {0}
 UnlessCut NoMemory P = Unit {0}
+UnlessCut Clash P = P
 UnlessCut TooLong P = P
 
 -- all names stay but that of the file that is to be saved
@@ -68,6 +69,11 @@ TookTooMuch (Err refusal) before now line = ⊥
 abbrev pub ReportedAs : Report → Result Report Cut → Type 0
 ReportedAs expected (Ok report) = report ≡ expected
 ReportedAs expected (Err cut) = Unit {0}
+
+-- what the report means
+abbrev pub MeansUnlessCut : (Report → Type 0) → Result Report Cut → Type 0
+MeansUnlessCut P (Ok report) = P report
+MeansUnlessCut P (Err cut) = Unit {0}
 
 -- a report has its cause in the words or in the files
 pub record HasCause (asked : Result Asked WordsRefusal) (before now : Counts) (report : Report) : Type 0 where

@@ -3,15 +3,18 @@ ghost use Rattle.std.specs.Prelude.{◌≡◌, ◌≢◌, ◌≤◌, ◌∷◌, 
 ghost use Rattle.std.specs.Fmt.{decimal};
 ghost use Rattle.ksi_signature.specs.declared.fault.SigFault.TheVariants as signatures;
 ghost use Rattle.ksi_publications.specs.declared.fault.PubFault.TheVariants as publications;
-ghost use Rattle.ksi_top.specs.FaultWords.{signature_fault, publications_fault};
+ghost use Rattle.ksi_journal.specs.declared.fault.JournalFault.TheVariants as journals;
+ghost use Rattle.ksi_top.specs.FaultWords.{signature_fault, publications_fault, journal_fault, line_code, IsLineOf};
 ghost use Rattle.ksi_top.specs.Lines.{malformed_line};
 ghost use Rattle.ksi_top.specs.Printed.{word_text, room};
 
 use crate::line::Line;
-use crate::printed::Word::{self, Number, Text};
+use crate::printed::Word::{self, Digest, Number, Text};
 use crate::printed::print;
 use ksi_imprint::NoMemory;
+use ksi_journal::JournalFault;
 use ksi_publications::PubFault;
+use ksi_schedule::{LineFault, ScheduleFault};
 use ksi_signature::SigFault;
 use std::alloc::Global;
 
@@ -63,6 +66,64 @@ pub(crate) fn publications_fault_line(
         PubFault::Number(place) => at_place(alloc, n, "Q8", place),
         PubFault::Time(place) => at_place(alloc, n, "Q9", place),
         PubFault::NoMemory => Err(NoMemory),
+    }
+}
+
+/// Of file word `n`, which is a journal.
+pub(crate) fn journal_fault_line(
+    alloc: Global,
+    n: usize,
+    fault: &JournalFault,
+) -> Result<Line, NoMemory>
+    ensures line { IfOk result (λ line. line ≡ malformed_line n (journal_fault fault.now)) }
+    ensures fault { IfOk result (λ _. fault.now ≢ journals.NoMemory) }
+{
+    match fault {
+        JournalFault::Magic => malformed(alloc, n, "J1", &[]),
+        JournalFault::Tlv(place) => at_place(alloc, n, "J2", *place),
+        JournalFault::Order(place) => at_place(alloc, n, "J3", *place),
+        JournalFault::TreeRoot(second, kept, computed) => malformed(
+            alloc,
+            n,
+            "J4",
+            &[Number(*second), Digest(kept), Digest(computed)],
+        ),
+        JournalFault::Bound(place) => at_place(alloc, n, "J5", *place),
+        JournalFault::Imprint(place) => at_place(alloc, n, "J6", *place),
+        JournalFault::Count(second) => malformed(alloc, n, "J7", &[Number(*second)]),
+        JournalFault::Ends(place) => at_place(alloc, n, "J8", *place),
+        JournalFault::NoMemory => Err(NoMemory),
+    }
+}
+
+/// Of file word `n`, which is a schedule.
+pub(crate) fn schedule_fault_line(
+    alloc: Global,
+    n: usize,
+    fault: &ScheduleFault,
+) -> Result<Line, NoMemory>
+    ensures { IfOk result (λ line. IsLineOf n fault.now line) }
+{
+    match fault {
+        ScheduleFault::Line(fault, line) => {
+            malformed(alloc, n, line_code(*fault), &[Number(*line)])
+        }
+        ScheduleFault::NoMemory => Err(NoMemory),
+    }
+}
+
+fn line_code(fault: LineFault) -> &'static str
+    ensures code { result.now ≡ line_code fault }
+    ensures short { length result.now ≤ 3 }
+{
+    match fault {
+        LineFault::Word => "L1",
+        LineFault::Number => "L2",
+        LineFault::Hash => "L3",
+        LineFault::NoSuchActor => "L4",
+        LineFault::SecondOutOfRange => "L5",
+        LineFault::TooManyEvents => "L6",
+        LineFault::Header => "L7",
     }
 }
 

@@ -10,14 +10,22 @@
 //! ```
 #![tactic(auto)]
 
+mod audit;
+mod audit_line;
+mod extend;
+mod extend_line;
 mod fault_line;
+mod histories;
 mod line;
 mod loading;
 mod perform;
 mod printed;
+mod publish;
 mod reading;
 mod refusal_line;
+mod replay;
 mod report;
+mod sign;
 mod status;
 mod top;
 mod verify;
@@ -25,5 +33,9 @@ mod verify;
 pub use status::Status;
 pub use top::ksi;
 
+#[cfg(test)]
+mod later_tests;
+#[cfg(test)]
+mod path_tests;
 #[cfg(test)]
 mod tests;

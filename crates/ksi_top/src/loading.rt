@@ -1,8 +1,8 @@
 // The file words that a command reads.
-ghost use Rattle.std.specs.Prelude.{◌≡◌, ◌≤◌, ◌+◌, ℕ, IsTrue};
-ghost use Rattle.ksi_top.specs.Reports.{Gives};
+ghost use Rattle.std.specs.Prelude.{◌≡◌, ◌≤◌, ◌+◌, ℕ, IsTrue, IfOk};
+ghost use Rattle.ksi_top.specs.Reports.{Gives, HaltsAs};
 ghost use Rattle.ksi_top.specs.Causes.{LoadCaused, counts};
-ghost use Rattle.ksi_top.specs.Loading.{loaded};
+ghost use Rattle.ksi_top.specs.Loading.{content, loaded};
 
 use crate::printed::Word::{Number, Text};
 use crate::printed::print;
@@ -28,6 +28,8 @@ pub(crate) fn load_file<F: Files>(
     name: &str,
 ) -> Result<Bytes, Halt>
     ensures told { IsTrue F.tells → Gives (loaded limit n (F.held files.old) name.now) result }
+    ensures whole { IsTrue F.tells → IfOk result (λ bytes. bytes ≡ content (F.held files.old) name.now) }
+    ensures halts { HaltsAs Status.TooLong result }
     ensures stays { IsTrue F.tells → F.held files.new ≡ F.held files.old }
     ensures calls { F.calls files.new ≤ F.calls files.old + 1 }
     ensures later { F.calls files.old ≤ F.calls files.new }

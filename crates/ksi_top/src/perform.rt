@@ -1,15 +1,21 @@
 // What a run reports, before anything is saved or put.
 ghost use Rattle.std.specs.Prelude.{◌≡◌, ◌≤◌, ◌+◌, ℕ, IsTrue, IfOk, IfErr};
-ghost use Rattle.ksi_top.specs.Reports.{Reports};
+ghost use Rattle.ksi_top.specs.Reports.{Reports, Means};
 ghost use Rattle.ksi_top.specs.Causes.{ReportCaused, counts};
 ghost use Rattle.ksi_top.specs.Run.{performed, limits_of, loads_of, most_loads, run_loads, refused, run};
-ghost use Rattle.ksi_top.specs.Top.{ReportedAs, RunCaused};
+ghost use Rattle.ksi_top.specs.Top.{ReportedAs, MeansUnlessCut, RunCaused};
+ghost use Rattle.ksi_top.specs.Headline.{Headline};
 ghost use Rattle.ksi_words.specs.declared.asked.WordsRefusal.TheVariants as refusals;
-ghost use Rattle.ksi_words.specs.Words.{asked, texts, command_of};
+ghost use Rattle.ksi_words.specs.Words.{IsEarly, asked, texts, command_of};
 
+use crate::audit::audit;
+use crate::extend::extend;
 use crate::printed::Word::{Number, Text};
 use crate::printed::print;
+use crate::publish::publish;
+use crate::replay::replay;
 use crate::report::{Cut, Halt, Report};
+use crate::sign::sign;
 use crate::status::Status;
 use crate::verify::verify;
 use ksi_imprint::NoMemory;
@@ -25,6 +31,7 @@ pub(crate) fn report_of<F: Files>(
     files: &mut F,
 ) -> Result<Report, Cut>
     ensures told { IsTrue F.tells → ReportedAs (run (texts words.now) (F.held files.old)) result }
+    ensures headline { IsTrue F.tells → IfOk (command_of (texts words.now)) (λ asked. MeansUnlessCut (Headline asked (F.held files.old)) result) }
     ensures stays { IsTrue F.tells → F.held files.new ≡ F.held files.old }
     ensures calls { IsTrue F.tells → F.calls files.new ≤ F.calls files.old + run_loads (command_of (texts words.now)) (F.held files.old) }
     ensures few_calls { IfOk (command_of (texts words.now)) (λ command. F.calls files.new ≤ F.calls files.old + most_loads command) }
@@ -47,7 +54,9 @@ pub(crate) fn report_of<F: Files>(
 
 /// What a command reports: a case for each.
 fn perform<F: Files>(alloc: Global, files: &mut F, command: &Command<'_>) -> Result<Report, Halt>
+    requires early { IsEarly command.now }
     ensures told { IsTrue F.tells → Reports (performed (asked command.now) (F.held files.old)) result }
+    ensures headline { IsTrue F.tells → Means (Headline (asked command.now) (F.held files.old)) result }
     ensures stays { IsTrue F.tells → F.held files.new ≡ F.held files.old }
     ensures calls { IsTrue F.tells → F.calls files.new ≤ F.calls files.old + loads_of (asked command.now) (F.held files.old) }
     ensures few_calls { F.calls files.new ≤ F.calls files.old + most_loads (asked command.now) }
@@ -55,8 +64,17 @@ fn perform<F: Files>(alloc: Global, files: &mut F, command: &Command<'_>) -> Res
     ensures causes { ReportCaused (limits_of (asked command.now)) (counts (F.faults files.old) (F.taken files.old)) (counts (F.faults files.new) (F.taken files.new)) result }
 {
     match command {
+        Command::Replay(schedule, journal) => replay(alloc, files, schedule, journal),
+        Command::Sign(journal, number, out) => sign(alloc, files, journal, *number, out),
+        Command::Publish(journal, out) => publish(alloc, files, journal, out),
+        Command::Extend(journal, signature, second, out) => {
+            extend(alloc, files, journal, signature, *second, out)
+        }
         Command::Verify(signature, hash, publications) => {
             verify(alloc, files, signature, hash, publications)
+        }
+        Command::Audit(journal, signature, hash, publications) => {
+            audit(alloc, files, journal, signature, hash, publications)
         }
     }
 }

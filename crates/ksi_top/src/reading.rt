@@ -1,19 +1,32 @@
 // Files read by their grammars.
-ghost use Rattle.std.specs.Prelude.{◌≡◌};
-ghost use Rattle.ksi_top.specs.Reports.{Gives};
+ghost use Rattle.std.specs.Prelude.{◌≡◌, IfOk};
+ghost use Rattle.ksi_imprint.specs.Imprints.{imprint_of};
+ghost use Rattle.ksi_journal.specs.File.{IsJournalFile};
+ghost use Rattle.ksi_publications.specs.File.{IsPublications};
+ghost use Rattle.ksi_schedule.specs.Spelled.{IsScheduleText};
+ghost use Rattle.ksi_signature.specs.File.{IsSignature};
+ghost use Rattle.ksi_top.specs.Reports.{Gives, HaltsAs};
 ghost use Rattle.ksi_top.specs.Causes.{HaltsJudged};
-ghost use Rattle.ksi_top.specs.Loading.{signature_or_malformed, publications_or_malformed};
+ghost use Rattle.ksi_top.specs.Loading.{signature_or_malformed, publications_or_malformed, journal_or_malformed, schedule_or_malformed};
 
-use crate::fault_line::{publications_fault_line, signature_fault_line};
+use crate::fault_line::{
+    journal_fault_line, publications_fault_line, schedule_fault_line, signature_fault_line,
+};
 use crate::report::{Halt, Report};
 use crate::status::Status;
+use ksi_imprint::Sha;
+use ksi_journal::Journal;
+use ksi_journal::laws::journal_is_read;
 use ksi_publications::{Publications, publications_are_read};
+use ksi_schedule::{Schedule, schedule_is_read};
 use ksi_signature::{Signature, signature_is_read};
 use std::alloc::Global;
 
 /// The signature that file word `n` is, or that it is none.
 pub(crate) fn read_signature(alloc: Global, n: usize, bytes: &[u8]) -> Result<Signature, Halt>
     ensures told { Gives (signature_or_malformed n bytes.now) result }
+    ensures is { IfOk result (IsSignature bytes.now) }
+    ensures halts { HaltsAs Status.Malformed result }
     ensures judged { HaltsJudged result }
 {
     signature_is_read();
@@ -29,6 +42,8 @@ pub(crate) fn read_signature(alloc: Global, n: usize, bytes: &[u8]) -> Result<Si
 /// The publications file that file word `n` is, or that it is none.
 pub(crate) fn read_publications(alloc: Global, n: usize, bytes: &[u8]) -> Result<Publications, Halt>
     ensures told { Gives (publications_or_malformed n bytes.now) result }
+    ensures is { IfOk result (IsPublications bytes.now) }
+    ensures halts { HaltsAs Status.Malformed result }
     ensures judged { HaltsJudged result }
 {
     publications_are_read();
@@ -36,6 +51,40 @@ pub(crate) fn read_publications(alloc: Global, n: usize, bytes: &[u8]) -> Result
         Ok(publications) => Ok(publications),
         Err(fault) => {
             let line = publications_fault_line(alloc, n, fault)?;
+            Err(Halt::Reported(Report::new(Status::Malformed, line)))
+        }
+    }
+}
+
+/// The journal that file word `n` is, or that it is none.
+pub(crate) fn read_journal(alloc: Global, n: usize, bytes: &[u8]) -> Result<Journal<Sha>, Halt>
+    ensures told { Gives (journal_or_malformed n bytes.now) result }
+    ensures is { IfOk result (IsJournalFile imprint_of bytes.now) }
+    ensures halts { HaltsAs Status.Malformed result }
+    ensures judged { HaltsJudged result }
+{
+    journal_is_read();
+    match ksi_journal::load::<Sha>(alloc, bytes) {
+        Ok(journal) => Ok(journal),
+        Err(fault) => {
+            let line = journal_fault_line(alloc, n, &fault)?;
+            Err(Halt::Reported(Report::new(Status::Malformed, line)))
+        }
+    }
+}
+
+/// The schedule that file word `n` is, or that it is none.
+pub(crate) fn read_schedule(alloc: Global, n: usize, bytes: &[u8]) -> Result<Schedule, Halt>
+    ensures told { Gives (schedule_or_malformed n bytes.now) result }
+    ensures is { IfOk result (IsScheduleText bytes.now) }
+    ensures halts { HaltsAs Status.Malformed result }
+    ensures judged { HaltsJudged result }
+{
+    schedule_is_read();
+    match ksi_schedule::read_schedule(alloc, bytes) {
+        Ok(schedule) => Ok(schedule),
+        Err(fault) => {
+            let line = schedule_fault_line(alloc, n, &fault)?;
             Err(Halt::Reported(Report::new(Status::Malformed, line)))
         }
     }

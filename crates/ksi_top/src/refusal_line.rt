@@ -122,7 +122,7 @@ fn difference_line(alloc: Global, difference: &RecordDifference) -> Result<Line,
     }
 }
 
-fn refused(alloc: Global, code: &str, values: &[Word<'_>]) -> Result<Line, NoMemory>
+pub(crate) fn refused(alloc: Global, code: &str, values: &[Word<'_>]) -> Result<Line, NoMemory>
     requires code { length code.now ≤ 3 }
     requires values { room values.now ≤ 1000 }
     ensures { IfOk result (λ line. line ≡ line_of (codes "refused" ∷ code.now ∷ map word_text values.now)) }

@@ -1,10 +1,11 @@
-ghost use Rattle.std.specs.Prelude.{◌≡◌, ℕ, string_bytes};
+ghost use Rattle.std.specs.Prelude.{◌≡◌, ℕ, IfOk, string_bytes};
 ghost use Rattle.ksi_top.specs.declared.report.Halt.TheVariants.{NoMemory};
 ghost use Rattle.ksi_top.specs.Reports.{report, saving};
 
 use crate::line::Line;
 use crate::status::Status;
 use ksi_imprint::{Bytes, NoMemory};
+use std::alloc::Global;
 use std::marker::Model;
 
 /// A file that is to be saved. A contract sees its name and its bytes.
@@ -27,6 +28,17 @@ impl Saved {
         ensures { result ≡ (string_bytes name, bytes) }
     {
         Saved { name, bytes }
+    }
+
+    /// Under a name, which is copied.
+    ///
+    /// # Errors
+    /// `NoMemory`.
+    pub fn named(alloc: Global, name: &str, bytes: Bytes) -> Result<Self, NoMemory>
+        ensures { IfOk result (λ saved. saved ≡ (name.now, bytes)) }
+    {
+        let name = String::from_str(alloc, name)?;
+        Ok(Saved::new(name, bytes))
     }
 
     pub fn name(&self) -> &str

@@ -15,6 +15,8 @@ pub enum Status {
     Fault,
     /// There was no memory; nothing is saved or put.
     NoMemory,
+    /// An audit found two different strings with one hash; the line that shows them is put.
+    Clash,
     /// A file passes its limit.
     TooLong,
 }
@@ -33,6 +35,7 @@ impl Status {
             Status::Malformed => 3,
             Status::Fault => 4,
             Status::NoMemory => 5,
+            Status::Clash => 6,
             Status::TooLong => 7,
         }
     }

@@ -6,13 +6,13 @@ use std::alloc::Global;
 use std::test::Fail;
 
 // Files in hex: a signature of A at second 0, and the publications file of A at 0.
-const S0: &str = "8800005a L K";
+const S0: &str = "8800005a G K";
 
 const P0: &str = "4b53495055424c46 87010005 010101 0200 87030027 1025 0200 042101A";
 
-// A text in which A stands for the SHA-256 of no bytes, B for that of "abc", Z for 32 zero bytes, L and K for the
-// aggregation chain and the calendar chain of `S0`.
-fn expanded(alloc: Global, text: &str) -> Result<String, Fail> {
+// A text in which A stands for the SHA-256 of no bytes, B for that of "abc", Z for 32 zero bytes, G and K for the
+// aggregation chain and the calendar chain of `S0`, T for a second.
+pub(crate) fn expanded(alloc: Global, text: &str) -> Result<String, Fail> {
     let mut whole = String::new(alloc);
     for c in text.chars() {
         match c {
@@ -23,7 +23,8 @@ fn expanded(alloc: Global, text: &str) -> Result<String, Fail> {
             'Z' => whole.push_str(
                 "0000000000000000000000000000000000000000000000000000000000000000",
             )?,
-            'L' => {
+            'T' => whole.push_str("1700000000")?,
+            'G' => {
                 whole.push_str("8801002b0200030101052101")?;
                 whole.push_str(EMPTY)?;
                 whole.push_str("060101")?;
@@ -41,7 +42,7 @@ fn expanded(alloc: Global, text: &str) -> Result<String, Fail> {
 const EMPTY: &str = "e3b0c44298fc1c149afbf4c8996fb92427ae41e4649b934ca495991b7852b855";
 
 // The bytes of pieces in hex; a piece behind a number and an x stands so often.
-fn bytes(alloc: Global, text: &str) -> Result<Vec<u8>, Fail> {
+pub(crate) fn bytes(alloc: Global, text: &str) -> Result<Vec<u8>, Fail> {
     let mut bytes = Vec::new(alloc);
     for piece in expanded(alloc, text)?.split_whitespace() {
         let (times, piece) = match piece.split_once("x") {
@@ -55,7 +56,7 @@ fn bytes(alloc: Global, text: &str) -> Result<Vec<u8>, Fail> {
     Ok(bytes)
 }
 
-fn words(alloc: Global, line: &str) -> Result<Vec<String>, Fail> {
+pub(crate) fn words(alloc: Global, line: &str) -> Result<Vec<String>, Fail> {
     let mut words = Vec::new(alloc);
     for word in expanded(alloc, line)?.split_whitespace() {
         words.push(String::from_str(alloc, word)?)?;
@@ -78,6 +79,20 @@ fn held(
 
 const VERIFY: &str = "verify s A p";
 
+// Whether a run of words ends with a status and puts a line.
+pub(crate) fn ends(
+    alloc: Global,
+    files: &mut MemFiles,
+    line: &str,
+    said: (Status, &str),
+) -> Result<bool, Fail> {
+    let mut out = MemSink::new(alloc, 32_767, Vec::new(alloc))?;
+    let status = ksi(alloc, &words(alloc, line)?, files, &mut out);
+    let mut put = expanded(alloc, said.1)?;
+    put.push_str("\n")?;
+    Ok(out.written() == put.as_bytes() && status == said.0)
+}
+
 // Whether a run of words over a signature and a publications file ends with a status, puts a line and loads so often.
 fn is_as_said(
     alloc: Global,
@@ -87,25 +102,22 @@ fn is_as_said(
     said: (Status, &str, u64),
 ) -> Result<bool, Fail> {
     let mut files = held(alloc, &[], &bytes(alloc, signature)?, publications)?;
-    let mut out = MemSink::new(alloc, 32_767, Vec::new(alloc))?;
-    let status = ksi(alloc, &words(alloc, line)?, &mut files, &mut out);
-    let mut put = expanded(alloc, said.1)?;
-    put.push_str("\n")?;
+    let ended = ends(alloc, &mut files, line, (said.0, said.1))?;
     let calls = (files.calls(), files.faults());
-    Ok(out.written() == put.as_bytes() && status == said.0 && calls == (said.2, 0))
+    Ok(ended && calls == (said.2, 0))
 }
 
 #[test]
 fn each_check_has_its_line(rt: HostRuntime) -> Result<(), Fail> {
     let rows = [
-        ("8800005a L K", "accepted 0"),
-        ("8800005a K L", "accepted 0"),
-        ("8800005e L K 5e02ffff", "accepted 0"),
+        ("8800005a G K", "accepted 0"),
+        ("8800005a K G", "accepted 0"),
+        ("8800005e G K 5e02ffff", "accepted 0"),
         (
             "8800005a 8801002b 0200 030101 052101B 060101 88020027 0100 0200 052101B",
             "refused V1 B A",
         ),
-        ("8800031b 16xL K", "refused V2 0 0 - 1"),
+        ("8800031b 16xG K", "refused V2 0 0 - 1"),
         (
             "8800008c 8801002e 0200 030107 030101 052101A 060101 8801002b 0200 030103 052101A 060101 K",
             "refused V2 0 0 7 3",
@@ -119,11 +131,11 @@ fn each_check_has_its_line(rt: HostRuntime) -> Result<(), Fail> {
             "refused V3 0 1 18446744073709551615",
         ),
         (
-            "8800008c 8801002e 0200 030101 030102 052101A 060101 L K",
+            "8800008c 8801002e 0200 030101 030102 052101A 060101 G K",
             "refused V3 0 2 1",
         ),
         (
-            "8800008c 8801002e 0200 030101 030101 052101A 060101 L K",
+            "8800008c 8801002e 0200 030101 030101 052101A 060101 G K",
             "accepted 0",
         ),
         (
@@ -138,27 +150,27 @@ fn each_check_has_its_line(rt: HostRuntime) -> Result<(), Fail> {
             "8800008d 8801002e 0200 030101 030101 052101A 060101 8801002c 020105 030101 052101A 060101 K",
             "refused V6 1 0 5",
         ),
-        ("8800002f L", "refused V7"),
-        ("8800005a L 88020027 0100 0200 052101B", "refused V8 A B"),
+        ("8800002f G", "refused V7"),
+        ("8800005a G 88020027 0100 0200 052101B", "refused V8 A B"),
         (
-            "880000c4 L 88020091 010105 0200 052101A 3x082101A",
+            "880000c4 G 88020091 010105 0200 052101A 3x082101A",
             "refused V10 many 2",
         ),
         (
-            "8800007e L 8802004b 010105 0200 052101A 072101A",
+            "8800007e G 8802004b 010105 0200 052101A 072101A",
             "refused V10 few 3",
         ),
-        ("8800005b L 88020028 0100 020105 052101A", "refused V11 5 0"),
+        ("8800005b G 88020028 0100 020105 052101A", "refused V11 5 0"),
         (
             "8800005b 8801002c 020105 030101 052101A 060101 K",
             "refused V11 5 0",
         ),
         (
-            "88000086 L K 88030028 1026 020105042101A",
+            "88000086 G K 88030028 1026 020105042101A",
             "refused V12 time 5 0",
         ),
         (
-            "88000085 L K 88030027 1025 0200042101B",
+            "88000085 G K 88030027 1025 0200042101B",
             "refused V12 hash B A",
         ),
         (
@@ -188,13 +200,13 @@ fn each_check_has_its_line(rt: HostRuntime) -> Result<(), Fail> {
 fn each_fault_has_its_code(rt: HostRuntime) -> Result<(), Fail> {
     let signatures = [
         ("", "S1 0"),
-        ("8800005a L K 00", "S2 94"),
-        ("8801005a L K", "S3 2049"),
-        ("8800005e L K 88050000", "S4 2053 94"),
-        ("8800005c L K 1e00", "S5 30 94"),
+        ("8800005a G K 00", "S2 94"),
+        ("8801005a G K", "S3 2049"),
+        ("8800005e G K 88050000", "S4 2053 94"),
+        ("8800005c G K 1e00", "S5 30 94"),
         ("88000000", "S6 2049 0"),
         ("8800002b K", "S6 2049 0"),
-        ("88000085 L K K", "S7 2050 94"),
+        ("88000085 G K K", "S7 2050 94"),
         ("8800005a 8801002b 0200 030101 052102A 060101 K", "S8 13"),
         (
             "88000063 88010034 0209000000000000000001 030101 052101A 060101 K",
@@ -205,13 +217,13 @@ fn each_fault_has_its_code(rt: HostRuntime) -> Result<(), Fail> {
             "8800099a 8801096b 0200 030101 052101A 060101 64x0723022101A K",
             "S11 2382",
         ),
-        ("8800034a 17xL K", "S12 756"),
+        ("8800034a 17xG K", "S12 756"),
         (
             "8800005c 8801002d 0200 030101 052101A 060101 0700 K",
             "S13 51",
         ),
         (
-            "88000062 L 8802002f 01088000000000000000 0200 052101A",
+            "88000062 G 8802002f 01088000000000000000 0200 052101A",
             "S14 55",
         ),
     ];
@@ -367,9 +379,10 @@ fn each_status_has_its_number(rt: HostRuntime) {
         Status::Malformed,
         Status::Fault,
         Status::NoMemory,
+        Status::Clash,
         Status::TooLong,
     ];
-    let numbers = [0, 1, 2, 3, 4, 5, 7];
+    let numbers = [0, 1, 2, 3, 4, 5, 6, 7];
     for (status, number) in statuses.iter().zip(numbers) {
         assert_eq!(rt; status.code(), number);
     }

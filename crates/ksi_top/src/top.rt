@@ -1,7 +1,8 @@
 // The top call.
-ghost use Rattle.std.specs.Prelude.{◌≡◌, ◌≢◌, ℕ, ◌+◌, ◌<◌, ◌≤◌, ◌++◌, List, length, IsTrue, IfErr, None};
+ghost use Rattle.std.specs.Prelude.{◌≡◌, ◌≢◌, ℕ, ◌+◌, ◌<◌, ◌≤◌, ◌++◌, List, length, IsTrue, IfErr, IfOk, None};
 ghost use Rattle.ksi_top.specs.Top.{UnlessCut, FaultLeaves, outside, WordsStatus, WordsLine, TookTooMuch};
 ghost use Rattle.ksi_top.specs.Causes.{counts};
+ghost use Rattle.ksi_top.specs.Headline.{Headline};
 ghost use Rattle.ksi_top.specs.Run.{most_calls, run, run_calls, saved_into, saves_of};
 ghost use Rattle.ksi_words.specs.Words.{texts, command_of};
 
@@ -24,6 +25,10 @@ pub fn ksi<F: Files, K: Sink>(alloc: Global, words: &[String], files: &mut F, ou
     ensures put { IsTrue F.tells → IsTrue K.tells →
         UnlessCut result (K.written out.new
         ≡ K.written out.old ++ (run (texts words.now) (F.held files.old)).line) }
+
+    // The headline: what the run means, over the files that were held.
+    ensures headline { IsTrue F.tells → IfOk (command_of (texts words.now)) (λ asked.
+        UnlessCut result (Headline asked (F.held files.old) (run (texts words.now) (F.held files.old)))) }
 
     // It calls on the files no more often than the run does: words that are no command load nothing, and a file is loaded
     // only once those before it are read.

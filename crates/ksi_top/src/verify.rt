@@ -1,6 +1,8 @@
 // The command `verify`.
 ghost use Rattle.std.specs.Prelude.{◌≡◌, ◌≤◌, ◌+◌, ℕ, IsTrue, IfOk};
-ghost use Rattle.ksi_top.specs.Reports.{Reports};
+ghost use Rattle.ksi_top.specs.Reports.{Reports, Means, WhereRead};
+ghost use Rattle.ksi_top.specs.Headline.{IsVerified};
+ghost use Rattle.ksi_top.specs.Loading.{content};
 ghost use Rattle.ksi_top.specs.Causes.{ReportCaused, IsJudged, counts};
 ghost use Rattle.ksi_imprint.specs.Imprints.{imprint_of};
 ghost use Rattle.ksi_verifier.specs.Verdict.{verdict};
@@ -30,6 +32,7 @@ pub(crate) fn verify<F: Files>(
     publications: &str,
 ) -> Result<Report, Halt>
     ensures told { IsTrue F.tells → Reports (verify_run signature.now hash.now publications.now (F.held files.old)) result }
+    ensures headline { IsTrue F.tells → Means (WhereRead (IsVerified (content (F.held files.old) signature.now) hash.now (content (F.held files.old) publications.now))) result }
     ensures stays { IsTrue F.tells → F.held files.new ≡ F.held files.old }
     ensures calls { IsTrue F.tells → F.calls files.new ≤ F.calls files.old + verify_loads signature.now (F.held files.old) }
     ensures few_calls { F.calls files.new ≤ F.calls files.old + 2 }

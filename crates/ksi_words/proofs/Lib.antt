@@ -5,3 +5,5 @@ pub mod Numbers
 pub mod Misfits
 pub mod Parsed
 pub mod WordLemmas
+pub mod Early
+pub mod Unnamed

@@ -1,17 +1,22 @@
 -- The command that the words of a command line ask for.
-use Rattle.std.specs.Prelude.{◌≡◌, ℕ, ◌+◌, List, [], ◌∷◌, map, length, Bool, false, ◌==◌, codes, Option, Some, None, Result, Ok, Err, if◌then◌else◌, String, string_bytes, ⊤}
+use Rattle.std.specs.Prelude.{◌≡◌, ℕ, ◌+◌, ◌<◌, ◌^◌, List, [], ◌∷◌, map, length, Bool, false, ◌==◌, codes, Option, Some, None, Result, Ok, Err, if◌then◌else◌, String, string_bytes, ⊤}
 use Rattle.std.specs.List.{list_any}
 use Rattle.std.specs.Str.{bytes_eq}
 use Rattle.std.specs.declared.alloc.Global.{Global}
-use Rattle.ksi_words.specs.Sorts.{Sort, file_word, hash_word, Of, value_of}
+use Rattle.ksi_words.specs.Sorts.{Sort, file_word, hash_word, number_word, time_word, Of, value_of}
 use Rattle.ksi_words.specs.declared.asked.Command.{Command}
-use Rattle.ksi_words.specs.declared.asked.Command.TheVariants.{Verify}
+use Rattle.ksi_words.specs.declared.asked.Command.TheVariants.{Replay, Sign, Publish, Extend, Verify, Audit}
 use Rattle.ksi_words.specs.declared.asked.WordsRefusal.{WordsRefusal}
 use Rattle.ksi_words.specs.declared.asked.WordsRefusal.TheVariants.{Words, BadWord, NoMemory}
 
 -- a command: its file words as they stand, and its other words read
 pub data Asked : Type 0 where
+  replay : List ℕ → List ℕ → Asked
+  sign : List ℕ → ℕ → List ℕ → Asked
+  publish : List ℕ → List ℕ → Asked
+  extend : List ℕ → List ℕ → ℕ → List ℕ → Asked
   verify : List ℕ → List ℕ → List ℕ → Asked
+  audit : List ℕ → List ℕ → List ℕ → List ℕ → Asked
 
 -- what asks for a command, given what the words of these sorts stand for
 abbrev pub From : List Sort → Type 0
@@ -24,11 +29,26 @@ pub record Row : Type 0 where
   pub sorts : List Sort
   pub asks : From sorts
 
+abbrev pub replay_row : Row
+replay_row = record { name = codes "replay"; sorts = file_word ∷ file_word ∷ []; asks = replay }
+
+abbrev pub sign_row : Row
+sign_row = record { name = codes "sign"; sorts = file_word ∷ number_word ∷ file_word ∷ []; asks = sign }
+
+abbrev pub publish_row : Row
+publish_row = record { name = codes "publish"; sorts = file_word ∷ file_word ∷ []; asks = publish }
+
+abbrev pub extend_row : Row
+extend_row = record { name = codes "extend"; sorts = file_word ∷ file_word ∷ time_word ∷ file_word ∷ []; asks = extend }
+
 abbrev pub verify_row : Row
 verify_row = record { name = codes "verify"; sorts = file_word ∷ hash_word ∷ file_word ∷ []; asks = verify }
 
+abbrev pub audit_row : Row
+audit_row = record { name = codes "audit"; sorts = file_word ∷ file_word ∷ hash_word ∷ file_word ∷ []; asks = audit }
+
 abbrev pub table : List Row
-table = verify_row ∷ []
+table = replay_row ∷ sign_row ∷ publish_row ∷ extend_row ∷ verify_row ∷ audit_row ∷ []
 
 abbrev pub texts : List (String Global) → List (List ℕ)
 texts words = map string_bytes words
@@ -73,7 +93,17 @@ command_of words = if list_any begins_with_dash words then Err Words else comman
 
 -- what a command stands for
 abbrev pub asked : Command → Asked
+asked (Replay schedule journal) = replay schedule.now journal.now
+asked (Sign journal number out) = sign journal.now number out.now
+asked (Publish journal out) = publish journal.now out.now
+asked (Extend journal signature second out) = extend journal.now signature.now second out.now
 asked (Verify signature hash publications) = verify signature.now hash publications.now
+asked (Audit journal signature hash publications) = audit journal.now signature.now hash publications.now
+
+-- the second of a command, where it has one, is below 2^63
+abbrev pub IsEarly : Command → Type 0
+IsEarly (Extend journal signature second out) = second < 2 ^ 63
+IsEarly _ = Unit {0}
 
 -- the words were read as they are, or there was no memory to read them
 abbrev pub Reads : Result Asked WordsRefusal → Result Command WordsRefusal → Type 0

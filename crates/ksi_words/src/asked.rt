@@ -3,8 +3,18 @@ use ksi_imprint::Imprint;
 /// A command: its file words as they stand, and its other words read.
 #[derive(Drop)]
 pub enum Command<'a> {
+    /// The schedule's file, the journal's file to write.
+    Replay(&'a str, &'a str),
+    /// The journal's file, the number of the request, the signature's file to write.
+    Sign(&'a str, u64, &'a str),
+    /// The journal's file, the publications' file to write.
+    Publish(&'a str, &'a str),
+    /// The journal's file, the signature's file, the second to extend to, below 2^63, the signature's file to write.
+    Extend(&'a str, &'a str, u64, &'a str),
     /// The signature's file, the hash, the publications' file.
     Verify(&'a str, Imprint, &'a str),
+    /// The journal's file, the signature's file, the hash, the publications' file.
+    Audit(&'a str, &'a str, Imprint, &'a str),
 }
 
 /// Why words are no command.

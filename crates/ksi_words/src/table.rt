@@ -1,9 +1,9 @@
 // The commands: a row of the table each, and what the words after its name ask for.
-ghost use Rattle.std.specs.Prelude.{◌≡◌, ℕ, map};
-ghost use Rattle.ksi_words.specs.Sorts.{hash_of};
-ghost use Rattle.ksi_words.specs.Words.{Reads, asked_by, command_named, table, verify_row, word_at};
+ghost use Rattle.std.specs.Prelude.{◌≡◌, ◌<◌, ◌^◌, ℕ, IfOk, map};
+ghost use Rattle.ksi_words.specs.Sorts.{hash_of, number_of, time_of};
+ghost use Rattle.ksi_words.specs.Words.{Reads, asked_by, command_named, table, replay_row, sign_row, publish_row, extend_row, verify_row, audit_row, word_at, IsEarly};
 
-use crate::values::hash;
+use crate::values::{hash, number, time};
 use crate::{Command, WordsRefusal};
 use ksi_imprint::Imprint;
 
@@ -14,23 +14,92 @@ pub(crate) struct Row {
     pub(crate) words: usize,
 }
 
-pub(crate) static TABLE: [Row; 1] = [Row {
-    name: "verify",
-    words: 3,
-}];
+pub(crate) static TABLE: [Row; 6] = [
+    Row {
+        name: "replay",
+        words: 2,
+    },
+    Row {
+        name: "sign",
+        words: 3,
+    },
+    Row {
+        name: "publish",
+        words: 2,
+    },
+    Row {
+        name: "extend",
+        words: 4,
+    },
+    Row {
+        name: "verify",
+        words: 3,
+    },
+    Row {
+        name: "audit",
+        words: 4,
+    },
+];
 
 /// The command of a name and the words after it.
 pub(crate) fn asked<'a>(name: &str, words: &[&'a str]) -> Result<Command<'a>, WordsRefusal>
-    ensures { Reads (command_named table name.now (map (λ word. word.now) words.now)) result }
+    ensures reads { Reads (command_named table name.now (map (λ word. word.now) words.now)) result }
+    ensures early { IfOk result IsEarly }
 {
     match name {
+        "replay" => replay(words),
+        "sign" => sign(words),
+        "publish" => publish(words),
+        "extend" => extend(words),
         "verify" => verify(words),
+        "audit" => audit(words),
         _ => Err(WordsRefusal::Words),
     }
 }
 
+fn replay<'a>(words: &[&'a str]) -> Result<Command<'a>, WordsRefusal>
+    ensures reads { Reads (asked_by replay_row (map (λ word. word.now) words.now)) result }
+    ensures early { IfOk result IsEarly }
+{
+    let [schedule, journal] = words else {
+        return Err(WordsRefusal::Words);
+    };
+    Ok(Command::Replay(schedule, journal))
+}
+
+fn sign<'a>(words: &[&'a str]) -> Result<Command<'a>, WordsRefusal>
+    ensures reads { Reads (asked_by sign_row (map (λ word. word.now) words.now)) result }
+    ensures early { IfOk result IsEarly }
+{
+    let [journal, number, out] = words else {
+        return Err(WordsRefusal::Words);
+    };
+    Ok(Command::Sign(journal, number_at(2, number)?, out))
+}
+
+fn publish<'a>(words: &[&'a str]) -> Result<Command<'a>, WordsRefusal>
+    ensures reads { Reads (asked_by publish_row (map (λ word. word.now) words.now)) result }
+    ensures early { IfOk result IsEarly }
+{
+    let [journal, out] = words else {
+        return Err(WordsRefusal::Words);
+    };
+    Ok(Command::Publish(journal, out))
+}
+
+fn extend<'a>(words: &[&'a str]) -> Result<Command<'a>, WordsRefusal>
+    ensures reads { Reads (asked_by extend_row (map (λ word. word.now) words.now)) result }
+    ensures early { IfOk result IsEarly }
+{
+    let [journal, signature, publication, out] = words else {
+        return Err(WordsRefusal::Words);
+    };
+    Ok(Command::Extend(journal, signature, time_at(3, publication)?, out))
+}
+
 fn verify<'a>(words: &[&'a str]) -> Result<Command<'a>, WordsRefusal>
-    ensures { Reads (asked_by verify_row (map (λ word. word.now) words.now)) result }
+    ensures reads { Reads (asked_by verify_row (map (λ word. word.now) words.now)) result }
+    ensures early { IfOk result IsEarly }
 {
     let [signature, hash, publications] = words else {
         return Err(WordsRefusal::Words);
@@ -38,9 +107,34 @@ fn verify<'a>(words: &[&'a str]) -> Result<Command<'a>, WordsRefusal>
     Ok(Command::Verify(signature, hash_at(2, hash)?, publications))
 }
 
+fn audit<'a>(words: &[&'a str]) -> Result<Command<'a>, WordsRefusal>
+    ensures reads { Reads (asked_by audit_row (map (λ word. word.now) words.now)) result }
+    ensures early { IfOk result IsEarly }
+{
+    let [journal, signature, hash, publications] = words else {
+        return Err(WordsRefusal::Words);
+    };
+    Ok(Command::Audit(journal, signature, hash_at(3, hash)?, publications))
+}
+
 // The hash that word n is.
 fn hash_at(n: usize, word: &str) -> Result<Imprint, WordsRefusal>
     ensures { result ≡ word_at n (hash_of word.now) }
 {
     hash(word).ok_or(WordsRefusal::BadWord(n))
+}
+
+// The number that word n is.
+fn number_at(n: usize, word: &str) -> Result<u64, WordsRefusal>
+    ensures { result ≡ word_at n (number_of word.now) }
+{
+    number(word).ok_or(WordsRefusal::BadWord(n))
+}
+
+// The number below 2^63 that word n is.
+fn time_at(n: usize, word: &str) -> Result<u64, WordsRefusal>
+    ensures time { result ≡ word_at n (time_of word.now) }
+    ensures early { IfOk result (λ time. time < 2 ^ 63) }
+{
+    time(word).ok_or(WordsRefusal::BadWord(n))
 }

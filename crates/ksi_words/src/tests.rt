@@ -31,12 +31,29 @@ fn words(alloc: Global, line: &str) -> Result<Vec<String>, Fail> {
 // What is asked, with `#` for the hash of DIGITS.
 fn told(alloc: Global, command: &Command<'_>) -> Result<String, Fail> {
     match command {
+        Command::Replay(schedule, journal) => {
+            Ok(format!(in alloc; "replay {schedule} {journal}")?)
+        }
+        Command::Sign(journal, number, out) => {
+            Ok(format!(in alloc; "sign {journal} {number} {out}")?)
+        }
+        Command::Publish(journal, out) => Ok(format!(in alloc; "publish {journal} {out}")?),
+        Command::Extend(journal, signature, second, out) => {
+            Ok(format!(in alloc; "extend {journal} {signature} {second} {out}")?)
+        }
         Command::Verify(signature, imprint, publications) => {
             let digits = match hash(DIGITS) {
                 Some(other) if other == *imprint => "#",
                 _ => "other",
             };
             Ok(format!(in alloc; "verify {signature} {digits} {publications}")?)
+        }
+        Command::Audit(journal, signature, imprint, publications) => {
+            let digits = match hash(DIGITS) {
+                Some(other) if other == *imprint => "#",
+                _ => "other",
+            };
+            Ok(format!(in alloc; "audit {journal} {signature} {digits} {publications}")?)
         }
     }
 }
@@ -54,6 +71,26 @@ fn answer(alloc: Global, words: &[String]) -> Result<String, Fail> {
 fn each_line_of_words_has_its_answer(rt: HostRuntime) -> Result<(), Fail> {
     let alloc = rt.alloc();
     let rows = [
+        ("replay f j", "replay f j"),
+        ("replay f", "words refused"),
+        ("replay f j 1", "words refused"),
+        ("sign j 007 s", "sign j 7 s"),
+        (
+            "sign j 18446744073709551615 s",
+            "sign j 18446744073709551615 s",
+        ),
+        ("sign j 18446744073709551616 s", "bad word 2"),
+        ("sign j 1", "words refused"),
+        ("sign j -1 s", "words refused"),
+        ("publish j p", "publish j p"),
+        ("publish j", "words refused"),
+        (
+            "extend j s 9223372036854775807 t",
+            "extend j s 9223372036854775807 t",
+        ),
+        ("extend j s 9223372036854775808 t", "bad word 3"),
+        ("extend j s # t", "bad word 3"),
+        ("extend j s 1", "words refused"),
         ("verify s # p", "verify s # p"),
         ("verify s ^ p", "verify s # p"),
         ("verify verify # help", "verify verify # help"),
@@ -85,7 +122,11 @@ fn each_line_of_words_has_its_answer(rt: HostRuntime) -> Result<(), Fail> {
         ("ksi verify s # p", "words refused"),
         ("help", "words refused"),
         ("help verify", "words refused"),
-        ("audit j s # p", "words refused"),
+        ("audit j s # p", "audit j s # p"),
+        ("audit j s 12 p", "bad word 3"),
+        ("audit j s #", "words refused"),
+        ("audit j s # p q", "words refused"),
+        ("make 1 f", "words refused"),
         (" verify s # p", "words refused"),
         ("-", "words refused"),
         ("--", "words refused"),

@@ -1,8 +1,8 @@
 // The words of a command line.
-ghost use Rattle.std.specs.Prelude.{◌≡◌, ℕ, string_bytes};
+ghost use Rattle.std.specs.Prelude.{◌≡◌, ℕ, IfOk, string_bytes};
 ghost use Rattle.std.specs.List.{list_any};
 ghost use Rattle.ksi_words.specs.Grammar.{refusal_of};
-ghost use Rattle.ksi_words.specs.Words.{Reads, begins_with_dash, texts, command_of};
+ghost use Rattle.ksi_words.specs.Words.{Reads, begins_with_dash, texts, command_of, IsEarly};
 
 use crate::grammar::grammar;
 use crate::table::{TABLE, asked};
@@ -14,9 +14,10 @@ use std::alloc::Global;
 /// shows, and none begins with a dash. Its file words are borrowed from `words`.
 ///
 /// `Err(Words)` comes exactly where they have no such form, and `Err(BadWord(n))` exactly where they have and word `n`
-/// after the name is the first that is no number or hash where one has to stand.
+/// after the name is the first that is no number or hash where one has to stand. A second that is asked for is below 2^63.
 pub fn command<'a>(alloc: Global, words: &'a [String]) -> Result<Command<'a>, WordsRefusal>
-    ensures { Reads (command_of (texts words.now)) result }
+    ensures reads { Reads (command_of (texts words.now)) result }
+    ensures early { IfOk result IsEarly }
 {
     // `clap` would take a dash for an option.
     if has_dash(words) {

@@ -5,21 +5,21 @@ use Rattle.ksi_verifier.specs.Leading.{all_links}
 use Rattle.ksi_auditor.proofs.Outcomes.{code_clash, code_inside, code_beneath}
 use Rattle.ksi_auditor.proofs.auditing.lay_below.Goals as goal
 
-pub returns-in-Apart : goal.returns-in-Apart
-returns-in-Apart g c =
-    code_clash g.C.Compress.image c.in_ok-round.round c.args.items.now (all_links (plain_chains c.args.chains.now)) c.args.hash.now c.args.second c.in_ok-walk.walk c.in_ok-round.ensures c.in_ok-walk.ensures c.in-Apart.clash c.in-Apart.is
+pub returns-in-Apart-clause-audit : goal.returns-in-Apart-clause-audit
+returns-in-Apart-clause-audit g c =
+    code_clash g.C.Compress.image c.in_ok-round.round c.args.items.now (all_links (plain_chains c.args.chains.now)) c.args.hash.now c.args.second c.in_ok-walk.walk c.in_ok-round.ensures c.in_ok-walk.ensures.walk c.in-Apart.clash c.in-Apart.is
 
-pub returns-in-At : goal.returns-in-At
-returns-in-At g c =
-    ap (answers.Inside c.args.second) c.way.ensures ∙ code_inside g.C.Compress.image c.in_ok-round.round c.args.items.now (all_links (plain_chains c.args.chains.now)) c.args.hash.now c.args.second c.in_ok-walk.walk c.in_ok-round.ensures c.in_ok-walk.ensures c.in-At.place c.in-At.is
+pub returns-in-At-clause-audit : goal.returns-in-At-clause-audit
+returns-in-At-clause-audit g c =
+    ap (answers.Inside c.args.second) c.way.ensures ∙ code_inside g.C.Compress.image c.in_ok-round.round c.args.items.now (all_links (plain_chains c.args.chains.now)) c.args.hash.now c.args.second c.in_ok-walk.walk c.in_ok-round.ensures c.in_ok-walk.ensures.walk c.in-At.place c.in-At.is
 
 pub beneath-requires-clause-some : goal.beneath-requires-clause-some
 beneath-requires-clause-some g c =
-    (code_beneath g.C.Compress.image c.in_ok-round.round c.args.items.now (all_links (plain_chains c.args.chains.now)) c.args.hash.now c.args.second c.in_ok-walk.walk c.in_ok-round.ensures c.in_ok-walk.ensures c.in-Past.place c.count_of-links.result c.in-Past.is
+    (code_beneath g.C.Compress.image c.in_ok-round.round c.args.items.now (all_links (plain_chains c.args.chains.now)) c.args.hash.now c.args.second c.in_ok-walk.walk c.in_ok-round.ensures c.in_ok-walk.ensures.walk c.in-Past.place c.count_of-links.result c.in-Past.is
     c.count_of-links.ensures).0
 
-pub returns : goal.returns
-returns g c =
+pub returns-clause-audit : goal.returns-clause-audit
+returns-clause-audit g c =
     c.beneath.ensures
-    ∙ (code_beneath g.C.Compress.image c.in_ok-round.round c.args.items.now (all_links (plain_chains c.args.chains.now)) c.args.hash.now c.args.second c.in_ok-walk.walk c.in_ok-round.ensures c.in_ok-walk.ensures c.in-Past.place c.count_of-links.result c.in-Past.is
+    ∙ (code_beneath g.C.Compress.image c.in_ok-round.round c.args.items.now (all_links (plain_chains c.args.chains.now)) c.args.hash.now c.args.second c.in_ok-walk.walk c.in_ok-round.ensures c.in_ok-walk.ensures.walk c.in-Past.place c.count_of-links.result c.in-Past.is
     c.count_of-links.ensures).1

@@ -20,12 +20,12 @@ along_chains-requires g t c =
     let low : level_after c.top_of-top.result.level (all_links (plain_chains higher)) ≤ 255 = omega (arith, levels, top, c.requires) in
     λ κs below. (search rules, (search rules, (search rules, low)))
 
-pub returns : goal.returns
-returns g t c =
+pub returns-clause-walk : goal.returns-clause-walk
+returns-clause-walk g t c =
     let chain = c.in-Some.first.0.now in
     let higher = c.in-Some.first.1.now in
     let links = c.as_slice-links.result.now in
     let is_links = ap plain_links (c.as_slice-links.ensures.links ∙ ap (λ (x : _). x.links) c.chain.view_is) in
-    ok_goes_on c.along_links.result _ _ c.along_links.ensures
+    ok_goes_on c.along_links.result _ _ c.along_links.ensures.walk
     (chain_down g.C.Compress.image (g.K.KeptTree.text c.args.tree.now) (At []) c.in_ok-walk.walk c.args.below.now c.top_of-top.result (plain_chain chain) (plain_chains higher) (plain_chains c.args.chains.now) (plain_links links)
-    (ap plain_chains c.in-Some.ensures.cases.0) is_links c.top_of-top.ensures c.in_ok-walk.ensures)
+    (ap plain_chains c.in-Some.ensures.cases.0) is_links c.top_of-top.ensures c.in_ok-walk.ensures.walk)

@@ -1,4 +1,4 @@
-use Rattle.std.proofs.Common.{◌<◌, ◌≡◌, Result, Ok, Err, ap, ◌∙◌, inl, inr, arith}
+use Rattle.std.proofs.Common.{◌<◌, Result, ap, ◌∙◌, inl, arith}
 use Rattle.std.proofs.lemmas.List.Elements.{All-from_get_or}
 use Rattle.ksi_verifier.specs.declared.aggregated.Aggregated.{Aggregated}
 use Rattle.ksi_verifier.specs.declared.refusal.Refusal.{Refusal}

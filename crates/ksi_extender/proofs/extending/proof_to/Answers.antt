@@ -1,4 +1,4 @@
-use Rattle.std.proofs.Common.{◌≡◌, List, ℕ, [], ap, ◌∙◌}
+use Rattle.std.proofs.Common.{List, ℕ, [], ap, ◌∙◌}
 use Rattle.ksi_calendar.specs.Calendar.{calendar_leaf, calendar_root}
 use Rattle.ksi_journal.specs.Calendar.{calendar_of}
 use Rattle.ksi_signature.specs.Values.{Publishing}

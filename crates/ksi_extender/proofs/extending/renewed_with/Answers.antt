@@ -1,4 +1,4 @@
-use Rattle.std.proofs.Common.{◌<◌, ◌≡◌, Result, Ok, Err, refl, inl, inr, arith}
+use Rattle.std.proofs.Common.{◌<◌, refl, inl, arith}
 use Rattle.std.proofs.lemmas.List.Elements.{All-from_get_or}
 use Rattle.ksi_extender.proofs.Steps.{text_is, too_large}
 use Rattle.ksi_extender.proofs.extending.renewed_with.Goals as goal

@@ -1,8 +1,6 @@
-use Rattle.std.proofs.Common.{◌≡◌, ◌<◌, ◌≤◌, ◌+◌, ◌∙◌, sym, length, arith, inl}
+use Rattle.std.proofs.Common.{◌<◌, ◌∙◌, sym, arith, inl}
 use Rattle.std.proofs.lemmas.List.Elements.{All-from_get_or}
 use Rattle.std.proofs.lemmas.Result.{IfOk-weaker}
-use Rattle.ksi_calendar.specs.Calendar.{calendar_leaf}
-use Rattle.ksi_journal.specs.Calendar.{calendar_of, leaf_at}
 use Rattle.ksi_extender.proofs.Kept.{is_kept}
 use Rattle.ksi_extender.proofs.Leaves.{leaves}
 use Rattle.ksi_extender.proofs.Told.{found, some_signature, no_chains, not_kept, all_passed}

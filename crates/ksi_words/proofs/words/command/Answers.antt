@@ -13,7 +13,7 @@ use Rattle.ksi_words.proofs.words.command.Goals as goal
 pub returns-then-has_dash : goal.returns-then-has_dash
 returns-then-has_dash c =
     let dash : list_any (λ word. begins_with_dash (string_bytes word)) c.args.words.now ≡ true = search rules in
-    dash_refused (texts c.args.words.now) (any_text begins_with_dash c.args.words.now ∙ dash)
+    record { reads = dash_refused (texts c.args.words.now) (any_text begins_with_dash c.args.words.now ∙ dash); early = tt }
 
 pub returns-in-Err : goal.returns-in-Err
 returns-in-Err c =
@@ -22,7 +22,7 @@ returns-in-Err c =
     let app_is : app_of c.in-Ok.grammar ≡ app_with forms = c.in-Ok.ensures ∙ ap app_over forms_are in
     let kinds = c.in-Err.ensures.kinds (ap is_simple_and_free app_is ∙ app_free forms forms_good) in
     let reads = error_reads (texts c.args.words.now) c.in-Err.error (any_text begins_with_dash c.args.words.now ∙ plain) (subst (λ app. HasKind (fault_of app (texts c.args.words.now)) c.in-Err.error) app_is kinds) in
-    rw (c.refusal.ensures, c.kind.ensures) reads
+    record { reads = rw (c.refusal.ensures, c.kind.ensures) reads; early = tt }
 
 pub returns-in_default-get_raw : goal.returns-in_default-get_raw
 returns-in_default-get_raw c =
@@ -41,4 +41,4 @@ returns c =
     let parse = c.in-Ok-try_get_matches_from in
     let found = found_words (texts c.args.words.now) (app_of c.in-Ok.grammar) app_is (any_text begins_with_dash c.args.words.now ∙ plain) parse.matches parse.ensures.kinds parse.ensures.matches c.subcommand.result c.in-Some.name c.in-Some.matches c.subcommand.ensures.name c.subcommand.ensures.rows c.in-Some.is in
     let words_are : map (λ word. word.now) c.in-Some-get_raw.words.now ≡ found.0 = words_got c.get_raw.result c.in-Some-get_raw.words _ found.0 c.in-Some-get_raw.is c.get_raw.ensures found.2 in
-    named_reads (texts c.args.words.now) c.in-Some.name.now found.0 _ c.asked.result (any_text begins_with_dash c.args.words.now ∙ plain) found.1 words_are c.asked.ensures
+    record { reads = named_reads (texts c.args.words.now) c.in-Some.name.now found.0 _ c.asked.result (any_text begins_with_dash c.args.words.now ∙ plain) found.1 words_are c.asked.ensures.reads; early = c.asked.ensures.early }

@@ -1,0 +1,10 @@
+use Rattle.std.proofs.Common.{arith}
+use Rattle.ksi_generate.proofs.Places.{stream_filled, further_one}
+use Rattle.ksi_generate.proofs.stream.Stream.fill.Goals as goal
+
+pub bytes-preserved : goal.bytes-preserved
+bytes-preserved c = record {
+  early = c.bytes.invariant.early;
+  so_far = stream_filled c.bytes.bytes c.bytes.k c.next.result c.args.self.now c.bytes.self (omega arith) c.bytes.invariant.early c.bytes.invariant.so_far c.bytes.invariant.place c.next.ensures.byte;
+  place = further_one c.args.self.now c.bytes.self c.next.new.self c.bytes.k c.bytes.invariant.place c.next.ensures.place;
+}

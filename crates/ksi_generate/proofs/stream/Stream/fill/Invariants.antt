@@ -1,0 +1,10 @@
+use Rattle.std.proofs.Common.{◌≡◌, ◌<◌, ◌^◌, take}
+use Rattle.ksi_generate.specs.Stream.{stream, further}
+use Rattle.ksi_generate.proofs.stream.Stream.fill.Given as goal
+
+abbrev pub invariant-bytes : goal.invariant-bytes
+invariant-bytes l = record {
+  early : l.initial.self.taken < 2 ^ 64;
+  so_far : take l.k l.bytes ≡ stream l.initial.self.number l.initial.self.taken l.k;
+  place : l.self ≡ further l.initial.self l.k;
+}

@@ -1,0 +1,31 @@
+-- The stream of bytes of a number.
+use Rattle.std.specs.Prelude.{ℕ, zero, suc, ◌+◌, ◌/◌, ◌%◌, ◌^◌, List, [], ◌∷◌, ◌++◌, codes, slice_index}
+use Rattle.std.specs.Int.{w64, to_be_bytes}
+use Rattle.sha2.specs.Sha256.{sha256}
+
+-- block i: SHA-256 (FIPS 180-4) of the three bytes `ksi`, the number and i, both in eight bytes, most significant first
+unfoldable pub block : (number i : ℕ) → List ℕ
+block number i = sha256 (codes "ksi" ++ to_be_bytes w64 number ++ to_be_bytes w64 i)
+
+-- byte k of block 0, block 1, and so on
+unfoldable pub byte_of : (number k : ℕ) → ℕ
+byte_of number k = slice_index (block number (k / 32)) (k % 32)
+
+-- the place behind so many more bytes. There are 2^64 places, and then the stream begins anew; no schedule comes near: none
+-- takes as many as 2^21 bytes.
+abbrev pub behind : (place count : ℕ) → ℕ
+behind place count = (place + count) % 2 ^ 64
+
+-- so many bytes of the stream from this place on
+abbrev pub stream : (number place count : ℕ) → List ℕ
+stream number place zero = []
+stream number place (suc count) = byte_of number place ∷ stream number (behind place 1) count
+
+-- a place in the stream of a number
+pub record Place : Type 0 where
+  pub number : ℕ
+  pub taken : ℕ
+
+-- the place behind so many more bytes
+abbrev pub further : Place → (count : ℕ) → Place
+further p count = record { number = p.number; taken = behind p.taken count }

@@ -1,0 +1,39 @@
+ghost use Rattle.std.specs.Prelude.{◌≡◌, IfOk};
+ghost use Rattle.ksi_generate.specs.Generate.{header};
+
+use ksi_imprint::NoMemory;
+use ksi_schedule::{Actor, Parents, Plan};
+use std::alloc::Global;
+
+/// The first second.
+pub(crate) const START: u64 = 1_700_000_000;
+
+/// The plan of all generated schedules.
+///
+/// # Errors
+/// `NoMemory`.
+pub(crate) fn header(alloc: Global) -> Result<Plan, NoMemory>
+    ensures { IfOk result (λ plan. plan ≡ header) }
+{
+    let parents = [
+        Actor::Core(0),
+        Actor::Core(1),
+        Actor::Core(2),
+        Actor::Aggregator(0),
+        Actor::Aggregator(1),
+        Actor::Aggregator(3),
+    ];
+    let parents = Parents::from_vec(parents.to_vec(alloc)?);
+    Ok(planned(parents))
+}
+
+fn planned(parents: Parents) -> Plan
+    requires { parents ≡ header.parents }
+    ensures { result ≡ header }
+{
+    Plan {
+        cores: 3,
+        start: START,
+        parents,
+    }
+}

@@ -1,0 +1,4 @@
+pub mod Chaining
+pub mod Reaching
+pub mod RootsKept
+pub mod Journaled

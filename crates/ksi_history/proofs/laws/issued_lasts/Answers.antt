@@ -1,0 +1,25 @@
+use Rattle.ksi_journal.specs.Calendar.{calendar_of}
+use Rattle.ksi_world.specs.Histories.{world_of}
+use Rattle.ksi_history.proofs.Chaining.{issued_aggregated}
+use Rattle.ksi_history.proofs.Reaching.{Laws, covered_before, lasts_for}
+use Rattle.ksi_history.proofs.laws.issued_lasts.Goals as goal
+
+pub returns : goal.returns
+returns c = λ image h journal images plan events ask is keeps number asked text at is_issued are p to covered.
+    let carried = c.issued_is_carried.ensures.issued image h images plan events ask number text is_issued in
+    let laws : Laws image journal = record {
+      aggregates = issued_aggregated image (c.aggregation.ensures image);
+      whole = c.issued_is_signature.ensures.signature;
+      short = c.issued_is_signature.ensures.short;
+      before = λ p covered. covered_before journal p ((c.calendar_is_covered.ensures.covered image journal p is).1 covered);
+      early = c.calendar_is_covered.ensures.early image journal is;
+      leaves = λ t lt. c.calendar_is_covered.ensures.leaves image journal t is lt;
+      climbs = λ t p to. c.one_chain.ensures.climbs image (calendar_of journal) t p to;
+      value = c.one_climb.ensures.value image;
+      extends = λ bytes signature chains p are leads. c.covered_is_extended.ensures image journal bytes signature chains p images is are leads;
+      accepts = λ bytes text signature p are whole e publications. c.extended_is_accepted.ensures.accepted image journal bytes text signature p are whole e publications;
+      again = λ bytes text signature p early are whole e. c.extended_is_accepted.ensures.again image journal bytes text signature p images is early are whole e;
+      tells = λ signature hash publications t passes decided. c.decided_tells.ensures image journal signature hash publications t is passes decided;
+      shows = λ signature hash publications imprint. c.audit_shows.ensures image journal signature hash publications images is imprint;
+    } in
+    lasts_for h.plan (world_of image h) journal keeps image laws number text are carried.0 carried.1 asked at p to covered

@@ -1,0 +1,28 @@
+use Rattle.std.proofs.Common.{ℕ, List, subst}
+use Rattle.std.specs.List.{AllByRecursion}
+use Rattle.ksi_imprint.specs.Imprints.{imprint_of}
+use Rattle.ksi_tlv.specs.Spelling.{AreBytes}
+use Rattle.ksi_world.specs.Histories.{world_of}
+use Rattle.ksi_world.specs.Records.{issued_all}
+use Rattle.ksi_replay.specs.Journals.{journal_of}
+use Rattle.ksi_top.proofs.Headline.{all_at, sha_imprints, issued_listed}
+use Rattle.ksi_top.proofs.histories.histories_hold.Goals as goal
+
+pub returns-clause-holds : goal.returns-clause-holds
+returns-clause-holds c = λ text h spelled lawful.
+    let is = c.spelled_is_schedule.ensures.schedule text h spelled in
+    let w = world_of imprint_of h in
+    let joined = c.history_is_joined.ensures imprint_of h (journal_of imprint_of h) sha_imprints is.plan is.events (c.spelled_is_schedule.ensures.imprints text h spelled) lawful.kept
+    (c.journal_keeps_roots.ensures imprint_of h is.plan is.events) in
+    let texts = subst (AllByRecursion (λ (x : ℕ × List ℕ). AreBytes x.1)) (issued_listed h) lawful.texts in
+    record {
+      agreement = c.agreement.ensures imprint_of h is.plan is.events;
+      validity = c.validity.ensures.root imprint_of h is.plan is.events;
+      lasts = λ number issued_text issued.
+          let listed = c.all_issued.ensures.there imprint_of w number issued_text issued in
+          joined.issued number issued_text issued (all_at (λ (x : ℕ × List ℕ). AreBytes x.1) (issued_all imprint_of w) listed.0 (number, issued_text) texts listed.1);
+      published = joined.published;
+    }
+
+pub returns-clause-again : goal.returns-clause-again
+returns-clause-again c = λ h lawful. c.written_is_journal.ensures imprint_of (journal_of imprint_of h) lawful.kept

@@ -1,0 +1,88 @@
+// The command `extend`.
+ghost use Rattle.std.specs.Prelude.{◌≡◌, ◌≤◌, ◌<◌, ◌+◌, ◌^◌, ℕ, IsTrue, IfOk};
+ghost use Rattle.ksi_imprint.specs.Imprints.{imprint_of};
+ghost use Rattle.ksi_extender.specs.Accepted.{first_time};
+ghost use Rattle.ksi_extender.specs.Extended.{extended};
+ghost use Rattle.ksi_top.specs.Reports.{Reports, Means, WhereRead};
+ghost use Rattle.ksi_top.specs.declared.status.Status.TheVariants as statuses;
+ghost use Rattle.ksi_top.specs.Headline.{IsExtension, IsTakenOn};
+ghost use Rattle.ksi_top.specs.Loading.{content};
+ghost use Rattle.ksi_top.specs.Causes.{ReportCaused, IsJudged, counts};
+ghost use Rattle.ksi_top.specs.Extend.{extend_limits, extend_loads, extend_run, taken_on};
+
+use crate::extend_line::not_extended;
+use crate::loading::{FILE_LIMIT, SIGNATURE_LIMIT, load_file};
+use crate::printed::Word::{Number, Text};
+use crate::printed::print;
+use crate::reading::{read_journal, read_signature};
+use crate::report::{Halt, Report, Saved};
+use ksi_imprint::{NoMemory, Sha};
+use ksi_journal::Journal;
+use ksi_ports::Files;
+use ksi_signature::Signature;
+use std::alloc::Global;
+
+/// Loads and reads the journal, then the signature, and saves it taken on to the second.
+#[tactic(auto, using(crate::proofs::CauseLemmas::caused_by_judgement, crate::proofs::CauseLemmas::caused_by_limit), unfolding(crate::specs::Extend::extend_run, crate::specs::Extend::extend_loads))]
+pub(crate) fn extend<F: Files>(
+    alloc: Global,
+    files: &mut F,
+    journal: &str,
+    signature: &str,
+    second: u64,
+    out: &str,
+) -> Result<Report, Halt>
+    requires { second < 2 ^ 63 }
+    ensures told { IsTrue F.tells → Reports (extend_run journal.now signature.now second out.now (F.held files.old)) result }
+    ensures headline { IsTrue F.tells → Means (WhereRead (IsExtension (content (F.held files.old) journal.now) (content (F.held files.old) signature.now) second out.now)) result }
+    ensures stays { IsTrue F.tells → F.held files.new ≡ F.held files.old }
+    ensures calls { IsTrue F.tells → F.calls files.new ≤ F.calls files.old + extend_loads journal.now (F.held files.old) }
+    ensures few_calls { F.calls files.new ≤ F.calls files.old + 2 }
+    ensures later { F.calls files.old ≤ F.calls files.new }
+    ensures causes { ReportCaused extend_limits (counts (F.faults files.old) (F.taken files.old)) (counts (F.faults files.new) (F.taken files.new)) result }
+{
+    let bytes = load_file(alloc, files, FILE_LIMIT, 1, journal)?;
+    let journal = read_journal(alloc, 1, bytes.as_slice())?;
+    let bytes = load_file(alloc, files, SIGNATURE_LIMIT, 2, signature)?;
+    let signature = read_signature(alloc, 2, bytes.as_slice())?;
+    let first = first_time(&signature);
+    Ok(taken_on(alloc, &journal, bytes.as_slice(), first, second, out)?)
+}
+
+/// The time of the aggregation chains.
+fn first_time(signature: &Signature) -> u64
+    ensures { result ≡ first_time signature.now }
+{
+    match signature.chains.as_slice().first() {
+        Some(chain) => chain.time,
+        None => 0,
+    }
+}
+
+/// The bytes of a signature of a second, taken on to a publication time.
+fn taken_on(
+    alloc: Global,
+    journal: &Journal<Sha>,
+    bytes: &[u8],
+    second: u64,
+    publication: u64,
+    out: &str,
+) -> Result<Report, NoMemory>
+    requires { publication < 2 ^ 63 }
+    ensures taken { IfOk result (λ report. report ≡ taken_on second publication out.now (extended imprint_of journal.now bytes.now publication)) }
+    ensures extended { IfOk result (λ report. report.status ≡ statuses.Done → IsTakenOn journal.now bytes.now publication out.now report) }
+    ensures judged { IfOk result (λ report. IsJudged report) }
+{
+    match ksi_extender::extend::<Sha>(alloc, journal, bytes, publication) {
+        Ok(text) => {
+            let line = print(
+                alloc,
+                Text("extended"),
+                &[],
+                &[Number(second), Number(publication)],
+            )?;
+            Ok(Report::saving(line, Saved::named(alloc, out, text)?))
+        }
+        Err(refusal) => not_extended(alloc, &refusal),
+    }
+}

@@ -1,0 +1,149 @@
+// From a schedule to an accepted signature.
+use crate::Status;
+use crate::tests::{bytes, ends, expanded};
+use ksi_ports::MemFiles;
+use std::alloc::Global;
+use std::test::Fail;
+
+// One request, which is issued and published.
+const ONE_REQUEST: &str =
+    "ksi-schedule 1\ncores 1\nstart T\naggregator 0 parent c0\nrequest 0 T A\nclose 0 T\ndeliver 0\nseal 0 T\nballot 0 T\ndeliver 1\ndeliver 2\ndeliver 3\ndeliver 4\nrespond 0 T\ndeliver 6\npublish 0 T\n";
+
+const NO_EVENTS: &str = "ksi-schedule 1\ncores 1\nstart T\n";
+
+// Files of which one is held.
+fn holding(alloc: Global, name: &str, content: &[u8]) -> Result<MemFiles, Fail> {
+    let mut files = MemFiles::new(alloc, Vec::new(alloc));
+    files.hold(name, content)?;
+    Ok(files)
+}
+
+// Whether the file has so many bytes and begins with these.
+fn holds(
+    alloc: Global,
+    files: &MemFiles,
+    name: &str,
+    size: usize,
+    front: &str,
+) -> Result<bool, Fail> {
+    let front = bytes(alloc, front)?;
+    match files.bytes(name) {
+        Some(held) => Ok(held.len() == size && held.starts_with(&front)),
+        None => Ok(false),
+    }
+}
+
+// Under "l" the file "s" with a byte behind it, under "m" without its last one.
+fn hold_others(alloc: Global, files: &mut MemFiles) -> Result<(), Fail> {
+    let mut signature = match files.bytes("s") {
+        Some(held) => held.to_vec(alloc)?,
+        None => return Err(Fail::from("no signature was saved")),
+    };
+    signature.push(0)?;
+    files.hold("l", &signature)?;
+    signature.pop();
+    signature.pop();
+    files.hold("m", &signature)?;
+    Ok(())
+}
+
+#[test]
+fn a_schedule_becomes_an_accepted_signature(rt: HostRuntime) -> Result<(), Fail> {
+    let alloc = rt.alloc();
+    let schedule = expanded(alloc, ONE_REQUEST)?;
+    let mut files = holding(alloc, "f", schedule.as_bytes())?;
+    let rows = [
+        (
+            "replay f j",
+            Status::Done,
+            "events 12 messages 7 seconds 1 issued 1 published 1",
+        ),
+        ("sign j 0 s", Status::Done, "signed 0"),
+        ("publish j p", Status::Done, "published 1"),
+        ("verify s A p", Status::Done, "accepted T"),
+        ("verify s B p", Status::Refused, "refused V1 A B"),
+        ("sign j 1 s", Status::Refused, "not issued 1"),
+    ];
+    for (line, status, put) in rows {
+        assert!(rt; ends(alloc, &mut files, line, (status, put))?, "{line}");
+    }
+    let journal = "4b53494a524e4c31 01046553f100 022c 01046553f100 022101A 030101 032201A00";
+    assert!(rt; holds(alloc, &files, "j", 766, journal)?);
+    let signature = "88000263 88010032 02046553f100 030101 030101 052101A";
+    assert!(rt; holds(alloc, &files, "s", 615, signature)?);
+    assert!(rt; holds(alloc, &files, "p", 68, "4b53495055424c46 8701")?);
+    hold_others(alloc, &mut files)?;
+    for (line, put) in [
+        ("verify l A p", "malformed 1 S2 615"),
+        ("verify m A p", "malformed 1 S1 0"),
+    ] {
+        assert!(rt;
+            ends(alloc, &mut files, line, (Status::Malformed, put))?,
+            "{line}"
+        );
+    }
+    Ok(())
+}
+
+#[test]
+fn without_events_nothing_is_kept(rt: HostRuntime) -> Result<(), Fail> {
+    let alloc = rt.alloc();
+    let schedule = expanded(alloc, NO_EVENTS)?;
+    let mut files = holding(alloc, "f", schedule.as_bytes())?;
+    let none = (
+        Status::Done,
+        "events 0 messages 0 seconds 0 issued 0 published 0",
+    );
+    assert!(rt; ends(alloc, &mut files, "replay f j", none)?);
+    assert!(rt;
+        ends(
+            alloc,
+            &mut files,
+            "publish j p",
+            (Status::Done, "published 0")
+        )?
+    );
+    let journal = "4b53494a524e4c31 01046553f100 0600";
+    assert!(rt; holds(alloc, &files, "j", 16, journal)?);
+    let publications = "4b53495055424c46 87010005 010101 0200";
+    assert!(rt; holds(alloc, &files, "p", 17, publications)?);
+    Ok(())
+}
+
+#[test]
+fn faults_of_schedules_and_journals_are_told(rt: HostRuntime) -> Result<(), Fail> {
+    let alloc = rt.alloc();
+    for (schedule, put) in [
+        ("x", "malformed 1 L7 1"),
+        (
+            "ksi-schedule 1\ncores 1\nstart T\naggregator 0 parent c0\nrequest 1 T A",
+            "malformed 1 L4 5",
+        ),
+        (
+            "ksi-schedule 1\ncores 1\nstart T\naggregator 0 parent c0\nrequest 0 1 A",
+            "malformed 1 L5 5",
+        ),
+    ] {
+        let schedule = expanded(alloc, schedule)?;
+        let mut files = holding(alloc, "f", schedule.as_bytes())?;
+        assert!(rt;
+            ends(alloc, &mut files, "replay f j", (Status::Malformed, put))?,
+            "{put}"
+        );
+    }
+    for (journal, put) in [
+        ("4b53494a524e4c31", "malformed 1 J8 8"),
+        ("4b53494a524e4c31 01046553f100 0600 00", "malformed 1 J8 16"),
+        (
+            "4b53494a524e4c31 01046553f100 022c 01046553f100 022101A 030101 032201B00",
+            "malformed 1 J4 T A B",
+        ),
+    ] {
+        let mut files = holding(alloc, "j", &bytes(alloc, journal)?)?;
+        assert!(rt;
+            ends(alloc, &mut files, "sign j 0 s", (Status::Malformed, put))?,
+            "{put}"
+        );
+    }
+    Ok(())
+}
