@@ -22,8 +22,6 @@ mod responses;
 mod round;
 mod rounds;
 mod step;
-#[cfg(test)]
-mod tests;
 
 pub use aggregator::Aggregator;
 pub use ksi_imprint::NoMemory;

@@ -21,15 +21,11 @@
 
 mod builder;
 mod entries;
-#[cfg(test)]
-mod entries_tests;
 mod items;
 mod join;
 pub mod laws;
 mod links;
 mod senders;
-#[cfg(test)]
-mod tests;
 
 pub use builder::{AddRefusal, Builder};
 pub use entries::{Entries, Entry, Origin};

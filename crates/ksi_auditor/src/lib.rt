@@ -30,12 +30,8 @@ pub mod laws;
 mod nodes;
 mod place;
 mod rung;
-#[cfg(test)]
-mod tests;
 mod top;
 mod walk;
-#[cfg(test)]
-mod written;
 
 pub use answer::Audit;
 pub use auditing::audit;

@@ -22,8 +22,6 @@ mod responding;
 mod second;
 mod sending;
 mod step;
-#[cfg(test)]
-mod tests;
 
 pub use ksi_imprint::NoMemory;
 pub use ksi_signature::Answer;

@@ -21,8 +21,6 @@
 mod extending;
 mod laws;
 mod refusal;
-#[cfg(test)]
-mod tests;
 
 pub use extending::{extend, extend_counted};
 pub use ksi_imprint::NoMemory;

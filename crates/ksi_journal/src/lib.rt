@@ -26,8 +26,6 @@ pub mod laws;
 mod loading;
 mod reader;
 mod second;
-#[cfg(test)]
-mod tests;
 mod tree;
 mod writer;
 

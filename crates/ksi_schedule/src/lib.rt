@@ -38,6 +38,3 @@ pub use plan::{Parents, Plan};
 pub use printing::print;
 pub use reading::read_schedule;
 pub use schedule::{Events, Schedule};
-
-#[cfg(test)]
-mod tests;

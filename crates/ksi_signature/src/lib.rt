@@ -33,12 +33,8 @@ mod checker;
 mod containers;
 mod contents;
 mod extension;
-#[cfg(test)]
-mod extension_tests;
 mod fault;
 mod issuing;
-#[cfg(test)]
-mod issuing_tests;
 mod kinds;
 mod laws;
 mod lengths;
@@ -48,11 +44,7 @@ mod parts;
 mod reader;
 mod refusal;
 mod signature;
-#[cfg(test)]
-mod tests;
 mod writer;
-#[cfg(test)]
-mod writer_tests;
 
 pub use above::{Above, AboveChain, AboveChains, AboveLinks};
 pub use answer::Answer;

@@ -19,8 +19,6 @@ mod hand;
 mod instance;
 pub mod laws;
 mod messages;
-#[cfg(test)]
-mod tests;
 mod voters;
 
 pub use instance::Instance;

@@ -32,10 +32,3 @@ mod verify;
 
 pub use status::Status;
 pub use top::ksi;
-
-#[cfg(test)]
-mod later_tests;
-#[cfg(test)]
-mod path_tests;
-#[cfg(test)]
-mod tests;

@@ -32,11 +32,7 @@ pub mod laws;
 mod publication;
 mod refusal;
 mod seen;
-#[cfg(test)]
-mod tests;
 mod verdict;
-#[cfg(test)]
-mod written;
 
 pub use aggregated::Aggregated;
 pub use checking::{aggregate, verify};

@@ -32,8 +32,6 @@ mod nodes;
 mod outcome;
 mod posting;
 mod published;
-#[cfg(test)]
-mod tests;
 mod world;
 
 pub use kept::{Kept, KeptSecond, Seconds};

@@ -1,0 +1,15 @@
+//! Tests of what is computed over signatures and journals: `ksi_verifier`, `ksi_extender` and `ksi_auditor`.
+//!
+//! They stand in a crate of their own, since a crate with tests is proved twice. Nothing is here for the layers above.
+#![tactic(auto)]
+
+#[cfg(test)]
+mod auditing;
+#[cfg(test)]
+mod extending;
+#[cfg(test)]
+mod journals;
+#[cfg(test)]
+mod signatures;
+#[cfg(test)]
+mod verifying;

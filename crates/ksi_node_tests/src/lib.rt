@@ -1,0 +1,17 @@
+//! Tests of the nodes: rounds (`ksi_aggtree`), votes (`ksi_synod`), `ksi_corenode`, `ksi_aggregator` and `ksi_world`.
+//!
+//! They stand in a crate of their own, since a crate with tests is proved twice. Nothing is here for the layers above.
+#![tactic(auto)]
+
+#[cfg(test)]
+mod aggregators;
+#[cfg(test)]
+mod cores;
+#[cfg(test)]
+mod entries;
+#[cfg(test)]
+mod rounds;
+#[cfg(test)]
+mod votes;
+#[cfg(test)]
+mod worlds;

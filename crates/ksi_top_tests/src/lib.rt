@@ -1,0 +1,11 @@
+//! Tests of the top call, `ksi_top::ksi`, over files and an output in memory.
+//!
+//! They stand in a crate of their own, since a crate with tests is proved twice. Nothing is here for the layers above.
+#![tactic(auto)]
+
+#[cfg(test)]
+mod later_files;
+#[cfg(test)]
+mod runs;
+#[cfg(test)]
+mod whole_paths;
