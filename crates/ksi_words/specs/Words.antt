@@ -5,7 +5,7 @@ use Rattle.std.specs.Str.{bytes_eq}
 use Rattle.std.specs.declared.alloc.Global.{Global}
 use Rattle.ksi_words.specs.Sorts.{Sort, file_word, hash_word, number_word, time_word, Of, value_of}
 use Rattle.ksi_words.specs.declared.asked.Command.{Command}
-use Rattle.ksi_words.specs.declared.asked.Command.TheVariants.{Replay, Sign, Publish, Extend, Verify, Audit}
+use Rattle.ksi_words.specs.declared.asked.Command.TheVariants.{Replay, Sign, Publish, Extend, Verify, Audit, Make, Drill}
 use Rattle.ksi_words.specs.declared.asked.WordsRefusal.{WordsRefusal}
 use Rattle.ksi_words.specs.declared.asked.WordsRefusal.TheVariants.{Words, BadWord, NoMemory}
 
@@ -17,6 +17,8 @@ pub data Asked : Type 0 where
   extend : List ℕ → List ℕ → ℕ → List ℕ → Asked
   verify : List ℕ → List ℕ → List ℕ → Asked
   audit : List ℕ → List ℕ → List ℕ → List ℕ → Asked
+  make : ℕ → List ℕ → Asked
+  drill : ℕ → Asked
 
 -- what asks for a command, given what the words of these sorts stand for
 abbrev pub From : List Sort → Type 0
@@ -47,8 +49,14 @@ verify_row = record { name = codes "verify"; sorts = file_word ∷ hash_word ∷
 abbrev pub audit_row : Row
 audit_row = record { name = codes "audit"; sorts = file_word ∷ file_word ∷ hash_word ∷ file_word ∷ []; asks = audit }
 
+abbrev pub make_row : Row
+make_row = record { name = codes "make"; sorts = number_word ∷ file_word ∷ []; asks = make }
+
+abbrev pub drill_row : Row
+drill_row = record { name = codes "drill"; sorts = number_word ∷ []; asks = drill }
+
 abbrev pub table : List Row
-table = replay_row ∷ sign_row ∷ publish_row ∷ extend_row ∷ verify_row ∷ audit_row ∷ []
+table = replay_row ∷ sign_row ∷ publish_row ∷ extend_row ∷ verify_row ∷ audit_row ∷ make_row ∷ drill_row ∷ []
 
 abbrev pub texts : List (String Global) → List (List ℕ)
 texts words = map string_bytes words
@@ -99,6 +107,8 @@ asked (Publish journal out) = publish journal.now out.now
 asked (Extend journal signature second out) = extend journal.now signature.now second out.now
 asked (Verify signature hash publications) = verify signature.now hash publications.now
 asked (Audit journal signature hash publications) = audit journal.now signature.now hash publications.now
+asked (Make number out) = make number out.now
+asked (Drill number) = drill number
 
 -- the second of a command, where it has one, is below 2^63
 abbrev pub IsEarly : Command → Type 0

@@ -15,6 +15,10 @@ pub enum Command<'a> {
     Verify(&'a str, Imprint, &'a str),
     /// The journal's file, the signature's file, the hash, the publications' file.
     Audit(&'a str, &'a str, Imprint, &'a str),
+    /// The number of the schedule, the schedule's file to write.
+    Make(u64, &'a str),
+    /// The number of the schedule.
+    Drill(u64),
 }
 
 /// Why words are no command.

@@ -1,7 +1,7 @@
 // The commands: a row of the table each, and what the words after its name ask for.
 ghost use Rattle.std.specs.Prelude.{◌≡◌, ◌<◌, ◌^◌, ℕ, IfOk, map};
 ghost use Rattle.ksi_words.specs.Sorts.{hash_of, number_of, time_of};
-ghost use Rattle.ksi_words.specs.Words.{Reads, asked_by, command_named, table, replay_row, sign_row, publish_row, extend_row, verify_row, audit_row, word_at, IsEarly};
+ghost use Rattle.ksi_words.specs.Words.{Reads, asked_by, command_named, table, replay_row, sign_row, publish_row, extend_row, verify_row, audit_row, make_row, drill_row, word_at, IsEarly};
 
 use crate::values::{hash, number, time};
 use crate::{Command, WordsRefusal};
@@ -14,7 +14,7 @@ pub(crate) struct Row {
     pub(crate) words: usize,
 }
 
-pub(crate) static TABLE: [Row; 6] = [
+pub(crate) static TABLE: [Row; 8] = [
     Row {
         name: "replay",
         words: 2,
@@ -39,6 +39,14 @@ pub(crate) static TABLE: [Row; 6] = [
         name: "audit",
         words: 4,
     },
+    Row {
+        name: "make",
+        words: 2,
+    },
+    Row {
+        name: "drill",
+        words: 1,
+    },
 ];
 
 /// The command of a name and the words after it.
@@ -53,6 +61,8 @@ pub(crate) fn asked<'a>(name: &str, words: &[&'a str]) -> Result<Command<'a>, Wo
         "extend" => extend(words),
         "verify" => verify(words),
         "audit" => audit(words),
+        "make" => make(words),
+        "drill" => drill(words),
         _ => Err(WordsRefusal::Words),
     }
 }
@@ -115,6 +125,26 @@ fn audit<'a>(words: &[&'a str]) -> Result<Command<'a>, WordsRefusal>
         return Err(WordsRefusal::Words);
     };
     Ok(Command::Audit(journal, signature, hash_at(3, hash)?, publications))
+}
+
+fn make<'a>(words: &[&'a str]) -> Result<Command<'a>, WordsRefusal>
+    ensures reads { Reads (asked_by make_row (map (λ word. word.now) words.now)) result }
+    ensures early { IfOk result IsEarly }
+{
+    let [number, out] = words else {
+        return Err(WordsRefusal::Words);
+    };
+    Ok(Command::Make(number_at(1, number)?, out))
+}
+
+fn drill<'a>(words: &[&'a str]) -> Result<Command<'a>, WordsRefusal>
+    ensures reads { Reads (asked_by drill_row (map (λ word. word.now) words.now)) result }
+    ensures early { IfOk result IsEarly }
+{
+    let [number] = words else {
+        return Err(WordsRefusal::Words);
+    };
+    Ok(Command::Drill(number_at(1, number)?))
 }
 
 // The hash that word n is.

@@ -1,0 +1,32 @@
+// The command `make`.
+ghost use Rattle.std.specs.Prelude.{◌≡◌, IfOk};
+ghost use Rattle.ksi_top.specs.Causes.{IsJudged};
+ghost use Rattle.ksi_top.specs.Make.{make_run, made};
+
+use crate::printed::Word::{Number, Text};
+use crate::printed::print;
+use crate::report::{Report, Saved};
+use ksi_generate::generate;
+use ksi_imprint::NoMemory;
+use ksi_schedule::Schedule;
+use std::alloc::Global;
+
+/// Makes the schedule of a number, and saves its text.
+#[tactic(auto, unfolding(crate::specs::Make::make_run))]
+pub(crate) fn make(alloc: Global, number: u64, out: &str) -> Result<Report, NoMemory>
+    ensures made { IfOk result (λ report. report ≡ make_run number out.now) }
+    ensures judged { IfOk result (λ report. IsJudged report) }
+{
+    let schedule = generate(alloc, number)?;
+    made(alloc, out, &schedule)
+}
+
+fn made(alloc: Global, out: &str, schedule: &Schedule) -> Result<Report, NoMemory>
+    ensures made { IfOk result (λ report. report ≡ made out.now schedule.now) }
+    ensures judged { IfOk result (λ report. IsJudged report) }
+{
+    let text = ksi_schedule::print(alloc, schedule)?;
+    let events = schedule.events().len() as u64;
+    let line = print(alloc, Text("made"), &[], &[Number(events)])?;
+    Ok(Report::saving(line, Saved::named(alloc, out, text)?))
+}
