@@ -9,6 +9,7 @@ use Rattle.ksi_verifier.specs.declared.verdict.Verdict.TheVariants.{Accepted}
 use Rattle.ksi_verifier.specs.Verdict.{verdict}
 use Rattle.ksi_schedule.specs.declared.event.Event.{Event}
 use Rattle.ksi_schedule.specs.Events.{History}
+use Rattle.ksi_schedule.specs.Printed.{schedule_text}
 use Rattle.ksi_schedule.specs.Spelled.{IsScheduleText}
 use Rattle.ksi_world.specs.Histories.{held_in, after, world_of}
 use Rattle.ksi_world.specs.Records.{issued_of}
@@ -18,11 +19,13 @@ use Rattle.ksi_journal.specs.File.{IsJournalFile}
 use Rattle.ksi_journal.specs.Written.{journal_text}
 use Rattle.ksi_replay.specs.Journals.{journal_of}
 use Rattle.ksi_history.specs.Joined.{IsPublished, Lasts}
+use Rattle.ksi_generate.specs.Generate.{generated}
+use Rattle.ksi_drill.specs.Drill.{drilled}
 use Rattle.ksi_extender.specs.Accepted.{IsExtended}
 use Rattle.ksi_auditor.specs.declared.answer.Audit.{Audit}
 use Rattle.ksi_auditor.specs.Audit as audits
 use Rattle.ksi_auditor.specs.Shown.{IsDecided, Shows, Tells}
-use Rattle.ksi_words.specs.Words.{Asked, replay, sign, publish, extend, verify, audit}
+use Rattle.ksi_words.specs.Words.{Asked, replay, sign, publish, extend, verify, audit, make, drill}
 use Rattle.ksi_top.specs.declared.report.Report.{Report}
 use Rattle.ksi_top.specs.declared.status.Status.TheVariants.{Done}
 use Rattle.ksi_top.specs.Reports.{WhereRead}
@@ -30,6 +33,8 @@ use Rattle.ksi_top.specs.Loading.{content}
 use Rattle.ksi_top.specs.Replay.{replayed}
 use Rattle.ksi_top.specs.Verify.{judged}
 use Rattle.ksi_top.specs.Audit.{audited}
+use Rattle.ksi_top.specs.Make.{made}
+use Rattle.ksi_top.specs.Drill.{tallied}
 
 -- ---- `replay`
 
@@ -100,6 +105,20 @@ pub record IsAudited (journal signature hash publications : List ℕ) (report : 
   pub publications_are : IsPublications publications pairs
   pub answered : IsAnswered contents read hash pairs report
 
+-- ---- `make`
+
+-- what is saved is the schedule of the number, and is read as this schedule
+pub record IsMade (number : ℕ) (out : List ℕ) (report : Report) : Type 0 where
+  pub reported : report ≡ made out (generated number)
+  pub again : IsScheduleText (schedule_text (generated number)) (generated number)
+
+-- ---- `drill`
+
+-- what is told are the counts of the number, and every issued signature is accepted
+pub record IsDrilled (number : ℕ) (report : Report) : Type 0 where
+  pub reported : report ≡ tallied (drilled number)
+  pub accepted : (drilled number).accepted ≡ (drilled number).issued
+
 -- ---- the headline, where all files were read
 
 abbrev pub Headline : Asked → Held → Report → Type 0
@@ -109,3 +128,5 @@ Headline (publish journal out) held report = Unit {0}
 Headline (extend journal signature second out) held report = WhereRead (IsExtension (content held journal) (content held signature) second out) report
 Headline (verify signature hash publications) held report = WhereRead (IsVerified (content held signature) hash (content held publications)) report
 Headline (audit journal signature hash publications) held report = WhereRead (IsAudited (content held journal) (content held signature) hash (content held publications)) report
+Headline (make number out) held report = IsMade number out report
+Headline (drill number) held report = IsDrilled number report

@@ -9,9 +9,12 @@ pub mod Publish
 pub mod Extend
 pub mod Audit
 pub mod Verify
+pub mod Make
+pub mod Drill
 pub mod Run
 pub mod Causes
 pub mod Top
 pub mod Printed
 pub mod Headline
+pub mod Complete
 pub mod Lawful

@@ -57,6 +57,14 @@ not_issued_line number = line_of (codes "not" ∷ codes "issued" ∷ decimal num
 abbrev pub published_line : ℕ → List ℕ
 published_line n = line_of (codes "published" ∷ decimal n ∷ [])
 
+abbrev pub made_line : ℕ → List ℕ
+made_line events = line_of (codes "made" ∷ decimal events ∷ [])
+
+abbrev pub drilled_line : (seconds missed issued accepted inside beneath : ℕ) → List ℕ
+drilled_line seconds missed issued accepted inside beneath = line_of (
+    codes "seconds" ∷ decimal seconds ∷ codes "missed" ∷ decimal missed ∷ codes "issued" ∷ decimal issued
+    ∷ codes "accepted" ∷ decimal accepted ∷ codes "inside" ∷ decimal inside ∷ codes "beneath" ∷ decimal beneath ∷ [])
+
 abbrev pub accepted_line : ℕ → List ℕ
 accepted_line t = line_of (codes "accepted" ∷ decimal t ∷ [])
 

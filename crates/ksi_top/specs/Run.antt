@@ -7,13 +7,16 @@ use Rattle.ksi_words.specs.declared.asked.WordsRefusal.TheVariants.{Words, BadWo
 use Rattle.ksi_top.specs.declared.status.Status.TheVariants as statuses
 use Rattle.ksi_top.specs.Reports.{report}
 use Rattle.ksi_top.specs.Lines.{words_refused_line, bad_word_line}
-use Rattle.ksi_words.specs.Words.{Asked, replay, sign, publish, extend, verify, audit, command_of}
+use Rattle.ksi_words.specs.Words.{Asked, replay, sign, publish, extend, verify, audit, make, drill, command_of}
 use Rattle.ksi_top.specs.Replay.{replay_run, replay_limits}
 use Rattle.ksi_top.specs.Sign.{sign_run, sign_limits}
 use Rattle.ksi_top.specs.Publish.{publish_run, publish_limits}
 use Rattle.ksi_top.specs.Extend.{extend_run, extend_limits, extend_loads}
 use Rattle.ksi_top.specs.Verify.{verify_run, verify_limits, verify_loads}
 use Rattle.ksi_top.specs.Audit.{audit_run, audit_limits, audit_loads}
+use Rattle.ksi_top.specs.Make.{make_run}
+use Rattle.ksi_top.specs.Drill.{drill_run}
+use Rattle.ksi_top.specs.Loading.{no_limit}
 
 -- what a command reports
 abbrev pub performed : Asked → Held → Report
@@ -23,6 +26,8 @@ performed (publish journal out) held = publish_run journal out held
 performed (extend journal signature second out) held = extend_run journal signature second out held
 performed (verify signature hash publications) held = verify_run signature hash publications held
 performed (audit journal signature hash publications) held = audit_run journal signature hash publications held
+performed (make number out) held = make_run number out
+performed (drill number) held = drill_run number
 
 -- the most bytes of the file of each word, where it is a file's
 abbrev pub limits_of : Asked → ℕ → ℕ
@@ -32,6 +37,8 @@ limits_of (publish journal out) = publish_limits
 limits_of (extend journal signature second out) = extend_limits
 limits_of (verify signature hash publications) = verify_limits
 limits_of (audit journal signature hash publications) = audit_limits
+limits_of (make number out) = λ n. no_limit
+limits_of (drill number) = λ n. no_limit
 
 -- how many files a command loads
 abbrev pub loads_of : Asked → Held → ℕ
@@ -41,6 +48,8 @@ loads_of (publish journal out) held = 1
 loads_of (extend journal signature second out) held = extend_loads journal held
 loads_of (verify signature hash publications) held = verify_loads signature held
 loads_of (audit journal signature hash publications) held = audit_loads journal signature held
+loads_of (make number out) held = 0
+loads_of (drill number) held = 0
 
 -- what words that are no command report; want of memory is never such a refusal, its row is only there to be total
 abbrev pub refused : WordsRefusal → Report
@@ -68,6 +77,8 @@ most_loads (publish journal out) = 1
 most_loads (extend journal signature second out) = 2
 most_loads (verify signature hash publications) = 2
 most_loads (audit journal signature hash publications) = 3
+most_loads (make number out) = 0
+most_loads (drill number) = 0
 
 -- the most calls on the files, whatever is held: its loads, and a save
 abbrev pub most_calls : Result Asked WordsRefusal → ℕ

@@ -12,12 +12,15 @@
 
 mod audit;
 mod audit_line;
+mod completeness;
+mod drill;
 mod extend;
 mod extend_line;
 mod fault_line;
 mod histories;
 mod line;
 mod loading;
+mod make;
 mod perform;
 mod printed;
 mod publish;

@@ -4,12 +4,16 @@ ghost use Rattle.ksi_top.specs.Reports.{Reports, Means};
 ghost use Rattle.ksi_top.specs.Causes.{ReportCaused, counts};
 ghost use Rattle.ksi_top.specs.Run.{performed, limits_of, loads_of, most_loads, run_loads, refused, run};
 ghost use Rattle.ksi_top.specs.Top.{ReportedAs, MeansUnlessCut, RunCaused};
+ghost use Rattle.ksi_top.specs.Complete.{Complete};
 ghost use Rattle.ksi_top.specs.Headline.{Headline};
 ghost use Rattle.ksi_words.specs.declared.asked.WordsRefusal.TheVariants as refusals;
 ghost use Rattle.ksi_words.specs.Words.{IsEarly, asked, texts, command_of};
 
 use crate::audit::audit;
+use crate::completeness::issued_is_accepted;
+use crate::drill::drill;
 use crate::extend::extend;
+use crate::make::make;
 use crate::printed::Word::{Number, Text};
 use crate::printed::print;
 use crate::publish::publish;
@@ -32,6 +36,7 @@ pub(crate) fn report_of<F: Files>(
 ) -> Result<Report, Cut>
     ensures told { IsTrue F.tells → ReportedAs (run (texts words.now) (F.held files.old)) result }
     ensures headline { IsTrue F.tells → IfOk (command_of (texts words.now)) (λ asked. MeansUnlessCut (Headline asked (F.held files.old)) result) }
+    ensures complete { IfOk (command_of (texts words.now)) (λ asked. Complete asked (F.held files.old) (run (texts words.now) (F.held files.old))) }
     ensures stays { IsTrue F.tells → F.held files.new ≡ F.held files.old }
     ensures calls { IsTrue F.tells → F.calls files.new ≤ F.calls files.old + run_loads (command_of (texts words.now)) (F.held files.old) }
     ensures few_calls { IfOk (command_of (texts words.now)) (λ command. F.calls files.new ≤ F.calls files.old + most_loads command) }
@@ -39,6 +44,7 @@ pub(crate) fn report_of<F: Files>(
     ensures later { F.calls files.old ≤ F.calls files.new }
     ensures causes { RunCaused (command_of (texts words.now)) (counts (F.faults files.old) (F.taken files.old)) (counts (F.faults files.new) (F.taken files.new)) result }
 {
+    issued_is_accepted();
     match command(alloc, words) {
         Ok(command) => match perform(alloc, files, &command) {
             Ok(report) => Ok(report),
@@ -53,6 +59,7 @@ pub(crate) fn report_of<F: Files>(
 }
 
 /// What a command reports: a case for each.
+#[tactic(auto, using(crate::proofs::CauseLemmas::caused_by_judgement))]
 fn perform<F: Files>(alloc: Global, files: &mut F, command: &Command<'_>) -> Result<Report, Halt>
     requires early { IsEarly command.now }
     ensures told { IsTrue F.tells → Reports (performed (asked command.now) (F.held files.old)) result }
@@ -76,6 +83,8 @@ fn perform<F: Files>(alloc: Global, files: &mut F, command: &Command<'_>) -> Res
         Command::Audit(journal, signature, hash, publications) => {
             audit(alloc, files, journal, signature, hash, publications)
         }
+        Command::Make(number, out) => Ok(make(alloc, *number, out)?),
+        Command::Drill(number) => Ok(drill(alloc, *number)?),
     }
 }
 

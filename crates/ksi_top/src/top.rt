@@ -2,6 +2,7 @@
 ghost use Rattle.std.specs.Prelude.{◌≡◌, ◌≢◌, ℕ, ◌+◌, ◌<◌, ◌≤◌, ◌++◌, List, length, IsTrue, IfErr, IfOk, None};
 ghost use Rattle.ksi_top.specs.Top.{UnlessCut, FaultLeaves, outside, WordsStatus, WordsLine, TookTooMuch};
 ghost use Rattle.ksi_top.specs.Causes.{counts};
+ghost use Rattle.ksi_top.specs.Complete.{Complete};
 ghost use Rattle.ksi_top.specs.Headline.{Headline};
 ghost use Rattle.ksi_top.specs.Run.{most_calls, run, run_calls, saved_into, saves_of};
 ghost use Rattle.ksi_words.specs.Words.{texts, command_of};
@@ -29,6 +30,10 @@ pub fn ksi<F: Files, K: Sink>(alloc: Global, words: &[String], files: &mut F, ou
     // The headline: what the run means, over the files that were held.
     ensures headline { IsTrue F.tells → IfOk (command_of (texts words.now)) (λ asked.
         UnlessCut result (Headline asked (F.held files.old) (run (texts words.now) (F.held files.old)))) }
+
+    // What was issued, and taken on to a covered second, is accepted against the root that is published of it.
+    ensures complete { IfOk (command_of (texts words.now)) (λ asked.
+        Complete asked (F.held files.old) (run (texts words.now) (F.held files.old))) }
 
     // It calls on the files no more often than the run does: words that are no command load nothing, and a file is loaded
     // only once those before it are read.

@@ -1,0 +1,66 @@
+-- What was issued, and taken on, is accepted.
+use Rattle.std.proofs.Common.{◌≡◌, ◌⊎◌, ℕ, ◌+◌, ◌≤◌, List, ◌∷◌, length, Some, Ok, Result, refl, sym, ap, subst, inl, inr, arith, ◌∙◌}
+use Rattle.std.specs.Prelude.{slice_get, ◌↔◌, nat_lt}
+use Rattle.std.proofs.lemmas.Bool.{le-ltb}
+use Rattle.ksi_imprint.specs.Imprints.{imprint_of}
+use Rattle.ksi_ports.specs.Stored.{Held}
+use Rattle.ksi_tlv.specs.Spelling.{AreBytes, Spells}
+use Rattle.ksi_signature.specs.declared.signature.Signature.{Signature}
+use Rattle.ksi_signature.specs.File.{IsSignature}
+use Rattle.ksi_signature.specs.Reading.{signature_at}
+use Rattle.ksi_publications.specs.File.{IsPublications}
+use Rattle.ksi_publications.specs.Reading.{publications_at}
+use Rattle.ksi_verifier.specs.declared.verdict.Verdict.TheVariants.{Accepted}
+use Rattle.ksi_verifier.specs.Verdict.{verdict}
+use Rattle.ksi_history.specs.Joined.{Lasts}
+use Rattle.ksi_history.specs.Lasting.{LastsTo}
+use Rattle.ksi_extender.specs.Extended.{extended}
+use Rattle.ksi_extender.specs.Accepted.{taken_on}
+use Rattle.ksi_replay.specs.Journals.{journal_of}
+use Rattle.ksi_world.specs.declared.outcome.Asked as requests
+use Rattle.ksi_top.specs.declared.report.Report.{Report}
+use Rattle.ksi_top.specs.Loading.{content, loaded, within, signature_limit, file_limit}
+use Rattle.ksi_top.specs.Verify.{judged, verify_run}
+use Rattle.ksi_top.specs.Complete.{IsTakenFrom}
+
+within_limit : (limit n : ℕ) (bytes : List ℕ) → length bytes ≤ limit → within limit n bytes ≡ Ok bytes
+within_limit limit n bytes few = rw (le-ltb limit (length bytes) few) refl
+
+-- a signature has at most 65,539 bytes
+signature_short : (bytes : List ℕ) (signature : Signature) → IsSignature bytes signature → length bytes ≤ signature_limit
+signature_short bytes signature is = elim is.spelled [
+  | inl short ↦ omega (arith, ap length short.1, short.0.body)
+  | inr long ↦ omega (arith, ap length long.1, long.0.body)
+]
+
+module _ (signature_read : (bytes : List ℕ) (signature : Signature) → AreBytes bytes → (signature_at bytes ≡ Ok signature) ↔ IsSignature bytes signature)
+  (publications_read : (bytes : List ℕ) (pairs : List (ℕ × List ℕ)) → (publications_at bytes ≡ Ok pairs) ↔ IsPublications bytes pairs) where
+
+  -- what is read of files that are in their grammars, and within their limits
+  verified : (signature hash publications : List ℕ) (held : Held) (read : Signature) (pairs : List (ℕ × List ℕ)) → AreBytes (content held signature) → IsSignature (content held signature) read
+      → IsPublications (content held publications) pairs → length (content held publications) ≤ file_limit
+      → verify_run signature hash publications held ≡ judged (verdict imprint_of read hash pairs)
+  unfolding verify_run loaded
+  verified signature hash publications held read pairs bytes is are few =
+      rw (within_limit signature_limit 1 (content held signature) (signature_short (content held signature) read is), (signature_read (content held signature) read bytes).2 is,
+      within_limit file_limit 3 (content held publications) few, (publications_read (content held publications) pairs).2 are) refl
+
+  lasting : (signature hash publications : List ℕ) (held : Held) (second : ℕ) → (d : IsTakenFrom (content held signature) hash (content held publications) second)
+      → (l : Lasts imprint_of d.replayed.history (journal_of imprint_of d.replayed.history) d.number d.text) → l.asked ≡ d.asked
+      → verify_run signature hash publications held ≡ judged (Accepted second)
+  lasting signature hash publications held second d l same =
+      let journal = journal_of imprint_of d.replayed.history in
+      let at : l.asked.second ≡ second = ap (λ (a : requests.Asked). a.second) same ∙ d.of_second in
+      let for : l.asked.imprint ≡ hash = ap (λ (a : requests.Asked). a.imprint) same ∙ d.of_hash in
+      let to : LastsTo imprint_of journal l.asked d.text d.p = l.later d.p (omega (arith, at, d.from)) d.covered in
+      let read = taken_on imprint_of journal to.signature d.p in
+      let bytes : to.bytes ≡ content held signature = cc (to.extension, d.extension) in
+      let is : IsSignature (content held signature) read = subst (λ bytes. IsSignature bytes read) bytes to.after in
+      let accepted : verdict imprint_of read hash d.pairs ≡ Accepted second = ap (λ hash. verdict imprint_of read hash d.pairs) (sym for) ∙ to.accepted d.pairs d.published ∙ ap Accepted at in
+      verified signature hash publications held read d.pairs d.bytes is d.publications_are d.within ∙ ap judged accepted
+
+  pub accepted_again : (signature hash publications : List ℕ) (held : Held) (second : ℕ) → IsTakenFrom (content held signature) hash (content held publications) second
+      → verify_run signature hash publications held ≡ judged (Accepted second)
+  accepted_again signature hash publications held second d =
+      let l = d.replayed.holds.lasts d.number d.text d.issued in
+      lasting signature hash publications held second d l (cc (l.accepted, d.request))

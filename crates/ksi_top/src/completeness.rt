@@ -1,0 +1,16 @@
+// What was issued, and taken on, is accepted.
+ghost use Rattle.ksi_ports.specs.Stored.{Held};
+ghost use Rattle.ksi_words.specs.Words.{Asked};
+ghost use Rattle.ksi_top.specs.Complete.{Complete};
+ghost use Rattle.ksi_top.specs.Run.{performed};
+
+use ksi_publications::publications_are_read;
+use ksi_signature::signature_is_read;
+
+/// Over the files of a signature that was issued and taken on, `verify` reports that it is accepted.
+pub(crate) fn issued_is_accepted()
+    ensures { (asked : Asked) (held : Held) → Complete asked held (performed asked held) }
+{
+    signature_is_read();
+    publications_are_read();
+}

@@ -1,0 +1,50 @@
+// The command `drill`.
+ghost use Rattle.std.specs.Prelude.{◌≡◌, IfOk};
+ghost use Rattle.ksi_top.specs.Causes.{IsJudged};
+ghost use Rattle.ksi_top.specs.Drill.{drill_run, tallied};
+ghost use Rattle.ksi_top.specs.Headline.{IsDrilled};
+
+use crate::printed::Word::{Number, Text};
+use crate::printed::print;
+use crate::report::Report;
+use crate::status::Status;
+use ksi_drill::Tally;
+use ksi_imprint::NoMemory;
+use std::alloc::Global;
+
+/// Makes the schedule of a number, runs it, and tells how the signatures that it issues fare.
+#[tactic(auto, unfolding(crate::specs::Drill::drill_run))]
+pub(crate) fn drill(alloc: Global, number: u64) -> Result<Report, NoMemory>
+    ensures told { IfOk result (λ report. report ≡ drill_run number) }
+    ensures headline { IfOk result (IsDrilled number) }
+    ensures judged { IfOk result (λ report. IsJudged report) }
+{
+    let tally = ksi_drill::drill(alloc, number)?;
+    tallied(alloc, &tally)
+}
+
+fn tallied(alloc: Global, tally: &Tally) -> Result<Report, NoMemory>
+    ensures tallied { IfOk result (λ report. report ≡ tallied tally.now) }
+    ensures judged { IfOk result (λ report. IsJudged report) }
+{
+    let line = print(
+        alloc,
+        Text("seconds"),
+        &[
+            Number(tally.seconds),
+            Text("missed"),
+            Number(tally.missed),
+            Text("issued"),
+            Number(tally.issued),
+        ],
+        &[
+            Text("accepted"),
+            Number(tally.accepted),
+            Text("inside"),
+            Number(tally.inside),
+            Text("beneath"),
+            Number(tally.beneath),
+        ],
+    )?;
+    Ok(Report::new(Status::Done, line))
+}
