@@ -1,8 +1,9 @@
 -- Causes over one call after another.
-use Rattle.std.proofs.Common.{ℕ, List, Option, arith, sym, subst}
+use Rattle.std.proofs.Common.{ℕ, ◌≤◌, List, Option, Some, None, arith, sym, subst}
 use Rattle.ksi_top.specs.declared.report.Report.{Report}
 use Rattle.ksi_top.specs.declared.status.Status.{Status}
 use Rattle.ksi_top.specs.declared.status.Status.TheVariants.{Done, Refused, Words, Malformed, Fault, NoMemory, Clash, TooLong}
+use Rattle.ksi_top.specs.Run.{saves_of}
 use Rattle.ksi_top.specs.Causes.{IsJudged, JudgedAs, CausedAs, Counts, Quiet, Caused, PassesLimit, SomePasses}
 
 judged_caused : (limits : ℕ → ℕ) (before now : Counts) (line : List ℕ) (status : Status) (saved : Option (List ℕ × List ℕ)) → JudgedAs status saved → CausedAs limits before now line status saved
@@ -33,3 +34,8 @@ caused_by_limit limits n before mid now report one two passes =
       quiet = quiet_twice before mid now one two;
       status = subst (λ (status : Status). CausedAs limits before now report.line status report.saved) (sym passes.status) (passes.unsaved, some);
     }
+
+-- a run saves one file at most
+pub one_save : (saved : Option (List ℕ × List ℕ)) → saves_of saved ≤ 1
+one_save None = omega arith
+one_save (Some file) = omega arith

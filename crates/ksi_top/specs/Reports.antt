@@ -50,6 +50,13 @@ HaltsAs status (Err (Reported report)) = report.status ≡ status
 HaltsAs status (Err Fault) = Unit {0}
 HaltsAs status (Err NoMemory) = Unit {0}
 
+-- such a report saves nothing
+abbrev pub HaltsUnsaved : {T : Type 0} → Result T Halt → Type 0
+HaltsUnsaved (Ok value) = Unit {0}
+HaltsUnsaved (Err (Reported report)) = report.saved ≡ None
+HaltsUnsaved (Err Fault) = Unit {0}
+HaltsUnsaved (Err NoMemory) = Unit {0}
+
 -- what a report means, of a call that gives one unless a fault or want of memory ended it
 abbrev pub Means : (Report → Type 0) → Result Report Halt → Type 0
 Means P (Ok report) = P report

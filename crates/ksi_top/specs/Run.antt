@@ -80,9 +80,20 @@ most_loads (audit journal signature hash publications) = 3
 most_loads (make number out) = 0
 most_loads (drill number) = 0
 
--- the most calls on the files, whatever is held: its loads, and a save
+-- and the most saves
+abbrev pub most_saves : Asked → ℕ
+most_saves (replay schedule journal) = 1
+most_saves (sign journal number out) = 1
+most_saves (publish journal out) = 1
+most_saves (extend journal signature second out) = 1
+most_saves (verify signature hash publications) = 0
+most_saves (audit journal signature hash publications) = 0
+most_saves (make number out) = 1
+most_saves (drill number) = 0
+
+-- the most calls on the files, whatever is held
 abbrev pub most_calls : Result Asked WordsRefusal → ℕ
-most_calls (Ok command) = most_loads command + 1
+most_calls (Ok command) = most_loads command + most_saves command
 most_calls (Err refusal) = 0
 
 -- how often the run calls on the files: words that are no command load none

@@ -1,5 +1,5 @@
 // The command `audit`.
-ghost use Rattle.std.specs.Prelude.{◌≡◌, ◌≤◌, ◌+◌, ℕ, IsTrue, IfOk};
+ghost use Rattle.std.specs.Prelude.{◌≡◌, ◌≤◌, ◌+◌, ℕ, IsTrue, IfOk, None};
 ghost use Rattle.ksi_imprint.specs.Imprints.{imprint_of};
 ghost use Rattle.ksi_auditor.specs.Audit as audits;
 ghost use Rattle.ksi_top.specs.Reports.{Reports, Means, WhereRead};
@@ -36,6 +36,7 @@ pub(crate) fn audit<F: Files>(
     ensures calls { IsTrue F.tells → F.calls files.new ≤ F.calls files.old + audit_loads journal.now signature.now (F.held files.old) }
     ensures few_calls { F.calls files.new ≤ F.calls files.old + 3 }
     ensures later { F.calls files.old ≤ F.calls files.new }
+    ensures unsaved { Means (λ report. report.saved ≡ None) result }
     ensures causes { ReportCaused audit_limits (counts (F.faults files.old) (F.taken files.old)) (counts (F.faults files.new) (F.taken files.new)) result }
 {
     let bytes = load_file(alloc, files, FILE_LIMIT, 1, journal)?;
@@ -56,6 +57,7 @@ fn answer(
 ) -> Result<Report, NoMemory>
     ensures answer { IfOk result (λ report. report ≡ audited (audits.audit imprint_of journal.now signature.now hash.now publications.now)) }
     ensures answered { IfOk result (IsAnswered journal.now signature.now hash.now publications.now) }
+    ensures unsaved { IfOk result (λ report. report.saved ≡ None) }
     ensures judged { IfOk result (λ report. IsJudged report) }
 {
     decided_tells();

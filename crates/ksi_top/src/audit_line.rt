@@ -1,5 +1,5 @@
 // What is reported of an audit.
-ghost use Rattle.std.specs.Prelude.{◌≡◌, ◌≢◌, ◌≤◌, ◌+◌, ◌++◌, IfOk, OnOk, length, string_bytes};
+ghost use Rattle.std.specs.Prelude.{◌≡◌, ◌≢◌, ◌≤◌, ◌+◌, ◌++◌, IfOk, None, OnOk, length, string_bytes};
 ghost use Rattle.ksi_auditor.specs.declared.answer.Audit.TheVariants as answers;
 ghost use Rattle.ksi_auditor.specs.Shown.{IsShort};
 ghost use Rattle.ksi_top.specs.Causes.{IsJudged};
@@ -21,6 +21,7 @@ use std::alloc::Global;
 pub(crate) fn audited(alloc: Global, audit: &Audit) -> Result<Report, NoMemory>
     requires { IsShort audit.now }
     ensures report { IfOk result (λ report. report ≡ audited audit.now) }
+    ensures unsaved { IfOk result (λ report. report.saved ≡ None) }
     ensures judged { IfOk result (λ report. IsJudged report) }
     ensures memory { IfOk result (λ _. audit.now ≢ answers.NoMemory) }
 {

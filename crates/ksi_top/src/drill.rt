@@ -1,5 +1,5 @@
 // The command `drill`.
-ghost use Rattle.std.specs.Prelude.{◌≡◌, IfOk};
+ghost use Rattle.std.specs.Prelude.{◌≡◌, IfOk, None};
 ghost use Rattle.ksi_top.specs.Causes.{IsJudged};
 ghost use Rattle.ksi_top.specs.Drill.{drill_run, tallied};
 ghost use Rattle.ksi_top.specs.Headline.{IsDrilled};
@@ -17,6 +17,7 @@ use std::alloc::Global;
 pub(crate) fn drill(alloc: Global, number: u64) -> Result<Report, NoMemory>
     ensures told { IfOk result (λ report. report ≡ drill_run number) }
     ensures headline { IfOk result (IsDrilled number) }
+    ensures unsaved { IfOk result (λ report. report.saved ≡ None) }
     ensures judged { IfOk result (λ report. IsJudged report) }
 {
     let tally = ksi_drill::drill(alloc, number)?;
@@ -25,6 +26,7 @@ pub(crate) fn drill(alloc: Global, number: u64) -> Result<Report, NoMemory>
 
 fn tallied(alloc: Global, tally: &Tally) -> Result<Report, NoMemory>
     ensures tallied { IfOk result (λ report. report ≡ tallied tally.now) }
+    ensures unsaved { IfOk result (λ report. report.saved ≡ None) }
     ensures judged { IfOk result (λ report. IsJudged report) }
 {
     let line = print(

@@ -1,6 +1,6 @@
 // The file words that a command reads.
 ghost use Rattle.std.specs.Prelude.{◌≡◌, ◌≤◌, ◌+◌, ℕ, IsTrue, IfOk};
-ghost use Rattle.ksi_top.specs.Reports.{Gives, HaltsAs};
+ghost use Rattle.ksi_top.specs.Reports.{Gives, HaltsAs, HaltsUnsaved};
 ghost use Rattle.ksi_top.specs.Causes.{LoadCaused, counts};
 ghost use Rattle.ksi_top.specs.Loading.{content, loaded};
 
@@ -30,6 +30,7 @@ pub(crate) fn load_file<F: Files>(
     ensures told { IsTrue F.tells → Gives (loaded limit n (F.held files.old) name.now) result }
     ensures whole { IsTrue F.tells → IfOk result (λ bytes. bytes ≡ content (F.held files.old) name.now) }
     ensures halts { HaltsAs Status.TooLong result }
+    ensures unsaved { HaltsUnsaved result }
     ensures stays { IsTrue F.tells → F.held files.new ≡ F.held files.old }
     ensures calls { F.calls files.new ≤ F.calls files.old + 1 }
     ensures later { F.calls files.old ≤ F.calls files.new }

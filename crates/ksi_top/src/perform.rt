@@ -2,7 +2,7 @@
 ghost use Rattle.std.specs.Prelude.{◌≡◌, ◌≤◌, ◌+◌, ℕ, IsTrue, IfOk, IfErr};
 ghost use Rattle.ksi_top.specs.Reports.{Reports, Means};
 ghost use Rattle.ksi_top.specs.Causes.{ReportCaused, counts};
-ghost use Rattle.ksi_top.specs.Run.{performed, limits_of, loads_of, most_loads, run_loads, refused, run};
+ghost use Rattle.ksi_top.specs.Run.{performed, limits_of, loads_of, most_loads, most_saves, run_loads, saves_of, refused, run};
 ghost use Rattle.ksi_top.specs.Top.{ReportedAs, MeansUnlessCut, RunCaused};
 ghost use Rattle.ksi_top.specs.Complete.{Complete};
 ghost use Rattle.ksi_top.specs.Headline.{Headline};
@@ -41,6 +41,7 @@ pub(crate) fn report_of<F: Files>(
     ensures calls { IsTrue F.tells → F.calls files.new ≤ F.calls files.old + run_loads (command_of (texts words.now)) (F.held files.old) }
     ensures few_calls { IfOk (command_of (texts words.now)) (λ command. F.calls files.new ≤ F.calls files.old + most_loads command) }
     ensures untouched { IfErr (command_of (texts words.now)) (λ _. F.calls files.new ≡ F.calls files.old) }
+    ensures few_saves { IfOk (command_of (texts words.now)) (λ command. MeansUnlessCut (λ report. saves_of report.saved ≤ most_saves command) result) }
     ensures later { F.calls files.old ≤ F.calls files.new }
     ensures causes { RunCaused (command_of (texts words.now)) (counts (F.faults files.old) (F.taken files.old)) (counts (F.faults files.new) (F.taken files.new)) result }
 {
@@ -59,7 +60,7 @@ pub(crate) fn report_of<F: Files>(
 }
 
 /// What a command reports: a case for each.
-#[tactic(auto, using(crate::proofs::CauseLemmas::caused_by_judgement))]
+#[tactic(auto, using(crate::proofs::CauseLemmas::caused_by_judgement, crate::proofs::CauseLemmas::one_save))]
 fn perform<F: Files>(alloc: Global, files: &mut F, command: &Command<'_>) -> Result<Report, Halt>
     requires early { IsEarly command.now }
     ensures told { IsTrue F.tells → Reports (performed (asked command.now) (F.held files.old)) result }
@@ -67,6 +68,7 @@ fn perform<F: Files>(alloc: Global, files: &mut F, command: &Command<'_>) -> Res
     ensures stays { IsTrue F.tells → F.held files.new ≡ F.held files.old }
     ensures calls { IsTrue F.tells → F.calls files.new ≤ F.calls files.old + loads_of (asked command.now) (F.held files.old) }
     ensures few_calls { F.calls files.new ≤ F.calls files.old + most_loads (asked command.now) }
+    ensures few_saves { Means (λ report. saves_of report.saved ≤ most_saves (asked command.now)) result }
     ensures later { F.calls files.old ≤ F.calls files.new }
     ensures causes { ReportCaused (limits_of (asked command.now)) (counts (F.faults files.old) (F.taken files.old)) (counts (F.faults files.new) (F.taken files.new)) result }
 {

@@ -5,7 +5,7 @@ ghost use Rattle.ksi_journal.specs.File.{IsJournalFile};
 ghost use Rattle.ksi_publications.specs.File.{IsPublications};
 ghost use Rattle.ksi_schedule.specs.Spelled.{IsScheduleText};
 ghost use Rattle.ksi_signature.specs.File.{IsSignature};
-ghost use Rattle.ksi_top.specs.Reports.{Gives, HaltsAs};
+ghost use Rattle.ksi_top.specs.Reports.{Gives, HaltsAs, HaltsUnsaved};
 ghost use Rattle.ksi_top.specs.Causes.{HaltsJudged};
 ghost use Rattle.ksi_top.specs.Loading.{signature_or_malformed, publications_or_malformed, journal_or_malformed, schedule_or_malformed};
 
@@ -27,6 +27,7 @@ pub(crate) fn read_signature(alloc: Global, n: usize, bytes: &[u8]) -> Result<Si
     ensures told { Gives (signature_or_malformed n bytes.now) result }
     ensures is { IfOk result (IsSignature bytes.now) }
     ensures halts { HaltsAs Status.Malformed result }
+    ensures unsaved { HaltsUnsaved result }
     ensures judged { HaltsJudged result }
 {
     signature_is_read();
@@ -44,6 +45,7 @@ pub(crate) fn read_publications(alloc: Global, n: usize, bytes: &[u8]) -> Result
     ensures told { Gives (publications_or_malformed n bytes.now) result }
     ensures is { IfOk result (IsPublications bytes.now) }
     ensures halts { HaltsAs Status.Malformed result }
+    ensures unsaved { HaltsUnsaved result }
     ensures judged { HaltsJudged result }
 {
     publications_are_read();
@@ -61,6 +63,7 @@ pub(crate) fn read_journal(alloc: Global, n: usize, bytes: &[u8]) -> Result<Jour
     ensures told { Gives (journal_or_malformed n bytes.now) result }
     ensures is { IfOk result (IsJournalFile imprint_of bytes.now) }
     ensures halts { HaltsAs Status.Malformed result }
+    ensures unsaved { HaltsUnsaved result }
     ensures judged { HaltsJudged result }
 {
     journal_is_read();
@@ -78,6 +81,7 @@ pub(crate) fn read_schedule(alloc: Global, n: usize, bytes: &[u8]) -> Result<Sch
     ensures told { Gives (schedule_or_malformed n bytes.now) result }
     ensures is { IfOk result (IsScheduleText bytes.now) }
     ensures halts { HaltsAs Status.Malformed result }
+    ensures unsaved { HaltsUnsaved result }
     ensures judged { HaltsJudged result }
 {
     schedule_is_read();

@@ -1,5 +1,5 @@
 // The command `verify`.
-ghost use Rattle.std.specs.Prelude.{◌≡◌, ◌≤◌, ◌+◌, ℕ, IsTrue, IfOk};
+ghost use Rattle.std.specs.Prelude.{◌≡◌, ◌≤◌, ◌+◌, ℕ, IsTrue, IfOk, None};
 ghost use Rattle.ksi_top.specs.Reports.{Reports, Means, WhereRead};
 ghost use Rattle.ksi_top.specs.Headline.{IsVerified};
 ghost use Rattle.ksi_top.specs.Loading.{content};
@@ -37,6 +37,7 @@ pub(crate) fn verify<F: Files>(
     ensures calls { IsTrue F.tells → F.calls files.new ≤ F.calls files.old + verify_loads signature.now (F.held files.old) }
     ensures few_calls { F.calls files.new ≤ F.calls files.old + 2 }
     ensures later { F.calls files.old ≤ F.calls files.new }
+    ensures unsaved { Means (λ report. report.saved ≡ None) result }
     ensures causes { ReportCaused verify_limits (counts (F.faults files.old) (F.taken files.old)) (counts (F.faults files.new) (F.taken files.new)) result }
 {
     let bytes = load_file(alloc, files, SIGNATURE_LIMIT, 1, signature)?;
@@ -53,6 +54,7 @@ fn judge(
     publications: &Publications,
 ) -> Result<Report, NoMemory>
     ensures verdict { IfOk result (λ report. report ≡ judged (verdict imprint_of signature.now hash.now publications.now)) }
+    ensures unsaved { IfOk result (λ report. report.saved ≡ None) }
     ensures judged { IfOk result (λ report. IsJudged report) }
 {
     match ksi_verifier::verify::<Sha>(signature, hash, publications) {
