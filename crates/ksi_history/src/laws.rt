@@ -1,11 +1,13 @@
 //! The laws. None of these functions does anything.
-ghost use Rattle.std.specs.Prelude.{◌≡◌, ◌≤◌, ◌++◌, ◌∷◌, ℕ, List, Ok, Some, slice_get};
+ghost use Rattle.std.specs.Prelude.{◌≡◌, ◌<◌, ◌≤◌, ◌++◌, ◌∷◌, ℕ, List, Ok, Some, slice_get};
 ghost use Rattle.ksi_imprint.specs.Imprints.{IsImprint};
 ghost use Rattle.ksi_tlv.specs.Spelling.{AreBytes};
 ghost use Rattle.ksi_aggchain.specs.declared.item.Item.{Item};
 ghost use Rattle.ksi_aggchain.specs.declared.link.Link.{Link};
 ghost use Rattle.ksi_signature.specs.declared.above.Above.{Above};
 ghost use Rattle.ksi_signature.specs.Issued.{issued, own_chain};
+ghost use Rattle.ksi_signature.specs.declared.answer.Answer.TheVariants.{Published};
+ghost use Rattle.ksi_corenode.specs.Rows.{publish_answer};
 ghost use Rattle.ksi_verifier.specs.ChainChecks.{aggregated};
 ghost use Rattle.ksi_journal.specs.Journal.{Contents, IsJournal};
 ghost use Rattle.ksi_journal.specs.Calendar as calendars;
@@ -13,11 +15,11 @@ ghost use Rattle.ksi_schedule.specs.declared.event.Event.{Event};
 ghost use Rattle.ksi_schedule.specs.Plans.{PlanState, IsPlan};
 ghost use Rattle.ksi_schedule.specs.Events.{History, AreEvents, AskForImprints};
 ghost use Rattle.ksi_world.specs.declared.outcome.Asked.{Asked};
-ghost use Rattle.ksi_world.specs.Histories.{after, world_of};
+ghost use Rattle.ksi_world.specs.Histories.{after, held_in, world_of};
 ghost use Rattle.ksi_world.specs.Joined.{ChainsClimb, IsCovered};
 ghost use Rattle.ksi_world.specs.Records.{issued_of};
 ghost use Rattle.ksi_replay.specs.Journals.{journal_of};
-ghost use Rattle.ksi_history.specs.Joined.{Joined};
+ghost use Rattle.ksi_history.specs.Joined.{IsPublished, Joined};
 ghost use Rattle.ksi_history.specs.Lasting.{KeepsRoots, LastsTo, Publish};
 
 use ksi_auditor::laws::{audit_shows, decided_tells};
@@ -27,7 +29,7 @@ use ksi_extender::{covered_is_extended, extended_is_accepted};
 use ksi_journal::laws::calendar_is_covered;
 use ksi_signature::issued_is_signature;
 use ksi_verifier::laws::aggregation;
-use ksi_world::laws::{issued_is_carried, issued_is_joined, published_roots, validity};
+use ksi_world::laws::{agreement, issued_is_carried, issued_is_joined, published_roots, validity};
 
 /// Chains that climb from an imprint at level 0 to an item pass the checks of aggregation chains, as they are issued: they
 /// lead to this item, in the second that they were issued for.
@@ -63,6 +65,28 @@ pub fn issued_lasts()
     audit_shows();
 }
 
+/// What a core holds at some moment, it holds ever after.
+pub fn held_stays()
+    ensures { (image : List ℕ → List ℕ) (plan : PlanState) (before later : List Event) (core second : ℕ) (root : List ℕ) →
+        held_in (after image plan before) core second ≡ Some root →
+        held_in (after image plan (before ++ later)) core second ≡ Some root }
+{}
+
+/// What any core answers to `publish` with a root, at any moment, is a second that is covered at the end, with the root of
+/// the journal's calendar to it. So two such answers for one second are the same.
+pub fn answered_is_kept()
+    ensures { (image : List ℕ → List ℕ) (plan : PlanState) (before later : List Event) (journal : Contents) →
+        IsPlan plan → AreEvents plan (before ++ later) → IsJournal image journal →
+        KeepsRoots plan (after image plan (before ++ later)) journal →
+        (core p : ℕ) (root : List ℕ) → core < plan.cores → plan.start ≤ p →
+        publish_answer image (held_in (after image plan before) core) plan.start p ≡ Published root →
+        IsPublished image journal p root }
+{
+    agreement();
+    calendar_is_covered();
+    one_calendar();
+}
+
 /// Each pair that was published, at any moment, is a second that is covered at the end, with the root of the journal's
 /// calendar to it, whichever core published it. So what was published publishes each of its seconds as the journal has it.
 pub fn published_is_kept()
@@ -94,6 +118,7 @@ pub fn history_is_joined()
 {
     issued_is_joined();
     issued_lasts();
+    answered_is_kept();
     published_is_kept();
 }
 

@@ -21,6 +21,10 @@ use Rattle.ksi_world.specs.declared.outcome.Asked as requests
 use Rattle.ksi_top.specs.declared.report.Report.{Report}
 use Rattle.ksi_top.specs.Loading.{content, loaded, within, signature_limit, file_limit}
 use Rattle.ksi_top.specs.Verify.{judged, verify_run}
+use Rattle.ksi_schedule.specs.Events.{History}
+use Rattle.ksi_schedule.specs.Spelled.{IsScheduleText}
+use Rattle.ksi_top.specs.Headline.{HoldsOver}
+use Rattle.ksi_top.specs.Lawful.{IsLawful}
 use Rattle.ksi_top.specs.Complete.{IsTakenFrom}
 
 within_limit : (limit n : ℕ) (bytes : List ℕ) → length bytes ≤ limit → within limit n bytes ≡ Ok bytes
@@ -46,10 +50,10 @@ module _ (signature_read : (bytes : List ℕ) (signature : Signature) → AreByt
       within_limit file_limit 3 (content held publications) few, (publications_read (content held publications) pairs).2 are) refl
 
   lasting : (signature hash publications : List ℕ) (held : Held) (second : ℕ) → (d : IsTakenFrom (content held signature) hash (content held publications) second)
-      → (l : Lasts imprint_of d.replayed.history (journal_of imprint_of d.replayed.history) d.number d.text) → l.asked ≡ d.asked
+      → (l : Lasts imprint_of d.history (journal_of imprint_of d.history) d.number d.text) → l.asked ≡ d.asked
       → verify_run signature hash publications held ≡ judged (Accepted second)
   lasting signature hash publications held second d l same =
-      let journal = journal_of imprint_of d.replayed.history in
+      let journal = journal_of imprint_of d.history in
       let at : l.asked.second ≡ second = ap (λ (a : requests.Asked). a.second) same ∙ d.of_second in
       let for : l.asked.imprint ≡ hash = ap (λ (a : requests.Asked). a.imprint) same ∙ d.of_hash in
       let to : LastsTo imprint_of journal l.asked d.text d.p = l.later d.p (omega (arith, at, d.from)) d.covered in
@@ -59,8 +63,9 @@ module _ (signature_read : (bytes : List ℕ) (signature : Signature) → AreByt
       let accepted : verdict imprint_of read hash d.pairs ≡ Accepted second = ap (λ hash. verdict imprint_of read hash d.pairs) (sym for) ∙ to.accepted d.pairs d.published ∙ ap Accepted at in
       verified signature hash publications held read d.pairs d.bytes is d.publications_are d.within ∙ ap judged accepted
 
-  pub accepted_again : (signature hash publications : List ℕ) (held : Held) (second : ℕ) → IsTakenFrom (content held signature) hash (content held publications) second
+  pub accepted_again : ((text : List ℕ) (h : History) → IsScheduleText text h → IsLawful (journal_of imprint_of h) → HoldsOver h)
+      → (signature hash publications : List ℕ) (held : Held) (second : ℕ) → IsTakenFrom (content held signature) hash (content held publications) second
       → verify_run signature hash publications held ≡ judged (Accepted second)
-  accepted_again signature hash publications held second d =
-      let l = d.replayed.holds.lasts d.number d.text d.issued in
+  accepted_again holds signature hash publications held second d =
+      let l = (holds d.schedule d.history d.spelled d.lawful).lasts d.number d.text d.issued in
       lasting signature hash publications held second d l (cc (l.accepted, d.request))

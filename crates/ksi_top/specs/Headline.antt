@@ -1,9 +1,11 @@
 -- The headline: what the result of a command means, over the files that were held.
-use Rattle.std.specs.Prelude.{◌≡◌, ◌≢◌, ◌++◌, ℕ, List, slice_get, Some}
+use Rattle.std.specs.Prelude.{◌≡◌, ◌≢◌, ◌<◌, ◌≤◌, ◌++◌, ℕ, List, slice_get, Some, Ok}
 use Rattle.ksi_imprint.specs.Imprints.{imprint_of, zero_imprint}
 use Rattle.ksi_ports.specs.Stored.{Held}
 use Rattle.ksi_signature.specs.declared.signature.Signature.{Signature}
 use Rattle.ksi_signature.specs.File.{IsSignature}
+use Rattle.ksi_signature.specs.declared.answer.Answer.TheVariants.{Published}
+use Rattle.ksi_corenode.specs.Rows.{publish_answer}
 use Rattle.ksi_publications.specs.File.{IsPublications}
 use Rattle.ksi_verifier.specs.declared.verdict.Verdict.TheVariants.{Accepted}
 use Rattle.ksi_verifier.specs.Verdict.{verdict}
@@ -21,6 +23,7 @@ use Rattle.ksi_replay.specs.Journals.{journal_of}
 use Rattle.ksi_history.specs.Joined.{IsPublished, Lasts}
 use Rattle.ksi_generate.specs.Generate.{generated}
 use Rattle.ksi_drill.specs.Drill.{drilled}
+use Rattle.ksi_extender.specs.Extended.{extended}
 use Rattle.ksi_extender.specs.Accepted.{IsExtended}
 use Rattle.ksi_auditor.specs.declared.answer.Audit.{Audit}
 use Rattle.ksi_auditor.specs.Audit as audits
@@ -28,6 +31,7 @@ use Rattle.ksi_auditor.specs.Shown.{IsDecided, Shows, Tells}
 use Rattle.ksi_words.specs.Words.{Asked, replay, sign, publish, extend, verify, audit, make, drill}
 use Rattle.ksi_top.specs.declared.report.Report.{Report}
 use Rattle.ksi_top.specs.declared.status.Status.TheVariants.{Done}
+use Rattle.ksi_top.specs.Lawful.{IsLawful}
 use Rattle.ksi_top.specs.Reports.{WhereRead}
 use Rattle.ksi_top.specs.Loading.{content}
 use Rattle.ksi_top.specs.Replay.{replayed}
@@ -43,31 +47,39 @@ pub record HoldsOver (history : History) : Type 0 where
   -- two cores that hold a root for a second hold the same
   pub agreement : (one other second : ℕ) (d e : List ℕ) → held_in (world_of imprint_of history) one second ≡ Some d →
       held_in (world_of imprint_of history) other second ≡ Some e → d ≡ e
+  -- and what a core holds at some moment, it holds ever after
+  pub stays : (before later : List Event) → history.events ≡ before ++ later → (core second : ℕ) (root : List ℕ) →
+      held_in (after imprint_of history.plan before) core second ≡ Some root → held_in (world_of imprint_of history) core second ≡ Some root
   -- a held root, other than that of a missed second, is the root of items that a core sealed for this second
   pub validity : (core second : ℕ) (root : List ℕ) → held_in (world_of imprint_of history) core second ≡ Some root → root ≢ zero_imprint →
       IsProposed imprint_of history.plan (world_of imprint_of history) second root
   -- what was issued is taken on to each covered second from its own on, and is then accepted; an audit tells where it stands
   pub lasts : (number : ℕ) (text : List ℕ) → issued_of imprint_of (world_of imprint_of history) number ≡ Some text →
       Lasts imprint_of history (journal_of imprint_of history) number text
-  -- what any core published, at any moment, is the root of the calendar over what is kept
+  -- what any core answers to `publish`, at any moment, is the root of the calendar over what is kept; so is each pair that
+  -- was published
+  pub answered : (before later : List Event) → history.events ≡ before ++ later → (core p : ℕ) (root : List ℕ) → core < history.plan.cores → history.plan.start ≤ p →
+      publish_answer imprint_of (held_in (after imprint_of history.plan before) core) history.plan.start p ≡ Published root → IsPublished imprint_of (journal_of imprint_of history) p root
   pub published : (before later : List Event) → history.events ≡ before ++ later → (k p : ℕ) (root : List ℕ) →
       slice_get (after imprint_of history.plan before).published k ≡ Some (p, root) → IsPublished imprint_of (journal_of imprint_of history) p root
 
 -- the schedule spells a history; what is saved is the journal of what its cores kept and published and what was issued,
--- and is read as this journal
+-- which is one, and is read again as this journal
 pub record IsReplayed (schedule name : List ℕ) (report : Report) : Type 0 where
   pub history : History
   pub spelled : IsScheduleText schedule history
   pub reported : report ≡ replayed name history
+  pub lawful : IsLawful (journal_of imprint_of history)
   pub again : IsJournalFile imprint_of (journal_text (journal_of imprint_of history)) (journal_of imprint_of history)
   pub holds : HoldsOver history
 
 -- ---- `extend`
 
--- what is saved is the signature, taken on to p over the journal, and is accepted
+-- what is saved is exactly the signature taken on to p over the journal, and is accepted
 pub record IsTakenOn (journal : Contents) (signature : List ℕ) (p : ℕ) (out : List ℕ) (report : Report) : Type 0 where
   pub text : List ℕ
   pub saved : report.saved ≡ Some (out, text)
+  pub is : extended imprint_of journal signature p ≡ Ok text
   pub extended : IsExtended imprint_of journal signature p text
 
 pub record IsExtension (journal signature : List ℕ) (p : ℕ) (out : List ℕ) (report : Report) : Type 0 where

@@ -4,6 +4,7 @@ ghost use Rattle.ksi_words.specs.Words.{Asked};
 ghost use Rattle.ksi_top.specs.Complete.{Complete};
 ghost use Rattle.ksi_top.specs.Run.{performed};
 
+use crate::histories::histories_hold;
 use ksi_publications::publications_are_read;
 use ksi_signature::signature_is_read;
 
@@ -11,6 +12,7 @@ use ksi_signature::signature_is_read;
 pub(crate) fn issued_is_accepted()
     ensures { (asked : Asked) (held : Held) → Complete asked held (performed asked held) }
 {
+    histories_hold();
     signature_is_read();
     publications_are_read();
 }

@@ -9,7 +9,7 @@ ghost use Rattle.ksi_replay.specs.Journals.{journal_of};
 ghost use Rattle.ksi_top.specs.Headline.{HoldsOver};
 ghost use Rattle.ksi_top.specs.Lawful.{IsLawful};
 
-use ksi_history::laws::{history_is_joined, journal_keeps_roots};
+use ksi_history::laws::{held_stays, history_is_joined, journal_keeps_roots};
 use ksi_journal::laws::written_is_journal;
 use ksi_schedule::spelled_is_schedule;
 use ksi_world::laws::{agreement, all_issued, validity};
@@ -23,6 +23,7 @@ pub(crate) fn histories_hold()
 {
     spelled_is_schedule();
     agreement();
+    held_stays();
     validity();
     all_issued();
     journal_keeps_roots();

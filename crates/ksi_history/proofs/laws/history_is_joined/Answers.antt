@@ -18,6 +18,10 @@ returns c = λ image h journal images is are ask is_journal keeps. record {
             c.issued_lasts.ensures image h journal images is are ask is_journal keeps number joined.asked text joined.accepted is_issued bytes p to
             (covered_back h.plan (world_of image h) journal keeps p covered);
       };
+  answered = λ before later same core p root lt from answer.
+      let events = subst (λ (es : List Event). AreEvents h.plan es) same are in
+      let kept = subst (λ (es : List Event). KeepsRoots h.plan (after image h.plan es) journal) same keeps in
+      c.answered_is_kept.ensures image h.plan before later journal is events is_journal kept core p root lt from answer;
   published = λ before later same k p root at.
       let events = subst (λ (es : List Event). AreEvents h.plan es) same are in
       let kept = subst (λ (es : List Event). KeepsRoots h.plan (after image h.plan es) journal) same keeps in

@@ -1,8 +1,9 @@
-use Rattle.std.proofs.Common.{ℕ, List, subst}
+use Rattle.std.proofs.Common.{◌≡◌, ℕ, List, Some, sym, subst}
 use Rattle.std.specs.List.{AllByRecursion}
 use Rattle.ksi_imprint.specs.Imprints.{imprint_of}
 use Rattle.ksi_tlv.specs.Spelling.{AreBytes}
-use Rattle.ksi_world.specs.Histories.{world_of}
+use Rattle.ksi_schedule.specs.declared.event.Event.{Event}
+use Rattle.ksi_world.specs.Histories.{after, held_in, world_of}
 use Rattle.ksi_world.specs.Records.{issued_all}
 use Rattle.ksi_replay.specs.Journals.{journal_of}
 use Rattle.ksi_top.proofs.Headline.{all_at, sha_imprints, issued_listed}
@@ -17,10 +18,13 @@ returns-clause-holds c = λ text h spelled lawful.
     let texts = subst (AllByRecursion (λ (x : ℕ × List ℕ). AreBytes x.1)) (issued_listed h) lawful.texts in
     record {
       agreement = c.agreement.ensures imprint_of h is.plan is.events;
+      stays = λ before later same core second root at.
+          subst (λ (es : List Event). held_in (after imprint_of h.plan es) core second ≡ Some root) (sym same) (c.held_stays.ensures imprint_of h.plan before later core second root at);
       validity = c.validity.ensures.root imprint_of h is.plan is.events;
       lasts = λ number issued_text issued.
           let listed = c.all_issued.ensures.there imprint_of w number issued_text issued in
           joined.issued number issued_text issued (all_at (λ (x : ℕ × List ℕ). AreBytes x.1) (issued_all imprint_of w) listed.0 (number, issued_text) texts listed.1);
+      answered = joined.answered;
       published = joined.published;
     }
 
