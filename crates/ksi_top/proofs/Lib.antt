@@ -3,4 +3,4 @@ pub mod LineLengths
 pub mod Read
 pub mod Spacing
 pub mod Headline
-pub mod Completeness
+pub mod Accepting

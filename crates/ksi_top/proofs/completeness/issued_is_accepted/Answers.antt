@@ -2,7 +2,7 @@ use Rattle.ksi_ports.specs.Stored.{Held}
 use Rattle.ksi_words.specs.Words.{Asked, replay, sign, publish, extend, verify, audit, make, drill}
 use Rattle.ksi_top.specs.Complete.{Complete}
 use Rattle.ksi_top.specs.Run.{performed}
-use Rattle.ksi_top.proofs.Completeness.{accepted_again}
+use Rattle.ksi_top.proofs.Accepting.{accepted_again}
 use Rattle.ksi_top.proofs.completeness.issued_is_accepted.Goals as goal
 
 pub returns : goal.returns
