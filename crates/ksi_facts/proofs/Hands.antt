@@ -13,9 +13,9 @@ use Rattle.ksi_synod.specs.declared.messages.SynodMessage.TheVariants as votes
 use Rattle.ksi_synod.specs.Voters.{is_voter, is_flagged, is_majority}
 use Rattle.ksi_synod.specs.VoteState.{Hand}
 use Rattle.ksi_synod.specs.Rows.{greater_vote, decree_of, counts_last, with_last, decree_now, voted_for, with_voted}
-use Rattle.ksi_facts.specs.Since.{Since, Heard, Told, Moment, told, told_by, voted, voted_by, has_told, are_most, greatest_told, or_now, first_moment, begun, told_until, voted_after, decree_begun}
+use Rattle.ksi_facts.specs.Since.{Since, Reply, with_reply, Told, Moment, told, told_by, voted, voted_by, has_told, are_most, greatest_told, or_now, first_moment, begun, told_until, voted_after, decree_begun}
 use Rattle.ksi_facts.specs.Recalled.{IsHand}
-use Rattle.ksi_facts.proofs.Standing.{IsHandSo, with_heard}
+use Rattle.ksi_facts.proofs.Standing.{IsHandSo}
 
 -- SETS OF CORES
 
@@ -47,7 +47,7 @@ most_same : (voters : List ℕ) (p q : ℕ → Bool) → ((y : ℕ) → p y ≡ 
 most_same voters p q same = ap (λ (n : ℕ). ltb (length voters) (2 * n)) (count_same p q voters same)
 
 -- where there was no such moment, it does not hold now
-none_holds : (holds : List Heard → Bool) → holds [] ≡ false → (hs : List Heard) → first_moment holds hs ≡ None → holds hs ≡ false
+none_holds : (holds : List Reply → Bool) → holds [] ≡ false → (hs : List Reply) → first_moment holds hs ≡ None → holds hs ≡ false
 none_holds holds first [] none = first
 none_holds holds first (h ∷ older) none = by (first_moment holds older) (holds (h ∷ older)) none
   where
@@ -60,12 +60,12 @@ decree_some : (g : Option Vote) (c : List ℕ) → decree_of g (Some c) ≡ None
 decree_some None c e = cc e
 decree_some (Some v) c e = cc e
 
-module _ (voters : List ℕ) (small : (y : ℕ) → is_voter voters y ≡ true → y < 9) (candidate : Option (List ℕ)) (s : Since) (h : Hand) (so : IsHandSo voters candidate s h) (x : Heard) where
-  abbrev Ts : List Heard → List Told
+module _ (voters : List ℕ) (small : (y : ℕ) → is_voter voters y ≡ true → y < 9) (candidate : Option (List ℕ)) (s : Since) (h : Hand) (so : IsHandSo voters candidate s h) (x : Reply) where
+  abbrev Ts : List Reply → List Told
   Ts hs = told voters s.ballot hs
 
   abbrev now : Since
-  now = with_heard (Some x) s
+  now = with_reply x s
 
   abbrev decide : Moment → Option (List ℕ)
   decide m = decree_of (greatest_told (Ts m.by_then)) candidate
@@ -164,7 +164,7 @@ module _ (voters : List ℕ) (small : (y : ℕ) → is_voter voters y ≡ true �
 -- LASTVOTE
 
 module _ (voters : List ℕ) (small : (y : ℕ) → is_voter voters y ≡ true → y < 9) (candidate : Option (List ℕ)) (s : Since) (h : Hand) (so : IsHandSo voters candidate s h) (from : ℕ) (l : LastVote) where
-  abbrev X : Heard
+  abbrev X : Reply
   X = record { from = from; what = votes.LastVote l }
 
   abbrev New : Told
@@ -184,7 +184,7 @@ module _ (voters : List ℕ) (small : (y : ℕ) → is_voter voters y ≡ true �
   told_yes met = ap (λ (b : Bool). cons_option (cond b (Some New) None) Old) met
 
   -- it does not count
-  pub last_idle : counts_last voters (Some h) from l.ballot ≡ false → IsHandSo voters candidate (with_heard (Some X) s) h
+  pub last_idle : counts_last voters (Some h) from l.ballot ≡ false → IsHandSo voters candidate (with_reply X s) h
   last_idle idle = stays voters small candidate s h so X h refl refl refl refl so.voted_room
       (λ none y. (both none (cases_Bool counted)).0 y) (λ none. (both none (cases_Bool counted)).1) (no_voted voters small candidate s h so X) (voted_was voters small candidate s h so X)
     where
@@ -228,14 +228,14 @@ module _ (voters : List ℕ) (small : (y : ℕ) → is_voter voters y ≡ true �
     most_now : is_majority voters after.last ≡ are_most voters (told voters s.ballot (X ∷ s.heard))
     most_now = most_same voters (is_flagged after.last) (has_told (told voters s.ballot (X ∷ s.heard))) flags_now
 
-    begun_now : begun voters (with_heard (Some X) s) ≡ cond (is_majority voters after.last) (Some (record { by_then = X ∷ s.heard; later = [] })) None
+    begun_now : begun voters (with_reply X s) ≡ cond (is_majority voters after.last) (Some (record { by_then = X ∷ s.heard; later = [] })) None
     begun_now = ap (or_now (are_most voters (told voters s.ballot (X ∷ s.heard))) (X ∷ s.heard) X) none
         ∙ ap (λ (b : Bool). cond b (Some (record { by_then = X ∷ s.heard; later = [] })) None) (sym most_now)
 
-    last_counts : IsHandSo voters candidate (with_heard (Some X) s) (record after { decree = decree_now voters candidate after })
+    last_counts : IsHandSo voters candidate (with_reply X s) (record after { decree = decree_now voters candidate after })
     last_counts = by (is_majority voters after.last) begun_now
       where
-        by : (b : Bool) → begun voters (with_heard (Some X) s) ≡ cond b (Some (record { by_then = X ∷ s.heard; later = [] })) None → IsHandSo voters candidate (with_heard (Some X) s) (record after { decree = cond b (decree_of after.greatest candidate) None })
+        by : (b : Bool) → begun voters (with_reply X s) ≡ cond b (Some (record { by_then = X ∷ s.heard; later = [] })) None → IsHandSo voters candidate (with_reply X s) (record after { decree = cond b (decree_of after.greatest candidate) None })
         by true e = record {
           is = record {
             ballot = so.is.ballot;
@@ -263,7 +263,7 @@ module _ (voters : List ℕ) (small : (y : ℕ) → is_voter voters y ≡ true �
           sealed = so.sealed;
         }
 
-  pub last_counted : counts_last voters (Some h) from l.ballot ≡ true → IsHandSo voters candidate (with_heard (Some X) s) (record (with_last h from l.vote) { decree = decree_now voters candidate (with_last h from l.vote) })
+  pub last_counted : counts_last voters (Some h) from l.ballot ≡ true → IsHandSo voters candidate (with_reply X s) (record (with_last h from l.vote) { decree = decree_now voters candidate (with_last h from l.vote) })
   last_counted counts =
       let one = and_parts _ _ counts in
       let two = and_parts _ _ one.1 in
@@ -277,20 +277,20 @@ module _ (voters : List ℕ) (small : (y : ℕ) → is_voter voters y ≡ true �
 -- VOTED
 
 module _ (voters : List ℕ) (small : (y : ℕ) → is_voter voters y ≡ true → y < 9) (candidate : Option (List ℕ)) (s : Since) (h : Hand) (so : IsHandSo voters candidate s h) (from b : ℕ) where
-  abbrev Y : Heard
+  abbrev Y : Reply
   Y = record { from = from; what = votes.Voted b }
 
   abbrev may : Bool
   may = eqb s.ballot b && is_voter voters from
 
-  voted_no : may ≡ false → (hs : List Heard) → voted voters s.ballot (Y ∷ hs) ≡ voted voters s.ballot hs
+  voted_no : may ≡ false → (hs : List Reply) → voted voters s.ballot (Y ∷ hs) ≡ voted voters s.ballot hs
   voted_no unmet hs = ap (λ (c : Bool). cons_option (cond c (Some from) None) (voted voters s.ballot hs)) unmet
 
-  voted_yes : may ≡ true → (hs : List Heard) → voted voters s.ballot (Y ∷ hs) ≡ from ∷ voted voters s.ballot hs
+  voted_yes : may ≡ true → (hs : List Reply) → voted voters s.ballot (Y ∷ hs) ≡ from ∷ voted voters s.ballot hs
   voted_yes met hs = ap (λ (c : Bool). cons_option (cond c (Some from) None) (voted voters s.ballot hs)) met
 
   -- it does not count
-  pub voted_idle : voted_for voters (Some h) from b ≡ None → IsHandSo voters candidate (with_heard (Some Y) s) h
+  pub voted_idle : voted_for voters (Some h) from b ≡ None → IsHandSo voters candidate (with_reply Y s) h
   voted_idle idle = stays voters small candidate s h so Y h refl refl refl refl so.voted_room (λ none y. refl) (λ none. refl) (no_voted voters small candidate s h so Y)
       (λ m some y. voted_was voters small candidate s h so Y m some y ∙ sym (same m some (cases_Bool may) y))
     where
@@ -310,13 +310,13 @@ module _ (voters : List ℕ) (small : (y : ℕ) → is_voter voters y ≡ true �
           ∙ there_again from (is_voter (voted voters s.ballot m.later)) (sym (voted_was voters small candidate s h so Y m some from) ∙ flagged m some met (is_flagged h.voted from) refl) y
 
   -- it counts
-  pub voted_counted : (d : List ℕ) → voted_for voters (Some h) from b ≡ Some d → IsHandSo voters candidate (with_heard (Some Y) s) (with_voted h from)
+  pub voted_counted : (d : List ℕ) → voted_for voters (Some h) from b ≡ Some d → IsHandSo voters candidate (with_reply Y s) (with_voted h from)
   voted_counted d counts = by (cases_Bool test)
     where
       test : Bool
       test = eqb h.ballot b && (is_voter voters from && not (is_flagged h.voted from))
 
-      by : (test ≡ true) ⊎ (test ≡ false) → IsHandSo voters candidate (with_heard (Some Y) s) (with_voted h from)
+      by : (test ≡ true) ⊎ (test ≡ false) → IsHandSo voters candidate (with_reply Y s) (with_voted h from)
       by (inr unmet) = let none : None ≡ Some d = sym (cond-false test h.decree None unmet) ∙ counts in absurd (cc none)
       by (inl met) =
           let one = and_parts _ _ met in

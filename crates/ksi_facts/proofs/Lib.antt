@@ -1,8 +1,6 @@
-pub mod Noting
 pub mod Standing
 pub mod Hands
 pub mod CoreRows
 pub mod RoundRows
-pub mod Effects
 pub mod Recalling
 pub mod Growing

@@ -1,19 +1,17 @@
 -- What every second and every round is, beside what was seen of it.
-use Rattle.std.proofs.Common.{◌≡◌, ℕ, ◌<◌, Bool, true, false, cond, ◌&&◌, List, [], ◌∷◌, ◌++◌, length, refl, sym, ap, subst, ◌∙◌, Option, Some, None}
-use Rattle.std.specs.Prelude.{option_map, option_and_then}
-use Rattle.std.specs.List.{filter_map, cons_option}
-use Rattle.std.proofs.lemmas.List.{append-nil}
-use Rattle.ksi_aggtree.specs.declared.entries.Entry.{Entry}
+use Rattle.std.proofs.Common.{◌≡◌, ℕ, Bool, true, false, cond, ◌&&◌, eqb, List, [], ◌∷◌, ◌++◌, map, length, refl, sym, ap, subst, ◌∙◌, Option, Some, None}
+use Rattle.std.specs.List.{filter}
+use Rattle.std.proofs.lemmas.List.Elements.{filter-append}
 use Rattle.ksi_synod.specs.VoteState.{Hand}
 use Rattle.ksi_corenode.specs.SecondState.{SecondState}
 use Rattle.ksi_aggregator.specs.Rows.{RoundState}
+use Rattle.ksi_aggtree.specs.declared.entries.Entry.{Entry}
 use Rattle.ksi_schedule.specs.declared.actor.Actor.{Actor}
 use Rattle.ksi_schedule.specs.declared.actor.Actor.TheVariants as actors
-use Rattle.ksi_facts.specs.Seen.{Seen, is_at, latest, later_than, in_order}
-use Rattle.ksi_facts.specs.Facts.{What, Fact, noted, facts, facts_at, added, open_items, accepted, ends}
-use Rattle.ksi_facts.specs.Since.{Since, Heard, since, heard, turns, tries}
+use Rattle.ksi_facts.specs.Seen.{Seen}
+use Rattle.ksi_facts.specs.Deeds.{What, Deed, Did, is_of, of_second, is_fact, facts_of, open_items, is_actor, own, does, deeds}
+use Rattle.ksi_facts.specs.Since.{Since, since}
 use Rattle.ksi_facts.specs.Recalled.{IsKept, IsKeptRound, IsHand}
-use Rattle.ksi_facts.proofs.Noting.{facts_more}
 
 -- the hand of a core that has sealed
 pub record IsHandSo (voters : List ℕ) (candidate : Option (List ℕ)) (s : Since) (h : Hand) : Type 0 where
@@ -29,136 +27,75 @@ IsInHandSo voters candidate (Some s) (Some h) = IsHandSo voters candidate s h
 IsInHandSo voters candidate None (Some h) = ⊥
 IsInHandSo voters candidate (Some s) None = ⊥
 
-pub record IsSo (image : List ℕ → List ℕ) (voters : List ℕ) (whats : List What) (opens : List Entry) (sn : Option Since) (s : SecondState) : Type 0 where
-  pub kept : IsKept image whats s
-  pub open_items : s.open_items ≡ opens
+-- the deeds are those for the second
+pub record IsSo (image : List ℕ → List ℕ) (voters : List ℕ) (ds : List Deed) (s : SecondState) : Type 0 where
+  pub kept : IsKept image (facts_of ds) s
+  pub open_is : s.open_items ≡ open_items ds
   pub voters_are : s.vote.voters ≡ voters
-  pub hand : IsInHandSo s.vote.voters s.vote.candidate sn s.vote.hand
+  pub hand : IsInHandSo s.vote.voters s.vote.candidate (since ds) s.vote.hand
 
-pub record IsRoundSo (whats : List What) (opens : List Entry) (r : RoundState) : Type 0 where
-  pub kept : IsKeptRound whats r
-  pub open_items : r.open_items ≡ opens
+pub record IsRoundSo (ds : List Deed) (r : RoundState) : Type 0 where
+  pub kept : IsKeptRound (facts_of ds) r
+  pub open_is : r.open_items ≡ open_items ds
   pub blank : r.closed ≡ None → r.answered ≡ None
   pub shut : (items : List Entry) → r.closed ≡ Some items → r.open_items ≡ []
 
+-- THE FACTS FOR A SECOND
+
+pub facts_for : (t : ℕ) (ds : List Deed) → of_second t (facts_of ds) ≡ facts_of (of_second t ds)
+facts_for t [] = refl
+facts_for t (d ∷ ds) = by (is_fact d) refl (is_of t d) refl (facts_for t ds)
+  where
+    by : (f : Bool) → is_fact d ≡ f → (i : Bool) → is_of t d ≡ i → of_second t (facts_of ds) ≡ facts_of (of_second t ds) → filter (is_of t) (cond f (d ∷ filter is_fact ds) (filter is_fact ds)) ≡ filter is_fact (cond i (d ∷ filter (is_of t) ds) (filter (is_of t) ds))
+    by true ef true ei rest = ap (λ (b : Bool). cond b (d ∷ of_second t (facts_of ds)) (of_second t (facts_of ds))) ei ∙ ap (λ (xs : List Deed). d ∷ xs) rest ∙ sym (ap (λ (b : Bool). cond b (d ∷ facts_of (of_second t ds)) (facts_of (of_second t ds))) ef)
+    by true ef false ei rest = ap (λ (b : Bool). cond b (d ∷ of_second t (facts_of ds)) (of_second t (facts_of ds))) ei ∙ rest
+    by false ef true ei rest = rest ∙ sym (ap (λ (b : Bool). cond b (d ∷ facts_of (of_second t ds)) (facts_of (of_second t ds))) ef)
+    by false ef false ei rest = rest
+
 -- ONE EVENT MORE
 
-abbrev pub fresh_since : ℕ → Since
-fresh_since ballot = record { ballot = ballot; heard = [] }
+abbrev pub did : (second : ℕ) → List What → List Deed
+did t whats = map (Did t) whats
 
-abbrev pub with_heard : Option Heard → Since → Since
-with_heard h s = record { ballot = s.ballot; heard = cons_option h s.heard }
+for_second : (t u : ℕ) (whats : List What) (b : Bool) → eqb t u ≡ b → filter (is_of t) (did u whats) ≡ cond b (did u whats) []
+for_second t u [] true e = refl
+for_second t u [] false e = refl
+for_second t u (w ∷ ws) true e = ap (λ (b : Bool). cond b (Did u w ∷ filter (is_of t) (did u ws)) (filter (is_of t) (did u ws))) e ∙ ap (λ (xs : List Deed). Did u w ∷ xs) (for_second t u ws true e)
+for_second t u (w ∷ ws) false e = ap (λ (b : Bool). cond b (Did u w ∷ filter (is_of t) (did u ws)) (filter (is_of t) (did u ws))) e ∙ for_second t u ws false e
 
-abbrev pub since_step : Bool → Option ℕ → Option Heard → Option Since → Option Since
-since_step true ballot h old = option_map fresh_since ballot
-since_step false ballot h old = option_map (with_heard h) old
-
-pub since_still : (ballot : Option ℕ) (old : Option Since) → since_step false ballot None old ≡ old
-since_still ballot None = refl
-since_still ballot (Some s) = refl
-
-pub since_more : (j t : ℕ) (x : Seen) (past : List Seen) → since j t (x ∷ past) ≡ since_step (turns j t x) (tries x) (heard j t x) (since j t past)
-unfolding since
-since_more j t x past = by (turns j t x)
-  where
-    of : List Seen → ℕ → Since
-    of later ballot = record { ballot = ballot; heard = filter_map (heard j t) later }
-
-    more : (o : Option ℕ) → option_map (λ (b : ℕ). record { ballot = b; heard = filter_map (heard j t) (x ∷ later_than (turns j t) past) }) o
-        ≡ option_map (with_heard (heard j t x)) (option_map (λ (b : ℕ). record { ballot = b; heard = filter_map (heard j t) (later_than (turns j t) past) }) o)
-    more None = refl
-    more (Some b) = refl
-
-    by : (b : Bool) → option_map (λ (ballot : ℕ). record { ballot = ballot; heard = filter_map (heard j t) (cond b [] (x ∷ later_than (turns j t) past)) }) (option_and_then tries (cond b (Some x) (latest (turns j t) past)))
-        ≡ since_step b (tries x) (heard j t x) (option_map (λ (ballot : ℕ). record { ballot = ballot; heard = filter_map (heard j t) (later_than (turns j t) past) }) (option_and_then tries (latest (turns j t) past)))
-    by true = refl
-    by false = more (option_and_then tries (latest (turns j t) past))
-
-pub open_more : (a : Actor) (t : ℕ) (x : Seen) (past : List Seen) → open_items a t (x ∷ past) ≡ cond (ends a t x) [] (open_items a t past ++ accepted a t x)
-unfolding open_items
-open_more a t x past = by (ends a t x)
-  where
-    by : (b : Bool) → in_order (accepted a t) (cond b [] (x ∷ later_than (ends a t) past)) ≡ cond b [] (in_order (accepted a t) (later_than (ends a t) past) ++ accepted a t x)
-    by true = refl
-    by false = refl
-
--- nothing came of it
-pub still_so : (image : List ℕ → List ℕ) (voters : List ℕ) (whats : List What) (opens : List Entry) (sn : Option Since) (ballot : Option ℕ) (s : SecondState) → IsSo image voters whats opens sn s
-    → IsSo image voters (whats ++ []) (opens ++ []) (since_step false ballot None sn) s
-still_so image voters whats opens sn ballot s so =
-    subst (λ (ws : List What). IsSo image voters ws (opens ++ []) (since_step false ballot None sn) s) (sym (append-nil whats))
-    (subst (λ (es : List Entry). IsSo image voters whats es (since_step false ballot None sn) s) (sym (append-nil opens))
-    (subst (λ (o : Option Since). IsSo image voters whats opens o s) (sym (since_still ballot sn)) so))
-
-pub round_still_so : (whats : List What) (opens : List Entry) (r : RoundState) → IsRoundSo whats opens r → IsRoundSo (whats ++ []) (opens ++ []) r
-round_still_so whats opens r so =
-    subst (λ (ws : List What). IsRoundSo ws (opens ++ []) r) (sym (append-nil whats))
-    (subst (λ (es : List Entry). IsRoundSo whats es r) (sym (append-nil opens)) so)
-
--- what is seen is of one actor's second: the facts that it adds, the items that it accepts, whether it ends the open
--- items or turns the hand, to which ballot, and what is heard
-pub record Effect (past : List Seen) (x : Seen) (a : Actor) (u : ℕ) (new : List What) (items : List Entry) (fin turn : Bool) (ballot : Option ℕ) (h : Option Heard) : Type 0 where
-  pub adds : added past (facts past) x ≡ noted a u new
-  pub accepts : (b : Actor) (t : ℕ) → accepted b t x ≡ cond (is_at b t a u) items []
-  pub ends_it : (b : Actor) (t : ℕ) → ends b t x ≡ (is_at b t a u && fin)
-  pub turns_it : (j t : ℕ) → turns j t x ≡ (is_at (actors.Core j) t a u && turn)
-  pub tries_it : tries x ≡ ballot
-  pub hears : (j t : ℕ) → heard j t x ≡ cond (is_at (actors.Core j) t a u) h None
-
-module _ (past : List Seen) (x : Seen) (a : Actor) (u : ℕ) (new : List What) (items : List Entry) (fin turn : Bool) (ballot : Option ℕ) (h : Option Heard) (effect : Effect past x a u new items fin turn ballot h) where
-  module _ (b : Actor) (t : ℕ) (here : Bool) (is : is_at b t a u ≡ here) where
-    facts_now : facts_at b t (facts (x ∷ past)) ≡ facts_at b t (facts past) ++ cond here new []
-    unfolding facts
-    facts_now = ap (λ (fs : List Fact). facts_at b t (facts past ++ fs)) effect.adds ∙ facts_more b a t u (facts past) new here is
-
-    open_now : open_items b t (x ∷ past) ≡ cond (here && fin) [] (open_items b t past ++ cond here items [])
-    open_now = open_more b t x past
-        ∙ ap (λ (e : Bool). cond e [] (open_items b t past ++ accepted b t x)) (effect.ends_it b t ∙ ap (λ (i : Bool). i && fin) is)
-        ∙ ap (λ (xs : List Entry). cond (here && fin) [] (open_items b t past ++ xs)) (effect.accepts b t ∙ ap (λ (i : Bool). cond i items []) is)
-
-  since_now : (j t : ℕ) (here : Bool) → is_at (actors.Core j) t a u ≡ here → since j t (x ∷ past) ≡ since_step (here && turn) ballot (cond here h None) (since j t past)
-  since_now j t here is = since_more j t x past
-      ∙ ap (λ (b : Bool). since_step b (tries x) (heard j t x) (since j t past)) (effect.turns_it j t ∙ ap (λ (i : Bool). i && turn) is)
-      ∙ ap (λ (o : Option ℕ). since_step (here && turn) o (heard j t x) (since j t past)) effect.tries_it
-      ∙ ap (λ (o : Option Heard). since_step (here && turn) ballot o (since j t past)) (effect.hears j t ∙ ap (λ (i : Bool). cond i h None) is)
+module _ (past : List Seen) (x : Seen) (a : Actor) (u : ℕ) (whats : Actor → List What) (does_it : (b : Actor) → does b x.event x.taken x.answer x.sent (deeds b past) ≡ own b a u (whats b)) where
+  -- what this adds to the deeds of an actor's second
+  deeds_now : (b : Actor) (t : ℕ) (here : Bool) → (is_actor b a && eqb t u) ≡ here → of_second t (deeds b (x ∷ past)) ≡ cond here (did u (whats b)) [] ++ of_second t (deeds b past)
+  unfolding deeds
+  deeds_now b t here is =
+      ap (λ (ds : List Deed). of_second t (ds ++ deeds b past)) (does_it b) ∙ filter-append (is_of t) (own b a u (whats b)) (deeds b past)
+      ∙ ap (λ (ds : List Deed). ds ++ of_second t (deeds b past)) (by (is_actor b a) ∙ ap (λ (h : Bool). cond h (did u (whats b)) []) is)
+    where
+      by : (mine : Bool) → filter (is_of t) (cond mine (did u (whats b)) []) ≡ cond (mine && eqb t u) (did u (whats b)) []
+      by true = for_second t u (whats b) (eqb t u) refl
+      by false = refl
 
   module _ (image : List ℕ → List ℕ) (voters : List ℕ) (j t : ℕ) where
-    abbrev Was : SecondState → Type 0
-    Was s = IsSo image voters (facts_at (actors.Core j) t (facts past)) (open_items (actors.Core j) t past) (since j t past) s
+    abbrev Was : List Deed → SecondState → Type 0
+    Was ds s = IsSo image voters (ds ++ of_second t (deeds (actors.Core j) past)) s
 
-    abbrev Turned : SecondState → Type 0
-    Turned s = IsSo image voters (facts_at (actors.Core j) t (facts past) ++ new) (cond fin [] (open_items (actors.Core j) t past ++ items)) (since_step turn ballot h (since j t past)) s
-
-    abbrev Stands : (here : Bool) → SecondState → Type 0
-    Stands here s = IsSo image voters (facts_at (actors.Core j) t (facts past) ++ cond here new []) (cond (here && fin) [] (open_items (actors.Core j) t past ++ cond here items [])) (since_step (here && turn) ballot (cond here h None) (since j t past)) s
-
-    stands : (s s' : SecondState) (here : Bool) → (here ≡ true → Turned s') → Was s → Stands here (cond here s' s)
+    stands : (s s' : SecondState) (here : Bool) → (here ≡ true → Was (did u (whats (actors.Core j))) s') → Was [] s → Was (cond here (did u (whats (actors.Core j))) []) (cond here s' s)
     stands s s' true row was = row refl
-    stands s s' false row was = still_so image voters (facts_at (actors.Core j) t (facts past)) (open_items (actors.Core j) t past) (since j t past) ballot s was
+    stands s s' false row was = was
 
     -- a second, after it took this turn or not
-    pub observed : (s s' : SecondState) (here : Bool) → is_at (actors.Core j) t a u ≡ here → (here ≡ true → Turned s') → Was s
-        → IsSo image voters (facts_at (actors.Core j) t (facts (x ∷ past))) (open_items (actors.Core j) t (x ∷ past)) (since j t (x ∷ past)) (cond here s' s)
-    observed s s' here is row was =
-        subst (λ (ws : List What). IsSo image voters ws (open_items (actors.Core j) t (x ∷ past)) (since j t (x ∷ past)) (cond here s' s)) (sym (facts_now (actors.Core j) t here is))
-        (subst (λ (es : List Entry). IsSo image voters (facts_at (actors.Core j) t (facts past) ++ cond here new []) es (since j t (x ∷ past)) (cond here s' s)) (sym (open_now (actors.Core j) t here is))
-        (subst (λ (o : Option Since). IsSo image voters (facts_at (actors.Core j) t (facts past) ++ cond here new []) (cond (here && fin) [] (open_items (actors.Core j) t past ++ cond here items [])) o (cond here s' s)) (sym (since_now j t here is))
-        (stands s s' here row was)))
+    pub observed : (s s' : SecondState) (here : Bool) → (is_actor (actors.Core j) a && eqb t u) ≡ here → (here ≡ true → Was (did u (whats (actors.Core j))) s') → Was [] s
+        → IsSo image voters (of_second t (deeds (actors.Core j) (x ∷ past))) (cond here s' s)
+    observed s s' here is row was = subst (λ (ds : List Deed). IsSo image voters ds (cond here s' s)) (sym (deeds_now (actors.Core j) t here is)) (stands s s' here row was)
 
   module _ (k t : ℕ) where
-    abbrev WasRound : RoundState → Type 0
-    WasRound r = IsRoundSo (facts_at (actors.Aggregator k) t (facts past)) (open_items (actors.Aggregator k) t past) r
+    abbrev WasRound : List Deed → RoundState → Type 0
+    WasRound ds r = IsRoundSo (ds ++ of_second t (deeds (actors.Aggregator k) past)) r
 
-    abbrev TurnedRound : RoundState → Type 0
-    TurnedRound r = IsRoundSo (facts_at (actors.Aggregator k) t (facts past) ++ new) (cond fin [] (open_items (actors.Aggregator k) t past ++ items)) r
-
-    round_stands : (r r' : RoundState) (here : Bool) → (here ≡ true → TurnedRound r') → WasRound r → IsRoundSo (facts_at (actors.Aggregator k) t (facts past) ++ cond here new []) (cond (here && fin) [] (open_items (actors.Aggregator k) t past ++ cond here items [])) (cond here r' r)
+    round_stands : (r r' : RoundState) (here : Bool) → (here ≡ true → WasRound (did u (whats (actors.Aggregator k))) r') → WasRound [] r → WasRound (cond here (did u (whats (actors.Aggregator k))) []) (cond here r' r)
     round_stands r r' true row was = row refl
-    round_stands r r' false row was = round_still_so (facts_at (actors.Aggregator k) t (facts past)) (open_items (actors.Aggregator k) t past) r was
+    round_stands r r' false row was = was
 
-    pub round_observed : (r r' : RoundState) (here : Bool) → is_at (actors.Aggregator k) t a u ≡ here → (here ≡ true → TurnedRound r') → WasRound r
-        → IsRoundSo (facts_at (actors.Aggregator k) t (facts (x ∷ past))) (open_items (actors.Aggregator k) t (x ∷ past)) (cond here r' r)
-    round_observed r r' here is row was =
-        subst (λ (ws : List What). IsRoundSo ws (open_items (actors.Aggregator k) t (x ∷ past)) (cond here r' r)) (sym (facts_now (actors.Aggregator k) t here is))
-        (subst (λ (es : List Entry). IsRoundSo (facts_at (actors.Aggregator k) t (facts past) ++ cond here new []) es (cond here r' r)) (sym (open_now (actors.Aggregator k) t here is))
-        (round_stands r r' here row was))
+    pub round_observed : (r r' : RoundState) (here : Bool) → (is_actor (actors.Aggregator k) a && eqb t u) ≡ here → (here ≡ true → WasRound (did u (whats (actors.Aggregator k))) r') → WasRound [] r
+        → IsRoundSo (of_second t (deeds (actors.Aggregator k) (x ∷ past))) (cond here r' r)
+    round_observed r r' here is row was = subst (λ (ds : List Deed). IsRoundSo ds (cond here r' r)) (sym (deeds_now (actors.Aggregator k) t here is)) (round_stands r r' here row was)

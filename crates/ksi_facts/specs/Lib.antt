@@ -1,4 +1,4 @@
 pub mod Seen
-pub mod Facts
+pub mod Deeds
 pub mod Since
 pub mod Recalled

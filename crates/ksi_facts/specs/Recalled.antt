@@ -9,22 +9,26 @@ use Rattle.ksi_schedule.specs.declared.actor.Actor.TheVariants as actors
 use Rattle.ksi_schedule.specs.Events.{History}
 use Rattle.ksi_world.specs.Histories.{world_of}
 use Rattle.ksi_facts.specs.Seen.{Seen, seen}
-use Rattle.ksi_facts.specs.Facts.{What, facts, facts_at, open_items, sealed_of, tried_of, promise_of, vote_of, held_of, closed_of, answered_of}
+use Rattle.ksi_facts.specs.Deeds.{Deed, deeds, of_second, facts, open_items, sealed_items, closed_items, tried_ballot, greatest_promise, greatest_vote, held_root, kept_response}
 use Rattle.ksi_facts.specs.Since.{Since, since, told_until, voted_after, has_told, greatest_told, decree_begun}
 
+-- the candidate of a core with these facts
+abbrev pub own_candidate : (List ℕ → List ℕ) → (facts : List Deed) → Option (List ℕ)
+own_candidate image facts = option_map (candidate_of image) (sealed_items facts)
+
 -- what a core keeps over restarts, for a second with these facts
-pub record IsKept (image : List ℕ → List ℕ) (facts : List What) (s : SecondState) : Type 0 where
-  pub sealed : s.sealed ≡ sealed_of facts
-  pub candidate : s.vote.candidate ≡ option_map (candidate_of image) (sealed_of facts)
-  pub tried : s.vote.tried ≡ tried_of facts
-  pub promised : s.vote.promised ≡ promise_of facts
-  pub vote : s.vote.vote ≡ vote_of facts
-  pub held : s.vote.held ≡ held_of facts
+pub record IsKept (image : List ℕ → List ℕ) (facts : List Deed) (s : SecondState) : Type 0 where
+  pub sealed : s.sealed ≡ sealed_items facts
+  pub candidate : s.vote.candidate ≡ own_candidate image facts
+  pub tried : s.vote.tried ≡ tried_ballot facts
+  pub promised : s.vote.promised ≡ greatest_promise facts
+  pub vote : s.vote.vote ≡ greatest_vote facts
+  pub held : s.vote.held ≡ held_root facts
 
 -- the same of an aggregator's round
-pub record IsKeptRound (facts : List What) (r : RoundState) : Type 0 where
-  pub closed : r.closed ≡ closed_of facts
-  pub answered : r.answered ≡ answered_of facts
+pub record IsKeptRound (facts : List Deed) (r : RoundState) : Type 0 where
+  pub closed : r.closed ≡ closed_items facts
+  pub answered : r.answered ≡ kept_response facts
 
 -- the hand has what came of the ballot
 pub record IsHand (voters : List ℕ) (candidate : Option (List ℕ)) (s : Since) (h : Hand) : Type 0 where
@@ -42,13 +46,13 @@ IsInHand voters candidate _ _ = ⊥
 
 -- a core's second, and an aggregator's round, are what was seen of them
 pub record IsSecond (image : List ℕ → List ℕ) (past : List Seen) (cores core second : ℕ) (s : SecondState) : Type 0 where
-  pub kept : IsKept image (facts_at (actors.Core core) second (facts past)) s
-  pub open_items : s.open_items ≡ open_items (actors.Core core) second past
-  pub hand : IsInHand (voters_of cores second) (option_map (candidate_of image) (sealed_of (facts_at (actors.Core core) second (facts past)))) (since core second past) s.vote.hand
+  pub kept : IsKept image (of_second second (facts (actors.Core core) past)) s
+  pub open_items : s.open_items ≡ open_items (of_second second (deeds (actors.Core core) past))
+  pub hand : IsInHand (voters_of cores second) (own_candidate image (of_second second (facts (actors.Core core) past))) (since (of_second second (deeds (actors.Core core) past))) s.vote.hand
 
 pub record IsRound (past : List Seen) (aggregator second : ℕ) (r : RoundState) : Type 0 where
-  pub kept : IsKeptRound (facts_at (actors.Aggregator aggregator) second (facts past)) r
-  pub open_items : r.open_items ≡ open_items (actors.Aggregator aggregator) second past
+  pub kept : IsKeptRound (of_second second (facts (actors.Aggregator aggregator) past)) r
+  pub open_items : r.open_items ≡ open_items (of_second second (deeds (actors.Aggregator aggregator) past))
 
 -- whatever any actor keeps after a history is what was seen
 pub record IsRecalled (image : List ℕ → List ℕ) (history : History) : Type 0 where
