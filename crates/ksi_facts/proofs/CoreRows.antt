@@ -84,15 +84,20 @@ module _ (image : List ℕ → List ℕ) (voters : List ℕ) (small : (y : ℕ) 
   abbrev After : List What → SecondState → Type 0
   After whats s' = IsSo image voters (did t whats ++ ds) s'
 
+  none_is : (o : Option (List Entry)) → is_some o ≡ false → o ≡ None
+  none_is None e = refl
+  none_is (Some x) e = absurd (cc e)
+
   -- SUBMISSION
 
   pub submission_so : (from : ℕ) (item : Item) → After (where_done (submission_row from item s).answer (Accepted (submitted from item))) (submission_row from item s).after
   unfolding submission_row
   submission_so from item =
       cond_both (is_some s.sealed) _ _ P (λ _. so)
-      (λ _. cond_both (has_from from s.open_items) _ _ Q (λ _. so)
+      (λ none. cond_both (has_from from s.open_items) _ _ Q (λ _. so)
       (λ _. cond_both (is_full s.open_items) _ _ Q (λ _. so)
       (λ _. record {
+        shut = λ items is. let unsealed = none_is s.sealed none in absurd (cc (unsealed, is));
         kept = record { sealed = so.kept.sealed; candidate = so.kept.candidate; tried = so.kept.tried; promised = so.kept.promised; vote = so.kept.vote; held = so.kept.held };
         open_is = ap (λ (es : List Entry). es ++ submitted from item ∷ []) so.open_is;
         voters_are = so.voters_are;
@@ -110,10 +115,6 @@ module _ (image : List ℕ → List ℕ) (voters : List ℕ) (small : (y : ℕ) 
   no_candidate : s.sealed ≡ None → s.vote.candidate ≡ None
   no_candidate none = so.kept.candidate ∙ ap (option_map (candidate_of image)) (sym so.kept.sealed ∙ none)
 
-  none_is : (o : Option (List Entry)) → is_some o ≡ false → o ≡ None
-  none_is None e = refl
-  none_is (Some x) e = absurd (cc e)
-
   module _ (items : List Entry) (open_is : s.open_items ≡ items) where
     abbrev Sealing : Turn → Type 0
     Sealing turn = After (where_done turn.answer (Sealed items)) turn.after
@@ -124,6 +125,7 @@ module _ (image : List ℕ → List ℕ) (voters : List ℕ) (small : (y : ℕ) 
         (sym (no_candidate none)) (record {
           kept = record { sealed = ap (λ (es : List Entry). Some es) open_is; candidate = ap (λ (es : List Entry). Some (candidate_of image es)) open_is; tried = so.kept.tried; promised = so.kept.promised; vote = so.kept.vote; held = so.kept.held };
           open_is = refl;
+          shut = λ items is. refl;
           voters_are = so.voters_are;
           hand = by (since ds) s.vote.hand so.hand;
         })
@@ -161,6 +163,7 @@ module _ (image : List ℕ → List ℕ) (voters : List ℕ) (small : (y : ℕ) 
   restart_so = record {
     kept = record { sealed = so.kept.sealed; candidate = so.kept.candidate; tried = so.kept.tried; promised = so.kept.promised; vote = so.kept.vote; held = so.kept.held };
     open_is = refl;
+    shut = λ items is. refl;
     voters_are = so.voters_are;
     hand = tt;
   }
@@ -177,6 +180,7 @@ module _ (image : List ℕ → List ℕ) (voters : List ℕ) (small : (y : ℕ) 
         (λ _. subst (λ (whats : List What). After whats (record s { vote = record s.vote { tried = next_ballot s.vote; hand = Some (new_hand (next_ballot s.vote)) } })) (sym (ballot_asked n i t (next_ballot s.vote) some)) (record {
           kept = record { sealed = so.kept.sealed; candidate = so.kept.candidate; tried = refl; promised = so.kept.promised; vote = so.kept.vote; held = so.kept.held };
           open_is = so.open_is;
+          shut = so.shut;
           voters_are = so.voters_are;
           hand = fresh_hand s.vote.voters s.vote.candidate own is (next_ballot s.vote);
         }))
@@ -199,6 +203,7 @@ module _ (image : List ℕ → List ℕ) (voters : List ℕ) (small : (y : ℕ) 
       (λ lt. record {
         kept = record { sealed = so.kept.sealed; candidate = so.kept.candidate; tried = so.kept.tried; promised = sym (max-eq_left (let below = ltb-true _ _ lt in let is = so.kept.promised in omega (arith, below, is))); vote = so.kept.vote; held = so.kept.held };
         open_is = so.open_is;
+        shut = so.shut;
         voters_are = so.voters_are;
         hand = so.hand;
       })
@@ -220,6 +225,7 @@ module _ (image : List ℕ → List ℕ) (voters : List ℕ) (small : (y : ℕ) 
           held = so.kept.held;
         };
         open_is = so.open_is;
+        shut = so.shut;
         voters_are = so.voters_are;
         hand = so.hand;
       })
@@ -240,6 +246,7 @@ module _ (image : List ℕ → List ℕ) (voters : List ℕ) (small : (y : ℕ) 
       by None = record {
         kept = record { sealed = so.kept.sealed; candidate = so.kept.candidate; tried = so.kept.tried; promised = so.kept.promised; vote = so.kept.vote; held = refl };
         open_is = so.open_is;
+        shut = so.shut;
         voters_are = so.voters_are;
         hand = so.hand;
       }
@@ -259,12 +266,13 @@ module _ (image : List ℕ → List ℕ) (voters : List ℕ) (small : (y : ℕ) 
     taken_so new has = record {
       kept = record { sealed = so.kept.sealed; candidate = so.kept.candidate; tried = so.kept.tried; promised = so.kept.promised; vote = so.kept.vote; held = so.kept.held };
       open_is = so.open_is;
+      shut = so.shut;
       voters_are = so.voters_are;
       hand = has;
     }
 
     idle_so : Hears s.vote.hand → Takes (Heard from m ∷ []) s.vote
-    idle_so has = record { kept = so.kept; open_is = so.open_is; voters_are = so.voters_are; hand = has }
+    idle_so has = record { kept = so.kept; open_is = so.open_is; shut = so.shut; voters_are = so.voters_are; hand = has }
 
     -- no hand hears nothing
     unheard : s.vote.hand ≡ None → Hears s.vote.hand
@@ -292,7 +300,7 @@ module _ (image : List ℕ → List ℕ) (voters : List ℕ) (small : (y : ℕ) 
       by (Some h) is = cond_both (counts_last s.vote.voters (Some h) from l.ballot) _ _ P
           (λ met. taken_so from (votes.LastVote l) _ (heard_by from (votes.LastVote l) h _ is (λ sn has. last_counted s.vote.voters small_here s.vote.candidate sn h has from l met)))
           (λ unmet. idle_so from (votes.LastVote l) (subst (Hears from (votes.LastVote l)) (sym is)
-            (heard_by from (votes.LastVote l) h h is (λ sn has. last_idle s.vote.voters small_here s.vote.candidate sn h has from l unmet))))
+          (heard_by from (votes.LastVote l) h h is (λ sn has. last_idle s.vote.voters small_here s.vote.candidate sn h has from l unmet))))
 
   module _ (n i : ℕ) (some : 1 ≤ n) where
     voted_so : (from b : ℕ) → Takes (Heard from (votes.Voted b) ∷ decides (first (map (core_message i t) (told n t from (decree_told (on_voted s.vote from b).1)))) (held_root (facts_of ds))) (on_voted s.vote from b).0
@@ -307,12 +315,14 @@ module _ (image : List ℕ → List ℕ) (voters : List ℕ) (small : (y : ℕ) 
         holds h d has None is = record {
           kept = record { sealed = so.kept.sealed; candidate = so.kept.candidate; tried = so.kept.tried; promised = so.kept.promised; vote = so.kept.vote; held = refl };
           open_is = so.open_is;
+          shut = so.shut;
           voters_are = so.voters_are;
           hand = has;
         }
         holds h d has (Some root) is = record {
           kept = record { sealed = so.kept.sealed; candidate = so.kept.candidate; tried = so.kept.tried; promised = so.kept.promised; vote = so.kept.vote; held = sym is ∙ so.kept.held };
           open_is = so.open_is;
+          shut = so.shut;
           voters_are = so.voters_are;
           hand = has;
         }

@@ -202,8 +202,7 @@ module _ (voters : List ℕ) (small : (y : ℕ) → is_voter voters y ≡ true �
       both : begun voters s ≡ None → (counted ≡ true) ⊎ (counted ≡ false) → Same
       both none (inr unmet) = ((λ y. ap (λ (ts : List Told). has_told ts y) (told_no unmet)), ap greatest_told (told_no unmet))
       both none (inl met) =
-          let there : has_told Old from ≡ true = sym (told_was voters small candidate s h so X none from) ∙ flagged none met (is_flagged h.last from) refl in
-          (
+          let there : has_told Old from ≡ true = sym (told_was voters small candidate s h so X none from) ∙ flagged none met (is_flagged h.last from) refl in (
             (λ y. ap (λ (ts : List Told). has_told ts y) (told_yes met) ∙ there_again from (has_told Old) there y),
             ap greatest_told (told_yes met) ∙ cond-true (has_told Old from) (greatest_told Old) (greater_vote (greatest_told Old) l.vote) there,
           )
@@ -299,7 +298,7 @@ module _ (voters : List ℕ) (small : (y : ℕ) → is_voter voters y ≡ true �
       flagged m some met false e =
           let parts = and_parts _ _ met in
           let test : (eqb h.ballot b && (is_voter voters from && not (is_flagged h.voted from))) ≡ true =
-              and_from _ _ (ap (λ (n : ℕ). eqb n b) so.is.ballot ∙ parts.0) (and_from _ _ parts.1 (ap not e)) in
+          and_from _ _ (ap (λ (n : ℕ). eqb n b) so.is.ballot ∙ parts.0) (and_from _ _ parts.1 (ap not e)) in
           let undecided : h.decree ≡ None = sym (cond-true (eqb h.ballot b && (is_voter voters from && not (is_flagged h.voted from))) h.decree None test) ∙ idle in
           let none : begun voters s ≡ None = none_begun voters small candidate s h so Y undecided in
           absurd (cc (some, none))
@@ -324,7 +323,7 @@ module _ (voters : List ℕ) (small : (y : ℕ) → is_voter voters y ≡ true �
           let decided : h.decree ≡ Some d = sym (cond-true test h.decree None met) ∙ counts in
           let may_be : may ≡ true = and_from _ _ (ap (λ (n : ℕ). eqb n b) (sym so.is.ballot) ∙ one.0) two.0 in
           let never : begun voters s ≡ None → (y : ℕ) → is_flagged (with_voted h from).voted y ≡ false =
-              λ none y. (let undecided : h.decree ≡ None = decree_none voters small candidate s h so Y none in absurd (cc (decided, undecided))) in
+          λ none y. (let undecided : h.decree ≡ None = decree_none voters small candidate s h so Y none in absurd (cc (decided, undecided))) in
           stays voters small candidate s h so Y (with_voted h from) refl refl refl refl (length-set h.voted from true ∙ so.voted_room) (λ none y. refl) (λ none. refl) never
           (λ m some y. flag_set h.voted from (is_voter (voted voters s.ballot m.later)) so.voted_room (small from two.0) (voted_was voters small candidate s h so Y m some) y
-            ∙ sym (ap (λ (xs : List ℕ). is_voter xs y) (voted_yes may_be m.later)))
+          ∙ sym (ap (λ (xs : List ℕ). is_voter xs y) (voted_yes may_be m.later)))

@@ -28,10 +28,10 @@ use Rattle.ksi_world.specs.declared.message.Message.{Message}
 use Rattle.ksi_world.specs.Histories.{WorldState, Happening, held_in, core_message, round_message, message_of, at_core, at_round, unchanged, request_happens, publish_happens, core_restarts, aggregator_restarts, delivered, happens, first_world, run, after}
 use Rattle.ksi_world.specs.Histories as histories
 use Rattle.ksi_facts.specs.Seen.{Seen, seen_of, seen_from, seen}
-use Rattle.ksi_facts.specs.Deeds.{What, Deed, Accepted, Sealed, Closed, Answered, Restarted, of_second, facts_of, open_items, held_root, numbered, where_done, first, tries, takes, is_actor, own, does, deeds}
+use Rattle.ksi_facts.specs.Deeds.{What, Deed, Accepted, Sealed, Closed, Answered, Restarted, of_second, facts_of, open_items, tried_ballot, held_root, numbered, where_done, first, tries, takes, is_actor, own, does, deeds}
 use Rattle.ksi_facts.specs.Since.{Since, since}
-use Rattle.ksi_facts.specs.Recalled.{IsKept, IsKeptRound, IsInHand, IsSecond, IsRound}
-use Rattle.ksi_facts.proofs.Standing.{IsInHandSo, IsSo, IsRoundSo, facts_for, did, observed, round_observed}
+use Rattle.ksi_facts.specs.Recalled.{own_candidate, IsKept, IsKeptRound, IsInHand, IsSecond, IsRound}
+use Rattle.ksi_facts.proofs.Standing.{IsInHandSo, IsSo, IsRoundSo, facts_for, since_tried, did, observed, round_observed}
 use Rattle.ksi_facts.proofs.CoreRows.{submission_so, seal_so, ballot_so, receive_so, tell_so, respond_so, restart_so}
 use Rattle.ksi_facts.proofs.RoundRows as rows
 
@@ -95,8 +95,8 @@ module _ (image : List ℕ → List ℕ) (plan : PlanState) (is : IsPlan plan) w
       core_turned does_it turn row = record {
         seconds = λ j t. observed past x (actors.Core i) u whats does_it image (cores_below plan.cores) j t (w.seconds j t) turn.after (eqb j i && eqb t u) refl
             (λ e. let parts = and_parts _ _ e in
-              subst (λ (j : ℕ). IsSo image (cores_below plan.cores) (did u (whats (actors.Core j)) ++ Ds past (actors.Core j) t) turn.after) (sym (eqb-true j i parts.0))
-              (subst (λ (t : ℕ). IsSo image (cores_below plan.cores) (did u (whats (actors.Core i)) ++ Ds past (actors.Core i) t) turn.after) (sym (eqb-true t u parts.1)) row))
+            subst (λ (j : ℕ). IsSo image (cores_below plan.cores) (did u (whats (actors.Core j)) ++ Ds past (actors.Core j) t) turn.after) (sym (eqb-true j i parts.0))
+            (subst (λ (t : ℕ). IsSo image (cores_below plan.cores) (did u (whats (actors.Core i)) ++ Ds past (actors.Core i) t) turn.after) (sym (eqb-true t u parts.1)) row))
             (all.seconds j t);
         rounds = λ k t. round_observed past x (actors.Core i) u whats does_it k t (w.rounds k t) (w.rounds k t) false refl (λ e. absurd (false≢true e)) (all.rounds k t);
       }
@@ -106,8 +106,8 @@ module _ (image : List ℕ → List ℕ) (plan : PlanState) (is : IsPlan plan) w
         seconds = λ j t. observed past x (actors.Aggregator i) u whats does_it image (cores_below plan.cores) j t (w.seconds j t) (w.seconds j t) false refl (λ e. absurd (false≢true e)) (all.seconds j t);
         rounds = λ k t. round_observed past x (actors.Aggregator i) u whats does_it k t (w.rounds k t) turn.after (eqb k i && eqb t u) refl
             (λ e. let parts = and_parts _ _ e in
-              subst (λ (k : ℕ). IsRoundSo (did u (whats (actors.Aggregator k)) ++ Ds past (actors.Aggregator k) t) turn.after) (sym (eqb-true k i parts.0))
-              (subst (λ (t : ℕ). IsRoundSo (did u (whats (actors.Aggregator i)) ++ Ds past (actors.Aggregator i) t) turn.after) (sym (eqb-true t u parts.1)) row))
+            subst (λ (k : ℕ). IsRoundSo (did u (whats (actors.Aggregator k)) ++ Ds past (actors.Aggregator k) t) turn.after) (sym (eqb-true k i parts.0))
+            (subst (λ (t : ℕ). IsRoundSo (did u (whats (actors.Aggregator i)) ++ Ds past (actors.Aggregator i) t) turn.after) (sym (eqb-true t u parts.1)) row))
             (all.rounds k t);
       }
 
@@ -161,7 +161,7 @@ module _ (image : List ℕ → List ℕ) (plan : PlanState) (is : IsPlan plan) w
     request_step k u imprint sent =
         let turn = round_request (length w.requests) imprint (w.rounds k u) in
         let now : All (at_round plan w k u turn).world (plain (events.Request k u imprint) turn.answer sent ∷ past) = round_turned (plain (events.Request k u imprint) turn.answer sent) k u (λ b. numbered imprint turn.answer) (λ b. refl) turn
-            (rows.request_so u (Ds past (actors.Aggregator k) u) (w.rounds k u) (all.rounds k u) (length w.requests) imprint) in
+        (rows.request_so u (Ds past (actors.Aggregator k) u) (w.rounds k u) (all.rounds k u) (length w.requests) imprint) in
         record { seconds = now.seconds; rounds = now.rounds }
 
     close_step : (k u : ℕ) (sent : List Message) → All (at_round plan w k u (round_close image (w.rounds k u))).world (plain (events.Close k u) (round_close image (w.rounds k u)).answer sent ∷ past)
@@ -230,9 +230,9 @@ module _ (image : List ℕ → List ℕ) (plan : PlanState) (is : IsPlan plan) w
       stray_vote : (from k t : ℕ) (m : SynodMessage) → Posts (actors.Core from) (actors.Aggregator k) t (contents.Synod m) (unchanged w answers.Nothing)
       stray_vote from k t m =
           let now = round_turned (post number (actors.Core from) (actors.Aggregator k) t (contents.Synod m) answers.Nothing (behind w.wire)) k t (λ b. takes (actors.Core from) (contents.Synod m) answers.Nothing (behind w.wire) (Old b t)) (λ b. refl)
-              (round_still (w.rounds k t) answers.Nothing)
-              (subst (λ (sent : List Message). RoundAfter k t (takes (actors.Core from) (contents.Synod m) answers.Nothing sent (Old (actors.Aggregator k) t)) (w.rounds k t)) (sym behind_none)
-              (heard_round from k t m (Ds past (actors.Aggregator k) t) (w.rounds k t) (all.rounds k t))) in
+          (round_still (w.rounds k t) answers.Nothing)
+          (subst (λ (sent : List Message). RoundAfter k t (takes (actors.Core from) (contents.Synod m) answers.Nothing sent (Old (actors.Aggregator k) t)) (w.rounds k t)) (sym behind_none)
+          (heard_round from k t m (Ds past (actors.Aggregator k) t) (w.rounds k t) (all.rounds k t))) in
           record {
             seconds = now.seconds;
             rounds = λ i u. subst (RoundAt (post number (actors.Core from) (actors.Aggregator k) t (contents.Synod m) answers.Nothing (behind w.wire) ∷ past) i u) (put_same w.rounds k t i u) (now.rounds i u);
@@ -320,6 +320,7 @@ module _ (image : List ℕ → List ℕ) (plan : PlanState) (is : IsPlan plan) w
     seconds = λ j t. record {
       kept = record { sealed = refl; candidate = refl; tried = refl; promised = refl; vote = refl; held = refl };
       open_is = refl;
+      shut = λ items is. refl;
       voters_are = refl;
       hand = tt;
     };
@@ -346,6 +347,13 @@ module _ (image : List ℕ → List ℕ) (plan : PlanState) (is : IsPlan plan) w
       by None (Some h) so = so
       by (Some s) None so = so
 
+  -- the ballot in hand is the last that was tried
+  ballot_is : (voters : List ℕ) (candidate : Option (List ℕ)) (ds : List Deed) (sn : Option Since) → since ds ≡ sn → (hand : Option Hand) → IsInHand voters candidate sn hand → (h : Hand) → hand ≡ Some h → h.ballot ≡ tried_ballot (facts_of ds)
+  ballot_is voters candidate ds None e None so h is = absurd (cc is)
+  ballot_is voters candidate ds None e (Some g) so h is = absurd so
+  ballot_is voters candidate ds (Some s) e None so h is = absurd so
+  ballot_is voters candidate ds (Some s) e (Some g) so h is = let same : g ≡ h = cc is in ap (λ (h : Hand). h.ballot) (sym same) ∙ so.ballot ∙ since_tried ds s e
+
   pub after_seconds : (es : List Event) (j t : ℕ) → IsSecond image (seen image plan es) plan.cores j t ((after image plan es).seconds j t)
   after_seconds es j t =
       let so = (after_all es).seconds j t in
@@ -354,6 +362,9 @@ module _ (image : List ℕ → List ℕ) (plan : PlanState) (is : IsPlan plan) w
       record {
         kept = kept;
         open_items = so.open_is;
+        shut = so.shut;
+        ballot = λ h is. ballot_is (cores_below plan.cores) (own_candidate image (of_second t (facts_of (deeds (actors.Core j) (seen image plan es))))) (Ds (seen image plan es) (actors.Core j) t) (since (Ds (seen image plan es) (actors.Core j) t)) refl s.vote.hand
+            (in_words (cores_below plan.cores) s.vote.voters _ s.vote.candidate so.voters_are kept.candidate (since (Ds (seen image plan es) (actors.Core j) t)) s.vote.hand so.hand) h is ∙ sym so.kept.tried;
         hand = in_words (cores_below plan.cores) s.vote.voters _ s.vote.candidate so.voters_are kept.candidate (since (Ds (seen image plan es) (actors.Core j) t)) s.vote.hand so.hand;
       }
 
@@ -364,4 +375,5 @@ module _ (image : List ℕ → List ℕ) (plan : PlanState) (is : IsPlan plan) w
       record {
         kept = subst (λ (ds : List Deed). IsKeptRound ds r) (sym (facts_for t (deeds (actors.Aggregator k) (seen image plan es)))) so.kept;
         open_items = so.open_is;
+        shut = so.shut;
       }

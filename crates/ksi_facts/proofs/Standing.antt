@@ -1,5 +1,6 @@
 -- What every second and every round is, beside what was seen of it.
 use Rattle.std.proofs.Common.{◌≡◌, ℕ, Bool, true, false, cond, ◌&&◌, eqb, List, [], ◌∷◌, ◌++◌, map, length, refl, sym, ap, subst, ◌∙◌, Option, Some, None}
+use Rattle.std.specs.Prelude.{option_map}
 use Rattle.std.specs.List.{filter}
 use Rattle.std.proofs.lemmas.List.Elements.{filter-append}
 use Rattle.ksi_synod.specs.VoteState.{Hand}
@@ -9,8 +10,8 @@ use Rattle.ksi_aggtree.specs.declared.entries.Entry.{Entry}
 use Rattle.ksi_schedule.specs.declared.actor.Actor.{Actor}
 use Rattle.ksi_schedule.specs.declared.actor.Actor.TheVariants as actors
 use Rattle.ksi_facts.specs.Seen.{Seen}
-use Rattle.ksi_facts.specs.Deeds.{What, Deed, Did, is_of, of_second, is_fact, facts_of, open_items, is_actor, own, does, deeds}
-use Rattle.ksi_facts.specs.Since.{Since, since}
+use Rattle.ksi_facts.specs.Deeds.{What, Deed, Did, Restarted, Accepted, Sealed, Closed, Tried, Promised, Cast, Holds, Answered, Heard, tried_ballot, is_of, of_second, is_fact, facts_of, open_items, is_actor, own, does, deeds}
+use Rattle.ksi_facts.specs.Since.{Since, with_reply, since}
 use Rattle.ksi_facts.specs.Recalled.{IsKept, IsKeptRound, IsHand}
 
 -- the hand of a core that has sealed
@@ -31,6 +32,7 @@ IsInHandSo voters candidate (Some s) None = ⊥
 pub record IsSo (image : List ℕ → List ℕ) (voters : List ℕ) (ds : List Deed) (s : SecondState) : Type 0 where
   pub kept : IsKept image (facts_of ds) s
   pub open_is : s.open_items ≡ open_items ds
+  pub shut : (items : List Entry) → s.sealed ≡ Some items → s.open_items ≡ []
   pub voters_are : s.vote.voters ≡ voters
   pub hand : IsInHandSo s.vote.voters s.vote.candidate (since ds) s.vote.hand
 
@@ -51,6 +53,24 @@ facts_for t (d ∷ ds) = by (is_fact d) refl (is_of t d) refl (facts_for t ds)
     by true ef false ei rest = ap (λ (b : Bool). cond b (d ∷ of_second t (facts_of ds)) (of_second t (facts_of ds))) ei ∙ rest
     by false ef true ei rest = rest ∙ sym (ap (λ (b : Bool). cond b (d ∷ facts_of (of_second t ds)) (facts_of (of_second t ds))) ef)
     by false ef false ei rest = rest
+
+-- the ballot that was tried before all these is the last that was tried
+pub since_tried : (ds : List Deed) (s : Since) → since ds ≡ Some s → s.ballot ≡ tried_ballot (facts_of ds)
+since_tried [] s is = absurd (cc is)
+since_tried (Restarted ∷ ds) s is = absurd (cc is)
+since_tried (Did t (Accepted item) ∷ ds) s is = since_tried ds s is
+since_tried (Did t (Sealed items) ∷ ds) s is = since_tried ds s is
+since_tried (Did t (Closed items) ∷ ds) s is = since_tried ds s is
+since_tried (Did t (Tried ballot) ∷ ds) s is = let same : record { ballot = ballot; heard = [] } ≡ s = cc is in sym (ap (λ (s : Since). s.ballot) same)
+since_tried (Did t (Promised ballot) ∷ ds) s is = since_tried ds s is
+since_tried (Did t (Cast vote) ∷ ds) s is = since_tried ds s is
+since_tried (Did t (Holds root) ∷ ds) s is = since_tried ds s is
+since_tried (Did t (Answered above) ∷ ds) s is = since_tried ds s is
+since_tried (Did t (Heard from m) ∷ ds) s is = by (since ds) is (since_tried ds)
+  where
+    by : (o : Option Since) → option_map (with_reply (record { from = from; what = m })) o ≡ Some s → ((s : Since) → o ≡ Some s → s.ballot ≡ tried_ballot (facts_of ds)) → s.ballot ≡ tried_ballot (facts_of ds)
+    by None e rest = absurd (cc e)
+    by (Some old) e rest = let same : with_reply (record { from = from; what = m }) old ≡ s = cc e in ap (λ (s : Since). s.ballot) (sym same) ∙ rest old refl
 
 -- ONE EVENT MORE
 

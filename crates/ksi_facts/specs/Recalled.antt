@@ -1,5 +1,6 @@
 -- What a world keeps, as a history has it.
-use Rattle.std.specs.Prelude.{◌≡◌, ℕ, List, option_map, Option, Some, None}
+use Rattle.std.specs.Prelude.{◌≡◌, ℕ, List, [], option_map, Option, Some, None}
+use Rattle.ksi_aggtree.specs.declared.entries.Entry.{Entry}
 use Rattle.ksi_aggtree.specs.Entries.{candidate_of}
 use Rattle.ksi_synod.specs.Voters.{is_voter, is_flagged}
 use Rattle.ksi_synod.specs.VoteState.{Hand}
@@ -44,15 +45,19 @@ IsInHand voters candidate None None = Unit {0}
 IsInHand voters candidate (Some s) (Some h) = IsHand voters candidate s h
 IsInHand voters candidate _ _ = ⊥
 
--- a core's second, and an aggregator's round, are what was seen of them
+-- a core's second, and an aggregator's round, are what was seen of them. Nothing is open once it is sealed or closed, and
+-- the ballot in hand is the one tried last
 pub record IsSecond (image : List ℕ → List ℕ) (past : List Seen) (cores core second : ℕ) (s : SecondState) : Type 0 where
   pub kept : IsKept image (of_second second (facts (actors.Core core) past)) s
   pub open_items : s.open_items ≡ open_items (of_second second (deeds (actors.Core core) past))
+  pub shut : (items : List Entry) → s.sealed ≡ Some items → s.open_items ≡ []
+  pub ballot : (h : Hand) → s.vote.hand ≡ Some h → h.ballot ≡ s.vote.tried
   pub hand : IsInHand (voters_of cores second) (own_candidate image (of_second second (facts (actors.Core core) past))) (since (of_second second (deeds (actors.Core core) past))) s.vote.hand
 
 pub record IsRound (past : List Seen) (aggregator second : ℕ) (r : RoundState) : Type 0 where
   pub kept : IsKeptRound (of_second second (facts (actors.Aggregator aggregator) past)) r
   pub open_items : r.open_items ≡ open_items (of_second second (deeds (actors.Aggregator aggregator) past))
+  pub shut : (items : List Entry) → r.closed ≡ Some items → r.open_items ≡ []
 
 -- whatever any actor keeps after a history is what was seen
 pub record IsRecalled (image : List ℕ → List ℕ) (history : History) : Type 0 where

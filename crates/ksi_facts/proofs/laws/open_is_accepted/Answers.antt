@@ -6,3 +6,9 @@ returns-clause-seconds c = λ image h is core second. (after_seconds image h.pla
 
 pub returns-clause-rounds : goal.returns-clause-rounds
 returns-clause-rounds c = λ image h is aggregator second. (after_rounds image h.plan is h.events aggregator second).open_items
+
+pub returns-clause-sealed : goal.returns-clause-sealed
+returns-clause-sealed c = λ image h is core second items. (after_seconds image h.plan is h.events core second).shut items
+
+pub returns-clause-closed : goal.returns-clause-closed
+returns-clause-closed c = λ image h is aggregator second items. (after_rounds image h.plan is h.events aggregator second).shut items
