@@ -1,9 +1,9 @@
 -- Each step of a core is what is seen of it.
-use Rattle.std.proofs.Common.{◌≡◌, ℕ, ◌<◌, ◌≤◌, max, Bool, true, false, cond, is_some, ◌&&◌, eqb, ltb, List, [], ◌∷◌, ◌++◌, map, length, suc, zero, refl, sym, ap, subst, ◌∙◌, arith, inl, inr, Option, Some, None}
+use Rattle.std.proofs.Common.{◌≡◌, ℕ, ◌<◌, ◌≤◌, Bool, true, false, is_some, ◌&&◌, eqb, ltb, List, [], ◌∷◌, ◌++◌, map, suc, zero, refl, sym, ap, subst, ◌∙◌, arith, inl, inr, Option, Some, None}
 use Rattle.std.specs.Prelude.{option_map, unwrap_or}
 use Rattle.std.proofs.Math.Nat.{max-eq_left}
 use Rattle.std.proofs.lemmas.Bool.{cond_both, cases_lt, cond-true, and_parts, ltb-true}
-use Rattle.std.proofs.lemmas.List.{append-nil, get_or-replicate, get_or_past, length-replicate}
+use Rattle.std.proofs.lemmas.List.{get_or-replicate, get_or_past, length-replicate}
 use Rattle.ksi_aggchain.specs.declared.item.Item.{Item}
 use Rattle.ksi_aggtree.specs.declared.entries.Entry.{Entry}
 use Rattle.ksi_aggtree.specs.Entries.{candidate_of, has_from, is_full}
@@ -17,20 +17,17 @@ use Rattle.ksi_synod.specs.declared.messages.Took.TheVariants.{Decree}
 use Rattle.ksi_synod.specs.Voters.{cores_below, is_voter, is_flagged, no_flags}
 use Rattle.ksi_synod.specs.Ballots.{last_round}
 use Rattle.ksi_synod.specs.VoteState.{VoteState, Hand, new_hand}
-use Rattle.ksi_synod.specs.Rows.{seal, seal_of, sealed_with, try_ballot, try_ballot_of, greater_round, next_ballot, ballot_told, on_next, on_last, on_last_of, counts_last, greater_vote, is_older, on_begin, voted_for, with_voted, completes, voted_added, on_voted, on_voted_of, on_voted_for, decree_told, on_success, on_success_of, receive}
+use Rattle.ksi_synod.specs.Rows.{seal, seal_of, try_ballot, try_ballot_of, greater_round, next_ballot, ballot_told, on_next, on_last, on_last_of, counts_last, greater_vote, is_older, on_begin, voted_for, with_voted, completes, on_voted, on_voted_of, on_voted_for, decree_told, on_success, on_success_of, receive}
 use Rattle.ksi_signature.specs.declared.answer.Answer.{Answer}
-use Rattle.ksi_signature.specs.declared.answer.Answer.TheVariants as answers
-use Rattle.ksi_corenode.specs.declared.step.Send.{Send}
 use Rattle.ksi_corenode.specs.SecondState.{SecondState}
-use Rattle.ksi_corenode.specs.Turns.{Turn, still, told, to_each}
+use Rattle.ksi_corenode.specs.Turns.{Turn, told, to_each}
 use Rattle.ksi_corenode.specs.Held.{Held, first_missing}
-use Rattle.ksi_corenode.specs.Rows.{submitted, submission_row, item_taken, seal_row, sealed_now, ballot_row, receive_row, news_answer, tell_row, respond_row, respond_where, responded, is_mine, restart_row}
+use Rattle.ksi_corenode.specs.Rows.{submitted, submission_row, item_taken, seal_row, sealed_now, ballot_row, receive_row, news_answer, tell_row, respond_row, respond_where, is_mine, restart_row}
 use Rattle.ksi_schedule.specs.declared.actor.Actor.TheVariants as actors
 use Rattle.ksi_world.specs.declared.message.Content.TheVariants as contents
 use Rattle.ksi_world.specs.Histories.{core_message}
-use Rattle.ksi_facts.specs.Deeds.{What, Deed, Accepted, Sealed, Tried, Promised, Cast, Holds, Heard, Restarted, facts_of, held_root, greatest_promise, greatest_vote, where_done, first, tries, decides, takes}
+use Rattle.ksi_facts.specs.Deeds.{What, Deed, Accepted, Sealed, Tried, Promised, Cast, Holds, Heard, Restarted, facts_of, held_root, where_done, first, tries, decides, takes}
 use Rattle.ksi_facts.specs.Since.{Since, Reply, with_reply, since}
-use Rattle.ksi_facts.specs.Recalled.{IsKept}
 use Rattle.ksi_facts.proofs.Standing.{IsHandSo, IsInHandSo, IsSo, did}
 use Rattle.ksi_facts.proofs.Hands.{last_idle, last_counted, voted_idle, voted_counted}
 

@@ -1,20 +1,18 @@
 -- The hand with one message more.
-use Rattle.std.proofs.Common.{◌≡◌, ℕ, ◌+◌, ◌*◌, ◌<◌, Bool, true, false, cond, not, is_none, ◌&&◌, ◌||◌, ◌⊎◌, eqb, ltb, List, [], ◌∷◌, length, get_or, set, refl, sym, ap, subst, ◌∙◌, arith, inl, inr, Option, Some, None}
+use Rattle.std.proofs.Common.{◌≡◌, ℕ, ◌+◌, ◌*◌, ◌<◌, Bool, true, false, cond, not, is_none, ◌&&◌, ◌||◌, ◌⊎◌, eqb, ltb, List, [], ◌∷◌, length, get_or, set, refl, sym, ap, ◌∙◌, arith, inl, inr, Option, Some, None}
 use Rattle.std.specs.Prelude.{option_map, option_and_then, unwrap_or}
-use Rattle.std.specs.List.{count_by, filter_map, cons_option, list_any}
-use Rattle.std.proofs.lemmas.Bool.{cases_eq, cases_Bool, cond-true, cond-false, eqb-true, eq-eqb, ne_eqb, and_parts, and_from, false≢true, not-true, not-false, le-ltb}
+use Rattle.std.specs.List.{count_by, cons_option}
+use Rattle.std.proofs.lemmas.Bool.{cases_eq, cases_Bool, cond-true, cond-false, eq-eqb, ne_eqb, and_parts, and_from, false≢true, not-true, le-ltb}
 use Rattle.std.proofs.lemmas.List.{get_or-set_other, get_or-set_same}
 use Rattle.std.proofs.Math.ListN.{length-set}
 use Rattle.std.proofs.lemmas.List.Sums.{sum_by-cons}
 use Rattle.ksi_synod.specs.declared.messages.Vote.{Vote}
 use Rattle.ksi_synod.specs.declared.messages.LastVote.{LastVote}
-use Rattle.ksi_synod.specs.declared.messages.SynodMessage.{SynodMessage}
 use Rattle.ksi_synod.specs.declared.messages.SynodMessage.TheVariants as votes
 use Rattle.ksi_synod.specs.Voters.{is_voter, is_flagged, is_majority}
 use Rattle.ksi_synod.specs.VoteState.{Hand}
 use Rattle.ksi_synod.specs.Rows.{greater_vote, decree_of, counts_last, with_last, decree_now, voted_for, with_voted}
-use Rattle.ksi_facts.specs.Since.{Since, Reply, with_reply, Told, Moment, told, told_by, voted, voted_by, has_told, are_most, greatest_told, or_now, first_moment, begun, told_until, voted_after, decree_begun}
-use Rattle.ksi_facts.specs.Recalled.{IsHand}
+use Rattle.ksi_facts.specs.Since.{Since, Reply, with_reply, Told, Moment, told, voted, has_told, are_most, greatest_told, or_now, first_moment, begun, told_until, decree_begun}
 use Rattle.ksi_facts.proofs.Standing.{IsHandSo}
 
 -- SETS OF CORES

@@ -1,15 +1,12 @@
 -- Each step of a round is what is seen of it.
-use Rattle.std.proofs.Common.{◌≡◌, ℕ, Bool, true, false, cond, is_some, List, [], ◌∷◌, ◌++◌, refl, sym, ap, ◌∙◌, Option, Some, None}
+use Rattle.std.proofs.Common.{◌≡◌, ℕ, true, false, is_some, List, [], ◌∷◌, ◌++◌, refl, sym, ap, ◌∙◌, Option, Some, None}
 use Rattle.std.proofs.lemmas.Bool.{cond_both}
 use Rattle.ksi_aggchain.specs.declared.item.Item.{Item}
 use Rattle.ksi_aggtree.specs.declared.entries.Entry.{Entry}
 use Rattle.ksi_aggtree.specs.Entries.{has_from, is_full}
 use Rattle.ksi_signature.specs.declared.above.Above.{Above}
-use Rattle.ksi_signature.specs.declared.answer.Answer.{Answer}
 use Rattle.ksi_signature.specs.declared.answer.Answer.TheVariants as answers
 use Rattle.ksi_aggregator.specs.Rows.{RoundState, RoundTurn, fresh_round, round_still, round_request, round_submission, submitted_entry, round_close, closed_now, round_response, response_where, round_restarted}
-use Rattle.ksi_schedule.specs.declared.actor.Actor.TheVariants as actors
-use Rattle.ksi_world.specs.declared.message.Content.TheVariants as contents
 use Rattle.ksi_facts.specs.Deeds.{What, Deed, Accepted, Closed, Answered, Restarted, numbered, where_done}
 use Rattle.ksi_facts.proofs.Standing.{IsRoundSo, did}
 
