@@ -1,0 +1,4 @@
+pub mod Seen
+pub mod Deeds
+pub mod Since
+pub mod Recalled

@@ -1,0 +1,65 @@
+-- What a world keeps, as a history has it.
+use Rattle.std.specs.Prelude.{◌≡◌, ℕ, List, [], option_map, Option, Some, None}
+use Rattle.ksi_aggtree.specs.declared.entries.Entry.{Entry}
+use Rattle.ksi_aggtree.specs.Entries.{candidate_of}
+use Rattle.ksi_synod.specs.Voters.{is_voter, is_flagged}
+use Rattle.ksi_synod.specs.VoteState.{Hand}
+use Rattle.ksi_corenode.specs.SecondState.{SecondState, voters_of}
+use Rattle.ksi_aggregator.specs.Rows.{RoundState}
+use Rattle.ksi_schedule.specs.declared.actor.Actor.TheVariants as actors
+use Rattle.ksi_schedule.specs.Events.{History}
+use Rattle.ksi_world.specs.Histories.{world_of}
+use Rattle.ksi_facts.specs.Seen.{Seen, seen}
+use Rattle.ksi_facts.specs.Deeds.{Deed, deeds, of_second, facts, open_items, sealed_items, closed_items, tried_ballot, greatest_promise, greatest_vote, held_root, kept_response}
+use Rattle.ksi_facts.specs.Since.{Since, since, told_until, voted_after, has_told, greatest_told, decree_begun}
+
+-- the candidate of a core with these facts
+abbrev pub own_candidate : (List ℕ → List ℕ) → (facts : List Deed) → Option (List ℕ)
+own_candidate image facts = option_map (candidate_of image) (sealed_items facts)
+
+-- what a core keeps over restarts, for a second with these facts
+pub record IsKept (image : List ℕ → List ℕ) (facts : List Deed) (s : SecondState) : Type 0 where
+  pub sealed : s.sealed ≡ sealed_items facts
+  pub candidate : s.vote.candidate ≡ own_candidate image facts
+  pub tried : s.vote.tried ≡ tried_ballot facts
+  pub promised : s.vote.promised ≡ greatest_promise facts
+  pub vote : s.vote.vote ≡ greatest_vote facts
+  pub held : s.vote.held ≡ held_root facts
+
+-- the same of an aggregator's round
+pub record IsKeptRound (facts : List Deed) (r : RoundState) : Type 0 where
+  pub closed : r.closed ≡ closed_items facts
+  pub answered : r.answered ≡ kept_response facts
+
+-- the hand has what came of the ballot
+pub record IsHand (voters : List ℕ) (candidate : Option (List ℕ)) (s : Since) (h : Hand) : Type 0 where
+  pub ballot : h.ballot ≡ s.ballot
+  pub last : (core : ℕ) → is_flagged h.last core ≡ has_told (told_until voters s) core
+  pub greatest : h.greatest ≡ greatest_told (told_until voters s)
+  pub decree : h.decree ≡ decree_begun voters candidate s
+  pub voted : (core : ℕ) → is_flagged h.voted core ≡ is_voter (voted_after voters s) core
+
+-- there is a hand exactly where a ballot was tried and the core was not restarted after it
+abbrev pub IsInHand : (voters : List ℕ) → (candidate : Option (List ℕ)) → Option Since → Option Hand → Type 0
+IsInHand voters candidate None None = Unit {0}
+IsInHand voters candidate (Some s) (Some h) = IsHand voters candidate s h
+IsInHand voters candidate _ _ = ⊥
+
+-- a core's second, and an aggregator's round, are what was seen of them. Nothing is open once it is sealed or closed, and
+-- the ballot in hand is the one tried last
+pub record IsSecond (image : List ℕ → List ℕ) (past : List Seen) (cores core second : ℕ) (s : SecondState) : Type 0 where
+  pub kept : IsKept image (of_second second (facts (actors.Core core) past)) s
+  pub open_items : s.open_items ≡ open_items (of_second second (deeds (actors.Core core) past))
+  pub shut : (items : List Entry) → s.sealed ≡ Some items → s.open_items ≡ []
+  pub ballot : (h : Hand) → s.vote.hand ≡ Some h → h.ballot ≡ s.vote.tried
+  pub hand : IsInHand (voters_of cores second) (own_candidate image (of_second second (facts (actors.Core core) past))) (since (of_second second (deeds (actors.Core core) past))) s.vote.hand
+
+pub record IsRound (past : List Seen) (aggregator second : ℕ) (r : RoundState) : Type 0 where
+  pub kept : IsKeptRound (of_second second (facts (actors.Aggregator aggregator) past)) r
+  pub open_items : r.open_items ≡ open_items (of_second second (deeds (actors.Aggregator aggregator) past))
+  pub shut : (items : List Entry) → r.closed ≡ Some items → r.open_items ≡ []
+
+-- whatever any actor keeps after a history is what was seen
+pub record IsRecalled (image : List ℕ → List ℕ) (history : History) : Type 0 where
+  pub seconds : (core second : ℕ) → IsSecond image (seen image history.plan history.events) history.plan.cores core second ((world_of image history).seconds core second)
+  pub rounds : (aggregator second : ℕ) → IsRound (seen image history.plan history.events) aggregator second ((world_of image history).rounds aggregator second)

@@ -1,0 +1,69 @@
+//! The laws. None of these functions does anything.
+ghost use Rattle.std.specs.Prelude.{◌≡◌, ◌++◌, ◌∷◌, [], ℕ, List, Some};
+ghost use Rattle.ksi_aggtree.specs.declared.entries.Entry.{Entry};
+ghost use Rattle.ksi_synod.specs.VoteState.{Hand};
+ghost use Rattle.ksi_corenode.specs.SecondState.{voters_of};
+ghost use Rattle.ksi_schedule.specs.declared.actor.Actor.{Actor};
+ghost use Rattle.ksi_schedule.specs.declared.actor.Actor.TheVariants as actors;
+ghost use Rattle.ksi_schedule.specs.declared.event.Event.{Event};
+ghost use Rattle.ksi_schedule.specs.declared.event.Event.TheVariants as happenings;
+ghost use Rattle.ksi_schedule.specs.Plans.{PlanState, IsPlan};
+ghost use Rattle.ksi_schedule.specs.Events.{History};
+ghost use Rattle.ksi_world.specs.Histories.{world_of};
+ghost use Rattle.ksi_facts.specs.Seen.{seen};
+ghost use Rattle.ksi_facts.specs.Deeds.{Deed, of_second, deeds, facts, open_items, tried_ballot};
+ghost use Rattle.ksi_facts.specs.Since.{since};
+ghost use Rattle.ksi_facts.specs.Recalled.{own_candidate, IsKept, IsKeptRound, IsInHand, IsRecalled};
+
+/// Facts are only added, whatever happens later, and a restart adds none.
+pub fn facts_only_grow()
+    ensures grow { (image : List ℕ → List ℕ) (plan : PlanState) (actor : Actor) (events later : List Event) →
+        (more : List Deed) × (facts actor (seen image plan (events ++ later)) ≡ more ++ facts actor (seen image plan events)) }
+    ensures core { (image : List ℕ → List ℕ) (plan : PlanState) (actor : Actor) (events : List Event) (core : ℕ) →
+        facts actor (seen image plan (events ++ happenings.RestartCore core ∷ [])) ≡ facts actor (seen image plan events) }
+    ensures aggregator { (image : List ℕ → List ℕ) (plan : PlanState) (actor : Actor) (events : List Event) (aggregator : ℕ) →
+        facts actor (seen image plan (events ++ happenings.RestartAggregator aggregator ∷ [])) ≡ facts actor (seen image plan events) }
+{}
+
+/// What a core and an aggregator keep over restarts is read off the facts.
+pub fn state_is_facts()
+    ensures seconds { (image : List ℕ → List ℕ) (history : History) → IsPlan history.plan → (core second : ℕ) →
+        IsKept image (of_second second (facts (actors.Core core) (seen image history.plan history.events)))
+        ((world_of image history).seconds core second) }
+    ensures rounds { (image : List ℕ → List ℕ) (history : History) → IsPlan history.plan → (aggregator second : ℕ) →
+        IsKeptRound (of_second second (facts (actors.Aggregator aggregator) (seen image history.plan history.events)))
+        ((world_of image history).rounds aggregator second) }
+{}
+
+/// The open items are those that were accepted since the second was sealed or closed, or its actor was restarted. There are
+/// none once it is sealed or closed.
+pub fn open_is_accepted()
+    ensures seconds { (image : List ℕ → List ℕ) (history : History) → IsPlan history.plan → (core second : ℕ) →
+        ((world_of image history).seconds core second).open_items ≡
+        open_items (of_second second (deeds (actors.Core core) (seen image history.plan history.events))) }
+    ensures rounds { (image : List ℕ → List ℕ) (history : History) → IsPlan history.plan → (aggregator second : ℕ) →
+        ((world_of image history).rounds aggregator second).open_items ≡
+        open_items (of_second second (deeds (actors.Aggregator aggregator) (seen image history.plan history.events))) }
+    ensures sealed { (image : List ℕ → List ℕ) (history : History) → IsPlan history.plan → (core second : ℕ) (items : List Entry) →
+        ((world_of image history).seconds core second).sealed ≡ Some items → ((world_of image history).seconds core second).open_items ≡ [] }
+    ensures closed { (image : List ℕ → List ℕ) (history : History) → IsPlan history.plan → (aggregator second : ℕ) (items : List Entry) →
+        ((world_of image history).rounds aggregator second).closed ≡ Some items → ((world_of image history).rounds aggregator second).open_items ≡ [] }
+{}
+
+/// The ballot in hand has what came since the core tried it, and is the one that it tried last. There is none where it tried
+/// none, or was restarted after it.
+pub fn hand_is_since()
+    ensures ballot { (image : List ℕ → List ℕ) (history : History) → IsPlan history.plan → (core second : ℕ) (hand : Hand) →
+        ((world_of image history).seconds core second).vote.hand ≡ Some hand →
+        hand.ballot ≡ tried_ballot (of_second second (facts (actors.Core core) (seen image history.plan history.events))) }
+    ensures hand { (image : List ℕ → List ℕ) (history : History) → IsPlan history.plan → (core second : ℕ) →
+        IsInHand (voters_of history.plan.cores second)
+        (own_candidate image (of_second second (facts (actors.Core core) (seen image history.plan history.events))))
+        (since (of_second second (deeds (actors.Core core) (seen image history.plan history.events))))
+        ((world_of image history).seconds core second).vote.hand }
+{}
+
+/// All of these together: whatever an actor keeps after a history is what was seen of it.
+pub fn history_is_recalled()
+    ensures { (image : List ℕ → List ℕ) (history : History) → IsPlan history.plan → IsRecalled image history }
+{}
