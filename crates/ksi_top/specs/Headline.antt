@@ -20,6 +20,7 @@ use Rattle.ksi_journal.specs.Journal.{Contents}
 use Rattle.ksi_journal.specs.File.{IsJournalFile}
 use Rattle.ksi_journal.specs.Written.{journal_text}
 use Rattle.ksi_replay.specs.Journals.{journal_of}
+use Rattle.ksi_facts.specs.Recalled.{IsRecalled}
 use Rattle.ksi_history.specs.Joined.{IsPublished, Lasts}
 use Rattle.ksi_generate.specs.Generate.{generated}
 use Rattle.ksi_drill.specs.Drill.{drilled}
@@ -62,6 +63,8 @@ pub record HoldsOver (history : History) : Type 0 where
       publish_answer imprint_of (held_in (after imprint_of history.plan before) core) history.plan.start p ≡ Published root → IsPublished imprint_of (journal_of imprint_of history) p root
   pub published : (before later : List Event) → history.events ≡ before ++ later → (k p : ℕ) (root : List ℕ) →
       slice_get (after imprint_of history.plan before).published k ≡ Some (p, root) → IsPublished imprint_of (journal_of imprint_of history) p root
+  -- what nodes keep over restarts, and what a restart forgets, is read off what is seen of the history
+  pub recalled : IsRecalled imprint_of history
 
 -- the schedule spells a history; what is saved is the journal of what its cores kept and published and what was issued,
 -- which is one, and is read again as this journal

@@ -9,6 +9,7 @@ ghost use Rattle.ksi_replay.specs.Journals.{journal_of};
 ghost use Rattle.ksi_top.specs.Headline.{HoldsOver};
 ghost use Rattle.ksi_top.specs.Lawful.{IsLawful};
 
+use ksi_facts::laws::history_is_recalled;
 use ksi_history::laws::{held_stays, history_is_joined, journal_keeps_roots};
 use ksi_journal::laws::written_is_journal;
 use ksi_schedule::spelled_is_schedule;
@@ -24,6 +25,7 @@ pub(crate) fn histories_hold()
     spelled_is_schedule();
     agreement();
     held_stays();
+    history_is_recalled();
     validity();
     all_issued();
     journal_keeps_roots();

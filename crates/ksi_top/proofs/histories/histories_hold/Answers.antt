@@ -26,6 +26,7 @@ returns-clause-holds c = λ text h spelled lawful.
           joined.issued number issued_text issued (all_at (λ (x : ℕ × List ℕ). AreBytes x.1) (issued_all imprint_of w) listed.0 (number, issued_text) texts listed.1);
       answered = joined.answered;
       published = joined.published;
+      recalled = c.history_is_recalled.ensures imprint_of h is.plan;
     }
 
 pub returns-clause-again : goal.returns-clause-again
