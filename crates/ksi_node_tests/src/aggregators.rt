@@ -1,7 +1,7 @@
 ghost use Rattle.std.specs.Prelude.{◌≡◌, ◌<◌, ◌^◌, length, IfOk};
 
-use crate::*;
 use ksi_aggchain::Item;
+use ksi_aggregator::{Aggregator, NoMemory, Send, Step};
 use ksi_imprint::{Compress, Imprint, Sha};
 use ksi_signature::{
     Above, AboveChain, AboveChains, AboveLinks, AggChain, Answer, CalLinks, Signature, read,
