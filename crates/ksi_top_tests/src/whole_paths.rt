@@ -1,7 +1,7 @@
 // From a schedule to an accepted signature.
-use crate::Status;
-use crate::tests::{bytes, ends, expanded};
+use crate::text::{bytes, ends, expanded};
 use ksi_ports::MemFiles;
+use ksi_top::Status;
 use std::alloc::Global;
 use std::test::Fail;
 
@@ -61,6 +61,7 @@ fn a_schedule_becomes_an_accepted_signature(rt: HostRuntime) -> Result<(), Fail>
         ("sign j 0 s", Status::Done, "signed 0"),
         ("publish j p", Status::Done, "published 1"),
         ("verify s A p", Status::Done, "accepted T"),
+        ("audit j s A p", Status::Done, "inside T -"),
         ("verify s B p", Status::Refused, "refused V1 A B"),
         ("sign j 1 s", Status::Refused, "not issued 1"),
     ];
