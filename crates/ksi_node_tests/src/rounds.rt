@@ -1,6 +1,6 @@
 ghost use Rattle.std.specs.Prelude.{◌≡◌, ◌<◌, length};
 
-use ksi_aggchain::{Item, shape};
+use ksi_aggchain::{Item, Link, shape};
 use ksi_aggtree::{AddRefusal, Builder, Links, Steps};
 use ksi_imprint::{Compress, Imprint, NoMemory, Sha, Tiny};
 use ksi_split::Side;
@@ -84,11 +84,22 @@ fn are_links(links: &Links, wanted: &[(Side, u8, Imprint)]) -> bool {
     same
 }
 
+/// The shape of links, nothing where they are too many.
+fn shape_of(links: &[Link]) -> Option<u64> {
+    if links.len() <= 63 {
+        Some(shape(links))
+    } else {
+        None
+    }
+}
+
 /// Whether both paths of an item have these links, of this shape.
 fn climbs(round: &Builder<Sha>, k: usize, wanted: &[(Side, u8, Imprint)], bits: u64) -> bool {
     match (path(round, k), path_counted(round, k)) {
         (Some(links), Some(same)) => {
-            are_links(&links, wanted) && are_links(&same, wanted) && shape(links.as_slice()) == bits
+            are_links(&links, wanted)
+                && are_links(&same, wanted)
+                && shape_of(links.as_slice()) == Some(bits)
         }
         _ => false,
     }
@@ -124,6 +135,31 @@ fn the_links_of_three_items(rt: HostRuntime) {
         ];
         for (k, links, bits) in rows {
             assert!(rt; climbs(&round, k, links, bits), "of {k}");
+        }
+    }
+}
+
+/// A round of five items of level 0.
+fn five(alloc: Global) -> Result<Builder<Sha>, AddRefusal> {
+    let mut round = Builder::new(alloc)?;
+    for _ in 0..5usize {
+        round.add(item(0, b""))?;
+    }
+    Ok(round)
+}
+
+fn way_of(round: &Builder<Sha>, k: usize) -> Option<u64> {
+    path(round, k).and_then(|links| shape_of(links.as_slice()))
+}
+
+/// Four of them stand on the left side of the top, and one on the right side.
+#[test]
+fn the_ways_of_five_items(rt: HostRuntime) {
+    let made = five(rt.alloc());
+    assert!(rt; made.is_ok());
+    if let Ok(round) = made {
+        for (k, bits) in [(0, 15), (3, 12), (4, 2)] {
+            assert_eq!(rt; way_of(&round, k), Some(bits), "of {k}");
         }
     }
 }
