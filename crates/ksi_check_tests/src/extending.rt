@@ -82,8 +82,12 @@ fn counted<L: Ledger>(
 }
 
 /// The same for second T, with the steps counted.
-fn taken_on_counted(alloc: Global, journal: &Journal<Sha>, bytes: &[u8]) -> Option<Bytes> {
-    counted::<Brand>(alloc, journal, bytes, Blank::new(1)).ok()
+fn taken_on_counted(
+    alloc: Global,
+    journal: &Journal<Sha>,
+    bytes: &[u8],
+) -> Result<Bytes, ExtendRefusal> {
+    counted::<Brand>(alloc, journal, bytes, Blank::new(1))
 }
 
 /// The journal's root of `p`, if it has one, as the only publication.
@@ -138,8 +142,8 @@ fn what_was_taken_on_is_taken_on_again(rt: HostRuntime) -> Result<(), Fail> {
     assert!(rt; once.is_some());
     if let Some(text) = once {
         let twice = taken_on_counted(alloc, &journal, text.as_slice());
-        assert!(rt; twice.is_some());
-        if let Some(again) = twice {
+        assert!(rt; twice.is_ok());
+        if let Ok(again) = twice {
             assert_eq!(rt; again.as_slice(), text.as_slice());
         }
     }

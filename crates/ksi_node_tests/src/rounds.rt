@@ -19,10 +19,10 @@ fn item(level: u8, bytes: &[u8]) -> Item
     }
 }
 
-/// The join of two items' imprints at a level, by hand.
-fn joined(left: Item, right: Item, level: u8) -> Item {
+/// The join of two imprints at a level, by hand.
+fn joined(left: Imprint, right: Imprint, level: u8) -> Item {
     Item {
-        imprint: Sha::join(left.imprint.bytes(), right.imprint.bytes(), level),
+        imprint: Sha::join(left.bytes(), right.bytes(), level),
         level,
     }
 }
@@ -55,10 +55,16 @@ fn counted<L: Ledger>(round: &Builder<Sha>, k: usize, blank: Blank) -> Result<Li
     round.path_counted(k, &mut steps)
 }
 
+fn counted_path(round: &Builder<Sha>, k: usize) -> Result<Links, NoMemory>
+    requires { k < length round.now }
+{
+    counted::<Brand>(round, k, Blank::new(1))
+}
+
 /// The same links, with the steps counted.
 fn path_counted(round: &Builder<Sha>, k: usize) -> Option<Links> {
     if k < round.count() {
-        counted::<Brand>(round, k, Blank::new(1)).ok()
+        counted_path(round, k).ok()
     } else {
         None
     }
@@ -110,8 +116,9 @@ fn the_tree_of_three_items(rt: HostRuntime) {
     let made = three(rt.alloc());
     assert!(rt; made.is_ok());
     if let Ok(round) = made {
-        let inner = joined(item(0, b""), item(0, b"abc"), 1);
-        let root = joined(inner, item(3, b""), 4);
+        let (a, b) = (Sha::of(b""), Sha::of(b"abc"));
+        let inner = joined(a, b, 1);
+        let root = joined(inner.imprint, a, 4);
         assert_eq!(rt; round.count(), 3);
         assert_eq!(rt; item_of(&round, 2), Some(item(3, b"")));
         assert_eq!(rt; round.root(), Some(root));
