@@ -1,7 +1,7 @@
-use crate::written::{ChainRow, journal_of, named, signature_of};
-use crate::*;
-use ksi_calendar::Calendar;
-use ksi_imprint::{Bytes, Compress, Imprint, Sha, Tiny};
+use crate::journals::journal_of;
+use crate::signatures::{CalendarRow, ChainRow, SignatureRow, bytes_of, listed, named};
+use ksi_auditor::{Audit, Clash, NoMemory, audit};
+use ksi_imprint::{Bytes, Compress, Imprint, Tiny};
 use ksi_journal::{Journal, load};
 use ksi_publications::Publications;
 use ksi_signature::read;
@@ -10,135 +10,108 @@ use ksi_verifier::Refusal;
 use std::alloc::Global;
 use std::test::Fail;
 
-/// The answer for a hash over a journal and a signature, with one published root.
-fn answer_of<C: Compress>(
+/// What a journal keeps: its start, the root of that second and its items with their levels.
+#[derive(Clone, Copy)]
+struct KeptRow<'a> {
+    start: u8,
+    root: u8,
+    items: &'a [(u8, u8)],
+}
+
+/// A journal of no second.
+const NOTHING: KeptRow<'static> = KeptRow {
+    start: 0,
+    root: 0,
+    items: &[],
+};
+
+/// A signature of second 0 whose chains lead to this root, which is published.
+fn signature_of(alloc: Global, chains: &[ChainRow<'_>], root: u8) -> Result<Bytes, NoMemory> {
+    let calendar = CalendarRow {
+        publication: 0,
+        time: 0,
+        input: root,
+        links: &[],
+    };
+    let row = SignatureRow {
+        chains,
+        calendar: Some(calendar),
+        record: None,
+    };
+    bytes_of(alloc, &row)
+}
+
+/// The answer over both files, nothing where one is malformed.
+fn answer_of(
     alloc: Global,
     journal: &Bytes,
     signature: &Bytes,
-    hash: Imprint,
-    published: (u64, Imprint),
-) -> Result<Option<Audit>, NoMemory> {
-    let mut pairs = Vec::new(alloc);
-    pairs.push(published)?;
-    let publications = Publications::from_vec(pairs);
-    let journal: Journal<C> = match load(alloc, journal.as_slice()) {
-        Ok(journal) => journal,
-        Err(_) => return Ok(None),
-    };
-    match read(alloc, signature.as_slice()) {
-        Ok(signature) => Ok(Some(audit(alloc, &journal, &signature, &hash, &publications))),
-        Err(_) => Ok(None),
-    }
+    hash: &Imprint,
+    publications: &Publications,
+) -> Option<Audit> {
+    let journal: Journal<Tiny> = load(alloc, journal.as_slice()).ok()?;
+    let signature = read(alloc, signature.as_slice()).ok()?;
+    Some(audit(alloc, &journal, &signature, hash, publications))
 }
 
-/// Whether the hash is inside the second, at the end of these sides.
-fn is_inside(answer: &Option<Audit>, second: u64, sides: &[Side]) -> bool {
-    match answer {
-        Some(Audit::Inside(at, way)) => *at == second && way.as_slice() == sides,
-        _ => false,
-    }
-}
-
-/// Whether the signature is of another hash than the given one.
-fn is_of_another_hash(answer: &Option<Audit>, stated: Imprint, other: Imprint) -> bool {
-    match answer {
-        Some(
-            Audit::NotAccepted(
-                Refusal::WrongHash {
-                    in_signature,
-                    given,
-                },
-            ),
-        ) => *in_signature == stated && *given == other,
-        _ => false,
-    }
-}
-
-/// Whether the publication of a second has another hash than the kept root.
-fn is_not_decided(answer: &Option<Audit>, second: u64, one: Imprint, other: Imprint) -> bool {
-    match answer {
-        Some(Audit::NotDecided(at, given, kept)) => {
-            *at == second && *given == one && *kept == other
-        }
-        _ => false,
-    }
-}
-
-#[test]
-fn a_lone_item_is_inside_at_the_top(rt: HostRuntime) -> Result<(), Fail> {
-    let second = 1_700_000_000;
-    let hash = Sha::of(b"");
-    let mut calendar = Calendar::<Sha>::new(rt.alloc(), second)?;
-    calendar.append(hash)?;
-    let links = calendar.chain_to(second, second)?;
-    assert_eq!(rt; links.as_slice().len(), 13);
-    let root = calendar.root_at(second).unwrap_or(Imprint::ZERO);
-    let chains = [
-        ChainRow {
-            index: &[1, 1],
-            input: hash,
-            links: &[],
-        },
-        ChainRow {
-            index: &[1],
-            input: hash,
-            links: &[],
-        },
-    ];
-    let journal = journal_of(rt.alloc(), second, hash, &[(hash, 0)])?;
-    let signature = signature_of(rt.alloc(), second, &chains, hash, links.as_slice())?;
-    let answer = answer_of::<Sha>(rt.alloc(), &journal, &signature, hash, (second, root))?;
-    assert!(rt; is_inside(&answer, second, &[]));
-    Ok(())
-}
-
-/// The answer of a `Tiny` journal that keeps second 0, for chains that lead to its root.
-fn tiny(
+/// The answer for a hash and chains that lead to a root.
+fn audited(
     alloc: Global,
-    start: u64,
-    root: u8,
-    items: &[(u8, u8)],
+    kept: KeptRow<'_>,
     chains: &[ChainRow<'_>],
     hash: u8,
-    given: u8,
+    root: u8,
 ) -> Result<Option<Audit>, NoMemory> {
-    let mut kept = Vec::new(alloc);
-    for (item, level) in items {
-        kept.push((named(*item), *level))?;
-    }
-    let journal = journal_of(alloc, start, named(root), kept.as_slice())?;
-    let signature = signature_of(alloc, 0, chains, named(given), &[])?;
-    answer_of::<Tiny>(alloc, &journal, &signature, named(hash), (0, named(given)))
+    let journal = journal_of(alloc, kept.start, kept.root, kept.items)?;
+    let signature = signature_of(alloc, chains, root)?;
+    let publications = listed(alloc, &[(0, root)])?;
+    Ok(answer_of(alloc, &journal, &signature, &named(hash), &publications))
 }
 
 #[test]
 fn an_inner_node_is_inside(rt: HostRuntime) -> Result<(), Fail> {
     let chains = [ChainRow {
+        time: 0,
         index: &[3],
-        input: named(0x0f),
+        input: 0x0f,
         links: &[(Side::Left, 1, 9)],
     }];
-    let items = [(5, 0), (7, 0), (9, 0)];
-    let answer = tiny(rt.alloc(), 0, 0x1c, &items, &chains, 0x0f, 0x1c)?;
-    assert!(rt; is_inside(&answer, 0, &[Side::Left]));
+    let kept = KeptRow {
+        start: 0,
+        root: 0x1c,
+        items: &[(5, 0), (7, 0), (9, 0)],
+    };
+    match audited(rt.alloc(), kept, &chains, 0x0f, 0x1c)? {
+        Some(Audit::Inside(0, way)) => assert_eq!(rt; way.as_slice(), [Side::Left].as_slice()),
+        _ => assert!(rt; false),
+    }
     Ok(())
+}
+
+/// Whether these are two strings of 67 bytes and of one sum.
+fn is_of_sum_15(clash: &Clash) -> bool {
+    let (one, two) = (clash.one.as_slice(), clash.two.as_slice());
+    one != two
+        && (one.len(), two.len()) == (67, 67)
+        && Tiny::of(one) == named(15)
+        && Tiny::of(two) == named(15)
 }
 
 #[test]
 fn two_strings_of_one_sum_clash(rt: HostRuntime) -> Result<(), Fail> {
     let chains = [ChainRow {
+        time: 0,
         index: &[3],
-        input: named(6),
+        input: 6,
         links: &[(Side::Left, 0, 6)],
     }];
-    match tiny(rt.alloc(), 0, 0x0f, &[(5, 0), (7, 0)], &chains, 6, 0x0f)? {
-        Some(Audit::Clash(clash)) => {
-            assert_eq!(rt; clash.one.as_slice().len(), 67);
-            assert_eq!(rt; clash.two.as_slice().len(), 67);
-            assert!(rt; clash.one.as_slice() != clash.two.as_slice());
-            assert_eq!(rt; Tiny::of(clash.one.as_slice()), named(15));
-            assert_eq!(rt; Tiny::of(clash.two.as_slice()), named(15));
-        }
+    let kept = KeptRow {
+        start: 0,
+        root: 0x0f,
+        items: &[(5, 0), (7, 0)],
+    };
+    match audited(rt.alloc(), kept, &chains, 6, 0x0f)? {
+        Some(Audit::Clash(clash)) => assert!(rt; is_of_sum_15(&clash)),
         _ => assert!(rt; false),
     }
     Ok(())
@@ -146,50 +119,63 @@ fn two_strings_of_one_sum_clash(rt: HostRuntime) -> Result<(), Fail> {
 
 #[test]
 fn a_lower_request_is_beneath_an_item(rt: HostRuntime) -> Result<(), Fail> {
-    let chains = [
-        ChainRow {
-            index: &[1, 3, 1],
-            input: named(5),
-            links: &[],
-        },
-        ChainRow {
-            index: &[1, 3],
-            input: named(5),
-            links: &[(Side::Left, 0, 7)],
-        },
-        ChainRow {
-            index: &[1],
-            input: named(0x0f),
-            links: &[],
-        },
-    ];
-    match tiny(rt.alloc(), 0, 0x0f, &[(0x0f, 1)], &chains, 5, 0x0f)? {
-        Some(Audit::Beneath(second, item, links)) => {
-            assert_eq!(rt; (second, item, links), (0, 0, 1));
-        }
-        _ => assert!(rt; false),
-    }
+    let own = ChainRow {
+        time: 0,
+        index: &[1, 3, 1],
+        input: 5,
+        links: &[],
+    };
+    let middle = ChainRow {
+        time: 0,
+        index: &[1, 3],
+        input: 5,
+        links: &[(Side::Left, 0, 7)],
+    };
+    let top = ChainRow {
+        time: 0,
+        index: &[1],
+        input: 0x0f,
+        links: &[],
+    };
+    let kept = KeptRow {
+        start: 0,
+        root: 0x0f,
+        items: &[(0x0f, 1)],
+    };
+    let answer = audited(rt.alloc(), kept, &[own, middle, top], 5, 0x0f)?;
+    assert!(rt; matches!(answer, Some(Audit::Beneath(0, 0, 1))));
     Ok(())
+}
+
+/// The answer for a signature of the item 06 alone.
+fn audited_alone(alloc: Global, kept: KeptRow<'_>, hash: u8) -> Result<Option<Audit>, NoMemory> {
+    let alone = ChainRow {
+        time: 0,
+        index: &[1],
+        input: 6,
+        links: &[],
+    };
+    audited(alloc, kept, &[alone], hash, 6)
 }
 
 #[test]
 fn refuses_in_order(rt: HostRuntime) -> Result<(), Fail> {
-    let chains = [ChainRow {
-        index: &[1],
-        input: named(6),
-        links: &[],
-    }];
-    let answer = tiny(rt.alloc(), 5, 0, &[], &chains, 7, 6)?;
-    assert!(rt; is_of_another_hash(&answer, named(6), named(7)));
-    match tiny(rt.alloc(), 5, 0, &[], &chains, 6, 6)? {
-        Some(Audit::BeforeStart(at)) => assert_eq!(rt; at, 0),
-        _ => assert!(rt; false),
-    }
-    match tiny(rt.alloc(), 0, 0, &[], &chains, 6, 6)? {
-        Some(Audit::Undecided(at)) => assert_eq!(rt; at, 0),
-        _ => assert!(rt; false),
-    }
-    let answer = tiny(rt.alloc(), 0, 9, &[(9, 0)], &chains, 6, 6)?;
-    assert!(rt; is_not_decided(&answer, 0, named(6), named(9)));
+    let later = KeptRow {
+        start: 5,
+        ..NOTHING
+    };
+    let other = KeptRow {
+        start: 0,
+        root: 9,
+        items: &[(9, 0)],
+    };
+    let answer = audited_alone(rt.alloc(), later, 7)?;
+    assert!(rt; matches!(answer, Some(Audit::NotAccepted(Refusal::WrongHash { .. }))));
+    let answer = audited_alone(rt.alloc(), later, 6)?;
+    assert!(rt; matches!(answer, Some(Audit::BeforeStart(0))));
+    let answer = audited_alone(rt.alloc(), NOTHING, 6)?;
+    assert!(rt; matches!(answer, Some(Audit::Undecided(0))));
+    let answer = audited_alone(rt.alloc(), other, 6)?;
+    assert!(rt; matches!(answer, Some(Audit::NotDecided(0, _, _))));
     Ok(())
 }

@@ -35,7 +35,8 @@ pub(crate) fn named(first: u8) -> Imprint {
     Tiny::of(&[first])
 }
 
-fn put(bytes: &mut Vec<u8>, kind: u16, body: &[u8]) -> Result<(), NoMemory> {
+/// An element in the long form.
+pub(crate) fn put(bytes: &mut Vec<u8>, kind: u16, body: &[u8]) -> Result<(), NoMemory> {
     let [high, low] = kind.to_be_bytes();
     let length = body.len().min(65_535) as u16;
     bytes.extend_from_slice(&[0x80 | high, low])?;

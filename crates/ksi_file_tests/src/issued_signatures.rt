@@ -1,10 +1,13 @@
 ghost use Rattle.ksi_signature.specs.Above.{IsNode};
 
-use crate::tests::S0;
-use crate::*;
+use crate::signatures::S0;
 use ksi_aggchain::{Link, Sibling};
 use ksi_calchain::CalLink;
-use ksi_imprint::Imprint;
+use ksi_imprint::{Imprint, NoMemory};
+use ksi_signature::{
+    Above, AboveChain, AboveChains, AboveLinks, AggChain, CalChain, CalLinks, Signature, issue,
+    read,
+};
 use ksi_split::Side;
 use std::alloc::Global;
 use std::test::Fail;
@@ -49,54 +52,67 @@ fn above(alloc: Global, first: Link) -> Result<AboveChain, NoMemory>
     })
 }
 
-/// Its time, its index, its input, and of its first link the side and the correction.
-fn parts_of(chain: &AggChain) -> (u64, &[u64], Imprint, Option<(Side, u8)>) {
-    let first = match chain.links.as_slice() {
-        [link, ..] => Some((link.side, link.correction)),
-        [] => None,
-    };
-    (chain.time, chain.index.as_slice(), chain.input, first)
-}
-
-#[test]
-fn issues_below_two_chains(rt: HostRuntime) -> Result<(), Fail> {
-    let mut chains = Vec::new(rt.alloc());
-    chains.push(above(rt.alloc(), link(Side::Right, 2))?)?;
-    chains.push(above(rt.alloc(), link(Side::Left, 0))?)?;
-    let mut calendar = Vec::new(rt.alloc());
+/// Two chains, the lower first, and a calendar chain, of one link each.
+fn above_both(alloc: Global) -> Result<Above, NoMemory> {
+    let mut chains = Vec::new(alloc);
+    chains.push(above(alloc, link(Side::Right, 2))?)?;
+    chains.push(above(alloc, link(Side::Left, 0))?)?;
+    let mut calendar = Vec::new(alloc);
     calendar.push(CalLink {
         side: Side::Right,
         sibling: hash(),
     })?;
-    let above = Above {
+    Ok(Above {
         root: Imprint::ZERO,
         chains: AboveChains::from_vec(chains),
         calendar: CalLinks::from_vec(calendar),
-    };
-    let bytes = issue(rt.alloc(), 5, &hash(), &[], &above)?;
-    let answer = read(rt.alloc(), bytes.as_slice());
-    assert!(rt; answer.is_ok());
-    if let Ok(signature) = answer {
-        if let [own, middle, top] = signature.chains.as_slice() {
-            let wanted = (5, [3, 2, 1].as_slice(), hash(), None);
-            assert_eq!(rt; parts_of(own), wanted);
-            let link = Some((Side::Right, 2));
-            let wanted = (5, [3, 2].as_slice(), Imprint::ZERO, link);
-            assert_eq!(rt; parts_of(middle), wanted);
-            let link = Some((Side::Left, 0));
-            let wanted = (5, [3].as_slice(), Imprint::ZERO, link);
-            assert_eq!(rt; parts_of(top), wanted);
+    })
+}
+
+/// The signature of an item that is a round's only one, read again.
+fn issued(alloc: Global, second: u64, above: &Above) -> Option<Signature> {
+    if second < 9_223_372_036_854_775_808 {
+        let bytes = issue(alloc, second, &hash(), &[], above).ok()?;
+        read(alloc, bytes.as_slice()).ok()
+    } else {
+        None
+    }
+}
+
+/// Whether the chain of second 5 has this index, this input and this first link.
+fn is_chain(chain: &AggChain, index: &[u64], input: Imprint, wanted: Option<(Side, u8)>) -> bool {
+    let first = chain.links.as_slice().first();
+    chain.time == 5
+        && chain.index.as_slice() == index
+        && chain.input == input
+        && first.map(|link| (link.side, link.correction)) == wanted
+}
+
+fn are_three_chains(chains: &[AggChain]) -> bool {
+    match chains {
+        [own, middle, top] => {
+            is_chain(own, &[3, 2, 1], hash(), None)
+                && is_chain(middle, &[3, 2], Imprint::ZERO, Some((Side::Right, 2)))
+                && is_chain(top, &[3], Imprint::ZERO, Some((Side::Left, 0)))
         }
-        assert_eq!(rt; signature.chains.as_slice().len(), 3);
+        _ => false,
+    }
+}
+
+fn is_of_second_5(calendar: &CalChain) -> bool {
+    (calendar.publication, calendar.time, calendar.input) == (5, 5, Imprint::ZERO)
+        && calendar.links.as_slice().len() == 1
+}
+
+#[test]
+fn issues_below_two_chains(rt: HostRuntime) -> Result<(), Fail> {
+    let above = above_both(rt.alloc())?;
+    let issued = issued(rt.alloc(), 5, &above);
+    assert!(rt; issued.is_some());
+    if let Some(signature) = issued {
+        assert!(rt; are_three_chains(signature.chains.as_slice()));
+        assert!(rt; signature.calendar.as_ref().is_some_and(is_of_second_5));
         assert!(rt; signature.publication.is_none());
-        if let Some(chain) = &signature.calendar {
-            assert_eq!(rt;
-                (chain.publication, chain.time, chain.input),
-                (5, 5, Imprint::ZERO)
-            );
-            assert_eq!(rt; chain.links.as_slice().len(), 1);
-        }
-        assert!(rt; signature.calendar.is_some());
     }
     Ok(())
 }

@@ -1,5 +1,5 @@
-use crate::{Journal, JournalFault, load, write};
 use ksi_imprint::{Compress, Imprint, Tiny};
+use ksi_journal::{Journal, JournalFault, load, write};
 use std::alloc::Global;
 use std::test::Fail;
 

@@ -1,5 +1,7 @@
-use crate::*;
 use ksi_imprint::Imprint;
+use ksi_schedule::{
+    Actor, Event, Events, LineFault, Parents, Plan, Schedule, ScheduleFault, print, read_schedule,
+};
 use std::alloc::Global;
 use std::test::Fail;
 

@@ -1,7 +1,7 @@
-ghost use Rattle.std.specs.Prelude.{◌≡◌, ◌<◌, ◌^◌, length, IfOk};
+ghost use Rattle.std.specs.Prelude.{◌≡◌, ◌<◌, ◌^◌, length, IfOk, IsTrue};
 
-use crate::*;
 use ksi_aggchain::Item;
+use ksi_aggregator::{Aggregator, NoMemory, Send, Step};
 use ksi_imprint::{Compress, Imprint, Sha};
 use ksi_signature::{
     Above, AboveChain, AboveChains, AboveLinks, AggChain, Answer, CalLinks, Signature, read,
@@ -73,60 +73,85 @@ fn begins(chain: &AggChain, side: Side, sibling: Imprint) -> bool {
     }
 }
 
-#[test]
-fn a_request_after_the_close_is_late(rt: HostRuntime) -> Result<(), Fail> {
-    let (a, b) = (Sha::of(b"a"), Sha::of(b"b"));
-    let mut aggregator = Aggregator::<Sha>::new(rt.alloc(), 4);
-    assert_eq!(rt; aggregator.me(), 4);
-    assert!(rt; aggregator.is_new(0));
-    let step = aggregator.request(0, T, a)?;
-    assert_eq!(rt; step.answer, Answer::Number(0));
-    assert!(rt; step.sends.as_slice().is_empty());
-    assert!(rt; !aggregator.is_new(0));
-    let step = aggregator.close(T)?;
-    assert_eq!(rt; step.answer, Answer::Done);
-    assert_eq!(rt; submitted(&step), Some(item(b"a")));
-    assert!(rt; aggregator.is_new(1));
-    let step = aggregator.request(1, T, b)?;
-    assert_eq!(rt; step.answer, Answer::Late);
-    let step = aggregator.close(T)?;
-    assert_eq!(rt; step.answer, Answer::Closed);
-    assert!(rt; step.sends.as_slice().is_empty());
-    Ok(())
+fn is_early(second: u64) -> bool
+    ensures { IsTrue result → second < 2 ^ 63 }
+{
+    second < 9_223_372_036_854_775_808
+}
+
+/// A request, where its number is new; nothing where memory is wanting.
+fn request(
+    aggregator: &mut Aggregator<Sha>,
+    number: u64,
+    second: u64,
+    bytes: &[u8],
+) -> Option<Step> {
+    if is_early(second) && aggregator.is_new(number) {
+        aggregator.request(number, second, Sha::of(bytes)).ok()
+    } else {
+        None
+    }
+}
+
+/// A submission of aggregator 3.
+fn submission(aggregator: &mut Aggregator<Sha>, second: u64, bytes: &[u8]) -> Option<Step> {
+    if is_early(second) {
+        aggregator.submission(3, second, item(bytes)).ok()
+    } else {
+        None
+    }
+}
+
+fn close(aggregator: &mut Aggregator<Sha>, second: u64) -> Option<Step> {
+    if is_early(second) {
+        aggregator.close(second).ok()
+    } else {
+        None
+    }
+}
+
+/// Whether the step is this answer, and sends this item alone or nothing.
+fn is(step: &Option<Step>, answer: Answer, item: Option<Item>) -> bool {
+    match step {
+        Some(step) => {
+            step.answer == answer
+                && step.sends.as_slice().is_empty() == item.is_none()
+                && submitted(step) == item
+        }
+        None => false,
+    }
 }
 
 #[test]
-fn the_same_submission_is_known_and_then_late(rt: HostRuntime) -> Result<(), Fail> {
-    let mut aggregator = Aggregator::<Sha>::new(rt.alloc(), 0);
-    let step = aggregator.submission(3, T, item(b"a"))?;
-    assert_eq!(rt; step.answer, Answer::Done);
-    let step = aggregator.submission(3, T, item(b"b"))?;
-    assert_eq!(rt; step.answer, Answer::Known);
-    let step = aggregator.submission(3, T + 1, item(b"b"))?;
-    assert_eq!(rt; step.answer, Answer::Done);
-    let step = aggregator.close(T)?;
-    assert_eq!(rt; submitted(&step), Some(item(b"a")));
-    let step = aggregator.submission(3, T, item(b"a"))?;
-    assert_eq!(rt; step.answer, Answer::Late);
-    Ok(())
+fn a_request_after_the_close_is_late(rt: HostRuntime) {
+    let mut own = Aggregator::new(rt.alloc(), 4);
+    assert_eq!(rt; own.me(), 4);
+    assert!(rt; is(&request(&mut own, 0, T, b"a"), Answer::Number(0), None));
+    assert!(rt; is(&close(&mut own, T), Answer::Done, Some(item(b"a"))));
+    assert!(rt; is(&request(&mut own, 1, T, b"b"), Answer::Late, None));
+    assert!(rt; is(&close(&mut own, T), Answer::Closed, None));
+}
+
+#[test]
+fn the_same_submission_is_known_and_then_late(rt: HostRuntime) {
+    let mut own = Aggregator::new(rt.alloc(), 0);
+    assert!(rt; is(&submission(&mut own, T, b"a"), Answer::Done, None));
+    assert!(rt; is(&submission(&mut own, T, b"b"), Answer::Known, None));
+    assert!(rt; is(&submission(&mut own, T + 1, b"b"), Answer::Done, None));
+    assert!(rt; is(&close(&mut own, T), Answer::Done, Some(item(b"a"))));
+    assert!(rt; is(&submission(&mut own, T, b"a"), Answer::Late, None));
 }
 
 #[test]
 fn a_restart_loses_open_items(rt: HostRuntime) -> Result<(), Fail> {
-    let a = Sha::of(b"a");
-    let mut aggregator = Aggregator::<Sha>::new(rt.alloc(), 0);
-    assert!(rt; aggregator.is_new(0));
-    aggregator.request(0, T, a)?;
-    assert!(rt; aggregator.is_new(1));
-    aggregator.request(1, T + 1, a)?;
-    aggregator.close(T + 1)?;
-    aggregator.restart();
-    assert!(rt; aggregator.is_new(0));
-    assert!(rt; !aggregator.is_new(1));
-    let step = aggregator.close(T)?;
-    assert_eq!(rt; step.answer, Answer::Done);
-    assert!(rt; step.sends.as_slice().is_empty());
-    assert!(rt; aggregator.issued(0)?.is_none());
+    let mut own = Aggregator::new(rt.alloc(), 0);
+    assert!(rt; is(&request(&mut own, 0, T, b"a"), Answer::Number(0), None));
+    assert!(rt; is(&request(&mut own, 1, T + 1, b"a"), Answer::Number(1), None));
+    assert!(rt; close(&mut own, T + 1).is_some());
+    own.restart();
+    assert!(rt; own.is_new(0) && !own.is_new(1));
+    assert!(rt; is(&close(&mut own, T), Answer::Done, None));
+    assert!(rt; own.issued(0)?.is_none());
     Ok(())
 }
 

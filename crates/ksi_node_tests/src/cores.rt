@@ -2,9 +2,9 @@ ghost use Rattle.std.specs.Prelude.{◌≡◌, IfOk};
 ghost use Rattle.ksi_synod.specs.Ballots.{IsBallot};
 ghost use Rattle.ksi_synod.specs.Rows.{OfBallot};
 
-use crate::{Answer, Core, NoMemory, Send, Step};
 use ksi_aggchain::Item;
 use ksi_calchain::climb_cal;
+use ksi_corenode::{Answer, Core, NoMemory, Send, Step};
 use ksi_imprint::{Compress, Imprint, Sha};
 use ksi_signature::Above;
 use ksi_split::Side;
@@ -183,53 +183,5 @@ fn a_restart_forgets_what_is_open(rt: HostRuntime) -> Result<(), Fail> {
     assert!(rt; sends(&core.ballot(T)?, &[0, 1, 2], &SynodMessage::NextBallot(32)));
     core.receive(1, T, &SynodMessage::NextBallot(68_719_476_721))?;
     assert!(rt; only(&core.ballot(T)?, Answer::Last));
-    Ok(())
-}
-
-#[test]
-fn a_repeated_vote_is_nothing(rt: HostRuntime) -> Result<(), Fail> {
-    let mut core = Core::<Sha>::new(rt.alloc(), 0, 3, T);
-    core.seal(T)?;
-    core.ballot(T)?;
-    let last = last_vote(16, None);
-    assert!(rt; only(&core.receive(1, T, &last)?, Answer::Done));
-    assert!(rt; only(&core.receive(1, T, &last)?, Answer::Nothing));
-    let begin = SynodMessage::BeginBallot(16, Imprint::ZERO);
-    assert!(rt; sends(&core.receive(0, T, &last)?, &[0, 1, 2], &begin));
-    Ok(())
-}
-
-#[test]
-fn a_reported_vote_is_begun_again(rt: HostRuntime) -> Result<(), Fail> {
-    let a = Sha::of(b"");
-    let mut core = Core::<Sha>::new(rt.alloc(), 2, 3, T);
-    core.submission(0, T, item(b"abc"))?;
-    core.seal(T)?;
-    assert!(rt; sends(&core.ballot(T)?, &[0, 1, 2], &SynodMessage::NextBallot(18)));
-    let vote = Some(Vote {
-        ballot: 16,
-        imprint: a,
-    });
-    assert!(rt; only(&core.receive(1, T, &last_vote(18, vote))?, Answer::Done));
-    let begin = SynodMessage::BeginBallot(18, a);
-    assert!(rt;
-        sends(
-            &core.receive(2, T, &last_vote(18, None))?,
-            &[0, 1, 2],
-            &begin
-        )
-    );
-    Ok(())
-}
-
-#[test]
-fn a_promise_stops_a_smaller_ballot(rt: HostRuntime) -> Result<(), Fail> {
-    let mut core = Core::<Sha>::new(rt.alloc(), 1, 3, T);
-    let first = core.receive(0, T, &SynodMessage::NextBallot(16))?;
-    assert!(rt; sends(&first, &[0], &last_vote(16, None)));
-    let second = core.receive(2, T, &SynodMessage::NextBallot(18))?;
-    assert!(rt; sends(&second, &[2], &last_vote(18, None)));
-    let begin = SynodMessage::BeginBallot(16, Imprint::ZERO);
-    assert!(rt; only(&core.receive(0, T, &begin)?, Answer::Nothing));
     Ok(())
 }

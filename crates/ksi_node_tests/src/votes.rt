@@ -1,7 +1,7 @@
 ghost use Rattle.std.specs.Prelude.{◌<◌, ◌≤◌};
 
-use crate::{Begun, Instance, LastVote, SynodMessage, Took, Vote, Voters};
 use ksi_imprint::Imprint;
+use ksi_synod::{Begun, Instance, LastVote, SynodMessage, Took, Vote, Voters};
 
 fn imprint(byte: u8) -> Imprint {
     Imprint::of_digest(&[byte; 32])

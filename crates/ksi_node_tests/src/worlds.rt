@@ -1,43 +1,26 @@
-ghost use Rattle.std.specs.Prelude.{◌≡◌, ◌<◌, ◌≤◌, ◌∷◌, [], length, IfOk, IsTrue};
-ghost use Rattle.ksi_schedule.specs.Plans.{IsPlan, InRange};
+ghost use Rattle.std.specs.Prelude.{◌<◌, length, IsTrue};
+ghost use Rattle.ksi_schedule.specs.Plans.{InRange};
 ghost use Rattle.ksi_schedule.specs.Events.{IsEvent};
 
-use crate::*;
 use ksi_aggchain::Item;
 use ksi_imprint::{Compress, Imprint, Sha};
-use ksi_signature::read;
+use ksi_schedule::read_schedule;
+use ksi_signature::{AggChain, read};
+use ksi_world::{Answer, Event, KeptSecond, Plan, World};
 use std::alloc::Global;
 use std::test::Fail;
 
 const T: u64 = 1700000000;
 
-/// Aggregator 0 submits to core 0, and aggregator 1 to aggregator 0.
-fn parents(alloc: Global) -> Result<Parents, NoMemory>
-    ensures { IfOk result (λ parents. parents ≡ Actor.Core 0 ∷ Actor.Aggregator 0 ∷ []) }
-{
-    let mut parents = Vec::new(alloc);
-    parents.push(Actor::Core(0))?;
-    parents.push(Actor::Aggregator(0))?;
-    Ok(Parents::from_vec(parents))
-}
-
-fn planned(cores: u8, parents: Parents) -> Plan
-    requires { IsPlan (record { cores = cores; start = T; parents = parents }) }
-{
-    Plan {
-        cores,
-        start: T,
-        parents,
+/// No event yet, of so many cores and two aggregators: 0 submits to core 0, and 1 to aggregator 0.
+fn world(alloc: Global, cores: u8) -> Result<World<Sha>, Fail> {
+    let text = format!(in alloc;
+        "ksi-schedule 1\ncores {cores}\nstart {T}\naggregator 0 parent c0\naggregator 1 parent a0\n"
+    )?;
+    match read_schedule(alloc, text.as_bytes()) {
+        Ok(schedule) => Ok(World::new(alloc, schedule.plan())?),
+        Err(_) => Err(Fail::from("no schedule")),
     }
-}
-
-/// A plan of so many cores and these aggregators.
-fn plan(alloc: Global, cores: u8) -> Result<Plan, NoMemory>
-    requires some { 1 ≤ cores }
-    requires few { cores ≤ 9 }
-{
-    let parents = parents(alloc)?;
-    Ok(planned(cores, parents))
 }
 
 fn is_second(plan: &Plan, second: u64) -> bool
@@ -96,30 +79,22 @@ fn answers(world: &mut World<Sha>, event: Event, answer: Answer, sent: usize) ->
     }
 }
 
-/// The root that core 0 publishes for the first second.
-fn published_root(world: &mut World<Sha>) -> Option<Imprint> {
+/// Whether core 0 publishes a root for the first second, and that second alone is published, with this root.
+fn publishes(world: &mut World<Sha>) -> bool {
     let event = Event::Publish(0, T);
     if !is_event(world, &event) {
-        return None;
+        return false;
     }
     match world.step(event) {
-        Ok(outcome) => root_in(&outcome.answer),
-        Err(_) => None,
+        Ok(outcome) => is_published(world, &outcome.answer),
+        Err(_) => false,
     }
 }
 
-/// Whether the first second alone is published, with this root.
-fn publishes(world: &World<Sha>, root: Imprint) -> bool {
-    match world.published() {
-        [one] => one.0 == T && one.1 == root,
+fn is_published(world: &World<Sha>, answer: &Answer) -> bool {
+    match (answer, world.published()) {
+        (Answer::Published(root), [one]) => one.0 == T && one.1 == *root,
         _ => false,
-    }
-}
-
-fn root_in(answer: &Answer) -> Option<Imprint> {
-    match answer {
-        Answer::Published(root) => Some(*root),
-        _ => None,
     }
 }
 
@@ -168,6 +143,15 @@ fn decides(world: &mut World<Sha>, first: u64) -> bool
     )
 }
 
+/// How many events, messages and requests there are.
+fn counts(world: &World<Sha>) -> (usize, usize, usize) {
+    (
+        world.events().len(),
+        world.wire().len(),
+        world.requests().len(),
+    )
+}
+
 /// How many bytes the issued signature of a number has.
 fn issued(world: &World<Sha>, number: u64) -> Option<usize> {
     match world.issued(number) {
@@ -176,19 +160,23 @@ fn issued(world: &World<Sha>, number: u64) -> Option<usize> {
     }
 }
 
-/// Whether chain `k` of the issued signature of a number has this index.
-fn has_index(alloc: Global, world: &World<Sha>, number: u64, k: usize, index: &[u64]) -> bool {
-    let bytes = match world.issued(number) {
-        Ok(Some(bytes)) => bytes,
-        _ => return false,
+/// Whether the chains of the issued signature of a number have these indexes.
+fn has_indexes(alloc: Global, world: &World<Sha>, number: u64, indexes: &[&[u64]]) -> bool {
+    let Ok(Some(bytes)) = world.issued(number) else {
+        return false;
     };
     match read(alloc, bytes.as_slice()) {
-        Ok(signature) => match signature.chains.as_slice().get(k) {
-            Some(chain) => chain.index.as_slice() == index,
-            None => false,
-        },
+        Ok(signature) => are_indexes(signature.chains.as_slice(), indexes),
         Err(_) => false,
     }
+}
+
+fn are_indexes(chains: &[AggChain], indexes: &[&[u64]]) -> bool {
+    let mut same = chains.len() == indexes.len();
+    for (chain, index) in chains.iter().zip(indexes.iter()) {
+        same = same && chain.index.as_slice() == *index;
+    }
+    same
 }
 
 /// Whether this one second is kept, with this root and one item of it.
@@ -214,7 +202,7 @@ fn is_alone(one: &KeptSecond, imprint: Imprint) -> bool {
 #[test]
 fn a_request_is_decided_issued_and_published(rt: HostRuntime) -> Result<(), Fail> {
     let a = Sha::of(b"");
-    let mut world = World::<Sha>::new(rt.alloc(), &plan(rt.alloc(), 1)?)?;
+    let mut world = world(rt.alloc(), 1)?;
     let taken = [
         (Event::Request(0, T, a), Answer::Number(0), 0),
         (Event::Close(0, T), Answer::Done, 1),
@@ -229,23 +217,18 @@ fn a_request_is_decided_issued_and_published(rt: HostRuntime) -> Result<(), Fail
         (Event::Deliver(6), Answer::Done, 0),
     ];
     assert!(rt; goes(&mut world, &answered));
-    let root = published_root(&mut world).unwrap_or(Imprint::ZERO);
-    assert!(rt; publishes(&world, root));
-    assert_eq!(rt; world.events().len(), 12);
-    assert_eq!(rt; world.wire().len(), 7);
-    assert_eq!(rt; world.requests().len(), 1);
-    assert_eq!(rt; issued(&world, 0), Some(615));
-    assert_eq!(rt; issued(&world, 1), None);
+    assert!(rt; publishes(&mut world));
+    assert_eq!(rt; counts(&world), (12, 7, 1));
+    assert_eq!(rt; (issued(&world, 0), issued(&world, 1)), (Some(615), None));
     assert!(rt; keeps(&world, a));
     assert!(rt; answers(&mut world, Event::Deliver(7), Answer::Nothing, 0));
-    assert_eq!(rt; world.events().len(), 13);
-    assert_eq!(rt; world.wire().len(), 7);
+    assert_eq!(rt; counts(&world), (13, 7, 1));
     Ok(())
 }
 
 #[test]
 fn a_response_goes_down_the_aggregators(rt: HostRuntime) -> Result<(), Fail> {
-    let mut world = World::<Sha>::new(rt.alloc(), &plan(rt.alloc(), 1)?)?;
+    let mut world = world(rt.alloc(), 1)?;
     let taken = [
         (Event::Request(1, T, Sha::of(b"")), Answer::Number(0), 0),
         (Event::Close(1, T), Answer::Done, 1),
@@ -263,11 +246,10 @@ fn a_response_goes_down_the_aggregators(rt: HostRuntime) -> Result<(), Fail> {
         (Event::Deliver(8), Answer::Nothing, 0),
     ];
     assert!(rt; goes(&mut world, &answered));
-    assert!(rt; has_index(rt.alloc(), &world, 0, 0, &[1, 3, 1]));
-    assert!(rt; has_index(rt.alloc(), &world, 0, 1, &[1, 3]));
-    assert!(rt; has_index(rt.alloc(), &world, 0, 2, &[1]));
-    assert!(rt; has_index(rt.alloc(), &world, 1, 0, &[1, 2]));
-    assert!(rt; has_index(rt.alloc(), &world, 1, 1, &[1]));
+    let below: [&[u64]; 3] = [&[1, 3, 1], &[1, 3], &[1]];
+    assert!(rt; has_indexes(rt.alloc(), &world, 0, &below));
+    let beside: [&[u64]; 2] = [&[1, 2], &[1]];
+    assert!(rt; has_indexes(rt.alloc(), &world, 1, &beside));
     Ok(())
 }
 
@@ -275,7 +257,7 @@ fn a_response_goes_down_the_aggregators(rt: HostRuntime) -> Result<(), Fail> {
 fn a_restart_forgets_what_is_open(rt: HostRuntime) -> Result<(), Fail> {
     let a = Sha::of(b"");
     let u = T + 1;
-    let mut world = World::<Sha>::new(rt.alloc(), &plan(rt.alloc(), 1)?)?;
+    let mut world = world(rt.alloc(), 1)?;
     let rows = [
         (Event::Request(0, T, a), Answer::Number(0), 0),
         (Event::RestartAggregator(0), Answer::Done, 0),
@@ -296,7 +278,7 @@ fn a_restart_forgets_what_is_open(rt: HostRuntime) -> Result<(), Fail> {
 
 #[test]
 fn a_lower_ballot_comes_too_late(rt: HostRuntime) -> Result<(), Fail> {
-    let mut world = World::<Sha>::new(rt.alloc(), &plan(rt.alloc(), 3)?)?;
+    let mut world = world(rt.alloc(), 3)?;
     let rows = [
         (Event::Seal(0, T), Answer::Done, 0),
         (Event::Seal(2, T), Answer::Done, 0),

@@ -1,7 +1,7 @@
 // Signatures taken on to a later second, and audited.
-use crate::tests::{bytes, ends, words};
-use crate::{Status, ksi};
+use crate::text::{bytes, ends, words};
 use ksi_ports::{MemFiles, MemSink};
+use ksi_top::{Status, ksi};
 use std::alloc::Global;
 use std::test::Fail;
 

@@ -8,4 +8,6 @@ mod later_files;
 #[cfg(test)]
 mod runs;
 #[cfg(test)]
+mod text;
+#[cfg(test)]
 mod whole_paths;

@@ -1,4 +1,0 @@
-use Rattle.ksi_aggtree.proofs.tests.+plain_path.Given as goal
-
-abbrev pub decreases-plain_path : goal.decreases-plain_path
-decreases-plain_path l = l.n
