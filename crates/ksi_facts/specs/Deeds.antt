@@ -66,11 +66,13 @@ open_items (Did t (Closed items) ∷ older) = []
 open_items (Did t (Accepted item) ∷ older) = open_items older ++ item ∷ []
 open_items (_ ∷ older) = open_items older
 
+-- the items that a core sealed
 abbrev pub sealed_items : List Deed → Option (List Entry)
 sealed_items [] = None
 sealed_items (Did t (Sealed items) ∷ older) = Some items
 sealed_items (_ ∷ older) = sealed_items older
 
+-- the items that an aggregator closed
 abbrev pub closed_items : List Deed → Option (List Entry)
 closed_items [] = None
 closed_items (Did t (Closed items) ∷ older) = Some items
@@ -94,11 +96,13 @@ greatest_vote [] = None
 greatest_vote (Did t (Cast cast) ∷ older) = greater_vote (greatest_vote older) (Some cast)
 greatest_vote (_ ∷ older) = greatest_vote older
 
+-- the root that a core holds
 abbrev pub held_root : List Deed → Option (List ℕ)
 held_root [] = None
 held_root (Did t (Holds root) ∷ older) = Some root
 held_root (_ ∷ older) = held_root older
 
+-- the response that an aggregator kept
 abbrev pub kept_response : List Deed → Option Above
 kept_response [] = None
 kept_response (Did t (Answered above) ∷ older) = Some above
@@ -106,6 +110,7 @@ kept_response (_ ∷ older) = kept_response older
 
 -- WHAT AN EVENT IS SEEN TO BE
 
+-- it was done where the answer is Done
 abbrev pub where_done : Answer → What → List What
 where_done answers.Done what = what ∷ []
 where_done _ what = []
@@ -115,6 +120,7 @@ abbrev pub numbered : (imprint : List ℕ) → Answer → List What
 numbered imprint (answers.Number n) = Accepted (record { origin = origins.Request n; item = record { imprint = imprint; level = 0 } }) ∷ []
 numbered imprint _ = []
 
+-- what the first message sent says
 abbrev pub first : (sent : List Message) → Option Content
 first [] = None
 first (m ∷ ms) = Some m.content
@@ -129,7 +135,7 @@ abbrev pub decides : (sent : Option Content) → (held : Option (List ℕ)) → 
 decides (Some (contents.Synod (votes.Success root))) None = Holds root ∷ []
 decides _ _ = []
 
--- by a message that is delivered
+-- what a message that is delivered makes its addressee do, which held this root before
 abbrev pub takes : (sender : Actor) → Content → Answer → (sent : List Message) → (held : Option (List ℕ)) → List What
 takes (actors.Aggregator from) (contents.Submission item) answer sent old = where_done answer (Accepted (record { origin = origins.Aggregator from; item = item }))
 takes (actors.Core from) (contents.Synod (votes.NextBallot ballot)) answer sent old = where_done answer (Promised ballot)
@@ -140,15 +146,17 @@ takes (actors.Core from) (contents.Synod (votes.Success root)) answer sent old =
 takes sender (contents.Response above) answer sent old = where_done answer (Answered above)
 takes _ _ _ _ _ = []
 
--- where the actor is this one
+-- whether two actors are one
 abbrev pub is_actor : Actor → Actor → Bool
 is_actor (actors.Core j) (actors.Core i) = j == i
 is_actor (actors.Aggregator k) (actors.Aggregator i) = k == i
 is_actor _ _ = false
 
+-- these are deeds of the actor where it is this one
 abbrev pub own : Actor → Actor → (second : ℕ) → List What → List Deed
 own actor this t whats = if is_actor actor this then map (Did t) whats else []
 
+-- what an actor does where this message, if any, is delivered
 abbrev pub receives : Actor → Option Message → Answer → (sent : List Message) → (before : List Deed) → List Deed
 receives actor None answer sent before = []
 receives actor (Some m) answer sent before = own actor m.addressee m.second (takes m.sender m.content answer sent (held_root (facts_of (of_second m.second before))))
@@ -164,7 +172,7 @@ does actor (events.RestartCore j) m answer sent before = if is_actor actor (acto
 does actor (events.RestartAggregator k) m answer sent before = if is_actor actor (actors.Aggregator k) then Restarted ∷ [] else []
 does actor _ m answer sent before = []
 
--- all that it did
+-- all that an actor did
 unfoldable pub deeds : Actor → List Seen → List Deed
 deeds actor [] = []
 deeds actor (x ∷ past) = does actor x.event x.taken x.answer x.sent (deeds actor past) ++ deeds actor past

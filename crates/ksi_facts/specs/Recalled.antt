@@ -1,12 +1,14 @@
 -- What a world keeps, as a history has it.
-use Rattle.std.specs.Prelude.{◌≡◌, ℕ, List, [], option_map, Option, Some, None}
+use Rattle.std.specs.Prelude.{◌≡◌, ◌++◌, ℕ, List, [], option_map, Option, Some, None}
 use Rattle.ksi_aggtree.specs.declared.entries.Entry.{Entry}
 use Rattle.ksi_aggtree.specs.Entries.{candidate_of}
 use Rattle.ksi_synod.specs.Voters.{is_voter, is_flagged}
 use Rattle.ksi_synod.specs.VoteState.{Hand}
 use Rattle.ksi_corenode.specs.SecondState.{SecondState, voters_of}
 use Rattle.ksi_aggregator.specs.Rows.{RoundState}
+use Rattle.ksi_schedule.specs.declared.actor.Actor.{Actor}
 use Rattle.ksi_schedule.specs.declared.actor.Actor.TheVariants as actors
+use Rattle.ksi_schedule.specs.declared.event.Event.{Event}
 use Rattle.ksi_schedule.specs.Events.{History}
 use Rattle.ksi_world.specs.Histories.{world_of}
 use Rattle.ksi_facts.specs.Seen.{Seen, seen}
@@ -59,7 +61,9 @@ pub record IsRound (past : List Seen) (aggregator second : ℕ) (r : RoundState)
   pub open_items : r.open_items ≡ open_items (of_second second (deeds (actors.Aggregator aggregator) past))
   pub shut : (items : List Entry) → r.closed ≡ Some items → r.open_items ≡ []
 
--- whatever any actor keeps after a history is what was seen
+-- whatever any actor keeps after a history is what was seen, and of its facts none is lost
 pub record IsRecalled (image : List ℕ → List ℕ) (history : History) : Type 0 where
   pub seconds : (core second : ℕ) → IsSecond image (seen image history.plan history.events) history.plan.cores core second ((world_of image history).seconds core second)
   pub rounds : (aggregator second : ℕ) → IsRound (seen image history.plan history.events) aggregator second ((world_of image history).rounds aggregator second)
+  pub grow : (actor : Actor) (before later : List Event) → history.events ≡ before ++ later
+      → (more : List Deed) × (facts actor (seen image history.plan history.events) ≡ more ++ facts actor (seen image history.plan before))

@@ -14,11 +14,13 @@ pub record Seen : Type 0 where
   pub answer : Answer
   pub sent : List Message
 
+-- the message that an event takes from the wire
 abbrev pub taken_from : (wire : List Message) → Event → Option Message
 taken_from wire (events.Deliver number) = slice_get wire number
 taken_from wire _ = None
 
 module _ (image : List ℕ → List ℕ) (plan : PlanState) where
+  -- an event in a world: of the world only the wire and the outcome are seen
   abbrev pub seen_of : WorldState → Event → Seen
   seen_of w e = record {
     event = e;
@@ -27,6 +29,7 @@ module _ (image : List ℕ → List ℕ) (plan : PlanState) where
     sent = drop (length w.wire) (happens image plan w e).world.wire;
   }
 
+  -- these events one after the other, behind what was seen before
   abbrev pub seen_from : WorldState → (past : List Seen) → List Event → List Seen
   seen_from w past [] = past
   seen_from w past (e ∷ es) = seen_from (happens image plan w e).world (seen_of w e ∷ past) es

@@ -18,6 +18,7 @@ pub record Since : Type 0 where
   pub ballot : ℕ
   pub heard : List Reply
 
+-- with one reply more
 abbrev pub with_reply : Reply → Since → Since
 with_reply reply s = record { ballot = s.ballot; heard = reply ∷ s.heard }
 
@@ -37,6 +38,7 @@ pub record Told : Type 0 where
   pub vote : Option Vote
 
 module _ (voters : List ℕ) (ballot : ℕ) where
+  -- the LastVote that count
   abbrev pub told_by : (from : ℕ) → SynodMessage → Option Told
   told_by from (votes.LastVote l) = if (ballot == l.ballot) && is_voter voters from then Some (record { from = from; vote = l.vote }) else None
   told_by from _ = None
@@ -70,6 +72,7 @@ pub record Moment : Type 0 where
   pub by_then : List Reply
   pub later : List Reply
 
+-- the earlier moment, or now where it holds of all that came
 abbrev pub or_now : Bool → (all : List Reply) → Reply → Option Moment → Option Moment
 or_now holds all h None = if holds then Some (record { by_then = all; later = [] }) else None
 or_now holds all h (Some m) = Some (record { by_then = m.by_then; later = h ∷ m.later })
@@ -82,7 +85,7 @@ first_moment holds (h ∷ older) = or_now (holds (h ∷ older)) (h ∷ older) h 
 abbrev pub begun : (voters : List ℕ) → Since → Option Moment
 begun voters s = first_moment (λ hs. are_most voters (told voters s.ballot hs)) s.heard
 
--- what counts of LastVote, and of Voted
+-- the LastVote that count: those by that moment, or all so far. The Voted that count: those after it
 abbrev pub told_until : (voters : List ℕ) → Since → List Told
 told_until voters s = told voters s.ballot (unwrap_or (option_map (λ (m : Moment). m.by_then) (begun voters s)) s.heard)
 

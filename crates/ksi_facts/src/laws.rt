@@ -63,7 +63,8 @@ pub fn hand_is_since()
         ((world_of image history).seconds core second).vote.hand }
 {}
 
-/// All of these together: whatever an actor keeps after a history is what was seen of it.
+/// All of these together: whatever an actor keeps after a history is what was seen of it, and its facts are those of each
+/// earlier moment and more.
 pub fn history_is_recalled()
     ensures { (image : List ℕ → List ℕ) (history : History) → IsPlan history.plan → IsRecalled image history }
 {}
