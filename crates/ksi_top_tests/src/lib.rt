@@ -4,6 +4,8 @@
 #![tactic(auto)]
 
 #[cfg(test)]
+mod generated;
+#[cfg(test)]
 mod later_files;
 #[cfg(test)]
 mod runs;
