@@ -1,0 +1,6 @@
+use Rattle.std.proofs.Common.{drop}
+use Rattle.ksi_schedule.specs.Events.{AskForImprints}
+use Rattle.ksi_drill.proofs.asking.asked_are_imprints.Given as goal
+
+abbrev pub invariant-loop-event : goal.invariant-loop-event
+invariant-loop-event l = AskForImprints (drop l.event-index l.events) → AskForImprints l.events

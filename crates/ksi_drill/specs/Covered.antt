@@ -1,0 +1,17 @@
+-- The greatest covered second of a journal.
+use Rattle.std.specs.Prelude.{ℕ, zero, suc, ◌+◌, List, [], ◌∷◌, length, Option, Some, None}
+use Rattle.ksi_journal.specs.Journal.{Contents}
+use Rattle.ksi_journal.specs.Calendar.{kept_root, roots_from}
+
+-- the last of so many seconds from the start on, none where there are none
+abbrev pub last_from : (start count : ℕ) → Option ℕ
+last_from start zero = None
+last_from start (suc before) = Some (start + before)
+
+-- the last second of the journal's calendar, none where no second is covered
+unfoldable pub greatest_covered : Contents → Option ℕ
+greatest_covered journal = last_from journal.start (length (roots_from journal.start journal.seconds))
+
+-- one publication: the second, with the root of the journal's calendar to it
+abbrev pub published : (List ℕ → List ℕ) → Contents → ℕ → List (ℕ × List ℕ)
+published image journal p = (p, kept_root image journal p) ∷ []

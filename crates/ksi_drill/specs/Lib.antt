@@ -1,0 +1,4 @@
+pub mod Covered
+pub mod Trials
+pub mod Drill
+pub mod Taken
