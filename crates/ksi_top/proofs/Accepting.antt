@@ -46,8 +46,8 @@ module _ (signature_read : (bytes : List ℕ) (signature : Signature) → AreByt
       → verify_run signature hash publications held ≡ judged (verdict imprint_of read hash pairs)
   unfolding verify_run loaded
   verified signature hash publications held read pairs bytes is are few =
-      rw (within_limit signature_limit 1 (content held signature) (signature_short (content held signature) read is), (signature_read (content held signature) read bytes).2 is,
-      within_limit file_limit 3 (content held publications) few, (publications_read (content held publications) pairs).2 are) refl
+      rw (within_limit signature_limit 1 (content held signature) (signature_short (content held signature) read is), (signature_read (content held signature) read bytes).1 is,
+      within_limit file_limit 3 (content held publications) few, (publications_read (content held publications) pairs).1 are) refl
 
   lasting : (signature hash publications : List ℕ) (held : Held) (second : ℕ) → (d : IsTakenFrom (content held signature) hash (content held publications) second)
       → (l : Lasts imprint_of d.history (journal_of imprint_of d.history) d.number d.text) → l.asked ≡ d.asked
