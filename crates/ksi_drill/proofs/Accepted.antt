@@ -11,7 +11,6 @@ use Rattle.ksi_signature.specs.declared.signature.Signature.{Signature}
 use Rattle.ksi_signature.specs.File.{IsSignature}
 use Rattle.ksi_signature.specs.Reading.{signature_at}
 use Rattle.ksi_publications.specs.Finding.{find}
-use Rattle.ksi_verifier.specs.Verdict.{verdict}
 use Rattle.ksi_extender.specs.Accepted.{taken_on}
 use Rattle.ksi_schedule.specs.Events.{History}
 use Rattle.ksi_world.specs.declared.outcome.Asked.{Asked}
@@ -20,7 +19,7 @@ use Rattle.ksi_world.specs.Records.{issued_of}
 use Rattle.ksi_journal.specs.Journal.{Contents}
 use Rattle.ksi_journal.specs.Calendar.{IsCovered, calendar_of, kept_root, roots_from}
 use Rattle.ksi_history.specs.Joined.{Joined, Lasts}
-use Rattle.ksi_history.specs.Lasting.{LastsTo, Publish}
+use Rattle.ksi_history.specs.Lasting.{LastsTo}
 use Rattle.ksi_drill.specs.declared.trial.Trial.{Trial}
 use Rattle.ksi_drill.specs.Covered.{greatest_covered, last_from, published}
 use Rattle.ksi_drill.specs.Drill.{count, tally_of}

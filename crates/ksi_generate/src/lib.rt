@@ -6,8 +6,8 @@
 //! block SHA-256 of `ksi`, the number and the block's number (`specs/Stream`). Message numbers are found by running the
 //! events through a world as they are made.
 //!
-//! Where all messages since an event are delivered, "until none is left" is bounded: at most 500 are looked at. No run
-//! that was seen comes near this (tests show it for some numbers), and it is not proved that none does. With the bound
+//! Where all messages since an event are delivered, "until none is left" is bounded: at most 500 are looked at. In the
+//! runs that tests look at, fewer are sent in any second; that none comes to the bound is not proved. With the bound
 //! there are at most 904,192 events, so each number has a schedule.
 //!
 //! ```text

@@ -1,7 +1,6 @@
 -- What a core answers to `publish` is the root of the calendar of what is kept.
 use Rattle.std.proofs.Common.{◌≡◌, ℕ, ◌<◌, ◌≤◌, List, ◌++◌, refl, sym, ap, ◌∙◌, arith, Option, Some, None}
 use Rattle.ksi_calendar.specs.Calendar.{Seconds, calendar_root}
-use Rattle.ksi_signature.specs.declared.answer.Answer.{Answer}
 use Rattle.ksi_signature.specs.declared.answer.Answer.TheVariants as answers
 use Rattle.ksi_corenode.specs.Held.{Held, first_missing, held_root}
 use Rattle.ksi_corenode.specs.Rows.{publish_answer, publish_where}

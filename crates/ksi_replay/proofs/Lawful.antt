@@ -4,7 +4,7 @@ use Rattle.std.specs.List.{AllByRecursion}
 use Rattle.std.proofs.lemmas.List.{append_assoc}
 use Rattle.ksi_imprint.specs.Imprints.{IsImprint, zero_imprint}
 use Rattle.ksi_aggchain.specs.declared.item.Item.{Item}
-use Rattle.ksi_aggtree.specs.Rounds.{IsRound, item_at, tree_of}
+use Rattle.ksi_aggtree.specs.Rounds.{item_at, tree_of}
 use Rattle.ksi_schedule.specs.declared.event.Event.{Event}
 use Rattle.ksi_schedule.specs.Plans.{PlanState}
 use Rattle.ksi_schedule.specs.Events.{IsEvent, AreEvents}

@@ -1,4 +1,4 @@
-use Rattle.std.proofs.Common.{◌≡◌, ◌++◌, ◌-◌, length}
+use Rattle.std.proofs.Common.{◌≡◌, ◌++◌, ◌-◌}
 use Rattle.std.specs.List.{AllByRecursion}
 use Rattle.ksi_world.specs.Histories.{world_of}
 use Rattle.ksi_world.specs.Records.{issued_all, issued_among}
