@@ -1,10 +1,10 @@
 -- What was issued, and taken on, is accepted.
-use Rattle.std.proofs.Common.{◌≡◌, ◌⊎◌, ℕ, ◌+◌, ◌≤◌, List, ◌∷◌, length, Some, Ok, Result, refl, sym, ap, subst, inl, inr, arith, ◌∙◌}
-use Rattle.std.specs.Prelude.{slice_get, ◌↔◌, nat_lt}
+use Rattle.std.proofs.Common.{◌≡◌, ℕ, ◌≤◌, List, length, Ok, refl, sym, ap, subst, inl, inr, arith, ◌∙◌}
+use Rattle.std.specs.Prelude.{◌↔◌}
 use Rattle.std.proofs.lemmas.Bool.{le-ltb}
 use Rattle.ksi_imprint.specs.Imprints.{imprint_of}
 use Rattle.ksi_ports.specs.Stored.{Held}
-use Rattle.ksi_tlv.specs.Spelling.{AreBytes, Spells}
+use Rattle.ksi_tlv.specs.Spelling.{AreBytes}
 use Rattle.ksi_signature.specs.declared.signature.Signature.{Signature}
 use Rattle.ksi_signature.specs.File.{IsSignature}
 use Rattle.ksi_signature.specs.Reading.{signature_at}
@@ -14,11 +14,9 @@ use Rattle.ksi_verifier.specs.declared.verdict.Verdict.TheVariants.{Accepted}
 use Rattle.ksi_verifier.specs.Verdict.{verdict}
 use Rattle.ksi_history.specs.Joined.{Lasts}
 use Rattle.ksi_history.specs.Lasting.{LastsTo}
-use Rattle.ksi_extender.specs.Extended.{extended}
 use Rattle.ksi_extender.specs.Accepted.{taken_on}
 use Rattle.ksi_replay.specs.Journals.{journal_of}
 use Rattle.ksi_world.specs.declared.outcome.Asked as requests
-use Rattle.ksi_top.specs.declared.report.Report.{Report}
 use Rattle.ksi_top.specs.Loading.{content, loaded, within, signature_limit, file_limit}
 use Rattle.ksi_top.specs.Verify.{judged, verify_run}
 use Rattle.ksi_schedule.specs.Events.{History}
@@ -38,16 +36,19 @@ signature_short bytes signature is = elim is.spelled [
 ]
 
 module _ (signature_read : (bytes : List ℕ) (signature : Signature) → AreBytes bytes → (signature_at bytes ≡ Ok signature) ↔ IsSignature bytes signature)
-  (publications_read : (bytes : List ℕ) (pairs : List (ℕ × List ℕ)) → (publications_at bytes ≡ Ok pairs) ↔ IsPublications bytes pairs) where
-
+    (publications_read : (bytes : List ℕ) (pairs : List (ℕ × List ℕ)) → (publications_at bytes ≡ Ok pairs) ↔ IsPublications bytes pairs) where
   -- what is read of files that are in their grammars, and within their limits
   verified : (signature hash publications : List ℕ) (held : Held) (read : Signature) (pairs : List (ℕ × List ℕ)) → AreBytes (content held signature) → IsSignature (content held signature) read
       → IsPublications (content held publications) pairs → length (content held publications) ≤ file_limit
       → verify_run signature hash publications held ≡ judged (verdict imprint_of read hash pairs)
   unfolding verify_run loaded
   verified signature hash publications held read pairs bytes is are few =
-      rw (within_limit signature_limit 1 (content held signature) (signature_short (content held signature) read is), (signature_read (content held signature) read bytes).1 is,
-      within_limit file_limit 3 (content held publications) few, (publications_read (content held publications) pairs).1 are) refl
+      rw (
+        within_limit signature_limit 1 (content held signature) (signature_short (content held signature) read is),
+        (signature_read (content held signature) read bytes).1 is,
+        within_limit file_limit 3 (content held publications) few,
+        (publications_read (content held publications) pairs).1 are,
+      ) refl
 
   lasting : (signature hash publications : List ℕ) (held : Held) (second : ℕ) → (d : IsTakenFrom (content held signature) hash (content held publications) second)
       → (l : Lasts imprint_of d.history (journal_of imprint_of d.history) d.number d.text) → l.asked ≡ d.asked
