@@ -15,7 +15,7 @@ fn the_schedule_of_seven_is_made_run_and_drilled(rt: HostRuntime) -> Result<(), 
         ("make 7 f", "made 11012"),
         (
             "replay f j",
-            "events 11012 messages MM seconds 256 issued 330 published 16",
+            "events 11012 messages 6289 seconds 256 issued 330 published 16",
         ),
         (
             "drill 7",
