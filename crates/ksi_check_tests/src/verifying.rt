@@ -36,11 +36,11 @@ fn judged_both(
     judged(alloc, &whole, 6, published)
 }
 
-/// What the chains of a signature lead to, and their time.
-fn aggregated(alloc: Global, row: &SignatureRow<'_>) -> Option<Aggregated> {
-    let bytes = bytes_of(alloc, row).ok()?;
-    let signature = read(alloc, bytes.as_slice()).ok()?;
-    aggregate::<Tiny>(&signature).ok()
+/// Whether the chains of a signature lead to this item in this second.
+fn leads_to(alloc: Global, row: &SignatureRow<'_>, to: Aggregated) -> Result<bool, SigFault> {
+    let bytes = bytes_of(alloc, row)?;
+    let signature = read(alloc, bytes.as_slice())?;
+    Ok(aggregate::<Tiny>(&signature) == Ok(to))
 }
 
 #[test]
@@ -58,8 +58,8 @@ fn accepts_the_second_of_the_sides(rt: HostRuntime) {
         level: 4,
     };
     let chains = [LOW, HIGH];
-    let led = aggregated(rt.alloc(), &row(&chains));
-    assert_eq!(rt; led, Some(Aggregated { time: 2, item }));
+    let led = leads_to(rt.alloc(), &row(&chains), Aggregated { time: 2, item });
+    assert_eq!(rt; led, Ok(true));
 }
 
 /// The first check that fails where the given hash is 06 and 26 is published for second 5.
