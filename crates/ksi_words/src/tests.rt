@@ -55,6 +55,8 @@ fn told(alloc: Global, command: &Command<'_>) -> Result<String, Fail> {
             };
             Ok(format!(in alloc; "audit {journal} {signature} {digits} {publications}")?)
         }
+        Command::Make(number, out) => Ok(format!(in alloc; "make {number} {out}")?),
+        Command::Drill(number) => Ok(format!(in alloc; "drill {number}")?),
     }
 }
 
@@ -91,6 +93,13 @@ fn each_line_of_words_has_its_answer(rt: HostRuntime) -> Result<(), Fail> {
         ("extend j s 9223372036854775808 t", "bad word 3"),
         ("extend j s # t", "bad word 3"),
         ("extend j s 1", "words refused"),
+        ("make 007 f", "make 7 f"),
+        ("make f 7", "bad word 1"),
+        ("make 7", "words refused"),
+        ("drill 18446744073709551615", "drill 18446744073709551615"),
+        ("drill 18446744073709551616", "bad word 1"),
+        ("drill", "words refused"),
+        ("drill 7 f", "words refused"),
         ("verify s # p", "verify s # p"),
         ("verify s ^ p", "verify s # p"),
         ("verify verify # help", "verify verify # help"),
@@ -126,7 +135,6 @@ fn each_line_of_words_has_its_answer(rt: HostRuntime) -> Result<(), Fail> {
         ("audit j s 12 p", "bad word 3"),
         ("audit j s #", "words refused"),
         ("audit j s # p q", "words refused"),
-        ("make 1 f", "words refused"),
         (" verify s # p", "words refused"),
         ("-", "words refused"),
         ("--", "words refused"),
