@@ -360,6 +360,7 @@ module _ (image : List ℕ → List ℕ) (plan : PlanState) (is : IsPlan plan) w
       let s = (after image plan es).seconds j t in
       let kept : IsKept image (of_second t (facts_of (deeds (actors.Core j) (seen image plan es)))) s = subst (λ (ds : List Deed). IsKept image ds s) (sym (facts_for t (deeds (actors.Core j) (seen image plan es)))) so.kept in
       record {
+        voters = so.voters_are;
         kept = kept;
         open_items = so.open_is;
         shut = so.shut;

@@ -1,5 +1,5 @@
 -- What a world keeps, as a history has it.
-use Rattle.std.specs.Prelude.{◌≡◌, ◌++◌, ℕ, List, [], option_map, Option, Some, None}
+use Rattle.std.specs.Prelude.{◌≡◌, ◌++◌, ◌∷◌, ℕ, List, [], option_map, Option, Some, None}
 use Rattle.ksi_aggtree.specs.declared.entries.Entry.{Entry}
 use Rattle.ksi_aggtree.specs.Entries.{candidate_of}
 use Rattle.ksi_synod.specs.Voters.{is_voter, is_flagged}
@@ -9,6 +9,7 @@ use Rattle.ksi_aggregator.specs.Rows.{RoundState}
 use Rattle.ksi_schedule.specs.declared.actor.Actor.{Actor}
 use Rattle.ksi_schedule.specs.declared.actor.Actor.TheVariants as actors
 use Rattle.ksi_schedule.specs.declared.event.Event.{Event}
+use Rattle.ksi_schedule.specs.declared.event.Event.TheVariants.{RestartCore, RestartAggregator}
 use Rattle.ksi_schedule.specs.Events.{History}
 use Rattle.ksi_world.specs.Histories.{world_of}
 use Rattle.ksi_facts.specs.Seen.{Seen, seen}
@@ -47,9 +48,10 @@ IsInHand voters candidate None None = Unit {0}
 IsInHand voters candidate (Some s) (Some h) = IsHand voters candidate s h
 IsInHand voters candidate _ _ = ⊥
 
--- a core's second, and an aggregator's round, are what was seen of them. Nothing is open once it is sealed or closed, and
+-- a core's second, and an aggregator's round, are what was seen of them. Its voters are those of the second. Nothing is open once it is sealed or closed, and
 -- the ballot in hand is the one tried last
 pub record IsSecond (image : List ℕ → List ℕ) (past : List Seen) (cores core second : ℕ) (s : SecondState) : Type 0 where
+  pub voters : s.vote.voters ≡ voters_of cores second
   pub kept : IsKept image (of_second second (facts (actors.Core core) past)) s
   pub open_items : s.open_items ≡ open_items (of_second second (deeds (actors.Core core) past))
   pub shut : (items : List Entry) → s.sealed ≡ Some items → s.open_items ≡ []
@@ -61,9 +63,11 @@ pub record IsRound (past : List Seen) (aggregator second : ℕ) (r : RoundState)
   pub open_items : r.open_items ≡ open_items (of_second second (deeds (actors.Aggregator aggregator) past))
   pub shut : (items : List Entry) → r.closed ≡ Some items → r.open_items ≡ []
 
--- whatever any actor keeps after a history is what was seen, and of its facts none is lost
+-- whatever any actor keeps after a history is what was seen; of its facts none is lost, and a restart adds none
 pub record IsRecalled (image : List ℕ → List ℕ) (history : History) : Type 0 where
   pub seconds : (core second : ℕ) → IsSecond image (seen image history.plan history.events) history.plan.cores core second ((world_of image history).seconds core second)
   pub rounds : (aggregator second : ℕ) → IsRound (seen image history.plan history.events) aggregator second ((world_of image history).rounds aggregator second)
   pub grow : (actor : Actor) (before later : List Event) → history.events ≡ before ++ later
       → (more : List Deed) × (facts actor (seen image history.plan history.events) ≡ more ++ facts actor (seen image history.plan before))
+  pub core_restarts : (actor : Actor) (core : ℕ) → facts actor (seen image history.plan (history.events ++ RestartCore core ∷ [])) ≡ facts actor (seen image history.plan history.events)
+  pub aggregator_restarts : (actor : Actor) (aggregator : ℕ) → facts actor (seen image history.plan (history.events ++ RestartAggregator aggregator ∷ [])) ≡ facts actor (seen image history.plan history.events)

@@ -1,6 +1,7 @@
 -- The headline: what the result of a command means, over the files that were held.
 use Rattle.std.specs.Prelude.{◌≡◌, ◌≢◌, ◌<◌, ◌≤◌, ◌++◌, ℕ, List, slice_get, Some, Ok}
 use Rattle.ksi_imprint.specs.Imprints.{imprint_of, zero_imprint}
+use Rattle.ksi_tlv.specs.Spelling.{AreBytes}
 use Rattle.ksi_ports.specs.Stored.{Held}
 use Rattle.ksi_signature.specs.declared.signature.Signature.{Signature}
 use Rattle.ksi_signature.specs.File.{IsSignature}
@@ -83,6 +84,7 @@ pub record IsTakenOn (journal : Contents) (signature : List ℕ) (p : ℕ) (out 
   pub text : List ℕ
   pub saved : report.saved ≡ Some (out, text)
   pub is : extended imprint_of journal signature p ≡ Ok text
+  pub bytes : AreBytes text
   pub extended : IsExtended imprint_of journal signature p text
 
 pub record IsExtension (journal signature : List ℕ) (p : ℕ) (out : List ℕ) (report : Report) : Type 0 where

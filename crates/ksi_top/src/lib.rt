@@ -30,6 +30,7 @@ mod replay;
 mod report;
 mod sign;
 mod status;
+mod text;
 mod top;
 mod verify;
 

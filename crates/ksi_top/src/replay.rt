@@ -2,7 +2,6 @@
 ghost use Rattle.std.specs.Prelude.{◌≡◌, ◌≤◌, ◌+◌, IsTrue, IfOk};
 ghost use Rattle.ksi_top.specs.Reports.{Reports, Means, WhereRead};
 ghost use Rattle.ksi_imprint.specs.Imprints.{imprint_of};
-ghost use Rattle.ksi_tlv.specs.Spelling.{AreBytes};
 ghost use Rattle.ksi_journal.specs.File.{IsJournalFile};
 ghost use Rattle.ksi_journal.specs.Written.{journal_text};
 ghost use Rattle.ksi_replay.specs.Journals.{journal_of};
@@ -20,6 +19,7 @@ use crate::printed::Word::{Number, Text};
 use crate::printed::print;
 use crate::reading::read_schedule;
 use crate::report::{Halt, Report, Saved};
+use crate::text::is_text;
 use ksi_imprint::{Bytes, NoMemory, Sha};
 use ksi_journal::Journal;
 use ksi_ports::Files;
@@ -77,12 +77,6 @@ fn are_texts(issued: &[(u64, Bytes)])
     'texts: for signature in issued {
         is_text(signature.1.as_slice());
     }
-}
-
-fn is_text(text: &[u8])
-    ensures { AreBytes text.now }
-{
-    let _bytes = text;
 }
 
 fn saving(

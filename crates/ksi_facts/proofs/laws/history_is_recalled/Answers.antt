@@ -3,7 +3,7 @@ use Rattle.ksi_schedule.specs.declared.event.Event.{Event}
 use Rattle.ksi_facts.specs.Seen.{seen}
 use Rattle.ksi_facts.specs.Deeds.{Deed, facts}
 use Rattle.ksi_facts.proofs.Recalling.{after_seconds, after_rounds}
-use Rattle.ksi_facts.proofs.Growing.{facts_grow}
+use Rattle.ksi_facts.proofs.Growing.{facts_grow, core_adds_none, aggregator_adds_none}
 use Rattle.ksi_facts.proofs.laws.history_is_recalled.Goals as goal
 
 pub returns : goal.returns
@@ -12,4 +12,6 @@ returns c = λ image h is. record {
   rounds = λ aggregator second. after_rounds image h.plan is h.events aggregator second;
   grow = λ actor before later same.
       subst (λ (es : List Event). (more : List Deed) × (facts actor (seen image h.plan es) ≡ more ++ facts actor (seen image h.plan before))) (sym same) (facts_grow image h.plan actor before later);
+  core_restarts = λ actor core. core_adds_none image h.plan actor h.events core;
+  aggregator_restarts = λ actor aggregator. aggregator_adds_none image h.plan actor h.events aggregator;
 }
