@@ -7,7 +7,7 @@ ghost use Rattle.ksi_aggtree.specs.Paths.{chain_of, sides_from_top};
 
 use crate::join::AggregationJoin;
 use crate::laws::one_chain;
-use crate::links::Links;
+use crate::item_path::ItemPath;
 use ksi_aggchain::Item;
 use ksi_imprint::{Compress, Imprint, NoMemory};
 use ksi_rows::{Rows, Steps};
@@ -115,7 +115,7 @@ impl<C: Compress> Builder<C> {
     ///
     /// # Errors
     /// `NoMemory`: all is as it was.
-    pub fn path(&self, k: usize) -> Result<Links, NoMemory>
+    pub fn path(&self, k: usize) -> Result<ItemPath, NoMemory>
         requires { k < length self.now }
         ensures links { IfOk result (λ links. links ≡ chain_of C.image self.now k) }
         ensures climbs { IfOk result (λ links.
@@ -130,7 +130,7 @@ impl<C: Compress> Builder<C> {
     ///
     /// # Errors
     /// `NoMemory`: all is as it was, but for the steps that were taken.
-    pub fn path_counted<L: Ledger>(&self, k: usize, steps: &mut Steps<L>) -> Result<Links, NoMemory>
+    pub fn path_counted<L: Ledger>(&self, k: usize, steps: &mut Steps<L>) -> Result<ItemPath, NoMemory>
         requires { k < length self.now }
         ensures links { IfOk result (λ links. links ≡ chain_of C.image self.now k) }
         ensures climbs { IfOk result (λ links.
@@ -144,7 +144,7 @@ impl<C: Compress> Builder<C> {
         let last = self.rows.count() - 1;
         let others = self.rows.path_counted(k as u64, last, steps)?;
         let item = self.rows.leaf_counted(k as u64, steps);
-        Links::beside(self.rows.alloc(), item.level, &others)
+        ItemPath::beside(self.rows.alloc(), item.level, &others)
     }
 
     /// Adds an item of a level to 239 behind the others, and says which it is, the first one being item 0.
@@ -171,7 +171,7 @@ fn path_from<C: Compress, L: Ledger>(
     round: &Builder<C>,
     k: usize,
     blank: Blank,
-) -> Result<Links, NoMemory>
+) -> Result<ItemPath, NoMemory>
     requires name { blank.name ≡ L.name }
     requires parts { blank.parts ≡ L.parts }
     requires one { blank.parts ≡ 1 }

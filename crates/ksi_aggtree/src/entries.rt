@@ -7,7 +7,7 @@ ghost use Rattle.ksi_aggtree.specs.Paths.{chain_of, sides_from_top};
 ghost use Rattle.ksi_aggtree.specs.Entries.{items_of, has_from, candidate_of};
 
 use crate::builder::{AddRefusal, Builder};
-use crate::links::Links;
+use crate::item_path::ItemPath;
 use crate::senders::{make_room, note};
 use ksi_aggchain::Item;
 use ksi_imprint::{Compress, Imprint, NoMemory};
@@ -115,7 +115,7 @@ impl<C: Compress> Entries<C> {
     ///
     /// # Errors
     /// `NoMemory`: all is as it was.
-    pub fn path(&self, k: usize) -> Result<Links, NoMemory>
+    pub fn path(&self, k: usize) -> Result<ItemPath, NoMemory>
         requires { k < length self.now }
         ensures links { IfOk result (λ links. links ≡ chain_of C.image (items_of self.now) k) }
         ensures climbs { IfOk result (λ links.

@@ -21,14 +21,14 @@
 
 mod builder;
 mod entries;
+mod item_path;
 mod items;
 mod join;
 pub mod laws;
-mod links;
 mod senders;
 
 pub use builder::{AddRefusal, Builder};
 pub use entries::{Entries, Entry, Origin};
+pub use item_path::ItemPath;
 pub use items::Items;
 pub use ksi_rows::Steps;
-pub use links::Links;

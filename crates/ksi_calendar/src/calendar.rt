@@ -6,7 +6,7 @@ ghost use Rattle.ksi_calendar.specs.Calendar.{calendar_leaf, calendar_root, cale
 
 use crate::join::CalendarJoin;
 use crate::laws::one_chain;
-use crate::links::CalLinks;
+use crate::second_path::SecondPath;
 use ksi_imprint::{Compress, Imprint, NoMemory};
 use ksi_rows::{Rows, Steps};
 use ksi_split::Side;
@@ -82,7 +82,7 @@ impl<C: Compress> Calendar<C> {
     ///
     /// # Errors
     /// `NoMemory`: all is as it was.
-    pub fn chain_to(&self, t: u64, p: u64) -> Result<CalLinks, NoMemory>
+    pub fn chain_to(&self, t: u64, p: u64) -> Result<SecondPath, NoMemory>
         requires within { t ≤ p }
         requires covered { p < self.now.start + length self.now.roots }
         ensures links { IfOk result (λ links. links ≡ calendar_path C.image self.now t p) }
@@ -103,7 +103,7 @@ impl<C: Compress> Calendar<C> {
         t: u64,
         p: u64,
         steps: &mut Steps<L>,
-    ) -> Result<CalLinks, NoMemory>
+    ) -> Result<SecondPath, NoMemory>
         requires within { t ≤ p }
         requires covered { p < self.now.start + length self.now.roots }
         ensures links { IfOk result (λ links. links ≡ calendar_path C.image self.now t p) }
@@ -117,7 +117,7 @@ impl<C: Compress> Calendar<C> {
         one_chain();
         one_way();
         short_ways();
-        Ok(CalLinks::from_vec(self.rows.path_counted(t, p, steps)?))
+        Ok(SecondPath::from_vec(self.rows.path_counted(t, p, steps)?))
     }
 
     /// Adds the root of the next second, which is below 2^63.
@@ -146,7 +146,7 @@ fn chain_from<C: Compress, L: Ledger>(
     t: u64,
     p: u64,
     blank: Blank,
-) -> Result<CalLinks, NoMemory>
+) -> Result<SecondPath, NoMemory>
     requires name { blank.name ≡ L.name }
     requires parts { blank.parts ≡ L.parts }
     requires one { blank.parts ≡ 1 }

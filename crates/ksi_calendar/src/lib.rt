@@ -21,10 +21,10 @@
 mod calendar;
 mod join;
 pub mod laws;
-mod links;
+mod second_path;
 #[cfg(test)]
 mod tests;
 
 pub use calendar::Calendar;
 pub use ksi_rows::Steps;
-pub use links::CalLinks;
+pub use second_path::SecondPath;

@@ -1,6 +1,6 @@
 ghost use Rattle.std.specs.Prelude.{◌≡◌, ◌≤◌, ◌<◌, ◌+◌, ◌^◌, length, IfOk};
 
-use crate::{CalLinks, Calendar};
+use crate::{SecondPath, Calendar};
 use ksi_calchain::CalLink;
 use ksi_imprint::{Compress, Imprint, NoMemory, Tiny};
 use ksi_rows::Steps;
@@ -41,7 +41,7 @@ fn counted<L: Ledger>(
     t: u64,
     p: u64,
     blank: Blank,
-) -> Result<CalLinks, NoMemory>
+) -> Result<SecondPath, NoMemory>
     requires name { blank.name ≡ L.name }
     requires parts { blank.parts ≡ L.parts }
     requires one { blank.parts ≡ 1 }

@@ -14,7 +14,7 @@ use crate::node::Core;
 use crate::second::Second;
 use crate::step::{Send, Sends, Step};
 use ksi_aggtree::{Entries, Origin};
-use ksi_calendar::{CalLinks as Path, Calendar};
+use ksi_calendar::{Calendar, SecondPath};
 use ksi_imprint::{Compress, Imprint, NoMemory};
 use ksi_signature::{Above, AboveChain, AboveChains, AboveLinks, Answer, CalLinks};
 use ksi_split::trees::one_path;
@@ -113,7 +113,7 @@ fn responses<C: Compress>(
     alloc: Global,
     entries: &Entries<C>,
     root: &Imprint,
-    links: &Path,
+    links: &SecondPath,
 ) -> Result<Vec<Send>, NoMemory>
     requires few { length links.now ≤ 63 }
     ensures { IfOk result (λ sends. (seconds : Seconds) (second : ℕ) →
@@ -133,7 +133,7 @@ fn put_response<C: Compress>(
     entries: &Entries<C>,
     k: usize,
     root: &Imprint,
-    links: &Path,
+    links: &SecondPath,
     sends: &mut Vec<Send>,
 ) -> Result<(), NoMemory>
     requires there { k < length entries.now }
@@ -158,7 +158,7 @@ fn above<C: Compress>(
     entries: &Entries<C>,
     k: usize,
     root: &Imprint,
-    links: &Path,
+    links: &SecondPath,
 ) -> Result<Above, NoMemory>
     requires there { k < length entries.now }
     requires few { length links.now ≤ 63 }

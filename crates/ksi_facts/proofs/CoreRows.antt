@@ -77,9 +77,9 @@ no_hand voters candidate (Some s) so = absurd so
 
 -- ONE DEED MORE
 
-module _ (image : List ℕ → List ℕ) (voters : List ℕ) (small : (y : ℕ) → is_voter voters y ≡ true → y < 9) (t : ℕ) (ds : List Deed) (s : SecondState) (so : IsSo image voters ds s) where
+module _ (image : List ℕ → List ℕ) (voters : List ℕ) {me : ℕ} (small : (y : ℕ) → is_voter voters y ≡ true → y < 9) (t : ℕ) (ds : List Deed) (s : SecondState) (so : IsSo image voters me ds s) where
   abbrev After : List What → SecondState → Type 0
-  After whats s' = IsSo image voters (did t whats ++ ds) s'
+  After whats s' = IsSo image voters me (did t whats ++ ds) s'
 
   none_is : (o : Option (List Entry)) → is_some o ≡ false → o ≡ None
   none_is None e = refl
@@ -98,6 +98,7 @@ module _ (image : List ℕ → List ℕ) (voters : List ℕ) (small : (y : ℕ) 
         kept = record { sealed = so.kept.sealed; candidate = so.kept.candidate; tried = so.kept.tried; promised = so.kept.promised; vote = so.kept.vote; held = so.kept.held };
         open_is = ap (λ (es : List Entry). es ++ submitted from item ∷ []) so.open_is;
         voters_are = so.voters_are;
+        me_is = so.me_is;
         hand = so.hand;
       })))
     where
@@ -124,6 +125,7 @@ module _ (image : List ℕ → List ℕ) (voters : List ℕ) (small : (y : ℕ) 
           open_is = refl;
           shut = λ items is. refl;
           voters_are = so.voters_are;
+          me_is = so.me_is;
           hand = by (since ds) s.vote.hand so.hand;
         })
       where
@@ -139,16 +141,16 @@ module _ (image : List ℕ → List ℕ) (voters : List ℕ) (small : (y : ℕ) 
 
   -- TELL, RESPOND AND RESTART
 
-  pub tell_so : (n t i : ℕ) → IsSo image voters ds (tell_row n t i s).after
+  pub tell_so : (n t i : ℕ) → IsSo image voters me ds (tell_row n t i s).after
   unfolding tell_row
   tell_so n t i = so
 
-  pub respond_so : (held : Held) (start t : ℕ) → IsSo image voters ds (respond_row image held start t s).after
+  pub respond_so : (held : Held) (start t : ℕ) → IsSo image voters me ds (respond_row image held start t s).after
   unfolding respond_row
   respond_so held start t = by s.sealed (first_missing held start t) (held t)
     where
       P : Turn → Type 0
-      P turn = IsSo image voters ds turn.after
+      P turn = IsSo image voters me ds turn.after
 
       by : (items : Option (List Entry)) (missing : Option ℕ) (root : Option (List ℕ)) → P (respond_where image held start t items missing root s)
       by None missing root = so
@@ -156,12 +158,13 @@ module _ (image : List ℕ → List ℕ) (voters : List ℕ) (small : (y : ℕ) 
       by (Some items) None None = so
       by (Some items) None (Some root) = cond_both (is_mine image items root) _ _ P (λ _. so) (λ _. so)
 
-  pub restart_so : IsSo image voters (Restarted ∷ ds) (restart_row s)
+  pub restart_so : IsSo image voters me (Restarted ∷ ds) (restart_row s)
   restart_so = record {
     kept = record { sealed = so.kept.sealed; candidate = so.kept.candidate; tried = so.kept.tried; promised = so.kept.promised; vote = so.kept.vote; held = so.kept.held };
     open_is = refl;
     shut = λ items is. refl;
     voters_are = so.voters_are;
+    me_is = so.me_is;
     hand = tt;
   }
 
@@ -179,6 +182,7 @@ module _ (image : List ℕ → List ℕ) (voters : List ℕ) (small : (y : ℕ) 
           open_is = so.open_is;
           shut = so.shut;
           voters_are = so.voters_are;
+          me_is = so.me_is;
           hand = fresh_hand s.vote.voters s.vote.candidate own is (next_ballot s.vote);
         }))
 
@@ -202,6 +206,7 @@ module _ (image : List ℕ → List ℕ) (voters : List ℕ) (small : (y : ℕ) 
         open_is = so.open_is;
         shut = so.shut;
         voters_are = so.voters_are;
+        me_is = so.me_is;
         hand = so.hand;
       })
       (λ _. so)
@@ -224,6 +229,7 @@ module _ (image : List ℕ → List ℕ) (voters : List ℕ) (small : (y : ℕ) 
         open_is = so.open_is;
         shut = so.shut;
         voters_are = so.voters_are;
+        me_is = so.me_is;
         hand = so.hand;
       })
       (λ _. so)
@@ -245,6 +251,7 @@ module _ (image : List ℕ → List ℕ) (voters : List ℕ) (small : (y : ℕ) 
         open_is = so.open_is;
         shut = so.shut;
         voters_are = so.voters_are;
+        me_is = so.me_is;
         hand = so.hand;
       }
       by (Some held) = so
@@ -265,11 +272,12 @@ module _ (image : List ℕ → List ℕ) (voters : List ℕ) (small : (y : ℕ) 
       open_is = so.open_is;
       shut = so.shut;
       voters_are = so.voters_are;
+      me_is = so.me_is;
       hand = has;
     }
 
     idle_so : Hears s.vote.hand → Takes (Heard from m ∷ []) s.vote
-    idle_so has = record { kept = so.kept; open_is = so.open_is; shut = so.shut; voters_are = so.voters_are; hand = has }
+    idle_so has = record { kept = so.kept; open_is = so.open_is; shut = so.shut; voters_are = so.voters_are; me_is = so.me_is; hand = has }
 
     -- no hand hears nothing
     unheard : s.vote.hand ≡ None → Hears s.vote.hand
@@ -314,6 +322,7 @@ module _ (image : List ℕ → List ℕ) (voters : List ℕ) (small : (y : ℕ) 
           open_is = so.open_is;
           shut = so.shut;
           voters_are = so.voters_are;
+          me_is = so.me_is;
           hand = has;
         }
         holds h d has (Some root) is = record {
@@ -321,6 +330,7 @@ module _ (image : List ℕ → List ℕ) (voters : List ℕ) (small : (y : ℕ) 
           open_is = so.open_is;
           shut = so.shut;
           voters_are = so.voters_are;
+          me_is = so.me_is;
           hand = has;
         }
 

@@ -66,7 +66,7 @@ module _ (image : List ℕ → List ℕ) (plan : PlanState) (is : IsPlan plan) w
   Ds past a t = of_second t (deeds a past)
 
   abbrev pub SoAt : (past : List Seen) (j t : ℕ) → SecondState → Type 0
-  SoAt past j t s = IsSo image (cores_below plan.cores) (Ds past (actors.Core j) t) s
+  SoAt past j t s = IsSo image (cores_below plan.cores) j (Ds past (actors.Core j) t) s
 
   abbrev pub RoundAt : (past : List Seen) (k t : ℕ) → RoundState → Type 0
   RoundAt past k t r = IsRoundSo (Ds past (actors.Aggregator k) t) r
@@ -85,7 +85,7 @@ module _ (image : List ℕ → List ℕ) (plan : PlanState) (is : IsPlan plan) w
     Does x a u whats = (b : Actor) → does b x.event x.taken x.answer x.sent (deeds b past) ≡ own b a u (whats b)
 
     abbrev CoreAfter : (i u : ℕ) → List What → SecondState → Type 0
-    CoreAfter i u whats s = IsSo image (cores_below plan.cores) (did u whats ++ Ds past (actors.Core i) u) s
+    CoreAfter i u whats s = IsSo image (cores_below plan.cores) i (did u whats ++ Ds past (actors.Core i) u) s
 
     abbrev RoundAfter : (k u : ℕ) → List What → RoundState → Type 0
     RoundAfter k u whats r = IsRoundSo (did u whats ++ Ds past (actors.Aggregator k) u) r
@@ -95,8 +95,8 @@ module _ (image : List ℕ → List ℕ) (plan : PlanState) (is : IsPlan plan) w
       core_turned does_it turn row = record {
         seconds = λ j t. observed past x (actors.Core i) u whats does_it image (cores_below plan.cores) j t (w.seconds j t) turn.after (eqb j i && eqb t u) refl
             (λ e. let parts = and_parts _ _ e in
-            subst (λ (j : ℕ). IsSo image (cores_below plan.cores) (did u (whats (actors.Core j)) ++ Ds past (actors.Core j) t) turn.after) (sym (eqb-true j i parts.0))
-            (subst (λ (t : ℕ). IsSo image (cores_below plan.cores) (did u (whats (actors.Core i)) ++ Ds past (actors.Core i) t) turn.after) (sym (eqb-true t u parts.1)) row))
+            subst (λ (j : ℕ). IsSo image (cores_below plan.cores) j (did u (whats (actors.Core j)) ++ Ds past (actors.Core j) t) turn.after) (sym (eqb-true j i parts.0))
+            (subst (λ (t : ℕ). IsSo image (cores_below plan.cores) i (did u (whats (actors.Core i)) ++ Ds past (actors.Core i) t) turn.after) (sym (eqb-true t u parts.1)) row))
             (all.seconds j t);
         rounds = λ k t. round_observed past x (actors.Core i) u whats does_it k t (w.rounds k t) (w.rounds k t) false refl (λ e. absurd (false≢true e)) (all.rounds k t);
       }
@@ -119,7 +119,7 @@ module _ (image : List ℕ → List ℕ) (plan : PlanState) (is : IsPlan plan) w
 
       nothing_done : (w' : WorldState) → ((j t : ℕ) → SoAt past j t (w'.seconds j t)) → w'.rounds ≡ w.rounds → All w' (x ∷ past)
       nothing_done w' seconds rounds = record {
-        seconds = λ j t. subst (λ (ds : List Deed). IsSo image (cores_below plan.cores) ds (w'.seconds j t)) (same_deeds (actors.Core j) t) (seconds j t);
+        seconds = λ j t. subst (λ (ds : List Deed). IsSo image (cores_below plan.cores) j ds (w'.seconds j t)) (same_deeds (actors.Core j) t) (seconds j t);
         rounds = λ k t. subst (λ (f : ℕ → ℕ → RoundState). RoundAt (x ∷ past) k t (f k t)) (sym rounds) (subst (λ (ds : List Deed). IsRoundSo ds (w.rounds k t)) (same_deeds (actors.Aggregator k) t) (all.rounds k t));
       }
 
@@ -268,9 +268,9 @@ module _ (image : List ℕ → List ℕ) (plan : PlanState) (is : IsPlan plan) w
           by false = refl
 
       core_restarted : (j t : ℕ) (mine : Bool) → is_actor (actors.Core j) a ≡ mine → SoAt (x ∷ past) j t (cond mine (restart_row (w.seconds j t)) (w.seconds j t))
-      core_restarted j t mine is_mine = subst (λ (ds : List Deed). IsSo image (cores_below plan.cores) ds (cond mine (restart_row (w.seconds j t)) (w.seconds j t))) (sym (deeds_now (actors.Core j) t mine is_mine)) (by mine)
+      core_restarted j t mine is_mine = subst (λ (ds : List Deed). IsSo image (cores_below plan.cores) j ds (cond mine (restart_row (w.seconds j t)) (w.seconds j t))) (sym (deeds_now (actors.Core j) t mine is_mine)) (by mine)
         where
-          by : (mine : Bool) → IsSo image (cores_below plan.cores) (cond mine (Restarted ∷ Ds past (actors.Core j) t) (Ds past (actors.Core j) t)) (cond mine (restart_row (w.seconds j t)) (w.seconds j t))
+          by : (mine : Bool) → IsSo image (cores_below plan.cores) j (cond mine (Restarted ∷ Ds past (actors.Core j) t) (Ds past (actors.Core j) t)) (cond mine (restart_row (w.seconds j t)) (w.seconds j t))
           by true = restart_so image (cores_below plan.cores) small t (Ds past (actors.Core j) t) (w.seconds j t) (all.seconds j t)
           by false = all.seconds j t
 
@@ -322,6 +322,7 @@ module _ (image : List ℕ → List ℕ) (plan : PlanState) (is : IsPlan plan) w
       open_is = refl;
       shut = λ items is. refl;
       voters_are = refl;
+      me_is = refl;
       hand = tt;
     };
     rounds = λ k t. record {
@@ -360,6 +361,7 @@ module _ (image : List ℕ → List ℕ) (plan : PlanState) (is : IsPlan plan) w
       let s = (after image plan es).seconds j t in
       let kept : IsKept image (of_second t (facts_of (deeds (actors.Core j) (seen image plan es)))) s = subst (λ (ds : List Deed). IsKept image ds s) (sym (facts_for t (deeds (actors.Core j) (seen image plan es)))) so.kept in
       record {
+        me = so.me_is;
         voters = so.voters_are;
         kept = kept;
         open_items = so.open_is;

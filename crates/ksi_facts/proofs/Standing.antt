@@ -29,11 +29,12 @@ IsInHandSo voters candidate None (Some h) = ⊥
 IsInHandSo voters candidate (Some s) None = ⊥
 
 -- the deeds are those for the second
-pub record IsSo (image : List ℕ → List ℕ) (voters : List ℕ) (ds : List Deed) (s : SecondState) : Type 0 where
+pub record IsSo (image : List ℕ → List ℕ) (voters : List ℕ) (me : ℕ) (ds : List Deed) (s : SecondState) : Type 0 where
   pub kept : IsKept image (facts_of ds) s
   pub open_is : s.open_items ≡ open_items ds
   pub shut : (items : List Entry) → s.sealed ≡ Some items → s.open_items ≡ []
   pub voters_are : s.vote.voters ≡ voters
+  pub me_is : s.vote.me ≡ me
   pub hand : IsInHandSo s.vote.voters s.vote.candidate (since ds) s.vote.hand
 
 pub record IsRoundSo (ds : List Deed) (r : RoundState) : Type 0 where
@@ -97,7 +98,7 @@ module _ (past : List Seen) (x : Seen) (a : Actor) (u : ℕ) (whats : Actor → 
 
   module _ (image : List ℕ → List ℕ) (voters : List ℕ) (j t : ℕ) where
     abbrev Was : List Deed → SecondState → Type 0
-    Was ds s = IsSo image voters (ds ++ of_second t (deeds (actors.Core j) past)) s
+    Was ds s = IsSo image voters j (ds ++ of_second t (deeds (actors.Core j) past)) s
 
     stands : (s s' : SecondState) (here : Bool) → (here ≡ true → Was (did u (whats (actors.Core j))) s') → Was [] s → Was (cond here (did u (whats (actors.Core j))) []) (cond here s' s)
     stands s s' true row was = row refl
@@ -105,8 +106,8 @@ module _ (past : List Seen) (x : Seen) (a : Actor) (u : ℕ) (whats : Actor → 
 
     -- a second, after it took this turn or not
     pub observed : (s s' : SecondState) (here : Bool) → (is_actor (actors.Core j) a && eqb t u) ≡ here → (here ≡ true → Was (did u (whats (actors.Core j))) s') → Was [] s
-        → IsSo image voters (of_second t (deeds (actors.Core j) (x ∷ past))) (cond here s' s)
-    observed s s' here is row was = subst (λ (ds : List Deed). IsSo image voters ds (cond here s' s)) (sym (deeds_now (actors.Core j) t here is)) (stands s s' here row was)
+        → IsSo image voters j (of_second t (deeds (actors.Core j) (x ∷ past))) (cond here s' s)
+    observed s s' here is row was = subst (λ (ds : List Deed). IsSo image voters j ds (cond here s' s)) (sym (deeds_now (actors.Core j) t here is)) (stands s s' here row was)
 
   module _ (k t : ℕ) where
     abbrev WasRound : List Deed → RoundState → Type 0

@@ -48,9 +48,10 @@ IsInHand voters candidate None None = Unit {0}
 IsInHand voters candidate (Some s) (Some h) = IsHand voters candidate s h
 IsInHand voters candidate _ _ = ⊥
 
--- a core's second, and an aggregator's round, are what was seen of them. Its voters are those of the second. Nothing is open once it is sealed or closed, and
+-- a core's second, and an aggregator's round, are what was seen of them. The core votes under its number, with the voters of the second. Nothing is open once it is sealed or closed, and
 -- the ballot in hand is the one tried last
 pub record IsSecond (image : List ℕ → List ℕ) (past : List Seen) (cores core second : ℕ) (s : SecondState) : Type 0 where
+  pub me : s.vote.me ≡ core
   pub voters : s.vote.voters ≡ voters_of cores second
   pub kept : IsKept image (of_second second (facts (actors.Core core) past)) s
   pub open_items : s.open_items ≡ open_items (of_second second (deeds (actors.Core core) past))

@@ -1,5 +1,5 @@
 use ksi_aggchain::{Item, Link};
-use ksi_aggtree::{AddRefusal, Entries, Entry, Links, Origin};
+use ksi_aggtree::{AddRefusal, Entries, Entry, ItemPath, Origin};
 use ksi_imprint::{Compress, Imprint, Sha};
 use ksi_split::Side;
 use std::alloc::Global;
@@ -44,7 +44,7 @@ fn entry(entries: &Entries<Sha>, k: usize) -> Option<Entry> {
     }
 }
 
-fn path(entries: &Entries<Sha>, k: usize) -> Option<Links> {
+fn path(entries: &Entries<Sha>, k: usize) -> Option<ItemPath> {
     if k < entries.count() {
         entries.path(k).ok()
     } else {

@@ -1,7 +1,7 @@
 ghost use Rattle.std.specs.Prelude.{◌≡◌, ◌<◌, length};
 
 use ksi_aggchain::{Item, Link, shape};
-use ksi_aggtree::{AddRefusal, Builder, Links, Steps};
+use ksi_aggtree::{AddRefusal, Builder, ItemPath, Steps};
 use ksi_imprint::{Compress, Imprint, NoMemory, Sha, Tiny};
 use ksi_split::Side;
 use ksi_split::Side::{Left, Right};
@@ -37,7 +37,7 @@ fn three(alloc: Global) -> Result<Builder<Sha>, AddRefusal> {
 }
 
 /// The links of an item, nothing where there is no such item or memory is wanting.
-fn path(round: &Builder<Sha>, k: usize) -> Option<Links> {
+fn path(round: &Builder<Sha>, k: usize) -> Option<ItemPath> {
     if k < round.count() {
         round.path(k).ok()
     } else {
@@ -45,7 +45,7 @@ fn path(round: &Builder<Sha>, k: usize) -> Option<Links> {
     }
 }
 
-fn counted<L: Ledger>(round: &Builder<Sha>, k: usize, blank: Blank) -> Result<Links, NoMemory>
+fn counted<L: Ledger>(round: &Builder<Sha>, k: usize, blank: Blank) -> Result<ItemPath, NoMemory>
     requires name { blank.name ≡ L.name }
     requires parts { blank.parts ≡ L.parts }
     requires one { blank.parts ≡ 1 }
@@ -55,14 +55,14 @@ fn counted<L: Ledger>(round: &Builder<Sha>, k: usize, blank: Blank) -> Result<Li
     round.path_counted(k, &mut steps)
 }
 
-fn counted_path(round: &Builder<Sha>, k: usize) -> Result<Links, NoMemory>
+fn counted_path(round: &Builder<Sha>, k: usize) -> Result<ItemPath, NoMemory>
     requires { k < length round.now }
 {
     counted::<Brand>(round, k, Blank::new(1))
 }
 
 /// The same links, with the steps counted.
-fn path_counted(round: &Builder<Sha>, k: usize) -> Option<Links> {
+fn path_counted(round: &Builder<Sha>, k: usize) -> Option<ItemPath> {
     if k < round.count() {
         counted_path(round, k).ok()
     } else {
@@ -79,7 +79,7 @@ fn item_of(round: &Builder<Sha>, k: usize) -> Option<Item> {
 }
 
 /// Whether these are the links with these sides, corrections and siblings.
-fn are_links(links: &Links, wanted: &[(Side, u8, Imprint)]) -> bool {
+fn are_links(links: &ItemPath, wanted: &[(Side, u8, Imprint)]) -> bool {
     let mut same = links.as_slice().len() == wanted.len();
     for (link, (side, correction, sibling)) in links.as_slice().iter().zip(wanted.iter()) {
         same = same

@@ -3,27 +3,27 @@ ghost use Rattle.std.specs.Prelude.{◌≡◌};
 use ksi_calchain::CalLink;
 use std::marker::Model;
 
-/// The links of a calendar hash chain, the lowest first. A contract sees their list.
+/// The links from a second up to the root of a calendar's tree, the lowest first. A contract sees their list.
 #[derive(Drop, Debug)]
-pub struct CalLinks {
+pub struct SecondPath {
     vec: Vec<CalLink>,
 }
 
-impl Model for CalLinks {
+impl Model for SecondPath {
     ghost use Rattle.std.specs.Prelude.{List, ℕ};
     ghost use Rattle.ksi_split.specs.declared.tree_link.TreeLink.{TreeLink};
 
     ghost Value = { List (TreeLink (List ℕ)) };
 
-    ghost view = { λ links. links.vec.items };
+    ghost view = { λ path. path.vec.items };
 }
 
-impl CalLinks {
+impl SecondPath {
     /// The links of a `Vec`, which is not copied.
     pub fn from_vec(vec: Vec<CalLink>) -> Self
         ensures { result ≡ vec.items }
     {
-        CalLinks { vec }
+        SecondPath { vec }
     }
 
     /// The links, which are not copied.
@@ -37,7 +37,7 @@ impl CalLinks {
     pub fn into_vec(self) -> Vec<CalLink>
         ensures { result.items ≡ self }
     {
-        let CalLinks { vec } = self;
+        let SecondPath { vec } = self;
         vec
     }
 }

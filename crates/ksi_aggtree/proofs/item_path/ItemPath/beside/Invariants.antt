@@ -1,6 +1,6 @@
 use Rattle.std.proofs.Common.{◌≡◌, ◌+◌, ◌≤◌, ◌++◌, drop}
 use Rattle.ksi_aggtree.specs.Paths.{links_from}
-use Rattle.ksi_aggtree.proofs.links.Links.beside.Given as goal
+use Rattle.ksi_aggtree.proofs.item_path.ItemPath.beside.Given as goal
 
 abbrev pub invariant-loop-other : goal.invariant-loop-other
 invariant-loop-other l = record {

@@ -7,27 +7,27 @@ use ksi_split::TreeLink;
 use std::alloc::Global;
 use std::marker::Model;
 
-/// The links of an aggregation chain, the lowest first. A contract sees their list.
+/// The links from an item up to the root of its tree, the lowest first. A contract sees their list.
 #[derive(Drop, Debug)]
-pub struct Links {
+pub struct ItemPath {
     vec: Vec<Link>,
 }
 
-impl Model for Links {
+impl Model for ItemPath {
     ghost use Rattle.std.specs.Prelude.{List};
     ghost use Rattle.ksi_aggchain.specs.declared.link.Link as links;
 
     ghost Value = { List links.Link };
 
-    ghost view = { λ links. links.vec.items };
+    ghost view = { λ path. path.vec.items };
 }
 
-impl Links {
+impl ItemPath {
     /// The links of a `Vec`, which is not copied.
     pub fn from_vec(vec: Vec<Link>) -> Self
         ensures { result ≡ vec.items }
     {
-        Links { vec }
+        ItemPath { vec }
     }
 
     /// The links, which are not copied.
@@ -41,7 +41,7 @@ impl Links {
     pub fn into_vec(self) -> Vec<Link>
         ensures { result.items ≡ self }
     {
-        let Links { vec } = self;
+        let ItemPath { vec } = self;
         vec
     }
 
@@ -65,6 +65,6 @@ impl Links {
             })?;
             level = greater + 1;
         }
-        Ok(Links { vec })
+        Ok(ItemPath { vec })
     }
 }
