@@ -18,6 +18,7 @@ pub record RoundState : Type 0 where
   pub closed : Option (List Entry)
   pub answered : Option Above
 
+-- nothing came yet
 abbrev pub fresh_round : RoundState
 fresh_round = record { open_items = []; closed = None; answered = None }
 
@@ -31,6 +32,7 @@ pub record RoundTurn : Type 0 where
 abbrev pub round_still : RoundState → Answer → RoundTurn
 round_still r answer = record { after = r; answer = answer; sends = [] }
 
+-- the entry is added
 abbrev pub round_added : RoundState → Entry → Answer → RoundTurn
 round_added r entry answer = record {
   after = record { open_items = r.open_items ++ entry ∷ []; closed = r.closed; answered = r.answered };
@@ -38,22 +40,24 @@ round_added r entry answer = record {
   sends = [];
 }
 
--- REQUEST, of this number
+-- REQUEST of an imprint, of this number: it is an item of level 0
 
 abbrev pub request_entry : ℕ → List ℕ → Entry
 request_entry number imprint = record { origin = origins.Request number; item = record { imprint = imprint; level = 0 } }
 
+-- Late where the round is closed; Full at 65,536 items; else the number
 unfoldable pub round_request : (number : ℕ) → List ℕ → RoundState → RoundTurn
 round_request number imprint r =
     if is_some r.closed then round_still r answers.Late
     else if is_full r.open_items then round_still r answers.Full
     else round_added r (request_entry number imprint) (answers.Number number)
 
--- SUBMISSION(ITEM) FROM AN AGGREGATOR
+-- SUBMISSION of an item by a lower aggregator
 
 abbrev pub submitted_entry : ℕ → Item → Entry
 submitted_entry from item = record { origin = origins.Aggregator from; item = item }
 
+-- Late where the round is closed; Known where an item of that aggregator is there; Full at 65,536 items; else Done
 unfoldable pub round_submission : (from : ℕ) → Item → RoundState → RoundTurn
 round_submission from item r =
     if is_some r.closed then round_still r answers.Late
@@ -68,13 +72,14 @@ abbrev pub round_restarted : RoundState → RoundState
 round_restarted r = if is_some r.closed then r else fresh_round
 
 module _ (image : List ℕ → List ℕ) where
-  -- CLOSE
+  -- CLOSE: the open items are the closed ones, and the item of their tree goes to the parent
 
   -- the item of the round's tree, where it has items
   abbrev pub submission_of : List Entry → List Send
   submission_of [] = []
   submission_of (entry ∷ entries) = sends.Submission (tree_of image (items_of (entry ∷ entries))) ∷ []
 
+  -- the round from then on
   abbrev pub closed_now : RoundState → RoundTurn
   closed_now r = record {
     after = record { open_items = []; closed = Some r.open_items; answered = r.answered };
@@ -82,11 +87,13 @@ module _ (image : List ℕ → List ℕ) where
     sends = submission_of r.open_items;
   }
 
+  -- Closed where it is closed, else Done
   unfoldable pub round_close : RoundState → RoundTurn
   round_close r = if is_some r.closed then round_still r answers.Closed else closed_now r
 
-  -- RESPONSE(ABOVE)
+  -- RESPONSE: the first one to a closed round with items is kept, and each lower aggregator of the round has one in turn
 
+  -- it is the first
   abbrev pub answered_now : Above → List Entry → RoundState → RoundTurn
   answered_now above entries r = record {
     after = record { open_items = r.open_items; closed = r.closed; answered = Some above };
@@ -94,6 +101,7 @@ module _ (image : List ℕ → List ℕ) where
     sends = responses image above entries;
   }
 
+  -- Nothing where the round is not closed, has no items or has a response; else Done
   abbrev pub response_where : Above → Option (List Entry) → Option Above → RoundState → RoundTurn
   response_where above None answered r = round_still r answers.Nothing
   response_where above (Some []) answered r = round_still r answers.Nothing

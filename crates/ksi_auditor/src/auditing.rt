@@ -28,10 +28,10 @@ use std::alloc::{AllocError, Global};
 
 /// Where the hash of a signature stands in a journal.
 ///
-/// First come the checks of the signature, then whether all seconds from the start to its publication time are kept, and
-/// then whether the root that it leads to is the kept one. Then each link's string, from the top, is compared with the one
-/// of the kept tree: the first that differs is a clash. Where none does, the hash is a node of the tree of its second, or
-/// leads to one of its items.
+/// First come the checks of the signature, then whether its publication time is before the start, whether all seconds from
+/// the start to it are kept, and whether the root that the signature leads to is the kept one. Then each link's string,
+/// from the top, is compared with the one of the kept tree: the first that differs is a clash. Where none does, the hash is
+/// a node of the tree of its second, or leads to one of its items. Only the tree of the second and a clash take memory.
 pub fn audit<C: Compress>(
     alloc: Global,
     journal: &Journal<C>,

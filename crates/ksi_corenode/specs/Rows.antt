@@ -30,9 +30,11 @@ use Rattle.ksi_corenode.specs.Turns.{Turn, still, voted_with}
 
 -- SUBMISSION of an item by an aggregator: it is one of the open items, where none of that aggregator is there
 
+-- the entry of an item that an aggregator submits
 abbrev pub submitted : (from : ℕ) → Item → Entry
 submitted from item = record { origin = origins.Aggregator from; item = item }
 
+-- the open items behind it, and the answer
 abbrev pub taken : (from : ℕ) → Item → List Entry → List Entry × Answer
 taken from item entries =
     if has_from from entries then (entries, Known)
@@ -42,14 +44,17 @@ taken from item entries =
 abbrev pub item_taken : SecondState → List Entry × Answer → Turn
 item_taken s row = record { after = record s { open_items = row.0 }; answer = row.1; sends = [] }
 
+-- Late where the second is sealed; Known where an item of the aggregator is there; Full at 65,536 items; else Done
 unfoldable pub submission_row : (from : ℕ) → Item → SecondState → Turn
 submission_row from item s = if is_some s.sealed then still s Late else item_taken s (taken from item s.open_items)
 
 -- SEAL: the open items are the sealed ones, and the imprint of their tree is the core's candidate
 
+-- the second from then on
 abbrev pub sealed_now : (List ℕ → List ℕ) → SecondState → Turn
 sealed_now image s = record { after = record { vote = seal s.vote (candidate_of image s.open_items); open_items = []; sealed = Some s.open_items }; answer = Done; sends = [] }
 
+-- Sealed where it is sealed, else Done
 unfoldable pub seal_row : (List ℕ → List ℕ) → SecondState → Turn
 seal_row image s = if is_some s.sealed then still s Sealed else sealed_now image s
 
@@ -60,6 +65,7 @@ ballot_answer begun.Unsealed = Unsealed
 ballot_answer begun.Last = Last
 ballot_answer (begun.Next b) = Done
 
+-- Unsealed without a candidate; Last where no round is left; else Done
 unfoldable pub ballot_row : (members second me : ℕ) → SecondState → Turn
 ballot_row members second me s = voted_with members second me s ((try_ballot s.vote).0, ballot_told (try_ballot s.vote).1) (ballot_answer (try_ballot s.vote).1)
 
@@ -79,6 +85,7 @@ is_news v from (message.BeginBallot b d) = (on_begin v b d).1
 is_news v from (message.Voted b) = counts (on_voted v from b).1
 is_news v from (message.Success d) = (on_success v d).1
 
+-- Done where it does, else Nothing
 abbrev pub news_answer : Bool → Answer
 news_answer true = Done
 news_answer false = Nothing
@@ -88,6 +95,7 @@ receive_row members second from m s = voted_with members second from s (receive 
 
 -- TELL: Success with what is held goes to all cores
 
+-- Undecided where nothing is held, else Done
 abbrev pub tell_answer : (second : ℕ) → (held : Option (List ℕ)) → Answer
 tell_answer second None = Undecided second
 tell_answer second (Some root) = Done
@@ -118,9 +126,12 @@ abbrev pub responses_from : (ℕ → Above) → ℕ → List Entry → List Send
 responses_from above k [] = []
 responses_from above k (entry ∷ entries) = response_to entry.origin (above k) ++ responses_from above (suc k) entries
 
+-- all responses are sent
 abbrev pub responded : (List ℕ → List ℕ) → Held → (start second : ℕ) → List Entry → (root : List ℕ) → SecondState → Turn
 responded image held start second entries root s = record { after = s; answer = Done; sends = responses_from (above_item image (held_seconds held start second) second root (items_of entries)) 0 entries }
 
+-- Unsealed; Undecided with the first second from the start on that is not held; NotMine; else Done. (The third case does
+-- not come: where none is missing, something is held for the second.)
 abbrev pub respond_where : (List ℕ → List ℕ) → Held → (start second : ℕ) → (sealed : Option (List Entry)) → (missing : Option ℕ) → (root : Option (List ℕ)) → SecondState → Turn
 respond_where image held start second None missing root s = still s Unsealed
 respond_where image held start second (Some entries) (Some missing) root s = still s (Undecided missing)
@@ -142,6 +153,7 @@ pub record IsNotMine (image : List ℕ → List ℕ) (held : Held) (start second
 
 -- PUBLISH: the root of the calendar to the second is the answer
 
+-- Undecided with the first second from the start on that is not held, else Published
 abbrev pub publish_where : (List ℕ → List ℕ) → Held → (start p : ℕ) → (missing : Option ℕ) → Answer
 publish_where image held start p (Some missing) = Undecided missing
 publish_where image held start p None = Published (held_root image held start p)

@@ -50,7 +50,8 @@ impl<C: Compress> Core<C> {
         }
         match calendar.root_at(p) {
             Some(root) => Ok(Answer::Published(root)),
-            None => Ok(Answer::Nothing),
+            // the calendar covers all seconds to p
+            None => unreachable!(),
         }
     }
 

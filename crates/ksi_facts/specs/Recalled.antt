@@ -48,8 +48,8 @@ IsInHand voters candidate None None = Unit {0}
 IsInHand voters candidate (Some s) (Some h) = IsHand voters candidate s h
 IsInHand voters candidate _ _ = ⊥
 
--- a core's second, and an aggregator's round, are what was seen of them. The core votes under its number, with the voters of the second. Nothing is open once it is sealed or closed, and
--- the ballot in hand is the one tried last
+-- a core's second is what was seen of it. The core votes under its number, with the voters of the second; nothing is open
+-- once it is sealed; the ballot in hand is the one tried last
 pub record IsSecond (image : List ℕ → List ℕ) (past : List Seen) (cores core second : ℕ) (s : SecondState) : Type 0 where
   pub me : s.vote.me ≡ core
   pub voters : s.vote.voters ≡ voters_of cores second
@@ -59,6 +59,7 @@ pub record IsSecond (image : List ℕ → List ℕ) (past : List Seen) (cores co
   pub ballot : (h : Hand) → s.vote.hand ≡ Some h → h.ballot ≡ s.vote.tried
   pub hand : IsInHand (voters_of cores second) (own_candidate image (of_second second (facts (actors.Core core) past))) (since (of_second second (deeds (actors.Core core) past))) s.vote.hand
 
+-- an aggregator's round is what was seen of it; nothing is open once it is closed
 pub record IsRound (past : List Seen) (aggregator second : ℕ) (r : RoundState) : Type 0 where
   pub kept : IsKeptRound (of_second second (facts (actors.Aggregator aggregator) past)) r
   pub open_items : r.open_items ≡ open_items (of_second second (deeds (actors.Aggregator aggregator) past))

@@ -1,5 +1,5 @@
 //! Journals: what cores kept, as a file. A journal is eight bytes of magic and then, in exactly this order, elements: a
-//! start, the decided seconds, each with its root and right behind it its items, the issued signatures, the
+//! start, the kept seconds, each with its root and right behind it its items, the issued signatures, the
 //! publications, and an end, as docs/FORMATS.md tells it.
 //!
 //! A contract sees a [`Journal`] as a record of lists. The layer above may rely on this: [`load`] gives exactly the

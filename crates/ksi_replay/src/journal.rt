@@ -13,7 +13,7 @@ use ksi_journal::{Journal, Second};
 use ksi_world::{KeptSecond, World};
 use std::alloc::Global;
 
-/// The journal of a world: the decided seconds, each with its root and items, the issued signatures, and what was
+/// The journal of a world: the kept seconds, each with its root and items, the issued signatures, and what was
 /// published. The items and signatures are made anew, and the world is not changed.
 ///
 /// # Errors

@@ -1,7 +1,7 @@
 //! Schedules run through the nodes, and the journal of what was kept, issued and published.
 //!
 //! The layer above may rely on this: [`replay`] gives the world whose events are those of the schedule, and [`journal_of`]
-//! the journal of a world: its decided seconds with their items, its issued signatures and what was published.
+//! the journal of a world: its kept seconds with their items, its issued signatures and what was published.
 //!
 //! ```text
 //! let schedule = read_schedule(alloc, text)?;

@@ -1,4 +1,4 @@
-//! The decided seconds: what the cores hold, and whose items it is.
+//! The kept seconds: what the cores hold, and whose items it is.
 ghost use Rattle.std.specs.Prelude.{◌≡◌, ◌<◌, [], length, IfOk};
 ghost use Rattle.std.specs.Option.{option_copied};
 ghost use Rattle.ksi_corenode.specs.CoreState.{second_at};
@@ -17,7 +17,7 @@ use std::alloc::Global;
 use std::collections::BTreeSet;
 use std::marker::Model;
 
-/// A decided second, the root that is held for it, and the items whose tree has this root. A second with the zero imprint
+/// A kept second: the root that is held for it, and the items whose tree has this root. A second with the zero imprint
 /// has no items.
 #[derive(Drop, Debug)]
 pub struct KeptSecond {
@@ -26,7 +26,7 @@ pub struct KeptSecond {
     pub items: Items,
 }
 
-/// Decided seconds. A contract sees their list.
+/// Kept seconds. A contract sees their list.
 #[derive(Drop, Debug)]
 pub struct Seconds {
     seconds: Vec<KeptSecond>,
@@ -65,14 +65,14 @@ impl Seconds {
     }
 }
 
-/// What is kept: the first second of the plan, and the decided seconds, rising.
+/// What is kept: the first second of the plan, and the kept seconds, rising.
 #[derive(Drop, Debug)]
 pub struct Kept {
     pub start: u64,
     pub seconds: Seconds,
 }
 
-/// What is kept under a plan, where these are the decided seconds.
+/// What is kept under a plan, where these are the kept seconds.
 pub(crate) fn kept_under(plan: &Plan, seconds: Vec<KeptSecond>) -> Kept
     ensures start { result.start ≡ plan.now.start }
     ensures seconds { result.seconds ≡ seconds.items }
@@ -83,7 +83,7 @@ pub(crate) fn kept_under(plan: &Plan, seconds: Vec<KeptSecond>) -> Kept
     }
 }
 
-/// The decided seconds, rising. The cores hold nothing for a second that no message of the wire decides.
+/// The kept seconds, rising. The cores hold nothing for a second that no message of the wire decides.
 pub(crate) fn kept_seconds<C: Compress>(
     alloc: Global,
     cores: &[Core<C>],

@@ -329,7 +329,7 @@ impl<C: Compress> Nodes<C> {
         self.requests.get(number as usize)
     }
 
-    /// The decided seconds, rising.
+    /// The kept seconds, rising.
     pub fn kept(&self, alloc: Global) -> Result<Vec<KeptSecond>, NoMemory>
         ensures { IfOk result (λ kept. AreListed C.image self.now.cores self.now.wire kept.items) }
     {

@@ -146,7 +146,7 @@ impl<C: Compress> World<C> {
         }
     }
 
-    /// The decided seconds, rising from the start, all below 2^63: for each the root that the lowest core holds that holds
+    /// The kept seconds, rising from the start, all below 2^63: for each the root that the lowest core holds that holds
     /// one, and the sealed items of the lowest core whose candidate it is. A second with the zero imprint has no items. Any
     /// other has at least one and at most 65,536, of levels to 239, and its root is the imprint of their tree.
     ///
