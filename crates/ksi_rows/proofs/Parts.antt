@@ -35,6 +35,12 @@ module _ {A : Type 0} (join : A → A → A) where
   whole_before f start before zero j same lt = same j lt
   whole_before f start before (suc k) j same lt = cc (whole_before f start before k (2 * j) same (omega arith), whole_before f start before k (2 * j + 1) same (omega arith))
 
+  -- the part of the next level, all of whose leaves are `before`
+  pub zero_step : (before part : A) (k : ℕ) → 0 < k → part ≡ zero_part join before (k - 1) → join part part ≡ zero_part join before k
+  unfolding zero_part
+  zero_step before part zero some is = absurd (omega arith)
+  zero_step before part (suc k) some is = let below : suc k - 1 ≡ k = omega arith in rw (is, below) refl
+
   pub length-parts : (f : ℕ → A) (k first n : ℕ) → length (parts join f k first n) ≡ n
   unfolding parts
   length-parts f k first zero = refl

@@ -34,17 +34,15 @@ pub(crate) fn count<N: Copy>(rows: &Vec<Row<N>>) -> u64
 
 /// How often a number can be halved until it is 0.
 pub(crate) fn levels(n: u64) -> usize
-    requires { n < 2 ^ 63 }
     ensures enough { n < 2 ^ result }
     ensures least { (k : ℕ) → n < 2 ^ k → result ≤ k }
-    ensures few { result ≤ 63 }
+    ensures few { n < 2 ^ 63 → result ≤ 63 }
 {
     if n == 0 { 0 } else { n.ilog2() as usize + 1 }
 }
 
 /// The part at a place in a level, from the zeros or from its row.
 pub(crate) fn part<N: Copy, J: Joins<N>, L: Ledger>(
-    start: u64,
     zeros: &Zeros<N, J>,
     rows: &Vec<Row<N>>,
     level: usize,
@@ -53,11 +51,11 @@ pub(crate) fn part<N: Copy, J: Joins<N>, L: Ledger>(
 ) -> N
     requires few { level < 64 }
     requires rows { vec_len rows.now ≡ 64 }
-    requires within { at < halves level start + length (row_at rows.now.items level) }
-    ensures part { result ≡ kept_part J.joined zeros.now.leaf start rows.now.items level at }
+    requires within { at < halves level zeros.now.start + length (row_at rows.now.items level) }
+    ensures part { result ≡ kept_part J.joined zeros.now.leaf zeros.now.start rows.now.items level at }
     ensures cost { steps.new ≡ steps.old + 1 }
 {
-    let first = start >> level;
+    let first = zeros.start >> level;
     if at < first {
         zeros.part(level, steps)
     } else {
@@ -106,7 +104,6 @@ fn grow_one<N: Copy>(rows: &mut Vec<Row<N>>, level: usize) -> Result<(), NoMemor
 
 /// Adds a leaf behind `n` leaves, and the parts that it completes, which stand in the levels up to `top`.
 pub(crate) fn add<N: Copy, J: Joins<N>, L: Ledger>(
-    start: u64,
     zeros: &Zeros<N, J>,
     rows: &mut Vec<Row<N>>,
     n: u64,
@@ -114,24 +111,24 @@ pub(crate) fn add<N: Copy, J: Joins<N>, L: Ledger>(
     leaf: N,
     steps: &mut Steps<L>,
 )
-    requires count { n ≡ start + length (row_at rows.old.items 0) }
+    requires count { n ≡ zeros.now.start + length (row_at rows.old.items 0) }
     requires many { n < 2 ^ 63 }
     requires top { EndsAt n top }
     requires few { top ≤ 63 }
     requires rows { vec_len rows.old ≡ 64 }
     requires row { (k : ℕ) → k < 64 → row_at rows.old.items k ≡
-        row_of J.joined (leaf_at start zeros.now.leaf (row_at rows.old.items 0 ++ leaf ∷ [])) start n k }
+        row_of J.joined (leaf_at zeros.now.start zeros.now.leaf (row_at rows.old.items 0 ++ leaf ∷ [])) zeros.now.start n k }
     requires room { (k : ℕ) → k ≤ top → 0 < room_at rows.old.items k }
     ensures len { vec_len rows.new ≡ 64 }
     ensures items { row_at rows.new.items 0 ≡ row_at rows.old.items 0 ++ leaf ∷ [] }
     ensures row { (k : ℕ) → k < 64 → row_at rows.new.items k ≡
-        row_of J.joined (leaf_at start zeros.now.leaf (row_at rows.old.items 0 ++ leaf ∷ [])) start (n + 1) k }
+        row_of J.joined (leaf_at zeros.now.start zeros.now.leaf (row_at rows.old.items 0 ++ leaf ∷ [])) zeros.now.start (n + 1) k }
 {
     let mut node = leaf;
     let mut at = n;
     for level in 0..top {
         put(rows, level, node);
-        let left = part(start, zeros, rows, level, at - 1, steps);
+        let left = part(zeros, rows, level, at - 1, steps);
         node = J::join(&left, &node);
         at /= 2;
     }

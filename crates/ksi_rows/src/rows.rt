@@ -21,7 +21,6 @@ use std::sync::ledger::{Blank, Ledger};
 #[derive(Drop)]
 pub struct Rows<N: Copy, J: Joins<N>> {
     alloc: Global,
-    start: u64,
     zeros: Zeros<N, J>,
     rows: Vec<Row<N>>,
 }
@@ -32,9 +31,9 @@ impl<N: Copy, J: Joins<N>> Model for Rows<N, J> {
 
     ghost Value = { Leaves N };
 
-    ghost view = { λ r. record { start = r.start; before = r.zeros.leaf; items = row_at r.rows.items 0 } };
+    ghost view = { λ r. record { start = r.zeros.start; before = r.zeros.leaf; items = row_at r.rows.items 0 } };
 
-    ghost invariant = { λ r. AreRows J.joined r.start r.zeros.leaf r.rows.items };
+    ghost invariant = { λ r. AreRows J.joined r.zeros.start r.zeros.leaf r.rows.items };
 }
 
 impl<N: Copy, J: Joins<N>> Rows<N, J> {
@@ -46,14 +45,9 @@ impl<N: Copy, J: Joins<N>> Rows<N, J> {
         requires { start ≤ 2 ^ 63 }
         ensures { IfOk result (λ rows. rows ≡ record { start = start; before = before; items = [] }) }
     {
-        let zeros = Zeros::new(alloc, before)?;
+        let zeros = Zeros::new(alloc, start, before)?;
         let rows = empty_rows(alloc)?;
-        Ok(Rows {
-            alloc,
-            start,
-            zeros,
-            rows,
-        })
+        Ok(Rows { alloc, zeros, rows })
     }
 
     /// What the memory is taken from.
@@ -65,7 +59,7 @@ impl<N: Copy, J: Joins<N>> Rows<N, J> {
     pub fn start(&self) -> u64
         ensures { result ≡ self.now.start }
     {
-        self.start
+        self.zeros.start
     }
 
     /// How many leaves came.
@@ -177,11 +171,11 @@ impl<N: Copy, J: Joins<N>> Rows<N, J> {
         ensures added { OnOk result (self.new ≡ record self.old { items = self.old.items ++ leaf ∷ [] }) }
         ensures unchanged { OnErr result (self.new ≡ self.old) }
     {
-        let n = self.start + count(&self.rows);
+        let n = self.zeros.start + count(&self.rows);
         let top = completed(n);
         // all growths come first, so that a refused one leaves all as it was
         grow(&mut self.rows, top)?;
-        add(self.start, &self.zeros, &mut self.rows, n, top, leaf, steps);
+        add(&self.zeros, &mut self.rows, n, top, leaf, steps);
         Ok(())
     }
 
@@ -189,7 +183,7 @@ impl<N: Copy, J: Joins<N>> Rows<N, J> {
         requires { last < self.now.start + length self.now.items }
         ensures { result ≡ tree J.joined (leaf_of self.now) 0 (last + 1) }
     {
-        let _ = &self.start;
+        let _ = &self.zeros;
         self.border(last, levels(last), steps)
     }
 
@@ -202,7 +196,7 @@ impl<N: Copy, J: Joins<N>> Rows<N, J> {
         requires { last < self.now.start + length self.now.items }
         ensures { result ≡ node_at J.joined (leaf_of self.now) last sides.now }
     {
-        let _ = &self.start;
+        let _ = &self.zeros;
         let mut first = 0;
         let mut count = last + 1;
         for side in sides {
@@ -229,7 +223,7 @@ impl<N: Copy, J: Joins<N>> Rows<N, J> {
         ensures part { result ≡ whole J.joined (leaf_of self.now) level at }
         ensures cost { steps.new ≡ steps.old + 1 }
     {
-        part(self.start, &self.zeros, &self.rows, level, at, steps)
+        part(&self.zeros, &self.rows, level, at, steps)
     }
 
     /// The last part of the next level.

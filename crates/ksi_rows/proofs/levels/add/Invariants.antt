@@ -7,12 +7,12 @@ use Rattle.ksi_rows.proofs.levels.add.Given as goal
 abbrev pub invariant-loop-level : goal.invariant-loop-level
 invariant-loop-level g l =
     let joined = g.J.Joins.joined in
-    let leaf = leaf_at l.start l.zeros.leaf (row_at l.fn.rows.items 0 ++ l.fn.leaf ∷ []) in
+    let leaf = leaf_at l.zeros.start l.zeros.leaf (row_at l.fn.rows.items 0 ++ l.fn.leaf ∷ []) in
     record {
       at : l.at ≡ halves l.level l.n;
       node : l.node ≡ whole joined leaf l.level (halves l.level l.n);
       len : vec_len l.rows ≡ 64;
-      done : (k : ℕ) → k < l.level → row_at l.rows.items k ≡ row_of joined leaf l.start (l.n + 1) k;
+      done : (k : ℕ) → k < l.level → row_at l.rows.items k ≡ row_of joined leaf l.zeros.start (l.n + 1) k;
       rest : (k : ℕ) → l.level ≤ k → row_at l.rows.items k ≡ row_at l.fn.rows.items k;
       room : (k : ℕ) → l.level ≤ k → room_at l.rows.items k ≡ room_at l.fn.rows.items k;
     }

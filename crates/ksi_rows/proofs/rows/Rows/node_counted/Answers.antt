@@ -13,7 +13,7 @@ use Rattle.ksi_rows.proofs.rows.Rows.node_counted.Goals.{in-Left, in-Right}
 
 pub loop-side-init : goal.loop-side-init
 loop-side-init g c =
-    let total : c.self.inside.start + length (row_at c.self.inside.rows.items 0) ≡ c.args.self.now.start + length c.args.self.now.items
+    let total : c.self.inside.zeros.start + length (row_at c.self.inside.rows.items 0) ≡ c.args.self.now.start + length c.args.self.now.items
     = ap (λ (v : Leaves g.row.N.Denot). v.start + length v.items) c.self.view_is in
     record {
       left = refl;

@@ -1,10 +1,10 @@
-use Rattle.std.proofs.Common.{◌≡◌, ◌≢◌, inl, inr, Some, Vec, Global, ◌+◌, ◌/◌, ◌%◌, ◌<◌, ◌≤◌, length, [], ◌∷◌, refl, sym, ◌∙◌, ap, ℕ, arith, add-one, append-nil}
+use Rattle.std.proofs.Common.{◌≡◌, ◌≢◌, inl, inr, Some, Vec, Global, ◌+◌, ◌/◌, ◌%◌, ◌^◌, ◌<◌, ◌≤◌, length, [], ◌∷◌, refl, sym, ◌∙◌, ap, ℕ, arith, add-one, append-nil}
 use Rattle.std.proofs.lemmas.List.{length-append}
 use Rattle.ksi_split.specs.Upward.{node, halves, links_up, whole}
 use Rattle.ksi_split.specs.declared.tree_link.TreeLink.{TreeLink}
 use Rattle.ksi_split.proofs.Powers.{lt_cases, halves_rise, halves_none, halved_below, last_pair}
 use Rattle.ksi_split.proofs.Upward.{path_is, links_next}
-use Rattle.ksi_rows.specs.Leaves.{leaf_of}
+use Rattle.ksi_rows.specs.Leaves.{leaf_of, Leaves}
 use Rattle.ksi_rows.proofs.rows.Rows.path_counted.Goals as goal
 use Rattle.ksi_rows.proofs.rows.Rows.path_counted.Goals.{then-t-last, else-t-last, in-Some+in_ok-push, in_default}
 
@@ -98,6 +98,12 @@ returns-clause-cost g c k small =
     let t = halves_none c.levels-levels.result c.args.t (omega (arith, c.levels-levels.ensures.enough, c.requires.within)) in
     let at : halves c.loop-level.level c.args.t ≡ halves c.loop-level.level c.args.last = ap (λ (i : ℕ). halves i c.args.t) level ∙ t ∙ sym last ∙ ap (λ (i : ℕ). halves i c.args.last) (sym level) in
     omega (arith, c.levels-levels.ensures.least k small, c.loop-level.invariant.merged (c.loop-level.invariant.at ∙ at), level)
+
+pub returns-clause-most : goal.returns-clause-most
+returns-clause-most g c =
+    let total = ap (λ (v : Leaves g.row.N.Denot). v.start + length v.items) c.self.view_is in
+    let small : c.args.last < 2 ^ 63 = omega (arith, total, c.self.invariant.few, c.requires.covered) in
+    omega (arith, returns-clause-cost g c 63 small)
 
 pub returns-in_err-push-clause-cost : goal.returns-in_err-push-clause-cost
 returns-in_err-push-clause-cost g c k small =
