@@ -37,13 +37,12 @@ module _ {A : Type 0} (join : A → A → A) (start : ℕ) (before : A) where
       ∙ parts_same join (leaf_at start before (row_at rows 0)) (leaf_at start before (row_at rows 0 ++ x ∷ [])) n k (halves k start) (halves k n - halves k start) (leaf_kept start before (row_at rows 0) x) (omega arith)
       ∙ ap (λ (xs : List A). row_of join (leaf_at start before (xs ++ x ∷ [])) start n k) (sym (same 0))
 
-  pub rows_added : (items : List A) (x : A) (new : List (Stored A)) (n : ℕ) → n ≡ start + length items → n < 2 ^ 63 → length new ≡ 64 → row_at new 0 ≡ items ++ x ∷ []
+  pub rows_added : (items : List A) (x : A) (new : List (Stored A)) (n : ℕ) → n ≡ start + length items → n < 2 ^ 63 → row_at new 0 ≡ items ++ x ∷ []
       → ((k : ℕ) → k < 64 → row_at new k ≡ row_of join (leaf_at start before (items ++ x ∷ [])) start (n + 1) k) → AreRows join start before new
-  rows_added items x new n count small len zero_row rows =
+  rows_added items x new n count small zero_row rows =
       let size = ap length zero_row in
       let total : n + 1 ≡ start + length (row_at new 0) = omega (arith, size, length-append items (x ∷ [])) in
       record {
-        count = len;
         few = omega arith;
         each = λ k few. rows k few ∙ ap (λ (m : ℕ). row_of join (leaf_at start before (items ++ x ∷ [])) start m k) total
             ∙ ap (λ (xs : List A). row_of join (leaf_at start before xs) start (start + length (row_at new 0)) k) (sym zero_row);
@@ -63,11 +62,10 @@ module _ {A : Type 0} (join : A → A → A) (start : ℕ) (before : A) where
       let size = ap length (are.each k few) in
       omega (arith, size, length-parts join (leaf_at start before (row_at rows 0)) k (halves k start) (halves k n - halves k start))
 
-  pub empty_are : (rows : List (Stored A)) → length rows ≡ 64 → start ≤ 2 ^ 63 → ((k : ℕ) → row_at rows k ≡ []) → AreRows join start before rows
-  empty_are rows len small none =
+  pub empty_are : (rows : List (Stored A)) → start ≤ 2 ^ 63 → ((k : ℕ) → row_at rows k ≡ []) → AreRows join start before rows
+  empty_are rows small none =
       let size : length (row_at rows 0) ≡ 0 = ap length (none 0) in
       record {
-        count = len;
         few = omega arith;
         each = λ k few. none k ∙ none_is join start before k (row_at rows 0) (start + length (row_at rows 0)) (omega arith);
       }

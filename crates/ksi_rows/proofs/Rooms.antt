@@ -1,5 +1,5 @@
 -- Rows, and the room in them, after one row is written.
-use Rattle.std.proofs.Common.{◌≡◌, ◌≢◌, inl, inr, ℕ, zero, suc, ◌<◌, List, [], ◌∷◌, ◌++◌, refl, length, get_or, slice_set, ◌∙◌, sym, ap}
+use Rattle.std.proofs.Common.{◌≡◌, ◌≢◌, inl, inr, ℕ, zero, suc, ◌<◌, List, [], ◌∷◌, ◌++◌, refl, length, get_or, slice_set, ◌∙◌, sym, ap, arith}
 use Rattle.ksi_split.proofs.Powers.{eq_cases}
 use Rattle.ksi_rows.specs.Stored.{Stored, row_at, room_at}
 use Rattle.ksi_rows.proofs.Members.{read_is, read_set_same, read_set_other}
@@ -35,14 +35,22 @@ module _ {A : Type 0} (rows : List (Stored A)) where
     | inr f ↦ row_others k j new f.1
   ]
 
-pub no_row : {A : Type 0} (rows : List (Stored A)) → rows ≡ [] → (k : ℕ) → row_at rows k ≡ []
+pub no_row : {A : Type 0} (rows : List (Stored A)) → length rows ≡ 0 → (k : ℕ) → row_at rows k ≡ []
 unfolding row_at
 no_row [] e k = refl
-no_row (v ∷ rows) e k = absurd cc
+no_row (v ∷ rows) e k = absurd (omega arith)
 
-pub no_rows : {A : Type 0} (rows : List (Stored A)) (v : Stored A) → v.parts ≡ [] → ((k : ℕ) → row_at rows k ≡ []) → (k : ℕ) → row_at (rows ++ v ∷ []) k ≡ []
+-- an empty row behind the others
+pub row_pushed : {A : Type 0} (rows : List (Stored A)) (v : Stored A) → v.parts ≡ [] → (k : ℕ) → row_at (rows ++ v ∷ []) k ≡ row_at rows k
 unfolding row_at
-no_rows [] v e none zero = e
-no_rows [] v e none (suc k) = refl
-no_rows (u ∷ rows) v e none zero = none zero
-no_rows (u ∷ rows) v e none (suc k) = no_rows rows v e (λ j. none (suc j)) k
+row_pushed [] v e zero = e
+row_pushed [] v e (suc k) = refl
+row_pushed (u ∷ rows) v e zero = refl
+row_pushed (u ∷ rows) v e (suc k) = row_pushed rows v e k
+
+-- a row that has parts is there
+pub row_there : {A : Type 0} (rows : List (Stored A)) (k j : ℕ) → j < length (row_at rows k) → k < length rows
+unfolding row_at
+row_there [] k j lt = absurd (omega arith)
+row_there (v ∷ rows) zero j lt = omega arith
+row_there (v ∷ rows) (suc k) j lt = omega (arith, row_there rows k j lt)

@@ -46,9 +46,8 @@ pub record EndsAt (n top : ℕ) : Type 0 where
   pub odd : (k : ℕ) → k < top → halves k n % 2 ≡ 1
   pub even : halves top n % 2 ≡ 0
 
--- the rows are those of the leaves, of which the lowest row has the ones that came
+-- the rows are those of the leaves, of which the lowest row has the ones that came; a row that is not there is empty
 pub record AreRows {A : Type 0} (join : A → A → A) (start : ℕ) (before : A) (rows : List (Stored A)) : Type 0 where
-  pub count : length rows ≡ 64
   pub few : start + length (row_at rows 0) ≤ 2 ^ 63
   pub each : (k : ℕ) → k < 64 → row_at rows k ≡ row_of join (leaf_at start before (row_at rows 0)) start (start + length (row_at rows 0)) k
 

@@ -1,5 +1,5 @@
 //! The rows of all levels, the lowest first: how they are read, and how they grow by a leaf.
-ghost use Rattle.std.specs.Prelude.{◌≡◌, ◌≢◌, ◌++◌, ◌∷◌, [], ℕ, ◌<◌, ◌≤◌, ◌%◌, ◌+◌, ◌^◌, length, vec_len, OnOk, IfOk, List};
+ghost use Rattle.std.specs.Prelude.{◌≡◌, ◌≢◌, ◌++◌, ◌∷◌, [], ℕ, ◌<◌, ◌≤◌, ◌%◌, ◌+◌, ◌^◌, length, vec_len, OnOk, List};
 ghost use Rattle.ksi_split.specs.Upward.{halves};
 ghost use Rattle.ksi_rows.specs.Leaves.{leaf_at};
 ghost use Rattle.ksi_rows.specs.Stored.{row_at, room_at, kept_part, row_of, EndsAt};
@@ -12,24 +12,15 @@ use crate::zeros::Zeros;
 use std::alloc::Global;
 use std::sync::ledger::Ledger;
 
-/// Sixty-four empty rows.
-pub(crate) fn empty_rows<N: Copy>(alloc: Global) -> Result<Vec<Row<N>>, NoMemory>
-    ensures len { IfOk result (λ rows. vec_len rows ≡ 64) }
-    ensures none { IfOk result (λ rows. (k : ℕ) → row_at rows.items k ≡ []) }
-{
-    let mut rows = Vec::with_capacity(alloc, 64)?;
-    for _level in 0..64usize {
-        rows.push(Row::new(alloc))?;
-    }
-    Ok(rows)
-}
-
 /// How many leaves stand in the lowest row.
 pub(crate) fn count<N: Copy>(rows: &Vec<Row<N>>) -> u64
-    requires { 0 < vec_len rows.now }
     ensures { result ≡ length (row_at rows.now.items 0) }
 {
-    rows[0].len() as u64
+    if rows.is_empty() {
+        0
+    } else {
+        rows[0].len() as u64
+    }
 }
 
 /// How often a number can be halved until it is 0.
@@ -50,7 +41,6 @@ pub(crate) fn part<N: Copy, J: Joins<N>, L: Ledger>(
     steps: &mut Steps<L>,
 ) -> N
     requires few { level < 64 }
-    requires rows { vec_len rows.now ≡ 64 }
     requires within { at < halves level zeros.now.start + length (row_at rows.now.items level) }
     ensures part { result ≡ kept_part J.joined zeros.now.leaf zeros.now.start rows.now.items level at }
     ensures cost { steps.new ≡ steps.old + 1 }
@@ -78,15 +68,32 @@ pub(crate) fn completed(n: u64) -> usize
     level
 }
 
-/// Makes room for one part in each row up to `top`.
-pub(crate) fn grow<N: Copy>(rows: &mut Vec<Row<N>>, top: usize) -> Result<(), NoMemory>
-    requires { top < vec_len rows.old }
-    ensures len { vec_len rows.new ≡ vec_len rows.old }
+/// Makes the rows up to `top` where they are not there, and room for one part in each of them.
+pub(crate) fn grow<N: Copy>(
+    alloc: Global,
+    rows: &mut Vec<Row<N>>,
+    top: usize,
+) -> Result<(), NoMemory>
+    requires few { top ≤ 63 }
     ensures kept { (k : ℕ) → row_at rows.new.items k ≡ row_at rows.old.items k }
+    ensures rows { OnOk result (top < vec_len rows.new) }
     ensures room { OnOk result ((k : ℕ) → k ≤ top → 0 < room_at rows.new.items k) }
 {
+    make(alloc, rows, top)?;
     for level in 0..top + 1 {
         grow_one(rows, level)?;
+    }
+    Ok(())
+}
+
+/// Makes the rows up to `top` where they are not there; a row that is made is empty.
+fn make<N: Copy>(alloc: Global, rows: &mut Vec<Row<N>>, top: usize) -> Result<(), NoMemory>
+    requires few { top ≤ 63 }
+    ensures kept { (k : ℕ) → row_at rows.new.items k ≡ row_at rows.old.items k }
+    ensures rows { OnOk result (top < vec_len rows.new) }
+{
+    for _level in rows.len()..top + 1 {
+        rows.push(Row::new(alloc))?;
     }
     Ok(())
 }
@@ -115,11 +122,10 @@ pub(crate) fn add<N: Copy, J: Joins<N>, L: Ledger>(
     requires many { n < 2 ^ 63 }
     requires top { EndsAt n top }
     requires few { top ≤ 63 }
-    requires rows { vec_len rows.old ≡ 64 }
+    requires rows { top < vec_len rows.old }
     requires row { (k : ℕ) → k < 64 → row_at rows.old.items k ≡
         row_of J.joined (leaf_at zeros.now.start zeros.now.leaf (row_at rows.old.items 0 ++ leaf ∷ [])) zeros.now.start n k }
     requires room { (k : ℕ) → k ≤ top → 0 < room_at rows.old.items k }
-    ensures len { vec_len rows.new ≡ 64 }
     ensures items { row_at rows.new.items 0 ≡ row_at rows.old.items 0 ++ leaf ∷ [] }
     ensures row { (k : ℕ) → k < 64 → row_at rows.new.items k ≡
         row_of J.joined (leaf_at zeros.now.start zeros.now.leaf (row_at rows.old.items 0 ++ leaf ∷ [])) zeros.now.start (n + 1) k }

@@ -2,7 +2,8 @@
 //!
 //! The first `start` leaves are all alike and are never walked: for each size `2 ^ k` that is at most `start`, one of
 //! their complete parts is made. Behind them leaves come one by one. For each size `2 ^ k` a row keeps the complete
-//! parts of so many leaves that do not end before the start. Trees are cut as `ksi_split` says.
+//! parts of so many leaves that do not end before the start; it is made when its first part comes. Trees are cut as
+//! `ksi_split` says.
 //!
 //! The layer above may rely on this: `root`, `node` and `path` are those of the tree over all leaves to `last`, joined
 //! as the implementation of [`Joins`] says, and none of them but `path` takes memory; after a refused `append` all is as

@@ -6,7 +6,7 @@ ghost use Rattle.ksi_rows.specs.Stored.{maybe_link};
 
 use crate::NoMemory;
 use crate::joins::Joins;
-use crate::levels::{add, completed, count, empty_rows, grow, levels, part};
+use crate::levels::{add, completed, count, grow, levels, part};
 use crate::row::Row;
 use crate::steps::Steps;
 use crate::uncounted::{append_from, leaf_from, node_from, path_from, root_from};
@@ -46,8 +46,11 @@ impl<N: Copy, J: Joins<N>> Rows<N, J> {
         ensures { IfOk result (λ rows. rows ≡ record { start = start; before = before; items = [] }) }
     {
         let zeros = Zeros::new(alloc, start, before)?;
-        let rows = empty_rows(alloc)?;
-        Ok(Rows { alloc, zeros, rows })
+        Ok(Rows {
+            alloc,
+            zeros,
+            rows: Vec::new(alloc),
+        })
     }
 
     /// What the memory is taken from.
@@ -174,7 +177,7 @@ impl<N: Copy, J: Joins<N>> Rows<N, J> {
         let n = self.zeros.start + count(&self.rows);
         let top = completed(n);
         // all growths come first, so that a refused one leaves all as it was
-        grow(&mut self.rows, top)?;
+        grow(self.alloc, &mut self.rows, top)?;
         add(&self.zeros, &mut self.rows, n, top, leaf, steps);
         Ok(())
     }

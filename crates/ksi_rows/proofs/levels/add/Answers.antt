@@ -12,7 +12,7 @@ unfolding whole
 loop-level-init g c = record {
   at = refl;
   node = sym (leaf_last c.args.zeros.now.start c.args.zeros.now.leaf (row_at c.args.rows.now.items 0) c.args.leaf) ∙ ap (leaf_at c.args.zeros.now.start c.args.zeros.now.leaf (row_at c.args.rows.now.items 0 ++ c.args.leaf ∷ [])) (sym c.requires.count);
-  len = c.requires.rows;
+  rows = c.requires.rows;
   done = λ k lt. absurd (omega arith);
   rest = λ k le. refl;
   room = λ k le. refl;
@@ -50,7 +50,7 @@ loop-level-preserved g c =
         node_step joined leaf c.args.zeros.now.start c.args.zeros.now.leaf c.put.new.rows.items k c.args.n
             (leaf_before c.args.zeros.now.start c.args.zeros.now.leaf (row_at c.args.rows.now.items 0 ++ c.args.leaf ∷ [])) (omega (arith, c.requires.count)) (c.requires.top.odd k below) row,
       );
-      len = c.put.ensures.len ∙ c.loop-level.invariant.len;
+      rows = omega (arith, c.put.ensures.len, c.loop-level.invariant.rows);
       done = below_more _ _ (λ j lt. c.put.ensures.others j (omega arith) ∙ c.loop-level.invariant.done j lt) row;
       rest = λ j le. c.put.ensures.others j (omega arith) ∙ c.loop-level.invariant.rest j (omega arith);
       room = λ j le. c.put.ensures.rooms j (omega arith) ∙ c.loop-level.invariant.room j (omega arith);

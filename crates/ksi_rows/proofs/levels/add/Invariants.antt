@@ -11,7 +11,7 @@ invariant-loop-level g l =
     record {
       at : l.at ≡ halves l.level l.n;
       node : l.node ≡ whole joined leaf l.level (halves l.level l.n);
-      len : vec_len l.rows ≡ 64;
+      rows : l.top < vec_len l.rows;
       done : (k : ℕ) → k < l.level → row_at l.rows.items k ≡ row_of joined leaf l.zeros.start (l.n + 1) k;
       rest : (k : ℕ) → l.level ≤ k → row_at l.rows.items k ≡ row_at l.fn.rows.items k;
       room : (k : ℕ) → l.level ≤ k → room_at l.rows.items k ≡ room_at l.fn.rows.items k;

@@ -4,7 +4,7 @@ use Rattle.ksi_rows.proofs.levels.grow.Given as goal
 
 abbrev pub invariant-loop-level : goal.invariant-loop-level
 invariant-loop-level g l = record {
-  len : vec_len l.rows ≡ vec_len l.fn.rows;
+  rows : l.top < vec_len l.rows;
   kept : (k : ℕ) → row_at l.rows.items k ≡ row_at l.fn.rows.items k;
   room : (k : ℕ) → k < l.level → 0 < room_at l.rows.items k;
 }

@@ -1,17 +1,23 @@
 use Rattle.std.proofs.Common.{ℕ, ◌-◌, ◌<◌, length, get_or, List, ◌∙◌, sym, ap, arith}
 use Rattle.ksi_split.specs.Upward.{halves}
 use Rattle.ksi_split.proofs.Powers.{halves_quotient}
-use Rattle.ksi_rows.proofs.Rooms.{row_is}
+use Rattle.ksi_rows.proofs.Rooms.{row_is, row_there}
 use Rattle.ksi_rows.proofs.Parts.{kept_before, kept_row}
 use Rattle.ksi_rows.proofs.levels.part.Goals as goal
 
 pub part-requires : goal.part-requires
 part-requires g c = omega (arith, halves_quotient c.args.level c.args.zeros.now.start, c.if-at-first.true)
 
+pub index-requires : goal.index-requires
+index-requires g c =
+    let q = halves_quotient c.args.level c.args.zeros.now.start in
+    let there = row_there c.args.rows.now.items c.args.level (c.args.at - halves c.args.level c.args.zeros.now.start) (omega (arith, q, c.requires.within, c.if-at-first.false)) in
+    omega (arith, c.args.rows.now.ok.0, there)
+
 pub read-requires : goal.read-requires
 read-requires g c =
     let q = halves_quotient c.args.level c.args.zeros.now.start in
-    let lt : c.args.level < length c.args.rows.now.items = omega (arith, c.args.rows.now.ok.0, c.requires.rows, c.requires.few) in
+    let lt : c.args.level < length c.args.rows.now.items = row_there c.args.rows.now.items c.args.level (c.args.at - halves c.args.level c.args.zeros.now.start) (omega (arith, q, c.requires.within, c.if-at-first.false)) in
     let row = ap length (row_is c.args.rows.now.items c.args.level c.index.result.now lt c.index.ensures) in
     omega (arith, row, c.requires.within, c.if-at-first.false)
 
@@ -23,7 +29,7 @@ returns-then-at-first-clause-part g c =
 pub returns-else-at-first-clause-part : goal.returns-else-at-first-clause-part
 returns-else-at-first-clause-part g c =
     let q = halves_quotient c.args.level c.args.zeros.now.start in
-    let lt : c.args.level < length c.args.rows.now.items = omega (arith, c.args.rows.now.ok.0, c.requires.rows, c.requires.few) in
+    let lt : c.args.level < length c.args.rows.now.items = row_there c.args.rows.now.items c.args.level (c.args.at - halves c.args.level c.args.zeros.now.start) (omega (arith, q, c.requires.within, c.if-at-first.false)) in
     let row = row_is c.args.rows.now.items c.args.level c.index.result.now lt c.index.ensures in
     let kept = kept_row g.J.Joins.joined c.args.zeros.now.start c.args.zeros.now.leaf c.args.rows.now.items c.args.level c.args.at (omega (arith, c.if-at-first.false)) in
     c.read.ensures.part c.args.zeros.now.leaf

@@ -19,7 +19,7 @@ invariant_of-self-2 g c =
     = ap (λ (v : Leaves g.row.N.Denot). v.start + length v.items) c.self.view_is in
     let small : c.self.inside.zeros.start + c.count.result < 2 ^ 63 = omega (arith, total, c.requires, c.count.ensures) in
     rows_added joined c.self.inside.zeros.start c.self.inside.zeros.leaf (row_at c.grow.new.rows.items 0) c.args.leaf c.add.new.rows.items (c.self.inside.zeros.start + c.count.result) count small
-    (omega (arith, c.add.new.rows.ok.0, c.add.ensures.len)) c.add.ensures.items c.add.ensures.row
+    c.add.ensures.items c.add.ensures.row
 
 pub returns-clause-added : goal.returns-clause-added
 returns-clause-added g c =
