@@ -5,7 +5,7 @@
 //! 2013). A round has at most 65,536 items, of levels to 239, so that no level passes 255.
 //!
 //! The layer above may rely on this: `root` is the tree of the items; the links of `path` climb from an item to it along
-//! the item's way; `node` is the tree of the part that sides lead to. Only `new`, `add` and the paths take memory, and
+//! the item's way; `node` is the tree of the part that sides lead to. Only `add` and the paths take memory, and
 //! after a refused `add` all is as it was. A path takes at most 32 steps, each the read of one stored node, and one step
 //! at least for the item and for each link. [`Entries`] is a round that also keeps where each item came from, a request
 //! or an aggregator. What holds of the definitions is in `laws`.
