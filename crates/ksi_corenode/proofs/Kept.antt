@@ -1,20 +1,17 @@
 -- The calendar that is kept: it stays one as long as nothing that is held is lost, and as it is taken on. Its leaves are
 -- those of all that is held.
-use Rattle.std.proofs.Common.{◌≡◌, ◌∙◌, ℕ, zero, suc, ◌+◌, ◌-◌, ◌^◌, ◌<◌, ◌≤◌, List, [], ◌∷◌, ◌++◌, length, get_or, Option, Some, None, true, false, Bool, ◌&&◌, cond, refl, sym, ap, subst, arith, inl, inr, length-append, ltb, leb, le-leb, lt-ltb}
-use Rattle.std.specs.Prelude.{◌==◌, if◌then◌else◌, is_some, IfSome, IsSome, unwrap_or}
+use Rattle.std.proofs.Common.{◌≡◌, ◌∙◌, ℕ, zero, suc, ◌+◌, ◌-◌, ◌<◌, ◌≤◌, List, [], ◌∷◌, length, get_or, Option, Some, None, true, false, Bool, ◌&&◌, cond, refl, sym, ap, subst, arith, inl, inr, ltb, leb, le-leb, lt-ltb}
+use Rattle.std.specs.Prelude.{if◌then◌else◌, is_some, IfSome, IsSome, unwrap_or}
 use Rattle.std.proofs.lemmas.Bool.{le-ltb, ltb-true, cond-true, cond-false, cases_lt}
-use Rattle.std.proofs.lemmas.List.{get_or_append_left}
-use Rattle.std.proofs.Math.Seq.{get_or-append_seam}
-use Rattle.std.proofs.Math.Nat.{eq-or-lt_of_le}
 use Rattle.ksi_imprint.specs.Imprints.{zero_imprint}
 use Rattle.ksi_calendar.specs.Calendar.{Seconds, calendar_leaf, calendar_root, root_at}
 use Rattle.std.specs.Ordering.{nat_cmp}
 use Rattle.std.specs.BTreeMap.{is_at}
 use Rattle.std.specs.Map.{lookup, set_value}
 use Rattle.ksi_corenode.specs.SecondState.{SecondState, fresh_second}
-use Rattle.ksi_corenode.specs.Held.{Held, roots_among, held_seconds, first_missing, IsFirstMissing}
+use Rattle.ksi_corenode.specs.Held.{Held, roots_among, held_seconds, first_missing}
 use Rattle.ksi_corenode.specs.Kept.{IsKept, StillHolds}
-use Rattle.ksi_corenode.specs.CoreState.{CoreState, second_at, held_by}
+use Rattle.ksi_corenode.specs.CoreState.{second_at, held_by}
 use Rattle.ksi_signature.specs.declared.answer.Answer.TheVariants.{Published}
 use Rattle.ksi_corenode.specs.Rows.{publish_answer, publish_where}
 use Rattle.ksi_corenode.proofs.Missing.{first_words, all_held}

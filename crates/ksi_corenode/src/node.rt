@@ -167,7 +167,7 @@ impl<C: Compress> Core<C> {
         self.make_room(second)?;
         let answer = match self.seconds.get_mut(&second) {
             Some(kept) => kept.submission(alloc, aggregator, &item)?,
-            None => Answer::Late,
+            None => unreachable!(),
         };
         Ok(Step::without_sends(alloc, answer))
     }
@@ -188,7 +188,7 @@ impl<C: Compress> Core<C> {
         self.make_room(second)?;
         let answer = match self.seconds.get_mut(&second) {
             Some(kept) => kept.seal(),
-            None => Answer::Sealed,
+            None => unreachable!(),
         };
         Ok(Step::without_sends(alloc, answer))
     }
@@ -211,7 +211,7 @@ impl<C: Compress> Core<C> {
         self.make_room(second)?;
         let begun = match self.seconds.get_mut(&second) {
             Some(kept) => kept.ballot(),
-            None => Begun::Unsealed,
+            None => unreachable!(),
         };
         let answer = match begun {
             Begun::Unsealed => Answer::Unsealed,
@@ -252,7 +252,7 @@ impl<C: Compress> Core<C> {
         self.make_room(second)?;
         let (answer, reply) = match self.seconds.get_mut(&second) {
             Some(kept) => kept.receive(from, message),
-            None => (Answer::Nothing, None),
+            None => unreachable!(),
         };
         push_told(self.members, second, from, &reply, &mut sends);
         Ok(Step {

@@ -4,8 +4,8 @@ use Rattle.ksi_corenode.specs.CoreState.{held_by}
 use Rattle.ksi_corenode.proofs.Kept.{published_root}
 use Rattle.ksi_corenode.proofs.node.Core.published.Goals as goal
 
-pub returns-in-Some-root_at-clause-answer : goal.returns-in-Some-root_at-clause-answer
-returns-in-Some-root_at-clause-answer g c =
+pub returns-clause-answer : goal.returns-clause-answer
+returns-clause-answer g c =
     let image = g.C.Compress.image in
     let now = c.args.self.now in
     let held = held_by now in

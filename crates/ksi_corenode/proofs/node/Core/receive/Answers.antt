@@ -1,23 +1,16 @@
-use Rattle.std.proofs.Common.{◌≡◌, ◌∙◌, sym, ap}
+use Rattle.std.proofs.Common.{◌∙◌, sym, ap}
 use Rattle.std.specs.Option.{option_copied_mut}
-use Rattle.ksi_corenode.specs.Kept.{IsKept}
 use Rattle.ksi_corenode.proofs.Kept.{kept_write}
-use Rattle.ksi_corenode.proofs.node.Core.receive.Goals.{in-Some, in-None}
 use Rattle.ksi_corenode.proofs.node.Core.receive.Goals as goal
 
 pub invariant_of-self : goal.invariant_of-self
 invariant_of-self g c =
     let core = c.self-2.inside in
     let kept = c.self-2.invariant in
-    elim c.match-get_mut.branch [
-      | in-Some w ↦
-          let step = w.receive in
-          let there = sym c.get_mut.ensures.value ∙ ap option_copied_mut w.in-Some.is in
-          rw w.self-inside-is (
-            kept.0,
-            kept.1,
-            kept_write core.me core.members core.start c.args.second core.seconds.entries (c.get_mut.follows.lender step.new.self).entries core.calendar
-                w.in-Some.kept.now step.new.self there (c.get_mut.follows.holds step.new.self).0 step.ensures.held kept.2,
-          )
-      | in-None w ↦ rw (w.self-inside-is, c.get_mut.follows.holds-at-none) kept
-    ]
+    let step = c.receive in
+    let there = sym c.get_mut.ensures.value ∙ ap option_copied_mut c.in-Some.is in (
+      kept.0,
+      kept.1,
+      kept_write core.me core.members core.start c.args.second core.seconds.entries (c.get_mut.follows.lender step.new.self).entries core.calendar
+          c.in-Some.kept.now step.new.self there (c.get_mut.follows.holds step.new.self).0 step.ensures.held kept.2,
+    )
