@@ -1,15 +1,22 @@
 ghost use Rattle.std.specs.Prelude.{◌≡◌, ◌≤◌, ◌<◌, ◌+◌, ◌^◌, length, IfOk};
 
-use crate::{SecondPath, Calendar};
+use crate::{Calendar, SecondPath};
 use ksi_calchain::CalLink;
 use ksi_imprint::{Compress, Imprint, NoMemory, Tiny};
 use ksi_rows::Steps;
 use ksi_split::Side::{Left, Right};
 use ksi_split::{Side, split};
 use std::alloc::Global;
+use std::fmt::Debug;
 use std::marker::Brand;
+use std::process::Abort;
 use std::sync::ledger::{Blank, Ledger};
 use std::test::Fail;
+
+// The one assertion. The time to prove a function grows with the square of its length.
+fn same<T: Copy + Debug + PartialEq>(rt: &impl Abort, at: &str, told: T, want: T) {
+    assert_eq!(rt; told, want, "{at}");
+}
 
 /// The imprint whose digest has this first byte, and zero bytes behind it.
 fn named(first: u8) -> Imprint {
@@ -34,6 +41,33 @@ fn calendar_of(alloc: Global, start: u64, roots: &[Imprint]) -> Result<Calendar<
         calendar.append(*root)?;
     }
     Ok(calendar)
+}
+
+fn roots(rt: &impl Abort, calendar: &Calendar<Tiny>, rows: &[(u64, Option<u8>)]) {
+    for (p, first) in rows {
+        same(rt, "root", calendar.root_at(*p), first.map(named));
+    }
+}
+
+fn nodes(rt: &impl Abort, calendar: &Calendar<Tiny>, rows: &[(u64, &[Side], Option<u8>)]) {
+    for (p, sides, first) in rows {
+        same(rt, "node", calendar.node(*p, sides), first.map(named));
+    }
+}
+
+fn chain(
+    rt: &impl Abort,
+    calendar: &Calendar<Tiny>,
+    t: u64,
+    p: u64,
+    want: &[CalLink],
+) -> Result<(), NoMemory>
+    requires within { t ≤ p }
+    requires covered { p < calendar.now.start + length calendar.now.roots }
+{
+    let links = calendar.chain_to(t, p)?;
+    same(rt, "chain", links.as_slice(), want);
+    Ok(())
 }
 
 fn counted<L: Ledger>(
@@ -68,6 +102,25 @@ fn plain_tree(roots: &[Imprint], lo: u64, n: u64) -> Imprint
     Tiny::join(left.bytes(), right.bytes(), 0xff)
 }
 
+/// The link at the top of a tree over `n` of the roots from `lo`, for leaf `lo + t`.
+fn plain_link(roots: &[Imprint], lo: u64, t: u64, n: u64) -> CalLink
+    requires several { 1 < n }
+    requires few { lo + n ≤ 1000 }
+{
+    let half = split(n);
+    if t < half {
+        CalLink {
+            side: Left,
+            sibling: plain_tree(roots, lo + half, n - half),
+        }
+    } else {
+        CalLink {
+            side: Right,
+            sibling: plain_tree(roots, lo, half),
+        }
+    }
+}
+
 /// The links from leaf `lo + t` up to that tree, by plain recursion.
 fn plain_chain(
     roots: &[Imprint],
@@ -84,92 +137,130 @@ fn plain_chain(
     let half = split(n);
     if t < half {
         plain_chain(roots, lo, t, half, links)?;
-        let sibling = plain_tree(roots, lo + half, n - half);
-        links.push(CalLink {
-            side: Left,
-            sibling,
-        })?;
     } else {
         plain_chain(roots, lo + half, t - half, n - half, links)?;
-        let sibling = plain_tree(roots, lo, half);
-        links.push(CalLink {
-            side: Right,
-            sibling,
-        })?;
+    }
+    links.push(plain_link(roots, lo, t, n))?;
+    Ok(())
+}
+
+fn agree(
+    rt: &impl Abort,
+    alloc: Global,
+    calendar: &Calendar<Tiny>,
+    roots: &[Imprint],
+    t: u64,
+    p: u64,
+) -> Result<(), NoMemory>
+    requires within { t ≤ p }
+    requires covered { p < calendar.now.start + length calendar.now.roots }
+    requires few { p < 1000 }
+{
+    let mut links = Vec::new(alloc);
+    plain_chain(roots, 0, t, p + 1, &mut links)?;
+    chain(rt, calendar, t, p, links.as_slice())
+}
+
+fn agree_below(
+    rt: &impl Abort,
+    alloc: Global,
+    calendar: &Calendar<Tiny>,
+    roots: &[Imprint],
+    p: u64,
+) -> Result<(), NoMemory>
+    requires covered { p < calendar.now.start + length calendar.now.roots }
+    requires few { p < 1000 }
+{
+    same(
+        rt,
+        "tree",
+        calendar.root_at(p),
+        Some(plain_tree(roots, 0, p + 1)),
+    );
+    for t in 0..p + 1 {
+        agree(rt, alloc, calendar, roots, t, p)?;
     }
     Ok(())
 }
 
+fn three_seconds(alloc: Global) -> Result<Calendar<Tiny>, NoMemory>
+    ensures { IfOk result (λ calendar. calendar.start + length calendar.roots ≡ 3) }
+{
+    calendar_of(alloc, 0, &[named(0x0a), named(0x14), named(0x1e)])
+}
+
 #[test]
-fn three_seconds_from_zero(rt: HostRuntime) -> Result<(), Fail> {
-    let calendar = calendar_of(rt.alloc(), 0, &[named(0x0a), named(0x14), named(0x1e)])?;
-    let roots = [
-        Some(named(0x0a)),
-        Some(named(0x1f)),
-        Some(named(0x3e)),
-        None,
+fn roots_and_nodes_of_three_seconds_from_zero(rt: HostRuntime) -> Result<(), Fail> {
+    let calendar = three_seconds(rt.alloc())?;
+    const ROOTS: [(u64, Option<u8>); 4] = [
+        (0, Some(0x0a)),
+        (1, Some(0x1f)),
+        (2, Some(0x3e)),
+        (3, None),
     ];
-    for (p, root) in roots.iter().enumerate() {
-        assert_eq!(rt; calendar.root_at(p as u64), *root);
-    }
-    let nodes: [(u64, &[Side], Option<Imprint>); 5] = [
-        (2, &[], Some(named(0x3e))),
-        (2, &[Left], Some(named(0x1f))),
-        (2, &[Left, Right], Some(named(0x14))),
+    const NODES: [(u64, &[Side], Option<u8>); 5] = [
+        (2, &[], Some(0x3e)),
+        (2, &[Left], Some(0x1f)),
+        (2, &[Left, Right], Some(0x14)),
         (2, &[Right, Left], None),
         (3, &[], None),
     ];
-    for (p, sides, node) in nodes {
-        assert_eq!(rt; calendar.node(p, sides), node);
-    }
-    let chain = [link(Right, 0x0a), link(Left, 0x1e)];
-    assert_eq!(rt; calendar.chain_to(1, 2)?.as_slice(), chain.as_slice());
-    let same = counted::<Brand>(&calendar, 1, 2, Blank::new(1))?;
-    assert_eq!(rt; same.as_slice(), chain.as_slice());
-    let last = calendar.chain_to(2, 2)?;
-    assert_eq!(rt; last.as_slice(), [link(Right, 0x1f)].as_slice());
+    roots(&rt, &calendar, &ROOTS);
+    nodes(&rt, &calendar, &NODES);
+    Ok(())
+}
+
+#[test]
+fn chains_of_three_seconds_from_zero(rt: HostRuntime) -> Result<(), Fail> {
+    let calendar = three_seconds(rt.alloc())?;
+    let links = [link(Right, 0x0a), link(Left, 0x1e)];
+    chain(&rt, &calendar, 1, 2, &links)?;
+    chain(&rt, &calendar, 2, 2, &[link(Right, 0x1f)])?;
+    let told = counted::<Brand>(&calendar, 1, 2, Blank::new(1))?;
+    same(&rt, "counted", told.as_slice(), &links);
     Ok(())
 }
 
 #[test]
 fn zeros_stand_before_the_start(rt: HostRuntime) -> Result<(), Fail> {
     let calendar = calendar_of(rt.alloc(), 2, &[named(0x0a)])?;
-    let chain = calendar.chain_to(2, 2)?;
-    assert_eq!(rt; chain.as_slice(), [link(Right, 0x01)].as_slice());
-    assert_eq!(rt; calendar.root_at(2), Some(named(0x0c)));
-    assert_eq!(rt; calendar.root_at(1), None);
-    let before = calendar.chain_to(0, 2)?;
-    assert_eq!(rt;
-        before.as_slice(),
-        [link(Left, 0), link(Left, 0x0a)].as_slice()
-    );
-
-    let late = calendar_of(rt.alloc(), 1_700_000_000, &[named(0x0a)])?;
-    let chain = late.chain_to(1_700_000_000, 1_700_000_000)?;
-    assert_eq!(rt; chain.as_slice().len(), 13);
-    for (place, link) in chain.as_slice().iter().enumerate() {
-        assert_eq!(rt; link.side, Right);
-        // 256 zero leaves have the root whose digest begins with 2 ^ 8 - 1
-        assert_eq!(rt; place > 0 || link.sibling == named(0xff), true);
-    }
+    chain(&rt, &calendar, 2, 2, &[link(Right, 0x01)])?;
+    chain(&rt, &calendar, 0, 2, &[link(Left, 0), link(Left, 0x0a)])?;
+    roots(&rt, &calendar, &[(2, Some(0x0c)), (1, None)]);
     Ok(())
 }
 
+fn zeros_below(rt: &impl Abort, links: &[CalLink]) {
+    same(rt, "length", links.len(), 13);
+    // 256 zero leaves have the root whose digest begins with 2 ^ 8 - 1
+    same(rt, "lowest", links.first(), Some(&link(Right, 0xff)));
+    for link in links {
+        same(rt, "side", link.side, Right);
+    }
+}
+
 #[test]
-fn trees_and_chains_by_plain_recursion(rt: HostRuntime) -> Result<(), Fail> {
+fn zeros_stand_before_a_late_start(rt: HostRuntime) -> Result<(), Fail> {
+    let late = calendar_of(rt.alloc(), 1_700_000_000, &[named(0x0a)])?;
+    let links = late.chain_to(1_700_000_000, 1_700_000_000)?;
+    zeros_below(&rt, links.as_slice());
+    Ok(())
+}
+
+fn forty() -> [Imprint; 40] {
     let mut roots = [Imprint::ZERO; 40];
     for (place, root) in roots.iter_mut().enumerate() {
         *root = named((place % 50) as u8 * 5);
     }
+    roots
+}
+
+#[test]
+fn trees_and_chains_by_plain_recursion(rt: HostRuntime) -> Result<(), Fail> {
+    let roots = forty();
     let calendar = calendar_of(rt.alloc(), 0, &roots)?;
     for p in 0..40u64 {
-        assert_eq!(rt; calendar.root_at(p), Some(plain_tree(&roots, 0, p + 1)));
-        for t in 0..p + 1 {
-            let mut links = Vec::new(rt.alloc());
-            plain_chain(&roots, 0, t, p + 1, &mut links)?;
-            let chain = calendar.chain_to(t, p)?;
-            assert_eq!(rt; chain.as_slice(), links.as_slice());
-        }
+        agree_below(&rt, rt.alloc(), &calendar, &roots, p)?;
     }
     Ok(())
 }

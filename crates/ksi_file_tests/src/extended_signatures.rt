@@ -1,9 +1,11 @@
+use crate::same::same;
 use crate::signatures::{S0, joined};
 use ksi_imprint::{Bytes, Imprint, NoMemory};
 use ksi_signature::{
     Bodies, CalChain, CalLinks, PubRecord, SigFault, WithRefusal, check, with_calendar,
 };
 use std::alloc::Global;
+use std::process::Abort;
 use std::test::Fail;
 
 /// The record of second 0, whose hash is that of no bytes, as it is written.
@@ -46,22 +48,24 @@ fn extended(alloc: Global, bytes: &[u8], size: usize) -> Result<Bytes, WithRefus
     with_calendar(alloc, bytes, &calendar(alloc), &published)
 }
 
+fn is_extended_to(rt: &impl Abort, alloc: Global, bytes: &[u8], wanted: &[u8]) {
+    let answer = extended(alloc, bytes, 0);
+    same(rt, "extended", answer.is_ok(), true);
+    if let Ok(text) = answer {
+        same(rt, "text", text.as_slice(), wanted);
+        same(rt, "check", check(text.as_slice()), Ok(()));
+    }
+}
+
 #[test]
 fn puts_the_record_behind(rt: HostRuntime) -> Result<(), Fail> {
     let wanted = joined(
         rt.alloc(),
         &[&[0x88, 0x00, 0x00, 0x85], &S0[4..], &RECORD, &S0[15..48]],
     )?;
-    assert_eq!(rt; wanted.as_slice().len(), 137);
-    let twice = wanted.as_slice();
-    for bytes in [S0.as_slice(), twice] {
-        let answer = extended(rt.alloc(), bytes, 0);
-        assert!(rt; answer.is_ok());
-        if let Ok(text) = answer {
-            assert_eq!(rt; text.as_slice(), wanted.as_slice());
-            assert_eq!(rt; check(text.as_slice()), Ok(()));
-        }
-    }
+    same(&rt, "length", wanted.as_slice().len(), 137);
+    is_extended_to(&rt, rt.alloc(), &S0, wanted.as_slice());
+    is_extended_to(&rt, rt.alloc(), wanted.as_slice(), wanted.as_slice());
     Ok(())
 }
 
@@ -100,8 +104,8 @@ fn retains_what_is_to_be_passed_on(rt: HostRuntime) -> Result<(), Fail> {
         ),
         ([chain, &RECORD, &S0[15..48], &[]], [chain, &[], &[]]),
     ];
-    for (inside, wanted) in rows {
-        assert_eq!(rt; extends_to(rt.alloc(), &inside, &wanted), Ok(true));
+    for (row, (inside, wanted)) in rows.iter().enumerate() {
+        same(&rt, row, extends_to(rt.alloc(), inside, wanted), Ok(true));
     }
     Ok(())
 }
@@ -121,17 +125,22 @@ fn refusal(answer: &Result<Bytes, WithRefusal>) -> Option<WithRefusal> {
     }
 }
 
+fn has_refusal(
+    rt: &impl Abort,
+    alloc: Global,
+    bytes: &[u8],
+    size: usize,
+    want: Option<WithRefusal>,
+) {
+    let answer = extended(alloc, bytes, size);
+    same(rt, size, refusal(&answer), want);
+}
+
 #[test]
-fn refuses_what_is_malformed_or_too_long(rt: HostRuntime) -> Result<(), Fail> {
+fn refuses_what_is_malformed_or_too_long(rt: HostRuntime) {
     let fault = WithRefusal::Malformed(SigFault::Tlv(0));
-    assert_eq!(rt; refusal(&extended(rt.alloc(), &S0[..93], 0)), Some(fault));
-    let sizes: [(usize, Option<WithRefusal>); 2] = [
-        (65_398, None),
-        (65_399, Some(WithRefusal::TooLong(65_536))),
-    ];
-    for (size, want) in sizes {
-        let answer = extended(rt.alloc(), &S0, size);
-        assert_eq!(rt; refusal(&answer), want);
-    }
-    Ok(())
+    has_refusal(&rt, rt.alloc(), &S0[..93], 0, Some(fault));
+    has_refusal(&rt, rt.alloc(), &S0, 65_398, None);
+    let long = WithRefusal::TooLong(65_536);
+    has_refusal(&rt, rt.alloc(), &S0, 65_399, Some(long));
 }

@@ -1,5 +1,6 @@
 ghost use Rattle.ksi_signature.specs.Above.{IsNode};
 
+use crate::same::same;
 use crate::signatures::S0;
 use ksi_aggchain::{Link, Sibling};
 use ksi_calchain::CalLink;
@@ -10,6 +11,7 @@ use ksi_signature::{
 };
 use ksi_split::Side;
 use std::alloc::Global;
+use std::process::Abort;
 use std::test::Fail;
 
 fn hash() -> Imprint {
@@ -27,7 +29,7 @@ fn issues_without_links(rt: HostRuntime) -> Result<(), Fail> {
         calendar: CalLinks::from_vec(Vec::new(rt.alloc())),
     };
     let bytes = issue(rt.alloc(), 0, &hash(), &[], &above)?;
-    assert_eq!(rt; bytes.as_slice(), S0.as_slice());
+    same(&rt, "issued", bytes.as_slice(), &S0);
     Ok(())
 }
 
@@ -104,15 +106,25 @@ fn is_of_second_5(calendar: &CalChain) -> bool {
         && calendar.links.as_slice().len() == 1
 }
 
+fn is_below_two_chains(rt: &impl Abort, signature: &Signature) {
+    let calendar = signature.calendar.as_ref().is_some_and(is_of_second_5);
+    same(
+        rt,
+        "chains",
+        are_three_chains(signature.chains.as_slice()),
+        true,
+    );
+    same(rt, "calendar", calendar, true);
+    same(rt, "publication", signature.publication.is_none(), true);
+}
+
 #[test]
 fn issues_below_two_chains(rt: HostRuntime) -> Result<(), Fail> {
     let above = above_both(rt.alloc())?;
     let issued = issued(rt.alloc(), 5, &above);
-    assert!(rt; issued.is_some());
+    same(&rt, "issued", issued.is_some(), true);
     if let Some(signature) = issued {
-        assert!(rt; are_three_chains(signature.chains.as_slice()));
-        assert!(rt; signature.calendar.as_ref().is_some_and(is_of_second_5));
-        assert!(rt; signature.publication.is_none());
+        is_below_two_chains(&rt, &signature);
     }
     Ok(())
 }

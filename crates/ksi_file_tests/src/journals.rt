@@ -1,6 +1,8 @@
+use crate::same::same;
 use ksi_imprint::{Compress, Imprint, Tiny};
 use ksi_journal::{Journal, JournalFault, load, write};
 use std::alloc::Global;
+use std::process::Abort;
 use std::test::Fail;
 
 /// The imprint whose digest has this first byte, and zero bytes behind it.
@@ -48,56 +50,86 @@ fn fault_behind(alloc: Global, words: &str) -> Result<Option<JournalFault>, Fail
     Ok(load::<Tiny>(alloc, text.as_slice()).err())
 }
 
-#[test]
-fn the_empty_journal_is_sixteen_bytes(rt: HostRuntime) -> Result<(), Fail> {
-    let alloc = rt.alloc();
-    let text = bytes(alloc, "4b53494a524e4c31 01046553f100 0600")?;
-    let journal = match load::<Tiny>(alloc, text.as_slice()) {
-        Ok(journal) => journal,
-        Err(_) => return Err(Fail::from("it does not load")),
-    };
-    assert_eq!(rt; journal.start(), 1_700_000_000);
-    assert_eq!(rt; journal.root(1_700_000_000), None);
-    assert_eq!(rt; journal.first_missing(1_700_000_000), Some(1_700_000_000));
-    assert_eq!(rt; journal.first_missing(1_699_999_999), None);
-    assert_eq!(rt; write(alloc, &journal)?.as_slice(), text.as_slice());
+fn journal_of(alloc: Global, text: &[u8]) -> Result<Journal<Tiny>, Fail> {
+    match load::<Tiny>(alloc, text) {
+        Ok(journal) => Ok(journal),
+        Err(_) => Err(Fail::from("it does not load")),
+    }
+}
+
+fn is_written(
+    rt: &impl Abort,
+    alloc: Global,
+    journal: &Journal<Tiny>,
+    text: &[u8],
+) -> Result<(), Fail> {
+    let written = write(alloc, journal)?;
+    same(rt, "written", written.as_slice(), text);
     Ok(())
 }
 
+fn roots(rt: &impl Abort, journal: &Journal<Tiny>, rows: &[(u64, Option<Imprint>)]) {
+    for (second, root) in rows {
+        same(rt, "root", journal.root(*second), *root);
+    }
+}
+
+fn first_missing(rt: &impl Abort, journal: &Journal<Tiny>, rows: &[(u64, Option<u64>)]) {
+    for (second, missing) in rows {
+        same(
+            rt,
+            "first missing",
+            journal.first_missing(*second),
+            *missing,
+        );
+    }
+}
+
 #[test]
-fn what_is_loaded_is_written_again(rt: HostRuntime) -> Result<(), Fail> {
-    let alloc = rt.alloc();
-    let text = bytes(
-        alloc,
-        "4b53494a524e4c31 010105 0229010105 0221 one 030101 0322 one 00 0228010106 0221 zero 0300 0229010108 0221 pair 030102 0322 two 00 0322 three 00 040701000203070809 0526010106 0221 four 0600",
-    )?;
-    let journal = match load::<Tiny>(alloc, text.as_slice()) {
-        Ok(journal) => journal,
-        Err(_) => return Err(Fail::from("it does not load")),
-    };
-    let roots = [
+fn the_empty_journal_is_sixteen_bytes(rt: HostRuntime) -> Result<(), Fail> {
+    let text = bytes(rt.alloc(), "4b53494a524e4c31 01046553f100 0600")?;
+    let journal = journal_of(rt.alloc(), text.as_slice())?;
+    const MISSING: [(u64, Option<u64>); 2] = [
+        (1_700_000_000, Some(1_700_000_000)),
+        (1_699_999_999, None),
+    ];
+    same(&rt, "start", journal.start(), 1_700_000_000);
+    same(&rt, "root", journal.root(1_700_000_000), None);
+    first_missing(&rt, &journal, &MISSING);
+    is_written(&rt, rt.alloc(), &journal, text.as_slice())
+}
+
+fn holds_two_roots(rt: &impl Abort, journal: &Journal<Tiny>) {
+    let rows = [
         (5, Some(named(1))),
         (6, Some(Imprint::ZERO)),
         (7, None),
         (8, Some(pair())),
     ];
-    for (second, root) in roots {
-        assert_eq!(rt; journal.root(second), root);
-    }
-    assert_eq!(rt; (journal.items(8).len(), journal.issued().len()), (2, 1));
-    assert_eq!(rt;
-        (journal.first_missing(6), journal.first_missing(9)),
-        (None, Some(7))
-    );
-    assert_eq!(rt; journal.calendar().count(), 2);
-    assert_eq!(rt; journal.publications(), [(6, named(4))].as_slice());
-    assert_eq!(rt; write(alloc, &journal)?.as_slice(), text.as_slice());
-    Ok(())
+    roots(rt, journal, &rows);
+    const MISSING: [(u64, Option<u64>); 2] = [(6, None), (9, Some(7))];
+    first_missing(rt, journal, &MISSING);
+}
+
+fn holds_one_publication(rt: &impl Abort, journal: &Journal<Tiny>) {
+    same(rt, "items", journal.items(8).len(), 2);
+    same(rt, "issued", journal.issued().len(), 1);
+    same(rt, "count", journal.calendar().count(), 2);
+    same(rt, "publications", journal.publications(), &[(6, named(4))]);
 }
 
 #[test]
-fn a_journal_of_nothing_is_made(rt: HostRuntime) -> Result<(), Fail> {
-    let alloc = rt.alloc();
+fn what_is_loaded_is_written_again(rt: HostRuntime) -> Result<(), Fail> {
+    const WORDS: &str =
+        "4b53494a524e4c31 010105 0229010105 0221 one 030101 0322 one 00 0228010106 0221 zero 0300 0229010108 0221 pair 030102 0322 two 00 0322 three 00 040701000203070809 0526010106 0221 four 0600";
+    let text = bytes(rt.alloc(), WORDS)?;
+    let journal = journal_of(rt.alloc(), text.as_slice())?;
+    holds_two_roots(&rt, &journal);
+    holds_one_publication(&rt, &journal);
+    is_written(&rt, rt.alloc(), &journal, text.as_slice())
+}
+
+fn of_nothing(alloc: Global) -> Result<Journal<Tiny>, Fail> {
     let journal = Journal::<Tiny>::new(
         alloc,
         5,
@@ -105,15 +137,27 @@ fn a_journal_of_nothing_is_made(rt: HostRuntime) -> Result<(), Fail> {
         Vec::new(alloc),
         Vec::new(alloc),
     )?;
-    assert_eq!(rt; journal.start(), 5);
-    assert_eq!(rt; write(alloc, &journal)?.as_slice().len(), 13);
+    Ok(journal)
+}
+
+#[test]
+fn a_journal_of_nothing_is_made(rt: HostRuntime) -> Result<(), Fail> {
+    let journal = of_nothing(rt.alloc())?;
+    same(&rt, "start", journal.start(), 5);
+    let written = write(rt.alloc(), &journal)?;
+    same(&rt, "written", written.as_slice().len(), 13);
+    Ok(())
+}
+
+fn has_fault(rt: &impl Abort, alloc: Global, words: &str, want: JournalFault) -> Result<(), Fail> {
+    same(rt, words, fault_behind(alloc, words)?, Some(want));
     Ok(())
 }
 
 /// Worked out by hand. A second's element stands at 11 and ends at 54.
 #[test]
 fn answers_the_first_fault(rt: HostRuntime) -> Result<(), Fail> {
-    let cases = [
+    const CASES: [(&str, JournalFault); 25] = [
         ("", JournalFault::Ends(8)),
         ("01", JournalFault::Tlv(8)),
         ("0200", JournalFault::Order(8)),
@@ -154,15 +198,23 @@ fn answers_the_first_fault(rt: HostRuntime) -> Result<(), Fail> {
             "010105 0229010105 0221 one 030102 0322 one 00",
             JournalFault::Ends(90),
         ),
-        (
-            "010105 0229010105 0221 two 030101 0322 one 00",
-            JournalFault::TreeRoot(5, named(2), named(1)),
-        ),
     ];
-    for (words, fault) in cases {
-        assert_eq!(rt; fault_behind(rt.alloc(), words)?, Some(fault));
+    for (words, fault) in CASES {
+        has_fault(&rt, rt.alloc(), words, fault)?;
     }
-    assert!(rt; load::<Tiny>(rt.alloc(), b"KSIJRNL").err() == Some(JournalFault::Magic));
-    assert!(rt; load::<Tiny>(rt.alloc(), b"KSIJRNL2").err() == Some(JournalFault::Magic));
-    Ok(())
+    let other = JournalFault::TreeRoot(5, named(2), named(1));
+    has_fault(
+        &rt,
+        rt.alloc(),
+        "010105 0229010105 0221 two 030101 0322 one 00",
+        other,
+    )
+}
+
+#[test]
+fn the_magic_comes_first(rt: HostRuntime) {
+    for text in ["KSIJRNL", "KSIJRNL2"] {
+        let fault = load::<Tiny>(rt.alloc(), text.as_bytes()).err();
+        same(&rt, text, fault, Some(JournalFault::Magic));
+    }
 }

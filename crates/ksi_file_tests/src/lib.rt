@@ -10,6 +10,8 @@ mod issued_signatures;
 #[cfg(test)]
 mod journals;
 #[cfg(test)]
+mod same;
+#[cfg(test)]
 mod schedules;
 #[cfg(test)]
 mod signatures;

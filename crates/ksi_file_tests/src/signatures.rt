@@ -1,8 +1,10 @@
+use crate::same::same;
 use ksi_aggchain::{Link, Sibling};
 use ksi_imprint::{Bytes, NoMemory};
 use ksi_signature::{AggChain, SigFault, Signature, check, read};
 use ksi_split::Side;
 use std::alloc::Global;
+use std::process::Abort;
 use std::test::Fail;
 
 /// One chain and a calendar chain without links, all of second 0; each hash is that of no bytes.
@@ -35,7 +37,7 @@ fn changed(place: usize, byte: u8) -> [u8; 94] {
 
 #[test]
 fn answers_the_first_fault(rt: HostRuntime) {
-    let rows: [(usize, u8, SigFault); 9] = [
+    const ROWS: [(usize, u8, SigFault); 9] = [
         (7, 0xff, SigFault::Tlv(4)),
         (9, 0x29, SigFault::Number(8)),
         (9, 0x2a, SigFault::Tlv(8)),
@@ -46,8 +48,8 @@ fn answers_the_first_fault(rt: HostRuntime) {
         (48, 0x1e, SigFault::UnknownCritical(0x1e, 48)),
         (1, 0x01, SigFault::NotSignature(0x801)),
     ];
-    for (place, byte, want) in rows {
-        assert_eq!(rt; check(&changed(place, byte)), Err(want), "at {place}");
+    for (place, byte, want) in ROWS {
+        same(&rt, place, check(&changed(place, byte)), Err(want));
     }
 }
 
@@ -66,9 +68,20 @@ pub(crate) fn with_link(alloc: Global, body: &[u8]) -> Result<Bytes, NoMemory> {
     )
 }
 
+fn has_fault(
+    rt: &impl Abort,
+    alloc: Global,
+    body: &[u8],
+    want: Result<(), SigFault>,
+) -> Result<(), NoMemory> {
+    let bytes = with_link(alloc, body)?;
+    same(rt, body.len(), check(bytes.as_slice()), want);
+    Ok(())
+}
+
 #[test]
 fn links_have_one_sibling(rt: HostRuntime) -> Result<(), Fail> {
-    let rows: [(&[u8], Result<(), SigFault>); 6] = [
+    const ROWS: [(&[u8], Result<(), SigFault>); 6] = [
         (&[0x03, 0x01, 0xff], Ok(())),
         (&[], Err(SigFault::Sibling(51))),
         (&[0x03, 0x00], Err(SigFault::Sibling(53))),
@@ -76,9 +89,8 @@ fn links_have_one_sibling(rt: HostRuntime) -> Result<(), Fail> {
         (&[0x01, 0x00, 0x01, 0x00], Err(SigFault::Repeated(1, 55))),
         (&[0x01, 0x02, 0x01, 0x00], Err(SigFault::Number(53))),
     ];
-    for (body, want) in rows {
-        let bytes = with_link(rt.alloc(), body)?;
-        assert_eq!(rt; check(bytes.as_slice()), want);
+    for (body, want) in ROWS {
+        has_fault(&rt, rt.alloc(), body, want)?;
     }
     Ok(())
 }
@@ -142,19 +154,26 @@ fn are_two_chains(chains: &[AggChain]) -> bool {
     }
 }
 
+fn says_what_s0_says(rt: &impl Abort, signature: &Signature) {
+    same(rt, "chains", signature.chains.as_slice().len(), 1);
+    same(rt, "chain", first_chain(signature), Some((0, &[1], None)));
+    same(rt, "calendar", calendar(signature), Some((0, 0, 0)));
+    same(rt, "publication", publication(signature), None);
+}
+
+fn is_read_as_s0(rt: &impl Abort, alloc: Global, bytes: &[u8]) {
+    let answer = read(alloc, bytes);
+    same(rt, "read", answer.is_ok(), true);
+    if let Ok(signature) = answer {
+        says_what_s0_says(rt, &signature);
+    }
+}
+
 #[test]
 fn reads_in_any_order(rt: HostRuntime) -> Result<(), Fail> {
     let turned = joined(rt.alloc(), &[&S0[..4], &S0[51..], &S0[4..51]])?;
-    for bytes in [S0.as_slice(), turned.as_slice()] {
-        let answer = read(rt.alloc(), bytes);
-        assert!(rt; answer.is_ok());
-        if let Ok(signature) = answer {
-            assert_eq!(rt; signature.chains.as_slice().len(), 1);
-            assert_eq!(rt; first_chain(&signature), Some((0, [1].as_slice(), None)));
-            assert_eq!(rt; calendar(&signature), Some((0, 0, 0)));
-            assert_eq!(rt; publication(&signature), None);
-        }
-    }
+    is_read_as_s0(&rt, rt.alloc(), &S0);
+    is_read_as_s0(&rt, rt.alloc(), turned.as_slice());
     Ok(())
 }
 
@@ -186,17 +205,26 @@ pub(crate) fn two_chains(alloc: Global) -> Result<Bytes, NoMemory> {
     )
 }
 
+fn says_two_chains(rt: &impl Abort, signature: &Signature) {
+    const CHAIN: (u64, &[u64], Option<&[u8]>) = (5, &[300, 0], Some(b"abc"));
+    same(rt, "chain", first_chain(signature), Some(CHAIN));
+    same(
+        rt,
+        "chains",
+        are_two_chains(signature.chains.as_slice()),
+        true,
+    );
+    same(rt, "calendar", calendar(signature), Some((9, 9, 1)));
+    same(rt, "publication", publication(signature), Some((9, 1, 1)));
+}
+
 #[test]
 fn reads_what_each_element_says(rt: HostRuntime) -> Result<(), Fail> {
     let bytes = two_chains(rt.alloc())?;
     let answer = read(rt.alloc(), bytes.as_slice());
-    assert!(rt; answer.is_ok());
+    same(&rt, "read", answer.is_ok(), true);
     if let Ok(signature) = answer {
-        let wanted = (5, [300, 0].as_slice(), Some(b"abc".as_slice()));
-        assert_eq!(rt; first_chain(&signature), Some(wanted));
-        assert!(rt; are_two_chains(signature.chains.as_slice()));
-        assert_eq!(rt; calendar(&signature), Some((9, 9, 1)));
-        assert_eq!(rt; publication(&signature), Some((9, 1, 1)));
+        says_two_chains(&rt, &signature);
     }
     Ok(())
 }

@@ -1,7 +1,9 @@
+use crate::same::same;
 use crate::signatures::{S0, joined, two_chains, with_link};
 use ksi_imprint::{Bytes, Imprint, NoMemory};
 use ksi_signature::{AggChain, Chains, Index, Links, Signature, WriteRefusal, read, write};
 use std::alloc::Global;
+use std::process::Abort;
 use std::test::Fail;
 
 /// What is written of the signature that the bytes are, nothing where they are none or memory was wanting.
@@ -12,14 +14,36 @@ fn rewritten(alloc: Global, bytes: &[u8]) -> Option<Bytes> {
     }
 }
 
+fn is_rewritten(rt: &impl Abort, alloc: Global, bytes: &[u8], wanted: &[u8]) {
+    let written = rewritten(alloc, bytes);
+    same(rt, "written", written.is_some(), true);
+    if let Some(written) = written {
+        same(rt, "text", written.as_slice(), wanted);
+    }
+}
+
+/// Of signatures with these links.
+fn link_is_rewritten(
+    rt: &impl Abort,
+    alloc: Global,
+    link: &[u8],
+    wanted: &[u8],
+) -> Result<(), NoMemory> {
+    let bytes = with_link(alloc, link)?;
+    let text = with_link(alloc, wanted)?;
+    is_rewritten(rt, alloc, bytes.as_slice(), text.as_slice());
+    Ok(())
+}
+
+/// Of signatures with links that end in a hash.
+fn hash_is_rewritten(rt: &impl Abort, alloc: Global, front: &[u8]) -> Result<(), NoMemory> {
+    let link = joined(alloc, &[front, &S0[15..48]])?;
+    link_is_rewritten(rt, alloc, link.as_slice(), link.as_slice())
+}
+
 #[test]
 fn writes_what_it_read(rt: HostRuntime) -> Result<(), Fail> {
-    let alloc = rt.alloc();
-    let imprint = joined(alloc, &[&[0x02, 0x21], &S0[15..48]])?;
-    let corrected = joined(alloc, &[&[0x01, 0x01, 0xff, 0x02, 0x21], &S0[15..48]])?;
-    let links: [(&[u8], &[u8]); 5] = [
-        (imprint.as_slice(), imprint.as_slice()),
-        (corrected.as_slice(), corrected.as_slice()),
+    const LINKS: [(&[u8], &[u8]); 3] = [
         (&[0x03, 0x01, 0xff], &[0x03, 0x01, 0xff]),
         (&[0x01, 0x00, 0x04, 0x01, 0x05], &[0x04, 0x01, 0x05]),
         (
@@ -27,14 +51,10 @@ fn writes_what_it_read(rt: HostRuntime) -> Result<(), Fail> {
             &[0x01, 0x01, 0x07, 0x03, 0x01, 0xff],
         ),
     ];
-    for (link, wanted) in links {
-        let bytes = with_link(alloc, link)?;
-        let text = with_link(alloc, wanted)?;
-        let written = rewritten(alloc, bytes.as_slice());
-        assert!(rt; written.is_some());
-        if let Some(written) = written {
-            assert_eq!(rt; written.as_slice(), text.as_slice());
-        }
+    hash_is_rewritten(&rt, rt.alloc(), &[0x02, 0x21])?;
+    hash_is_rewritten(&rt, rt.alloc(), &[0x01, 0x01, 0xff, 0x02, 0x21])?;
+    for (link, wanted) in LINKS {
+        link_is_rewritten(&rt, rt.alloc(), link, wanted)?;
     }
     Ok(())
 }
@@ -66,21 +86,11 @@ fn two_chains_text(alloc: Global) -> Result<Bytes, NoMemory> {
 
 #[test]
 fn writes_in_the_order_of_the_format(rt: HostRuntime) -> Result<(), Fail> {
-    let alloc = rt.alloc();
-    let mixed = two_chains(alloc)?;
-    let text = two_chains_text(alloc)?;
-    let rows: [(&[u8], &[u8]); 3] = [
-        (&S0, &S0),
-        (mixed.as_slice(), text.as_slice()),
-        (text.as_slice(), text.as_slice()),
-    ];
-    for (bytes, wanted) in rows {
-        let written = rewritten(alloc, bytes);
-        assert!(rt; written.is_some());
-        if let Some(written) = written {
-            assert_eq!(rt; written.as_slice(), wanted);
-        }
-    }
+    let mixed = two_chains(rt.alloc())?;
+    let text = two_chains_text(rt.alloc())?;
+    is_rewritten(&rt, rt.alloc(), &S0, &S0);
+    is_rewritten(&rt, rt.alloc(), mixed.as_slice(), text.as_slice());
+    is_rewritten(&rt, rt.alloc(), text.as_slice(), text.as_slice());
     Ok(())
 }
 
@@ -104,20 +114,22 @@ fn with_input(alloc: Global, size: usize) -> Result<Signature, NoMemory> {
     })
 }
 
+fn written_size(alloc: Global, size: usize) -> Result<Result<usize, WriteRefusal>, NoMemory> {
+    let signature = with_input(alloc, size)?;
+    Ok(write(alloc, &signature).map(|bytes| bytes.as_slice().len()))
+}
+
 /// The chain has 47 bytes beside the input data, and the signature 4 beside the chain.
 #[test]
 fn the_first_body_above_the_limit_is_too_long(rt: HostRuntime) -> Result<(), Fail> {
-    let alloc = rt.alloc();
-    let rows = [
+    const ROWS: [(usize, Result<usize, WriteRefusal>); 4] = [
         (65_484, Ok(65_539)),
         (65_485, Err(WriteRefusal::TooLong(65_536))),
         (65_489, Err(WriteRefusal::TooLong(65_536))),
         (70_000, Err(WriteRefusal::TooLong(70_000))),
     ];
-    for (size, wanted) in rows {
-        let signature = with_input(alloc, size)?;
-        let answer = write(alloc, &signature).map(|bytes| bytes.as_slice().len());
-        assert_eq!(rt; answer, wanted);
+    for (size, wanted) in ROWS {
+        same(&rt, size, written_size(rt.alloc(), size)?, wanted);
     }
     Ok(())
 }

@@ -2,10 +2,18 @@ use crate::host_files::read_up_to;
 use crate::{
     Files, HostFiles, HostSink, LoadRefusal, MemFiles, MemSink, SaveRefusal, Sink, SinkFailed,
 };
-use ksi_imprint::Bytes;
+use ksi_imprint::{Bytes, NoMemory};
+use std::alloc::Global;
+use std::fmt::Debug;
 use std::io::{Error, ErrorKind, Read, Write};
+use std::process::Abort;
 use std::test::Fail;
 use std::{fs, io};
+
+// The one assertion. The time to prove a function grows with the square of its length.
+fn same<T: Copy + Debug + PartialEq>(rt: &impl Abort, at: &str, told: T, want: T) {
+    assert_eq!(rt; told, want, "{at}");
+}
 
 fn told(load: &Result<Bytes, LoadRefusal>) -> Result<&[u8], LoadRefusal> {
     match load {
@@ -14,42 +22,86 @@ fn told(load: &Result<Bytes, LoadRefusal>) -> Result<&[u8], LoadRefusal> {
     }
 }
 
-#[test]
-fn a_load_gives_what_is_held_up_to_its_limit(rt: HostRuntime) -> Result<(), Fail> {
-    let alloc = rt.alloc();
+fn load(
+    rt: &impl Abort,
+    alloc: Global,
+    files: &mut impl Files,
+    rows: &[(&str, usize, Result<&[u8], LoadRefusal>)],
+) {
+    for (name, most, want) in rows {
+        let load = files.load(alloc, name, *most);
+        same(rt, name, told(&load), *want);
+    }
+}
+
+fn save(
+    rt: &impl Abort,
+    alloc: Global,
+    files: &mut impl Files,
+    rows: &[(&str, &[u8], Result<(), SaveRefusal>)],
+) {
+    for (name, bytes, want) in rows {
+        same(rt, name, files.save(alloc, name, bytes), *want);
+    }
+}
+
+fn put(rt: &impl Abort, out: &mut impl Sink, rows: &[(&[u8], Result<(), SinkFailed>)]) {
+    for (piece, want) in rows {
+        same(rt, "put", out.put(piece), *want);
+    }
+}
+
+fn held_twice(alloc: Global) -> Result<MemFiles, NoMemory> {
     let mut files = MemFiles::new(alloc, Vec::new(alloc));
     files.hold("a", b"old")?;
     files.hold("b", b"")?;
     files.hold("a", b"new")?;
-    for (name, most, want) in [
-        ("a", 4, Ok(b"new".as_slice())),
-        ("a", 3, Ok(b"new".as_slice())),
+    Ok(files)
+}
+
+#[test]
+fn a_load_gives_what_is_held_up_to_its_limit(rt: HostRuntime) -> Result<(), Fail> {
+    let mut files = held_twice(rt.alloc())?;
+    const LOADS: [(&str, usize, Result<&[u8], LoadRefusal>); 5] = [
+        ("a", 4, Ok(b"new")),
+        ("a", 3, Ok(b"new")),
         ("a", 2, Err(LoadRefusal::TooLong)),
-        ("b", 0, Ok(b"".as_slice())),
+        ("b", 0, Ok(b"")),
         ("c", 9, Err(LoadRefusal::Failed)),
-    ] {
-        assert_eq!(rt; told(&files.load(alloc, name, most)), want, "{name} {most}");
-    }
-    assert_eq!(rt; files.faults(), 1);
-    assert_eq!(rt; files.calls(), 5);
-    assert_eq!(rt; files.taken(), 9);
-    assert_eq!(rt; files.bytes("c"), None);
+    ];
+    load(&rt, rt.alloc(), &mut files, &LOADS);
+    let counts = [files.faults(), files.calls(), files.taken()];
+    same(&rt, "counts", counts, [1, 5, 9]);
+    same(&rt, "c", files.bytes("c"), None);
     Ok(())
+}
+
+fn second_and_third_fail(alloc: Global) -> Result<MemFiles, NoMemory> {
+    let mut files = MemFiles::new(alloc, vec![in alloc; 1, 2]?);
+    files.hold("a", b"one")?;
+    Ok(files)
 }
 
 #[test]
 fn listed_calls_fail_and_are_counted(rt: HostRuntime) -> Result<(), Fail> {
     let alloc = rt.alloc();
-    let mut files = MemFiles::new(alloc, vec![in alloc; 1, 2]?);
-    files.hold("a", b"one")?;
-    assert_eq!(rt; told(&files.load(alloc, "a", 9)), Ok(b"one".as_slice()));
-    assert_eq!(rt; told(&files.load(alloc, "a", 9)), Err(LoadRefusal::Failed));
-    assert_eq!(rt; files.save(alloc, "b", b"two"), Err(SaveRefusal::Failed));
-    assert_eq!(rt; files.bytes("b"), None);
-    assert_eq!(rt; files.save(alloc, "b", b"two"), Ok(()));
-    assert_eq!(rt; told(&files.load(alloc, "b", 9)), Ok(b"two".as_slice()));
-    assert_eq!(rt; files.bytes("a"), Some(b"one".as_slice()));
-    assert_eq!(rt; files.faults(), 2);
+    let mut files = second_and_third_fail(alloc)?;
+    const LOADS: [(&str, usize, Result<&[u8], LoadRefusal>); 2] = [
+        ("a", 9, Ok(b"one")),
+        ("a", 9, Err(LoadRefusal::Failed)),
+    ];
+    load(&rt, alloc, &mut files, &LOADS);
+    save(
+        &rt,
+        alloc,
+        &mut files,
+        &[("b", b"two", Err(SaveRefusal::Failed))],
+    );
+    same(&rt, "b", files.bytes("b"), None);
+    save(&rt, alloc, &mut files, &[("b", b"two", Ok(()))]);
+    load(&rt, alloc, &mut files, &[("b", 9, Ok(b"two"))]);
+    same(&rt, "a", files.bytes("a"), Some(b"one"));
+    same(&rt, "faults", files.faults(), 2);
     Ok(())
 }
 
@@ -57,56 +109,85 @@ fn listed_calls_fail_and_are_counted(rt: HostRuntime) -> Result<(), Fail> {
 fn puts_append_but_for_those_listed_or_past_the_room(rt: HostRuntime) -> Result<(), Fail> {
     let alloc = rt.alloc();
     let mut out = MemSink::new(alloc, 5, vec![in alloc; 1]?)?;
-    for (piece, want) in [
-        (b"ab".as_slice(), Ok(())),
-        (b"c".as_slice(), Err(SinkFailed)),
-        (b"cdef".as_slice(), Err(SinkFailed)),
-        (b"cde".as_slice(), Ok(())),
-        (b"".as_slice(), Ok(())),
-    ] {
-        assert_eq!(rt; out.put(piece), want);
-    }
-    assert_eq!(rt; out.puts(), 5);
-    assert_eq!(rt; out.written(), b"abcde".as_slice());
-    assert_eq!(rt; out.faults(), 2);
+    const PUTS: [(&[u8], Result<(), SinkFailed>); 5] = [
+        (b"ab", Ok(())),
+        (b"c", Err(SinkFailed)),
+        (b"cdef", Err(SinkFailed)),
+        (b"cde", Ok(())),
+        (b"", Ok(())),
+    ];
+    put(&rt, &mut out, &PUTS);
+    same(&rt, "counts", [out.puts(), out.faults()], [5, 2]);
+    same(&rt, "written", out.written(), b"abcde");
+    Ok(())
+}
+
+fn load_up_to_the_limit(rt: &impl Abort, alloc: Global, files: &mut impl Files) {
+    let name = "ksi_ports_limit";
+    const CONTENT: [u8; 5_000] = [7; 5_000];
+    const LOADS: [(&str, usize, Result<&[u8], LoadRefusal>); 3] = [
+        ("ksi_ports_limit", 5_001, Ok(&CONTENT)),
+        ("ksi_ports_limit", 5_000, Ok(&CONTENT)),
+        ("ksi_ports_limit", 4_999, Err(LoadRefusal::TooLong)),
+    ];
+    save(rt, alloc, files, &[(name, &CONTENT, Ok(()))]);
+    load(rt, alloc, files, &LOADS);
+}
+
+#[test]
+fn the_system_loads_up_to_the_limit(rt: HostRuntime) {
+    let mut files = HostFiles::new(&rt);
+    load_up_to_the_limit(&rt, rt.alloc(), &mut files);
+    same(&rt, "counts", [files.taken(), files.faults()], [15_000, 0]);
+}
+
+fn save_anew(rt: &impl Abort, alloc: Global, files: &mut impl Files) {
+    let name = "ksi_ports_saved";
+    save(
+        rt,
+        alloc,
+        files,
+        &[(name, b"longer", Ok(())), (name, b"by", Ok(()))],
+    );
+    load(rt, alloc, files, &[(name, 5_000, Ok(b"by"))]);
+}
+
+fn load_removed(rt: &impl Abort, alloc: Global, files: &mut impl Files) {
+    load(
+        rt,
+        alloc,
+        files,
+        &[("ksi_ports_saved", 5_000, Err(LoadRefusal::Failed))],
+    );
+}
+
+#[test]
+fn the_system_saves_and_loads_anew(rt: HostRuntime) -> Result<(), Fail> {
+    let mut files = HostFiles::new(&rt);
+    save_anew(&rt, rt.alloc(), &mut files);
+    same(&rt, "counts", [files.taken(), files.faults()], [2, 0]);
+    fs::remove_file(&rt, "ksi_ports_saved")?;
+    load_removed(&rt, rt.alloc(), &mut files);
+    same(
+        &rt,
+        "counts",
+        [files.taken(), files.faults(), files.calls()],
+        [2, 1, 4],
+    );
     Ok(())
 }
 
 #[test]
-fn the_system_saves_loads_and_writes(rt: HostRuntime) -> Result<(), Fail> {
-    let alloc = rt.alloc();
-    let name = "ksi_ports_saved";
-    let content = [7; 5_000];
-    let mut files = HostFiles::new(&rt);
-    assert_eq!(rt; files.save(alloc, name, &content), Ok(()));
-    for (most, want) in [
-        (5_001, Ok(content.as_slice())),
-        (5_000, Ok(content.as_slice())),
-        (4_999, Err(LoadRefusal::TooLong)),
-    ] {
-        assert_eq!(rt; told(&files.load(alloc, name, most)), want, "at {most}");
-    }
-    assert_eq!(rt; files.taken(), 15_000);
-    assert_eq!(rt; files.save(alloc, name, b"by"), Ok(()));
-    let load = files.load(alloc, name, 5_000);
-    assert_eq!(rt; told(&load), Ok(b"by".as_slice()));
-    assert_eq!(rt; files.taken(), 15_002);
-    assert_eq!(rt; files.faults(), 0);
-    fs::remove_file(&rt, name)?;
-    let load = files.load(alloc, name, 5_000);
-    assert_eq!(rt; told(&load), Err(LoadRefusal::Failed));
-    assert_eq!(rt; files.taken(), 15_002);
-    assert_eq!(rt; files.faults(), 1);
-    assert_eq!(rt; files.calls(), 7);
-    let mut written = Vec::new(alloc);
+fn the_system_writes(rt: HostRuntime) {
+    let mut written = Vec::new(rt.alloc());
     let mut out = HostSink::new(&mut written);
-    assert_eq!(rt; out.put(b"line "), Ok(()));
-    assert_eq!(rt; out.put(b""), Ok(()));
-    assert_eq!(rt; out.put(b"one"), Ok(()));
-    assert_eq!(rt; out.puts(), 3);
-    assert_eq!(rt; out.faults(), 0);
-    assert_eq!(rt; written.as_slice(), b"line one".as_slice());
-    Ok(())
+    put(
+        &rt,
+        &mut out,
+        &[(b"line ", Ok(())), (b"", Ok(())), (b"one", Ok(()))],
+    );
+    same(&rt, "counts", [out.puts(), out.faults()], [3, 0]);
+    same(&rt, "written", written.as_slice(), b"line one");
 }
 
 // Gives or takes one byte at each of so many calls, and then ends or fails.
@@ -150,25 +231,41 @@ impl Write for Stream {
     }
 }
 
+fn read(
+    rt: &impl Abort,
+    alloc: Global,
+    calls: usize,
+    fails: bool,
+    want: Result<&[u8], LoadRefusal>,
+) {
+    let mut taken = 0;
+    let mut source = Stream { calls, fails };
+    let read = read_up_to(alloc, &mut source, 9, &mut taken);
+    same(rt, "read", told(&read), want);
+    same(rt, "taken", taken, calls as u64);
+}
+
+#[test]
+fn an_error_in_mid_stream_ends_the_load(rt: HostRuntime) {
+    let alloc = rt.alloc();
+    read(&rt, alloc, 0, false, Ok(&[]));
+    read(&rt, alloc, 2, true, Err(LoadRefusal::Failed));
+    read(&rt, alloc, 2, false, Ok(&[0; 2]));
+    read(&rt, alloc, 3, true, Err(LoadRefusal::Failed));
+}
+
+fn write(rt: &impl Abort, calls: usize, fails: bool, want: Result<(), SinkFailed>) {
+    let mut sink = HostSink::new(Stream { calls, fails });
+    same(rt, "put", sink.put(b"abc"), want);
+    same(rt, "faults", sink.faults(), u64::from(want.is_err()));
+}
+
 // Where all three bytes are taken, it is the flush that fails.
 #[test]
-fn an_error_in_mid_stream_ends_the_call(rt: HostRuntime) -> Result<(), Fail> {
-    let alloc = rt.alloc();
-    for (calls, fails, load, put) in [
-        (0, false, Ok([].as_slice()), Err(SinkFailed)),
-        (2, true, Err(LoadRefusal::Failed), Err(SinkFailed)),
-        (2, false, Ok([0; 2].as_slice()), Err(SinkFailed)),
-        (3, true, Err(LoadRefusal::Failed), Err(SinkFailed)),
-        (3, false, Ok([0; 3].as_slice()), Ok(())),
-    ] {
-        let mut taken = 0;
-        let mut source = Stream { calls, fails };
-        let read = read_up_to(alloc, &mut source, 9, &mut taken);
-        assert_eq!(rt; told(&read), load, "{calls} {fails}");
-        assert_eq!(rt; taken, calls as u64);
-        let mut sink = HostSink::new(Stream { calls, fails });
-        assert_eq!(rt; sink.put(b"abc"), put, "{calls} {fails}");
-        assert_eq!(rt; sink.faults(), u64::from(put.is_err()));
-    }
-    Ok(())
+fn an_error_in_mid_stream_ends_the_put(rt: HostRuntime) {
+    write(&rt, 0, false, Err(SinkFailed));
+    write(&rt, 2, true, Err(SinkFailed));
+    write(&rt, 2, false, Err(SinkFailed));
+    write(&rt, 3, true, Err(SinkFailed));
+    write(&rt, 3, false, Ok(()));
 }

@@ -1,10 +1,20 @@
+ghost use Rattle.std.specs.Prelude.{◌≤◌};
+
 use crate::*;
+use std::alloc::Global;
+use std::fmt::Debug;
+use std::process::Abort;
 use std::test::Fail;
+
+// The one assertion. The time to prove a function grows with the square of its length.
+fn same<T: Copy + Debug + PartialEq>(rt: &impl Abort, at: usize, told: T, want: T) {
+    assert_eq!(rt; told, want, "at {at}");
+}
 
 /// Vectors worked out by hand from the layout of headers.
 #[test]
 fn reads_one_element(rt: HostRuntime) {
-    let cases: [(&[u8], Result<(u16, bool, bool, &[u8], usize), TlvFault>); 12] = [
+    const CASES: [(&[u8], Result<(u16, bool, bool, &[u8], usize), TlvFault>); 12] = [
         (
             &[0x01, 0x02, 0xaa, 0xbb],
             Ok((1, false, false, &[0xaa, 0xbb], 4)),
@@ -27,8 +37,8 @@ fn reads_one_element(rt: HostRuntime) {
         (&[0x88, 0x00], Err(TlvFault::Short(4, 2))),
         (&[0x88, 0x00, 0x01, 0x00], Err(TlvFault::Short(260, 4))),
     ];
-    for (bytes, want) in cases {
-        assert_eq!(rt; front(bytes), want);
+    for (at, (bytes, want)) in CASES.iter().enumerate() {
+        same(&rt, at, front(bytes), *want);
     }
 }
 
@@ -45,7 +55,7 @@ fn front(bytes: &[u8]) -> Result<(u16, bool, bool, &[u8], usize), TlvFault> {
 
 #[test]
 fn reads_a_number(rt: HostRuntime) {
-    let cases: [(&[u8], Result<u64, NumberFault>); 7] = [
+    const CASES: [(&[u8], Result<u64, NumberFault>); 7] = [
         (&[], Ok(0)),
         (&[0x00], Ok(0)),
         (&[0x00, 0x05], Ok(5)),
@@ -54,106 +64,135 @@ fn reads_a_number(rt: HostRuntime) {
         (&[0xff; 8], Ok(u64::MAX)),
         (&[0x00; 9], Err(NumberFault::Long(9))),
     ];
-    for (bytes, want) in cases {
-        assert_eq!(rt; number(bytes), want);
+    for (at, (bytes, want)) in CASES.iter().enumerate() {
+        same(&rt, at, number(bytes), *want);
     }
 }
 
-#[test]
-fn walks_to_the_element_that_is_cut_off(rt: HostRuntime) {
-    let bytes = [
-        0x01, 0x01, 0xaa, 0x88, 0x01, 0x00, 0x02, 0xbb, 0xbb, 0x02, 0x03, 0xcc,
-    ];
-    let mut walk = Elements::at(100, &bytes);
-    let items = [
-        Some(Ok((100, 102, 1, 1))),
-        Some(Ok((103, 107, 0x801, 2))),
-        Some(Err((109, TlvFault::Short(5, 3)))),
-        None,
-        None,
-    ];
-    for want in items {
-        assert_eq!(rt; next_of(&mut walk), want);
-    }
-}
+// Its place, the place of its body, its kind and its body's length, or where it is cut off.
+type Told = Result<(usize, usize, u16, usize), (usize, TlvFault)>;
 
-#[test]
-fn walks_three_elements(rt: HostRuntime) {
-    let mut walk = Elements::new(&[0x01, 0x00, 0x7e, 0x01, 0x00, 0x80, 0x20, 0x00, 0x00]);
-    let items = [
-        Some(Ok((0, 2, 1, 0))),
-        Some(Ok((2, 4, 0x1e, 1))),
-        Some(Ok((5, 9, 0x20, 0))),
-        None,
-    ];
-    for want in items {
-        assert_eq!(rt; next_of(&mut walk), want);
-    }
-}
-
-/// The next element's place, the place of its body, its kind and its body's length.
-fn next_of(
-    walk: &mut Elements<'_>,
-) -> Option<Result<(usize, usize, u16, usize), (usize, TlvFault)>> {
+fn next_of(walk: &mut Elements<'_>) -> Option<Told> {
     match walk.next()? {
         Ok(at) => Some(Ok((at.place, at.inside, at.element.kind, at.element.body.len()))),
         Err(cut) => Some(Err(cut)),
     }
 }
 
+fn walks(rt: &impl Abort, walk: &mut Elements<'_>, items: &[Option<Told>]) {
+    for (at, want) in items.iter().enumerate() {
+        same(rt, at, next_of(walk), *want);
+    }
+}
+
+#[test]
+fn walks_to_the_element_that_is_cut_off(rt: HostRuntime) {
+    const BYTES: [u8; 12] = [
+        0x01, 0x01, 0xaa, 0x88, 0x01, 0x00, 0x02, 0xbb, 0xbb, 0x02, 0x03, 0xcc,
+    ];
+    const ITEMS: [Option<Told>; 5] = [
+        Some(Ok((100, 102, 1, 1))),
+        Some(Ok((103, 107, 0x801, 2))),
+        Some(Err((109, TlvFault::Short(5, 3)))),
+        None,
+        None,
+    ];
+    walks(&rt, &mut Elements::at(100, &BYTES), &ITEMS);
+}
+
+#[test]
+fn walks_three_elements(rt: HostRuntime) {
+    const BYTES: [u8; 9] = [0x01, 0x00, 0x7e, 0x01, 0x00, 0x80, 0x20, 0x00, 0x00];
+    const ITEMS: [Option<Told>; 4] = [
+        Some(Ok((0, 2, 1, 0))),
+        Some(Ok((2, 4, 0x1e, 1))),
+        Some(Ok((5, 9, 0x20, 0))),
+        None,
+    ];
+    walks(&rt, &mut Elements::new(&BYTES), &ITEMS);
+}
+
+fn writes(
+    rt: &impl Abort,
+    alloc: Global,
+    flags: (bool, bool),
+    kind: u16,
+    size: usize,
+    header: &[u8],
+) -> Result<(), NoMemory>
+    requires { kind ≤ 0x1fff }
+{
+    let body = vec![in alloc; 0xaau8; size]?;
+    let mut writer = Writer::new(alloc);
+    let put = writer.put(kind, flags.0, flags.1, &body);
+    same(rt, size, put, Ok(()));
+    same(
+        rt,
+        size,
+        writer.bytes().strip_prefix(header),
+        Some(body.as_slice()),
+    );
+    Ok(())
+}
+
 #[test]
 fn writes_the_shorter_form(rt: HostRuntime) -> Result<(), Fail> {
     let alloc = rt.alloc();
-    let cases: [(u16, bool, bool, usize, &[u8]); 9] = [
-        (0x01, false, false, 2, &[0x01, 0x02]),
-        (0x1f, false, false, 0, &[0x1f, 0x00]),
-        (0x20, false, false, 0, &[0x80, 0x20, 0x00, 0x00]),
-        (0x1e, true, false, 1, &[0x5e, 0x01]),
-        (0x1e, false, true, 1, &[0x3e, 0x01]),
-        (0x801, false, false, 0, &[0x88, 0x01, 0x00, 0x00]),
-        (0x1fff, true, true, 255, &[0xff, 0xff, 0x00, 0xff]),
-        (0x1f, false, false, 255, &[0x1f, 0xff]),
-        (0x1f, false, false, 256, &[0x80, 0x1f, 0x01, 0x00]),
+    const CASES: [(u16, (bool, bool), usize, &[u8]); 9] = [
+        (0x01, (false, false), 2, &[0x01, 0x02]),
+        (0x1f, (false, false), 0, &[0x1f, 0x00]),
+        (0x20, (false, false), 0, &[0x80, 0x20, 0x00, 0x00]),
+        (0x1e, (true, false), 1, &[0x5e, 0x01]),
+        (0x1e, (false, true), 1, &[0x3e, 0x01]),
+        (0x801, (false, false), 0, &[0x88, 0x01, 0x00, 0x00]),
+        (0x1fff, (true, true), 255, &[0xff, 0xff, 0x00, 0xff]),
+        (0x1f, (false, false), 255, &[0x1f, 0xff]),
+        (0x1f, (false, false), 256, &[0x80, 0x1f, 0x01, 0x00]),
     ];
-    for (kind, non_critical, forward, size, header) in cases {
-        let body = vec![in alloc; 0xaau8; size]?;
-        let mut writer = Writer::new(alloc);
-        assert_eq!(rt; writer.put(kind, non_critical, forward, &body), Ok(()));
-        let text = writer.into_vec();
-        assert!(rt; text.len() >= header.len());
-        let (front, rest) = text.as_slice().split_at(header.len());
-        assert_eq!(rt; front, header);
-        assert_eq!(rt; rest, body.as_slice());
+    for (kind, flags, size, header) in CASES {
+        writes(&rt, alloc, flags, kind, size, header)?;
     }
     Ok(())
+}
+
+fn put_zeros(
+    alloc: Global,
+    writer: &mut Writer,
+    size: usize,
+) -> Result<Result<(), PutRefusal>, NoMemory> {
+    let body = vec![in alloc; 0u8; size]?;
+    Ok(writer.put(0x02, false, false, &body))
 }
 
 #[test]
 fn refuses_a_body_above_65535_bytes(rt: HostRuntime) -> Result<(), Fail> {
     let alloc = rt.alloc();
     let mut writer = Writer::new(alloc);
-    let longest = vec![in alloc; 0u8; 65_535]?;
-    assert_eq!(rt; writer.put(0x02, false, false, &longest), Ok(()));
-    let over = vec![in alloc; 0u8; 65_536]?;
-    assert_eq!(rt;
-        writer.put(0x02, false, false, &over),
-        Err(PutRefusal::TooLong(65_536))
-    );
-    assert_eq!(rt; writer.bytes().len(), 65_539);
+    let puts = [
+        put_zeros(alloc, &mut writer, 65_535)?,
+        put_zeros(alloc, &mut writer, 65_536)?,
+    ];
+    same(&rt, 0, puts, [Ok(()), Err(PutRefusal::TooLong(65_536))]);
+    same(&rt, 1, writer.bytes().len(), 65_539);
     Ok(())
 }
 
+fn put_four(writer: &mut Writer) -> [bool; 4] {
+    [
+        writer.put(0x01, false, false, &[0xaa, 0xbb]).is_ok(),
+        writer.put_number(0x02, 1_700_000_000).is_ok(),
+        writer.put_number(0x03, 0).is_ok(),
+        writer.put_number(0x801, 256).is_ok(),
+    ]
+}
+
 #[test]
-fn writes_elements_one_behind_the_other(rt: HostRuntime) -> Result<(), Fail> {
-    let mut writer = Writer::new(rt.alloc());
-    assert_eq!(rt; writer.put(0x01, false, false, &[0xaa, 0xbb]), Ok(()));
-    assert_eq!(rt; writer.put_number(0x02, 1_700_000_000), Ok(()));
-    assert_eq!(rt; writer.put_number(0x03, 0), Ok(()));
-    assert_eq!(rt; writer.put_number(0x801, 256), Ok(()));
-    let want: [u8; 18] = [
+fn writes_elements_one_behind_the_other(rt: HostRuntime) {
+    const WANT: [u8; 18] = [
         0x01, 0x02, 0xaa, 0xbb, 0x02, 0x04, 0x65, 0x53, 0xf1, 0x00, 0x03, 0x00, 0x88, 0x01, 0x00,
         0x02, 0x01, 0x00,
     ];
-    assert_eq!(rt; writer.bytes(), want.as_slice());
-    Ok(())
+    let mut writer = Writer::new(rt.alloc());
+    same(&rt, 0, put_four(&mut writer), [true; 4]);
+    same(&rt, 1, writer.into_vec().as_slice(), &WANT);
 }
