@@ -16,7 +16,7 @@ use Rattle.ksi_schedule.specs.Events.{History}
 use Rattle.ksi_world.specs.declared.outcome.Asked.{Asked}
 use Rattle.ksi_world.specs.Histories.{world_of}
 use Rattle.ksi_world.specs.Records.{issued_of}
-use Rattle.ksi_journal.specs.Journal.{Contents}
+use Rattle.ksi_journal.specs.Journal.{Contents, IsIssued}
 use Rattle.ksi_journal.specs.Calendar.{IsCovered, calendar_of, kept_root, roots_from}
 use Rattle.ksi_history.specs.Joined.{Joined, Lasts}
 use Rattle.ksi_history.specs.Lasting.{LastsTo}
@@ -97,13 +97,13 @@ found_here p root = cond-true (p == p) (Some root) None (eq-eqb p p refl)
 pub record Facts (h : History) (journal : Contents) : Type 0 where
   pub joined : Joined imprint_of h journal
   pub listed : (k : ℕ) (x : ℕ × List ℕ) → slice_get journal.issued k ≡ Some x → issued_of imprint_of (world_of imprint_of h) x.0 ≡ Some x.1
-  pub bytes : AllByRecursion (λ (x : ℕ × List ℕ). AreBytes x.1) journal.issued
+  pub issued : AllByRecursion IsIssued journal.issued
   pub covered : (p : ℕ) → IsTrue (is_covered (calendar_of journal) p) ↔ IsCovered journal p
   pub read : (bytes : List ℕ) (signature : Signature) → AreBytes bytes → (signature_at bytes ≡ Ok signature) ↔ IsSignature bytes signature
 
 module _ (h : History) (journal : Contents) (facts : Facts h journal) where
   lasts : (k : ℕ) (x : ℕ × List ℕ) → slice_get journal.issued k ≡ Some x → Lasts imprint_of h journal x.0 x.1
-  lasts k x at = facts.joined.issued x.0 x.1 (facts.listed k x at) (all_at (λ (x : ℕ × List ℕ). AreBytes x.1) journal.issued k x facts.bytes at)
+  lasts k x at = facts.joined.issued x.0 x.1 (facts.listed k x at) (all_at IsIssued journal.issued k x facts.issued at).bytes
 
   -- the second of each is at most the greatest one
   covered_until : (k : ℕ) (x : ℕ × List ℕ) (at : slice_get journal.issued k ≡ Some x) → (lasts k x at).asked.second < journal.start + covered_count journal

@@ -1,4 +1,4 @@
--- What is known of extensions: they are bytes, as the type of what was made keeps it. This serves the proofs of private calls.
+-- What is known of extensions: they are bytes, as `extend` ensures. This serves the proofs of private calls.
 use Rattle.std.specs.Prelude.{ℕ, List, Option, Some, None, IfOk}
 use Rattle.std.specs.List.{AllByRecursion}
 use Rattle.ksi_tlv.specs.Spelling.{AreBytes}

@@ -1,10 +1,8 @@
 // What the types keep, told to the proofs. These functions only read.
-ghost use Rattle.std.specs.List.{AllByRecursion};
 ghost use Rattle.ksi_imprint.specs.Imprints.{IsImprint};
-ghost use Rattle.ksi_tlv.specs.Spelling.{AreBytes};
 ghost use Rattle.ksi_schedule.specs.Events.{AskForImprints, AsksForImprint};
 
-use ksi_imprint::{Bytes, Imprint};
+use ksi_imprint::Imprint;
 use ksi_schedule::Event;
 
 /// What is asked for are imprints.
@@ -29,16 +27,3 @@ fn is_imprint(imprint: &Imprint)
 {
     let _bytes = imprint.bytes();
 }
-
-/// What stands behind the numbers are bytes.
-pub(crate) fn issued_are_bytes(issued: &[(u64, Bytes)])
-    ensures { AllByRecursion (λ signature. AreBytes signature.1) issued.now }
-{
-    'issued: for signature in issued {
-        are_bytes(signature.1.as_slice());
-    }
-}
-
-pub(crate) fn are_bytes(text: &[u8])
-    ensures { AreBytes text.now }
-{}

@@ -7,7 +7,7 @@ ghost use Rattle.ksi_drill.specs.Covered.{greatest_covered};
 ghost use Rattle.ksi_drill.specs.Drill.{tally_of};
 ghost use Rattle.ksi_drill.specs.Taken.{AreTakenToBytes};
 
-use crate::asking::{asked_are_imprints, issued_are_bytes};
+use crate::asking::asked_are_imprints;
 use ksi_history::laws::{history_is_joined, journal_keeps_roots};
 use ksi_imprint::Sha;
 use ksi_journal::Journal;
@@ -26,7 +26,6 @@ pub(crate) fn all_are_accepted(world: &World<Sha>, journal: &Journal<Sha>)
     calendar_is_covered();
     signature_is_read();
     let _start = journal.start();
-    issued_are_bytes(journal.issued());
     world_is_joined(world, journal);
 }
 

@@ -10,7 +10,6 @@ ghost use Rattle.ksi_drill.specs.Covered.{published};
 ghost use Rattle.ksi_drill.specs.Taken.{IsTakenToBytes};
 ghost use Rattle.ksi_drill.specs.Trials.{extension, if_signature, is_accepted, is_beneath, is_inside, judged, trial};
 
-use crate::asking::are_bytes;
 use crate::trial::Trial;
 use ksi_auditor::{Audit, audit};
 use ksi_extender::{ExtendRefusal, extend};
@@ -57,10 +56,7 @@ fn extension(
     ensures bytes { IfOk result (λ _. IfOk (extended imprint_of journal.now bytes.now p) AreBytes) }
 {
     match extend::<Sha>(alloc, journal, bytes.as_slice(), p) {
-        Ok(text) => {
-            are_bytes(text.as_slice());
-            if_signature(alloc, text.as_slice())
-        }
+        Ok(text) => if_signature(alloc, text.as_slice()),
         Err(ExtendRefusal::NoMemory) => Err(AllocError),
         Err(_) => Ok(None),
     }

@@ -1,4 +1,5 @@
 ghost use Rattle.std.specs.Prelude.{◌≡◌, ◌≢◌, [], ◌⊎◌, ◌<◌, ◌≤◌, ◌+◌, ◌^◌, length, Ok, Err, IfOk};
+ghost use Rattle.ksi_tlv.specs.Spelling.{AreBytes};
 ghost use Rattle.ksi_calendar.specs.Calendar.{calendar_leaf};
 ghost use Rattle.ksi_journal.specs.Calendar.{calendar_of, leaf_at};
 ghost use Rattle.ksi_signature.specs.declared.fault.SigFault.TheVariants as answers;
@@ -16,6 +17,7 @@ use ksi_calchain::laws::one_climb;
 use ksi_calendar::Steps;
 use ksi_imprint::{Bytes, Compress, Imprint, NoMemory};
 use ksi_journal::Journal;
+use ksi_journal::laws::are_bytes;
 use ksi_signature::{
     Bodies, CalChain, CalLinks, PubRecord, SigFault, WithRefusal, read, signature_is_read,
     signature_or_fault, with_calendar,
@@ -44,6 +46,7 @@ pub fn extend<C: Compress>(
     requires { p < 2 ^ 63 }
     ensures answer { (result ≡ extended C.image journal.now bytes.now p) ⊎ (result ≡ Err refusals.NoMemory) }
     ensures accepted { IfOk result (IsExtended C.image journal.now bytes.now p) }
+    ensures bytes { IfOk result AreBytes }
     ensures memory { result ≢ Err (refusals.Malformed answers.NoMemory) }
 {
     extend_from::<C, Brand>(alloc, journal, bytes, p, Blank::new(1))
@@ -62,6 +65,7 @@ fn extend_from<C: Compress, L: Ledger>(
     requires early { p < 2 ^ 63 }
     ensures answer { (result ≡ extended C.image journal.now bytes.now p) ⊎ (result ≡ Err refusals.NoMemory) }
     ensures accepted { IfOk result (IsExtended C.image journal.now bytes.now p) }
+    ensures bytes { IfOk result AreBytes }
     ensures memory { result ≢ Err (refusals.Malformed answers.NoMemory) }
 {
     let mut steps = Steps::<L>::open(blank);
@@ -82,6 +86,7 @@ pub fn extend_counted<C: Compress, L: Ledger>(
     requires { p < 2 ^ 63 }
     ensures answer { (result ≡ extended C.image journal.now bytes.now p) ⊎ (result ≡ Err refusals.NoMemory) }
     ensures accepted { IfOk result (IsExtended C.image journal.now bytes.now p) }
+    ensures bytes { IfOk result AreBytes }
     ensures memory { result ≢ Err (refusals.Malformed answers.NoMemory) }
     ensures most { steps.new ≤ steps.old + 127 }
 {
@@ -102,6 +107,7 @@ fn taken_on<C: Compress, L: Ledger>(
     ensures answer { (result ≡ extended C.image journal.now bytes.now p) ⊎ (result ≡ Err refusals.NoMemory) }
     ensures again { IfOk result (λ text. (signature : Signature) × IsSignature bytes.now signature
         × IsSignature text (taken_on C.image journal.now signature p)) }
+    ensures bytes { IfOk result AreBytes }
     ensures most { steps.new ≤ steps.old + 127 }
 {
     aggregation();
@@ -239,10 +245,14 @@ fn renewed_with(
         (result ≡ fitting bytes.now chain.now published.now) ⊎ (result ≡ Err refusals.NoMemory) }
     ensures again { IfOk result (λ text. (signature : Signature) × IsSignature bytes.now signature
         × IsSignature text (renewed signature chain.now published.now)) }
+    ensures bytes { IfOk result AreBytes }
 {
     signature_or_fault();
     match with_calendar(alloc, bytes, chain, published) {
-        Ok(text) => Ok(text),
+        Ok(text) => {
+            are_bytes(text.as_slice());
+            Ok(text)
+        }
         Err(WithRefusal::TooLong(size)) => Err(ExtendRefusal::TooLarge(size)),
         Err(WithRefusal::Malformed(fault)) => Err(ExtendRefusal::Malformed(fault)),
         Err(WithRefusal::NoMemory) => Err(ExtendRefusal::NoMemory),

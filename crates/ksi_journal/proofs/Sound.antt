@@ -9,6 +9,7 @@ use Rattle.ksi_imprint.specs.declared.fault.ImprintFault.{ImprintFault}
 use Rattle.ksi_imprint.specs.declared.fault.ImprintFault.TheVariants as imprints_fault
 use Rattle.ksi_imprint.specs.Imprints.{IsImprint, zero_imprint}
 use Rattle.ksi_imprint.specs.Reading as imprints
+use Rattle.ksi_tlv.specs.Spelling.{AreBytes}
 use Rattle.ksi_tlv.specs.Walking.{PlacedTlv, Items}
 use Rattle.ksi_aggchain.specs.declared.item.Item.{Item}
 use Rattle.ksi_aggtree.specs.Rounds.{tree_of}
@@ -415,19 +416,21 @@ module _ (image : List ℕ → List ℕ) where
     opened = λ e. absurd cc;
   }
 
-  issued_of : (xs : List (ℕ × List ℕ)) → AllByRecursion (λ (x : ℕ × List ℕ). length x.1 ≤ 60000) xs → AllByRecursion (λ (x : ℕ × List ℕ). x.0 < 2 ^ 64) xs → AllByRecursion IsIssued xs
-  issued_of [] short small = tt
-  issued_of (x ∷ xs) short small = (record { number = small.0; short = short.0 }, issued_of xs short.1 small.1)
+  issued_of : (xs : List (ℕ × List ℕ)) → AllByRecursion (λ (x : ℕ × List ℕ). length x.1 ≤ 60000) xs → AllByRecursion (λ (x : ℕ × List ℕ). x.0 < 2 ^ 64) xs
+      → AllByRecursion (λ (x : ℕ × List ℕ). AreBytes x.1) xs → AllByRecursion IsIssued xs
+  issued_of [] short small bytes = tt
+  issued_of (x ∷ xs) short small bytes = (record { number = small.0; short = short.0; bytes = bytes.0 }, issued_of xs short.1 small.1 bytes.1)
 
-  -- what whole elements say is a journal, where numbers are below 2 ^ 64
-  pub whole_journal : (items : Items) (said : Loaded) → Bounded → IsWhole (journal_order image) items nothing_yet said → AllByRecursion (λ (x : ℕ × List ℕ). x.0 < 2 ^ 64) said.contents.issued → IsJournal image said.contents
-  whole_journal items said bounded whole small =
+  -- what whole elements say is a journal, where numbers are below 2 ^ 64 and what stands behind them are bytes
+  pub whole_journal : (items : Items) (said : Loaded) → Bounded → IsWhole (journal_order image) items nothing_yet said → AllByRecursion (λ (x : ℕ × List ℕ). x.0 < 2 ^ 64) said.contents.issued
+      → AllByRecursion (λ (x : ℕ × List ℕ). AreBytes x.1) said.contents.issued → IsJournal image said.contents
+  whole_journal items said bounded whole small bytes =
       let sound = leads_sound nothing_yet said whole.es bounded nothing_sound whole.leads in
       record {
         start = sound.start;
         seconds = sound.seconds;
         seconds_rise = sound.seconds_rise.rise;
-        issued = issued_of said.contents.issued sound.issued small;
+        issued = issued_of said.contents.issued sound.issued small bytes;
         numbers_rise = sound.numbers_rise.rise;
         publications = sound.publications;
         times_rise = sound.times_rise.rise;

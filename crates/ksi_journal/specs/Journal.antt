@@ -2,6 +2,7 @@
 use Rattle.std.specs.Prelude.{◌≡◌, ◌≢◌, ℕ, ◌+◌, ◌^◌, ◌<◌, ◌≤◌, ◌==◌, List, [], ◌∷◌, length, map, Option, None, Some, if◌then◌else◌}
 use Rattle.std.specs.List.{AllByRecursion}
 use Rattle.ksi_imprint.specs.Imprints.{IsImprint, zero_imprint}
+use Rattle.ksi_tlv.specs.Spelling.{AreBytes}
 use Rattle.ksi_aggchain.specs.declared.item.Item.{Item}
 use Rattle.ksi_aggtree.specs.Rounds.{tree_of}
 use Rattle.ksi_journal.specs.declared.second.Second.{Second}
@@ -43,6 +44,7 @@ pub record IsSecond (image : List ℕ → List ℕ) (kept : Second) : Type 0 whe
 pub record IsIssued (signature : ℕ × List ℕ) : Type 0 where
   pub number : signature.0 < 2 ^ 64
   pub short : length signature.1 ≤ 60000
+  pub bytes : AreBytes signature.1
 
 pub record IsPublication (publication : ℕ × List ℕ) : Type 0 where
   pub early : publication.0 < 2 ^ 63

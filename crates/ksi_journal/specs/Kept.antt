@@ -2,6 +2,7 @@
 use Rattle.std.specs.Borrow.{Bor}
 use Rattle.std.specs.Prelude.{◌≡◌, ℕ, zero, suc, ◌==◌, if◌then◌else◌, ◌∷◌, Option, Some, None, ◌+◌, ◌^◌, ◌<◌, ◌≤◌, List, [], length, Result, Ok, Err}
 use Rattle.std.specs.List.{AllByRecursion}
+use Rattle.ksi_tlv.specs.Spelling.{AreBytes}
 use Rattle.ksi_order.specs.declared.fault.OrderFault.{OrderFault}
 use Rattle.ksi_aggchain.specs.declared.item.Item.{Item}
 use Rattle.ksi_journal.specs.declared.loading.Parts.{Parts}
@@ -13,13 +14,15 @@ use Rattle.ksi_aggtree.specs.Rounds.{item_at}
 abbrev pub parts_of : Parts → Contents
 parts_of parts = contents parts.start parts.seconds.items parts.issued.items parts.publications.items
 
--- a second whose items come is below 2^63, those that are there and to come make a round, and numbers have 64 bits
+-- a second whose items come is below 2^63, those that are there and to come make a round, numbers have 64 bits, and what
+-- stands behind them are bytes
 pub record IsLoading (second : ℕ) (items : List Item) (left : ℕ) (issued : List (ℕ × List ℕ)) : Type 0 where
   pub early : second < 2 ^ 63
   pub few : length items + left ≤ 65536
   pub none : left ≡ 0 → items ≡ []
   pub low : (k : ℕ) → (item_at items k).level ≤ 239
   pub numbers : AllByRecursion (λ signature. signature.0 < 2 ^ 64) issued
+  pub bytes : AllByRecursion (λ signature. AreBytes signature.1) issued
 
 -- a number and bytes, wherever these lie in memory
 abbrev pub view_signature : Result (ℕ × Bor (List ℕ)) OrderFault → Result (ℕ × List ℕ) OrderFault

@@ -1,5 +1,6 @@
 //! What holds of journals, for the layers above to cite. None of these functions does anything.
 ghost use Rattle.std.specs.Prelude.{◌≡◌, ◌↔◌, ◌⊎◌, ◌<◌, ◌≤◌, ◌+◌, ◌^◌, ℕ, List, IsTrue, length, Ok, Err};
+ghost use Rattle.ksi_tlv.specs.Spelling.{AreBytes};
 ghost use Rattle.ksi_calendar.specs.Calendar.{calendar_leaf, is_covered};
 ghost use Rattle.ksi_journal.specs.declared.fault.JournalFault.{JournalFault};
 ghost use Rattle.ksi_journal.specs.Journal.{Contents, IsJournal};
@@ -56,3 +57,8 @@ pub fn journal_is_read()
 {
     walked_says::<Loading<Sha>, JournalFault>();
 }
+
+/// Bytes are below 256, as their type keeps it.
+pub fn are_bytes(bytes: &[u8])
+    ensures { AreBytes bytes.now }
+{}

@@ -5,6 +5,7 @@ ghost use Rattle.ksi_journal.specs.Elements.{named, counts};
 
 use crate::fault::JournalFault;
 use crate::fields::{read_item, read_publication, read_second, read_signature};
+use crate::laws::are_bytes;
 use crate::second::{Second, Stage};
 use crate::tree::tree;
 use ksi_aggchain::Item;
@@ -83,6 +84,7 @@ impl<C: Compress> Loading<C> {
     ghost use Rattle.std.specs.Prelude.{◌≡◌, ◌+◌, ◌<◌, ◌≤◌, ◌^◌, length, Ok, ℕ};
     ghost use Rattle.std.specs.List.{AllByRecursion};
     ghost use Rattle.ksi_tlv.specs.Seen.{view_placed};
+    ghost use Rattle.ksi_tlv.specs.Spelling.{AreBytes};
     ghost use Rattle.ksi_order.specs.Order.{Steps};
     ghost use Rattle.ksi_aggtree.specs.Rounds as rounds;
     ghost use Rattle.ksi_journal.specs.Elements.{nothing_yet, start_at, second_at, counted, closed, finished, item_at, issued_at, publication_at, end_at};
@@ -113,6 +115,7 @@ impl<C: Compress> Loading<C> {
     pub(crate) fn into_parts(self) -> Parts
         ensures contents { parts_of result ≡ self.contents }
         ensures numbers { AllByRecursion (λ signature. signature.0 < 2 ^ 64) self.contents.issued }
+        ensures bytes { AllByRecursion (λ signature. AreBytes signature.1) self.contents.issued }
     {
         let Loading {
             stage: _,
@@ -257,6 +260,7 @@ impl<C: Compress> Loading<C> {
             Ok(signature) => signature,
             Err(fault) => return Err(Stop::Fault(named(fault))),
         };
+        are_bytes(bytes);
         let copy = match Bytes::copy_of(self.alloc, bytes) {
             Ok(copy) => copy,
             Err(_) => return Err(Stop::NoMemory),

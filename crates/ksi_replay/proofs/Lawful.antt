@@ -3,6 +3,7 @@ use Rattle.std.proofs.Common.{◌≡◌, ◌≢◌, inl, inr, ℕ, zero, suc, �
 use Rattle.std.specs.List.{AllByRecursion}
 use Rattle.std.proofs.lemmas.List.{append_assoc}
 use Rattle.ksi_imprint.specs.Imprints.{IsImprint, zero_imprint}
+use Rattle.ksi_tlv.specs.Spelling.{AreBytes}
 use Rattle.ksi_aggchain.specs.declared.item.Item.{Item}
 use Rattle.ksi_aggtree.specs.Rounds.{item_at, tree_of}
 use Rattle.ksi_schedule.specs.declared.event.Event.{Event}
@@ -83,8 +84,8 @@ module _ (image : List ℕ → List ℕ) (w : WorldState) where
       ∙ ap (λ ys. xs ++ ys) (before_is n o (issued_among image w (n + 1) (end - (n + 1))) ∙ sym step)
       ∙ before
 
-pub lawful_more : (xs : List (ℕ × List ℕ)) (n : ℕ) (text : List ℕ) → AllByRecursion IsIssued xs → n < 2 ^ 64 → length text ≤ 10000 → AllByRecursion IsIssued (xs ++ (n, text) ∷ [])
-lawful_more xs n text all early short = all_more IsIssued xs (n, text) all (record { number = early; short = omega (arith, short) })
+pub lawful_more : (xs : List (ℕ × List ℕ)) (n : ℕ) (text : List ℕ) → AllByRecursion IsIssued xs → n < 2 ^ 64 → length text ≤ 10000 → AreBytes text → AllByRecursion IsIssued (xs ++ (n, text) ∷ [])
+lawful_more xs n text all early short bytes = all_more IsIssued xs (n, text) all (record { number = early; short = omega (arith, short); bytes = bytes })
 
 -- WHAT IS PUBLISHED
 

@@ -9,6 +9,7 @@ ghost use Rattle.ksi_replay.specs.Journals.{journal_of, second_of};
 
 use ksi_aggchain::Item;
 use ksi_imprint::{Bytes, Compress, Imprint, NoMemory};
+use ksi_journal::laws::are_bytes;
 use ksi_journal::{Journal, Second};
 use ksi_world::{KeptSecond, World};
 use std::alloc::Global;
@@ -86,6 +87,7 @@ fn push_issued(
     ensures lawful { OnOk result (AllByRecursion IsIssued issued.new.items) }
 {
     if let Some(bytes) = found {
+        are_bytes(bytes.as_slice());
         issued.push((number, bytes))?;
     }
     Ok(())

@@ -15,6 +15,7 @@ use Rattle.ksi_verifier.specs.Verdict.{verdict}
 use Rattle.ksi_history.specs.Joined.{Lasts}
 use Rattle.ksi_history.specs.Lasting.{LastsTo}
 use Rattle.ksi_extender.specs.Accepted.{taken_on}
+use Rattle.ksi_journal.specs.Journal.{IsJournal}
 use Rattle.ksi_replay.specs.Journals.{journal_of}
 use Rattle.ksi_world.specs.declared.outcome.Asked as requests
 use Rattle.ksi_top.specs.Loading.{content, loaded, within, signature_limit, file_limit}
@@ -22,7 +23,6 @@ use Rattle.ksi_top.specs.Verify.{judged, verify_run}
 use Rattle.ksi_schedule.specs.Events.{History}
 use Rattle.ksi_schedule.specs.Spelled.{IsScheduleText}
 use Rattle.ksi_top.specs.Headline.{HoldsOver}
-use Rattle.ksi_top.specs.Lawful.{IsLawful}
 use Rattle.ksi_top.specs.Complete.{IsTakenFrom}
 
 within_limit : (limit n : ℕ) (bytes : List ℕ) → length bytes ≤ limit → within limit n bytes ≡ Ok bytes
@@ -64,7 +64,7 @@ module _ (signature_read : (bytes : List ℕ) (signature : Signature) → AreByt
       let accepted : verdict imprint_of read hash d.pairs ≡ Accepted second = ap (λ hash. verdict imprint_of read hash d.pairs) (sym for) ∙ to.accepted d.pairs d.published ∙ ap Accepted at in
       verified signature hash publications held read d.pairs d.bytes is d.publications_are d.within ∙ ap judged accepted
 
-  pub accepted_again : ((text : List ℕ) (h : History) → IsScheduleText text h → IsLawful (journal_of imprint_of h) → HoldsOver h)
+  pub accepted_again : ((text : List ℕ) (h : History) → IsScheduleText text h → IsJournal imprint_of (journal_of imprint_of h) → HoldsOver h)
       → (signature hash publications : List ℕ) (held : Held) (second : ℕ) → IsTakenFrom (content held signature) hash (content held publications) second
       → verify_run signature hash publications held ≡ judged (Accepted second)
   accepted_again holds signature hash publications held second d =

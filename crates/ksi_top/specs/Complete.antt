@@ -10,6 +10,7 @@ use Rattle.ksi_schedule.specs.Spelled.{IsScheduleText}
 use Rattle.ksi_world.specs.declared.outcome.Asked as requests
 use Rattle.ksi_world.specs.Histories.{world_of}
 use Rattle.ksi_world.specs.Records.{issued_of}
+use Rattle.ksi_journal.specs.Journal.{IsJournal}
 use Rattle.ksi_journal.specs.Calendar.{IsCovered}
 use Rattle.ksi_replay.specs.Journals.{journal_of}
 use Rattle.ksi_extender.specs.Extended.{extended}
@@ -18,7 +19,6 @@ use Rattle.ksi_words.specs.Words.{Asked, replay, sign, publish, extend, verify, 
 use Rattle.ksi_top.specs.declared.report.Report.{Report}
 use Rattle.ksi_top.specs.Loading.{content, file_limit}
 use Rattle.ksi_top.specs.Verify.{judged}
-use Rattle.ksi_top.specs.Lawful.{IsLawful}
 
 -- The files and the hash of a signature that was issued for a second in a history, as `replay` reads one and gives its
 -- journal. It was issued of a request for this hash and is taken on, over that journal, to a covered second p, its own or a
@@ -27,7 +27,7 @@ pub record IsTakenFrom (signature hash publications : List ℕ) (second : ℕ) :
   pub schedule : List ℕ
   pub history : History
   pub spelled : IsScheduleText schedule history
-  pub lawful : IsLawful (journal_of imprint_of history)
+  pub lawful : IsJournal imprint_of (journal_of imprint_of history)
   pub number : ℕ
   pub text : List ℕ
   pub issued : issued_of imprint_of (world_of imprint_of history) number ≡ Some text

@@ -17,7 +17,7 @@ use Rattle.ksi_schedule.specs.Spelled.{IsScheduleText}
 use Rattle.ksi_world.specs.Histories.{held_in, after, world_of}
 use Rattle.ksi_world.specs.Records.{issued_of}
 use Rattle.ksi_world.specs.Validity.{IsProposed}
-use Rattle.ksi_journal.specs.Journal.{Contents}
+use Rattle.ksi_journal.specs.Journal.{Contents, IsJournal}
 use Rattle.ksi_journal.specs.File.{IsJournalFile}
 use Rattle.ksi_journal.specs.Written.{journal_text}
 use Rattle.ksi_replay.specs.Journals.{journal_of}
@@ -33,7 +33,6 @@ use Rattle.ksi_auditor.specs.Shown.{IsDecided, Shows, Tells}
 use Rattle.ksi_words.specs.Words.{Asked, replay, sign, publish, extend, verify, audit, make, drill}
 use Rattle.ksi_top.specs.declared.report.Report.{Report}
 use Rattle.ksi_top.specs.declared.status.Status.TheVariants.{Done}
-use Rattle.ksi_top.specs.Lawful.{IsLawful}
 use Rattle.ksi_top.specs.Reports.{WhereRead}
 use Rattle.ksi_top.specs.Loading.{content}
 use Rattle.ksi_top.specs.Replay.{replayed}
@@ -73,7 +72,7 @@ pub record IsReplayed (schedule name : List ℕ) (report : Report) : Type 0 wher
   pub history : History
   pub spelled : IsScheduleText schedule history
   pub reported : report ≡ replayed name history
-  pub lawful : IsLawful (journal_of imprint_of history)
+  pub lawful : IsJournal imprint_of (journal_of imprint_of history)
   pub again : IsJournalFile imprint_of (journal_text (journal_of imprint_of history)) (journal_of imprint_of history)
   pub holds : HoldsOver history
 

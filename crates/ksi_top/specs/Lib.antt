@@ -17,4 +17,3 @@ pub mod Top
 pub mod Printed
 pub mod Headline
 pub mod Complete
-pub mod Lawful

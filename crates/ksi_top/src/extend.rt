@@ -16,7 +16,6 @@ use crate::printed::Word::{Number, Text};
 use crate::printed::print;
 use crate::reading::{read_journal, read_signature};
 use crate::report::{Halt, Report, Saved};
-use crate::text::is_text;
 use ksi_imprint::{NoMemory, Sha};
 use ksi_journal::Journal;
 use ksi_ports::Files;
@@ -76,7 +75,6 @@ fn taken_on(
 {
     match ksi_extender::extend::<Sha>(alloc, journal, bytes, publication) {
         Ok(text) => {
-            is_text(text.as_slice());
             let line = print(
                 alloc,
                 Text("extended"),

@@ -1,13 +1,13 @@
 // What the headline says of a replay: what holds over every history.
 ghost use Rattle.std.specs.Prelude.{ℕ, List};
 ghost use Rattle.ksi_imprint.specs.Imprints.{imprint_of};
+ghost use Rattle.ksi_journal.specs.Journal.{IsJournal};
 ghost use Rattle.ksi_journal.specs.File.{IsJournalFile};
 ghost use Rattle.ksi_journal.specs.Written.{journal_text};
 ghost use Rattle.ksi_schedule.specs.Events.{History};
 ghost use Rattle.ksi_schedule.specs.Spelled.{IsScheduleText};
 ghost use Rattle.ksi_replay.specs.Journals.{journal_of};
 ghost use Rattle.ksi_top.specs.Headline.{HoldsOver};
-ghost use Rattle.ksi_top.specs.Lawful.{IsLawful};
 
 use ksi_facts::laws::history_is_recalled;
 use ksi_history::laws::{held_stays, history_is_joined, journal_keeps_roots};
@@ -18,8 +18,8 @@ use ksi_world::laws::{agreement, all_issued, validity};
 /// What holds over every history that a schedule spells, where its journal is one.
 pub(crate) fn histories_hold()
     ensures holds { (text : List ℕ) (history : History) → IsScheduleText text history →
-        IsLawful (journal_of imprint_of history) → HoldsOver history }
-    ensures again { (history : History) → IsLawful (journal_of imprint_of history) →
+        IsJournal imprint_of (journal_of imprint_of history) → HoldsOver history }
+    ensures again { (history : History) → IsJournal imprint_of (journal_of imprint_of history) →
         IsJournalFile imprint_of (journal_text (journal_of imprint_of history)) (journal_of imprint_of history) }
 {
     spelled_is_schedule();

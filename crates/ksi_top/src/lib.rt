@@ -30,7 +30,6 @@ mod replay;
 mod report;
 mod sign;
 mod status;
-mod text;
 mod top;
 mod verify;
 

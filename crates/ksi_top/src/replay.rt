@@ -2,11 +2,11 @@
 ghost use Rattle.std.specs.Prelude.{◌≡◌, ◌≤◌, ◌+◌, IsTrue, IfOk};
 ghost use Rattle.ksi_top.specs.Reports.{Reports, Means, WhereRead};
 ghost use Rattle.ksi_imprint.specs.Imprints.{imprint_of};
+ghost use Rattle.ksi_journal.specs.Journal.{IsJournal};
 ghost use Rattle.ksi_journal.specs.File.{IsJournalFile};
 ghost use Rattle.ksi_journal.specs.Written.{journal_text};
 ghost use Rattle.ksi_replay.specs.Journals.{journal_of};
 ghost use Rattle.ksi_top.specs.Headline.{IsReplayed};
-ghost use Rattle.ksi_top.specs.Lawful.{IsLawful, AreTexts};
 ghost use Rattle.ksi_top.specs.Loading.{content};
 ghost use Rattle.ksi_top.specs.Causes.{ReportCaused, IsJudged, counts};
 ghost use Rattle.ksi_top.specs.Replay.{replay_limits, replay_run, replayed, replayed_as, counted};
@@ -19,8 +19,7 @@ use crate::printed::Word::{Number, Text};
 use crate::printed::print;
 use crate::reading::read_schedule;
 use crate::report::{Halt, Report, Saved};
-use crate::text::is_text;
-use ksi_imprint::{Bytes, NoMemory, Sha};
+use ksi_imprint::{NoMemory, Sha};
 use ksi_journal::Journal;
 use ksi_ports::Files;
 use ksi_replay::journal_of;
@@ -51,7 +50,7 @@ pub(crate) fn replay<F: Files>(
 
 fn replayed(alloc: Global, name: &str, schedule: &Schedule) -> Result<Report, NoMemory>
     ensures replayed { IfOk result (λ report. report ≡ replayed name.now schedule.now) }
-    ensures lawful { IfOk result (λ _. IsLawful (journal_of imprint_of schedule.now)) }
+    ensures lawful { IfOk result (λ _. IsJournal imprint_of (journal_of imprint_of schedule.now)) }
     ensures judged { IfOk result (λ report. IsJudged report) }
 {
     let world = ksi_replay::replay::<Sha>(alloc, schedule)?;
@@ -61,22 +60,12 @@ fn replayed(alloc: Global, name: &str, schedule: &Schedule) -> Result<Report, No
 /// The journal of a world, saved under a name.
 fn kept(alloc: Global, name: &str, world: &World<Sha>) -> Result<Report, NoMemory>
     ensures replayed { IfOk result (λ report. report ≡ replayed name.now world.now) }
-    ensures lawful { IfOk result (λ _. IsLawful (journal_of imprint_of world.now)) }
+    ensures lawful { IfOk result (λ _. IsJournal imprint_of (journal_of imprint_of world.now)) }
     ensures judged { IfOk result (λ report. IsJudged report) }
 {
     let journal = journal_of(alloc, world)?;
     let _start = journal.start();
-    are_texts(journal.issued());
     saving(alloc, name, world, &journal)
-}
-
-/// Signatures are bytes, as their type keeps it.
-fn are_texts(issued: &[(u64, Bytes)])
-    ensures { AreTexts issued.now }
-{
-    'texts: for signature in issued {
-        is_text(signature.1.as_slice());
-    }
 }
 
 fn saving(

@@ -1,8 +1,6 @@
 use Rattle.std.proofs.Common.{◌≡◌, ℕ, List, Some, ap, subst}
 use Rattle.std.specs.Prelude.{slice_get}
-use Rattle.std.specs.List.{AllByRecursion}
 use Rattle.ksi_imprint.specs.Imprints.{imprint_of}
-use Rattle.ksi_tlv.specs.Spelling.{AreBytes}
 use Rattle.ksi_world.specs.Histories.{world_of}
 use Rattle.ksi_world.specs.Records.{issued_all}
 use Rattle.ksi_journal.specs.Journal.{Contents}
@@ -23,7 +21,7 @@ returns c =
     all_accepted h journal (record {
       joined = c.world_is_joined.ensures;
       listed = λ k x at. c.all_issued.ensures.are imprint_of (world_of imprint_of h) k x (subst (λ (xs : List (ℕ × List ℕ)). slice_get xs k ≡ Some x) listed at);
-      bytes = subst (AllByRecursion (λ (x : ℕ × List ℕ). AreBytes x.1)) c.issued.ensures c.issued_are_bytes.ensures;
+      issued = c.start-start.ensures.journal.issued;
       covered = λ p. c.calendar_is_covered.ensures.covered imprint_of journal p c.start-start.ensures.journal;
       read = λ bytes signature are. c.signature_is_read.ensures.signature bytes signature are;
     })

@@ -11,4 +11,4 @@ returns-in-Ok-clause-journal g c =
     let image = g.C.Compress.image in
     let whole = subst (λ (s : Loaded). IsWhole (journal_order image) (elements 8 c.args.rest.now) s c.walk.new.state) c.new-loading.ensures c.in-Ok.ensures.told in
     subst (IsJournal image) (sym c.into_parts.ensures.contents)
-    (whole_journal image _ c.walk.new.state (record { early = c.values_are_bounded.ensures.early; imprint = c.values_are_bounded.ensures.imprint }) whole c.into_parts.ensures.numbers)
+    (whole_journal image _ c.walk.new.state (record { early = c.values_are_bounded.ensures.early; imprint = c.values_are_bounded.ensures.imprint }) whole c.into_parts.ensures.numbers c.into_parts.ensures.bytes)
