@@ -19,6 +19,6 @@ pub enum Audit {
     Undecided(u64),
     /// At the publication time, the root that the signature leads to is not the kept one.
     NotDecided(u64, Imprint, Imprint),
-    /// There is no memory for the strings of a clash.
+    /// There is no memory for the tree of a second or the strings of a clash.
     NoMemory,
 }
