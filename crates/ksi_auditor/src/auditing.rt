@@ -1,4 +1,4 @@
-ghost use Rattle.std.specs.Prelude.{◌≡◌, ◌≢◌, ◌<◌, ◌≤◌, ◌-◌, ◌^◌, ℕ, [], Some, None, IfOk, length};
+ghost use Rattle.std.specs.Prelude.{◌≡◌, ◌≢◌, ◌<◌, ◌≤◌, ◌-◌, ◌^◌, ℕ, [], Some, None, IfOk, OnErr, length};
 ghost use Rattle.ksi_aggchain.specs.Climbing.{level_after};
 ghost use Rattle.ksi_aggtree.specs.Rounds.{item_at};
 ghost use Rattle.ksi_verifier.specs.Chains.{plain_chains};
@@ -6,7 +6,7 @@ ghost use Rattle.ksi_verifier.specs.Leading.{all_links};
 ghost use Rattle.ksi_journal.specs.Journal.{IsJournal};
 ghost use Rattle.ksi_journal.specs.Calendar.{first_missing, kept_root};
 ghost use Rattle.ksi_auditor.specs.Audit.{audit, compared, item_named, kept_or_not, laid_beside, links_of};
-ghost use Rattle.ksi_auditor.specs.Shown.{IsShort, Shows};
+ghost use Rattle.ksi_auditor.specs.Shown.{IsShort, Shows, Tells};
 ghost use Rattle.ksi_auditor.specs.declared.answer.Audit.TheVariants as answers;
 
 use crate::answer::Audit;
@@ -32,6 +32,7 @@ use std::alloc::{AllocError, Global};
 /// the start to it are kept, and whether the root that the signature leads to is the kept one. Then each link's string,
 /// from the top, is compared with the one of the kept tree: the first that differs is a clash. Where none does, the hash is
 /// a node of the tree of its second, or leads to one of its items. Only the tree of the second and a clash take memory.
+#[tactic(auto, using(crate::proofs::Telling::never_memory))]
 pub fn audit<C: Compress>(
     alloc: Global,
     journal: &Journal<C>,
@@ -42,6 +43,8 @@ pub fn audit<C: Compress>(
     ensures answer { result ≢ answers.NoMemory →
         result ≡ audit C.image journal.now signature.now hash.now publications.now }
     ensures shown { Shows C.image journal.now signature.now hash.now result }
+    // Memory is wanting only where the answer says where the hash stands, or has a clash.
+    ensures memory { result ≡ answers.NoMemory → Tells (audit C.image journal.now signature.now hash.now publications.now) }
     ensures short { IsShort result }
 {
     audit_shows();
@@ -63,6 +66,7 @@ fn answer<C: Compress>(
 ) -> Result<Audit, NoMemory>
     ensures answer { IfOk result (λ answer. answer ≡
         audit C.image journal.now signature.now hash.now publications.now) }
+    ensures memory { OnErr result (Tells (audit C.image journal.now signature.now hash.now publications.now)) }
     ensures short { IfOk result IsShort }
 {
     low_levels();
@@ -87,6 +91,7 @@ fn decide<C: Compress>(
     requires levels { level_after 0 (links_of signature.now) ≤ 255 }
     ensures answer { IfOk result (λ answer. answer ≡
         kept_or_not C.image journal.now signature.now hash.now second (Some calendar.now)) }
+    ensures memory { OnErr result (Tells (kept_or_not C.image journal.now signature.now hash.now second (Some calendar.now))) }
     ensures short { IfOk result IsShort }
 {
     let publication = calendar.publication;
@@ -120,6 +125,7 @@ fn root_to<C: Compress>(journal: &Journal<C>, last: u64) -> Imprint
 }
 
 /// Lays the links of an accepted signature, whose publication is decided, beside the kept trees.
+#[tactic(auto, using(crate::proofs::Telling::laid_tells))]
 fn lay_beside<C: Compress>(
     alloc: Global,
     journal: &Journal<C>,
@@ -132,6 +138,7 @@ fn lay_beside<C: Compress>(
     requires journal { IsJournal C.image journal.now }
     ensures audit { IfOk result (λ audit. audit ≡
         laid_beside C.image journal.now signature.now hash.now second calendar.now) }
+    ensures memory { OnErr result (Tells (laid_beside C.image journal.now signature.now hash.now second calendar.now)) }
     ensures short { IfOk result IsShort }
 {
     let kept = CalendarTo {

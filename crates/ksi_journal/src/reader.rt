@@ -1,4 +1,4 @@
-ghost use Rattle.std.specs.Prelude.{◌≡◌, ◌⊎◌, ◌++◌, ◌+◌, ◌<◌, ◌^◌, ℕ, List, None, IfOk, IfErr, IfSome, length};
+ghost use Rattle.std.specs.Prelude.{◌≡◌, ◌⊎◌, ◌++◌, ◌+◌, ◌<◌, ◌^◌, ℕ, List, None, Err, IfOk, IfErr, IfSome, length};
 ghost use Rattle.ksi_tlv.specs.Walking.{elements};
 ghost use Rattle.ksi_order.specs.Sequence.{IsWhole, IsFirstFault};
 ghost use Rattle.ksi_journal.specs.declared.fault.JournalFault.TheVariants as answers;
@@ -20,11 +20,12 @@ pub(crate) const MAGIC: &[u8; 8] = b"KSIJRNL1";
 /// Loads a journal, whose trees it computes.
 ///
 /// # Errors
-/// The first fault in order of bytes, or `NoMemory`.
+/// The first fault in order of bytes, or `NoMemory`, which comes only behind the magic.
 pub fn load<C: Compress>(alloc: Global, bytes: &[u8]) -> Result<Journal<C>, JournalFault>
     ensures journal { IfOk result (λ journal. IsJournalFile C.image bytes.now journal) }
     ensures fault { IfErr result (λ fault.
         (fault ≡ answers.NoMemory) ⊎ IsJournalFault C.image bytes.now fault) }
+    ensures other { ((rest : List ℕ) → bytes.now ≡ magic ++ rest → ⊥) → result ≡ Err answers.Magic }
 {
     let Some(rest) = after_magic(bytes) else {
         return Err(JournalFault::Magic);
