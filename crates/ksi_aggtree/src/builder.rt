@@ -5,9 +5,9 @@ ghost use Rattle.ksi_aggchain.specs.Owned.{plain_links};
 ghost use Rattle.ksi_aggtree.specs.Rounds.{item_at, tree_of, root_of, node_of};
 ghost use Rattle.ksi_aggtree.specs.Paths.{chain_of, sides_from_top};
 
+use crate::item_path::ItemPath;
 use crate::join::AggregationJoin;
 use crate::laws::one_chain;
-use crate::item_path::ItemPath;
 use ksi_aggchain::Item;
 use ksi_imprint::{Compress, Imprint, NoMemory};
 use ksi_rows::{Rows, Steps};
@@ -130,7 +130,11 @@ impl<C: Compress> Builder<C> {
     ///
     /// # Errors
     /// `NoMemory`: all is as it was, but for the steps that were taken.
-    pub fn path_counted<L: Ledger>(&self, k: usize, steps: &mut Steps<L>) -> Result<ItemPath, NoMemory>
+    pub fn path_counted<L: Ledger>(
+        &self,
+        k: usize,
+        steps: &mut Steps<L>,
+    ) -> Result<ItemPath, NoMemory>
         requires { k < length self.now }
         ensures links { IfOk result (λ links. links ≡ chain_of C.image self.now k) }
         ensures climbs { IfOk result (λ links.
