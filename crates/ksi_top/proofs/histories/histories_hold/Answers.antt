@@ -1,4 +1,4 @@
-use Rattle.std.proofs.Common.{◌≡◌, ℕ, List, Some, sym, subst}
+use Rattle.std.proofs.Common.{◌≡◌, List, Some, sym, subst}
 use Rattle.std.specs.List.{AllByRecursion}
 use Rattle.ksi_imprint.specs.Imprints.{imprint_of}
 use Rattle.ksi_schedule.specs.declared.event.Event.{Event}
