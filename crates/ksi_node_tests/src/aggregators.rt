@@ -1,4 +1,4 @@
-ghost use Rattle.std.specs.Prelude.{◌≡◌, ◌<◌, ◌≤◌, ◌^◌, length, IfOk, IsTrue};
+ghost use Rattle.std.specs.Prelude.{◌≡◌, ◌<◌, ◌^◌, length, IfOk};
 
 use crate::same::same;
 use ksi_aggchain::Item;
@@ -49,12 +49,6 @@ fn submits(rt: &impl Abort, step: Result<Step, NoMemory>, item: Item) {
     same(rt, "the submission", told(&step), Some(want));
 }
 
-fn is_early(second: u64) -> bool
-    ensures { IsTrue result → second < 2 ^ 63 }
-{
-    second < 9_223_372_036_854_775_808
-}
-
 /// A request of the hash of these bytes, whose number is new.
 fn request(
     rt: &impl Abort,
@@ -63,8 +57,10 @@ fn request(
     second: u64,
     bytes: &[u8],
     answer: Answer,
-) {
-    let is_new = is_early(second) && own.is_new(number);
+)
+    requires { second < 2 ^ 63 }
+{
+    let is_new = own.is_new(number);
     same(rt, number, is_new, true);
     if is_new {
         only(rt, own.request(number, second, Sha::of(bytes)), answer);

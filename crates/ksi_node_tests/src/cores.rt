@@ -1,4 +1,4 @@
-ghost use Rattle.std.specs.Prelude.{◌≡◌, IfOk};
+ghost use Rattle.std.specs.Prelude.{◌≡◌};
 ghost use Rattle.ksi_synod.specs.Ballots.{IsBallot};
 ghost use Rattle.ksi_synod.specs.Rows.{OfBallot};
 
