@@ -1,7 +1,8 @@
 use crate::{journal_of, replay};
-use ksi_imprint::{Bytes, Sha};
+use ksi_imprint::{Bytes, NoMemory, Sha};
 use ksi_journal::{load, write};
 use ksi_schedule::{Schedule, read_schedule};
+use ksi_world::World;
 use std::alloc::Global;
 use std::fmt::Debug;
 use std::process::Abort;
@@ -35,11 +36,15 @@ fn schedule_of(alloc: Global, text: &str) -> Result<Schedule, Fail> {
     }
 }
 
+fn written(alloc: Global, world: &World<Sha>) -> Result<Bytes, NoMemory> {
+    let journal = journal_of(alloc, world)?;
+    write(alloc, &journal)
+}
+
 // The bytes of the journal of a schedule.
-fn journal_bytes(alloc: Global, schedule: &Schedule) -> Result<Bytes, Fail> {
+fn journal_bytes(alloc: Global, schedule: &Schedule) -> Result<Bytes, NoMemory> {
     let world = replay::<Sha>(alloc, schedule)?;
-    let journal = journal_of(alloc, &world)?;
-    Ok(write(alloc, &journal)?)
+    written(alloc, &world)
 }
 
 // How many kept seconds, signatures and publications are read again from a journal's bytes.
