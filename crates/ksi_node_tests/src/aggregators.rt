@@ -1,5 +1,6 @@
-ghost use Rattle.std.specs.Prelude.{◌≡◌, ◌<◌, ◌^◌, length, IfOk, IsTrue};
+ghost use Rattle.std.specs.Prelude.{◌≡◌, ◌<◌, ◌^◌, length, IfOk};
 
+use crate::same::same;
 use ksi_aggchain::Item;
 use ksi_aggregator::{Aggregator, NoMemory, Send, Step};
 use ksi_imprint::{Compress, Imprint, Sha};
@@ -8,7 +9,7 @@ use ksi_signature::{
 };
 use ksi_split::Side;
 use std::alloc::Global;
-use std::test::Fail;
+use std::process::Abort;
 
 const T: u64 = 1700000000;
 
@@ -19,6 +20,108 @@ fn item(bytes: &[u8]) -> Item
         imprint: Sha::of(bytes),
         level: 0,
     }
+}
+
+/// The item that is sent, where the step sends that alone.
+fn submitted(step: &Step) -> Option<Item> {
+    match step.sends.as_slice() {
+        [Send::Submission(item)] => Some(*item),
+        _ => None,
+    }
+}
+
+/// What a step answers, how many messages it sends and the item that it submits; nothing where memory is wanting.
+fn told(step: &Result<Step, NoMemory>) -> Option<(Answer, usize, Option<Item>)> {
+    match step {
+        Ok(step) => Some((step.answer, step.sends.as_slice().len(), submitted(step))),
+        Err(_) => None,
+    }
+}
+
+/// The step is this answer and sends nothing.
+fn only(rt: &impl Abort, step: Result<Step, NoMemory>, answer: Answer) {
+    same(rt, "the answer", told(&step), Some((answer, 0, None)));
+}
+
+/// The step is done and submits this item alone.
+fn submits(rt: &impl Abort, step: Result<Step, NoMemory>, item: Item) {
+    let want = (Answer::Done, 1, Some(item));
+    same(rt, "the submission", told(&step), Some(want));
+}
+
+/// A request of the hash of these bytes, whose number is new.
+fn request(
+    rt: &impl Abort,
+    own: &mut Aggregator<Sha>,
+    number: u64,
+    second: u64,
+    bytes: &[u8],
+    answer: Answer,
+)
+    requires { second < 2 ^ 63 }
+{
+    let is_new = own.is_new(number);
+    same(rt, number, is_new, true);
+    if is_new {
+        only(rt, own.request(number, second, Sha::of(bytes)), answer);
+    }
+}
+
+/// A submission of aggregator 3.
+fn submission(rt: &impl Abort, own: &mut Aggregator<Sha>, second: u64, bytes: &[u8], answer: Answer)
+    requires { second < 2 ^ 63 }
+{
+    only(rt, own.submission(3, second, item(bytes)), answer);
+}
+
+#[test]
+fn a_request_after_the_close_is_late(rt: HostRuntime) {
+    let mut own = Aggregator::new(rt.alloc(), 4);
+    same(&rt, "me", own.me(), 4);
+    request(&rt, &mut own, 0, T, b"a", Answer::Number(0));
+    submits(&rt, own.close(T), item(b"a"));
+    request(&rt, &mut own, 1, T, b"b", Answer::Late);
+    only(&rt, own.close(T), Answer::Closed);
+}
+
+#[test]
+fn the_same_submission_is_known_and_then_late(rt: HostRuntime) {
+    let mut own = Aggregator::new(rt.alloc(), 0);
+    submission(&rt, &mut own, T, b"a", Answer::Done);
+    submission(&rt, &mut own, T, b"b", Answer::Known);
+    submission(&rt, &mut own, T + 1, b"b", Answer::Done);
+    submits(&rt, own.close(T), item(b"a"));
+    submission(&rt, &mut own, T, b"a", Answer::Late);
+}
+
+/// Whether there is a signature of a number; nothing where memory is wanting.
+fn is_issued(own: &Aggregator<Sha>, number: u64) -> Option<bool> {
+    match own.issued(number) {
+        Ok(found) => Some(found.is_some()),
+        Err(_) => None,
+    }
+}
+
+fn not_issued(rt: &impl Abort, own: &Aggregator<Sha>, number: u64) {
+    same(rt, "issued", is_issued(own, number), Some(false));
+}
+
+/// A round that is open and one that is closed, restarted.
+fn restarted(rt: &impl Abort, alloc: Global) -> Aggregator<Sha> {
+    let mut own = Aggregator::new(alloc, 0);
+    request(rt, &mut own, 0, T, b"a", Answer::Number(0));
+    request(rt, &mut own, 1, T + 1, b"a", Answer::Number(1));
+    submits(rt, own.close(T + 1), item(b"a"));
+    own.restart();
+    own
+}
+
+#[test]
+fn a_restart_loses_open_items(rt: HostRuntime) {
+    let mut own = restarted(&rt, rt.alloc());
+    same(&rt, "new", [own.is_new(0), own.is_new(1)], [true, false]);
+    only(&rt, own.close(T), Answer::Done);
+    not_issued(&rt, &own, 0);
 }
 
 /// What a core sends of an item that stands alone there, whose imprint is the root.
@@ -37,12 +140,68 @@ fn response_of(alloc: Global, input: Imprint) -> Result<Above, NoMemory>
     })
 }
 
-/// The item that is sent, where the step sends that alone.
-fn submitted(step: &Step) -> Option<Item> {
-    match step.sends.as_slice() {
-        [Send::Submission(item)] => Some(*item),
-        _ => None,
-    }
+/// The response of a core to the root of a round with few chains above it, given at second T.
+fn respond(own: &mut Aggregator<Sha>, alloc: Global, root: Imprint) -> Result<Step, NoMemory> {
+    own.response(T, &response_of(alloc, root)?)
+}
+
+/// Aggregator 1, whose round has the request 0 of the hash of no bytes and is closed.
+fn lower(rt: &impl Abort, alloc: Global) -> Aggregator<Sha> {
+    let mut lower = Aggregator::new(alloc, 1);
+    request(rt, &mut lower, 0, T, b"", Answer::Number(0));
+    submits(rt, lower.close(T), item(b""));
+    lower
+}
+
+/// Aggregator 0, whose round has what aggregator 1 submits, and then the request 1 of the hash of `abc`.
+fn upper(rt: &impl Abort, alloc: Global) -> Aggregator<Sha> {
+    let mut upper = Aggregator::new(alloc, 0);
+    only(rt, upper.submission(1, T, item(b"")), Answer::Done);
+    request(rt, &mut upper, 1, T, b"abc", Answer::Number(1));
+    upper
+}
+
+/// The imprint of the tree of that round.
+fn root() -> Imprint {
+    Sha::join(Sha::of(b"").bytes(), Sha::of(b"abc").bytes(), 1)
+}
+
+/// Closes that round, whose tree is submitted.
+fn close_upper(rt: &impl Abort, upper: &mut Aggregator<Sha>) {
+    let tree = Item {
+        imprint: root(),
+        level: 1,
+    };
+    submits(rt, upper.close(T), tree);
+}
+
+/// That round with its response, and what the step was.
+fn answered(rt: &impl Abort, alloc: Global) -> (Aggregator<Sha>, Result<Step, NoMemory>) {
+    let mut upper = upper(rt, alloc);
+    close_upper(rt, &mut upper);
+    let step = respond(&mut upper, alloc, root());
+    (upper, step)
+}
+
+fn respond_early(rt: &impl Abort, alloc: Global, upper: &mut Aggregator<Sha>) {
+    only(rt, respond(upper, alloc, root()), Answer::Nothing);
+    close_upper(rt, upper);
+    not_issued(rt, upper, 1);
+}
+
+fn respond_twice(rt: &impl Abort, alloc: Global, upper: &mut Aggregator<Sha>) {
+    let step = respond(upper, alloc, root());
+    let want = (Answer::Done, 1, None);
+    same(rt, "the response", told(&step), Some(want));
+    only(rt, respond(upper, alloc, Imprint::ZERO), Answer::Nothing);
+    not_issued(rt, upper, 0);
+}
+
+#[test]
+fn a_response_is_taken_once_and_after_the_close(rt: HostRuntime) {
+    let mut upper = upper(&rt, rt.alloc());
+    respond_early(&rt, rt.alloc(), &mut upper);
+    respond_twice(&rt, rt.alloc(), &mut upper);
 }
 
 /// The signature that an aggregator issues, read again.
@@ -73,194 +232,92 @@ fn begins(chain: &AggChain, side: Side, sibling: Imprint) -> bool {
     }
 }
 
-fn is_early(second: u64) -> bool
-    ensures { IsTrue result → second < 2 ^ 63 }
-{
-    second < 9_223_372_036_854_775_808
+/// The chain of that round, from this index and input, with one link.
+fn is_of_round(chain: &AggChain, index: &[u64], input: &[u8], side: Side, sibling: &[u8]) -> bool {
+    is_chain(chain, index, Sha::of(input), 1) && begins(chain, side, Sha::of(sibling))
 }
 
-/// A request, where its number is new; nothing where memory is wanting.
-fn request(
-    aggregator: &mut Aggregator<Sha>,
-    number: u64,
-    second: u64,
-    bytes: &[u8],
-) -> Option<Step> {
-    if is_early(second) && aggregator.is_new(number) {
-        aggregator.request(number, second, Sha::of(bytes)).ok()
-    } else {
-        None
+/// The chain of the core, without links.
+fn is_of_core(chain: &AggChain) -> bool {
+    is_chain(chain, &[1], root(), 0)
+}
+
+fn chains(signature: &Option<Signature>) -> &[AggChain] {
+    match signature {
+        Some(signature) => signature.chains.as_slice(),
+        None => &[],
     }
 }
 
-/// A submission of aggregator 3.
-fn submission(aggregator: &mut Aggregator<Sha>, second: u64, bytes: &[u8]) -> Option<Step> {
-    if is_early(second) {
-        aggregator.submission(3, second, item(bytes)).ok()
-    } else {
-        None
+/// Whether the request beside the submission has its signature.
+fn is_beside(signature: &Option<Signature>) -> bool {
+    match chains(signature) {
+        [own, top] => is_of_round(own, &[1, 2], b"abc", Side::Right, b"") && is_of_core(top),
+        _ => false,
     }
 }
 
-fn close(aggregator: &mut Aggregator<Sha>, second: u64) -> Option<Step> {
-    if is_early(second) {
-        aggregator.close(second).ok()
-    } else {
-        None
-    }
+#[test]
+fn a_request_beside_a_submission_is_issued(rt: HostRuntime) {
+    let (upper, _) = answered(&rt, rt.alloc());
+    let signature = issued(rt.alloc(), &upper, 1);
+    same(&rt, "issued", is_beside(&signature), true);
 }
 
-/// Whether the step is this answer, and sends this item alone or nothing.
-fn is(step: &Option<Step>, answer: Answer, item: Option<Item>) -> bool {
-    match step {
-        Some(step) => {
-            step.answer == answer
-                && step.sends.as_slice().is_empty() == item.is_none()
-                && submitted(step) == item
+/// Whether the request of aggregator 1 has its signature.
+fn is_below(signature: &Option<Signature>) -> bool {
+    match chains(signature) {
+        [own, middle, top] => {
+            is_chain(own, &[1, 3, 1], Sha::of(b""), 0)
+                && is_of_round(middle, &[1, 3], b"", Side::Left, b"abc")
+                && is_of_core(top)
         }
-        None => false,
+        _ => false,
     }
 }
 
-#[test]
-fn a_request_after_the_close_is_late(rt: HostRuntime) {
-    let mut own = Aggregator::new(rt.alloc(), 4);
-    assert_eq!(rt; own.me(), 4);
-    assert!(rt; is(&request(&mut own, 0, T, b"a"), Answer::Number(0), None));
-    assert!(rt; is(&close(&mut own, T), Answer::Done, Some(item(b"a"))));
-    assert!(rt; is(&request(&mut own, 1, T, b"b"), Answer::Late, None));
-    assert!(rt; is(&close(&mut own, T), Answer::Closed, None));
-}
-
-#[test]
-fn the_same_submission_is_known_and_then_late(rt: HostRuntime) {
-    let mut own = Aggregator::new(rt.alloc(), 0);
-    assert!(rt; is(&submission(&mut own, T, b"a"), Answer::Done, None));
-    assert!(rt; is(&submission(&mut own, T, b"b"), Answer::Known, None));
-    assert!(rt; is(&submission(&mut own, T + 1, b"b"), Answer::Done, None));
-    assert!(rt; is(&close(&mut own, T), Answer::Done, Some(item(b"a"))));
-    assert!(rt; is(&submission(&mut own, T, b"a"), Answer::Late, None));
-}
-
-#[test]
-fn a_restart_loses_open_items(rt: HostRuntime) -> Result<(), Fail> {
-    let mut own = Aggregator::new(rt.alloc(), 0);
-    assert!(rt; is(&request(&mut own, 0, T, b"a"), Answer::Number(0), None));
-    assert!(rt; is(&request(&mut own, 1, T + 1, b"a"), Answer::Number(1), None));
-    assert!(rt; close(&mut own, T + 1).is_some());
-    own.restart();
-    assert!(rt; own.is_new(0) && !own.is_new(1));
-    assert!(rt; is(&close(&mut own, T), Answer::Done, None));
-    assert!(rt; own.issued(0)?.is_none());
-    Ok(())
-}
-
-/// Aggregator 1, whose round has the request 0 of the hash of no bytes and is closed.
-fn lower(alloc: Global) -> Result<Aggregator<Sha>, NoMemory> {
-    let mut lower = Aggregator::new(alloc, 1);
-    if lower.is_new(0) {
-        lower.request(0, T, Sha::of(b""))?;
-    }
-    lower.close(T)?;
-    Ok(lower)
-}
-
-/// Aggregator 0, whose round has what aggregator 1 submits, and then the request 1 of the hash of `abc`.
-fn upper(alloc: Global) -> Result<Aggregator<Sha>, NoMemory> {
-    let mut upper = Aggregator::new(alloc, 0);
-    upper.submission(1, T, item(b""))?;
-    if upper.is_new(1) {
-        upper.request(1, T, Sha::of(b"abc"))?;
-    }
-    Ok(upper)
-}
-
-/// The imprint of the tree of that round.
-fn root() -> Imprint {
-    Sha::join(Sha::of(b"").bytes(), Sha::of(b"abc").bytes(), 1)
-}
-
-/// Aggregator 0 with its response, and what it sends to aggregator 1.
-fn answered(alloc: Global) -> Result<(Aggregator<Sha>, Option<Above>), NoMemory> {
-    let mut upper = upper(alloc)?;
-    upper.close(T)?;
-    let above = response_of(alloc, root())?;
-    let Step { answer: _, sends } = upper.response(T, &above)?;
+/// The only response that a step sends, to aggregator 1.
+fn sent_down(step: Step) -> Option<Above> {
+    let Step { answer: _, sends } = step;
     let mut sends = sends.into_vec();
     match sends.pop() {
-        Some(Send::Response(1, below)) if sends.is_empty() => Ok((upper, Some(below))),
-        _ => Ok((upper, None)),
+        Some(Send::Response(1, below)) if sends.is_empty() => Some(below),
+        _ => None,
     }
 }
 
-#[test]
-fn the_tree_of_a_round_is_submitted(rt: HostRuntime) -> Result<(), Fail> {
-    let mut upper = upper(rt.alloc())?;
-    let above = response_of(rt.alloc(), root())?;
-    let early = upper.response(T, &above)?;
-    assert_eq!(rt; early.answer, Answer::Nothing);
-    let step = upper.close(T)?;
-    let tree = Item {
-        imprint: root(),
-        level: 1,
-    };
-    assert_eq!(rt; submitted(&step), Some(tree));
-    assert!(rt; upper.issued(1)?.is_none());
-    Ok(())
-}
-
-#[test]
-fn a_second_response_changes_nothing(rt: HostRuntime) -> Result<(), Fail> {
-    let (mut upper, _) = answered(rt.alloc())?;
-    let above = response_of(rt.alloc(), Imprint::ZERO)?;
-    let step = upper.response(T, &above)?;
-    assert_eq!(rt; step.answer, Answer::Nothing);
-    assert!(rt; step.sends.as_slice().is_empty());
-    Ok(())
-}
-
-#[test]
-fn a_request_beside_a_submission_is_issued(rt: HostRuntime) -> Result<(), Fail> {
-    let (upper, _) = answered(rt.alloc())?;
-    assert!(rt; upper.issued(0)?.is_none());
-    let issued = issued(rt.alloc(), &upper, 1);
-    assert!(rt; issued.is_some());
-    if let Some(signature) = issued {
-        assert_eq!(rt; signature.chains.as_slice().len(), 2);
-        if let [own, top] = signature.chains.as_slice() {
-            assert!(rt; is_chain(own, &[1, 2], Sha::of(b"abc"), 1));
-            assert!(rt; begins(own, Side::Right, Sha::of(b"")));
-            assert!(rt; is_chain(top, &[1], root(), 0));
-        }
+/// The answer to what is sent down, where that has few chains.
+fn take(lower: &mut Aggregator<Sha>, below: &Above) -> Option<Answer> {
+    if below.chains.as_slice().len() > 7 {
+        return None;
     }
-    Ok(())
+    match lower.response(T, below) {
+        Ok(step) => Some(step.answer),
+        Err(_) => None,
+    }
+}
+
+fn send_down(rt: &impl Abort, lower: &mut Aggregator<Sha>, step: Step) {
+    let below = sent_down(step);
+    same(rt, "whether it is sent", below.is_some(), true);
+    if let Some(below) = below {
+        same(rt, "taken", take(lower, &below), Some(Answer::Done));
+    }
 }
 
 /// Aggregator 1 with what aggregator 0 sends it.
-fn told(alloc: Global) -> Result<Aggregator<Sha>, NoMemory> {
-    let (_, below) = answered(alloc)?;
-    let mut lower = lower(alloc)?;
-    if let Some(below) = below {
-        if below.chains.as_slice().len() <= 7 {
-            lower.response(T, &below)?;
-        }
+fn answered_below(rt: &impl Abort, alloc: Global) -> Aggregator<Sha> {
+    let mut lower = lower(rt, alloc);
+    let (_, step) = answered(rt, alloc);
+    if let Ok(step) = step {
+        send_down(rt, &mut lower, step);
     }
-    Ok(lower)
+    lower
 }
 
 #[test]
-fn a_response_goes_down_a_cascade(rt: HostRuntime) -> Result<(), Fail> {
-    let lower = told(rt.alloc())?;
-    let issued = issued(rt.alloc(), &lower, 0);
-    assert!(rt; issued.is_some());
-    if let Some(signature) = issued {
-        assert_eq!(rt; signature.chains.as_slice().len(), 3);
-        if let [own, middle, top] = signature.chains.as_slice() {
-            assert!(rt; is_chain(own, &[1, 3, 1], Sha::of(b""), 0));
-            assert!(rt; is_chain(middle, &[1, 3], Sha::of(b""), 1));
-            assert!(rt; begins(middle, Side::Left, Sha::of(b"abc")));
-            assert!(rt; is_chain(top, &[1], root(), 0));
-        }
-    }
-    Ok(())
+fn a_response_goes_down_a_cascade(rt: HostRuntime) {
+    let lower = answered_below(&rt, rt.alloc());
+    let signature = issued(rt.alloc(), &lower, 0);
+    same(&rt, "issued", is_below(&signature), true);
 }

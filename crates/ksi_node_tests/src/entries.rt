@@ -1,9 +1,10 @@
+use crate::same::same;
 use ksi_aggchain::{Item, Link};
-use ksi_aggtree::{AddRefusal, Entries, Entry, ItemPath, Origin};
-use ksi_imprint::{Compress, Imprint, Sha};
+use ksi_aggtree::{Entries, Entry, ItemPath, Origin};
+use ksi_imprint::{Compress, Imprint, NoMemory, Sha};
 use ksi_split::Side;
 use std::alloc::Global;
-use std::test::Fail;
+use std::process::Abort;
 
 fn item(level: u8, bytes: &[u8]) -> Item {
     Item {
@@ -25,14 +26,18 @@ fn two() -> [Entry; 2] {
     [request, submission]
 }
 
-/// Both items in a round.
-fn gathered(alloc: Global) -> Result<Entries<Sha>, AddRefusal> {
-    let mut entries = Entries::new(alloc)?;
-    for entry in two() {
-        if entry.item.level <= 239 {
-            entries.add(entry)?;
-        }
+fn add(rt: &impl Abort, entries: &mut Entries<Sha>, entry: Entry, place: usize) {
+    if entry.item.level <= 239 {
+        same(rt, "add", entries.add(entry), Ok(place));
     }
+}
+
+/// Both items in a round.
+fn gathered(rt: &impl Abort, alloc: Global) -> Result<Entries<Sha>, NoMemory> {
+    let mut entries = Entries::new(alloc)?;
+    let [request, submission] = two();
+    add(rt, &mut entries, request, 0);
+    add(rt, &mut entries, submission, 1);
     Ok(entries)
 }
 
@@ -52,6 +57,24 @@ fn path(entries: &Entries<Sha>, k: usize) -> Option<ItemPath> {
     }
 }
 
+fn are_two(rt: &impl Abort, entries: &Entries<Sha>) {
+    for (k, one) in two().iter().enumerate() {
+        same(rt, k, entry(entries, k), Some(*one));
+    }
+    let has = [entries.has_from(3), entries.has_from(7)];
+    same(rt, "has from", has, [true, false]);
+    same(rt, "count", entries.count(), 2);
+}
+
+#[test]
+fn items_keep_where_they_came_from(rt: HostRuntime) {
+    let made = gathered(&rt, rt.alloc());
+    same(&rt, "made", made.is_ok(), true);
+    if let Ok(entries) = made {
+        are_two(&rt, &entries);
+    }
+}
+
 /// Whether the link has item `b` on its other side, two levels up.
 fn leads_beside_b(link: &Link) -> bool {
     link.side == Side::Left
@@ -59,35 +82,51 @@ fn leads_beside_b(link: &Link) -> bool {
         && link.sibling.bytes() == Sha::of(b"b").bytes().as_slice()
 }
 
+/// Whether these are the links of item `a`.
+fn are_links(links: &Option<ItemPath>) -> bool {
+    match links {
+        Some(links) => match links.as_slice() {
+            [link] => leads_beside_b(link),
+            _ => false,
+        },
+        None => false,
+    }
+}
+
+fn has_tree(rt: &impl Abort, entries: &Entries<Sha>) {
+    let root = Sha::join(Sha::of(b"a").bytes(), Sha::of(b"b").bytes(), 3);
+    let item = Item {
+        imprint: root,
+        level: 3,
+    };
+    same(rt, "candidate", entries.candidate(), root);
+    same(rt, "root", entries.root(), Some(item));
+    same(rt, "links", are_links(&path(entries, 0)), true);
+}
+
 #[test]
-fn items_keep_where_they_came_from(rt: HostRuntime) {
-    let made = gathered(rt.alloc());
-    assert!(rt; made.is_ok());
+fn the_tree_of_items_from_anywhere(rt: HostRuntime) {
+    let made = gathered(&rt, rt.alloc());
+    same(&rt, "made", made.is_ok(), true);
     if let Ok(entries) = made {
-        assert_eq!(rt; entries.count(), 2);
-        let [request, submission] = two();
-        assert_eq!(rt; entry(&entries, 0), Some(request));
-        assert_eq!(rt; entry(&entries, 1), Some(submission));
-        assert!(rt; entries.has_from(3) && !entries.has_from(7));
+        has_tree(&rt, &entries);
+    }
+}
+
+/// The candidate and the root of no items.
+fn of_none(alloc: Global) -> Option<(Imprint, Option<Item>)> {
+    match Entries::<Sha>::new(alloc) {
+        Ok(none) => Some((none.candidate(), none.root())),
+        Err(_) => None,
     }
 }
 
 #[test]
-fn the_tree_of_items_from_anywhere(rt: HostRuntime) -> Result<(), Fail> {
-    let none = Entries::<Sha>::new(rt.alloc())?;
-    assert_eq!(rt; (none.candidate(), none.root()), (Imprint::ZERO, None));
-    let made = gathered(rt.alloc());
-    assert!(rt; made.is_ok());
-    if let Ok(entries) = made {
-        let root = Sha::join(Sha::of(b"a").bytes(), Sha::of(b"b").bytes(), 3);
-        assert_eq!(rt; entries.candidate(), root);
-        assert_eq!(rt; entries.root().map(|item| item.level), Some(3));
-        let path = path(&entries, 0);
-        assert!(rt; path.is_some());
-        if let Some(links) = path {
-            assert_eq!(rt; links.as_slice().len(), 1);
-            assert!(rt; links.as_slice().iter().all(leads_beside_b));
-        }
-    }
-    Ok(())
+fn no_items_have_no_root(rt: HostRuntime) {
+    same(
+        &rt,
+        "none",
+        of_none(rt.alloc()),
+        Some((Imprint::ZERO, None)),
+    );
 }

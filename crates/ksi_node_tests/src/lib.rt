@@ -12,6 +12,8 @@ mod entries;
 #[cfg(test)]
 mod rounds;
 #[cfg(test)]
+mod same;
+#[cfg(test)]
 mod votes;
 #[cfg(test)]
 mod worlds;

@@ -1,5 +1,6 @@
-ghost use Rattle.std.specs.Prelude.{◌≡◌, ◌<◌, length};
+ghost use Rattle.std.specs.Prelude.{◌≡◌, ◌<◌, ◌≤◌, length};
 
+use crate::same::same;
 use ksi_aggchain::{Item, Link, shape};
 use ksi_aggtree::{AddRefusal, Builder, ItemPath, Steps};
 use ksi_imprint::{Compress, Imprint, NoMemory, Sha, Tiny};
@@ -7,6 +8,7 @@ use ksi_split::Side;
 use ksi_split::Side::{Left, Right};
 use std::alloc::Global;
 use std::marker::Brand;
+use std::process::Abort;
 use std::sync::ledger::{Blank, Ledger};
 
 /// The item of the hash of these bytes.
@@ -27,12 +29,18 @@ fn joined(left: Imprint, right: Imprint, level: u8) -> Item {
     }
 }
 
+fn add(rt: &impl Abort, round: &mut Builder<Sha>, place: usize, level: u8, bytes: &[u8])
+    requires { level ≤ 239 }
+{
+    same(rt, "add", round.add(item(level, bytes)), Ok(place));
+}
+
 /// The round of three items, of levels 0, 0 and 3.
-fn three(alloc: Global) -> Result<Builder<Sha>, AddRefusal> {
+fn three(rt: &impl Abort, alloc: Global) -> Result<Builder<Sha>, NoMemory> {
     let mut round = Builder::new(alloc)?;
-    round.add(item(0, b""))?;
-    round.add(item(0, b"abc"))?;
-    round.add(item(3, b""))?;
+    add(rt, &mut round, 0, 0, b"");
+    add(rt, &mut round, 1, 0, b"abc");
+    add(rt, &mut round, 2, 3, b"");
     Ok(round)
 }
 
@@ -111,38 +119,43 @@ fn climbs(round: &Builder<Sha>, k: usize, wanted: &[(Side, u8, Imprint)], bits: 
     }
 }
 
+fn has_nodes(rt: &impl Abort, round: &Builder<Sha>) {
+    let (a, b) = (Sha::of(b""), Sha::of(b"abc"));
+    let inner = joined(a, b, 1);
+    let root = joined(inner.imprint, a, 4);
+    same(rt, "root", round.root(), Some(root));
+    same(rt, "left", round.node(&[Left]), Some(inner));
+    let right = Some(item(0, b"abc"));
+    same(rt, "left, right", round.node(&[Left, Right]), right);
+    same(rt, "right, left", round.node(&[Right, Left]), None);
+}
+
 #[test]
 fn the_tree_of_three_items(rt: HostRuntime) {
-    let made = three(rt.alloc());
-    assert!(rt; made.is_ok());
+    let made = three(&rt, rt.alloc());
+    same(&rt, "made", made.is_ok(), true);
     if let Ok(round) = made {
-        let (a, b) = (Sha::of(b""), Sha::of(b"abc"));
-        let inner = joined(a, b, 1);
-        let root = joined(inner.imprint, a, 4);
-        assert_eq!(rt; round.count(), 3);
-        assert_eq!(rt; item_of(&round, 2), Some(item(3, b"")));
-        assert_eq!(rt; round.root(), Some(root));
-        assert_eq!(rt; round.node(&[Left]), Some(inner));
-        assert_eq!(rt; round.node(&[Left, Right]), Some(item(0, b"abc")));
-        assert_eq!(rt; round.node(&[Right, Left]), None);
+        same(&rt, "count", round.count(), 3);
+        same(&rt, "item", item_of(&round, 2), Some(item(3, b"")));
+        has_nodes(&rt, &round);
     }
+}
+
+fn has_links(rt: &impl Abort, round: &Builder<Sha>) {
+    let (a, b) = (Sha::of(b""), Sha::of(b"abc"));
+    let inner = Sha::join(a.bytes(), b.bytes(), 1);
+    let first = climbs(round, 0, &[(Left, 0, b), (Left, 2, a)], 7);
+    let second = climbs(round, 1, &[(Right, 0, a), (Left, 2, a)], 6);
+    let third = climbs(round, 2, &[(Right, 0, inner)], 2);
+    same(rt, "links", [first, second, third], [true; 3]);
 }
 
 #[test]
 fn the_links_of_three_items(rt: HostRuntime) {
-    let made = three(rt.alloc());
-    assert!(rt; made.is_ok());
+    let made = three(&rt, rt.alloc());
+    same(&rt, "made", made.is_ok(), true);
     if let Ok(round) = made {
-        let (a, b) = (Sha::of(b""), Sha::of(b"abc"));
-        let inner = Sha::join(a.bytes(), b.bytes(), 1);
-        let rows: [(usize, &[(Side, u8, Imprint)], u64); 3] = [
-            (0, &[(Left, 0, b), (Left, 2, a)], 7),
-            (1, &[(Right, 0, a), (Left, 2, a)], 6),
-            (2, &[(Right, 0, inner)], 2),
-        ];
-        for (k, links, bits) in rows {
-            assert!(rt; climbs(&round, k, links, bits), "of {k}");
-        }
+        has_links(&rt, &round);
     }
 }
 
@@ -156,17 +169,20 @@ fn five(alloc: Global) -> Result<Builder<Sha>, AddRefusal> {
 }
 
 fn way_of(round: &Builder<Sha>, k: usize) -> Option<u64> {
-    path(round, k).and_then(|links| shape_of(links.as_slice()))
+    match path(round, k) {
+        Some(links) => shape_of(links.as_slice()),
+        None => None,
+    }
 }
 
 /// Four of them stand on the left side of the top, and one on the right side.
 #[test]
 fn the_ways_of_five_items(rt: HostRuntime) {
     let made = five(rt.alloc());
-    assert!(rt; made.is_ok());
+    same(&rt, "made", made.is_ok(), true);
     if let Ok(round) = made {
         for (k, bits) in [(0, 15), (3, 12), (4, 2)] {
-            assert_eq!(rt; way_of(&round, k), Some(bits), "of {k}");
+            same(&rt, k, way_of(&round, k), Some(bits));
         }
     }
 }
@@ -180,14 +196,21 @@ fn full(alloc: Global) -> Result<Builder<Tiny>, AddRefusal> {
     Ok(round)
 }
 
+fn level_of(root: Option<Item>) -> Option<u8> {
+    match root {
+        Some(root) => Some(root.level),
+        None => None,
+    }
+}
+
 #[test]
 fn a_full_round_refuses_the_next_item(rt: HostRuntime) {
     let made = full(rt.alloc());
-    assert!(rt; made.is_ok());
+    same(&rt, "made", made.is_ok(), true);
     if let Ok(mut round) = made {
         let refused = round.add(item(239, b""));
-        assert_eq!(rt; refused, Err(AddRefusal::Full));
-        assert_eq!(rt; round.count(), 65536);
-        assert_eq!(rt; round.root().map(|root| root.level), Some(255));
+        same(&rt, "add", refused, Err(AddRefusal::Full));
+        same(&rt, "count", round.count(), 65536);
+        same(&rt, "level", level_of(round.root()), Some(255));
     }
 }

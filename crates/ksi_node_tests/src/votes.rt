@@ -1,7 +1,9 @@
 ghost use Rattle.std.specs.Prelude.{◌<◌, ◌≤◌};
 
+use crate::same::same;
 use ksi_imprint::Imprint;
 use ksi_synod::{Begun, Instance, LastVote, SynodMessage, Took, Vote, Voters};
+use std::process::Abort;
 
 fn imprint(byte: u8) -> Imprint {
     Imprint::of_digest(&[byte; 32])
@@ -25,81 +27,116 @@ fn sealed(me: u8, members: u8, candidate: Imprint) -> Instance
     core
 }
 
+fn try_ballot(rt: &impl Abort, core: &mut Instance, begun: Begun) {
+    same(rt, "try", core.try_ballot(), begun);
+}
+
+/// A LastVote without a vote.
+fn last(rt: &impl Abort, core: &mut Instance, from: u8, took: Took)
+    requires { from < 9 }
+{
+    same(rt, from, core.on_last(from, 16, None), took);
+}
+
+fn voted(rt: &impl Abort, core: &mut Instance, from: u8, took: Took)
+    requires { from < 9 }
+{
+    same(rt, from, core.on_voted(from, 16), took);
+}
+
+fn reply(ballot: u64, vote: Option<Vote>) -> Option<LastVote> {
+    Some(LastVote { ballot, vote })
+}
+
+/// The last ballot that it tried and the greatest that it promised.
+fn ballots(rt: &impl Abort, core: &Instance, want: Option<u64>) {
+    same(rt, "ballots", [core.tried(), core.promised()], [want; 2]);
+}
+
+fn promise_alone(rt: &impl Abort, core: &mut Instance, d: Imprint) {
+    ballots(rt, core, None);
+    try_ballot(rt, core, Begun::Next(16));
+    same(rt, "next", core.on_next(16), reply(16, None));
+    last(rt, core, 0, Took::Decree(d));
+}
+
+fn decide_alone(rt: &impl Abort, core: &mut Instance, d: Imprint) {
+    same(rt, "begin", core.on_begin(16, d), true);
+    voted(rt, core, 0, Took::Decree(d));
+    voted(rt, core, 0, Took::Nothing);
+    same(rt, "success", core.on_success(d), false);
+}
+
 #[test]
 fn one_core_decides_alone(rt: HostRuntime) {
     let d = imprint(7);
     let mut core = sealed(0, 1, d);
-    assert_eq!(rt; core.sealed(), Some(d));
-    assert_eq!(rt; (core.tried(), core.promised()), (None, None));
-    assert_eq!(rt; core.try_ballot(), Begun::Next(16));
-    assert_eq!(rt;
-        core.on_next(16),
-        Some(LastVote {
-            ballot: 16,
-            vote: None
-        })
-    );
-    assert_eq!(rt; core.on_last(0, 16, None), Took::Decree(d));
-    assert!(rt; core.on_begin(16, d));
-    assert_eq!(rt; core.on_voted(0, 16), Took::Decree(d));
-    assert_eq!(rt; core.on_voted(0, 16), Took::Nothing);
-    assert!(rt; !core.on_success(d));
-    assert_eq!(rt; core.held(), Some(d));
-    assert_eq!(rt; (core.tried(), core.promised()), (Some(16), Some(16)));
-    assert_eq!(rt; core.voted(), vote(16, 7));
+    same(&rt, "sealed", core.sealed(), Some(d));
+    promise_alone(&rt, &mut core, d);
+    decide_alone(&rt, &mut core, d);
+    same(&rt, "held", core.held(), Some(d));
+    ballots(&rt, &core, Some(16));
+    same(&rt, "voted", core.voted(), vote(16, 7));
 }
 
 #[test]
 fn repeats_do_not_count(rt: HostRuntime) {
     let d = imprint(1);
     let mut core = sealed(0, 3, d);
-    assert_eq!(rt; core.try_ballot(), Begun::Next(16));
-    assert_eq!(rt; core.on_last(1, 16, None), Took::Added);
-    assert_eq!(rt; core.on_last(1, 16, None), Took::Nothing);
-    assert_eq!(rt; core.on_last(0, 16, None), Took::Decree(d));
-    assert_eq!(rt; core.on_voted(2, 16), Took::Added);
-    assert_eq!(rt; core.on_voted(2, 16), Took::Nothing);
-    assert_eq!(rt; core.on_voted(1, 16), Took::Decree(d));
-    assert_eq!(rt; core.on_voted(0, 16), Took::Added);
+    try_ballot(&rt, &mut core, Begun::Next(16));
+    last(&rt, &mut core, 1, Took::Added);
+    last(&rt, &mut core, 1, Took::Nothing);
+    last(&rt, &mut core, 0, Took::Decree(d));
+    voted(&rt, &mut core, 2, Took::Added);
+    voted(&rt, &mut core, 2, Took::Nothing);
+    voted(&rt, &mut core, 1, Took::Decree(d));
+    voted(&rt, &mut core, 0, Took::Added);
+}
+
+#[test]
+fn what_is_not_sealed_begins_no_ballot(rt: HostRuntime) {
+    let mut core = Instance::new(0, 3);
+    try_ballot(&rt, &mut core, Begun::Unsealed);
 }
 
 #[test]
 fn a_restart_forgets_the_ballot_in_hand(rt: HostRuntime) {
-    let mut core = Instance::new(0, 3);
-    assert_eq!(rt; core.try_ballot(), Begun::Unsealed);
     let mut core = sealed(0, 3, imprint(1));
-    assert_eq!(rt; core.try_ballot(), Begun::Next(16));
+    try_ballot(&rt, &mut core, Begun::Next(16));
     core.restart();
-    assert_eq!(rt; core.on_last(1, 16, None), Took::Nothing);
-    assert_eq!(rt; core.on_last(0, 16, None), Took::Nothing);
-    assert_eq!(rt; core.try_ballot(), Begun::Next(32));
-    assert!(rt; core.on_next(68_719_476_721).is_some());
-    assert_eq!(rt; core.try_ballot(), Begun::Last);
+    last(&rt, &mut core, 1, Took::Nothing);
+    last(&rt, &mut core, 0, Took::Nothing);
+    try_ballot(&rt, &mut core, Begun::Next(32));
+    let promised = core.on_next(68_719_476_721).is_some();
+    same(&rt, "promised", promised, true);
+    try_ballot(&rt, &mut core, Begun::Last);
+}
+
+/// What core 1 replies to core 2 after its vote in ballot 16.
+fn reported(rt: &impl Abort, decree: Imprint) -> Option<SynodMessage> {
+    let mut voter = Instance::new(1, 3);
+    same(rt, "next", voter.on_next(16), reply(16, None));
+    same(rt, "begin", voter.on_begin(16, decree), true);
+    voter.receive(2, &SynodMessage::NextBallot(18))
 }
 
 #[test]
 fn a_reported_vote_is_taken_over(rt: HostRuntime) {
     let a = imprint(1);
-    let mut voter = Instance::new(1, 3);
-    assert!(rt; voter.on_next(16).is_some());
-    assert!(rt; voter.on_begin(16, a));
+    let told = SynodMessage::LastVote(LastVote {
+        ballot: 18,
+        vote: vote(16, 1),
+    });
+    same(&rt, "reply", reported(&rt, a), Some(told));
     let mut late = sealed(2, 3, imprint(2));
-    assert_eq!(rt; late.try_ballot(), Begun::Next(18));
-    let reply = voter.receive(2, &SynodMessage::NextBallot(18));
-    assert_eq!(rt;
-        reply,
-        Some(SynodMessage::LastVote(LastVote {
-            ballot: 18,
-            vote: vote(16, 1)
-        }))
-    );
-    assert_eq!(rt; late.on_last(1, 18, vote(16, 1)), Took::Added);
-    assert_eq!(rt; late.on_last(2, 18, None), Took::Decree(a));
+    try_ballot(&rt, &mut late, Begun::Next(18));
+    same(&rt, 1, late.on_last(1, 18, vote(16, 1)), Took::Added);
+    same(&rt, 2, late.on_last(2, 18, None), Took::Decree(a));
 }
 
 #[test]
 fn members_are_the_first_cores(rt: HostRuntime) {
     let voters = Voters::all(3);
-    assert!(rt; voters.contains(2));
-    assert!(rt; !voters.contains(3));
+    let members = [voters.contains(2), voters.contains(3)];
+    same(&rt, "members", members, [true, false]);
 }

@@ -2,21 +2,26 @@ ghost use Rattle.std.specs.Prelude.{◌<◌, length, IsTrue};
 ghost use Rattle.ksi_schedule.specs.Plans.{InRange};
 ghost use Rattle.ksi_schedule.specs.Events.{IsEvent};
 
+use crate::same::same;
 use ksi_aggchain::Item;
 use ksi_imprint::{Compress, Imprint, Sha};
 use ksi_schedule::read_schedule;
 use ksi_signature::{AggChain, read};
 use ksi_world::{Answer, Event, KeptSecond, Plan, World};
 use std::alloc::Global;
+use std::process::Abort;
 use std::test::Fail;
 
 const T: u64 = 1700000000;
 
-/// No event yet, of so many cores and two aggregators: 0 submits to core 0, and 1 to aggregator 0.
-fn world(alloc: Global, cores: u8) -> Result<World<Sha>, Fail> {
-    let text = format!(in alloc;
-        "ksi-schedule 1\ncores {cores}\nstart {T}\naggregator 0 parent c0\naggregator 1 parent a0\n"
-    )?;
+const ONE: &str =
+    "ksi-schedule 1\ncores 1\nstart 1700000000\naggregator 0 parent c0\naggregator 1 parent a0\n";
+
+const THREE: &str =
+    "ksi-schedule 1\ncores 3\nstart 1700000000\naggregator 0 parent c0\naggregator 1 parent a0\n";
+
+/// No event yet, of a plan of one core or three, and of two aggregators: 0 submits to core 0, and 1 to aggregator 0.
+fn world(alloc: Global, text: &str) -> Result<World<Sha>, Fail> {
     match read_schedule(alloc, text.as_bytes()) {
         Ok(schedule) => Ok(World::new(alloc, schedule.plan())?),
         Err(_) => Err(Fail::from("no schedule")),
@@ -68,34 +73,73 @@ fn is_event(world: &World<Sha>, event: &Event) -> bool
     }
 }
 
-/// Whether the event is one of the plan, has this answer and sends so many messages.
-fn answers(world: &mut World<Sha>, event: Event, answer: Answer, sent: usize) -> bool {
+/// The answer to an event and how many messages it sends; nothing where it is not one of the plan, or memory is wanting.
+fn told(world: &mut World<Sha>, event: Event) -> Option<(Answer, usize)> {
     if !is_event(world, &event) {
-        return false;
+        return None;
     }
     match world.step(event) {
-        Ok(outcome) => outcome.answer == answer && outcome.sent == sent,
-        Err(_) => false,
+        Ok(outcome) => Some((outcome.answer, outcome.sent)),
+        Err(_) => None,
     }
 }
 
-/// Whether core 0 publishes a root for the first second, and that second alone is published, with this root.
-fn publishes(world: &mut World<Sha>) -> bool {
-    let event = Event::Publish(0, T);
-    if !is_event(world, &event) {
-        return false;
-    }
-    match world.step(event) {
-        Ok(outcome) => is_published(world, &outcome.answer),
-        Err(_) => false,
+/// The event has this answer and sends so many messages.
+fn step(rt: &impl Abort, world: &mut World<Sha>, event: Event, answer: Answer, sent: usize) {
+    same(rt, "the event", told(world, event), Some((answer, sent)));
+}
+
+/// The events have these answers and send so many messages each.
+fn go(rt: &impl Abort, world: &mut World<Sha>, rows: &[(Event, Answer, usize)]) {
+    'going: for (event, answer, sent) in rows {
+        step(rt, world, *event, *answer, *sent);
     }
 }
 
-fn is_published(world: &World<Sha>, answer: &Answer) -> bool {
-    match (answer, world.published()) {
-        (Answer::Published(root), [one]) => one.0 == T && one.1 == *root,
-        _ => false,
+/// A request of the hash of these bytes.
+fn request(
+    rt: &impl Abort,
+    world: &mut World<Sha>,
+    aggregator: u32,
+    second: u64,
+    bytes: &[u8],
+    answer: Answer,
+) {
+    let event = Event::Request(aggregator, second, Sha::of(bytes));
+    step(rt, world, event, answer, 0);
+}
+
+/// The messages from this number on are delivered, and each sends one.
+fn pass_on(rt: &impl Abort, world: &mut World<Sha>, first: u64)
+    requires { first < 100 }
+{
+    for number in first..first + 4 {
+        step(rt, world, Event::Deliver(number), Answer::Done, 1);
     }
+}
+
+/// Seals the second and decides it by messages from this number on, with one core.
+fn decide(rt: &impl Abort, world: &mut World<Sha>, first: u64)
+    requires { first < 100 }
+{
+    step(rt, world, Event::Seal(0, T), Answer::Done, 0);
+    step(rt, world, Event::Ballot(0, T), Answer::Done, 1);
+    pass_on(rt, world, first);
+}
+
+/// The answer that publishes the root of the first second, where that alone is published, with this root.
+fn published(world: &World<Sha>) -> Option<(Answer, usize)> {
+    match world.published() {
+        [one] if one.0 == T => Some((Answer::Published(one.1), 0)),
+        _ => None,
+    }
+}
+
+/// Core 0 publishes a root for the first second, and that second alone is published, with this root.
+fn publish(rt: &impl Abort, world: &mut World<Sha>) {
+    let told = told(world, Event::Publish(0, T));
+    same(rt, "whether it is told", told.is_some(), true);
+    same(rt, "published", told, published(world));
 }
 
 /// What a core holds for the first second.
@@ -116,40 +160,14 @@ fn candidate(world: &World<Sha>, core: u8) -> Option<Imprint> {
     }
 }
 
-/// Whether the events have these answers and send so many messages each.
-fn goes(world: &mut World<Sha>, rows: &[(Event, Answer, usize)]) -> bool {
-    'going: for (event, answer, sent) in rows {
-        if !answers(world, *event, *answer, *sent) {
-            return false;
-        }
-    }
-    true
-}
-
-/// Seals the second and decides it by messages from this number on, with one core.
-fn decides(world: &mut World<Sha>, first: u64) -> bool
-    requires { first < 100 }
-{
-    goes(
-        world,
-        &[
-            (Event::Seal(0, T), Answer::Done, 0),
-            (Event::Ballot(0, T), Answer::Done, 1),
-            (Event::Deliver(first), Answer::Done, 1),
-            (Event::Deliver(first + 1), Answer::Done, 1),
-            (Event::Deliver(first + 2), Answer::Done, 1),
-            (Event::Deliver(first + 3), Answer::Done, 1),
-        ],
-    )
-}
-
 /// How many events, messages and requests there are.
-fn counts(world: &World<Sha>) -> (usize, usize, usize) {
-    (
+fn counts(rt: &impl Abort, world: &World<Sha>, want: [usize; 3]) {
+    let told = [
         world.events().len(),
         world.wire().len(),
         world.requests().len(),
-    )
+    ];
+    same(rt, "the counts", told, want);
 }
 
 /// How many bytes the issued signature of a number has.
@@ -199,87 +217,125 @@ fn is_alone(one: &KeptSecond, imprint: Imprint) -> bool {
     }
 }
 
-#[test]
-fn a_request_is_decided_issued_and_published(rt: HostRuntime) -> Result<(), Fail> {
-    let a = Sha::of(b"");
-    let mut world = world(rt.alloc(), 1)?;
-    let taken = [
-        (Event::Request(0, T, a), Answer::Number(0), 0),
-        (Event::Close(0, T), Answer::Done, 1),
-        (Event::Deliver(0), Answer::Done, 0),
-    ];
-    assert!(rt; goes(&mut world, &taken));
-    assert!(rt; decides(&mut world, 1));
-    assert_eq!(rt; held(&world, 0), Some(a));
-    assert_eq!(rt; issued(&world, 0), None);
-    let answered = [
-        (Event::Respond(0, T), Answer::Done, 1),
-        (Event::Deliver(6), Answer::Done, 0),
-    ];
-    assert!(rt; goes(&mut world, &answered));
-    assert!(rt; publishes(&mut world));
-    assert_eq!(rt; counts(&world), (12, 7, 1));
-    assert_eq!(rt; (issued(&world, 0), issued(&world, 1)), (Some(615), None));
-    assert!(rt; keeps(&world, a));
-    assert!(rt; answers(&mut world, Event::Deliver(7), Answer::Nothing, 0));
-    assert_eq!(rt; counts(&world), (13, 7, 1));
-    Ok(())
+/// A request on its way to core 0, before the seal.
+fn submit_one(rt: &impl Abort, world: &mut World<Sha>) {
+    request(rt, world, 0, T, b"", Answer::Number(0));
+    step(rt, world, Event::Close(0, T), Answer::Done, 1);
+    step(rt, world, Event::Deliver(0), Answer::Done, 0);
+}
+
+fn is_decided(rt: &impl Abort, world: &World<Sha>, root: Imprint) {
+    same(rt, "held", held(world, 0), Some(root));
+    same(rt, "issued", issued(world, 0), None);
+}
+
+fn answer_one(rt: &impl Abort, world: &mut World<Sha>) {
+    step(rt, world, Event::Respond(0, T), Answer::Done, 1);
+    step(rt, world, Event::Deliver(6), Answer::Done, 0);
+    publish(rt, world);
+}
+
+fn is_answered(rt: &impl Abort, world: &World<Sha>, root: Imprint) {
+    counts(rt, world, [12, 7, 1]);
+    let told = [issued(world, 0), issued(world, 1)];
+    same(rt, "issued", told, [Some(615), None]);
+    same(rt, "kept", keeps(world, root), true);
+}
+
+fn deliver_none(rt: &impl Abort, world: &mut World<Sha>) {
+    step(rt, world, Event::Deliver(7), Answer::Nothing, 0);
+    counts(rt, world, [13, 7, 1]);
 }
 
 #[test]
-fn a_response_goes_down_the_aggregators(rt: HostRuntime) -> Result<(), Fail> {
-    let mut world = world(rt.alloc(), 1)?;
-    let taken = [
-        (Event::Request(1, T, Sha::of(b"")), Answer::Number(0), 0),
-        (Event::Close(1, T), Answer::Done, 1),
-        (Event::Deliver(0), Answer::Done, 0),
-        (Event::Request(0, T, Sha::of(b"abc")), Answer::Number(1), 0),
-        (Event::Close(0, T), Answer::Done, 1),
-        (Event::Deliver(1), Answer::Done, 0),
-    ];
-    assert!(rt; goes(&mut world, &taken));
-    assert!(rt; decides(&mut world, 2));
-    let answered = [
+fn a_request_is_decided_issued_and_published(rt: HostRuntime) -> Result<(), Fail> {
+    let mut world = world(rt.alloc(), ONE)?;
+    let root = Sha::of(b"");
+    submit_one(&rt, &mut world);
+    decide(&rt, &mut world, 1);
+    is_decided(&rt, &world, root);
+    answer_one(&rt, &mut world);
+    is_answered(&rt, &world, root);
+    deliver_none(&rt, &mut world);
+    Ok(())
+}
+
+/// A request of aggregator 1, and one of aggregator 0 beside it.
+fn submit_two(rt: &impl Abort, world: &mut World<Sha>) {
+    request(rt, world, 1, T, b"", Answer::Number(0));
+    step(rt, world, Event::Close(1, T), Answer::Done, 1);
+    step(rt, world, Event::Deliver(0), Answer::Done, 0);
+    request(rt, world, 0, T, b"abc", Answer::Number(1));
+    step(rt, world, Event::Close(0, T), Answer::Done, 1);
+    step(rt, world, Event::Deliver(1), Answer::Done, 0);
+}
+
+fn answer_two(rt: &impl Abort, world: &mut World<Sha>) {
+    const ROWS: [(Event, Answer, usize); 4] = [
         (Event::Respond(0, T), Answer::Done, 1),
         (Event::Deliver(7), Answer::Done, 1),
         (Event::Deliver(8), Answer::Done, 0),
         (Event::Deliver(8), Answer::Nothing, 0),
     ];
-    assert!(rt; goes(&mut world, &answered));
-    let below: [&[u64]; 3] = [&[1, 3, 1], &[1, 3], &[1]];
-    assert!(rt; has_indexes(rt.alloc(), &world, 0, &below));
-    let beside: [&[u64]; 2] = [&[1, 2], &[1]];
-    assert!(rt; has_indexes(rt.alloc(), &world, 1, &beside));
+    go(rt, world, &ROWS);
+}
+
+fn have_indexes(rt: &impl Abort, alloc: Global, world: &World<Sha>) {
+    let below = has_indexes(alloc, world, 0, &[&[1, 3, 1], &[1, 3], &[1]]);
+    let beside = has_indexes(alloc, world, 1, &[&[1, 2], &[1]]);
+    same(rt, "the indexes", [below, beside], [true; 2]);
+}
+
+#[test]
+fn a_response_goes_down_the_aggregators(rt: HostRuntime) -> Result<(), Fail> {
+    let mut world = world(rt.alloc(), ONE)?;
+    submit_two(&rt, &mut world);
+    decide(&rt, &mut world, 2);
+    answer_two(&rt, &mut world);
+    have_indexes(&rt, rt.alloc(), &world);
     Ok(())
+}
+
+fn restart_open(rt: &impl Abort, world: &mut World<Sha>) {
+    let restart = Event::RestartAggregator(0);
+    request(rt, world, 0, T, b"", Answer::Number(0));
+    step(rt, world, restart, Answer::Done, 0);
+    step(rt, world, Event::Close(0, T), Answer::Done, 0);
+    request(rt, world, 0, T, b"", Answer::Late);
+    request(rt, world, 0, T + 1, b"", Answer::Number(1));
+}
+
+fn deliver_again(rt: &impl Abort, world: &mut World<Sha>) {
+    const ROWS: [(Event, Answer, usize); 5] = [
+        (Event::Close(0, T + 1), Answer::Done, 1),
+        (Event::Deliver(0), Answer::Done, 0),
+        (Event::Deliver(0), Answer::Known, 0),
+        (Event::Seal(0, T + 1), Answer::Done, 0),
+        (Event::Deliver(0), Answer::Late, 0),
+    ];
+    go(rt, world, &ROWS);
+}
+
+/// How many seconds are kept.
+fn kept(world: &World<Sha>) -> Option<usize> {
+    match world.kept() {
+        Ok(kept) => Some(kept.seconds.as_slice().len()),
+        Err(_) => None,
+    }
 }
 
 #[test]
 fn a_restart_forgets_what_is_open(rt: HostRuntime) -> Result<(), Fail> {
-    let a = Sha::of(b"");
-    let u = T + 1;
-    let mut world = world(rt.alloc(), 1)?;
-    let rows = [
-        (Event::Request(0, T, a), Answer::Number(0), 0),
-        (Event::RestartAggregator(0), Answer::Done, 0),
-        (Event::Close(0, T), Answer::Done, 0),
-        (Event::Request(0, T, a), Answer::Late, 0),
-        (Event::Request(0, u, a), Answer::Number(1), 0),
-        (Event::Close(0, u), Answer::Done, 1),
-        (Event::Deliver(0), Answer::Done, 0),
-        (Event::Deliver(0), Answer::Known, 0),
-        (Event::Seal(0, u), Answer::Done, 0),
-        (Event::Deliver(0), Answer::Late, 0),
-    ];
-    assert!(rt; goes(&mut world, &rows));
-    assert_eq!(rt; issued(&world, 0), None);
-    assert!(rt; world.kept()?.seconds.as_slice().is_empty());
+    let mut world = world(rt.alloc(), ONE)?;
+    restart_open(&rt, &mut world);
+    deliver_again(&rt, &mut world);
+    same(&rt, "issued", issued(&world, 0), None);
+    same(&rt, "kept", kept(&world), Some(0));
     Ok(())
 }
 
-#[test]
-fn a_lower_ballot_comes_too_late(rt: HostRuntime) -> Result<(), Fail> {
-    let mut world = world(rt.alloc(), 3)?;
-    let rows = [
+fn try_two_ballots(rt: &impl Abort, world: &mut World<Sha>) {
+    const ROWS: [(Event, Answer, usize); 10] = [
         (Event::Seal(0, T), Answer::Done, 0),
         (Event::Seal(2, T), Answer::Done, 0),
         (Event::Ballot(0, T), Answer::Done, 3),
@@ -291,8 +347,14 @@ fn a_lower_ballot_comes_too_late(rt: HostRuntime) -> Result<(), Fail> {
         (Event::Deliver(4), Answer::Done, 1),
         (Event::Deliver(9), Answer::Nothing, 0),
     ];
-    assert!(rt; goes(&mut world, &rows));
-    assert_eq!(rt; candidate(&world, 2), Some(Imprint::ZERO));
-    assert_eq!(rt; held(&world, 0), None);
+    go(rt, world, &ROWS);
+}
+
+#[test]
+fn a_lower_ballot_comes_too_late(rt: HostRuntime) -> Result<(), Fail> {
+    let mut world = world(rt.alloc(), THREE)?;
+    try_two_ballots(&rt, &mut world);
+    same(&rt, "candidate", candidate(&world, 2), Some(Imprint::ZERO));
+    same(&rt, "held", held(&world, 0), None);
     Ok(())
 }
