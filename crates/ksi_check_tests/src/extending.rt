@@ -146,27 +146,36 @@ fn passes_on(
     is_accepted(rt, alloc, journal, bytes, T)
 }
 
+const PASSED_ON: [(&str, usize, &[u8]); 3] = [
+    (SIGNATURE, 662, &[0x88, 0x02]),
+    (WITH_DROPPED, 662, &[0x88, 0x02]),
+    (WITH_KEPT, 664, &[0x7e, 0x00]),
+];
+
+fn each_passes_on(rt: &impl Abort, alloc: Global, journal: &Journal<Sha>) -> Result<(), Fail> {
+    for (text, size, behind) in PASSED_ON {
+        passes_on(rt, alloc, journal, text, size, behind)?;
+    }
+    Ok(())
+}
+
 #[test]
 fn what_is_to_be_passed_on_stays(rt: HostRuntime) -> Result<(), Fail> {
     let journal = journal(rt.alloc(), JOURNAL)?;
-    const ROWS: [(&str, usize, &[u8]); 3] = [
-        (SIGNATURE, 662, &[0x88, 0x02]),
-        (WITH_DROPPED, 662, &[0x88, 0x02]),
-        (WITH_KEPT, 664, &[0x7e, 0x00]),
-    ];
-    for (text, size, behind) in ROWS {
-        passes_on(&rt, rt.alloc(), &journal, text, size, behind)?;
-    }
+    each_passes_on(&rt, rt.alloc(), &journal)
+}
+
+fn is_taken_on_twice(rt: &impl Abort, alloc: Global, journal: &Journal<Sha>) -> Result<(), Fail> {
+    let once = taken(alloc, journal, SIGNATURE, T)?;
+    let twice = taken_on_counted(alloc, journal, once.as_slice())?;
+    same(rt, "again", twice.as_slice(), once.as_slice());
     Ok(())
 }
 
 #[test]
 fn what_was_taken_on_is_taken_on_again(rt: HostRuntime) -> Result<(), Fail> {
     let journal = journal(rt.alloc(), JOURNAL)?;
-    let once = taken(rt.alloc(), &journal, SIGNATURE, T)?;
-    let twice = taken_on_counted(rt.alloc(), &journal, once.as_slice())?;
-    same(&rt, "again", twice.as_slice(), once.as_slice());
-    Ok(())
+    is_taken_on_twice(&rt, rt.alloc(), &journal)
 }
 
 /// The root of a part of the calendar of eight seconds, none of them covered.
@@ -196,13 +205,17 @@ fn is_above_9(alloc: Global, bytes: &[u8]) -> Result<bool, SigFault> {
     Ok(signature.calendar.as_ref().is_some_and(are_above_9))
 }
 
+fn is_taken_on_to_9(rt: &impl Abort, alloc: Global, journal: &Journal<Sha>) -> Result<(), Fail> {
+    let taken = taken(alloc, journal, OF_9, 9)?;
+    let is_above = is_above_9(alloc, taken.as_slice());
+    same(rt, "links", is_above, Ok(true));
+    is_accepted(rt, alloc, journal, taken.as_slice(), 9)
+}
+
 #[test]
 fn a_missed_second_has_the_zero_imprint(rt: HostRuntime) -> Result<(), Fail> {
     let journal = journal(rt.alloc(), FROM_8)?;
-    let taken = taken(rt.alloc(), &journal, OF_9, 9)?;
-    let is_above = is_above_9(rt.alloc(), taken.as_slice());
-    same(&rt, "links", is_above, Ok(true));
-    is_accepted(&rt, rt.alloc(), &journal, taken.as_slice(), 9)
+    is_taken_on_to_9(&rt, rt.alloc(), &journal)
 }
 
 fn is_refused(
@@ -218,16 +231,26 @@ fn is_refused(
     Ok(())
 }
 
+const REFUSED: [(u64, ExtendRefusal); 2] = [
+    (
+        T - 1,
+        ExtendRefusal::TooEarly {
+            second: T,
+            publication: T - 1,
+        },
+    ),
+    (T + 1, ExtendRefusal::Undecided(T + 1)),
+];
+
+fn each_is_refused(rt: &impl Abort, alloc: Global, journal: &Journal<Sha>) -> Result<(), Fail> {
+    for (p, want) in REFUSED {
+        is_refused(rt, alloc, journal, p, want)?;
+    }
+    Ok(())
+}
+
 #[test]
 fn the_second_has_to_be_covered(rt: HostRuntime) -> Result<(), Fail> {
     let journal = journal(rt.alloc(), JOURNAL)?;
-    const EARLY: ExtendRefusal = ExtendRefusal::TooEarly {
-        second: T,
-        publication: T - 1,
-    };
-    const LATE: ExtendRefusal = ExtendRefusal::Undecided(T + 1);
-    for (p, want) in [(T - 1, EARLY), (T + 1, LATE)] {
-        is_refused(&rt, rt.alloc(), &journal, p, want)?;
-    }
-    Ok(())
+    each_is_refused(&rt, rt.alloc(), &journal)
 }

@@ -3,12 +3,22 @@ use crate::signatures::{
     CALENDAR, CalendarRow, ChainRow, HIGH, LOW, SignatureRow, bytes_of, listed, named, row,
 };
 use ksi_aggchain::Item;
-use ksi_imprint::Tiny;
-use ksi_signature::{SigFault, read};
+use ksi_imprint::{NoMemory, Tiny};
+use ksi_signature::{SigFault, Signature, read};
 use ksi_split::{ShapeFault, Side};
 use ksi_verifier::{Aggregated, RecordDifference, Refusal, Verdict, aggregate, verify};
 use std::alloc::Global;
 use std::process::Abort;
+
+fn verdict(
+    alloc: Global,
+    signature: &Signature,
+    hash: u8,
+    published: &[(u8, u8)],
+) -> Result<Verdict, NoMemory> {
+    let publications = listed(alloc, published)?;
+    Ok(verify::<Tiny>(signature, &named(hash), &publications))
+}
 
 /// The verdict for a named hash against named publications.
 fn judged(
@@ -19,8 +29,7 @@ fn judged(
 ) -> Result<Verdict, SigFault> {
     let bytes = bytes_of(alloc, row)?;
     let signature = read(alloc, bytes.as_slice())?;
-    let publications = listed(alloc, published)?;
-    Ok(verify::<Tiny>(&signature, &named(hash), &publications))
+    Ok(verdict(alloc, &signature, hash, published)?)
 }
 
 /// The verdict for the two chains with a record, if any.
