@@ -1,6 +1,7 @@
 use crate::journals::journal_of;
+use crate::same::same;
 use crate::signatures::{CalendarRow, ChainRow, SignatureRow, bytes_of, listed, named};
-use ksi_auditor::{Audit, Clash, NoMemory, audit};
+use ksi_auditor::{Audit, NoMemory, audit};
 use ksi_imprint::{Bytes, Compress, Imprint, Tiny};
 use ksi_journal::{Journal, load};
 use ksi_publications::Publications;
@@ -8,6 +9,7 @@ use ksi_signature::read;
 use ksi_split::Side;
 use ksi_verifier::Refusal;
 use std::alloc::Global;
+use std::process::Abort;
 use std::test::Fail;
 
 /// What a journal keeps: its start, the root of that second and its items with their levels.
@@ -68,120 +70,153 @@ fn audited(
     Ok(answer_of(alloc, &journal, &signature, &named(hash), &publications))
 }
 
-/// Whether the hash is inside the second, at the end of these sides.
-fn is_inside(answer: &Option<Audit>, second: u64, sides: &[Side]) -> bool {
+/// The sides to where the hash is inside this second.
+fn way(answer: &Option<Audit>, second: u64) -> Option<&[Side]> {
     match answer {
-        Some(Audit::Inside(at, way)) => *at == second && way.as_slice() == sides,
-        _ => false,
+        Some(Audit::Inside(at, way)) if *at == second => Some(way.as_slice()),
+        _ => None,
     }
 }
 
 #[test]
 fn an_inner_node_is_inside(rt: HostRuntime) -> Result<(), Fail> {
-    let chains = [ChainRow {
+    const CHAIN: ChainRow<'static> = ChainRow {
         time: 0,
         index: &[3],
         input: 0x0f,
         links: &[(Side::Left, 1, 9)],
-    }];
-    let kept = KeptRow {
+    };
+    const KEPT: KeptRow<'static> = KeptRow {
         start: 0,
         root: 0x1c,
         items: &[(5, 0), (7, 0), (9, 0)],
     };
-    let answer = audited(rt.alloc(), kept, &chains, 0x0f, 0x1c)?;
-    assert!(rt; is_inside(&answer, 0, &[Side::Left]));
+    let answer = audited(rt.alloc(), KEPT, &[CHAIN], 0x0f, 0x1c)?;
+    same(&rt, "way", way(&answer, 0), Some([Side::Left].as_slice()));
     Ok(())
 }
 
-/// Whether these are two strings of 67 bytes and of one sum.
-fn is_of_sum_15(clash: &Clash) -> bool {
-    let (one, two) = (clash.one.as_slice(), clash.two.as_slice());
-    one != two
-        && (one.len(), two.len()) == (67, 67)
-        && Tiny::of(one) == named(15)
-        && Tiny::of(two) == named(15)
+/// Whether this is a string of 67 bytes whose sum is 15.
+fn is_of_sum_15(string: &[u8]) -> bool {
+    string.len() == 67 && Tiny::of(string) == named(15)
+}
+
+fn is_of_two_strings(answer: &Option<Audit>) -> bool {
+    match answer {
+        Some(Audit::Clash(clash)) => {
+            let (one, two) = (clash.one.as_slice(), clash.two.as_slice());
+            one != two && is_of_sum_15(one) && is_of_sum_15(two)
+        }
+        _ => false,
+    }
 }
 
 #[test]
 fn two_strings_of_one_sum_clash(rt: HostRuntime) -> Result<(), Fail> {
-    let chains = [ChainRow {
+    const CHAIN: ChainRow<'static> = ChainRow {
         time: 0,
         index: &[3],
         input: 6,
         links: &[(Side::Left, 0, 6)],
-    }];
-    let kept = KeptRow {
+    };
+    const KEPT: KeptRow<'static> = KeptRow {
         start: 0,
         root: 0x0f,
         items: &[(5, 0), (7, 0)],
     };
-    match audited(rt.alloc(), kept, &chains, 6, 0x0f)? {
-        Some(Audit::Clash(clash)) => assert!(rt; is_of_sum_15(&clash)),
-        _ => assert!(rt; false),
-    }
+    let answer = audited(rt.alloc(), KEPT, &[CHAIN], 6, 0x0f)?;
+    same(&rt, "clash", is_of_two_strings(&answer), true);
     Ok(())
 }
 
-#[test]
-fn a_lower_request_is_beneath_an_item(rt: HostRuntime) -> Result<(), Fail> {
-    let own = ChainRow {
+/// The name of any other answer, with its numbers.
+fn told(answer: &Option<Audit>) -> (&'static str, [u64; 3]) {
+    match answer {
+        Some(Audit::Beneath(second, item, links)) => ("beneath", [*second, *item, *links]),
+        Some(Audit::NotAccepted(Refusal::WrongHash { .. })) => ("wrong hash", [0; 3]),
+        Some(Audit::BeforeStart(second)) => ("before start", [*second, 0, 0]),
+        Some(Audit::Undecided(second)) => ("undecided", [*second, 0, 0]),
+        Some(Audit::NotDecided(second, _, _)) => ("not decided", [*second, 0, 0]),
+        _ => ("other", [0; 3]),
+    }
+}
+
+/// A lower request, the chain above it and the top one.
+const LOWER: [ChainRow<'static>; 3] = [
+    ChainRow {
         time: 0,
         index: &[1, 3, 1],
         input: 5,
         links: &[],
-    };
-    let middle = ChainRow {
+    },
+    ChainRow {
         time: 0,
         index: &[1, 3],
         input: 5,
         links: &[(Side::Left, 0, 7)],
-    };
-    let top = ChainRow {
+    },
+    ChainRow {
         time: 0,
         index: &[1],
         input: 0x0f,
         links: &[],
-    };
-    let kept = KeptRow {
+    },
+];
+
+#[test]
+fn a_lower_request_is_beneath_an_item(rt: HostRuntime) -> Result<(), Fail> {
+    const KEPT: KeptRow<'static> = KeptRow {
         start: 0,
         root: 0x0f,
         items: &[(0x0f, 1)],
     };
-    let answer = audited(rt.alloc(), kept, &[own, middle, top], 5, 0x0f)?;
-    assert!(rt; matches!(answer, Some(Audit::Beneath(0, 0, 1))));
+    let answer = audited(rt.alloc(), KEPT, &LOWER, 5, 0x0f)?;
+    same(&rt, "item", told(&answer), ("beneath", [0, 0, 1]));
     Ok(())
 }
 
-/// The answer for a signature of the item 06 alone.
-fn audited_alone(alloc: Global, kept: KeptRow<'_>, hash: u8) -> Result<Option<Audit>, NoMemory> {
-    let alone = ChainRow {
-        time: 0,
-        index: &[1],
-        input: 6,
-        links: &[],
-    };
-    audited(alloc, kept, &[alone], hash, 6)
+/// The item 06 alone.
+const ALONE: ChainRow<'static> = ChainRow {
+    time: 0,
+    index: &[1],
+    input: 6,
+    links: &[],
+};
+
+/// Journals of no second from 5 on, and of a second whose root is not 06.
+const LATER: KeptRow<'static> = KeptRow {
+    start: 5,
+    ..NOTHING
+};
+
+const OTHER: KeptRow<'static> = KeptRow {
+    start: 0,
+    root: 9,
+    items: &[(9, 0)],
+};
+
+fn refuses(
+    rt: &impl Abort,
+    alloc: Global,
+    kept: KeptRow<'_>,
+    hash: u8,
+    want: &str,
+) -> Result<(), NoMemory> {
+    let answer = audited(alloc, kept, &[ALONE], hash, 6)?;
+    same(rt, want, told(&answer), (want, [0; 3]));
+    Ok(())
 }
 
 #[test]
 fn refuses_in_order(rt: HostRuntime) -> Result<(), Fail> {
-    let later = KeptRow {
-        start: 5,
-        ..NOTHING
-    };
-    let other = KeptRow {
-        start: 0,
-        root: 9,
-        items: &[(9, 0)],
-    };
-    let answer = audited_alone(rt.alloc(), later, 7)?;
-    assert!(rt; matches!(answer, Some(Audit::NotAccepted(Refusal::WrongHash { .. }))));
-    let answer = audited_alone(rt.alloc(), later, 6)?;
-    assert!(rt; matches!(answer, Some(Audit::BeforeStart(0))));
-    let answer = audited_alone(rt.alloc(), NOTHING, 6)?;
-    assert!(rt; matches!(answer, Some(Audit::Undecided(0))));
-    let answer = audited_alone(rt.alloc(), other, 6)?;
-    assert!(rt; matches!(answer, Some(Audit::NotDecided(0, _, _))));
+    const ROWS: [(KeptRow<'static>, u8, &str); 4] = [
+        (LATER, 7, "wrong hash"),
+        (LATER, 6, "before start"),
+        (NOTHING, 6, "undecided"),
+        (OTHER, 6, "not decided"),
+    ];
+    for (kept, hash, want) in ROWS {
+        refuses(&rt, rt.alloc(), kept, hash, want)?;
+    }
     Ok(())
 }

@@ -1,15 +1,17 @@
 ghost use Rattle.std.specs.Prelude.{◌≡◌, ◌<◌};
 
+use crate::same::same;
 use ksi_calendar::Steps;
 use ksi_extender::{ExtendRefusal, extend, extend_counted};
 use ksi_imprint::{Bytes, Compress, Imprint, Sha};
 use ksi_journal::{Journal, load};
 use ksi_publications::Publications;
-use ksi_signature::{CalChain, read};
+use ksi_signature::{CalChain, SigFault, read};
 use ksi_split::Side;
 use ksi_verifier::{Verdict, verify};
 use std::alloc::Global;
 use std::marker::Brand;
+use std::process::Abort;
 use std::sync::ledger::{Blank, Ledger};
 use std::test::Fail;
 
@@ -59,11 +61,16 @@ fn journal(alloc: Global, text: &str) -> Result<Journal<Sha>, Fail> {
     }
 }
 
-fn taken_on(alloc: Global, journal: &Journal<Sha>, bytes: &[u8], p: u64) -> Option<Bytes> {
+fn taken_on(
+    alloc: Global,
+    journal: &Journal<Sha>,
+    bytes: &[u8],
+    p: u64,
+) -> Result<Bytes, ExtendRefusal> {
     if p < 9_223_372_036_854_775_808 {
-        extend(alloc, journal, bytes, p).ok()
+        extend(alloc, journal, bytes, p)
     } else {
-        None
+        Err(ExtendRefusal::Undecided(p))
     }
 }
 
@@ -99,55 +106,76 @@ fn published(alloc: Global, journal: &Journal<Sha>, p: u64) -> Result<Publicatio
     Ok(Publications::from_vec(pairs))
 }
 
-/// Whether the signature of A is accepted at `p`, where the journal's root of `p` is published.
-fn is_accepted(alloc: Global, journal: &Journal<Sha>, bytes: &[u8], p: u64) -> Result<bool, Fail> {
+/// The verdict on a signature of A, where the journal's root of `p` is published.
+fn verdict(alloc: Global, journal: &Journal<Sha>, bytes: &[u8], p: u64) -> Result<Verdict, Fail> {
     let publications = published(alloc, journal, p)?;
-    match read(alloc, bytes) {
-        Ok(signature) => {
-            let verdict = verify::<Sha>(&signature, &Sha::of(b""), &publications);
-            Ok(verdict == Verdict::Accepted(p))
-        }
-        Err(_) => Ok(false),
+    let signature = read(alloc, bytes)?;
+    Ok(verify::<Sha>(&signature, &Sha::of(b""), &publications))
+}
+
+fn is_accepted(
+    rt: &impl Abort,
+    alloc: Global,
+    journal: &Journal<Sha>,
+    bytes: &[u8],
+    p: u64,
+) -> Result<(), Fail> {
+    let verdict = verdict(alloc, journal, bytes, p)?;
+    same(rt, "verdict", verdict, Verdict::Accepted(p));
+    Ok(())
+}
+
+/// The signature of a text, taken on.
+fn taken(alloc: Global, journal: &Journal<Sha>, text: &str, p: u64) -> Result<Bytes, Fail> {
+    let bytes = bytes(alloc, text)?;
+    Ok(taken_on(alloc, journal, bytes.as_slice(), p)?)
+}
+
+fn passes_on(
+    rt: &impl Abort,
+    alloc: Global,
+    journal: &Journal<Sha>,
+    text: &str,
+    size: usize,
+    behind: &[u8],
+) -> Result<(), Fail> {
+    let taken = taken(alloc, journal, text, T)?;
+    let bytes = taken.as_slice();
+    same(rt, text, bytes.len(), size);
+    same(rt, text, bytes.get(109..111), Some(behind));
+    is_accepted(rt, alloc, journal, bytes, T)
+}
+
+const PASSED_ON: [(&str, usize, &[u8]); 3] = [
+    (SIGNATURE, 662, &[0x88, 0x02]),
+    (WITH_DROPPED, 662, &[0x88, 0x02]),
+    (WITH_KEPT, 664, &[0x7e, 0x00]),
+];
+
+fn each_passes_on(rt: &impl Abort, alloc: Global, journal: &Journal<Sha>) -> Result<(), Fail> {
+    for (text, size, behind) in PASSED_ON {
+        passes_on(rt, alloc, journal, text, size, behind)?;
     }
+    Ok(())
 }
 
 #[test]
 fn what_is_to_be_passed_on_stays(rt: HostRuntime) -> Result<(), Fail> {
-    let alloc = rt.alloc();
-    let journal = journal(alloc, JOURNAL)?;
-    let rows: [(&str, usize, &[u8]); 3] = [
-        (SIGNATURE, 662, &[0x88, 0x02]),
-        (WITH_DROPPED, 662, &[0x88, 0x02]),
-        (WITH_KEPT, 664, &[0x7e, 0x00]),
-    ];
-    for (text, size, behind) in rows {
-        let bytes = bytes(alloc, text)?;
-        let taken = taken_on(alloc, &journal, bytes.as_slice(), T);
-        assert!(rt; taken.is_some());
-        if let Some(text) = taken {
-            assert_eq!(rt; text.as_slice().len(), size);
-            assert_eq!(rt; text.as_slice().get(109..111), Some(behind));
-            assert!(rt; is_accepted(alloc, &journal, text.as_slice(), T)?);
-        }
-    }
+    let journal = journal(rt.alloc(), JOURNAL)?;
+    each_passes_on(&rt, rt.alloc(), &journal)
+}
+
+fn is_taken_on_twice(rt: &impl Abort, alloc: Global, journal: &Journal<Sha>) -> Result<(), Fail> {
+    let once = taken(alloc, journal, SIGNATURE, T)?;
+    let twice = taken_on_counted(alloc, journal, once.as_slice())?;
+    same(rt, "again", twice.as_slice(), once.as_slice());
     Ok(())
 }
 
 #[test]
 fn what_was_taken_on_is_taken_on_again(rt: HostRuntime) -> Result<(), Fail> {
-    let alloc = rt.alloc();
-    let journal = journal(alloc, JOURNAL)?;
-    let bytes = bytes(alloc, SIGNATURE)?;
-    let once = taken_on(alloc, &journal, bytes.as_slice(), T);
-    assert!(rt; once.is_some());
-    if let Some(text) = once {
-        let twice = taken_on_counted(alloc, &journal, text.as_slice());
-        assert!(rt; twice.is_ok());
-        if let Ok(again) = twice {
-            assert_eq!(rt; again.as_slice(), text.as_slice());
-        }
-    }
-    Ok(())
+    let journal = journal(rt.alloc(), JOURNAL)?;
+    is_taken_on_twice(&rt, rt.alloc(), &journal)
 }
 
 /// The root of a part of the calendar of eight seconds, none of them covered.
@@ -171,33 +199,58 @@ fn are_above_9(calendar: &CalChain) -> bool {
     }
 }
 
+/// Whether the calendar chain of a signature has such links.
+fn is_above_9(alloc: Global, bytes: &[u8]) -> Result<bool, SigFault> {
+    let signature = read(alloc, bytes)?;
+    Ok(signature.calendar.as_ref().is_some_and(are_above_9))
+}
+
+fn is_taken_on_to_9(rt: &impl Abort, alloc: Global, journal: &Journal<Sha>) -> Result<(), Fail> {
+    let taken = taken(alloc, journal, OF_9, 9)?;
+    let is_above = is_above_9(alloc, taken.as_slice());
+    same(rt, "links", is_above, Ok(true));
+    is_accepted(rt, alloc, journal, taken.as_slice(), 9)
+}
+
 #[test]
 fn a_missed_second_has_the_zero_imprint(rt: HostRuntime) -> Result<(), Fail> {
-    let alloc = rt.alloc();
-    let journal = journal(alloc, FROM_8)?;
-    let bytes = bytes(alloc, OF_9)?;
-    let taken = taken_on(alloc, &journal, bytes.as_slice(), 9);
-    assert!(rt; taken.is_some());
-    if let Some(text) = taken {
-        let signature = read(alloc, text.as_slice())?;
-        assert!(rt; signature.calendar.as_ref().is_some_and(are_above_9));
-        assert!(rt; is_accepted(alloc, &journal, text.as_slice(), 9)?);
+    let journal = journal(rt.alloc(), FROM_8)?;
+    is_taken_on_to_9(&rt, rt.alloc(), &journal)
+}
+
+fn is_refused(
+    rt: &impl Abort,
+    alloc: Global,
+    journal: &Journal<Sha>,
+    p: u64,
+    want: ExtendRefusal,
+) -> Result<(), Fail> {
+    let bytes = bytes(alloc, SIGNATURE)?;
+    let answer = taken_on(alloc, journal, bytes.as_slice(), p);
+    same(rt, "refusal", answer.err(), Some(want));
+    Ok(())
+}
+
+const REFUSED: [(u64, ExtendRefusal); 2] = [
+    (
+        T - 1,
+        ExtendRefusal::TooEarly {
+            second: T,
+            publication: T - 1,
+        },
+    ),
+    (T + 1, ExtendRefusal::Undecided(T + 1)),
+];
+
+fn each_is_refused(rt: &impl Abort, alloc: Global, journal: &Journal<Sha>) -> Result<(), Fail> {
+    for (p, want) in REFUSED {
+        is_refused(rt, alloc, journal, p, want)?;
     }
     Ok(())
 }
 
 #[test]
 fn the_second_has_to_be_covered(rt: HostRuntime) -> Result<(), Fail> {
-    let alloc = rt.alloc();
-    let journal = journal(alloc, JOURNAL)?;
-    let bytes = bytes(alloc, SIGNATURE)?;
-    let early = ExtendRefusal::TooEarly {
-        second: T,
-        publication: T - 1,
-    };
-    let answer = extend(alloc, &journal, bytes.as_slice(), T - 1);
-    assert_eq!(rt; answer.err(), Some(early));
-    let answer = extend(alloc, &journal, bytes.as_slice(), T + 1);
-    assert_eq!(rt; answer.err(), Some(ExtendRefusal::Undecided(T + 1)));
-    Ok(())
+    let journal = journal(rt.alloc(), JOURNAL)?;
+    each_is_refused(&rt, rt.alloc(), &journal)
 }

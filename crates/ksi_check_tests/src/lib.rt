@@ -10,6 +10,8 @@ mod extending;
 #[cfg(test)]
 mod journals;
 #[cfg(test)]
+mod same;
+#[cfg(test)]
 mod signatures;
 #[cfg(test)]
 mod verifying;

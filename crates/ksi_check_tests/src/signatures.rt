@@ -52,19 +52,38 @@ fn link_kind(side: Side) -> u16 {
     }
 }
 
+fn put_named(bytes: &mut Vec<u8>, kind: u16, first: u8) -> Result<(), NoMemory> {
+    put(bytes, kind, named(first).bytes())
+}
+
+fn put_link(
+    alloc: Global,
+    bytes: &mut Vec<u8>,
+    side: Side,
+    correction: u8,
+    sibling: u8,
+) -> Result<(), NoMemory> {
+    let mut link = Vec::new(alloc);
+    put(&mut link, 1, &[correction])?;
+    put_named(&mut link, 2, sibling)?;
+    put(bytes, link_kind(side), link.as_slice())
+}
+
+/// What stands before the links.
+fn put_place(bytes: &mut Vec<u8>, chain: &ChainRow<'_>) -> Result<(), NoMemory> {
+    put(bytes, 2, &[chain.time])?;
+    for part in chain.index {
+        put(bytes, 3, &[*part])?;
+    }
+    put_named(bytes, 5, chain.input)?;
+    put(bytes, 6, &[1])
+}
+
 fn put_chain(alloc: Global, bytes: &mut Vec<u8>, chain: &ChainRow<'_>) -> Result<(), NoMemory> {
     let mut body = Vec::new(alloc);
-    put(&mut body, 2, &[chain.time])?;
-    for part in chain.index {
-        put(&mut body, 3, &[*part])?;
-    }
-    put(&mut body, 5, named(chain.input).bytes())?;
-    put(&mut body, 6, &[1])?;
+    put_place(&mut body, chain)?;
     for (side, correction, sibling) in chain.links {
-        let mut link = Vec::new(alloc);
-        put(&mut link, 1, &[*correction])?;
-        put(&mut link, 2, named(*sibling).bytes())?;
-        put(&mut body, link_kind(*side), link.as_slice())?;
+        put_link(alloc, &mut body, *side, *correction, *sibling)?;
     }
     put(bytes, 0x801, body.as_slice())
 }
@@ -77,9 +96,9 @@ fn put_calendar(
     let mut body = Vec::new(alloc);
     put(&mut body, 1, &[calendar.publication])?;
     put(&mut body, 2, &[calendar.time])?;
-    put(&mut body, 5, named(calendar.input).bytes())?;
+    put_named(&mut body, 5, calendar.input)?;
     for (side, sibling) in calendar.links {
-        put(&mut body, link_kind(*side), named(*sibling).bytes())?;
+        put_named(&mut body, link_kind(*side), *sibling)?;
     }
     put(bytes, 0x802, body.as_slice())
 }
@@ -87,7 +106,7 @@ fn put_calendar(
 fn put_record(alloc: Global, bytes: &mut Vec<u8>, record: (u8, u8)) -> Result<(), NoMemory> {
     let mut published = Vec::new(alloc);
     put(&mut published, 2, &[record.0])?;
-    put(&mut published, 4, named(record.1).bytes())?;
+    put_named(&mut published, 4, record.1)?;
     let mut body = Vec::new(alloc);
     put(&mut body, 0x10, published.as_slice())?;
     put(bytes, 0x803, body.as_slice())

@@ -1,13 +1,24 @@
+use crate::same::same;
 use crate::signatures::{
     CALENDAR, CalendarRow, ChainRow, HIGH, LOW, SignatureRow, bytes_of, listed, named, row,
 };
 use ksi_aggchain::Item;
-use ksi_imprint::Tiny;
-use ksi_signature::{SigFault, read};
+use ksi_imprint::{NoMemory, Tiny};
+use ksi_signature::{SigFault, Signature, read};
 use ksi_split::{ShapeFault, Side};
 use ksi_verifier::{Aggregated, RecordDifference, Refusal, Verdict, aggregate, verify};
 use std::alloc::Global;
-use std::test::Fail;
+use std::process::Abort;
+
+fn verdict(
+    alloc: Global,
+    signature: &Signature,
+    hash: u8,
+    published: &[(u8, u8)],
+) -> Result<Verdict, NoMemory> {
+    let publications = listed(alloc, published)?;
+    Ok(verify::<Tiny>(signature, &named(hash), &publications))
+}
 
 /// The verdict for a named hash against named publications.
 fn judged(
@@ -18,8 +29,7 @@ fn judged(
 ) -> Result<Verdict, SigFault> {
     let bytes = bytes_of(alloc, row)?;
     let signature = read(alloc, bytes.as_slice())?;
-    let publications = listed(alloc, published)?;
-    Ok(verify::<Tiny>(&signature, &named(hash), &publications))
+    Ok(verdict(alloc, &signature, hash, published)?)
 }
 
 /// The verdict for the two chains with a record, if any.
@@ -45,21 +55,25 @@ fn leads_to(alloc: Global, row: &SignatureRow<'_>, to: Aggregated) -> Result<boo
 
 #[test]
 fn accepts_the_second_of_the_sides(rt: HostRuntime) {
-    let rows: [(Option<(u8, u8)>, &[(u8, u8)]); 2] = [
+    const ROWS: [(Option<(u8, u8)>, &[(u8, u8)]); 2] = [
         (None, &[(5, 0x26)]),
         (Some((5, 0x26)), &[(4, 0), (5, 0x26), (5, 0)]),
     ];
-    for (record, published) in rows {
+    for (record, published) in ROWS {
         let verdict = judged_both(rt.alloc(), record, published);
-        assert_eq!(rt; verdict, Ok(Verdict::Accepted(2)));
+        same(&rt, "verdict", verdict, Ok(Verdict::Accepted(2)));
     }
+}
+
+#[test]
+fn the_chains_lead_to_an_item(rt: HostRuntime) {
     let item = Item {
         imprint: named(0x1d),
         level: 4,
     };
     let chains = [LOW, HIGH];
     let led = leads_to(rt.alloc(), &row(&chains), Aggregated { time: 2, item });
-    assert_eq!(rt; led, Ok(true));
+    same(&rt, "item", led, Ok(true));
 }
 
 /// The first check that fails where the given hash is 06 and 26 is published for second 5.
@@ -70,17 +84,19 @@ fn refused(alloc: Global, row: &SignatureRow<'_>) -> Result<Option<Refusal>, Sig
     }
 }
 
-/// What two chains, the lower first, are refused for.
-fn refused_chains(
+fn refuses_chains(
+    rt: &impl Abort,
     alloc: Global,
     low: ChainRow<'_>,
     high: ChainRow<'_>,
-) -> Result<Option<Refusal>, SigFault> {
-    refused(alloc, &row(&[low, high]))
+    want: Refusal,
+) {
+    let answer = refused(alloc, &row(&[low, high]));
+    same(rt, "chains", answer, Ok(Some(want)));
 }
 
 #[test]
-fn refuses_chains_by_their_places(rt: HostRuntime) {
+fn a_part_of_an_index_may_not_differ(rt: HostRuntime) {
     let other = ChainRow {
         index: &[2],
         ..HIGH
@@ -91,6 +107,11 @@ fn refuses_chains_by_their_places(rt: HostRuntime) {
         lower: Some(3),
         higher: Some(2),
     };
+    refuses_chains(&rt, rt.alloc(), LOW, other, order);
+}
+
+#[test]
+fn no_level_is_above_255(rt: HostRuntime) {
     let steep = ChainRow {
         links: &[(Side::Right, 254, 0x0a)],
         ..LOW
@@ -100,20 +121,18 @@ fn refuses_chains_by_their_places(rt: HostRuntime) {
         link: 0,
         level: 258,
     };
+    refuses_chains(&rt, rt.alloc(), steep, HIGH, level);
+}
+
+#[test]
+fn the_chains_are_of_one_time(rt: HostRuntime) {
     let late = ChainRow { time: 3, ..HIGH };
     let times = Refusal::AggregationTimes {
         chain: 1,
         first: 2,
         this: 3,
     };
-    let rows = [
-        (LOW, other, order),
-        (steep, HIGH, level),
-        (LOW, late, times),
-    ];
-    for (low, high, want) in rows {
-        assert_eq!(rt; refused_chains(rt.alloc(), low, high), Ok(Some(want)));
-    }
+    refuses_chains(&rt, rt.alloc(), LOW, late, times);
 }
 
 /// What a calendar chain of these links above the two chains is refused for.
@@ -129,15 +148,33 @@ fn refused_links(alloc: Global, links: &[(Side, u8)]) -> Result<Option<Refusal>,
 
 #[test]
 fn refuses_sides_that_name_no_second(rt: HostRuntime) {
-    let rights = [(Side::Right, 1), (Side::Right, 2), (Side::Right, 3)];
-    let rows: [(&[(Side, u8)], ShapeFault); 2] = [
-        (&rights, ShapeFault::TooMany(2)),
+    const ROWS: [(&[(Side, u8)], ShapeFault); 2] = [
+        (
+            &[(Side::Right, 1), (Side::Right, 2), (Side::Right, 3)],
+            ShapeFault::TooMany(2),
+        ),
         (&[(Side::Left, 1)], ShapeFault::TooFew(3)),
     ];
-    for (links, fault) in rows {
+    for (links, fault) in ROWS {
         let want = Refusal::CalendarShape(fault);
-        assert_eq!(rt; refused_links(rt.alloc(), links), Ok(Some(want)));
+        same(
+            &rt,
+            "links",
+            refused_links(rt.alloc(), links),
+            Ok(Some(want)),
+        );
     }
+}
+
+fn refuses(
+    rt: &impl Abort,
+    alloc: Global,
+    record: Option<(u8, u8)>,
+    published: &[(u8, u8)],
+    want: Refusal,
+) {
+    let verdict = judged_both(alloc, record, published);
+    same(rt, "verdict", verdict, Ok(Verdict::Refused(want)));
 }
 
 #[test]
@@ -146,22 +183,23 @@ fn refuses_what_was_not_published(rt: HostRuntime) {
         record: 6,
         publication: 5,
     };
+    refuses(
+        &rt,
+        rt.alloc(),
+        Some((6, 0x27)),
+        &[],
+        Refusal::RecordDiffers(time),
+    );
+    let none = Refusal::NoPublication { time: 5 };
+    refuses(&rt, rt.alloc(), Some((5, 0x26)), &[(4, 0x26)], none);
+}
+
+#[test]
+fn refuses_what_was_published_otherwise(rt: HostRuntime) {
     let differs = Refusal::PublicationDiffers {
         time: 5,
         in_file: named(0x27),
         computed: named(0x26),
     };
-    let rows: [(Option<(u8, u8)>, &[(u8, u8)], Refusal); 3] = [
-        (Some((6, 0x27)), &[], Refusal::RecordDiffers(time)),
-        (
-            Some((5, 0x26)),
-            &[(4, 0x26)],
-            Refusal::NoPublication { time: 5 },
-        ),
-        (None, &[(5, 0x27), (5, 0x26)], differs),
-    ];
-    for (record, published, want) in rows {
-        let verdict = judged_both(rt.alloc(), record, published);
-        assert_eq!(rt; verdict, Ok(Verdict::Refused(want)));
-    }
+    refuses(&rt, rt.alloc(), None, &[(5, 0x27), (5, 0x26)], differs);
 }

@@ -3,49 +3,45 @@ use crate::plan::START;
 use crate::*;
 use ksi_schedule::print;
 use std::alloc::Global;
+use std::fmt::Debug;
+use std::process::Abort;
 use std::test::Fail;
+
+// The one assertion. The time to prove a function grows with the square of its length.
+fn same<T: Copy + Debug + PartialEq>(rt: &impl Abort, told: T, want: T) {
+    assert_eq!(rt; told, want);
+}
 
 /// The first lines for number 7: its header, the requests that the first two hundred bytes of its stream say, and the
 /// rounds of the aggregators that these come to.
-const FIRST: [&str; 27] = [
-    "ksi-schedule 1",
-    "cores 3",
-    "start 1700000000",
-    "aggregator 0 parent c0",
-    "aggregator 1 parent c1",
-    "aggregator 2 parent c2",
-    "aggregator 3 parent a0",
-    "aggregator 4 parent a1",
-    "aggregator 5 parent a3",
-    "request 4 1700000000 615e7743551ad3e5cfa1b316019c667db5332452352da32206948cb6222d4f07",
-    "request 0 1700000000 cc0d74aa33023bfdfa08a8f7720652609411e8651c72230c04e8d6be6556c8e0",
-    "request 4 1700000000 d2a9681a217624ba068e3c07c8423d20a504ae3eb6980cf76917c245307d8046",
-    "request 3 1700000000 07dddac7b49719480002afa734df0bf6a773a56c6fffe3e7c3dae3837e7ec56e",
-    "close 5 1700000000",
-    "close 3 1700000000",
-    "deliver 0",
-    "close 4 1700000000",
-    "deliver 1",
-    "close 0 1700000000",
-    "deliver 2",
-    "close 1 1700000000",
-    "deliver 3",
-    "close 2 1700000000",
-    "seal 0 1700000000",
-    "seal 1 1700000000",
-    "seal 2 1700000000",
-    "ballot 1 1700000000",
-];
-
-/// The text of these lines.
-fn text_of(alloc: Global, lines: &[&str]) -> Result<Vec<u8>, NoMemory> {
-    let mut text = Vec::new(alloc);
-    'lines: for line in lines {
-        text.extend_from_slice(line.as_bytes())?;
-        text.push(b'\n')?;
-    }
-    Ok(text)
-}
+const FIRST: &str = "ksi-schedule 1
+cores 3
+start 1700000000
+aggregator 0 parent c0
+aggregator 1 parent c1
+aggregator 2 parent c2
+aggregator 3 parent a0
+aggregator 4 parent a1
+aggregator 5 parent a3
+request 4 1700000000 615e7743551ad3e5cfa1b316019c667db5332452352da32206948cb6222d4f07
+request 0 1700000000 cc0d74aa33023bfdfa08a8f7720652609411e8651c72230c04e8d6be6556c8e0
+request 4 1700000000 d2a9681a217624ba068e3c07c8423d20a504ae3eb6980cf76917c245307d8046
+request 3 1700000000 07dddac7b49719480002afa734df0bf6a773a56c6fffe3e7c3dae3837e7ec56e
+close 5 1700000000
+close 3 1700000000
+deliver 0
+close 4 1700000000
+deliver 1
+close 0 1700000000
+deliver 2
+close 1 1700000000
+deliver 3
+close 2 1700000000
+seal 0 1700000000
+seal 1 1700000000
+seal 2 1700000000
+ballot 1 1700000000
+";
 
 /// The most messages that are sent in one second, and how many seconds are published.
 fn counts(alloc: Global, number: u64) -> Result<(u64, usize), NoMemory> {
@@ -63,15 +59,14 @@ fn counts(alloc: Global, number: u64) -> Result<(u64, usize), NoMemory> {
 fn the_text_of_seven_begins_so(rt: HostRuntime) -> Result<(), Fail> {
     let schedule = generate(rt.alloc(), 7)?;
     let text = print(rt.alloc(), &schedule)?;
-    let first = text_of(rt.alloc(), &FIRST)?;
-    assert!(rt; text.as_slice().starts_with(first.as_slice()));
+    same(&rt, text.as_slice().starts_with(FIRST.as_bytes()), true);
     Ok(())
 }
 
 #[test]
 fn every_sixteenth_second_is_published(rt: HostRuntime) -> Result<(), Fail> {
     let (_, published) = counts(rt.alloc(), 7)?;
-    assert_eq!(rt; published, 16);
+    same(&rt, published, 16);
     Ok(())
 }
 
@@ -80,7 +75,7 @@ fn every_sixteenth_second_is_published(rt: HostRuntime) -> Result<(), Fail> {
 fn few_messages_are_sent_in_a_second(rt: HostRuntime) -> Result<(), Fail> {
     for number in [0, 7, u64::MAX] {
         let (most, _) = counts(rt.alloc(), number)?;
-        assert!(rt; most < 500);
+        same(&rt, most < 500, true);
     }
     Ok(())
 }

@@ -10,6 +10,8 @@ mod later_files;
 #[cfg(test)]
 mod runs;
 #[cfg(test)]
+mod same;
+#[cfg(test)]
 mod text;
 #[cfg(test)]
 mod whole_paths;

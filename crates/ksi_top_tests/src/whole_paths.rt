@@ -1,8 +1,10 @@
 // From a schedule to an accepted signature.
-use crate::text::{bytes, ends, expanded, words};
-use ksi_ports::{MemFiles, MemSink};
-use ksi_top::{Status, ksi};
+use crate::same::same;
+use crate::text::{bytes, each_ends, ends, expanded, hold_each};
+use ksi_ports::MemFiles;
+use ksi_top::Status;
 use std::alloc::Global;
+use std::process::Abort;
 use std::test::Fail;
 
 // One request, which is issued and published.
@@ -15,82 +17,65 @@ const CASCADE: &str =
 
 const NO_EVENTS: &str = "ksi-schedule 1\ncores 1\nstart T\n";
 
-// Files of which one is held.
-fn holding(alloc: Global, name: &str, content: &[u8]) -> Result<MemFiles, Fail> {
+// Files of which one is a schedule.
+fn scheduled(alloc: Global, schedule: &str) -> Result<MemFiles, Fail> {
     let mut files = MemFiles::new(alloc, Vec::new(alloc));
-    files.hold(name, content)?;
+    files.hold("f", expanded(alloc, schedule)?.as_bytes())?;
     Ok(files)
 }
 
-// Whether the file has so many bytes and begins with these.
+// A held file.
+fn held<'a>(files: &'a MemFiles, name: &str) -> Result<&'a [u8], Fail> {
+    match files.bytes(name) {
+        Some(held) => Ok(held),
+        None => Err(Fail::from("a file is not held")),
+    }
+}
+
+// The file has so many bytes and begins with these.
 fn holds(
+    rt: &impl Abort,
     alloc: Global,
     files: &MemFiles,
     name: &str,
     size: usize,
     front: &str,
-) -> Result<bool, Fail> {
+) -> Result<(), Fail> {
     let front = bytes(alloc, front)?;
-    match files.bytes(name) {
-        Some(held) => Ok(held.len() == size && held.starts_with(&front)),
-        None => Ok(false),
-    }
+    let held = held(files, name)?;
+    same(rt, name, held.len(), size);
+    same(rt, name, held.starts_with(&front), true);
+    Ok(())
 }
 
-// The first line that does not end as is said behind it, the lines being run one after the other.
-fn first_wrong<'a>(
-    alloc: Global,
-    files: &mut MemFiles,
-    rows: &'a [(&'a str, Status, &'a str)],
-) -> Result<Option<&'a str>, Fail> {
-    for (line, status, put) in rows {
-        if !ends(alloc, files, line, (*status, put))? {
-            return Ok(Some(line));
-        }
-    }
-    Ok(None)
-}
+const REPLAYED: &str = "replay f j = events 12 messages 7 seconds 1 issued 1 published 1
+sign j 0 s = signed 0
+publish j p = published 1";
+
+const ACCEPTED: &str = "verify s A p = accepted T
+audit j s A p = inside T -";
+
+const NOT_SIGNED: &str = "verify s B p = refused V1 A B
+sign j 1 s = not issued 1";
 
 // The file of a schedule, and what is replayed, signed and published of it.
-fn run(alloc: Global, schedule: &str) -> Result<MemFiles, Fail> {
-    let schedule = expanded(alloc, schedule)?;
-    let mut files = holding(alloc, "f", schedule.as_bytes())?;
-    for line in ["replay f j", "sign j 0 s", "publish j p"] {
-        let mut out = MemSink::new(alloc, 32_767, Vec::new(alloc))?;
-        if ksi(alloc, &words(alloc, line)?, &mut files, &mut out) != Status::Done {
-            return Err(Fail::from("not run"));
-        }
-    }
+fn replayed(rt: &impl Abort, alloc: Global) -> Result<MemFiles, Fail> {
+    let mut files = scheduled(alloc, ONE_REQUEST)?;
+    each_ends(rt, alloc, &mut files, Status::Done, REPLAYED)?;
     Ok(files)
 }
 
 #[test]
 fn a_schedule_becomes_an_accepted_signature(rt: HostRuntime) -> Result<(), Fail> {
-    let alloc = rt.alloc();
-    let schedule = expanded(alloc, ONE_REQUEST)?;
-    let mut files = holding(alloc, "f", schedule.as_bytes())?;
-    let rows = [
-        (
-            "replay f j",
-            Status::Done,
-            "events 12 messages 7 seconds 1 issued 1 published 1",
-        ),
-        ("sign j 0 s", Status::Done, "signed 0"),
-        ("publish j p", Status::Done, "published 1"),
-        ("verify s A p", Status::Done, "accepted T"),
-        ("audit j s A p", Status::Done, "inside T -"),
-        ("verify s B p", Status::Refused, "refused V1 A B"),
-        ("sign j 1 s", Status::Refused, "not issued 1"),
-    ];
-    assert_eq!(rt; first_wrong(alloc, &mut files, &rows)?, None);
-    Ok(())
+    let mut files = replayed(&rt, rt.alloc())?;
+    each_ends(&rt, rt.alloc(), &mut files, Status::Done, ACCEPTED)?;
+    each_ends(&rt, rt.alloc(), &mut files, Status::Refused, NOT_SIGNED)
 }
 
 #[test]
 fn its_files_are_known(rt: HostRuntime) -> Result<(), Fail> {
-    let alloc = rt.alloc();
-    let files = run(alloc, ONE_REQUEST)?;
-    let rows = [
+    let files = replayed(&rt, rt.alloc())?;
+    const FRONTS: [(&str, usize, &str); 3] = [
         (
             "j",
             766,
@@ -103,18 +88,15 @@ fn its_files_are_known(rt: HostRuntime) -> Result<(), Fail> {
         ),
         ("p", 68, "4b53495055424c46 8701"),
     ];
-    for (name, size, front) in rows {
-        assert!(rt; holds(alloc, &files, name, size, front)?, "{name}");
+    for (name, size, front) in FRONTS {
+        holds(&rt, rt.alloc(), &files, name, size, front)?;
     }
     Ok(())
 }
 
 // Under "l" the file "s" with a byte behind it, under "m" without its last one.
 fn hold_others(alloc: Global, files: &mut MemFiles) -> Result<(), Fail> {
-    let mut signature = match files.bytes("s") {
-        Some(held) => held.to_vec(alloc)?,
-        None => return Err(Fail::from("no signature was saved")),
-    };
+    let mut signature = held(files, "s")?.to_vec(alloc)?;
     signature.push(0)?;
     files.hold("l", &signature)?;
     signature.pop();
@@ -123,60 +105,58 @@ fn hold_others(alloc: Global, files: &mut MemFiles) -> Result<(), Fail> {
     Ok(())
 }
 
+const OTHERS: &str = "verify l A p = malformed 1 S2 615
+verify m A p = malformed 1 S1 0";
+
 #[test]
 fn no_byte_may_be_more_or_less(rt: HostRuntime) -> Result<(), Fail> {
-    let alloc = rt.alloc();
-    let mut files = run(alloc, ONE_REQUEST)?;
-    hold_others(alloc, &mut files)?;
-    let rows = [
-        ("verify l A p", Status::Malformed, "malformed 1 S2 615"),
-        ("verify m A p", Status::Malformed, "malformed 1 S1 0"),
-    ];
-    assert_eq!(rt; first_wrong(alloc, &mut files, &rows)?, None);
-    Ok(())
+    let mut files = replayed(&rt, rt.alloc())?;
+    hold_others(rt.alloc(), &mut files)?;
+    each_ends(&rt, rt.alloc(), &mut files, Status::Malformed, OTHERS)
 }
+
+const BENEATH: &str = "replay f j = events 16 messages 9 seconds 1 issued 2 published 1
+sign j 0 s = signed 0
+publish j p = published 1
+verify s A p = accepted T
+audit j s A p = beneath T 0 1
+extend j s T t = extended T T
+audit j t A p = beneath T 0 1
+sign j 1 s = signed 1
+audit j s B p = beneath T 0 1";
 
 #[test]
 fn a_lower_request_is_beneath_a_submission(rt: HostRuntime) -> Result<(), Fail> {
-    let alloc = rt.alloc();
-    let mut files = run(alloc, CASCADE)?;
-    let rows = [
-        ("verify s A p", Status::Done, "accepted T"),
-        ("audit j s A p", Status::Done, "beneath T 0 1"),
-        ("extend j s T t", Status::Done, "extended T T"),
-        ("audit j t A p", Status::Done, "beneath T 0 1"),
-        ("sign j 1 s", Status::Done, "signed 1"),
-        ("audit j s B p", Status::Done, "beneath T 0 1"),
-    ];
-    assert_eq!(rt; first_wrong(alloc, &mut files, &rows)?, None);
-    Ok(())
+    let mut files = scheduled(rt.alloc(), CASCADE)?;
+    each_ends(&rt, rt.alloc(), &mut files, Status::Done, BENEATH)
 }
+
+const NOTHING: &str = "replay f j = events 0 messages 0 seconds 0 issued 0 published 0
+publish j p = published 0";
 
 #[test]
 fn without_events_nothing_is_kept(rt: HostRuntime) -> Result<(), Fail> {
-    let alloc = rt.alloc();
-    let schedule = expanded(alloc, NO_EVENTS)?;
-    let mut files = holding(alloc, "f", schedule.as_bytes())?;
-    let rows = [
-        (
-            "replay f j",
-            Status::Done,
-            "events 0 messages 0 seconds 0 issued 0 published 0",
-        ),
-        ("publish j p", Status::Done, "published 0"),
+    let mut files = scheduled(rt.alloc(), NO_EVENTS)?;
+    each_ends(&rt, rt.alloc(), &mut files, Status::Done, NOTHING)?;
+    const WHOLE: [(&str, usize, &str); 2] = [
+        ("j", 16, "4b53494a524e4c31 01046553f100 0600"),
+        ("p", 17, "4b53495055424c46 87010005 010101 0200"),
     ];
-    assert_eq!(rt; first_wrong(alloc, &mut files, &rows)?, None);
-    let journal = "4b53494a524e4c31 01046553f100 0600";
-    assert!(rt; holds(alloc, &files, "j", 16, journal)?);
-    let publications = "4b53495055424c46 87010005 010101 0200";
-    assert!(rt; holds(alloc, &files, "p", 17, publications)?);
+    for (name, size, front) in WHOLE {
+        holds(&rt, rt.alloc(), &files, name, size, front)?;
+    }
     Ok(())
+}
+
+fn is_malformed(rt: &impl Abort, alloc: Global, schedule: &str, put: &str) -> Result<(), Fail> {
+    let mut files = scheduled(alloc, schedule)?;
+    let said = (Status::Malformed, put);
+    ends(rt, alloc, &mut files, "replay f j", said)
 }
 
 #[test]
 fn faults_of_schedules_are_told(rt: HostRuntime) -> Result<(), Fail> {
-    let alloc = rt.alloc();
-    let rows = [
+    const ROWS: [(&str, &str); 3] = [
         ("x", "malformed 1 L7 1"),
         (
             "ksi-schedule 1\ncores 1\nstart T\naggregator 0 parent c0\nrequest 1 T A",
@@ -187,30 +167,23 @@ fn faults_of_schedules_are_told(rt: HostRuntime) -> Result<(), Fail> {
             "malformed 1 L5 5",
         ),
     ];
-    for (schedule, put) in rows {
-        let schedule = expanded(alloc, schedule)?;
-        let mut files = holding(alloc, "f", schedule.as_bytes())?;
-        let said = (Status::Malformed, put);
-        assert!(rt; ends(alloc, &mut files, "replay f j", said)?, "{put}");
+    for (schedule, put) in ROWS {
+        is_malformed(&rt, rt.alloc(), schedule, put)?;
     }
     Ok(())
 }
 
+const JOURNALS: &str = "short = 4b53494a524e4c31
+long = 4b53494a524e4c31 01046553f100 0600 00
+other = 4b53494a524e4c31 01046553f100 022c 01046553f100 022101A 030101 032201B00";
+
+const FAULTS: &str = "sign short 0 s = malformed 1 J8 8
+sign long 0 s = malformed 1 J8 16
+sign other 0 s = malformed 1 J4 T A B";
+
 #[test]
 fn faults_of_journals_are_told(rt: HostRuntime) -> Result<(), Fail> {
-    let alloc = rt.alloc();
-    let rows = [
-        ("4b53494a524e4c31", "malformed 1 J8 8"),
-        ("4b53494a524e4c31 01046553f100 0600 00", "malformed 1 J8 16"),
-        (
-            "4b53494a524e4c31 01046553f100 022c 01046553f100 022101A 030101 032201B00",
-            "malformed 1 J4 T A B",
-        ),
-    ];
-    for (journal, put) in rows {
-        let mut files = holding(alloc, "j", &bytes(alloc, journal)?)?;
-        let said = (Status::Malformed, put);
-        assert!(rt; ends(alloc, &mut files, "sign j 0 s", said)?, "{put}");
-    }
-    Ok(())
+    let mut files = MemFiles::new(rt.alloc(), Vec::new(rt.alloc()));
+    hold_each(rt.alloc(), &mut files, JOURNALS)?;
+    each_ends(&rt, rt.alloc(), &mut files, Status::Malformed, FAULTS)
 }

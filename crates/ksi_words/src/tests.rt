@@ -1,6 +1,14 @@
 use crate::{Command, WordsRefusal, command, hash, number, time};
+use ksi_imprint::Imprint;
 use std::alloc::Global;
+use std::fmt::{Debug, Display};
+use std::process::Abort;
 use std::test::Fail;
+
+// The one assertion. The time to prove a function grows with the square of its length.
+fn same<T: Copy + Debug + PartialEq>(rt: &impl Abort, at: &str, told: T, want: T) {
+    assert_eq!(rt; told, want, "{at}");
+}
 
 const DIGITS: &str = "e3b0c44298fc1c149afbf4c8996fb92427ae41e4649b934ca495991b7852b855";
 
@@ -28,189 +36,186 @@ fn words(alloc: Global, line: &str) -> Result<Vec<String>, Fail> {
     Ok(words)
 }
 
-// What is asked, with `#` for the hash of DIGITS.
+// `#` for the hash of DIGITS.
+fn sign(imprint: &Imprint) -> &'static str {
+    match hash(DIGITS) {
+        Some(other) if other == *imprint => "#",
+        _ => "other",
+    }
+}
+
+fn two(alloc: Global, name: &str, one: impl Copy + Display, two: &str) -> Result<String, Fail> {
+    Ok(format!(in alloc; "{name} {one} {two}")?)
+}
+
+fn three(
+    alloc: Global,
+    name: &str,
+    one: &str,
+    two: impl Copy + Display,
+    three: &str,
+) -> Result<String, Fail> {
+    Ok(format!(in alloc; "{name} {one} {two} {three}")?)
+}
+
+fn four(
+    alloc: Global,
+    name: &str,
+    one: &str,
+    two: &str,
+    three: impl Copy + Display,
+    four: &str,
+) -> Result<String, Fail> {
+    Ok(format!(in alloc; "{name} {one} {two} {three} {four}")?)
+}
+
+// What is asked.
 fn told(alloc: Global, command: &Command<'_>) -> Result<String, Fail> {
     match command {
-        Command::Replay(schedule, journal) => {
-            Ok(format!(in alloc; "replay {schedule} {journal}")?)
-        }
-        Command::Sign(journal, number, out) => {
-            Ok(format!(in alloc; "sign {journal} {number} {out}")?)
-        }
-        Command::Publish(journal, out) => Ok(format!(in alloc; "publish {journal} {out}")?),
+        Command::Replay(schedule, journal) => two(alloc, "replay", *schedule, journal),
+        Command::Sign(journal, number, out) => three(alloc, "sign", journal, *number, out),
+        Command::Publish(journal, out) => two(alloc, "publish", *journal, out),
         Command::Extend(journal, signature, second, out) => {
-            Ok(format!(in alloc; "extend {journal} {signature} {second} {out}")?)
+            four(alloc, "extend", journal, signature, *second, out)
         }
         Command::Verify(signature, imprint, publications) => {
-            let digits = match hash(DIGITS) {
-                Some(other) if other == *imprint => "#",
-                _ => "other",
-            };
-            Ok(format!(in alloc; "verify {signature} {digits} {publications}")?)
+            three(alloc, "verify", signature, sign(imprint), publications)
         }
         Command::Audit(journal, signature, imprint, publications) => {
-            let digits = match hash(DIGITS) {
-                Some(other) if other == *imprint => "#",
-                _ => "other",
-            };
-            Ok(format!(in alloc; "audit {journal} {signature} {digits} {publications}")?)
+            four(
+                alloc,
+                "audit",
+                journal,
+                signature,
+                sign(imprint),
+                publications,
+            )
         }
-        Command::Make(number, out) => Ok(format!(in alloc; "make {number} {out}")?),
+        Command::Make(number, out) => two(alloc, "make", *number, out),
         Command::Drill(number) => Ok(format!(in alloc; "drill {number}")?),
+    }
+}
+
+fn refused(alloc: Global, refusal: WordsRefusal) -> Result<String, Fail> {
+    match refusal {
+        WordsRefusal::Words => Ok(String::from_str(alloc, "words refused")?),
+        WordsRefusal::BadWord(n) => Ok(format!(in alloc; "bad word {n}")?),
+        WordsRefusal::NoMemory => Err(Fail::from("no memory")),
     }
 }
 
 fn answer(alloc: Global, words: &[String]) -> Result<String, Fail> {
     match command(alloc, words) {
         Ok(command) => told(alloc, &command),
-        Err(WordsRefusal::Words) => Ok(String::from_str(alloc, "words refused")?),
-        Err(WordsRefusal::BadWord(n)) => Ok(format!(in alloc; "bad word {n}")?),
-        Err(WordsRefusal::NoMemory) => Err(Fail::from("no memory")),
+        Err(refusal) => refused(alloc, refusal),
     }
 }
 
-#[test]
-fn each_line_of_words_has_its_answer(rt: HostRuntime) -> Result<(), Fail> {
-    let alloc = rt.alloc();
-    let rows = [
-        ("replay f j", "replay f j"),
-        ("replay f", "words refused"),
-        ("replay f j 1", "words refused"),
-        ("sign j 007 s", "sign j 7 s"),
-        (
-            "sign j 18446744073709551615 s",
-            "sign j 18446744073709551615 s",
-        ),
-        ("sign j 18446744073709551616 s", "bad word 2"),
-        ("sign j 1", "words refused"),
-        ("sign j -1 s", "words refused"),
-        ("publish j p", "publish j p"),
-        ("publish j", "words refused"),
-        (
-            "extend j s 9223372036854775807 t",
-            "extend j s 9223372036854775807 t",
-        ),
-        ("extend j s 9223372036854775808 t", "bad word 3"),
-        ("extend j s # t", "bad word 3"),
-        ("extend j s 1", "words refused"),
-        ("make 007 f", "make 7 f"),
-        ("make f 7", "bad word 1"),
-        ("make 7", "words refused"),
-        ("drill 18446744073709551615", "drill 18446744073709551615"),
-        ("drill 18446744073709551616", "bad word 1"),
-        ("drill", "words refused"),
-        ("drill 7 f", "words refused"),
-        ("verify s # p", "verify s # p"),
-        ("verify s ^ p", "verify s # p"),
-        ("verify verify # help", "verify verify # help"),
-        ("verify s-- # p=-", "verify s-- # p=-"),
-        ("verify  # ", "verify  # "),
-        ("verify 0 # 1", "verify 0 # 1"),
-        ("verify s 12 p", "bad word 2"),
-        ("verify s #0 p", "bad word 2"),
-        (
-            "verify s e3b0c44298fc1c149afbf4c8996fb92427ae41e4649b934ca495991b7852b85 p",
-            "bad word 2",
-        ),
-        (
-            "verify s e3b0c44298fc1c149afbf4c8996fb92427ae41e4649b934ca495991b7852b85g p",
-            "bad word 2",
-        ),
-        ("verify s  p", "bad word 2"),
-        ("", "words refused"),
-        ("verify", "words refused"),
-        ("verify s", "words refused"),
-        ("verify s 12", "words refused"),
-        ("verify s #", "words refused"),
-        ("verify s # p q", "words refused"),
-        ("verify s # p q r s t", "words refused"),
-        ("verify s 12 p q", "words refused"),
-        ("Verify s # p", "words refused"),
-        ("verif s # p", "words refused"),
-        ("verifys s # p", "words refused"),
-        ("ksi verify s # p", "words refused"),
-        ("help", "words refused"),
-        ("help verify", "words refused"),
-        ("audit j s # p", "audit j s # p"),
-        ("audit j s 12 p", "bad word 3"),
-        ("audit j s #", "words refused"),
-        ("audit j s # p q", "words refused"),
-        (" verify s # p", "words refused"),
-        ("-", "words refused"),
-        ("--", "words refused"),
-        ("--help", "words refused"),
-        ("--version", "words refused"),
-        ("-h", "words refused"),
-        ("-- verify s # p", "words refused"),
-        ("-verify s # p", "words refused"),
-        ("verify - # p", "words refused"),
-        ("verify -s # p", "words refused"),
-        ("verify s -# p", "words refused"),
-        ("verify s 12 -", "words refused"),
-        ("verify s # --", "words refused"),
-        ("verify s # -p", "words refused"),
-        ("verify s # --help", "words refused"),
-        ("verify -- s # p", "words refused"),
-        ("verify s # p --", "words refused"),
-    ];
-    for (line, told) in rows {
-        let words = words(alloc, line)?;
-        assert_eq!(rt; answer(alloc, &words)?.as_str(), told);
+fn is_told(rt: &impl Abort, alloc: Global, line: &str, want: &str) -> Result<(), Fail> {
+    let words = words(alloc, line)?;
+    let answer = answer(alloc, &words)?;
+    same(rt, line, answer.as_str(), want);
+    Ok(())
+}
+
+fn each_is_told(rt: &impl Abort, alloc: Global, lines: &str, want: &str) -> Result<(), Fail> {
+    for line in lines.split(';') {
+        is_told(rt, alloc, line, want)?;
     }
-    let none: Vec<String> = Vec::new(alloc);
-    assert_eq!(rt; answer(alloc, &none)?.as_str(), "words refused");
+    Ok(())
+}
+
+// What is asked just as it stands.
+const ASKED: &str =
+    "replay f j;sign j 18446744073709551615 s;publish j p;extend j s 9223372036854775807 t;drill 18446744073709551615;verify s # p;verify verify # help;verify s-- # p=-;verify  # ;verify 0 # 1;audit j s # p";
+
+#[test]
+fn each_command_is_told(rt: HostRuntime) -> Result<(), Fail> {
+    for line in ASKED.split(';') {
+        is_told(&rt, rt.alloc(), line, line)?;
+    }
+    is_told(&rt, rt.alloc(), "sign j 007 s", "sign j 7 s")?;
+    is_told(&rt, rt.alloc(), "make 007 f", "make 7 f")?;
+    is_told(&rt, rt.alloc(), "verify s ^ p", "verify s # p")
+}
+
+const BAD_FIRST: &str = "make f 7;drill 18446744073709551616";
+
+const BAD_SECOND: &str =
+    "sign j 18446744073709551616 s;verify s 12 p;verify s #0 p;verify s  p;verify s e3b0c44298fc1c149afbf4c8996fb92427ae41e4649b934ca495991b7852b85 p;verify s e3b0c44298fc1c149afbf4c8996fb92427ae41e4649b934ca495991b7852b85g p";
+
+const BAD_THIRD: &str = "extend j s 9223372036854775808 t;extend j s # t;audit j s 12 p";
+
+#[test]
+fn each_bad_word_is_told(rt: HostRuntime) -> Result<(), Fail> {
+    each_is_told(&rt, rt.alloc(), BAD_FIRST, "bad word 1")?;
+    each_is_told(&rt, rt.alloc(), BAD_SECOND, "bad word 2")?;
+    each_is_told(&rt, rt.alloc(), BAD_THIRD, "bad word 3")
+}
+
+// Too few or too many words.
+const COUNTS: &str =
+    ";replay f;replay f j 1;sign j 1;publish j;extend j s 1;make 7;drill;drill 7 f;verify;verify s;verify s 12;verify s #;verify s # p q;verify s # p q r s t;verify s 12 p q;audit j s #;audit j s # p q";
+
+// Names of no command.
+const NAMES: &str =
+    "Verify s # p;verif s # p;verifys s # p;ksi verify s # p;help;help verify; verify s # p";
+
+// Words that begin with a dash.
+const DASHES: &str =
+    "sign j -1 s;-;--;--help;--version;-h;-- verify s # p;-verify s # p;verify - # p;verify -s # p;verify s -# p;verify s 12 -;verify s # --;verify s # -p;verify s # --help;verify -- s # p;verify s # p --";
+
+#[test]
+fn each_other_line_is_refused(rt: HostRuntime) -> Result<(), Fail> {
+    for lines in [COUNTS, NAMES, DASHES] {
+        each_is_told(&rt, rt.alloc(), lines, "words refused")?;
+    }
+    let none: Vec<String> = Vec::new(rt.alloc());
+    let answer = answer(rt.alloc(), &none)?;
+    same(&rt, "no word", answer.as_str(), "words refused");
     Ok(())
 }
 
 #[test]
 fn numbers_have_1_to_20_digits(rt: HostRuntime) {
-    let rows = [
-        ("0", Some(0)),
-        ("00000000000000000007", Some(7)),
-        ("42", Some(42)),
-        ("9223372036854775807", Some(9_223_372_036_854_775_807)),
-        ("9223372036854775808", Some(9_223_372_036_854_775_808)),
-        ("18446744073709551615", Some(u64::MAX)),
-        ("18446744073709551616", None),
-        ("99999999999999999999", None),
-        ("000000000000000000007", None),
-        ("018446744073709551615", None),
-        ("", None),
-        ("+1", None),
-        ("-1", None),
-        (" 1", None),
-        ("1 ", None),
-        ("1a", None),
-        ("0x1", None),
-        ("1_000", None),
-        ("\u{661}", None),
+    const ROWS: [(&str, u64); 6] = [
+        ("0", 0),
+        ("00000000000000000007", 7),
+        ("42", 42),
+        ("9223372036854775807", 9_223_372_036_854_775_807),
+        ("9223372036854775808", 9_223_372_036_854_775_808),
+        ("18446744073709551615", u64::MAX),
     ];
-    for (word, told) in rows {
-        assert_eq!(rt; number(word), told);
+    for (word, told) in ROWS {
+        same(&rt, word, number(word), Some(told));
+    }
+}
+
+#[test]
+fn other_words_are_no_numbers(rt: HostRuntime) {
+    const WORDS: &str =
+        "18446744073709551616;99999999999999999999;000000000000000000007;018446744073709551615;;+1;-1; 1;1 ;1a;0x1;1_000;\u{661}";
+    for word in WORDS.split(';') {
+        same(&rt, word, number(word), None);
     }
 }
 
 #[test]
 fn times_are_numbers_below_2_to_the_63(rt: HostRuntime) {
-    let rows = [
-        ("0", Some(0)),
-        ("09223372036854775807", Some(9_223_372_036_854_775_807)),
-        ("9223372036854775808", None),
-        ("18446744073709551615", None),
-        ("18446744073709551616", None),
-        ("000000000000000000007", None),
-        ("+1", None),
-        ("", None),
-    ];
-    for (word, told) in rows {
-        assert_eq!(rt; time(word), told);
+    const MOST: u64 = 9_223_372_036_854_775_807;
+    same(&rt, "0", time("0"), Some(0));
+    same(&rt, "most", time("09223372036854775807"), Some(MOST));
+    const WORDS: &str =
+        "9223372036854775808;18446744073709551615;18446744073709551616;000000000000000000007;+1;";
+    for word in WORDS.split(';') {
+        same(&rt, word, time(word), None);
     }
 }
 
 #[test]
 fn a_hash_has_64_hex_digits(rt: HostRuntime) {
-    assert!(rt; hash(DIGITS).is_some());
-    assert!(rt; hash(CAPITALS) == hash(DIGITS));
-    assert!(rt; hash("12").is_none());
-    assert!(rt; hash("").is_none());
+    same(&rt, "digits", hash(DIGITS).is_some(), true);
+    same(&rt, "capitals", hash(CAPITALS), hash(DIGITS));
+    same(&rt, "12", hash("12"), None);
+    same(&rt, "", hash(""), None);
 }
