@@ -10,9 +10,11 @@ ghost use Rattle.ksi_signature.specs.Carried.{MayBeIssued};
 ghost use Rattle.ksi_world.specs.Joined.{IsRootOf, IsJoined};
 ghost use Rattle.ksi_world.specs.Records.{issued_of, issued_all, kept_root};
 ghost use Rattle.ksi_world.specs.Validity.{IsProposed};
+ghost use Rattle.ksi_world.specs.Wire.{ResponsesClimb};
 
 use ksi_aggchain::laws::levels_rise;
 use ksi_aggtree::laws::{one_chain, one_round};
+use ksi_calendar::laws::one_chain as calendar_chain;
 use ksi_imprint::Imprint;
 use ksi_split::trees::one_path;
 use ksi_synod::laws::steps_agree;
@@ -90,4 +92,20 @@ pub fn issued_is_carried()
     levels_rise();
     one_path::<Imprint>();
     steps_agree();
+}
+
+/// Each Response that was ever sent leads from the item of its addressee's round to a root that is held: the aggregation
+/// chains climb from that item, at its level, to the root; a core holds it for this second, as the sender does where that is
+/// a core; and the calendar chain leads on from there to the root of the calendar to this second. It is never the zero
+/// imprint. There are at most 8 chains of at most 16 links, at levels to 144.
+pub fn responses_climb()
+    ensures { (image : List ℕ → List ℕ) (history : History) → ((bytes : List ℕ) → IsImprint (image bytes)) →
+        IsPlan history.plan → AreEvents history.plan history.events → AskForImprints history.events →
+        ResponsesClimb image history.plan (world_of image history) }
+{
+    one_round();
+    one_chain();
+    levels_rise();
+    calendar_chain();
+    one_path::<Imprint>();
 }
