@@ -33,3 +33,5 @@ pub mod IssuedJoined
 pub mod Imprinted
 pub mod Carrying
 pub mod IssuedCarried
+pub mod KeptOf
+pub mod Counting
