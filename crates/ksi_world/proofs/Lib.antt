@@ -35,3 +35,5 @@ pub mod Carrying
 pub mod IssuedCarried
 pub mod Wiring
 pub mod Beyond
+pub mod KeptOf
+pub mod Counting
