@@ -1,5 +1,5 @@
 -- The elements of a journal in their order: what each says behind those before it, or its fault.
-use Rattle.std.specs.Prelude.{◌≡◌, ◌⊎◌, IsOk, ℕ, ◌+◌, ◌-◌, ◌==◌, ◌&&◌, nat_le, List, [], ◌∷◌, ◌++◌, length, take, slice_index, Bool, true, false, Result, Ok, Err, if◌then◌else◌}
+use Rattle.std.specs.Prelude.{◌<◌, IsOk, ℕ, ◌+◌, ◌-◌, ◌==◌, ◌&&◌, nat_le, List, [], ◌∷◌, ◌++◌, length, take, slice_index, Bool, true, false, Result, Ok, Err, if◌then◌else◌}
 use Rattle.std.specs.Str.{bytes_eq}
 use Rattle.ksi_imprint.specs.declared.fault.ImprintFault.{ImprintFault}
 use Rattle.ksi_imprint.specs.Imprints.{zero_imprint}
@@ -187,12 +187,9 @@ element_read image s at =
     else if at.element.kind == 5 then publication_at s at
     else end_at s at
 
--- What memory may be wanting for: a second, an item, an issued signature or a publication, which has no fault of its own.
--- Whether the tree of a second has its root is told only once all its items are kept.
-abbrev pub WantsFor : Loaded → PlacedTlv → Type 0
-WantsFor s at =
-    ((at.element.kind ≡ 2) × IsOk (second_at s at)) ⊎ (((at.element.kind ≡ 3) × IsOk (item_in at))
-    ⊎ (((at.element.kind ≡ 4) × IsOk (issued_at s at)) ⊎ ((at.element.kind ≡ 5) × IsOk (publication_at s at))))
+-- what memory may be wanting for: an element other than the start that has no fault
+abbrev pub WantsFor : (List ℕ → List ℕ) → Loaded → PlacedTlv → Type 0
+WantsFor image s at = (1 < at.element.kind) × IsOk (element_read image s at)
 
 abbrev pub journal_order : (List ℕ → List ℕ) → Order Loaded JournalFault
 journal_order image = record {

@@ -33,8 +33,8 @@ pub record IsFaultInside (image : List ℕ → List ℕ) (bytes : List ℕ) (fau
 abbrev pub IsJournalFault : (List ℕ → List ℕ) → List ℕ → JournalFault → Type 0
 IsJournalFault image bytes fault = IsOtherFile bytes fault ⊎ IsFaultInside image bytes fault
 
--- memory was wanting for one of the elements behind the magic, before which there is no fault
+-- memory was wanting for an element behind the start, up to which there is no fault
 pub record IsWantingInside (image : List ℕ → List ℕ) (bytes : List ℕ) : Type 0 where
   pub rest : List ℕ
   pub begins : bytes ≡ magic ++ rest
-  pub inside : IsWanting (journal_order image) WantsFor (elements 8 rest) nothing_yet
+  pub inside : IsWanting (journal_order image) (WantsFor image) (elements 8 rest) nothing_yet

@@ -20,8 +20,8 @@ pub(crate) const MAGIC: &[u8; 8] = b"KSIJRNL1";
 /// Loads a journal, whose trees it computes.
 ///
 /// # Errors
-/// The first fault in order of bytes, or `NoMemory`: only for an element behind the start that has no fault of its own, and
-/// before which there is none, or where the bytes are a journal.
+/// The first fault in order of bytes, or `NoMemory`: only for an element behind the start that has no fault, and before
+/// which there is none, or where the bytes are a journal.
 pub fn load<C: Compress>(alloc: Global, bytes: &[u8]) -> Result<Journal<C>, JournalFault>
     ensures journal { IfOk result (λ journal. IsJournalFile C.image bytes.now journal) }
     ensures fault { IfErr result (λ fault.
@@ -61,7 +61,7 @@ fn parts_in<C: Compress>(alloc: Global, rest: &[u8]) -> Result<Parts, JournalFau
     ensures fault { IfErr result (λ fault. (fault ≡ answers.NoMemory)
         ⊎ IsFirstFault (journal_order C.image) (8 + length rest.now) (elements 8 rest.now) nothing_yet fault) }
     ensures memory { result ≡ Err answers.NoMemory →
-        IsWanting (journal_order C.image) WantsFor (elements 8 rest.now) nothing_yet }
+        IsWanting (journal_order C.image) (WantsFor C.image) (elements 8 rest.now) nothing_yet }
 {
     values_are_bounded();
     let mut loading = Loading::<C>::new(alloc);
