@@ -65,9 +65,9 @@ module _ (image : List ℕ → List ℕ) (s : Loaded) (at : PlacedTlv) where
   unfolding item_at
   item_other = bind_other (or_named (item_in at)) (λ item. added image s (with_item s.current item) (s.left - 1)) (or_named_other (item_in at))
       (λ item. let kept : Second = with_item s.current item in
-          cond_other (eqb (s.left - 1) 0) (finished image s kept) (Ok (record s { current = kept; left = s.left - 1 }))
-          (cond_other (bytes_eq (tree_of image kept.items).imprint kept.root) (Ok (closed s kept)) (Err (faults.TreeRoot kept.second kept.root (tree_of image kept.items).imprint)) (ok_other _) (root_other kept.second kept.root (tree_of image kept.items).imprint _ refl))
-          (ok_other _))
+      cond_other (eqb (s.left - 1) 0) (finished image s kept) (Ok (record s { current = kept; left = s.left - 1 }))
+      (cond_other (bytes_eq (tree_of image kept.items).imprint kept.root) (Ok (closed s kept)) (Err (faults.TreeRoot kept.second kept.root (tree_of image kept.items).imprint)) (ok_other _) (root_other kept.second kept.root (tree_of image kept.items).imprint _ refl))
+      (ok_other _))
 
   issued_other : Other (issued_at s at)
   unfolding issued_at

@@ -49,7 +49,11 @@ fn leaf(items: &[Item], last: &Item, place: usize) -> Item
     ensures item { result ≡ item_at (items.now ++ last.now ∷ []) place }
     ensures level { result.level ≤ 239 }
 {
-    if place < items.len() { items[place] } else { *last }
+    if place < items.len() {
+        items[place]
+    } else {
+        *last
+    }
 }
 
 /// How many of the items stand in the left part.
