@@ -13,7 +13,9 @@ ghost use Rattle.ksi_world.specs.Histories.{world_of};
 ghost use Rattle.ksi_facts.specs.Seen.{seen};
 ghost use Rattle.ksi_facts.specs.Deeds.{Deed, of_second, deeds, facts, open_items, tried_ballot};
 ghost use Rattle.ksi_facts.specs.Since.{since};
-ghost use Rattle.ksi_facts.specs.Recalled.{own_candidate, IsKept, IsKeptRound, IsInHand, IsRecalled};
+ghost use Rattle.ksi_facts.specs.State.{own_candidate, world_by};
+ghost use Rattle.ksi_facts.specs.Steps.{IsStepByFacts};
+ghost use Rattle.ksi_facts.specs.Recalled.{IsKept, IsKeptRound, IsInHand, IsRecalled};
 
 /// Facts are only added, whatever happens later, and a restart adds none.
 pub fn facts_only_grow()
@@ -63,8 +65,22 @@ pub fn hand_is_since()
         ((world_of image history).seconds core second).vote.hand }
 {}
 
-/// All of these together: whatever an actor keeps after a history is what was seen of it, and its facts are those of each
-/// earlier moment and more.
+/// The world after a history is the one that is read off what was seen of it: each second and each round, the wire, the
+/// requests and the publications.
+pub fn world_is_seen()
+    ensures { (image : List ℕ → List ℕ) (history : History) → IsPlan history.plan →
+        world_of image history ≡ world_by image history.plan (seen image history.plan history.events) }
+{}
+
+/// The answer of each event, the facts that it adds and the messages that it sends are those of its row of the step table,
+/// for the state that is read off the facts before it and what came since.
+pub fn step_is_by_facts()
+    ensures { (image : List ℕ → List ℕ) (plan : PlanState) → IsPlan plan → (before : List Event) (event : Event) →
+        IsStepByFacts image plan before event }
+{}
+
+/// All of these together: whatever an actor keeps after a history is what was seen of it, each step is the one of the table
+/// over what was seen before it, and an actor's facts are those of each earlier moment and more.
 pub fn history_is_recalled()
     ensures { (image : List ℕ → List ℕ) (history : History) → IsPlan history.plan → IsRecalled image history }
 {}
