@@ -1,7 +1,7 @@
 -- Each row's deeds have the facts that the row adds to what is kept.
-use Rattle.std.proofs.Common.{◌≡◌, ℕ, ◌+◌, ◌*◌, ◌/◌, ◌<◌, ◌≤◌, Bool, true, false, cond, is_some, ◌&&◌, eqb, ltb, max, List, [], ◌∷◌, ◌++◌, map, refl, sym, ap, subst, ◌∙◌, arith, Option, Some, None}
+use Rattle.std.proofs.Common.{◌≡◌, ℕ, ◌+◌, ◌*◌, ◌/◌, ◌≤◌, Bool, true, false, cond, is_some, ◌&&◌, eqb, ltb, max, List, [], ◌∷◌, ◌++◌, map, refl, sym, ap, ◌∙◌, arith, Option, Some, None}
 use Rattle.std.specs.Prelude.{unwrap_or}
-use Rattle.std.proofs.lemmas.Bool.{cond_both, cond-true, cond-false, and_parts, le-ltb, lt-ltb, eqb-true, false≢true}
+use Rattle.std.proofs.lemmas.Bool.{cond_both, and_parts, le-ltb, lt-ltb, eqb-true, false≢true}
 use Rattle.ksi_aggchain.specs.declared.item.Item.{Item}
 use Rattle.ksi_aggtree.specs.declared.entries.Entry.{Entry}
 use Rattle.ksi_aggtree.specs.Entries.{candidate_of, has_from, is_full}
@@ -15,19 +15,19 @@ use Rattle.ksi_synod.specs.declared.messages.Took.TheVariants as took
 use Rattle.ksi_synod.specs.Voters.{cores_below}
 use Rattle.ksi_synod.specs.Ballots.{last_round}
 use Rattle.ksi_synod.specs.VoteState.{VoteState, Hand, new_hand}
-use Rattle.ksi_synod.specs.Rows.{seal, seal_of, try_ballot, try_ballot_of, greater_round, next_ballot, ballot_told, on_next, on_last, on_last_of, counts_last, with_last, decree_now, is_older, on_begin, voted_for, with_voted, voted_added, completes, on_voted, on_voted_of, on_voted_for, decree_told, on_success, on_success_of, receive}
+use Rattle.ksi_synod.specs.Rows.{seal, seal_of, try_ballot, try_ballot_of, greater_round, next_ballot, ballot_told, on_next, on_last, on_last_of, counts_last, with_last, decree_now, is_older, on_begin, voted_for, with_voted, completes, on_voted, on_voted_of, on_voted_for, decree_told, on_success, on_success_of, receive}
 use Rattle.ksi_signature.specs.declared.above.Above.{Above}
 use Rattle.ksi_signature.specs.declared.answer.Answer.{Answer}
 use Rattle.ksi_signature.specs.declared.answer.Answer.TheVariants as answers
 use Rattle.ksi_corenode.specs.SecondState.{SecondState}
 use Rattle.ksi_corenode.specs.Turns.{Turn, told, to_each}
-use Rattle.ksi_corenode.specs.Rows.{submitted, submission_row, item_taken, seal_row, sealed_now, ballot_row, receive_row, news_answer}
+use Rattle.ksi_corenode.specs.Rows.{submitted, submission_row, item_taken, seal_row, ballot_row, receive_row, news_answer}
 use Rattle.ksi_aggregator.specs.Rows.{RoundState, RoundTurn, round_still, request_entry, round_request, round_submission, submitted_entry, round_close, closed_now, round_response, response_where}
 use Rattle.ksi_schedule.specs.declared.actor.Actor.{Actor}
 use Rattle.ksi_schedule.specs.declared.actor.Actor.TheVariants as actors
 use Rattle.ksi_world.specs.declared.message.Content.TheVariants as contents
 use Rattle.ksi_world.specs.Histories.{core_message}
-use Rattle.ksi_facts.specs.Deeds.{What, Deed, Accepted, Sealed, Closed, Tried, Promised, Cast, Holds, Heard, Answered, facts_of, numbered, where_done, first, tries, decides, takes, is_actor, own}
+use Rattle.ksi_facts.specs.Deeds.{What, Accepted, Sealed, Closed, Tried, Promised, Cast, Holds, Heard, Answered, facts_of, numbered, where_done, first, tries, decides, takes, is_actor, own}
 use Rattle.ksi_facts.specs.Steps.{came, rose, voted_anew, new_facts, new_round_facts}
 use Rattle.ksi_facts.proofs.Standing.{did}
 use Rattle.ksi_facts.proofs.CoreRows.{ballot_asked, held_now, root_sent}

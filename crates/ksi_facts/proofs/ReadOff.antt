@@ -1,5 +1,5 @@
 -- The world after a history is the one that is read off what was seen.
-use Rattle.std.proofs.Common.{◌≡◌, ℕ, ◌<◌, Bool, true, false, zero, suc, List, [], ◌∷◌, ◌++◌, map, length, get_or, drop, refl, sym, ap, ◌∙◌, arith, inl, inr, Option, Some, None}
+use Rattle.std.proofs.Common.{◌≡◌, ℕ, ◌<◌, Bool, false, zero, suc, List, [], ◌∷◌, ◌++◌, map, length, get_or, drop, refl, sym, ap, ◌∙◌, arith, inl, inr, Option, Some, None}
 use Rattle.std.specs.Prelude.{option_map, slice_get}
 use Rattle.std.proofs.Math.Seq.{drop-append_seam, get_or-append_seam}
 use Rattle.std.proofs.lemmas.Bool.{cases_lt}
@@ -7,7 +7,6 @@ use Rattle.std.proofs.lemmas.List.{append-nil, ext_get_or, map-append, length-ma
 use Rattle.std.proofs.lemmas.List.{length-append}
 use Rattle.ksi_synod.specs.Voters.{cores_below, is_flagged, is_voter}
 use Rattle.ksi_synod.specs.VoteState.{Hand}
-use Rattle.ksi_signature.specs.declared.answer.Answer.{Answer}
 use Rattle.ksi_signature.specs.declared.answer.Answer.TheVariants as answers
 use Rattle.ksi_corenode.specs.SecondState.{SecondState, voters_of}
 use Rattle.ksi_corenode.specs.Turns.{Turn}
@@ -27,7 +26,7 @@ use Rattle.ksi_world.specs.Histories as histories
 use Rattle.ksi_facts.specs.Seen.{Seen, seen_of, seen_from, seen}
 use Rattle.ksi_facts.specs.Deeds.{of_second, facts, deeds}
 use Rattle.ksi_facts.specs.Since.{Since, since, told_until, voted_after, has_told}
-use Rattle.ksi_facts.specs.State.{own_candidate, flags_of, hand_of, second_of, round_of, wire_of, asked_by, requests_of, published_by, published_of, world_by}
+use Rattle.ksi_facts.specs.State.{own_candidate, flags_of, hand_since, second_seen, round_seen, wire_seen, asked_by, requests_seen, published_by, published_seen, world_seen}
 use Rattle.ksi_facts.specs.Recalled.{IsHand, IsInHand, IsSecond, IsRound}
 use Rattle.ksi_facts.proofs.Recalling.{after_seconds, after_rounds}
 
@@ -52,7 +51,7 @@ flags_are flags p room same = ext_get_or false flags (flags_of p) room (λ i lt.
 
 -- A SECOND AND A ROUND
 
-hand_is : (voters : List ℕ) (candidate : Option (List ℕ)) (s : Since) (h : Hand) → IsHand voters candidate s h → h ≡ hand_of voters candidate s
+hand_is : (voters : List ℕ) (candidate : Option (List ℕ)) (s : Since) (h : Hand) → IsHand voters candidate s h → h ≡ hand_since voters candidate s
 hand_is voters candidate s h so = λ i. record {
   ballot = so.ballot i;
   last = flags_are h.last (has_told (told_until voters s)) so.last_flags so.last i;
@@ -61,13 +60,13 @@ hand_is voters candidate s h so = λ i. record {
   voted = flags_are h.voted (is_voter (voted_after voters s)) so.voted_flags so.voted i;
 }
 
-in_hand_is : (voters : List ℕ) (candidate : Option (List ℕ)) (sn : Option Since) (h : Option Hand) → IsInHand voters candidate sn h → h ≡ option_map (hand_of voters candidate) sn
+in_hand_is : (voters : List ℕ) (candidate : Option (List ℕ)) (sn : Option Since) (h : Option Hand) → IsInHand voters candidate sn h → h ≡ option_map (hand_since voters candidate) sn
 in_hand_is voters candidate None None so = refl
 in_hand_is voters candidate (Some s) (Some h) so = ap (λ (h : Hand). Some h) (hand_is voters candidate s h so)
 in_hand_is voters candidate None (Some h) so = absurd so
 in_hand_is voters candidate (Some s) None so = absurd so
 
-second_is : (image : List ℕ → List ℕ) (plan : PlanState) (past : List Seen) (core second : ℕ) (s : SecondState) → IsSecond image past plan.cores core second s → s ≡ second_of image plan past core second
+second_is : (image : List ℕ → List ℕ) (plan : PlanState) (past : List Seen) (core second : ℕ) (s : SecondState) → IsSecond image past plan.cores core second s → s ≡ second_seen image plan past core second
 second_is image plan past core second s so = λ i. record {
   vote = record {
     me = so.me i;
@@ -83,7 +82,7 @@ second_is image plan past core second s so = λ i. record {
   sealed = so.kept.sealed i;
 }
 
-round_is : (past : List Seen) (aggregator second : ℕ) (r : RoundState) → IsRound past aggregator second r → r ≡ round_of past aggregator second
+round_is : (past : List Seen) (aggregator second : ℕ) (r : RoundState) → IsRound past aggregator second r → r ≡ round_seen past aggregator second
 round_is past aggregator second r so = λ i. record { open_items = so.open_items i; closed = so.kept.closed i; answered = so.kept.answered i }
 
 -- THE WIRE, REQUESTS AND PUBLICATIONS
@@ -141,17 +140,17 @@ module _ (image : List ℕ → List ℕ) (plan : PlanState) where
   grew w (events.RestartAggregator k) = record { more = []; wire = sym (append-nil w.wire); requests = refl; published = refl }
 
   record IsPosted (w : WorldState) (past : List Seen) : Type 0 where
-    wire : w.wire ≡ wire_of past
-    requests : w.requests ≡ requests_of past
-    published : w.published ≡ published_of past
+    wire : w.wire ≡ wire_seen past
+    requests : w.requests ≡ requests_seen past
+    published : w.published ≡ published_seen past
 
   posted_step : (w : WorldState) (past : List Seen) (e : Event) → IsPosted w past → IsPosted (happens image plan w e).world (seen_of image plan w e ∷ past)
-  unfolding wire_of requests_of published_of
+  unfolding wire_seen requests_seen published_seen
   posted_step w past e is =
       let g = grew w e in
       let h = happens image plan w e in
       record {
-        wire = g.wire ∙ (λ i. is.wire i ++ g.more) ∙ ap (λ (ms : List Message). wire_of past ++ ms) (sym (ap (drop (length w.wire)) g.wire ∙ drop-append_seam w.wire g.more));
+        wire = g.wire ∙ (λ i. is.wire i ++ g.more) ∙ ap (λ (ms : List Message). wire_seen past ++ ms) (sym (ap (drop (length w.wire)) g.wire ∙ drop-append_seam w.wire g.more));
         requests = g.requests ∙ ap (λ (rs : List Asked). asked_by rs e h.outcome.answer) is.requests;
         published = g.published ∙ ap (λ (ps : List (ℕ × List ℕ)). published_by ps e h.outcome.answer) is.published;
       }
@@ -161,10 +160,10 @@ module _ (image : List ℕ → List ℕ) (plan : PlanState) where
   posted_all (e ∷ es) w past is = posted_all es (happens image plan w e).world (seen_of image plan w e ∷ past) (posted_step w past e is)
 
   posted : (es : List Event) → IsPosted (after image plan es) (seen image plan es)
-  unfolding after seen first_world wire_of requests_of published_of
+  unfolding after seen first_world wire_seen requests_seen published_seen
   posted es = posted_all es (first_world plan) [] (record { wire = refl; requests = refl; published = refl })
 
-  pub world_is : IsPlan plan → (es : List Event) → after image plan es ≡ world_by image plan (seen image plan es)
+  pub world_is : IsPlan plan → (es : List Event) → after image plan es ≡ world_seen image plan (seen image plan es)
   world_is is es =
       let w = after image plan es in
       let past = seen image plan es in

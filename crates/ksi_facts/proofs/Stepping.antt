@@ -20,15 +20,14 @@ use Rattle.ksi_schedule.specs.declared.actor.Actor.TheVariants as actors
 use Rattle.ksi_schedule.specs.declared.event.Event.{Event}
 use Rattle.ksi_schedule.specs.declared.event.Event.TheVariants as events
 use Rattle.ksi_schedule.specs.Plans.{PlanState, IsPlan}
-use Rattle.ksi_world.specs.declared.outcome.Outcome.{Outcome}
 use Rattle.ksi_world.specs.declared.message.Content.{Content}
 use Rattle.ksi_world.specs.declared.message.Content.TheVariants as contents
 use Rattle.ksi_world.specs.declared.message.Message.{Message}
 use Rattle.ksi_world.specs.Histories.{WorldState, Happening, outcome_of, core_message, round_message, at_core, at_round, unchanged, delivered, happens, first_world, after}
 use Rattle.ksi_world.specs.Histories as histories
-use Rattle.ksi_facts.specs.Seen.{Seen, taken_from, seen_of, seen_from, seen}
+use Rattle.ksi_facts.specs.Seen.{Seen, taken_from, seen_of, seen}
 use Rattle.ksi_facts.specs.Deeds.{What, Deed, Accepted, Sealed, Closed, Answered, Restarted, of_second, facts_of, facts, open_items, held_root, numbered, where_done, first, tries, takes, is_actor, own, receives, does, deeds}
-use Rattle.ksi_facts.specs.State.{second_of, held_of, round_of, wire_of, requests_of, world_by}
+use Rattle.ksi_facts.specs.State.{second_seen, held_seen, round_seen, wire_seen, requests_seen, world_seen}
 use Rattle.ksi_facts.specs.Steps.{new_facts, new_round_facts, Step, idle, by_core, by_round, by_message, by_delivery, step_by_facts, IsStepByFacts}
 use Rattle.ksi_facts.proofs.Standing.{facts_for, did}
 use Rattle.ksi_facts.proofs.Growing as growing
@@ -64,24 +63,24 @@ responded_after image held start t s = by s.sealed (first_missing held start t) 
 module _ (image : List ℕ → List ℕ) (plan : PlanState) (is : IsPlan plan) where
   module _ (past : List Seen) where
     abbrev w : WorldState
-    w = world_by image plan past
+    w = world_seen image plan past
 
     abbrev At : (j t : ℕ) → SecondState
-    At j t = second_of image plan past j t
+    At j t = second_seen image plan past j t
 
     -- what happens has the answer and the messages of a step
     record IsTold (h : Happening) (s : Step) : Type 0 where
       answer : h.outcome ≡ outcome_of s.answer (length s.sends)
-      sends : h.world.wire ≡ wire_of past ++ s.sends
+      sends : h.world.wire ≡ wire_seen past ++ s.sends
 
     core_told : (j t : ℕ) (row : SecondState → Turn) → IsTold (at_core w j t (row (At j t))) (by_core image plan past j t row)
     core_told j t row = record { answer = ap (outcome_of (row (At j t)).answer) (sym (length-map (row (At j t)).sends (core_message j t))); sends = refl }
 
-    round_told : (k t : ℕ) (row : RoundState → RoundTurn) → IsTold (at_round plan w k t (row (round_of past k t))) (by_round image plan past k t row)
-    round_told k t row = record { answer = ap (outcome_of (row (round_of past k t)).answer) (sym (length-map (row (round_of past k t)).sends (round_message plan k t))); sends = refl }
+    round_told : (k t : ℕ) (row : RoundState → RoundTurn) → IsTold (at_round plan w k t (row (round_seen past k t))) (by_round image plan past k t row)
+    round_told k t row = record { answer = ap (outcome_of (row (round_seen past k t)).answer) (sym (length-map (row (round_seen past k t)).sends (round_message plan k t))); sends = refl }
 
     none_told : IsTold (unchanged w answers.Nothing) (idle answers.Nothing)
-    none_told = record { answer = refl; sends = sym (append-nil (wire_of past)) }
+    none_told = record { answer = refl; sends = sym (append-nil (wire_seen past)) }
 
     taken_told : (s a : Actor) (t : ℕ) (c : Content) → IsTold (histories.taken image plan w s a t c) (by_message image plan past s a t c)
     taken_told (actors.Core from) (actors.Core j) t (contents.Synod m) = core_told j t (receive_row plan.cores t from m)
@@ -103,16 +102,16 @@ module _ (image : List ℕ → List ℕ) (plan : PlanState) (is : IsPlan plan) w
 
     table_told : (e : Event) → IsTold (happens image plan w e) (step_by_facts image plan past e)
     unfolding happens step_by_facts
-    table_told (events.Request k t imprint) = let told = round_told k t (round_request (length (requests_of past)) imprint) in record { answer = told.answer; sends = told.sends }
+    table_told (events.Request k t imprint) = let told = round_told k t (round_request (length (requests_seen past)) imprint) in record { answer = told.answer; sends = told.sends }
     table_told (events.Close k t) = round_told k t (round_close image)
     table_told (events.Seal j t) = core_told j t (seal_row image)
     table_told (events.Ballot j t) = core_told j t (ballot_row plan.cores t j)
-    table_told (events.Deliver number) = delivery_told (slice_get (wire_of past) number)
+    table_told (events.Deliver number) = delivery_told (slice_get (wire_seen past) number)
     table_told (events.Tell j t) = core_told j t (tell_row plan.cores t j)
-    table_told (events.Respond j t) = core_told j t (respond_row image (held_of past j) plan.start t)
-    table_told (events.Publish j p) = record { answer = refl; sends = sym (append-nil (wire_of past)) }
-    table_told (events.RestartCore j) = record { answer = refl; sends = sym (append-nil (wire_of past)) }
-    table_told (events.RestartAggregator k) = record { answer = refl; sends = sym (append-nil (wire_of past)) }
+    table_told (events.Respond j t) = core_told j t (respond_row image (held_seen past j) plan.start t)
+    table_told (events.Publish j p) = record { answer = refl; sends = sym (append-nil (wire_seen past)) }
+    table_told (events.RestartCore j) = record { answer = refl; sends = sym (append-nil (wire_seen past)) }
+    table_told (events.RestartAggregator k) = record { answer = refl; sends = sym (append-nil (wire_seen past)) }
 
     -- NEW FACTS
 
@@ -141,13 +140,13 @@ module _ (image : List ℕ → List ℕ) (plan : PlanState) (is : IsPlan plan) w
 
       lower_item_added : (from k t : ℕ) (item : Item) → Takes (actors.Aggregator from) (actors.Aggregator k) t (contents.Submission item) (by_round image plan past k t (round_submission from item))
       lower_item_added from k t item =
-          let turn = round_submission from item (round_of past k t) in
-          own_adds b (actors.Aggregator k) t (λ b. where_done turn.answer (Accepted (submitted_entry from item))) (new_round_facts (round_of past k t) turn.after) (item_adds t (round_of past k t) from item)
+          let turn = round_submission from item (round_seen past k t) in
+          own_adds b (actors.Aggregator k) t (λ b. where_done turn.answer (Accepted (submitted_entry from item))) (new_round_facts (round_seen past k t) turn.after) (item_adds t (round_seen past k t) from item)
 
-      response_added : (k t : ℕ) (above : Above) → facts_of (own b (actors.Aggregator k) t (where_done (round_response image above (round_of past k t)).answer (Answered above))) ≡ (by_round image plan past k t (round_response image above)).facts b
+      response_added : (k t : ℕ) (above : Above) → facts_of (own b (actors.Aggregator k) t (where_done (round_response image above (round_seen past k t)).answer (Answered above))) ≡ (by_round image plan past k t (round_response image above)).facts b
       response_added k t above =
-          let turn = round_response image above (round_of past k t) in
-          own_adds b (actors.Aggregator k) t (λ b. where_done turn.answer (Answered above)) (new_round_facts (round_of past k t) turn.after) (response_adds t (round_of past k t) image above)
+          let turn = round_response image above (round_seen past k t) in
+          own_adds b (actors.Aggregator k) t (λ b. where_done turn.answer (Answered above)) (new_round_facts (round_seen past k t) turn.after) (response_adds t (round_seen past k t) image above)
 
       stray : (from t : ℕ) (m : SynodMessage) (old : Option (List ℕ)) → facts_of (did t (takes (actors.Core from) (contents.Synod m) answers.Nothing [] old)) ≡ []
       stray from t (votes.NextBallot n) old = refl
@@ -177,23 +176,23 @@ module _ (image : List ℕ → List ℕ) (plan : PlanState) (is : IsPlan plan) w
       nothing_added : (j t : ℕ) (row : SecondState → Turn) → (row (At j t)).after ≡ At j t → [] ≡ (by_core image plan past j t row).facts b
       nothing_added j t row same = none_adds b (actors.Core j) t (new_facts (At j t) (row (At j t)).after) (ap (new_facts (At j t)) same ∙ same_adds t (At j t))
 
-      table_added : (e : Event) → facts_of (does b e (taken_from (wire_of past) e) (step_by_facts image plan past e).answer (step_by_facts image plan past e).sends (deeds b past)) ≡ (step_by_facts image plan past e).facts b
+      table_added : (e : Event) → facts_of (does b e (taken_from (wire_seen past) e) (step_by_facts image plan past e).answer (step_by_facts image plan past e).sends (deeds b past)) ≡ (step_by_facts image plan past e).facts b
       unfolding step_by_facts
       table_added (events.Request k t imprint) =
-          let turn = round_request (length (requests_of past)) imprint (round_of past k t) in
-          own_adds b (actors.Aggregator k) t (λ b. numbered imprint turn.answer) (new_round_facts (round_of past k t) turn.after) (request_adds t (round_of past k t) (length (requests_of past)) imprint)
+          let turn = round_request (length (requests_seen past)) imprint (round_seen past k t) in
+          own_adds b (actors.Aggregator k) t (λ b. numbered imprint turn.answer) (new_round_facts (round_seen past k t) turn.after) (request_adds t (round_seen past k t) (length (requests_seen past)) imprint)
       table_added (events.Close k t) =
-          let turn = round_close image (round_of past k t) in
-          own_adds b (actors.Aggregator k) t (λ b. where_done turn.answer (Closed (open_items (of_second t (deeds b past))))) (new_round_facts (round_of past k t) turn.after) (close_adds t (round_of past k t) image)
+          let turn = round_close image (round_seen past k t) in
+          own_adds b (actors.Aggregator k) t (λ b. where_done turn.answer (Closed (open_items (of_second t (deeds b past))))) (new_round_facts (round_seen past k t) turn.after) (close_adds t (round_seen past k t) image)
       table_added (events.Seal j t) =
           let turn = seal_row image (At j t) in
           own_adds b (actors.Core j) t (λ b. where_done turn.answer (Sealed (open_items (of_second t (deeds b past))))) (new_facts (At j t) turn.after) (seal_adds t (At j t) image)
       table_added (events.Ballot j t) =
           let turn = ballot_row plan.cores t j (At j t) in
           own_adds b (actors.Core j) t (λ b. tries (first (map (core_message j t) turn.sends))) (new_facts (At j t) turn.after) (ballot_adds t (At j t) plan.cores j is.some)
-      table_added (events.Deliver number) = delivery_added (slice_get (wire_of past) number)
+      table_added (events.Deliver number) = delivery_added (slice_get (wire_seen past) number)
       table_added (events.Tell j t) = nothing_added j t (tell_row plan.cores t j) (told_after plan.cores t j (At j t))
-      table_added (events.Respond j t) = nothing_added j t (respond_row image (held_of past j) plan.start t) (responded_after image (held_of past j) plan.start t (At j t))
+      table_added (events.Respond j t) = nothing_added j t (respond_row image (held_seen past j) plan.start t) (responded_after image (held_seen past j) plan.start t (At j t))
       table_added (events.Publish j p) = refl
       table_added (events.RestartCore j) = restart_adds (is_actor b (actors.Core j))
       table_added (events.RestartAggregator k) = restart_adds (is_actor b (actors.Aggregator k))
@@ -206,24 +205,24 @@ module _ (image : List ℕ → List ℕ) (plan : PlanState) (is : IsPlan plan) w
 
   seen_next : (es : List Event) (e : Event) → seen_of image plan (after image plan es) e ≡ record {
     event = e;
-    taken = taken_from (wire_of (seen image plan es)) e;
+    taken = taken_from (wire_seen (seen image plan es)) e;
     answer = (step_by_facts image plan (seen image plan es) e).answer;
     sent = (step_by_facts image plan (seen image plan es) e).sends;
   }
   seen_next es e =
       ap (λ (w : WorldState). seen_of image plan w e) (world_is image plan is es) ∙ by (seen image plan es)
     where
-      by : (past : List Seen) → seen_of image plan (world_by image plan past) e ≡ record {
+      by : (past : List Seen) → seen_of image plan (world_seen image plan past) e ≡ record {
         event = e;
-        taken = taken_from (wire_of past) e;
+        taken = taken_from (wire_seen past) e;
         answer = (step_by_facts image plan past e).answer;
         sent = (step_by_facts image plan past e).sends;
       }
       by past = let told = table_told past e in λ i. record {
         event = e;
-        taken = taken_from (wire_of past) e;
+        taken = taken_from (wire_seen past) e;
         answer = (told.answer i).answer;
-        sent = (ap (drop (length (wire_of past))) told.sends ∙ drop-append_seam (wire_of past) (step_by_facts image plan past e).sends) i;
+        sent = (ap (drop (length (wire_seen past))) told.sends ∙ drop-append_seam (wire_seen past) (step_by_facts image plan past e).sends) i;
       }
 
   pub by_facts : (es : List Event) (e : Event) → IsStepByFacts image plan es e

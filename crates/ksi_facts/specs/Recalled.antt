@@ -10,11 +10,11 @@ use Rattle.ksi_schedule.specs.declared.actor.Actor.TheVariants as actors
 use Rattle.ksi_schedule.specs.declared.event.Event.{Event}
 use Rattle.ksi_schedule.specs.declared.event.Event.TheVariants.{RestartCore, RestartAggregator}
 use Rattle.ksi_schedule.specs.Events.{History}
-use Rattle.ksi_world.specs.Histories.{world_of}
+use Rattle.ksi_world.specs.Histories.{world_of, after}
 use Rattle.ksi_facts.specs.Seen.{Seen, seen}
 use Rattle.ksi_facts.specs.Deeds.{Deed, deeds, of_second, facts, open_items, sealed_items, closed_items, tried_ballot, greatest_promise, greatest_vote, held_root, kept_response}
 use Rattle.ksi_facts.specs.Since.{Since, since, told_until, voted_after, has_told, greatest_told, decree_begun}
-use Rattle.ksi_facts.specs.State.{own_candidate, world_by}
+use Rattle.ksi_facts.specs.State.{own_candidate, world_seen}
 use Rattle.ksi_facts.specs.Steps.{IsStepByFacts}
 
 -- what a core keeps over restarts, for a second with these facts
@@ -64,13 +64,13 @@ pub record IsRound (past : List Seen) (aggregator second : ℕ) (r : RoundState)
   pub open_items : r.open_items ≡ open_items (of_second second (deeds (actors.Aggregator aggregator) past))
   pub shut : (items : List Entry) → r.closed ≡ Some items → r.open_items ≡ []
 
--- whatever any actor keeps after a history is what was seen, and so is what is on the wire; at each moment the next event
--- has the answer, the new facts and the messages of the step table over what was seen before; of its facts none is lost, and
--- a restart adds none
+-- whatever any actor keeps after a history is what was seen. At each moment the whole world is what was seen by then, and
+-- the next event has the answer, the new facts and the messages of the step table over it. Of an actor's facts none is lost,
+-- and a restart adds none
 pub record IsRecalled (image : List ℕ → List ℕ) (history : History) : Type 0 where
   pub seconds : (core second : ℕ) → IsSecond image (seen image history.plan history.events) history.plan.cores core second ((world_of image history).seconds core second)
   pub rounds : (aggregator second : ℕ) → IsRound (seen image history.plan history.events) aggregator second ((world_of image history).rounds aggregator second)
-  pub world : world_of image history ≡ world_by image history.plan (seen image history.plan history.events)
+  pub world : (before later : List Event) → history.events ≡ before ++ later → after image history.plan before ≡ world_seen image history.plan (seen image history.plan before)
   pub steps : (before later : List Event) (event : Event) → history.events ≡ before ++ event ∷ later → IsStepByFacts image history.plan before event
   pub grow : (actor : Actor) (before later : List Event) → history.events ≡ before ++ later
       → (more : List Deed) × (facts actor (seen image history.plan history.events) ≡ more ++ facts actor (seen image history.plan before))

@@ -29,8 +29,8 @@ abbrev pub flags_of : (among : ℕ → Bool) → List Bool
 flags_of among = map among (cores_below 9)
 
 -- the ballot in hand: who told a LastVote, the greatest vote told, the decree once it is begun, and who voted
-abbrev pub hand_of : (voters : List ℕ) (candidate : Option (List ℕ)) → Since → Hand
-hand_of voters candidate s = record {
+abbrev pub hand_since : (voters : List ℕ) (candidate : Option (List ℕ)) → Since → Hand
+hand_since voters candidate s = record {
   ballot = s.ballot;
   last = flags_of (has_told (told_until voters s));
   greatest = greatest_told (told_until voters s);
@@ -49,19 +49,19 @@ second_by image cores core second facts deeds = record {
     promised = greatest_promise facts;
     vote = greatest_vote facts;
     held = held_root facts;
-    hand = option_map (hand_of (voters_of cores second) (own_candidate image facts)) (since deeds);
+    hand = option_map (hand_since (voters_of cores second) (own_candidate image facts)) (since deeds);
   };
   open_items = open_items deeds;
   sealed = sealed_items facts;
 }
 
-abbrev pub second_of : (List ℕ → List ℕ) → PlanState → List Seen → (core second : ℕ) → SecondState
-second_of image plan past core second = second_by image plan.cores core second
+abbrev pub second_seen : (List ℕ → List ℕ) → PlanState → List Seen → (core second : ℕ) → SecondState
+second_seen image plan past core second = second_by image plan.cores core second
     (of_second second (facts (actors.Core core) past)) (of_second second (deeds (actors.Core core) past))
 
 -- what a core holds for each second
-abbrev pub held_of : List Seen → (core : ℕ) → Held
-held_of past core second = held_root (of_second second (facts (actors.Core core) past))
+abbrev pub held_seen : List Seen → (core : ℕ) → Held
+held_seen past core second = held_root (of_second second (facts (actors.Core core) past))
 
 -- AN AGGREGATOR'S ROUND
 
@@ -69,40 +69,40 @@ held_of past core second = held_root (of_second second (facts (actors.Core core)
 abbrev pub round_by : (facts deeds : List Deed) → RoundState
 round_by facts deeds = record { open_items = open_items deeds; closed = closed_items facts; answered = kept_response facts }
 
-abbrev pub round_of : List Seen → (aggregator second : ℕ) → RoundState
-round_of past aggregator second = round_by
+abbrev pub round_seen : List Seen → (aggregator second : ℕ) → RoundState
+round_seen past aggregator second = round_by
     (of_second second (facts (actors.Aggregator aggregator) past)) (of_second second (deeds (actors.Aggregator aggregator) past))
 
 -- ALL
 
 -- all messages that were sent, the oldest first
-unfoldable pub wire_of : List Seen → List Message
-wire_of [] = []
-wire_of (x ∷ past) = wire_of past ++ x.sent
+unfoldable pub wire_seen : List Seen → List Message
+wire_seen [] = []
+wire_seen (x ∷ past) = wire_seen past ++ x.sent
 
 -- the requests that were accepted, in order
 abbrev pub asked_by : List Asked → Event → Answer → List Asked
 asked_by requests (events.Request k t imprint) answer = asked_with requests (record { aggregator = k; second = t; imprint = imprint }) answer
 asked_by requests _ answer = requests
 
-unfoldable pub requests_of : List Seen → List Asked
-requests_of [] = []
-requests_of (x ∷ past) = asked_by (requests_of past) x.event x.answer
+unfoldable pub requests_seen : List Seen → List Asked
+requests_seen [] = []
+requests_seen (x ∷ past) = asked_by (requests_seen past) x.event x.answer
 
 -- the seconds that were published, rising, each with its root
 abbrev pub published_by : List (ℕ × List ℕ) → Event → Answer → List (ℕ × List ℕ)
 published_by pairs (events.Publish j p) answer = published_with pairs p answer
 published_by pairs _ answer = pairs
 
-unfoldable pub published_of : List Seen → List (ℕ × List ℕ)
-published_of [] = []
-published_of (x ∷ past) = published_by (published_of past) x.event x.answer
+unfoldable pub published_seen : List Seen → List (ℕ × List ℕ)
+published_seen [] = []
+published_seen (x ∷ past) = published_by (published_seen past) x.event x.answer
 
-abbrev pub world_by : (List ℕ → List ℕ) → PlanState → List Seen → WorldState
-world_by image plan past = record {
-  seconds = second_of image plan past;
-  rounds = round_of past;
-  wire = wire_of past;
-  requests = requests_of past;
-  published = published_of past;
+abbrev pub world_seen : (List ℕ → List ℕ) → PlanState → List Seen → WorldState
+world_seen image plan past = record {
+  seconds = second_seen image plan past;
+  rounds = round_seen past;
+  wire = wire_seen past;
+  requests = requests_seen past;
+  published = published_seen past;
 }

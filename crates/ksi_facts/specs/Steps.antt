@@ -1,7 +1,6 @@
 -- The step table over what was seen: the answer, the new facts and the messages of an event are those of its row, for the
 -- state that is read off facts and what came since. No state is handed from one event to the next.
 use Rattle.std.specs.Prelude.{◌≡◌, ℕ, nat_lt, if◌then◌else◌, List, [], ◌∷◌, ◌++◌, length, map, slice_get, Option, Some, None}
-use Rattle.ksi_aggtree.specs.declared.entries.Entry.{Entry}
 use Rattle.ksi_synod.specs.declared.messages.Vote.{Vote}
 use Rattle.ksi_synod.specs.Rows.{is_older}
 use Rattle.ksi_signature.specs.declared.answer.Answer.{Answer}
@@ -21,7 +20,7 @@ use Rattle.ksi_world.specs.declared.message.Message.{Message}
 use Rattle.ksi_world.specs.Histories.{core_message, round_message, outcome_of, happens, after}
 use Rattle.ksi_facts.specs.Seen.{Seen, seen}
 use Rattle.ksi_facts.specs.Deeds.{What, Deed, Sealed, Closed, Tried, Promised, Cast, Holds, Answered, own, facts}
-use Rattle.ksi_facts.specs.State.{second_of, held_of, round_of, wire_of, requests_of}
+use Rattle.ksi_facts.specs.State.{second_seen, held_seen, round_seen, wire_seen, requests_seen}
 
 -- NEW FACTS: what a row makes of what is kept over restarts
 
@@ -57,22 +56,21 @@ pub record Step : Type 0 where
 abbrev pub idle : Answer → Step
 idle answer = record { answer = answer; facts = λ actor. []; sends = [] }
 
-module _ (image : List ℕ → List ℕ) (plan : PlanState) (past : List Seen) where
-  -- a row of a core's second, as it is read off what was seen
-  abbrev pub by_core : (core second : ℕ) → (SecondState → Turn) → Step
-  by_core j t row = record {
-    answer = (row (second_of image plan past j t)).answer;
-    facts = λ actor. own actor (actors.Core j) t (new_facts (second_of image plan past j t) (row (second_of image plan past j t)).after);
-    sends = map (core_message j t) (row (second_of image plan past j t)).sends;
-  }
+-- a turn of a core's second, which was this one
+abbrev pub core_step : (core second : ℕ) → (old : SecondState) → Turn → Step
+core_step j t old turn = record { answer = turn.answer; facts = λ actor. own actor (actors.Core j) t (new_facts old turn.after); sends = map (core_message j t) turn.sends }
 
-  -- a row of an aggregator's round
+-- a turn of an aggregator's round
+abbrev pub round_step : PlanState → (aggregator second : ℕ) → (old : RoundState) → RoundTurn → Step
+round_step plan k t old turn = record { answer = turn.answer; facts = λ actor. own actor (actors.Aggregator k) t (new_round_facts old turn.after); sends = map (round_message plan k t) turn.sends }
+
+module _ (image : List ℕ → List ℕ) (plan : PlanState) (past : List Seen) where
+  -- a row, for the second or the round that is read off what was seen
+  abbrev pub by_core : (core second : ℕ) → (SecondState → Turn) → Step
+  by_core j t row = core_step j t (second_seen image plan past j t) (row (second_seen image plan past j t))
+
   abbrev pub by_round : (aggregator second : ℕ) → (RoundState → RoundTurn) → Step
-  by_round k t row = record {
-    answer = (row (round_of past k t)).answer;
-    facts = λ actor. own actor (actors.Aggregator k) t (new_round_facts (round_of past k t) (row (round_of past k t)).after);
-    sends = map (round_message plan k t) (row (round_of past k t)).sends;
-  }
+  by_round k t row = round_step plan k t (round_seen past k t) (row (round_seen past k t))
 
   -- a message is taken by its addressee
   abbrev pub by_message : (sender addressee : Actor) (second : ℕ) → Content → Step
@@ -88,14 +86,14 @@ module _ (image : List ℕ → List ℕ) (plan : PlanState) (past : List Seen) w
 
   -- THE TABLE
   unfoldable pub step_by_facts : Event → Step
-  step_by_facts (events.Request k t imprint) = by_round k t (round_request (length (requests_of past)) imprint)
+  step_by_facts (events.Request k t imprint) = by_round k t (round_request (length (requests_seen past)) imprint)
   step_by_facts (events.Close k t) = by_round k t (round_close image)
   step_by_facts (events.Seal j t) = by_core j t (seal_row image)
   step_by_facts (events.Ballot j t) = by_core j t (ballot_row plan.cores t j)
-  step_by_facts (events.Deliver number) = by_delivery (slice_get (wire_of past) number)
+  step_by_facts (events.Deliver number) = by_delivery (slice_get (wire_seen past) number)
   step_by_facts (events.Tell j t) = by_core j t (tell_row plan.cores t j)
-  step_by_facts (events.Respond j t) = by_core j t (respond_row image (held_of past j) plan.start t)
-  step_by_facts (events.Publish j p) = idle (publish_answer image (held_of past j) plan.start p)
+  step_by_facts (events.Respond j t) = by_core j t (respond_row image (held_seen past j) plan.start t)
+  step_by_facts (events.Publish j p) = idle (publish_answer image (held_seen past j) plan.start p)
   step_by_facts (events.RestartCore j) = idle answers.Done
   step_by_facts (events.RestartAggregator k) = idle answers.Done
 

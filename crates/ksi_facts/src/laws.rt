@@ -9,11 +9,11 @@ ghost use Rattle.ksi_schedule.specs.declared.event.Event.{Event};
 ghost use Rattle.ksi_schedule.specs.declared.event.Event.TheVariants as happenings;
 ghost use Rattle.ksi_schedule.specs.Plans.{PlanState, IsPlan};
 ghost use Rattle.ksi_schedule.specs.Events.{History};
-ghost use Rattle.ksi_world.specs.Histories.{world_of};
+ghost use Rattle.ksi_world.specs.Histories.{world_of, after};
 ghost use Rattle.ksi_facts.specs.Seen.{seen};
 ghost use Rattle.ksi_facts.specs.Deeds.{Deed, of_second, deeds, facts, open_items, tried_ballot};
 ghost use Rattle.ksi_facts.specs.Since.{since};
-ghost use Rattle.ksi_facts.specs.State.{own_candidate, world_by};
+ghost use Rattle.ksi_facts.specs.State.{own_candidate, world_seen};
 ghost use Rattle.ksi_facts.specs.Steps.{IsStepByFacts};
 ghost use Rattle.ksi_facts.specs.Recalled.{IsKept, IsKeptRound, IsInHand, IsRecalled};
 
@@ -65,11 +65,11 @@ pub fn hand_is_since()
         ((world_of image history).seconds core second).vote.hand }
 {}
 
-/// The world after a history is the one that is read off what was seen of it: each second and each round, the wire, the
+/// At each moment the world is the one that is read off what was seen by then: each second and each round, the wire, the
 /// requests and the publications.
 pub fn world_is_seen()
-    ensures { (image : List ℕ → List ℕ) (history : History) → IsPlan history.plan →
-        world_of image history ≡ world_by image history.plan (seen image history.plan history.events) }
+    ensures { (image : List ℕ → List ℕ) (plan : PlanState) → IsPlan plan → (events : List Event) →
+        after image plan events ≡ world_seen image plan (seen image plan events) }
 {}
 
 /// The answer of each event, the facts that it adds and the messages that it sends are those of its row of the step table,

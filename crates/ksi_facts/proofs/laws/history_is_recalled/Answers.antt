@@ -12,7 +12,7 @@ pub returns : goal.returns
 returns c = λ image h is. record {
   seconds = λ core second. after_seconds image h.plan is h.events core second;
   rounds = λ aggregator second. after_rounds image h.plan is h.events aggregator second;
-  world = world_is image h.plan is h.events;
+  world = λ before later same. world_is image h.plan is before;
   steps = λ before later event same. by_facts image h.plan is before event;
   grow = λ actor before later same.
       subst (λ (es : List Event). (more : List Deed) × (facts actor (seen image h.plan es) ≡ more ++ facts actor (seen image h.plan before))) (sym same) (facts_grow image h.plan actor before later);

@@ -2,4 +2,4 @@ use Rattle.ksi_facts.proofs.ReadOff.{world_is}
 use Rattle.ksi_facts.proofs.laws.world_is_seen.Goals as goal
 
 pub returns : goal.returns
-returns c = λ image h is. world_is image h.plan is h.events
+returns c = λ image plan is events. world_is image plan is events
