@@ -6,11 +6,14 @@ use Rattle.ksi_ports.specs.declared.files.LoadRefusal.{LoadRefusal}
 use Rattle.ksi_ports.specs.declared.files.LoadRefusal.TheVariants.{Failed, TooLong, NoMemory}
 use Rattle.ksi_ports.specs.Outside.{count_up, Rose, TakesExactly, TakesUpTo}
 
--- how many calls there were, how many of them failed, and how many bytes were taken
+-- how many calls there were, how many of them were saves, how many failed, how many bytes were taken, and how many of them
+-- by the last load
 pub record Counted : Type 0 where
   pub calls : ℕ
+  pub saves : ℕ
   pub faults : ℕ
   pub taken : ℕ
+  pub last_taken : ℕ
 
 -- the count of faults after a load with this answer
 abbrev pub faults_after : {T : Type 0} → ℕ → Result T LoadRefusal → ℕ
@@ -27,10 +30,11 @@ ReadTakes most before now (Err Failed) = TakesUpTo most before now
 ReadTakes most before now (Err TooLong) = TakesExactly (most + 1) before now
 ReadTakes most before now (Err NoMemory) = Rose before now × TakesUpTo (most + 1) before now
 
--- where output goes, how many puts there were, and how many of them failed
+-- where output goes, how many puts there were, how many bytes were given to them, and how many of them failed
 pub record CountedOutput (W : Type 0) : Type 0 where
   pub writer : W
   pub puts : ℕ
+  pub given : ℕ
   pub faults : ℕ
 
 -- known bytes have grown by a front of the piece

@@ -14,17 +14,20 @@ abbrev pub is_listed : List ℕ → ℕ → Bool
 is_listed failing call = list_any (λ listed. listed == call) failing
 
 -- files in memory: the files, the newest first; the numbers of the calls that are to fail, counted from 0;
--- how many calls there were; how many of them failed; how many bytes were taken
+-- how many calls there were; how many of them were saves; how many failed; how many bytes were taken; how many of them by
+-- the last load
 pub record StoredFiles : Type 0 where
   pub entries : List Entry
   pub failing : List ℕ
   pub calls : ℕ
+  pub saves : ℕ
   pub faults : ℕ
   pub taken : ℕ
+  pub last_taken : ℕ
 
 -- no files, and no call so far
 abbrev pub no_files : List ℕ → StoredFiles
-no_files failing = record { entries = []; failing = failing; calls = 0; faults = 0; taken = 0 }
+no_files failing = record { entries = []; failing = failing; calls = 0; saves = 0; faults = 0; taken = 0; last_taken = 0 }
 
 -- the bytes of the newest file of each name
 abbrev pub held_in : List Entry → Held
@@ -40,12 +43,12 @@ up_to most (Some bytes) = if nat_le (length bytes) most then Ok bytes else Err T
 abbrev pub load_answer : StoredFiles → List ℕ → ℕ → Result (List ℕ) LoadRefusal
 load_answer files name most = if is_listed files.failing files.calls then Err Failed else up_to most (held_in files.entries name)
 
--- the files after a load with this answer: want of memory changes nothing
+-- the files after a load with this answer: where memory is wanting, no call is counted and nothing is taken
 abbrev pub after_load : StoredFiles → ℕ → Result (List ℕ) LoadRefusal → StoredFiles
-after_load files most (Ok bytes) = record files { calls = count_up 1 files.calls; taken = count_up (length bytes) files.taken }
-after_load files most (Err Failed) = record files { calls = count_up 1 files.calls; faults = count_up 1 files.faults }
-after_load files most (Err TooLong) = record files { calls = count_up 1 files.calls; taken = count_up (most + 1) files.taken }
-after_load files most (Err NoMemory) = files
+after_load files most (Ok bytes) = record files { calls = count_up 1 files.calls; taken = count_up (length bytes) files.taken; last_taken = length bytes }
+after_load files most (Err Failed) = record files { calls = count_up 1 files.calls; faults = count_up 1 files.faults; last_taken = 0 }
+after_load files most (Err TooLong) = record files { calls = count_up 1 files.calls; taken = count_up (most + 1) files.taken; last_taken = count_up (most + 1) 0 }
+after_load files most (Err NoMemory) = record files { last_taken = 0 }
 
 -- the answer with ample memory, or want of memory in the place of bytes
 abbrev pub LoadAnswers : Result (List ℕ) LoadRefusal → Result (List ℕ) LoadRefusal → Type 0
@@ -66,22 +69,23 @@ with_newest files name bytes = record files { entries = record { name = name; by
 
 -- the files after a save with this answer: one that fails leaves the name's content too
 abbrev pub after_save : StoredFiles → List ℕ → List ℕ → Result (Unit {0}) SaveRefusal → StoredFiles
-after_save files name bytes (Ok u) = record (with_newest files name bytes) { calls = count_up 1 files.calls }
-after_save files name bytes (Err saves.Failed) = record files { calls = count_up 1 files.calls; faults = count_up 1 files.faults }
+after_save files name bytes (Ok u) = record (with_newest files name bytes) { calls = count_up 1 files.calls; saves = count_up 1 files.saves }
+after_save files name bytes (Err saves.Failed) = record files { calls = count_up 1 files.calls; saves = count_up 1 files.saves; faults = count_up 1 files.faults }
 after_save files name bytes (Err saves.NoMemory) = files
 
 -- output in memory: what was written; for how many bytes there is room; the numbers of the puts that are to fail,
--- counted from 0; how many puts there were; how many of them failed
+-- counted from 0; how many puts there were; how many bytes were given to them; how many of them failed
 pub record StoredOutput : Type 0 where
   pub written : List ℕ
   pub room : ℕ
   pub failing : List ℕ
   pub puts : ℕ
+  pub given : ℕ
   pub faults : ℕ
 
 -- nothing written, and no put so far
 abbrev pub no_output : ℕ → List ℕ → StoredOutput
-no_output room failing = record { written = []; room = room; failing = failing; puts = 0; faults = 0 }
+no_output room failing = record { written = []; room = room; failing = failing; puts = 0; given = 0; faults = 0 }
 
 -- a put fails exactly where it is listed or its piece passes the room
 abbrev pub put_fails : StoredOutput → List ℕ → Bool
@@ -91,5 +95,5 @@ put_fails output piece = is_listed output.failing output.puts || nat_lt output.r
 abbrev pub after_put : StoredOutput → List ℕ → StoredOutput
 after_put output piece =
     if put_fails output piece
-    then record output { puts = count_up 1 output.puts; faults = count_up 1 output.faults }
-    else record output { puts = count_up 1 output.puts; written = output.written ++ piece }
+    then record output { puts = count_up 1 output.puts; given = count_up (length piece) output.given; faults = count_up 1 output.faults }
+    else record output { puts = count_up 1 output.puts; given = count_up (length piece) output.given; written = output.written ++ piece }

@@ -63,11 +63,24 @@ LoadTells most held (Err Failed) = Unit {0}
 LoadTells most held (Err TooLong) = (bytes : List ℕ) × (held ≡ Some bytes) × (most < length bytes)
 LoadTells most held (Err NoMemory) = Unit {0}
 
+-- a load that lacked memory, of what is held under the name: the file has at most `most` bytes, and the call is not counted
+abbrev pub LoadLacks : ℕ → Option (List ℕ) → ℕ → ℕ → Result (List ℕ) LoadRefusal → Type 0
+LoadLacks most held before now (Ok bytes) = Unit {0}
+LoadLacks most held before now (Err Failed) = Unit {0}
+LoadLacks most held before now (Err TooLong) = Unit {0}
+LoadLacks most held before now (Err NoMemory) = (now ≡ before) × (bytes : List ℕ) × (held ≡ Some bytes) × (length bytes ≤ most)
+
 -- a save's count of calls, as a load's
 abbrev pub SaveCalls : ℕ → ℕ → Result (Unit {0}) SaveRefusal → Type 0
 SaveCalls before now (Ok u) = now ≡ count_up 1 before
 SaveCalls before now (Err saves.Failed) = now ≡ count_up 1 before
 SaveCalls before now (Err saves.NoMemory) = now ≤ count_up 1 before
+
+-- the count of saves after a save: it goes up by one, and stays where memory was wanting
+abbrev pub SavesCounted : ℕ → ℕ → Result (Unit {0}) SaveRefusal → Type 0
+SavesCounted before now (Ok u) = now ≡ count_up 1 before
+SavesCounted before now (Err saves.Failed) = now ≡ count_up 1 before
+SavesCounted before now (Err saves.NoMemory) = now ≡ before
 
 -- a save's count of faults
 abbrev pub SaveCounts : ℕ → ℕ → Result (Unit {0}) SaveRefusal → Type 0

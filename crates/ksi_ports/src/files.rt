@@ -1,6 +1,6 @@
 ghost use Rattle.std.specs.Prelude.{◌≡◌, ℕ, ◌≤◌, Bool, IsTrue, List, length, IfOk};
 ghost use Rattle.ksi_ports.specs.Stored.{Held};
-ghost use Rattle.ksi_ports.specs.Outside.{LoadCalls, LoadCounts, LoadTakes, LoadTells, SaveCalls, SaveCounts, SaveLeaves};
+ghost use Rattle.ksi_ports.specs.Outside.{LoadCalls, LoadCounts, LoadLacks, LoadTakes, LoadTells, SaveCalls, SaveCounts, SaveLeaves, SavesCounted};
 
 use ksi_imprint::{Bytes, NoMemory};
 use std::alloc::Global;
@@ -49,7 +49,7 @@ impl From<NoMemory> for SaveRefusal {
 
 /// Files by their names.
 ///
-/// The counts of calls and of faults and the tally of bytes never fall. They stop at 2^64 - 1, where one counts as risen by
+/// The counts of calls, of saves and of faults and the tally of bytes never fall. They stop at 2^64 - 1, where one counts as risen by
 /// any number.
 pub trait Files {
     /// Whether this kind of files tells what it holds.
@@ -61,11 +61,17 @@ pub trait Files {
     /// How often a load or a save was called.
     ghost calls: { Self → ℕ };
 
+    /// How often a save was called. One that lacks memory is left out.
+    ghost saves: { Self → ℕ };
+
     /// How often a call failed.
     ghost faults: { Self → ℕ };
 
     /// How many bytes were taken from files.
     ghost taken: { Self → ℕ };
+
+    /// How many bytes the last load took.
+    ghost last_taken: { Self → ℕ };
 
     /// The bytes of a file that has at most `most` of them.
     ///
@@ -78,9 +84,12 @@ pub trait Files {
         ensures later { calls self.old ≤ calls self.new }
         ensures called { LoadCalls (calls self.old) (calls self.new) result }
         ensures counted { LoadCounts (faults self.old) (faults self.new) result }
+        ensures unsaved { saves self.new ≡ saves self.old }
         ensures taken { LoadTakes most (taken self.old) (taken self.new) result }
+        ensures last { LoadTakes most 0 (last_taken self.new) result }
         ensures within { IfOk result (λ bytes. length bytes ≤ most) }
         ensures told { IsTrue tells → LoadTells most (held self.old name.now) result }
+        ensures lacks { IsTrue tells → LoadLacks most (held self.old name.now) (calls self.old) (calls self.new) result }
         ensures stays { held self.new ≡ held self.old };
 
     /// Makes these the bytes of the file, which need not have been there.
@@ -92,7 +101,9 @@ pub trait Files {
     fn save(&mut self, alloc: Global, name: &str, bytes: &[u8]) -> Result<(), SaveRefusal>
         ensures later { calls self.old ≤ calls self.new }
         ensures called { SaveCalls (calls self.old) (calls self.new) result }
+        ensures saved { SavesCounted (saves self.old) (saves self.new) result }
         ensures counted { SaveCounts (faults self.old) (faults self.new) result }
         ensures taken { taken self.new ≡ taken self.old }
+        ensures last { last_taken self.new ≡ last_taken self.old }
         ensures leaves { IsTrue tells → SaveLeaves name.now bytes.now (held self.old) (held self.new) result };
 }

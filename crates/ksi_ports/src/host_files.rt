@@ -1,6 +1,6 @@
 ghost use Rattle.std.specs.Prelude.{◌≡◌, ◌≤◌, false, length, Some, None, IfOk, IfSome, OnErr, if◌then◌else◌, is_ok};
 ghost use Rattle.std.specs.Bool.{OnTrue, OnFalse};
-ghost use Rattle.ksi_ports.specs.Outside.{count_up, LoadCalls, LoadCounts, LoadTells, Raises, SaveCalls, SaveCounts};
+ghost use Rattle.ksi_ports.specs.Outside.{count_up, LoadCalls, LoadCounts, LoadTells, Raises, SaveCalls, SaveCounts, SavesCounted};
 ghost use Rattle.ksi_ports.specs.Host.{ReadTakes, faults_after};
 
 use crate::{Files, LoadRefusal, SaveRefusal};
@@ -15,8 +15,10 @@ use std::{fs, io, rt};
 pub struct HostFiles<'a, R: rt::Files> {
     runtime: &'a R,
     calls: u64,
+    saves: u64,
     faults: u64,
     taken: u64,
+    last_taken: u64,
 }
 
 impl<'a, R: rt::Files> Model for HostFiles<'a, R> {
@@ -24,19 +26,21 @@ impl<'a, R: rt::Files> Model for HostFiles<'a, R> {
 
     ghost Value = { Counted };
 
-    ghost view = { λ files. record { calls = files.calls; faults = files.faults; taken = files.taken } };
+    ghost view = { λ files. record { calls = files.calls; saves = files.saves; faults = files.faults; taken = files.taken; last_taken = files.last_taken } };
 }
 
 impl<'a, R: rt::Files> HostFiles<'a, R> {
     /// The files of this runtime. There was no call so far, and no byte was taken.
     pub fn new(runtime: &'a R) -> Self
-        ensures { result ≡ record { calls = 0; faults = 0; taken = 0 } }
+        ensures { result ≡ record { calls = 0; saves = 0; faults = 0; taken = 0; last_taken = 0 } }
     {
         HostFiles {
             runtime,
             calls: 0,
+            saves: 0,
             faults: 0,
             taken: 0,
+            last_taken: 0,
         }
     }
 
@@ -45,6 +49,13 @@ impl<'a, R: rt::Files> HostFiles<'a, R> {
         ensures { result ≡ self.now.calls }
     {
         self.calls
+    }
+
+    /// How many saves there were.
+    pub fn saves(&self) -> u64
+        ensures { result ≡ self.now.saves }
+    {
+        self.saves
     }
 
     /// How many calls failed.
@@ -61,6 +72,13 @@ impl<'a, R: rt::Files> HostFiles<'a, R> {
         self.taken
     }
 
+    /// How many bytes the last load took.
+    pub fn last_taken(&self) -> u64
+        ensures { result ≡ self.now.last_taken }
+    {
+        self.last_taken
+    }
+
     // Counts a call, and its fault where it failed.
     fn count(&mut self, failed: bool)
         ensures calls { self.new.calls ≡ count_up 1 self.old.calls }
@@ -68,7 +86,9 @@ impl<'a, R: rt::Files> HostFiles<'a, R> {
         ensures failed { OnTrue failed (Raises self.old.faults self.new.faults) }
         ensures once { OnTrue failed (self.new.faults ≡ count_up 1 self.old.faults) }
         ensures passed { OnFalse failed (self.new.faults ≡ self.old.faults) }
+        ensures saves { self.new.saves ≡ self.old.saves }
         ensures taken { self.new.taken ≡ self.old.taken }
+        ensures last { self.new.last_taken ≡ self.old.last_taken }
     {
         self.calls = self.calls.saturating_add(1);
         if failed {
@@ -84,9 +104,13 @@ impl<R: rt::Files> Files for HostFiles<'_, R> {
 
     ghost calls = { λ files. files.calls };
 
+    ghost saves = { λ files. files.saves };
+
     ghost faults = { λ files. files.faults };
 
     ghost taken = { λ files. files.taken };
+
+    ghost last_taken = { λ files. files.last_taken };
 
     fn load(&mut self, alloc: Global, name: &str, most: usize) -> Result<Bytes, LoadRefusal>
         ensures later { self.old.calls ≤ self.new.calls }
@@ -95,11 +119,16 @@ impl<R: rt::Files> Files for HostFiles<'_, R> {
         ensures counted { LoadCounts self.old.faults self.new.faults result }
         ensures within { IfOk result (λ bytes. length bytes ≤ most) }
         ensures faults { self.new.faults ≡ faults_after self.old.faults result }
+        ensures saves { self.new.saves ≡ self.old.saves }
         ensures takes { ReadTakes most self.old.taken self.new.taken result }
+        ensures last { ReadTakes most 0 self.new.last_taken result }
     {
         let opened = fs::open(self.runtime, name);
-        let result = read_opened(alloc, opened, most, &mut self.taken);
+        let mut taken = 0;
+        let result = read_opened(alloc, opened, most, &mut taken);
         self.count(matches!(&result, Err(LoadRefusal::Failed)));
+        self.taken = self.taken.saturating_add(taken);
+        self.last_taken = taken;
         result
     }
 
@@ -109,10 +138,14 @@ impl<R: rt::Files> Files for HostFiles<'_, R> {
         ensures calls { self.new.calls ≡ count_up 1 self.old.calls }
         ensures counted { SaveCounts self.old.faults self.new.faults result }
         ensures faults { self.new.faults ≡ (if is_ok result then self.old.faults else count_up 1 self.old.faults) }
+        ensures saved { SavesCounted self.old.saves self.new.saves result }
+        ensures saves { self.new.saves ≡ count_up 1 self.old.saves }
         ensures taken { self.new.taken ≡ self.old.taken }
+        ensures last { self.new.last_taken ≡ self.old.last_taken }
     {
         let failed = fs::write(self.runtime, name, bytes).is_err();
         self.count(failed);
+        self.saves = self.saves.saturating_add(1);
         if failed {
             return Err(SaveRefusal::Failed);
         }

@@ -1,4 +1,4 @@
-ghost use Rattle.std.specs.Prelude.{◌≡◌, ◌≤◌, false, [], OnOk, OnErr};
+ghost use Rattle.std.specs.Prelude.{◌≡◌, ◌≤◌, false, [], length, OnOk, OnErr};
 ghost use Rattle.std.specs.Bool.{OnTrue, OnFalse};
 ghost use Rattle.std.specs.Io.KnownBytes.{Appends};
 ghost use Rattle.ksi_ports.specs.Outside.{Raises, count_up};
@@ -13,6 +13,7 @@ use std::marker::Model;
 pub struct HostSink<W: Write> {
     writer: W,
     puts: u64,
+    given: u64,
     faults: u64,
 }
 
@@ -21,17 +22,18 @@ impl<W: Write> Model for HostSink<W> {
 
     ghost Value = { CountedOutput W };
 
-    ghost view = { λ sink. record { writer = sink.writer; puts = sink.puts; faults = sink.faults } };
+    ghost view = { λ sink. record { writer = sink.writer; puts = sink.puts; given = sink.given; faults = sink.faults } };
 }
 
 impl<W: Write> HostSink<W> {
     /// Output to this writer. There was no put so far.
     pub fn new(writer: W) -> Self
-        ensures { result ≡ record { writer = writer; puts = 0; faults = 0 } }
+        ensures { result ≡ record { writer = writer; puts = 0; given = 0; faults = 0 } }
     {
         HostSink {
             writer,
             puts: 0,
+            given: 0,
             faults: 0,
         }
     }
@@ -41,6 +43,13 @@ impl<W: Write> HostSink<W> {
         ensures { result ≡ self.now.puts }
     {
         self.puts
+    }
+
+    /// How many bytes were given to puts.
+    pub fn given(&self) -> u64
+        ensures { result ≡ self.now.given }
+    {
+        self.given
     }
 
     /// How many puts failed.
@@ -58,11 +67,14 @@ impl<W: Write> Sink for HostSink<W> {
 
     ghost puts = { λ sink. sink.puts };
 
+    ghost given = { λ sink. sink.given };
+
     ghost faults = { λ sink. sink.faults };
 
     fn put(&mut self, piece: &[u8]) -> Result<(), SinkFailed>
         ensures later { self.old.puts ≤ self.new.puts }
         ensures called { self.new.puts ≡ count_up 1 self.old.puts }
+        ensures given { self.new.given ≡ count_up (length piece.now) self.old.given }
         ensures counted { OnOk result (self.new.faults ≡ self.old.faults) }
         ensures failed { OnErr result (Raises self.old.faults self.new.faults) }
         ensures once { OnErr result (self.new.faults ≡ count_up 1 self.old.faults) }
@@ -72,6 +84,7 @@ impl<W: Write> Sink for HostSink<W> {
             (W.contents self.new.writer) piece.now) }
     {
         self.puts = self.puts.saturating_add(1);
+        self.given = self.given.saturating_add(piece.len() as u64);
         if write_whole(&mut self.writer, piece) {
             return Ok(());
         }

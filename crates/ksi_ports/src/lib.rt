@@ -5,7 +5,8 @@
 //! changes what is held under that name alone, and a put appends its piece. `Failed` and `SinkFailed` come only where the
 //! count of faults rose, and every other answer leaves it. A load that gives bytes takes as many, one that is `TooLong`
 //! takes one byte more than allowed, and no load takes more than that. Each load, save and put raises its count of calls by
-//! one; a load or save that lacks memory may leave it.
+//! one; a load or save that lacks memory may leave it. Saves that did not lack memory are counted by themselves, as are the
+//! bytes given to puts and those that the last load took.
 //!
 //! ```text
 //! let mut files = MemFiles::new(alloc, failing);

@@ -1,5 +1,5 @@
 ghost use Rattle.std.specs.Prelude.{◌≡◌, ◌≤◌, OnOk, OnErr, option_copied, ◌∷◌, true};
-ghost use Rattle.ksi_ports.specs.Outside.{LoadCalls, LoadCounts, LoadTakes, SaveCalls, SaveCounts};
+ghost use Rattle.ksi_ports.specs.Outside.{LoadCalls, LoadCounts, LoadTakes, SaveCalls, SaveCounts, SavesCounted};
 ghost use Rattle.ksi_ports.specs.Memory.{held_in, no_files, is_listed, load_answer, LoadAnswers, after_load, SaveAnswers, after_save, with_newest};
 
 use crate::{Files, LoadRefusal, SaveRefusal};
@@ -22,8 +22,10 @@ pub struct MemFiles {
     entries: Vec<Entry>,
     failing: Vec<u64>,
     calls: u64,
+    saves: u64,
     faults: u64,
     taken: u64,
+    last_taken: u64,
 }
 
 impl Model for MemFiles {
@@ -35,8 +37,10 @@ impl Model for MemFiles {
       entries = files.entries.items;
       failing = files.failing.items;
       calls = files.calls;
+      saves = files.saves;
       faults = files.faults;
       taken = files.taken;
+      last_taken = files.last_taken;
     } };
 }
 
@@ -50,8 +54,10 @@ impl MemFiles {
             entries: Vec::new(alloc),
             failing,
             calls: 0,
+            saves: 0,
             faults: 0,
             taken: 0,
+            last_taken: 0,
         }
     }
 
@@ -72,6 +78,13 @@ impl MemFiles {
         self.calls
     }
 
+    /// How many saves there were, but for those that lacked memory.
+    pub fn saves(&self) -> u64
+        ensures { result ≡ self.now.saves }
+    {
+        self.saves
+    }
+
     /// How many calls failed.
     pub fn faults(&self) -> u64
         ensures { result ≡ self.now.faults }
@@ -84,6 +97,13 @@ impl MemFiles {
         ensures { result ≡ self.now.taken }
     {
         self.taken
+    }
+
+    /// How many bytes the last load took.
+    pub fn last_taken(&self) -> u64
+        ensures { result ≡ self.now.last_taken }
+    {
+        self.last_taken
     }
 
     /// Makes these the bytes of the file. This is no call that is counted.
@@ -106,6 +126,27 @@ impl MemFiles {
             Some(bytes) if bytes.as_slice().len() > most => Err(LoadRefusal::TooLong),
             Some(bytes) => Ok(Bytes::copy_of(alloc, bytes.as_slice())?),
         }
+    }
+
+    // Counts a load that gave this answer, and what it took.
+    fn count_load(&mut self, most: usize, answer: &Result<Bytes, LoadRefusal>)
+        ensures later { self.old.calls ≤ self.new.calls }
+        ensures called { LoadCalls self.old.calls self.new.calls answer.now }
+        ensures counted { LoadCounts self.old.faults self.new.faults answer.now }
+        ensures taken { LoadTakes most self.old.taken self.new.taken answer.now }
+        ensures last { LoadTakes most 0 self.new.last_taken answer.now }
+        ensures after { self.new ≡ after_load self.old most answer.now }
+    {
+        let calls = self.calls.saturating_add(1);
+        self.last_taken = 0;
+        match answer {
+            Ok(bytes) => self.last_taken = bytes.as_slice().len() as u64,
+            Err(LoadRefusal::Failed) => self.faults = self.faults.saturating_add(1),
+            Err(LoadRefusal::TooLong) => self.last_taken = (most as u64).saturating_add(1),
+            Err(LoadRefusal::NoMemory) => return,
+        }
+        self.calls = calls;
+        self.taken = self.taken.saturating_add(self.last_taken);
     }
 }
 
@@ -144,47 +185,47 @@ impl Files for MemFiles {
 
     ghost calls = { λ files. files.calls };
 
+    ghost saves = { λ files. files.saves };
+
     ghost faults = { λ files. files.faults };
 
     ghost taken = { λ files. files.taken };
+
+    ghost last_taken = { λ files. files.last_taken };
 
     fn load(&mut self, alloc: Global, name: &str, most: usize) -> Result<Bytes, LoadRefusal>
         ensures later { self.old.calls ≤ self.new.calls }
         ensures called { LoadCalls self.old.calls self.new.calls result }
         ensures counted { LoadCounts self.old.faults self.new.faults result }
         ensures taken { LoadTakes most self.old.taken self.new.taken result }
+        ensures last { LoadTakes most 0 self.new.last_taken result }
         ensures answers { LoadAnswers (load_answer self.old name.now most) result }
         ensures after { self.new ≡ after_load self.old most result }
     {
-        let calls = self.calls.saturating_add(1);
-        let result = self.look_up(alloc, name, most);
-        match &result {
-            Ok(bytes) => self.taken = self.taken.saturating_add(bytes.as_slice().len() as u64),
-            Err(LoadRefusal::Failed) => self.faults = self.faults.saturating_add(1),
-            Err(LoadRefusal::TooLong) => {
-                self.taken = self.taken.saturating_add(most as u64).saturating_add(1);
-            }
-            Err(LoadRefusal::NoMemory) => return result,
-        }
-        self.calls = calls;
-        result
+        let answer = self.look_up(alloc, name, most);
+        self.count_load(most, &answer);
+        answer
     }
 
     fn save(&mut self, alloc: Global, name: &str, bytes: &[u8]) -> Result<(), SaveRefusal>
         ensures later { self.old.calls ≤ self.new.calls }
         ensures called { SaveCalls self.old.calls self.new.calls result }
+        ensures saved { SavesCounted self.old.saves self.new.saves result }
         ensures counted { SaveCounts self.old.faults self.new.faults result }
         ensures answers { SaveAnswers (is_listed self.old.failing self.old.calls) result }
         ensures after { self.new ≡ after_save self.old name.now bytes.now result }
     {
         let calls = self.calls.saturating_add(1);
-        if self.failing.contains(&self.calls) {
-            self.calls = calls;
+        let fails = self.failing.contains(&self.calls);
+        if !fails {
+            put_first(alloc, &mut self.entries, name, bytes)?;
+        }
+        self.calls = calls;
+        self.saves = self.saves.saturating_add(1);
+        if fails {
             self.faults = self.faults.saturating_add(1);
             return Err(SaveRefusal::Failed);
         }
-        put_first(alloc, &mut self.entries, name, bytes)?;
-        self.calls = calls;
         Ok(())
     }
 }

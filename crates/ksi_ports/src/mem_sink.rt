@@ -1,4 +1,4 @@
-ghost use Rattle.std.specs.Prelude.{◌≡◌, ◌≤◌, true, IfOk, OnErr, is_err};
+ghost use Rattle.std.specs.Prelude.{◌≡◌, ◌≤◌, true, length, IfOk, OnErr, is_err};
 ghost use Rattle.ksi_ports.specs.Outside.{count_up, Raises};
 ghost use Rattle.ksi_ports.specs.Memory.{no_output, put_fails, after_put};
 
@@ -14,6 +14,7 @@ pub struct MemSink {
     room: usize,
     failing: Vec<u64>,
     puts: u64,
+    given: u64,
     faults: u64,
 }
 
@@ -28,6 +29,7 @@ impl Model for MemSink {
       room = sink.room;
       failing = sink.failing.items;
       puts = sink.puts;
+      given = sink.given;
       faults = sink.faults;
     } };
 
@@ -44,6 +46,7 @@ impl MemSink {
             room,
             failing,
             puts: 0,
+            given: 0,
             faults: 0,
         })
     }
@@ -60,6 +63,13 @@ impl MemSink {
         ensures { result ≡ self.now.puts }
     {
         self.puts
+    }
+
+    /// How many bytes were given to puts.
+    pub fn given(&self) -> u64
+        ensures { result ≡ self.now.given }
+    {
+        self.given
     }
 
     /// How many puts failed.
@@ -84,17 +94,21 @@ impl Sink for MemSink {
 
     ghost puts = { λ sink. sink.puts };
 
+    ghost given = { λ sink. sink.given };
+
     ghost faults = { λ sink. sink.faults };
 
     fn put(&mut self, piece: &[u8]) -> Result<(), SinkFailed>
         ensures later { self.old.puts ≤ self.new.puts }
         ensures called { self.new.puts ≡ count_up 1 self.old.puts }
+        ensures given { self.new.given ≡ count_up (length piece.now) self.old.given }
         ensures failed { OnErr result (Raises self.old.faults self.new.faults) }
         ensures answers { is_err result ≡ put_fails self.old piece.now }
         ensures after { self.new ≡ after_put self.old piece.now }
     {
         let fails = self.is_to_fail(piece);
         self.puts = self.puts.saturating_add(1);
+        self.given = self.given.saturating_add(piece.len() as u64);
         if fails {
             self.faults = self.faults.saturating_add(1);
             return Err(SinkFailed);

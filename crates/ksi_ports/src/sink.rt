@@ -1,4 +1,4 @@
-ghost use Rattle.std.specs.Prelude.{◌≡◌, ℕ, ◌≤◌, Bool, IsTrue, List, ◌++◌, OnOk, OnErr};
+ghost use Rattle.std.specs.Prelude.{◌≡◌, ℕ, ◌≤◌, Bool, IsTrue, List, length, ◌++◌, OnOk, OnErr};
 ghost use Rattle.ksi_ports.specs.Outside.{count_up, Raises, ExtendsByFront};
 
 /// A put failed, and the count of faults rose.
@@ -7,7 +7,8 @@ pub struct SinkFailed;
 
 /// What takes a run's output.
 ///
-/// The counts of puts and of faults never fall. They stop at 2^64 - 1, where one counts as risen by any number.
+/// The counts of puts and of faults and the tally of bytes never fall. They stop at 2^64 - 1, where one counts as risen by
+/// any number.
 pub trait Sink {
     /// Whether this kind of sink tells what was written.
     ghost tells: { Bool };
@@ -17,6 +18,9 @@ pub trait Sink {
 
     /// How often something was put.
     ghost puts: { Self → ℕ };
+
+    /// How many bytes were given to puts, whether they were written or not.
+    ghost given: { Self → ℕ };
 
     /// How often a put failed.
     ghost faults: { Self → ℕ };
@@ -30,6 +34,7 @@ pub trait Sink {
     fn put(&mut self, piece: &[u8]) -> Result<(), SinkFailed>
         ensures later { puts self.old ≤ puts self.new }
         ensures called { puts self.new ≡ count_up 1 (puts self.old) }
+        ensures given { given self.new ≡ count_up (length piece.now) (given self.old) }
         ensures counted { OnOk result (faults self.new ≡ faults self.old) }
         ensures failed { OnErr result (Raises (faults self.old) (faults self.new)) }
         ensures appended { IsTrue tells → OnOk result (written self.new ≡ written self.old ++ piece.now) }

@@ -2,4 +2,4 @@
 use Rattle.ksi_ports.proofs.host_sink.HostSinkSink.TheImpl.Goals as goal
 
 pub put-tells : goal.put-tells
-put-tells g c = record { later = c.ensures.later; called = c.ensures.called; counted = c.ensures.counted; failed = c.ensures.failed; appended = λ told. cc; front = λ told. cc }
+put-tells g c = record { later = c.ensures.later; called = c.ensures.called; given = c.ensures.given; counted = c.ensures.counted; failed = c.ensures.failed; appended = λ told. cc; front = λ told. cc }
