@@ -12,8 +12,6 @@
 
 mod journal;
 mod replaying;
-#[cfg(test)]
-mod tests;
 
 pub use journal::journal_of;
 pub use ksi_imprint::NoMemory;
