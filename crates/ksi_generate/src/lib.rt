@@ -26,6 +26,3 @@ mod whole;
 
 pub use ksi_imprint::NoMemory;
 pub use whole::generate;
-
-#[cfg(test)]
-mod tests;

@@ -121,10 +121,4 @@ impl Maker {
     {
         self.world.plan().copy(alloc)
     }
-
-    /// How many seconds are published.
-    #[cfg(test)]
-    pub(crate) fn published(&self) -> usize {
-        self.world.published().len()
-    }
 }

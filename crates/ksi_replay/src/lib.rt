@@ -14,8 +14,6 @@
 mod journal;
 pub mod laws;
 mod replaying;
-#[cfg(test)]
-mod tests;
 
 pub use journal::journal_of;
 pub use ksi_imprint::NoMemory;

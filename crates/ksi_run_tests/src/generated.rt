@@ -1,16 +1,10 @@
-use crate::maker::Maker;
-use crate::plan::START;
-use crate::*;
-use ksi_schedule::print;
+use crate::same::same;
+use ksi_generate::{NoMemory, generate};
+use ksi_imprint::Sha;
+use ksi_schedule::{Event, Schedule, print};
+use ksi_world::World;
 use std::alloc::Global;
-use std::fmt::Debug;
-use std::process::Abort;
 use std::test::Fail;
-
-// The one assertion. The time to prove a function grows with the square of its length.
-fn same<T: Copy + Debug + PartialEq>(rt: &impl Abort, told: T, want: T) {
-    assert_eq!(rt; told, want);
-}
 
 /// The first lines for number 7: its header, the requests that the first two hundred bytes of its stream say, and the
 /// rounds of the aggregators that these come to.
@@ -43,39 +37,39 @@ seal 2 1700000000
 ballot 1 1700000000
 ";
 
-/// The most messages that are sent in one second, and how many seconds are published.
-fn counts(alloc: Global, number: u64) -> Result<(u64, usize), NoMemory> {
-    let mut maker = Maker::new(alloc, number)?;
-    let mut most = 0;
-    'seconds: for i in 0..256 {
-        let before = maker.messages();
-        maker.steps_of(i, START + i)?;
-        most = most.max(maker.messages().saturating_sub(before));
-    }
-    Ok((most, maker.published()))
-}
-
 #[test]
 fn the_text_of_seven_begins_so(rt: HostRuntime) -> Result<(), Fail> {
     let schedule = generate(rt.alloc(), 7)?;
     let text = print(rt.alloc(), &schedule)?;
-    same(&rt, text.as_slice().starts_with(FIRST.as_bytes()), true);
+    same(&rt, 7, text.as_slice().starts_with(FIRST.as_bytes()), true);
     Ok(())
 }
 
-#[test]
-fn every_sixteenth_second_is_published(rt: HostRuntime) -> Result<(), Fail> {
-    let (_, published) = counts(rt.alloc(), 7)?;
-    same(&rt, published, 16);
-    Ok(())
+/// Whether the event is the first of a second that can send a message.
+fn is_first(event: &Event) -> bool {
+    matches!(event, Event::Close(5, _))
 }
 
-/// So no step looks at 500 messages, and none is left.
+/// The most messages that are sent in one second, and how many seconds are published.
+fn counts(alloc: Global, schedule: &Schedule) -> Result<(usize, usize), NoMemory> {
+    let mut world = World::<Sha>::new(alloc, schedule.plan())?;
+    let mut most = 0;
+    let mut sent = 0usize;
+    'events: for event in schedule.events() {
+        let before = if is_first(event) { 0 } else { sent };
+        sent = world.step(*event)?.sent.saturating_add(before);
+        most = most.max(sent);
+    }
+    Ok((most, world.published().len()))
+}
+
+/// So no step looks at 500 messages, and none is left. Every sixteenth second is published.
 #[test]
 fn few_messages_are_sent_in_a_second(rt: HostRuntime) -> Result<(), Fail> {
     for number in [0, 7, u64::MAX] {
-        let (most, _) = counts(rt.alloc(), number)?;
-        same(&rt, most < 500, true);
+        let schedule = generate(rt.alloc(), number)?;
+        let (most, published) = counts(rt.alloc(), &schedule)?;
+        same(&rt, number, (most < 500, published), (true, 16));
     }
     Ok(())
 }

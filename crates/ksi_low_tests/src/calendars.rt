@@ -1,22 +1,16 @@
 ghost use Rattle.std.specs.Prelude.{◌≡◌, ◌≤◌, ◌<◌, ◌+◌, ◌^◌, length, IfOk};
 
-use crate::{Calendar, SecondPath};
+use crate::same::same;
 use ksi_calchain::CalLink;
-use ksi_imprint::{Compress, Imprint, NoMemory, Tiny};
-use ksi_rows::Steps;
+use ksi_calendar::{Calendar, SecondPath, Steps};
+use ksi_imprint::{Imprint, NoMemory, Tiny};
+use ksi_split::Side;
 use ksi_split::Side::{Left, Right};
-use ksi_split::{Side, split};
 use std::alloc::Global;
-use std::fmt::Debug;
 use std::marker::Brand;
 use std::process::Abort;
 use std::sync::ledger::{Blank, Ledger};
 use std::test::Fail;
-
-// The one assertion. The time to prove a function grows with the square of its length.
-fn same<T: Copy + Debug + PartialEq>(rt: &impl Abort, at: &str, told: T, want: T) {
-    assert_eq!(rt; told, want, "{at}");
-}
 
 /// The imprint whose digest has this first byte, and zero bytes behind it.
 fn named(first: u8) -> Imprint {
@@ -86,103 +80,6 @@ fn counted<L: Ledger>(
     calendar.chain_to_counted(t, p, &mut steps)
 }
 
-/// The tree over `n` of the roots from `lo`, by plain recursion.
-fn plain_tree(roots: &[Imprint], lo: u64, n: u64) -> Imprint
-    requires { lo + n ≤ 1000 }
-{
-    if n <= 1 {
-        return match roots.get(lo as usize) {
-            Some(root) => *root,
-            None => Imprint::ZERO,
-        };
-    }
-    let half = split(n);
-    let left = plain_tree(roots, lo, half);
-    let right = plain_tree(roots, lo + half, n - half);
-    Tiny::join(left.bytes(), right.bytes(), 0xff)
-}
-
-/// The link at the top of a tree over `n` of the roots from `lo`, for leaf `lo + t`.
-fn plain_link(roots: &[Imprint], lo: u64, t: u64, n: u64) -> CalLink
-    requires several { 1 < n }
-    requires few { lo + n ≤ 1000 }
-{
-    let half = split(n);
-    if t < half {
-        CalLink {
-            side: Left,
-            sibling: plain_tree(roots, lo + half, n - half),
-        }
-    } else {
-        CalLink {
-            side: Right,
-            sibling: plain_tree(roots, lo, half),
-        }
-    }
-}
-
-/// The links from leaf `lo + t` up to that tree, by plain recursion.
-fn plain_chain(
-    roots: &[Imprint],
-    lo: u64,
-    t: u64,
-    n: u64,
-    links: &mut Vec<CalLink>,
-) -> Result<(), NoMemory>
-    requires { lo + n ≤ 1000 }
-{
-    if n <= 1 {
-        return Ok(());
-    }
-    let half = split(n);
-    if t < half {
-        plain_chain(roots, lo, t, half, links)?;
-    } else {
-        plain_chain(roots, lo + half, t - half, n - half, links)?;
-    }
-    links.push(plain_link(roots, lo, t, n))?;
-    Ok(())
-}
-
-fn agree(
-    rt: &impl Abort,
-    alloc: Global,
-    calendar: &Calendar<Tiny>,
-    roots: &[Imprint],
-    t: u64,
-    p: u64,
-) -> Result<(), NoMemory>
-    requires within { t ≤ p }
-    requires covered { p < calendar.now.start + length calendar.now.roots }
-    requires few { p < 1000 }
-{
-    let mut links = Vec::new(alloc);
-    plain_chain(roots, 0, t, p + 1, &mut links)?;
-    chain(rt, calendar, t, p, links.as_slice())
-}
-
-fn agree_below(
-    rt: &impl Abort,
-    alloc: Global,
-    calendar: &Calendar<Tiny>,
-    roots: &[Imprint],
-    p: u64,
-) -> Result<(), NoMemory>
-    requires covered { p < calendar.now.start + length calendar.now.roots }
-    requires few { p < 1000 }
-{
-    same(
-        rt,
-        "tree",
-        calendar.root_at(p),
-        Some(plain_tree(roots, 0, p + 1)),
-    );
-    for t in 0..p + 1 {
-        agree(rt, alloc, calendar, roots, t, p)?;
-    }
-    Ok(())
-}
-
 fn three_seconds(alloc: Global) -> Result<Calendar<Tiny>, NoMemory>
     ensures { IfOk result (λ calendar. calendar.start + length calendar.roots ≡ 3) }
 {
@@ -244,23 +141,5 @@ fn zeros_stand_before_a_late_start(rt: HostRuntime) -> Result<(), Fail> {
     let late = calendar_of(rt.alloc(), 1_700_000_000, &[named(0x0a)])?;
     let links = late.chain_to(1_700_000_000, 1_700_000_000)?;
     zeros_below(&rt, links.as_slice());
-    Ok(())
-}
-
-fn forty() -> [Imprint; 40] {
-    let mut roots = [Imprint::ZERO; 40];
-    for (place, root) in roots.iter_mut().enumerate() {
-        *root = named((place % 50) as u8 * 5);
-    }
-    roots
-}
-
-#[test]
-fn trees_and_chains_by_plain_recursion(rt: HostRuntime) -> Result<(), Fail> {
-    let roots = forty();
-    let calendar = calendar_of(rt.alloc(), 0, &roots)?;
-    for p in 0..40u64 {
-        agree_below(&rt, rt.alloc(), &calendar, &roots, p)?;
-    }
     Ok(())
 }

@@ -1,15 +1,10 @@
 ghost use Rattle.std.specs.Prelude.{◌≤◌};
 
-use crate::*;
+use crate::same::same;
+use ksi_tlv::{Elements, NoMemory, NumberFault, PutRefusal, TlvFault, Writer, number, read_one};
 use std::alloc::Global;
-use std::fmt::Debug;
 use std::process::Abort;
 use std::test::Fail;
-
-// The one assertion. The time to prove a function grows with the square of its length.
-fn same<T: Copy + Debug + PartialEq>(rt: &impl Abort, at: usize, told: T, want: T) {
-    assert_eq!(rt; told, want, "at {at}");
-}
 
 /// Vectors worked out by hand from the layout of headers.
 #[test]
