@@ -1,6 +1,6 @@
 -- Memory that is wanting behind an element is wanting behind those before it too.
-use Rattle.std.proofs.Common.{◌≡◌, List, [], ◌∷◌, ◌++◌, Result, Ok, Err, ℕ, refl, sym, ap, ◌∙◌}
-use Rattle.ksi_tlv.specs.Walking.{PlacedTlv, Cut, Items, items_of}
+use Rattle.std.proofs.Common.{◌≡◌, [], ◌∷◌, Result, Ok, Err, ℕ, refl, sym, ap, ◌∙◌}
+use Rattle.ksi_tlv.specs.Walking.{PlacedTlv, Cut, Items}
 use Rattle.ksi_order.specs.Order.{Order, one_more, walked, ◌>>=◌}
 use Rattle.ksi_order.specs.Sequence.{IsWanting, WantsAt}
 use Rattle.ksi_order.proofs.Both.{one_ok}

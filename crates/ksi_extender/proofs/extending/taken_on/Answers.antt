@@ -1,4 +1,4 @@
-use Rattle.std.proofs.Common.{◌<◌, arith, sym}
+use Rattle.std.proofs.Common.{◌<◌, arith}
 use Rattle.std.proofs.lemmas.List.Elements.{All-from_get_or}
 use Rattle.ksi_extender.proofs.Told.{found, some_signature, no_chains}
 use Rattle.ksi_extender.proofs.extending.taken_on.Goals as goal

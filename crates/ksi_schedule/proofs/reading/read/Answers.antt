@@ -1,4 +1,4 @@
-use Rattle.std.proofs.Common.{◌≡◌, true, rules}
+use Rattle.std.proofs.Common.{◌≡◌, true}
 use Rattle.ksi_schedule.specs.Pieces.{lines}
 use Rattle.ksi_schedule.proofs.Wanting.{wanting_behind_three}
 use Rattle.ksi_schedule.proofs.reading.read.Goals as goal
