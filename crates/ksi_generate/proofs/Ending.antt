@@ -1,23 +1,22 @@
 -- All deliveries end because no message is left: each takes its message's weight from what is left, and what it sends
 -- weighs less.
-use Rattle.std.proofs.Common.{◌≡◌, ℕ, zero, suc, ◌+◌, ◌*◌, ◌<◌, ◌≤◌, nat_lt, Bool, true, false, List, [], ◌∷◌, ◌++◌, length, drop, Option, Some, None, refl, sym, ap, subst, ◌∙◌, arith, slice_get, append_assoc, append-nil, suc-mul, mul-le-mul_right}
+use Rattle.std.proofs.Common.{◌≡◌, ℕ, zero, suc, ◌+◌, ◌*◌, ◌<◌, ◌≤◌, nat_lt, Bool, true, false, List, [], ◌∷◌, ◌++◌, length, drop, Some, refl, sym, ap, subst, ◌∙◌, arith, slice_get, append_assoc, append-nil, suc-mul, mul-le-mul_right}
 use Rattle.std.proofs.lemmas.List.{drop-append-le}
 use Rattle.std.proofs.Math.Seq.{drop-append_seam}
 use Rattle.ksi_imprint.specs.Imprints.{imprint_of}
 use Rattle.ksi_schedule.specs.declared.event.Event.{Event}
 use Rattle.ksi_schedule.specs.declared.event.Event.TheVariants as events
 use Rattle.ksi_schedule.specs.Plans.{PlanState}
-use Rattle.ksi_schedule.specs.Events.{with_event, IsEvent, AreEvents}
+use Rattle.ksi_schedule.specs.Events.{IsEvent, AreEvents}
 use Rattle.ksi_world.specs.declared.message.Message.{Message}
 use Rattle.ksi_world.specs.Histories.{WorldState, happens, run, after, first_world, world_of}
 use Rattle.ksi_generate.specs.declared.manner.Manner.{Manner}
 use Rattle.ksi_generate.specs.declared.manner.Manner.TheVariants.{Once, Drawn}
-use Rattle.ksi_generate.specs.Making.{Making, Steps, happen, messages, draw, when, times, each_message}
+use Rattle.ksi_generate.specs.Making.{Making, happen, messages, draw, when, times, each_message}
 use Rattle.ksi_generate.specs.Generate.{header, copies, delivered, delivers, enough, DeliversAll, none_left, one_more}
 use Rattle.ksi_generate.proofs.Weights.{led_by, weight, heavy, heavy_both}
 use Rattle.ksi_generate.proofs.Leading.{IsThinWorld, Goes, IsThere, led_by_event, led_by_found, led_few, happens_goes, first_thin}
 use Rattle.ksi_generate.proofs.Few.{copies_few}
-use Rattle.ksi_generate.proofs.Loops.{messages_end, messages_next}
 use borrow.Author.Tests.{ltb-true, ltb-false}
 
 -- ---- the world of a making

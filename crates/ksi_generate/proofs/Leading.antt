@@ -1,15 +1,14 @@
 -- What one event leads to, in a world of this plan.
-use Rattle.std.proofs.Common.{◌≡◌, ℕ, zero, suc, ◌+◌, ◌*◌, ◌<◌, ◌≤◌, ◌&&◌, eqb, true, false, List, [], ◌∷◌, ◌++◌, map, Option, Some, None, refl, sym, ap, subst, arith, is_some, slice_get, append-nil, length}
+use Rattle.std.proofs.Common.{◌≡◌, ℕ, zero, suc, ◌<◌, ◌≤◌, ◌&&◌, eqb, List, [], ◌∷◌, ◌++◌, map, Option, Some, None, refl, sym, subst, arith, is_some, slice_get, append-nil, length}
 use Rattle.std.proofs.lemmas.Bool.{cond_both, eqb-true, and_parts}
 use Rattle.ksi_aggchain.specs.declared.item.Item.{Item}
 use Rattle.ksi_aggtree.specs.declared.entries.Entry.{Entry}
 use Rattle.ksi_aggtree.specs.declared.entries.Origin.{Origin}
 use Rattle.ksi_aggtree.specs.declared.entries.Origin.TheVariants as origins
-use Rattle.ksi_aggtree.specs.Entries.{items_of, has_from, is_full, candidate_of}
+use Rattle.ksi_aggtree.specs.Entries.{items_of, has_from, is_full}
 use Rattle.ksi_synod.specs.declared.messages.SynodMessage.{SynodMessage}
 use Rattle.ksi_synod.specs.declared.messages.SynodMessage.TheVariants as message
-use Rattle.ksi_synod.specs.VoteState.{VoteState, fresh_vote}
-use Rattle.ksi_synod.specs.Rows.{seal, try_ballot, ballot_told, receive, held_told, restarted}
+use Rattle.ksi_synod.specs.Rows.{try_ballot, ballot_told, receive, held_told}
 use Rattle.ksi_signature.specs.declared.above.Above.{Above}
 use Rattle.ksi_signature.specs.declared.answer.Answer.{Answer}
 use Rattle.ksi_signature.specs.declared.answer.Answer.TheVariants as answers
@@ -19,15 +18,13 @@ use Rattle.ksi_corenode.specs.Held.{Held, first_missing, held_seconds}
 use Rattle.ksi_corenode.specs.declared.step.Send as core_step
 use Rattle.ksi_corenode.specs.declared.step.Send.TheVariants as core_sends
 use Rattle.ksi_corenode.specs.Rows.{submission_row, submitted, item_taken, seal_row, sealed_now, ballot_row, receive_row, tell_row, respond_row, respond_where, responded, above_item, is_mine, restart_row}
-use Rattle.ksi_aggregator.specs.declared.step.Send as round_step
-use Rattle.ksi_aggregator.specs.declared.step.Send.TheVariants as round_sends
 use Rattle.ksi_aggregator.specs.Responses.{responses, responses_from, told_to, below}
 use Rattle.ksi_aggregator.specs.Rows.{RoundState, RoundTurn, fresh_round, round_still, round_added, closed_now, answered_now, request_entry, submitted_entry, round_request, round_submission, round_close, round_response, response_where, round_restarted, submission_of}
 use Rattle.ksi_schedule.specs.declared.actor.Actor.{Actor}
 use Rattle.ksi_schedule.specs.declared.actor.Actor.TheVariants as actors
 use Rattle.ksi_schedule.specs.declared.event.Event.{Event}
 use Rattle.ksi_schedule.specs.declared.event.Event.TheVariants as events
-use Rattle.ksi_schedule.specs.Plans.{PlanState, parent_of}
+use Rattle.ksi_schedule.specs.Plans.{parent_of}
 use Rattle.ksi_world.specs.declared.outcome.Asked.{Asked}
 use Rattle.ksi_world.specs.declared.message.Content.{Content}
 use Rattle.ksi_world.specs.declared.message.Content.TheVariants as contents
@@ -35,7 +32,7 @@ use Rattle.ksi_world.specs.declared.message.Message.{Message}
 use Rattle.ksi_world.specs.Histories.{WorldState, Happening, put_at, core_message, round_message, at_core, at_round, accepted_where, request_happens, delivered, happens, held_in, first_world}
 use Rattle.ksi_world.specs.Histories as histories
 use Rattle.ksi_generate.specs.Generate.{header}
-use Rattle.ksi_generate.proofs.Weights.{led_below, led_below_few, led_by_vote, led_by, heavy, sent_by, heavy_told, led_by_received, led_by_ballot, led_by_tell, down, heavy_core, heavy_round}
+use Rattle.ksi_generate.proofs.Weights.{led_below, led_below_few, led_by_vote, led_by, heavy, heavy_told, led_by_received, led_by_ballot, led_by_tell, heavy_core, heavy_round}
 use Rattle.ksi_generate.proofs.Thin.{IsThin, thin_none, thin_request, thin_item}
 
 -- ---- the world

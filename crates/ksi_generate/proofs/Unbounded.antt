@@ -14,7 +14,7 @@ use Rattle.ksi_generate.proofs.Leading.{IsThere, led_by_event, first_thin}
 use Rattle.ksi_generate.proofs.Few.{drawn_few}
 use Rattle.ksi_generate.proofs.Loops.{messages_end}
 use Rattle.ksi_generate.proofs.Ending.{world, IsFine, Sends, happen_sends, left, end_left, one_left_less, left_after}
-use borrow.Author.Tests.{ltb-true, ltb-false}
+use borrow.Author.Tests.{ltb-true}
 
 -- a making of this plan, over a stream with places enough
 record IsWide (m : Making) : Type 0 where

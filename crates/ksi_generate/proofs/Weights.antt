@@ -8,7 +8,7 @@ use Rattle.ksi_synod.specs.declared.messages.Begun.TheVariants as begun
 use Rattle.ksi_synod.specs.declared.messages.Took.{Took}
 use Rattle.ksi_synod.specs.declared.messages.Took.TheVariants as took
 use Rattle.ksi_synod.specs.VoteState.{VoteState}
-use Rattle.ksi_synod.specs.Rows.{try_ballot, ballot_told, held_told, on_next, on_last, on_begin, on_voted, promise_told, decree_begun, vote_told, decree_told, receive}
+use Rattle.ksi_synod.specs.Rows.{ballot_told, held_told, on_next, on_last, on_begin, on_voted, promise_told, decree_begun, vote_told, decree_told, receive}
 use Rattle.ksi_aggchain.specs.declared.item.Item.{Item}
 use Rattle.ksi_aggtree.specs.declared.entries.Entry.{Entry}
 use Rattle.ksi_aggtree.specs.declared.entries.Origin.{Origin}
