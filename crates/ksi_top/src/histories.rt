@@ -13,7 +13,7 @@ use ksi_facts::laws::history_is_recalled;
 use ksi_history::laws::{held_stays, history_is_joined, journal_keeps_roots};
 use ksi_journal::laws::written_is_journal;
 use ksi_schedule::spelled_is_schedule;
-use ksi_world::laws::{agreement, all_issued, validity};
+use ksi_world::laws::{agreement, all_issued, responses_climb, validity};
 
 /// What holds over every history that a schedule spells, where its journal is one.
 pub(crate) fn histories_hold()
@@ -27,6 +27,7 @@ pub(crate) fn histories_hold()
     held_stays();
     history_is_recalled();
     validity();
+    responses_climb();
     all_issued();
     journal_keeps_roots();
     history_is_joined();

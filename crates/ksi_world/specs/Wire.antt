@@ -43,13 +43,14 @@ pub record IsLinked (image : List ℕ → List ℕ) (plan : PlanState) (w : Worl
   pub leads_on : ClimbsCal image above.root above.calendar (held_root image (held_in w core) plan.start message.second)
   pub from : plan.start ≤ message.second
   pub covered : (t : ℕ) → plan.start ≤ t → t ≤ message.second → IsSome (held_in w core t)
-  -- the second is none that was missed
+  -- the root is not the zero imprint, which would say that the second was missed
   pub real : above.root ≢ zero_imprint
-  -- there are at most 8 chains, of at most 16 links each; the level of the last link, which is the greatest, is at most 144,
-  -- and there are at most 63 links in the calendar chain
+  -- there are at most 8 chains, of at most 16 links each
   pub few : length above.chains ≤ 8
   pub short : AllByRecursion (λ chain. length chain.links ≤ 16) above.chains
+  -- levels are at most 144: a level rises with each link, so that of the last one is the greatest
   pub low : top.level ≤ 144
+  -- there are at most 63 links in the calendar chain
   pub brief : length above.calendar ≤ 63
 
 -- each Response that was ever sent

@@ -26,6 +26,7 @@ returns-clause-holds c = λ text h spelled lawful.
           joined.issued number issued_text issued (all_at IsIssued (issued_all imprint_of w) listed.0 (number, issued_text) all listed.1).bytes;
       answered = joined.answered;
       published = joined.published;
+      responses = c.responses_climb.ensures imprint_of h sha_imprints is.plan is.events (c.spelled_is_schedule.ensures.imprints text h spelled);
       recalled = c.history_is_recalled.ensures imprint_of h is.plan;
     }
 
