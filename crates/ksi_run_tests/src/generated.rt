@@ -1,9 +1,6 @@
 use crate::same::same;
-use ksi_generate::{NoMemory, generate};
-use ksi_imprint::Sha;
+use ksi_generate::generate;
 use ksi_schedule::{Event, Schedule, print};
-use ksi_world::World;
-use std::alloc::Global;
 use std::test::Fail;
 
 /// The first lines for number 7: its header, the requests that the first two hundred bytes of its stream say, and the
@@ -45,31 +42,20 @@ fn the_text_of_seven_begins_so(rt: HostRuntime) -> Result<(), Fail> {
     Ok(())
 }
 
-/// Whether the event is the first of a second that can send a message.
-fn is_first(event: &Event) -> bool {
-    matches!(event, Event::Close(5, _))
+/// How many events publish a second.
+fn published(schedule: &Schedule) -> usize {
+    schedule
+        .events()
+        .iter()
+        .filter(|event| matches!(event, Event::Publish(..)))
+        .count()
 }
 
-/// The most messages that are sent in one second, and how many seconds are published.
-fn counts(alloc: Global, schedule: &Schedule) -> Result<(usize, usize), NoMemory> {
-    let mut world = World::<Sha>::new(alloc, schedule.plan())?;
-    let mut most = 0;
-    let mut sent = 0usize;
-    'events: for event in schedule.events() {
-        let before = if is_first(event) { 0 } else { sent };
-        sent = world.step(*event)?.sent.saturating_add(before);
-        most = most.max(sent);
-    }
-    Ok((most, world.published().len()))
-}
-
-/// So no step looks at 500 messages, and none is left. Every sixteenth second is published.
 #[test]
-fn few_messages_are_sent_in_a_second(rt: HostRuntime) -> Result<(), Fail> {
+fn every_sixteenth_second_is_published(rt: HostRuntime) -> Result<(), Fail> {
     for number in [0, 7, u64::MAX] {
         let schedule = generate(rt.alloc(), number)?;
-        let (most, published) = counts(rt.alloc(), &schedule)?;
-        same(&rt, number, (most < 500, published), (true, 16));
+        same(&rt, number, published(&schedule), 16);
     }
     Ok(())
 }
