@@ -10,15 +10,14 @@ ghost use Rattle.ksi_replay.specs.Journals.{journal_of};
 ghost use Rattle.ksi_top.specs.Headline.{HoldsOver};
 
 use ksi_facts::laws::history_is_recalled;
-use ksi_history::laws::{held_stays, history_is_joined, journal_keeps_roots};
+use ksi_history::laws::{held_stays, history_is_joined};
 use ksi_journal::laws::written_is_journal;
 use ksi_schedule::spelled_is_schedule;
-use ksi_world::laws::{agreement, all_issued, responses_climb, validity};
+use ksi_world::laws::{agreement, responses_climb, validity};
 
-/// What holds over every history that a schedule spells, where its journal is one.
+/// What holds over every history that a schedule spells.
 pub(crate) fn histories_hold()
-    ensures holds { (text : List ℕ) (history : History) → IsScheduleText text history →
-        IsJournal imprint_of (journal_of imprint_of history) → HoldsOver history }
+    ensures holds { (text : List ℕ) (history : History) → IsScheduleText text history → HoldsOver history }
     ensures again { (history : History) → IsJournal imprint_of (journal_of imprint_of history) →
         IsJournalFile imprint_of (journal_text (journal_of imprint_of history)) (journal_of imprint_of history) }
 {
@@ -28,8 +27,6 @@ pub(crate) fn histories_hold()
     history_is_recalled();
     validity();
     responses_climb();
-    all_issued();
-    journal_keeps_roots();
     history_is_joined();
     written_is_journal();
 }
