@@ -12,6 +12,7 @@ ghost use Rattle.ksi_top.specs.Headline.{HoldsOver};
 use ksi_facts::laws::history_is_recalled;
 use ksi_history::laws::{held_stays, history_is_joined};
 use ksi_journal::laws::written_is_journal;
+use ksi_replay::laws::hashes_are_bytes;
 use ksi_schedule::spelled_is_schedule;
 use ksi_world::laws::{agreement, responses_climb, validity};
 
@@ -22,6 +23,7 @@ pub(crate) fn histories_hold()
         IsJournalFile imprint_of (journal_text (journal_of imprint_of history)) (journal_of imprint_of history) }
 {
     spelled_is_schedule();
+    hashes_are_bytes();
     agreement();
     held_stays();
     history_is_recalled();

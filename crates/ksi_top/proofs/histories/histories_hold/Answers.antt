@@ -17,7 +17,7 @@ returns-clause-holds c = λ text h spelled.
       lasts = joined.issued;
       answered = joined.answered;
       published = joined.published;
-      responses = c.responses_climb.ensures imprint_of h sha_imprints is.plan is.events (c.spelled_is_schedule.ensures.imprints text h spelled);
+      responses = c.responses_climb.ensures imprint_of h c.hashes_are_bytes.ensures.imprints is.plan is.events (c.spelled_is_schedule.ensures.imprints text h spelled);
       recalled = c.history_is_recalled.ensures imprint_of h is.plan;
     }
 
