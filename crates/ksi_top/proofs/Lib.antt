@@ -1,4 +1,5 @@
 pub mod CauseLemmas
+pub mod Judged
 pub mod LineLengths
 pub mod Read
 pub mod Spacing

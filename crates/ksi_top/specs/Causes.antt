@@ -1,7 +1,7 @@
 -- When a call over files may report what, also where nothing is told of their contents: `LoadCaused` is of one load,
 -- `HaltsJudged` of a reader of what was loaded, `ReportCaused` of a command; the others are their parts by status.
-use Rattle.std.specs.Prelude.{◌≡◌, ℕ, ◌+◌, ◌≤◌, List, Option, None, Result, Ok, Err}
-use Rattle.ksi_ports.specs.Outside.{Raises, RoseBy}
+use Rattle.std.specs.Prelude.{◌≡◌, ℕ, ◌+◌, ◌<◌, ◌≤◌, List, Option, None, Some, Result, Ok, Err, slice_get}
+use Rattle.ksi_ports.specs.Outside.{count_up, Raises, RoseBy}
 use Rattle.ksi_top.specs.Lines.{too_long_line}
 use Rattle.ksi_top.specs.declared.report.Report.{Report}
 use Rattle.ksi_top.specs.declared.report.Halt.{Halt}
@@ -9,23 +9,34 @@ use Rattle.ksi_top.specs.declared.report.Halt.TheVariants as halts
 use Rattle.ksi_top.specs.declared.status.Status.{Status}
 use Rattle.ksi_top.specs.declared.status.Status.TheVariants.{Done, Refused, Words, Malformed, Fault, NoMemory, Clash, TooLong}
 
--- the counts of files at a moment: how often a call failed, and how many bytes were taken
+-- the counts of files at a moment: how often they were called on, how often a file was saved, how often a call failed, how
+-- many bytes were taken, and how many of them by the last load
 pub record Counts : Type 0 where
+  pub calls : ℕ
+  pub saves : ℕ
   pub faults : ℕ
   pub taken : ℕ
+  pub last_taken : ℕ
 
-abbrev pub counts : ℕ → ℕ → Counts
-counts faults taken = record { faults = faults; taken = taken }
+abbrev pub counts : (calls saves faults taken last_taken : ℕ) → Counts
+counts calls saves faults taken last_taken = record { calls = calls; saves = saves; faults = faults; taken = taken; last_taken = last_taken }
 
--- no call failed
+-- no call failed, and nothing was saved
 pub record Quiet (before now : Counts) : Type 0 where
   pub faults : now.faults ≡ before.faults
+  pub saves : now.saves ≡ before.saves
   pub taken : before.taken ≤ now.taken
 
--- a call failed
+-- a call failed, and nothing was saved
 pub record Faulty (before now : Counts) : Type 0 where
   pub faults : Raises before.faults now.faults
+  pub saves : now.saves ≡ before.saves
   pub taken : before.taken ≤ now.taken
+
+-- one load did not fail
+pub record Loaded (before now : Counts) : Type 0 where
+  pub quiet : Quiet before now
+  pub called : now.calls ≡ count_up 1 before.calls
 
 -- ---- reports of what was read
 
@@ -52,41 +63,51 @@ HaltsJudged (Err halts.NoMemory) = Unit {0}
 
 -- ---- reports of a call over files
 
--- file word n passes its limit: more bytes than that were taken
+-- the file of word n passes its limit: its load took more bytes than that
 pub record PassesLimit (n limit : ℕ) (before now : Counts) (report : Report) : Type 0 where
+  pub loaded : Loaded before now
   pub status : report.status ≡ TooLong
   pub unsaved : report.saved ≡ None
   pub line : report.line ≡ too_long_line n
   pub taken : RoseBy (limit + 1) before.taken now.taken
+  pub last : limit < now.last_taken
 
 -- what a load of file word n gives
 abbrev pub LoadCaused : {T : Type 0} → (n limit : ℕ) → Counts → Counts → Result T Halt → Type 0
-LoadCaused n limit before now (Ok value) = Quiet before now
-LoadCaused n limit before now (Err (halts.Reported report)) = Quiet before now × PassesLimit n limit before now report
+LoadCaused n limit before now (Ok value) = Loaded before now
+LoadCaused n limit before now (Err (halts.Reported report)) = PassesLimit n limit before now report
 LoadCaused n limit before now (Err halts.Fault) = Faulty before now
 LoadCaused n limit before now (Err halts.NoMemory) = Quiet before now
 
--- the line names a file word that passes its limit: more bytes than that were taken
-abbrev pub SomePasses : (limits : ℕ → ℕ) → Counts → Counts → List ℕ → Type 0
-SomePasses limits before now line = (n : ℕ) × (line ≡ too_long_line n) × RoseBy (limits n + 1) before.taken now.taken
+-- The line names the word of a file that passes its limit. It is the k-th of the files that are loaded, each told by its word
+-- and its limit, and was the last that was loaded: its load took more bytes than its limit.
+pub record SomePasses (files : List (ℕ × ℕ)) (before now : Counts) (line : List ℕ) : Type 0 where
+  pub k : ℕ
+  pub n : ℕ
+  pub limit : ℕ
+  pub file : slice_get files k ≡ Some (n, limit)
+  pub line_is : line ≡ too_long_line n
+  pub called : now.calls ≡ count_up (k + 1) before.calls
+  pub taken : RoseBy (limit + 1) before.taken now.taken
+  pub last : limit < now.last_taken
 
-abbrev pub CausedAs : (limits : ℕ → ℕ) → Counts → Counts → List ℕ → Status → Option (List ℕ × List ℕ) → Type 0
-CausedAs limits before now line Done saved = Unit {0}
-CausedAs limits before now line Refused saved = saved ≡ None
-CausedAs limits before now line Words saved = ⊥
-CausedAs limits before now line Malformed saved = saved ≡ None
-CausedAs limits before now line Fault saved = ⊥
-CausedAs limits before now line NoMemory saved = ⊥
-CausedAs limits before now line Clash saved = saved ≡ None
-CausedAs limits before now line TooLong saved = (saved ≡ None) × SomePasses limits before now line
+abbrev pub CausedAs : (files : List (ℕ × ℕ)) → Counts → Counts → List ℕ → Status → Option (List ℕ × List ℕ) → Type 0
+CausedAs files before now line Done saved = Unit {0}
+CausedAs files before now line Refused saved = saved ≡ None
+CausedAs files before now line Words saved = ⊥
+CausedAs files before now line Malformed saved = saved ≡ None
+CausedAs files before now line Fault saved = ⊥
+CausedAs files before now line NoMemory saved = ⊥
+CausedAs files before now line Clash saved = saved ≡ None
+CausedAs files before now line TooLong saved = (saved ≡ None) × SomePasses files before now line
 
-pub record Caused (limits : ℕ → ℕ) (before now : Counts) (report : Report) : Type 0 where
+pub record Caused (files : List (ℕ × ℕ)) (before now : Counts) (report : Report) : Type 0 where
   pub quiet : Quiet before now
-  pub status : CausedAs limits before now report.line report.status report.saved
+  pub status : CausedAs files before now report.line report.status report.saved
 
--- what a command gives, whose file words have these limits
-abbrev pub ReportCaused : (limits : ℕ → ℕ) → Counts → Counts → Result Report Halt → Type 0
-ReportCaused limits before now (Ok report) = Caused limits before now report
-ReportCaused limits before now (Err (halts.Reported report)) = Caused limits before now report
-ReportCaused limits before now (Err halts.Fault) = Faulty before now
-ReportCaused limits before now (Err halts.NoMemory) = Quiet before now
+-- what a command gives that loads these files
+abbrev pub ReportCaused : (files : List (ℕ × ℕ)) → Counts → Counts → Result Report Halt → Type 0
+ReportCaused files before now (Ok report) = Caused files before now report
+ReportCaused files before now (Err (halts.Reported report)) = Caused files before now report
+ReportCaused files before now (Err halts.Fault) = Faulty before now
+ReportCaused files before now (Err halts.NoMemory) = Quiet before now

@@ -91,20 +91,26 @@ pub record IsTakenOn (journal : Contents) (signature : List ℕ) (p : ℕ) (out 
   pub bytes : AreBytes text
   pub extended : IsExtended imprint_of journal signature p text
 
+pub record IsExtensionOver (journal : Contents) (signature : List ℕ) (p : ℕ) (out : List ℕ) (report : Report) : Type 0 where
+  pub taken : report.status ≡ Done → IsTakenOn journal signature p out report
+
 pub record IsExtension (journal signature : List ℕ) (p : ℕ) (out : List ℕ) (report : Report) : Type 0 where
   pub contents : Contents
   pub journal_is : IsJournalFile imprint_of journal contents
-  pub taken : report.status ≡ Done → IsTakenOn contents signature p out report
+  pub over : IsExtensionOver contents signature p out report
 
 -- ---- `verify`
 
 -- the report is the verdict's
+pub record IsVerifiedOver (signature : Signature) (hash publications : List ℕ) (report : Report) : Type 0 where
+  pub pairs : List (ℕ × List ℕ)
+  pub publications_are : IsPublications publications pairs
+  pub reported : report ≡ judged (verdict imprint_of signature hash pairs)
+
 pub record IsVerified (signature hash publications : List ℕ) (report : Report) : Type 0 where
   pub read : Signature
   pub signature_is : IsSignature signature read
-  pub pairs : List (ℕ × List ℕ)
-  pub publications_are : IsPublications publications pairs
-  pub reported : report ≡ judged (verdict imprint_of read hash pairs)
+  pub over : IsVerifiedOver read hash publications report
 
 -- ---- `audit`
 
@@ -117,14 +123,22 @@ pub record IsAnswered (journal : Contents) (signature : Signature) (hash : List 
   pub shown : Shows imprint_of journal signature hash answer
   pub tells : (t : ℕ) → verdict imprint_of signature hash pairs ≡ Accepted t → IsDecided imprint_of journal signature → Tells answer
 
+-- with the publications that are read
+pub record IsAuditedOver (journal : Contents) (signature : Signature) (hash publications : List ℕ) (report : Report) : Type 0 where
+  pub pairs : List (ℕ × List ℕ)
+  pub publications_are : IsPublications publications pairs
+  pub answered : IsAnswered journal signature hash pairs report
+
+-- with the signature that is read
+pub record IsAuditedBeside (journal : Contents) (signature hash publications : List ℕ) (report : Report) : Type 0 where
+  pub read : Signature
+  pub signature_is : IsSignature signature read
+  pub over : IsAuditedOver journal read hash publications report
+
 pub record IsAudited (journal signature hash publications : List ℕ) (report : Report) : Type 0 where
   pub contents : Contents
   pub journal_is : IsJournalFile imprint_of journal contents
-  pub read : Signature
-  pub signature_is : IsSignature signature read
-  pub pairs : List (ℕ × List ℕ)
-  pub publications_are : IsPublications publications pairs
-  pub answered : IsAnswered contents read hash pairs report
+  pub beside : IsAuditedBeside contents signature hash publications report
 
 -- ---- `make`
 

@@ -1,5 +1,5 @@
 -- What a file word stands for.
-use Rattle.std.specs.Prelude.{ℕ, ◌^◌, List, [], length, unwrap_or, nat_lt, Result, Ok, Err, if◌then◌else◌}
+use Rattle.std.specs.Prelude.{ℕ, List, [], length, unwrap_or, nat_lt, Result, Ok, Err, if◌then◌else◌}
 use Rattle.ksi_ports.specs.Stored.{Held}
 use Rattle.ksi_signature.specs.declared.signature.Signature.{Signature}
 use Rattle.ksi_signature.specs.Reading.{signature_at}
@@ -21,10 +21,6 @@ signature_limit = 65539
 
 abbrev pub file_limit : ℕ
 file_limit = 67108864
-
--- for a word that is no file's: no file has so many bytes
-abbrev pub no_limit : ℕ
-no_limit = 2 ^ 64
 
 -- what is held under a name, and no bytes where nothing is: such a load fails, so nothing is claimed of its run
 abbrev pub content : Held → List ℕ → List ℕ

@@ -1,10 +1,10 @@
 -- The command `publish`.
-use Rattle.std.specs.Prelude.{ℕ, ◌-◌, List, length, ◌==◌, Option, Some, None, slice_get, if◌then◌else◌}
+use Rattle.std.specs.Prelude.{ℕ, ◌-◌, List, [], ◌∷◌, length, Option, Some, None, slice_get}
 use Rattle.ksi_ports.specs.Stored.{Held}
 use Rattle.ksi_publications.specs.File.{publications_text}
 use Rattle.ksi_top.specs.declared.report.Report.{Report}
 use Rattle.ksi_top.specs.Reports.{saving, on}
-use Rattle.ksi_top.specs.Loading.{loaded, journal_or_malformed, file_limit, no_limit}
+use Rattle.ksi_top.specs.Loading.{loaded, journal_or_malformed, file_limit}
 use Rattle.ksi_top.specs.Lines.{published_line}
 
 abbrev pub time_of : Option (ℕ × List ℕ) → ℕ
@@ -19,9 +19,9 @@ last_time publications = time_of (slice_get publications (length publications - 
 abbrev pub published : (out : List ℕ) → List (ℕ × List ℕ) → Report
 published out publications = saving (published_line (length publications)) out (publications_text (last_time publications) publications)
 
--- word 1 is the journal's file
-abbrev pub publish_limits : ℕ → ℕ
-publish_limits n = if n == 1 then file_limit else no_limit
+-- the file that is loaded, told by its word and its limit: the journal's
+abbrev pub publish_files : List (ℕ × ℕ)
+publish_files = (1, file_limit) ∷ []
 
 -- the journal's file is loaded and read, and its publications are saved
 unfoldable pub publish_run : List ℕ → List ℕ → Held → Report

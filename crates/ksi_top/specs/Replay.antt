@@ -1,5 +1,5 @@
 -- The command `replay`.
-use Rattle.std.specs.Prelude.{ℕ, List, length, ◌==◌, if◌then◌else◌}
+use Rattle.std.specs.Prelude.{ℕ, List, [], ◌∷◌, length}
 use Rattle.ksi_imprint.specs.Imprints.{imprint_of}
 use Rattle.ksi_ports.specs.Stored.{Held}
 use Rattle.ksi_schedule.specs.Events.{History}
@@ -9,7 +9,7 @@ use Rattle.ksi_journal.specs.Written.{journal_text}
 use Rattle.ksi_replay.specs.Journals.{journal_of}
 use Rattle.ksi_top.specs.declared.report.Report.{Report}
 use Rattle.ksi_top.specs.Reports.{saving, on}
-use Rattle.ksi_top.specs.Loading.{loaded, schedule_or_malformed, file_limit, no_limit}
+use Rattle.ksi_top.specs.Loading.{loaded, schedule_or_malformed, file_limit}
 use Rattle.ksi_top.specs.Lines.{replayed_line}
 
 -- how many events, messages, kept seconds, issued signatures and publications there are
@@ -24,9 +24,9 @@ replayed_as name h journal = saving (counted h journal) name (journal_text journ
 abbrev pub replayed : (name : List ℕ) → History → Report
 replayed name h = replayed_as name h (journal_of imprint_of h)
 
--- word 1 is the schedule's file
-abbrev pub replay_limits : ℕ → ℕ
-replay_limits n = if n == 1 then file_limit else no_limit
+-- the file that is loaded, told by its word and its limit: the schedule's
+abbrev pub replay_files : List (ℕ × ℕ)
+replay_files = (1, file_limit) ∷ []
 
 -- the schedule's file is loaded and read, its events happen, and the journal of what was kept is saved
 unfoldable pub replay_run : List ℕ → List ℕ → Held → Report

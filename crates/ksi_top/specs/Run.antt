@@ -1,5 +1,5 @@
 -- What a run reports, as a function of the words and of the files held.
-use Rattle.std.specs.Prelude.{ℕ, ◌+◌, List, Option, Some, None, Result, Ok, Err}
+use Rattle.std.specs.Prelude.{ℕ, ◌+◌, List, [], length, Option, Some, None, Result, Ok, Err}
 use Rattle.ksi_ports.specs.Stored.{Held, with_file}
 use Rattle.ksi_top.specs.declared.report.Report.{Report}
 use Rattle.ksi_words.specs.declared.asked.WordsRefusal.{WordsRefusal}
@@ -8,15 +8,14 @@ use Rattle.ksi_top.specs.declared.status.Status.TheVariants as statuses
 use Rattle.ksi_top.specs.Reports.{report}
 use Rattle.ksi_top.specs.Lines.{words_refused_line, bad_word_line}
 use Rattle.ksi_words.specs.Words.{Asked, replay, sign, publish, extend, verify, audit, make, drill, command_of}
-use Rattle.ksi_top.specs.Replay.{replay_run, replay_limits}
-use Rattle.ksi_top.specs.Sign.{sign_run, sign_limits}
-use Rattle.ksi_top.specs.Publish.{publish_run, publish_limits}
-use Rattle.ksi_top.specs.Extend.{extend_run, extend_limits, extend_loads}
-use Rattle.ksi_top.specs.Verify.{verify_run, verify_limits, verify_loads}
-use Rattle.ksi_top.specs.Audit.{audit_run, audit_limits, audit_loads}
+use Rattle.ksi_top.specs.Replay.{replay_run, replay_files}
+use Rattle.ksi_top.specs.Sign.{sign_run, sign_files}
+use Rattle.ksi_top.specs.Publish.{publish_run, publish_files}
+use Rattle.ksi_top.specs.Extend.{extend_run, extend_files, extend_loads}
+use Rattle.ksi_top.specs.Verify.{verify_run, verify_files, verify_loads}
+use Rattle.ksi_top.specs.Audit.{audit_run, audit_files, audit_loads}
 use Rattle.ksi_top.specs.Make.{make_run}
 use Rattle.ksi_top.specs.Drill.{drill_run}
-use Rattle.ksi_top.specs.Loading.{no_limit}
 
 -- what a command reports
 abbrev pub performed : Asked → Held → Report
@@ -29,18 +28,18 @@ performed (audit journal signature hash publications) held = audit_run journal s
 performed (make number out) held = make_run number out
 performed (drill number) held = drill_run number
 
--- the most bytes of the file of each word, where it is a file's
-abbrev pub limits_of : Asked → ℕ → ℕ
-limits_of (replay schedule journal) = replay_limits
-limits_of (sign journal number out) = sign_limits
-limits_of (publish journal out) = publish_limits
-limits_of (extend journal signature second out) = extend_limits
-limits_of (verify signature hash publications) = verify_limits
-limits_of (audit journal signature hash publications) = audit_limits
-limits_of (make number out) = λ n. no_limit
-limits_of (drill number) = λ n. no_limit
+-- the files that a command loads, each told by its word and the most bytes that it may have
+abbrev pub files_of : Asked → List (ℕ × ℕ)
+files_of (replay schedule journal) = replay_files
+files_of (sign journal number out) = sign_files
+files_of (publish journal out) = publish_files
+files_of (extend journal signature second out) = extend_files
+files_of (verify signature hash publications) = verify_files
+files_of (audit journal signature hash publications) = audit_files
+files_of (make number out) = []
+files_of (drill number) = []
 
--- how many files a command loads
+-- how many of them it loads: each only behind those that are read
 abbrev pub loads_of : Asked → Held → ℕ
 loads_of (replay schedule journal) held = 1
 loads_of (sign journal number out) held = 1
@@ -71,14 +70,7 @@ saved_into (Some file) held = with_file held file.0 file.1
 
 -- the most loads of a command, whatever is held
 abbrev pub most_loads : Asked → ℕ
-most_loads (replay schedule journal) = 1
-most_loads (sign journal number out) = 1
-most_loads (publish journal out) = 1
-most_loads (extend journal signature second out) = 2
-most_loads (verify signature hash publications) = 2
-most_loads (audit journal signature hash publications) = 3
-most_loads (make number out) = 0
-most_loads (drill number) = 0
+most_loads command = length (files_of command)
 
 -- and the most saves
 abbrev pub most_saves : Asked → ℕ

@@ -4,7 +4,7 @@ use Rattle.ksi_ports.specs.Stored.{Held}
 use Rattle.ksi_top.specs.declared.report.Report.{Report}
 use Rattle.ksi_top.specs.declared.status.Status.TheVariants as statuses
 use Rattle.ksi_top.specs.Reports.{report, saving, on}
-use Rattle.ksi_top.specs.Loading.{loaded, journal_or_malformed, file_limit, no_limit}
+use Rattle.ksi_top.specs.Loading.{loaded, journal_or_malformed, file_limit}
 use Rattle.ksi_top.specs.Lines.{signed_line, not_issued_line}
 
 -- the bytes that stand beside the number
@@ -16,9 +16,9 @@ abbrev pub signed : (number : ℕ) → (out : List ℕ) → Option (List ℕ) �
 signed number out (Some bytes) = saving (signed_line number) out bytes
 signed number out None = report statuses.Refused (not_issued_line number)
 
--- word 1 is the journal's file
-abbrev pub sign_limits : ℕ → ℕ
-sign_limits n = if n == 1 then file_limit else no_limit
+-- the file that is loaded, told by its word and its limit: the journal's
+abbrev pub sign_files : List (ℕ × ℕ)
+sign_files = (1, file_limit) ∷ []
 
 -- the journal's file is loaded and read, and the signature of this number is saved
 unfoldable pub sign_run : List ℕ → ℕ → List ℕ → Held → Report

@@ -3,14 +3,14 @@ use Rattle.std.specs.Prelude.{◌≡◌, ◌≢◌, ℕ, ◌++◌, Bool, IsTrue,
 use Rattle.ksi_ports.specs.Outside.{Rose, ExtendsByFront, OthersStay}
 use Rattle.ksi_ports.specs.Stored.{Held}
 use Rattle.ksi_top.specs.declared.report.Report.{Report}
-use Rattle.ksi_top.specs.declared.report.Cut.{Cut}
-use Rattle.ksi_top.specs.declared.report.Cut.TheVariants as cuts
+use Rattle.ksi_top.specs.declared.report.Halt.{Halt}
+use Rattle.ksi_top.specs.declared.report.Halt.TheVariants as halts
 use Rattle.ksi_words.specs.declared.asked.WordsRefusal.{WordsRefusal}
 use Rattle.ksi_top.specs.declared.status.Status.{Status}
 use Rattle.ksi_top.specs.declared.status.Status.TheVariants.{Done, Refused, Words, Malformed, Fault, NoMemory, Clash, TooLong}
 use Rattle.ksi_top.specs.Causes.{Counts, Quiet, Faulty, SomePasses}
 use Rattle.ksi_words.specs.Words.{Asked}
-use Rattle.ksi_top.specs.Run.{limits_of, refused, saved_into}
+use Rattle.ksi_top.specs.Run.{files_of, refused, saved_into}
 
 -- a fact on a run that neither a fault nor want of memory cut short
 abbrev pub UnlessCut : Status → Type 0 → Type 0
@@ -60,20 +60,10 @@ abbrev pub WordsCaused : Result Asked WordsRefusal → Report → Type 0
 WordsCaused (Ok command) report = report.status ≢ Words
 WordsCaused (Err refusal) report = report ≡ refused refusal
 
--- the line says which file word passes its limit, and more bytes than that were taken
+-- the line names the word of a file whose own load took more bytes than its limit
 abbrev pub TookTooMuch : Result Asked WordsRefusal → Counts → Counts → List ℕ → Type 0
-TookTooMuch (Ok command) before now line = SomePasses (limits_of command) before now line
+TookTooMuch (Ok command) before now line = SomePasses (files_of command) before now line
 TookTooMuch (Err refusal) before now line = ⊥
-
--- what stands before anything is saved
-abbrev pub ReportedAs : Report → Result Report Cut → Type 0
-ReportedAs expected (Ok report) = report ≡ expected
-ReportedAs expected (Err cut) = Unit {0}
-
--- what the report means
-abbrev pub MeansUnlessCut : (Report → Type 0) → Result Report Cut → Type 0
-MeansUnlessCut P (Ok report) = P report
-MeansUnlessCut P (Err cut) = Unit {0}
 
 -- a report has its cause in the words or in the files
 pub record HasCause (asked : Result Asked WordsRefusal) (before now : Counts) (report : Report) : Type 0 where
@@ -84,7 +74,8 @@ pub record HasCause (asked : Result Asked WordsRefusal) (before now : Counts) (r
   pub too_long : report.status ≡ TooLong → TookTooMuch asked before now report.line
   pub unsaved : report.status ≢ Done → report.saved ≡ None
 
-abbrev pub RunCaused : Result Asked WordsRefusal → Counts → Counts → Result Report Cut → Type 0
+abbrev pub RunCaused : Result Asked WordsRefusal → Counts → Counts → Result Report Halt → Type 0
 RunCaused asked before now (Ok report) = HasCause asked before now report
-RunCaused asked before now (Err cuts.Fault) = Faulty before now
-RunCaused asked before now (Err cuts.NoMemory) = Quiet before now
+RunCaused asked before now (Err (halts.Reported report)) = HasCause asked before now report
+RunCaused asked before now (Err halts.Fault) = Faulty before now
+RunCaused asked before now (Err halts.NoMemory) = Quiet before now

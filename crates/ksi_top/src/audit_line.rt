@@ -1,8 +1,8 @@
 // What is reported of an audit.
-ghost use Rattle.std.specs.Prelude.{◌≡◌, ◌≢◌, ◌≤◌, ◌+◌, ◌++◌, IfOk, None, OnOk, length, string_bytes};
+ghost use Rattle.std.specs.Prelude.{◌≡◌, ◌≢◌, ◌≤◌, ◌+◌, ◌++◌, IfOk, length};
+ghost use Rattle.arrayvec.specs.ArrayString.{array_string_len};
 ghost use Rattle.ksi_auditor.specs.declared.answer.Audit.TheVariants as answers;
 ghost use Rattle.ksi_auditor.specs.Shown.{IsShort};
-ghost use Rattle.ksi_top.specs.Causes.{IsJudged};
 ghost use Rattle.ksi_top.specs.Audit.{audited};
 ghost use Rattle.ksi_top.specs.Lines.{inside_line, clash_line, letter, letters, way_text};
 
@@ -12,94 +12,77 @@ use crate::printed::print;
 use crate::refusal_line::refusal_line;
 use crate::report::Report;
 use crate::status::Status;
+use arrayvec::ArrayString;
 use ksi_auditor::Audit;
 use ksi_imprint::NoMemory;
 use ksi_split::{Side, Way};
 use std::alloc::Global;
 
 /// An audit's answer, with its line and its status.
+///
+/// # Errors
+/// `NoMemory` where it is the answer, and where the line of a clash finds none.
 pub(crate) fn audited(alloc: Global, audit: &Audit) -> Result<Report, NoMemory>
     requires { IsShort audit.now }
     ensures report { IfOk result (λ report. report ≡ audited audit.now) }
-    ensures unsaved { IfOk result (λ report. report.saved ≡ None) }
-    ensures judged { IfOk result (λ report. IsJudged report) }
     ensures memory { IfOk result (λ _. audit.now ≢ answers.NoMemory) }
 {
     match audit {
-        Audit::Inside(second, way) => {
-            let line = inside_line(alloc, *second, way)?;
-            Ok(Report::new(Status::Done, line))
-        }
+        Audit::Inside(second, way) => { Ok(Report::new(Status::Done, inside_line(*second, way))) }
         Audit::Beneath(second, item, links) => {
             let values = [Number(*second), Number(*item), Number(*links)];
-            let line = print(alloc, Text("beneath"), &[], &values)?;
-            Ok(Report::new(Status::Done, line))
+            Ok(Report::new(Status::Done, print(Text("beneath"), &[], &values)))
         }
         Audit::Clash(clash) => {
             let line = clash_line(alloc, clash.one.as_slice(), clash.two.as_slice())?;
             Ok(Report::new(Status::Clash, line))
         }
-        Audit::NotAccepted(refusal) => Ok(Report::new(
-            Status::Refused,
-            refusal_line(alloc, refusal)?,
-        )),
+        Audit::NotAccepted(refusal) => { Ok(Report::new(Status::Refused, refusal_line(refusal))) }
         Audit::BeforeStart(publication) => {
-            let line = print(
-                alloc,
-                Text("before"),
-                &[Text("start")],
-                &[Number(*publication)],
-            )?;
+            let line = print(Text("before"), &[Text("start")], &[Number(*publication)]);
             Ok(Report::new(Status::Refused, line))
         }
         Audit::Undecided(second) => {
-            let line = print(alloc, Text("undecided"), &[], &[Number(*second)])?;
+            let line = print(Text("undecided"), &[], &[Number(*second)]);
             Ok(Report::new(Status::Refused, line))
         }
         Audit::NotDecided(publication, given, kept) => {
             let values = [Number(*publication), Digest(given), Digest(kept)];
-            let line = print(alloc, Text("not"), &[Text("decided")], &values)?;
+            let line = print(Text("not"), &[Text("decided")], &values);
             Ok(Report::new(Status::Refused, line))
         }
         Audit::NoMemory => Err(NoMemory),
     }
 }
 
-fn inside_line(alloc: Global, second: u64, way: &Way) -> Result<Line, NoMemory>
-    ensures { IfOk result (λ line. line ≡ inside_line second way.now) }
+fn inside_line(second: u64, way: &Way) -> Line
+    ensures { result ≡ inside_line second way.now }
 {
-    let way = way_text(alloc, way)?;
-    print(
-        alloc,
-        Text("inside"),
-        &[],
-        &[Number(second), Text(way.as_str())],
-    )
+    let way = way_text(way);
+    print(Text("inside"), &[], &[Number(second), Text(way.as_str())])
 }
 
-fn way_text(alloc: Global, way: &Way) -> Result<String, NoMemory>
-    ensures text { IfOk result (λ text. string_bytes text ≡ way_text way.now) }
-    ensures few { IfOk result (λ text. length (string_bytes text) ≤ 63) }
+fn way_text(way: &Way) -> ArrayString<63>
+    ensures { result.bytes ≡ way_text way.now }
 {
     let sides = way.as_slice();
-    let mut text = String::new(alloc);
+    let mut text = ArrayString::new();
     if sides.is_empty() {
-        text.push_str("-")?;
+        text.push_str("-");
     } else {
-        push_letters(&mut text, sides)?;
+        push_letters(&mut text, sides);
     }
-    Ok(text)
+    text
 }
 
 /// A letter for each side.
-fn push_letters(text: &mut String, sides: &[Side]) -> Result<(), NoMemory>
-    ensures told { OnOk result (string_bytes text.new ≡ string_bytes text.old ++ letters sides.now) }
-    ensures fits { OnOk result (length (string_bytes text.new) ≤ length (string_bytes text.old) + length sides.now) }
+fn push_letters(text: &mut ArrayString<63>, sides: &[Side])
+    requires { array_string_len text.old + length sides.now ≤ 63 }
+    ensures { text.new.bytes ≡ text.old.bytes ++ letters sides.now }
 {
     for side in sides {
-        text.push_str(letter(*side))?;
+        text.push_str(letter(*side));
     }
-    Ok(())
 }
 
 fn letter(side: Side) -> &'static str
@@ -121,10 +104,10 @@ fn clash_line(alloc: Global, one: &[u8], two: &[u8]) -> Result<Line, NoMemory>
 {
     let one = hex::encode(alloc, one)?;
     let two = hex::encode(alloc, two)?;
-    print(
-        alloc,
-        Text("clash"),
-        &[],
-        &[Text(one.as_str()), Text(two.as_str())],
-    )
+    let mut text = Vec::from_slice(alloc, b"clash ")?;
+    text.extend_from_slice(one.as_bytes())?;
+    text.extend_from_slice(b" ")?;
+    text.extend_from_slice(two.as_bytes())?;
+    text.extend_from_slice(b"\n")?;
+    Ok(Line::long(text))
 }

@@ -21,16 +21,15 @@ pub(crate) fn drill(alloc: Global, number: u64) -> Result<Report, NoMemory>
     ensures judged { IfOk result (λ report. IsJudged report) }
 {
     let tally = ksi_drill::drill(alloc, number)?;
-    tallied(alloc, &tally)
+    Ok(tallied(&tally))
 }
 
-fn tallied(alloc: Global, tally: &Tally) -> Result<Report, NoMemory>
-    ensures tallied { IfOk result (λ report. report ≡ tallied tally.now) }
-    ensures unsaved { IfOk result (λ report. report.saved ≡ None) }
-    ensures judged { IfOk result (λ report. IsJudged report) }
+fn tallied(tally: &Tally) -> Report
+    ensures tallied { result ≡ tallied tally.now }
+    ensures unsaved { result.saved ≡ None }
+    ensures judged { IsJudged result }
 {
     let line = print(
-        alloc,
         Text("seconds"),
         &[
             Number(tally.seconds),
@@ -47,6 +46,6 @@ fn tallied(alloc: Global, tally: &Tally) -> Result<Report, NoMemory>
             Text("beneath"),
             Number(tally.beneath),
         ],
-    )?;
-    Ok(Report::new(Status::Done, line))
+    );
+    Report::new(Status::Done, line)
 }

@@ -5,10 +5,10 @@ ghost use Rattle.ksi_extender.specs.Accepted.{first_time};
 ghost use Rattle.ksi_extender.specs.Extended.{extended};
 ghost use Rattle.ksi_top.specs.Reports.{Reports, Means, WhereRead};
 ghost use Rattle.ksi_top.specs.declared.status.Status.TheVariants as statuses;
-ghost use Rattle.ksi_top.specs.Headline.{IsExtension, IsTakenOn};
+ghost use Rattle.ksi_top.specs.Headline.{IsExtension, IsExtensionOver, IsTakenOn};
 ghost use Rattle.ksi_top.specs.Loading.{content};
 ghost use Rattle.ksi_top.specs.Causes.{ReportCaused, IsJudged, counts};
-ghost use Rattle.ksi_top.specs.Extend.{extend_limits, extend_loads, extend_run, taken_on};
+ghost use Rattle.ksi_top.specs.Extend.{extend_files, extend_loads, extend_over, over_files, extend_run, taken_on};
 
 use crate::extend_line::not_extended;
 use crate::loading::{FILE_LIMIT, SIGNATURE_LIMIT, load_file};
@@ -39,14 +39,35 @@ pub(crate) fn extend<F: Files>(
     ensures calls { IsTrue F.tells → F.calls files.new ≤ F.calls files.old + extend_loads journal.now (F.held files.old) }
     ensures few_calls { F.calls files.new ≤ F.calls files.old + 2 }
     ensures later { F.calls files.old ≤ F.calls files.new }
-    ensures causes { ReportCaused extend_limits (counts (F.faults files.old) (F.taken files.old)) (counts (F.faults files.new) (F.taken files.new)) result }
+    ensures causes { ReportCaused extend_files (counts (F.calls files.old) (F.saves files.old) (F.faults files.old) (F.taken files.old) (F.last_taken files.old)) (counts (F.calls files.new) (F.saves files.new) (F.faults files.new) (F.taken files.new) (F.last_taken files.new)) result }
 {
     let bytes = load_file(alloc, files, FILE_LIMIT, 1, journal)?;
     let journal = read_journal(alloc, 1, bytes.as_slice())?;
+    extend_over(alloc, files, &journal, signature, second, out)
+}
+
+/// Loads and reads the signature, and saves it taken on to the second.
+#[tactic(auto, unfolding(crate::specs::Extend::extend_over))]
+fn extend_over<F: Files>(
+    alloc: Global,
+    files: &mut F,
+    journal: &Journal<Sha>,
+    signature: &str,
+    second: u64,
+    out: &str,
+) -> Result<Report, Halt>
+    requires { second < 2 ^ 63 }
+    ensures told { IsTrue F.tells → Reports (extend_over journal.now signature.now second out.now (F.held files.old)) result }
+    ensures headline { IsTrue F.tells → Means (WhereRead (IsExtensionOver journal.now (content (F.held files.old) signature.now) second out.now)) result }
+    ensures stays { IsTrue F.tells → F.held files.new ≡ F.held files.old }
+    ensures calls { F.calls files.new ≤ F.calls files.old + 1 }
+    ensures later { F.calls files.old ≤ F.calls files.new }
+    ensures causes { ReportCaused over_files (counts (F.calls files.old) (F.saves files.old) (F.faults files.old) (F.taken files.old) (F.last_taken files.old)) (counts (F.calls files.new) (F.saves files.new) (F.faults files.new) (F.taken files.new) (F.last_taken files.new)) result }
+{
     let bytes = load_file(alloc, files, SIGNATURE_LIMIT, 2, signature)?;
     let signature = read_signature(alloc, 2, bytes.as_slice())?;
     let first = first_time(&signature);
-    Ok(taken_on(alloc, &journal, bytes.as_slice(), first, second, out)?)
+    Ok(taken_on(alloc, journal, bytes.as_slice(), first, second, out)?)
 }
 
 /// The time of the aggregation chains.
@@ -76,13 +97,12 @@ fn taken_on(
     match ksi_extender::extend::<Sha>(alloc, journal, bytes, publication) {
         Ok(text) => {
             let line = print(
-                alloc,
                 Text("extended"),
                 &[],
                 &[Number(second), Number(publication)],
-            )?;
+            );
             Ok(Report::saving(line, Saved::named(alloc, out, text)?))
         }
-        Err(refusal) => not_extended(alloc, &refusal),
+        Err(refusal) => not_extended(&refusal),
     }
 }

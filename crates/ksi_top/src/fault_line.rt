@@ -16,97 +16,79 @@ use ksi_journal::JournalFault;
 use ksi_publications::PubFault;
 use ksi_schedule::{LineFault, ScheduleFault};
 use ksi_signature::SigFault;
-use std::alloc::Global;
 
 /// Of file word `n`, which is a signature.
-pub(crate) fn signature_fault_line(
-    alloc: Global,
-    n: usize,
-    fault: SigFault,
-) -> Result<Line, NoMemory>
+pub(crate) fn signature_fault_line(n: usize, fault: SigFault) -> Result<Line, NoMemory>
     ensures line { IfOk result (λ line. line ≡ malformed_line n (signature_fault fault)) }
     ensures fault { IfOk result (λ _. fault ≢ signatures.NoMemory) }
 {
     match fault {
-        SigFault::Tlv(place) => at_place(alloc, n, "S1", place),
-        SigFault::After(place) => at_place(alloc, n, "S2", place),
-        SigFault::NotSignature(kind) => malformed(alloc, n, "S3", &[Number(kind as u64)]),
-        SigFault::RefusedElement(kind, place) => of_kind(alloc, n, "S4", kind, place),
-        SigFault::UnknownCritical(kind, place) => of_kind(alloc, n, "S5", kind, place),
-        SigFault::Missing(kind, place) => of_kind(alloc, n, "S6", kind, place),
-        SigFault::Repeated(kind, place) => of_kind(alloc, n, "S7", kind, place),
-        SigFault::Imprint(place) => at_place(alloc, n, "S8", place),
-        SigFault::Number(place) => at_place(alloc, n, "S9", place),
-        SigFault::Algorithm(value) => malformed(alloc, n, "S10", &[Number(value)]),
-        SigFault::Links(place) => at_place(alloc, n, "S11", place),
-        SigFault::Chains(place) => at_place(alloc, n, "S12", place),
-        SigFault::Sibling(place) => at_place(alloc, n, "S13", place),
-        SigFault::Time(place) => at_place(alloc, n, "S14", place),
+        SigFault::Tlv(place) => Ok(at_place(n, "S1", place)),
+        SigFault::After(place) => Ok(at_place(n, "S2", place)),
+        SigFault::NotSignature(kind) => Ok(malformed(n, "S3", &[Number(kind as u64)])),
+        SigFault::RefusedElement(kind, place) => Ok(of_kind(n, "S4", kind, place)),
+        SigFault::UnknownCritical(kind, place) => Ok(of_kind(n, "S5", kind, place)),
+        SigFault::Missing(kind, place) => Ok(of_kind(n, "S6", kind, place)),
+        SigFault::Repeated(kind, place) => Ok(of_kind(n, "S7", kind, place)),
+        SigFault::Imprint(place) => Ok(at_place(n, "S8", place)),
+        SigFault::Number(place) => Ok(at_place(n, "S9", place)),
+        SigFault::Algorithm(value) => Ok(malformed(n, "S10", &[Number(value)])),
+        SigFault::Links(place) => Ok(at_place(n, "S11", place)),
+        SigFault::Chains(place) => Ok(at_place(n, "S12", place)),
+        SigFault::Sibling(place) => Ok(at_place(n, "S13", place)),
+        SigFault::Time(place) => Ok(at_place(n, "S14", place)),
         SigFault::NoMemory => Err(NoMemory),
     }
 }
 
 /// Of file word `n`, which is a publications file.
-pub(crate) fn publications_fault_line(
-    alloc: Global,
-    n: usize,
-    fault: PubFault,
-) -> Result<Line, NoMemory>
+pub(crate) fn publications_fault_line(n: usize, fault: PubFault) -> Result<Line, NoMemory>
     ensures line { IfOk result (λ line. line ≡ malformed_line n (publications_fault fault)) }
     ensures fault { IfOk result (λ _. fault ≢ publications.NoMemory) }
 {
     match fault {
-        PubFault::Magic => malformed(alloc, n, "Q1", &[]),
-        PubFault::Tlv(place) => at_place(alloc, n, "Q2", place),
-        PubFault::RefusedElement(kind, place) => of_kind(alloc, n, "Q3", kind, place),
-        PubFault::UnknownCritical(kind, place) => of_kind(alloc, n, "Q4", kind, place),
-        PubFault::Missing(kind, place) => of_kind(alloc, n, "Q5", kind, place),
-        PubFault::Repeated(kind, place) => of_kind(alloc, n, "Q6", kind, place),
-        PubFault::Imprint(place) => at_place(alloc, n, "Q7", place),
-        PubFault::Number(place) => at_place(alloc, n, "Q8", place),
-        PubFault::Time(place) => at_place(alloc, n, "Q9", place),
+        PubFault::Magic => Ok(malformed(n, "Q1", &[])),
+        PubFault::Tlv(place) => Ok(at_place(n, "Q2", place)),
+        PubFault::RefusedElement(kind, place) => Ok(of_kind(n, "Q3", kind, place)),
+        PubFault::UnknownCritical(kind, place) => Ok(of_kind(n, "Q4", kind, place)),
+        PubFault::Missing(kind, place) => Ok(of_kind(n, "Q5", kind, place)),
+        PubFault::Repeated(kind, place) => Ok(of_kind(n, "Q6", kind, place)),
+        PubFault::Imprint(place) => Ok(at_place(n, "Q7", place)),
+        PubFault::Number(place) => Ok(at_place(n, "Q8", place)),
+        PubFault::Time(place) => Ok(at_place(n, "Q9", place)),
         PubFault::NoMemory => Err(NoMemory),
     }
 }
 
 /// Of file word `n`, which is a journal.
-pub(crate) fn journal_fault_line(
-    alloc: Global,
-    n: usize,
-    fault: &JournalFault,
-) -> Result<Line, NoMemory>
+pub(crate) fn journal_fault_line(n: usize, fault: &JournalFault) -> Result<Line, NoMemory>
     ensures line { IfOk result (λ line. line ≡ malformed_line n (journal_fault fault.now)) }
     ensures fault { IfOk result (λ _. fault.now ≢ journals.NoMemory) }
 {
     match fault {
-        JournalFault::Magic => malformed(alloc, n, "J1", &[]),
-        JournalFault::Tlv(place) => at_place(alloc, n, "J2", *place),
-        JournalFault::Order(place) => at_place(alloc, n, "J3", *place),
-        JournalFault::TreeRoot(second, kept, computed) => malformed(
-            alloc,
+        JournalFault::Magic => Ok(malformed(n, "J1", &[])),
+        JournalFault::Tlv(place) => Ok(at_place(n, "J2", *place)),
+        JournalFault::Order(place) => Ok(at_place(n, "J3", *place)),
+        JournalFault::TreeRoot(second, kept, computed) => Ok(malformed(
             n,
             "J4",
             &[Number(*second), Digest(kept), Digest(computed)],
-        ),
-        JournalFault::Bound(place) => at_place(alloc, n, "J5", *place),
-        JournalFault::Imprint(place) => at_place(alloc, n, "J6", *place),
-        JournalFault::Count(second) => malformed(alloc, n, "J7", &[Number(*second)]),
-        JournalFault::Ends(place) => at_place(alloc, n, "J8", *place),
+        )),
+        JournalFault::Bound(place) => Ok(at_place(n, "J5", *place)),
+        JournalFault::Imprint(place) => Ok(at_place(n, "J6", *place)),
+        JournalFault::Count(second) => Ok(malformed(n, "J7", &[Number(*second)])),
+        JournalFault::Ends(place) => Ok(at_place(n, "J8", *place)),
         JournalFault::NoMemory => Err(NoMemory),
     }
 }
 
 /// Of file word `n`, which is a schedule.
-pub(crate) fn schedule_fault_line(
-    alloc: Global,
-    n: usize,
-    fault: &ScheduleFault,
-) -> Result<Line, NoMemory>
+pub(crate) fn schedule_fault_line(n: usize, fault: &ScheduleFault) -> Result<Line, NoMemory>
     ensures { IfOk result (λ line. IsLineOf n fault.now line) }
 {
     match fault {
         ScheduleFault::Line(fault, line) => {
-            malformed(alloc, n, line_code(*fault), &[Number(*line)])
+            Ok(malformed(n, line_code(*fault), &[Number(*line)]))
         }
         ScheduleFault::NoMemory => Err(NoMemory),
     }
@@ -127,29 +109,24 @@ fn line_code(fault: LineFault) -> &'static str
     }
 }
 
-fn at_place(alloc: Global, n: usize, code: &str, place: usize) -> Result<Line, NoMemory>
+fn at_place(n: usize, code: &str, place: usize) -> Line
     requires { length code.now ≤ 3 }
-    ensures { IfOk result (λ line. line ≡ malformed_line n (code.now ∷ decimal place ∷ [])) }
+    ensures { result ≡ malformed_line n (code.now ∷ decimal place ∷ []) }
 {
-    malformed(alloc, n, code, &[Number(place as u64)])
+    malformed(n, code, &[Number(place as u64)])
 }
 
-fn of_kind(alloc: Global, n: usize, code: &str, kind: u16, place: usize) -> Result<Line, NoMemory>
+fn of_kind(n: usize, code: &str, kind: u16, place: usize) -> Line
     requires { length code.now ≤ 3 }
-    ensures { IfOk result (λ line. line ≡ malformed_line n (code.now ∷ decimal kind ∷ decimal place ∷ [])) }
+    ensures { result ≡ malformed_line n (code.now ∷ decimal kind ∷ decimal place ∷ []) }
 {
-    malformed(alloc, n, code, &[Number(kind as u64), Number(place as u64)])
+    malformed(n, code, &[Number(kind as u64), Number(place as u64)])
 }
 
-fn malformed(alloc: Global, n: usize, code: &str, values: &[Word<'_>]) -> Result<Line, NoMemory>
+fn malformed(n: usize, code: &str, values: &[Word<'_>]) -> Line
     requires code { length code.now ≤ 3 }
-    requires values { room values.now ≤ 1000 }
-    ensures { IfOk result (λ line. line ≡ malformed_line n (code.now ∷ map word_text values.now)) }
+    requires values { room values.now ≤ 200 }
+    ensures { result ≡ malformed_line n (code.now ∷ map word_text values.now) }
 {
-    print(
-        alloc,
-        Text("malformed"),
-        &[Number(n as u64), Text(code)],
-        values,
-    )
+    print(Text("malformed"), &[Number(n as u64), Text(code)], values)
 }

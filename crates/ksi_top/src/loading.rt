@@ -1,6 +1,6 @@
 // The file words that a command reads.
 ghost use Rattle.std.specs.Prelude.{◌≡◌, ◌≤◌, ◌+◌, ℕ, IsTrue, IfOk};
-ghost use Rattle.ksi_top.specs.Reports.{Gives, HaltsAs, HaltsUnsaved};
+ghost use Rattle.ksi_top.specs.Reports.{Gives};
 ghost use Rattle.ksi_top.specs.Causes.{LoadCaused, counts};
 ghost use Rattle.ksi_top.specs.Loading.{content, loaded};
 
@@ -27,21 +27,20 @@ pub(crate) fn load_file<F: Files>(
     n: usize,
     name: &str,
 ) -> Result<Bytes, Halt>
+    requires { limit ≤ 67108864 }
     ensures told { IsTrue F.tells → Gives (loaded limit n (F.held files.old) name.now) result }
     ensures whole { IsTrue F.tells → IfOk result (λ bytes. bytes ≡ content (F.held files.old) name.now) }
-    ensures halts { HaltsAs Status.TooLong result }
-    ensures unsaved { HaltsUnsaved result }
     ensures stays { IsTrue F.tells → F.held files.new ≡ F.held files.old }
     ensures calls { F.calls files.new ≤ F.calls files.old + 1 }
     ensures later { F.calls files.old ≤ F.calls files.new }
-    ensures causes { LoadCaused n limit (counts (F.faults files.old) (F.taken files.old)) (counts (F.faults files.new) (F.taken files.new)) result }
+    ensures causes { LoadCaused n limit (counts (F.calls files.old) (F.saves files.old) (F.faults files.old) (F.taken files.old) (F.last_taken files.old)) (counts (F.calls files.new) (F.saves files.new) (F.faults files.new) (F.taken files.new) (F.last_taken files.new)) result }
 {
     match files.load(alloc, name, limit) {
         Ok(bytes) => Ok(bytes),
         Err(LoadRefusal::Failed) => Err(Halt::Fault),
         Err(LoadRefusal::NoMemory) => Err(Halt::NoMemory),
         Err(LoadRefusal::TooLong) => {
-            let line = print(alloc, Text("too"), &[Text("long")], &[Number(n as u64)])?;
+            let line = print(Text("too"), &[Text("long")], &[Number(n as u64)]);
             Err(Halt::Reported(Report::new(Status::TooLong, line)))
         }
     }

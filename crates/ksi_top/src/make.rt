@@ -32,6 +32,6 @@ fn made(alloc: Global, out: &str, schedule: &Schedule) -> Result<Report, NoMemor
 {
     let text = ksi_schedule::print(alloc, schedule)?;
     let events = schedule.events().len() as u64;
-    let line = print(alloc, Text("made"), &[], &[Number(events)])?;
+    let line = print(Text("made"), &[], &[Number(events)]);
     Ok(Report::saving(line, Saved::named(alloc, out, text)?))
 }

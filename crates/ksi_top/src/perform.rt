@@ -1,9 +1,9 @@
 // What a run reports, before anything is saved or put.
-ghost use Rattle.std.specs.Prelude.{◌≡◌, ◌≤◌, ◌+◌, ℕ, IsTrue, IfOk, IfErr};
+ghost use Rattle.std.specs.Prelude.{◌≡◌, ◌≤◌, ◌+◌, IsTrue, IfOk, IfErr};
 ghost use Rattle.ksi_top.specs.Reports.{Reports, Means};
 ghost use Rattle.ksi_top.specs.Causes.{ReportCaused, counts};
-ghost use Rattle.ksi_top.specs.Run.{performed, limits_of, loads_of, most_loads, most_saves, run_loads, saves_of, refused, run};
-ghost use Rattle.ksi_top.specs.Top.{ReportedAs, MeansUnlessCut, RunCaused};
+ghost use Rattle.ksi_top.specs.Run.{performed, files_of, loads_of, most_loads, most_saves, run_loads, saves_of, refused, run};
+ghost use Rattle.ksi_top.specs.Top.{RunCaused};
 ghost use Rattle.ksi_top.specs.Complete.{Complete};
 ghost use Rattle.ksi_top.specs.Headline.{Headline};
 ghost use Rattle.ksi_words.specs.declared.asked.WordsRefusal.TheVariants as refusals;
@@ -18,11 +18,10 @@ use crate::printed::Word::{Number, Text};
 use crate::printed::print;
 use crate::publish::publish;
 use crate::replay::replay;
-use crate::report::{Cut, Halt, Report};
+use crate::report::{Halt, Report};
 use crate::sign::sign;
 use crate::status::Status;
 use crate::verify::verify;
-use ksi_imprint::NoMemory;
 use ksi_ports::Files;
 use ksi_words::{Command, WordsRefusal, command};
 use std::alloc::Global;
@@ -33,29 +32,24 @@ pub(crate) fn report_of<F: Files>(
     alloc: Global,
     words: &[String],
     files: &mut F,
-) -> Result<Report, Cut>
-    ensures told { IsTrue F.tells → ReportedAs (run (texts words.now) (F.held files.old)) result }
-    ensures headline { IsTrue F.tells → IfOk (command_of (texts words.now)) (λ asked. MeansUnlessCut (Headline asked (F.held files.old)) result) }
+) -> Result<Report, Halt>
+    ensures told { IsTrue F.tells → Reports (run (texts words.now) (F.held files.old)) result }
+    ensures headline { IsTrue F.tells → IfOk (command_of (texts words.now)) (λ asked. Means (Headline asked (F.held files.old)) result) }
     ensures complete { IfOk (command_of (texts words.now)) (λ asked. Complete asked (F.held files.old) (run (texts words.now) (F.held files.old))) }
     ensures stays { IsTrue F.tells → F.held files.new ≡ F.held files.old }
     ensures calls { IsTrue F.tells → F.calls files.new ≤ F.calls files.old + run_loads (command_of (texts words.now)) (F.held files.old) }
     ensures few_calls { IfOk (command_of (texts words.now)) (λ command. F.calls files.new ≤ F.calls files.old + most_loads command) }
     ensures untouched { IfErr (command_of (texts words.now)) (λ _. F.calls files.new ≡ F.calls files.old) }
-    ensures few_saves { IfOk (command_of (texts words.now)) (λ command. MeansUnlessCut (λ report. saves_of report.saved ≤ most_saves command) result) }
+    ensures few_saves { IfOk (command_of (texts words.now)) (λ command. Means (λ report. saves_of report.saved ≤ most_saves command) result) }
     ensures later { F.calls files.old ≤ F.calls files.new }
-    ensures causes { RunCaused (command_of (texts words.now)) (counts (F.faults files.old) (F.taken files.old)) (counts (F.faults files.new) (F.taken files.new)) result }
+    ensures causes { RunCaused (command_of (texts words.now)) (counts (F.calls files.old) (F.saves files.old) (F.faults files.old) (F.taken files.old) (F.last_taken files.old)) (counts (F.calls files.new) (F.saves files.new) (F.faults files.new) (F.taken files.new) (F.last_taken files.new)) result }
 {
     issued_is_accepted();
     match command(alloc, words) {
-        Ok(command) => match perform(alloc, files, &command) {
-            Ok(report) => Ok(report),
-            Err(Halt::Reported(report)) => Ok(report),
-            Err(Halt::Fault) => Err(Cut::Fault),
-            Err(Halt::NoMemory) => Err(Cut::NoMemory),
-        },
-        Err(WordsRefusal::Words) => Ok(words_refused(alloc)?),
-        Err(WordsRefusal::BadWord(n)) => Ok(bad_word(alloc, n)?),
-        Err(WordsRefusal::NoMemory) => Err(Cut::NoMemory),
+        Ok(command) => perform(alloc, files, &command),
+        Err(WordsRefusal::Words) => Ok(words_refused()),
+        Err(WordsRefusal::BadWord(n)) => Ok(bad_word(n)),
+        Err(WordsRefusal::NoMemory) => Err(Halt::NoMemory),
     }
 }
 
@@ -70,7 +64,7 @@ fn perform<F: Files>(alloc: Global, files: &mut F, command: &Command<'_>) -> Res
     ensures few_calls { F.calls files.new ≤ F.calls files.old + most_loads (asked command.now) }
     ensures few_saves { Means (λ report. saves_of report.saved ≤ most_saves (asked command.now)) result }
     ensures later { F.calls files.old ≤ F.calls files.new }
-    ensures causes { ReportCaused (limits_of (asked command.now)) (counts (F.faults files.old) (F.taken files.old)) (counts (F.faults files.new) (F.taken files.new)) result }
+    ensures causes { ReportCaused (files_of (asked command.now)) (counts (F.calls files.old) (F.saves files.old) (F.faults files.old) (F.taken files.old) (F.last_taken files.old)) (counts (F.calls files.new) (F.saves files.new) (F.faults files.new) (F.taken files.new) (F.last_taken files.new)) result }
 {
     match command {
         Command::Replay(schedule, journal) => replay(alloc, files, schedule, journal),
@@ -90,16 +84,16 @@ fn perform<F: Files>(alloc: Global, files: &mut F, command: &Command<'_>) -> Res
     }
 }
 
-fn words_refused(alloc: Global) -> Result<Report, NoMemory>
-    ensures { IfOk result (λ report. report ≡ refused refusals.Words) }
+fn words_refused() -> Report
+    ensures { result ≡ refused refusals.Words }
 {
-    let line = print(alloc, Text("words"), &[], &[Text("refused")])?;
-    Ok(Report::new(Status::Words, line))
+    let line = print(Text("words"), &[], &[Text("refused")]);
+    Report::new(Status::Words, line)
 }
 
-fn bad_word(alloc: Global, n: usize) -> Result<Report, NoMemory>
-    ensures { IfOk result (λ report. report ≡ refused (refusals.BadWord n)) }
+fn bad_word(n: usize) -> Report
+    ensures { result ≡ refused (refusals.BadWord n) }
 {
-    let line = print(alloc, Text("bad"), &[Text("word")], &[Number(n as u64)])?;
-    Ok(Report::new(Status::Words, line))
+    let line = print(Text("bad"), &[Text("word")], &[Number(n as u64)]);
+    Report::new(Status::Words, line)
 }

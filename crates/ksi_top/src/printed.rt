@@ -1,12 +1,14 @@
 // A line of words, built in one place.
-ghost use Rattle.std.specs.Prelude.{◌≡◌, ℕ, ◌+◌, ◌≤◌, ◌∷◌, ◌++◌, IfOk, OnOk, map, length, string_bytes};
+ghost use Rattle.std.specs.Prelude.{◌≡◌, ℕ, ◌+◌, ◌≤◌, ◌∷◌, ◌++◌, map, length};
 ghost use Rattle.std.specs.Fmt.{decimal};
+ghost use Rattle.arrayvec.specs.ArrayVec.{array_vec_len};
 ghost use Rattle.ksi_top.specs.Lines.{spaced, line_of, digest_text, optional_text};
 ghost use Rattle.ksi_top.specs.Printed.{word_text, word_room, room};
 
 use crate::line::Line;
-use ksi_imprint::{Imprint, NoMemory};
-use std::alloc::Global;
+use arrayvec::ArrayVec;
+use itoa::Buffer;
+use ksi_imprint::Imprint;
 
 /// A word of a line.
 #[derive(Clone, Copy)]
@@ -17,61 +19,71 @@ pub(crate) enum Word<'a> {
     Digest(&'a Imprint),
 }
 
-/// The words, then the values, parted by spaces, and a line feed.
-pub(crate) fn print(
-    alloc: Global,
-    first: Word<'_>,
-    words: &[Word<'_>],
-    values: &[Word<'_>],
-) -> Result<Line, NoMemory>
-    requires { word_room first + room words.now + room values.now ≤ 32766 }
-    ensures { IfOk result (λ line. line ≡ line_of (word_text first.entry ∷ (map word_text words.now ++ map word_text values.now))) }
+/// The words, then the values, parted by spaces, and a line feed. It takes no memory.
+pub(crate) fn print(first: Word<'_>, words: &[Word<'_>], values: &[Word<'_>]) -> Line
+    requires { word_room first + room words.now + room values.now ≤ 254 }
+    ensures { result ≡ line_of (word_text first.entry ∷ (map word_text words.now ++ map word_text values.now)) }
 {
-    let mut text = String::new(alloc);
-    push_word(alloc, &mut text, first)?;
-    push_words(alloc, &mut text, words)?;
-    push_words(alloc, &mut text, values)?;
-    text.push_str("\n")?;
-    Ok(Line::new(text))
+    let mut text = ArrayVec::new();
+    push_word(&mut text, first);
+    push_words(&mut text, words);
+    push_words(&mut text, values);
+    push(&mut text, b"\n");
+    Line::short(text)
 }
 
 /// The words, each behind a space.
-fn push_words(alloc: Global, text: &mut String, words: &[Word<'_>]) -> Result<(), NoMemory>
-    ensures told { OnOk result (string_bytes text.new ≡ string_bytes text.old ++ spaced (map word_text words.now)) }
-    ensures fits { OnOk result (length (string_bytes text.new) ≤ length (string_bytes text.old) + room words.now) }
+fn push_words(text: &mut ArrayVec<u8, 255>, words: &[Word<'_>])
+    requires { array_vec_len text.old + room words.now ≤ 255 }
+    ensures told { text.new.items ≡ text.old.items ++ spaced (map word_text words.now) }
+    ensures fits { array_vec_len text.new ≤ array_vec_len text.old + room words.now }
 {
     for word in words {
-        text.push_str(" ")?;
-        push_word(alloc, text, *word)?;
+        push(text, b" ");
+        push_word(text, *word);
     }
-    Ok(())
 }
 
-fn push_word(alloc: Global, text: &mut String, word: Word<'_>) -> Result<(), NoMemory>
-    ensures told { OnOk result (string_bytes text.new ≡ string_bytes text.old ++ word_text word.entry) }
-    ensures fits { OnOk result (length (word_text word.entry) ≤ word_room word.entry) }
+fn push_word(text: &mut ArrayVec<u8, 255>, word: Word<'_>)
+    requires { array_vec_len text.old + word_room word ≤ 255 }
+    ensures told { text.new.items ≡ text.old.items ++ word_text word.entry }
+    ensures fits { length (word_text word.entry) ≤ word_room word.entry }
 {
     match word {
-        Word::Text(piece) => text.push_str(piece),
-        Word::Number(n) | Word::Optional(Some(n)) => push_number(alloc, text, n),
-        Word::Optional(None) => text.push_str("-"),
-        Word::Digest(imprint) => text.push_str(digest(alloc, imprint)?.as_str()),
+        Word::Text(piece) => push(text, piece.as_bytes()),
+        Word::Number(n) | Word::Optional(Some(n)) => push_number(text, n),
+        Word::Optional(None) => push(text, b"-"),
+        Word::Digest(imprint) => push_digest(text, imprint),
     }
 }
 
 #[tactic(auto, using(crate::proofs::LineLengths::decimal_length))]
-fn push_number(alloc: Global, text: &mut String, n: u64) -> Result<(), NoMemory>
-    ensures told { OnOk result (string_bytes text.new ≡ string_bytes text.old ++ decimal n) }
+fn push_number(text: &mut ArrayVec<u8, 255>, n: u64)
+    requires { array_vec_len text.old + 20 ≤ 255 }
+    ensures told { text.new.items ≡ text.old.items ++ decimal n }
     ensures fits { length (decimal n) ≤ 20 }
 {
-    text.push_str(format!(in alloc; "{n}")?.as_str())
+    let mut buffer = Buffer::new();
+    push(text, buffer.format(n).as_bytes());
 }
 
 // The digest in hex.
-fn digest(alloc: Global, imprint: &Imprint) -> Result<String, NoMemory>
-    ensures text { IfOk result (λ text. string_bytes text ≡ digest_text imprint.now) }
-    ensures length { IfOk result (λ text. length (string_bytes text) ≡ 64) }
+fn push_digest(text: &mut ArrayVec<u8, 255>, imprint: &Imprint)
+    requires { array_vec_len text.old + 64 ≤ 255 }
+    ensures told { text.new.items ≡ text.old.items ++ digest_text imprint.now }
+    ensures fits { length (digest_text imprint.now) ≤ 64 }
 {
-    let (_, digest) = imprint.bytes().split_at(1);
-    hex::encode(alloc, digest)
+    let mut digits = [0; 64];
+    imprint.write_hex(&mut digits);
+    push(text, &digits);
+}
+
+fn push(text: &mut ArrayVec<u8, 255>, piece: &[u8])
+    requires { array_vec_len text.old + length piece.now ≤ 255 }
+    ensures { text.new.items ≡ text.old.items ++ piece.now }
+{
+    match text.try_extend_from_slice(piece) {
+        Ok(()) => {}
+        Err(_) => unreachable!(),
+    }
 }

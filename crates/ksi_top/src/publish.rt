@@ -2,7 +2,7 @@
 ghost use Rattle.std.specs.Prelude.{◌≡◌, ◌≤◌, ◌+◌, IsTrue, IfOk};
 ghost use Rattle.ksi_top.specs.Reports.{Reports};
 ghost use Rattle.ksi_top.specs.Causes.{ReportCaused, IsJudged, counts};
-ghost use Rattle.ksi_top.specs.Publish.{publish_limits, publish_run, published, last_time};
+ghost use Rattle.ksi_top.specs.Publish.{publish_files, publish_run, published, last_time};
 
 use crate::loading::{FILE_LIMIT, load_file};
 use crate::printed::Word::{Number, Text};
@@ -14,7 +14,7 @@ use ksi_ports::Files;
 use std::alloc::Global;
 
 /// Loads and reads the journal, and saves a publications file of its publications.
-#[tactic(auto, using(crate::proofs::CauseLemmas::caused_by_judgement, crate::proofs::CauseLemmas::caused_by_limit), unfolding(crate::specs::Publish::publish_run))]
+#[tactic(auto, unfolding(crate::specs::Publish::publish_run))]
 pub(crate) fn publish<F: Files>(
     alloc: Global,
     files: &mut F,
@@ -25,7 +25,7 @@ pub(crate) fn publish<F: Files>(
     ensures stays { IsTrue F.tells → F.held files.new ≡ F.held files.old }
     ensures calls { F.calls files.new ≤ F.calls files.old + 1 }
     ensures later { F.calls files.old ≤ F.calls files.new }
-    ensures causes { ReportCaused publish_limits (counts (F.faults files.old) (F.taken files.old)) (counts (F.faults files.new) (F.taken files.new)) result }
+    ensures causes { ReportCaused publish_files (counts (F.calls files.old) (F.saves files.old) (F.faults files.old) (F.taken files.old) (F.last_taken files.old)) (counts (F.calls files.new) (F.saves files.new) (F.faults files.new) (F.taken files.new) (F.last_taken files.new)) result }
 {
     let bytes = load_file(alloc, files, FILE_LIMIT, 1, journal)?;
     let journal = read_journal(alloc, 1, bytes.as_slice())?;
@@ -37,12 +37,7 @@ fn published(alloc: Global, out: &str, publications: &[(u64, Imprint)]) -> Resul
     ensures judged { IfOk result (λ report. IsJudged report) }
 {
     let bytes = ksi_publications::write(alloc, last_time(publications), publications)?;
-    let line = print(
-        alloc,
-        Text("published"),
-        &[],
-        &[Number(publications.len() as u64)],
-    )?;
+    let line = print(Text("published"), &[], &[Number(publications.len() as u64)]);
     Ok(Report::saving(line, Saved::named(alloc, out, bytes)?))
 }
 

@@ -34,7 +34,7 @@ pub(crate) fn read_signature(alloc: Global, n: usize, bytes: &[u8]) -> Result<Si
     match ksi_signature::read(alloc, bytes) {
         Ok(signature) => Ok(signature),
         Err(fault) => {
-            let line = signature_fault_line(alloc, n, fault)?;
+            let line = signature_fault_line(n, fault)?;
             Err(Halt::Reported(Report::new(Status::Malformed, line)))
         }
     }
@@ -52,7 +52,7 @@ pub(crate) fn read_publications(alloc: Global, n: usize, bytes: &[u8]) -> Result
     match ksi_publications::read(alloc, bytes) {
         Ok(publications) => Ok(publications),
         Err(fault) => {
-            let line = publications_fault_line(alloc, n, fault)?;
+            let line = publications_fault_line(n, fault)?;
             Err(Halt::Reported(Report::new(Status::Malformed, line)))
         }
     }
@@ -70,7 +70,7 @@ pub(crate) fn read_journal(alloc: Global, n: usize, bytes: &[u8]) -> Result<Jour
     match ksi_journal::load::<Sha>(alloc, bytes) {
         Ok(journal) => Ok(journal),
         Err(fault) => {
-            let line = journal_fault_line(alloc, n, &fault)?;
+            let line = journal_fault_line(n, &fault)?;
             Err(Halt::Reported(Report::new(Status::Malformed, line)))
         }
     }
@@ -88,7 +88,7 @@ pub(crate) fn read_schedule(alloc: Global, n: usize, bytes: &[u8]) -> Result<Sch
     match ksi_schedule::read_schedule(alloc, bytes) {
         Ok(schedule) => Ok(schedule),
         Err(fault) => {
-            let line = schedule_fault_line(alloc, n, &fault)?;
+            let line = schedule_fault_line(n, &fault)?;
             Err(Halt::Reported(Report::new(Status::Malformed, line)))
         }
     }

@@ -9,7 +9,7 @@ ghost use Rattle.ksi_replay.specs.Journals.{journal_of};
 ghost use Rattle.ksi_top.specs.Headline.{IsReplayed};
 ghost use Rattle.ksi_top.specs.Loading.{content};
 ghost use Rattle.ksi_top.specs.Causes.{ReportCaused, IsJudged, counts};
-ghost use Rattle.ksi_top.specs.Replay.{replay_limits, replay_run, replayed, replayed_as, counted};
+ghost use Rattle.ksi_top.specs.Replay.{replay_files, replay_run, replayed, replayed_as, counted};
 ghost use Rattle.ksi_top.specs.Lines.{replayed_line};
 
 use crate::histories::histories_hold;
@@ -28,7 +28,7 @@ use ksi_world::World;
 use std::alloc::Global;
 
 /// Loads and reads the schedule, and saves the journal of what its events come to.
-#[tactic(auto, using(crate::proofs::CauseLemmas::caused_by_judgement, crate::proofs::CauseLemmas::caused_by_limit), unfolding(crate::specs::Replay::replay_run))]
+#[tactic(auto, unfolding(crate::specs::Replay::replay_run))]
 pub(crate) fn replay<F: Files>(
     alloc: Global,
     files: &mut F,
@@ -40,7 +40,7 @@ pub(crate) fn replay<F: Files>(
     ensures stays { IsTrue F.tells → F.held files.new ≡ F.held files.old }
     ensures calls { F.calls files.new ≤ F.calls files.old + 1 }
     ensures later { F.calls files.old ≤ F.calls files.new }
-    ensures causes { ReportCaused replay_limits (counts (F.faults files.old) (F.taken files.old)) (counts (F.faults files.new) (F.taken files.new)) result }
+    ensures causes { ReportCaused replay_files (counts (F.calls files.old) (F.saves files.old) (F.faults files.old) (F.taken files.old) (F.last_taken files.old)) (counts (F.calls files.new) (F.saves files.new) (F.faults files.new) (F.taken files.new) (F.last_taken files.new)) result }
 {
     histories_hold();
     let bytes = load_file(alloc, files, FILE_LIMIT, 1, schedule)?;
@@ -78,35 +78,27 @@ fn saving(
     ensures judged { IfOk result (λ report. IsJudged report) }
 {
     let bytes = ksi_journal::write(alloc, journal)?;
-    let line = counted(alloc, world, journal)?;
+    let line = counted(world, journal);
     Ok(Report::saving(line, Saved::named(alloc, name, bytes)?))
 }
 
 /// How many events, messages, kept seconds, issued signatures and publications there are.
 #[tactic(auto, unfolding(crate::specs::Replay::counted))]
-fn counted(alloc: Global, world: &World<Sha>, journal: &Journal<Sha>) -> Result<Line, NoMemory>
-    ensures { IfOk result (λ line. line ≡ counted world.now journal.now) }
+fn counted(world: &World<Sha>, journal: &Journal<Sha>) -> Line
+    ensures { result ≡ counted world.now journal.now }
 {
     let events = world.events().len() as u64;
     let messages = world.wire().len() as u64;
     let seconds = journal.seconds().len() as u64;
     let issued = journal.issued().len() as u64;
     let published = journal.publications().len() as u64;
-    counts_line(alloc, events, messages, seconds, issued, published)
+    counts_line(events, messages, seconds, issued, published)
 }
 
-fn counts_line(
-    alloc: Global,
-    events: u64,
-    messages: u64,
-    seconds: u64,
-    issued: u64,
-    published: u64,
-) -> Result<Line, NoMemory>
-    ensures { IfOk result (λ line. line ≡ replayed_line events messages seconds issued published) }
+fn counts_line(events: u64, messages: u64, seconds: u64, issued: u64, published: u64) -> Line
+    ensures { result ≡ replayed_line events messages seconds issued published }
 {
     print(
-        alloc,
         Text("events"),
         &[Number(events), Text("messages"), Number(messages)],
         &[

@@ -101,21 +101,3 @@ impl From<NoMemory> for Halt {
         Halt::NoMemory
     }
 }
-
-/// What cuts a run short.
-#[derive(Clone, Copy, Debug, PartialEq, Eq)]
-pub enum Cut {
-    Fault,
-    NoMemory,
-}
-
-impl From<NoMemory> for Cut {
-    ghost use Rattle.std.specs.Prelude.{◌≡◌};
-    ghost use Rattle.ksi_top.specs.declared.report.Cut.TheVariants as cuts;
-
-    ghost from_gives = { λ _ cut. cut ≡ cuts.NoMemory };
-
-    fn from(_: NoMemory) -> Self {
-        Cut::NoMemory
-    }
-}

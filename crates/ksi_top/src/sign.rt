@@ -3,7 +3,7 @@ ghost use Rattle.std.specs.Prelude.{◌≡◌, ◌≤◌, ◌+◌, IsTrue, IfOk}
 ghost use Rattle.std.specs.Option.{option_copied};
 ghost use Rattle.ksi_top.specs.Reports.{Reports};
 ghost use Rattle.ksi_top.specs.Causes.{ReportCaused, IsJudged, counts};
-ghost use Rattle.ksi_top.specs.Sign.{sign_limits, sign_run, signature_of, signed};
+ghost use Rattle.ksi_top.specs.Sign.{sign_files, sign_run, signature_of, signed};
 
 use crate::loading::{FILE_LIMIT, load_file};
 use crate::printed::Word::{Number, Text};
@@ -16,7 +16,7 @@ use ksi_ports::Files;
 use std::alloc::Global;
 
 /// Loads and reads the journal, and saves the signature of a number.
-#[tactic(auto, using(crate::proofs::CauseLemmas::caused_by_judgement, crate::proofs::CauseLemmas::caused_by_limit), unfolding(crate::specs::Sign::sign_run))]
+#[tactic(auto, unfolding(crate::specs::Sign::sign_run))]
 pub(crate) fn sign<F: Files>(
     alloc: Global,
     files: &mut F,
@@ -28,7 +28,7 @@ pub(crate) fn sign<F: Files>(
     ensures stays { IsTrue F.tells → F.held files.new ≡ F.held files.old }
     ensures calls { F.calls files.new ≤ F.calls files.old + 1 }
     ensures later { F.calls files.old ≤ F.calls files.new }
-    ensures causes { ReportCaused sign_limits (counts (F.faults files.old) (F.taken files.old)) (counts (F.faults files.new) (F.taken files.new)) result }
+    ensures causes { ReportCaused sign_files (counts (F.calls files.old) (F.saves files.old) (F.faults files.old) (F.taken files.old) (F.last_taken files.old)) (counts (F.calls files.new) (F.saves files.new) (F.faults files.new) (F.taken files.new) (F.last_taken files.new)) result }
 {
     let bytes = load_file(alloc, files, FILE_LIMIT, 1, journal)?;
     let journal = read_journal(alloc, 1, bytes.as_slice())?;
@@ -58,12 +58,12 @@ fn signed(
 {
     match signature {
         Some(bytes) => {
-            let line = print(alloc, Text("signed"), &[], &[Number(number)])?;
+            let line = print(Text("signed"), &[], &[Number(number)]);
             let bytes = Bytes::copy_of(alloc, bytes.as_slice())?;
             Ok(Report::saving(line, Saved::named(alloc, out, bytes)?))
         }
         None => {
-            let line = print(alloc, Text("not"), &[Text("issued")], &[Number(number)])?;
+            let line = print(Text("not"), &[Text("issued")], &[Number(number)]);
             Ok(Report::new(Status::Refused, line))
         }
     }

@@ -8,7 +8,7 @@ ghost use Rattle.ksi_top.specs.Run.{most_calls, run, run_calls, saved_into, save
 ghost use Rattle.ksi_words.specs.Words.{texts, command_of};
 
 use crate::perform::report_of;
-use crate::report::{Cut, Report};
+use crate::report::{Halt, Report};
 use crate::status::Status;
 use ksi_ports::{Files, SaveRefusal, Sink, SinkFailed};
 use std::alloc::Global;
@@ -64,10 +64,13 @@ pub fn ksi<F: Files, K: Sink>(alloc: Global, words: &[String], files: &mut F, ou
     ensures too_long { result ≡ Status.TooLong →
         (line : List ℕ) × (IsTrue K.tells → K.written out.new ≡ K.written out.old ++ line)
         × TookTooMuch (command_of (texts words.now))
-        (counts (F.faults files.old) (F.taken files.old)) (counts (F.faults files.new) (F.taken files.new)) line }
+        (counts (F.calls files.old) (F.saves files.old) (F.faults files.old) (F.taken files.old) (F.last_taken files.old))
+        (counts (F.calls files.new) (F.saves files.new) (F.faults files.new) (F.taken files.new) (F.last_taken files.new)) line }
     ensures one_line { IsTrue K.tells →
         (line : List ℕ) × (K.written out.new ≡ K.written out.old ++ line) × (length line ≤ 32767) }
     ensures one_put { K.puts out.new ≤ K.puts out.old + 1 }
+    ensures short_put { K.given out.new ≤ K.given out.old + 32767 }
+    ensures no_save { result ≢ Status.Done → result ≢ Status.Fault → F.saves files.new ≡ F.saves files.old }
 
     // No count falls, and those of faults stay where no fault is reported.
     ensures quiet { result ≢ Status.Fault →
@@ -76,9 +79,9 @@ pub fn ksi<F: Files, K: Sink>(alloc: Global, words: &[String], files: &mut F, ou
         × (K.faults out.old ≤ K.faults out.new) }
 {
     match report_of(alloc, words, files) {
-        Ok(report) => finish(alloc, &report, files, out),
-        Err(Cut::Fault) => Status::Fault,
-        Err(Cut::NoMemory) => Status::NoMemory,
+        Ok(report) | Err(Halt::Reported(report)) => finish(alloc, &report, files, out),
+        Err(Halt::Fault) => Status::Fault,
+        Err(Halt::NoMemory) => Status::NoMemory,
     }
 }
 
@@ -95,6 +98,9 @@ fn finish<F: Files, K: Sink>(alloc: Global, report: &Report, files: &mut F, out:
     ensures one_line { IsTrue K.tells →
         (line : List ℕ) × (K.written out.new ≡ K.written out.old ++ line) × (length line ≤ 32767) }
     ensures one_put { K.puts out.new ≤ K.puts out.old + 1 }
+    ensures short_put { K.given out.new ≤ K.given out.old + 32767 }
+    ensures untouched { report.now.saved ≡ None → files.new ≡ files.old }
+    ensures no_save { result ≡ Status.NoMemory → F.saves files.new ≡ F.saves files.old }
     ensures quiet { result ≢ Status.Fault →
         (F.faults files.new ≡ F.faults files.old) × (K.faults out.new ≡ K.faults out.old) }
     ensures later { (F.faults files.old ≤ F.faults files.new) × (K.faults out.old ≤ K.faults out.new) }

@@ -1,0 +1,13 @@
+use Rattle.std.proofs.Common.{rules}
+use Rattle.ksi_top.proofs.CauseLemmas.{load_halts, report_caused_behind}
+use Rattle.ksi_top.proofs.Headline.{over_journal}
+use Rattle.ksi_top.proofs.extend.extend.Goals as goal
+
+pub returns-in_err-bytes-clause-causes : goal.returns-in_err-bytes-clause-causes
+returns-in_err-bytes-clause-causes g c = search (rules, load_halts)
+
+pub returns-clause-headline : goal.returns-clause-headline
+returns-clause-headline g c = search (rules, over_journal)
+
+pub returns-clause-causes : goal.returns-clause-causes
+returns-clause-causes g c = search (rules, report_caused_behind)
