@@ -23,7 +23,7 @@ use ksi_signature::Signature;
 use std::alloc::Global;
 
 /// Loads and reads the journal, then the signature, and saves it taken on to the second.
-#[tactic(auto, using(crate::proofs::CauseLemmas::caused_by_judgement, crate::proofs::CauseLemmas::caused_by_limit), unfolding(crate::specs::Extend::extend_run, crate::specs::Extend::extend_loads))]
+#[tactic(auto, unfolding(crate::specs::Extend::extend_run, crate::specs::Extend::extend_loads))]
 pub(crate) fn extend<F: Files>(
     alloc: Global,
     files: &mut F,
