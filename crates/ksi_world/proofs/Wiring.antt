@@ -3,7 +3,7 @@ use Rattle.std.proofs.Common.{◌≡◌, ℕ, zero, suc, ◌+◌, ◌-◌, ◌^�
 use Rattle.std.specs.Prelude.{slice_get, slice_index_or, unwrap_or}
 use Rattle.std.specs.List.{AllByRecursion}
 use Rattle.std.proofs.lemmas.Bool.{ltb-true}
-use Rattle.ksi_imprint.specs.Imprints.{zero_imprint}
+use Rattle.ksi_imprint.specs.Imprints.{IsImprint, zero_imprint}
 use Rattle.ksi_split.specs.declared.tree_link.TreeLink.{TreeLink}
 use Rattle.ksi_calchain.specs.Climbing.{ClimbsCal}
 use Rattle.ksi_calendar.specs.Calendar.{Seconds, calendar_leaf, calendar_path, calendar_root}
@@ -12,13 +12,12 @@ use Rattle.ksi_aggtree.specs.Rounds.{tree_of}
 use Rattle.ksi_aggtree.specs.Entries.{items_of}
 use Rattle.ksi_signature.specs.declared.above.Above.{Above}
 use Rattle.ksi_signature.specs.declared.above.AboveChain.{AboveChain}
-use Rattle.ksi_signature.specs.Carried.{IsAboveChain}
 use Rattle.ksi_corenode.specs.Held.{Held, roots_among, held_seconds, held_root}
 use Rattle.ksi_schedule.specs.declared.actor.Actor.{Actor}
 use Rattle.ksi_schedule.specs.declared.actor.Actor.TheVariants as actors
 use Rattle.ksi_schedule.specs.declared.event.Event.{Event}
 use Rattle.ksi_schedule.specs.Plans.{PlanState, IsPlan}
-use Rattle.ksi_schedule.specs.Events.{AreEvents, AskForImprints}
+use Rattle.ksi_schedule.specs.Events.{AreEvents}
 use Rattle.ksi_world.specs.declared.message.Content.{Content}
 use Rattle.ksi_world.specs.declared.message.Content.TheVariants as contents
 use Rattle.ksi_world.specs.declared.message.Message.{Message}
@@ -26,9 +25,10 @@ use Rattle.ksi_world.specs.Histories.{WorldState, held_in, after}
 use Rattle.ksi_world.specs.Joined.{ChainsClimb}
 use Rattle.ksi_world.specs.Sound.{depth_of, IsSent}
 use Rattle.ksi_world.specs.Wire.{IsHeldBySender, IsLinked, ResponsesClimb}
-use Rattle.ksi_world.proofs.Carrying.{RoundLaws, IsCarried, after_all}
+use Rattle.ksi_world.proofs.Carrying.{RoundLaws, IsCarried, AskFor, after_all}
 use Rattle.ksi_world.proofs.Deciding.{after_sound}
 use Rattle.ksi_world.proofs.Depths.{depth_most}
+use Rattle.ksi_world.proofs.Imprinted.{OfChain}
 use Rattle.ksi_world.proofs.IssuedCarried.{CalendarShort}
 use Rattle.ksi_world.proofs.IssuedJoined.{after_joined}
 use Rattle.ksi_world.proofs.Joining.{IsHeldBy, IsAnswer, IsResponse, IsSo}
@@ -71,12 +71,12 @@ held_by_sender : (image : List ℕ → List ℕ) (plan : PlanState) (w : WorldSt
 held_by_sender image plan w (actors.Core j) t above is = is
 held_by_sender image plan w (actors.Aggregator k) t above is = tt
 
-short_chains : (chains : List AboveChain) → AllByRecursion IsAboveChain chains → AllByRecursion (λ chain. length chain.links ≤ 16) chains
+short_chains : (chains : List AboveChain) → AllByRecursion (OfChain IsImprint) chains → AllByRecursion (λ chain. length chain.links ≤ 16) chains
 short_chains [] all = tt
 short_chains (chain ∷ chains) all = (all.0.limits.count, short_chains chains all.1)
 
-module _ (image : List ℕ → List ℕ) (plan : PlanState) (is : IsPlan plan) (laws : RoundLaws image) (climbs : PathClimbs image) (brief : CalendarShort image)
-    (es : List Event) (are : AreEvents plan es) (ask : AskForImprints es) where
+module _ (image : List ℕ → List ℕ) (plan : PlanState) (is : IsPlan plan) (laws : RoundLaws IsImprint image) (climbs : PathClimbs image) (brief : CalendarShort image)
+    (es : List Event) (are : AreEvents plan es) (ask : AskFor IsImprint es) where
   linked : (number : ℕ) (message : Message) (above : Above) → slice_get (after image plan es).wire number ≡ Some message → message.content ≡ contents.Response above →
       (to : (k : ℕ) × (message.addressee ≡ actors.Aggregator k) × (k < length plan.parents) × (length above.chains ≤ depth_of plan (actors.Aggregator k))) →
       IsResponse image plan (after image plan es) message.sender (actors.Aggregator to.0) message.second above → IsLinked image plan (after image plan es) message above
@@ -85,7 +85,7 @@ module _ (image : List ℕ → List ℕ) (plan : PlanState) (is : IsPlan plan) (
       let t = message.second in
       let joins = response.1.joins in
       let range = ((after_sound image plan is laws.rises es are).wire number message at).second in
-      let carried = subst IsCarried content ((after_all image plan is laws es are ask).wire number message at) in
+      let carried = subst (IsCarried IsImprint) content ((after_all IsImprint image plan is laws es are ask).wire number message at) in
       record {
         aggregator = to.0;
         to = to.1;
