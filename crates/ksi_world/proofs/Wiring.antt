@@ -1,5 +1,5 @@
 -- Each Response that was ever sent leads from a round's item to a root that is held.
-use Rattle.std.proofs.Common.{◌≡◌, ℕ, zero, suc, ◌+◌, ◌-◌, ◌^◌, ◌<◌, ◌≤◌, Bool, true, false, nat_lt, if◌then◌else◌, List, [], ◌∷◌, length, refl, sym, ap, subst, ◌∙◌, arith, Option, Some}
+use Rattle.std.proofs.Common.{◌≡◌, ℕ, zero, suc, ◌+◌, ◌-◌, ◌<◌, ◌≤◌, Bool, true, false, nat_lt, if◌then◌else◌, List, [], ◌∷◌, length, refl, sym, ap, subst, ◌∙◌, arith, Some}
 use Rattle.std.specs.Prelude.{slice_get, slice_index_or, unwrap_or}
 use Rattle.std.specs.List.{AllByRecursion}
 use Rattle.std.proofs.lemmas.Bool.{ltb-true}
@@ -8,8 +8,6 @@ use Rattle.ksi_split.specs.declared.tree_link.TreeLink.{TreeLink}
 use Rattle.ksi_calchain.specs.Climbing.{ClimbsCal}
 use Rattle.ksi_calendar.specs.Calendar.{Seconds, calendar_leaf, calendar_path, calendar_root}
 use Rattle.ksi_aggchain.specs.declared.item.Item.{Item}
-use Rattle.ksi_aggtree.specs.Rounds.{tree_of}
-use Rattle.ksi_aggtree.specs.Entries.{items_of}
 use Rattle.ksi_signature.specs.declared.above.Above.{Above}
 use Rattle.ksi_signature.specs.declared.above.AboveChain.{AboveChain}
 use Rattle.ksi_corenode.specs.Held.{Held, roots_among, held_seconds, held_root}
@@ -18,7 +16,6 @@ use Rattle.ksi_schedule.specs.declared.actor.Actor.TheVariants as actors
 use Rattle.ksi_schedule.specs.declared.event.Event.{Event}
 use Rattle.ksi_schedule.specs.Plans.{PlanState, IsPlan}
 use Rattle.ksi_schedule.specs.Events.{AreEvents}
-use Rattle.ksi_world.specs.declared.message.Content.{Content}
 use Rattle.ksi_world.specs.declared.message.Content.TheVariants as contents
 use Rattle.ksi_world.specs.declared.message.Message.{Message}
 use Rattle.ksi_world.specs.Histories.{WorldState, held_in, after}
@@ -31,7 +28,7 @@ use Rattle.ksi_world.proofs.Depths.{depth_most}
 use Rattle.ksi_world.proofs.Imprinted.{OfChain}
 use Rattle.ksi_world.proofs.IssuedCarried.{CalendarShort}
 use Rattle.ksi_world.proofs.IssuedJoined.{after_joined}
-use Rattle.ksi_world.proofs.Joining.{IsHeldBy, IsAnswer, IsResponse, IsSo}
+use Rattle.ksi_world.proofs.Joining.{IsHeldBy, IsResponse, IsSo}
 
 -- a calendar's path climbs from the leaf of its second to the root
 abbrev pub PathClimbs : (List ℕ → List ℕ) → Type 0
