@@ -22,8 +22,6 @@ mod item;
 pub mod laws;
 mod link;
 mod seen;
-#[cfg(test)]
-mod tests;
 
 pub use bits::shape;
 pub use climbing::{LevelFault, climb};

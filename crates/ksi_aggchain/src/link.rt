@@ -5,7 +5,7 @@ use ksi_imprint::{Bytes, Imprint};
 use ksi_split::Side;
 
 /// A link of an aggregation chain.
-#[derive(Drop, Debug)]
+#[derive(Drop)]
 pub struct Link {
     /// Which part of its join a node is that is climbed from: a left link has it on the left.
     pub side: Side,
@@ -16,7 +16,7 @@ pub struct Link {
 }
 
 /// What a link joins with the node that is climbed from.
-#[derive(Drop, Debug)]
+#[derive(Drop)]
 pub enum Sibling {
     /// The imprint of another node.
     Imprint(Imprint),

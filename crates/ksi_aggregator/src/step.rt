@@ -6,7 +6,7 @@ use std::alloc::Global;
 use std::marker::Model;
 
 /// What an aggregator sends, for the second of the step.
-#[derive(Drop, Debug)]
+#[derive(Drop)]
 pub enum Send {
     /// The item of its round, to its parent.
     Submission(Item),
@@ -15,7 +15,7 @@ pub enum Send {
 }
 
 /// What is sent in a step, in order. A contract sees its list.
-#[derive(Drop, Debug)]
+#[derive(Drop)]
 pub struct Sends {
     sends: Vec<Send>,
 }
@@ -54,7 +54,7 @@ impl Sends {
 }
 
 /// What a call answers and sends.
-#[derive(Drop, Debug)]
+#[derive(Drop)]
 pub struct Step {
     pub answer: Answer,
     pub sends: Sends,

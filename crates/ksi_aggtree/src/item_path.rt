@@ -8,7 +8,7 @@ use std::alloc::Global;
 use std::marker::Model;
 
 /// The links from an item up to the root of its tree, the lowest first. A contract sees their list.
-#[derive(Drop, Debug)]
+#[derive(Drop)]
 pub struct ItemPath {
     vec: Vec<Link>,
 }

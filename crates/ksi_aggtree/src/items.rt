@@ -4,7 +4,7 @@ use ksi_aggchain::Item;
 use std::marker::Model;
 
 /// The items of a tree, in order. A contract sees their list.
-#[derive(Drop, Debug)]
+#[derive(Drop)]
 pub struct Items {
     vec: Vec<Item>,
 }

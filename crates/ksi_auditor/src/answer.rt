@@ -3,7 +3,7 @@ use ksi_split::Way;
 use ksi_verifier::Refusal;
 
 /// Where the hash of an accepted signature stands in a journal, or why the audit does not come so far.
-#[derive(Drop, Debug)]
+#[derive(Drop)]
 pub enum Audit {
     /// It is a node of the tree that is kept for this second, the one that these sides lead to from the top.
     Inside(u64, Way),

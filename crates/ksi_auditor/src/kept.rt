@@ -8,7 +8,7 @@ use ksi_imprint::{Bytes, Imprint, NoMemory};
 use std::alloc::Global;
 
 /// Both parts of a node, and its level.
-#[derive(Drop, Debug)]
+#[derive(Drop)]
 pub(crate) struct Parts {
     pub(crate) left: Imprint,
     pub(crate) right: Imprint,

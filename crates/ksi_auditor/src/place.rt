@@ -6,7 +6,7 @@ use ksi_split::{Side, Way, way};
 use std::marker::Model;
 
 /// A place in a tree: the sides that lead to it from the top, at most 63. A contract sees their list.
-#[derive(Drop, Debug)]
+#[derive(Drop)]
 pub(crate) struct Place {
     // a bit for each side, that of the lowest one last: set where it is the right one
     bits: u64,

@@ -23,7 +23,7 @@ use ksi_signature::AggChain;
 use std::alloc::Global;
 
 /// How far links were laid beside a kept tree, from the top.
-#[derive(Drop, Debug)]
+#[derive(Drop)]
 pub(crate) enum Walk {
     /// The string of a link is another one than the kept one.
     Apart(Clash),

@@ -44,34 +44,34 @@ take_less n m sides le within =
     let few : n ≤ length (take m sides) = omega (arith, length-take-le m sides within) in
     sym (take-append-le n (take m sides) (drop m sides) few) ∙ ap (λ (xs : List Side). take n xs) (take-append-drop m sides)
 
--- by the laws of ways, the uppermost 64 sides tell what all of them do
-module _ (p : ℕ) (sides : List Side) (small : p < 2 ^ 63) (long : 64 ≤ length sides)
+-- by the laws of ways, the uppermost 65 sides tell what all of them do
+module _ (p : ℕ) (sides : List Side) (small : p < 2 ^ 64) (long : 65 ≤ length sides)
     (short : (t n k : ℕ) (s : List Side) → n ≤ 2 ^ k → IsWay t n s → length s ≤ k)
     (goes_on : (p rest : ℕ) (s : List Side) → EndsAbove p s rest → (t : ℕ) × (side : Side) × (more : List Side) × IsWay t (p + 1) (s ++ side ∷ more))
     (second : (p t : ℕ) (s : List Side) → (second_at p s ≡ Ok t) ↔ IsSecond p s t)
     (many : (p place : ℕ) (s : List Side) → (second_at p s ≡ Err (TooMany place)) ↔ PassesLeaf p s place)
     (few : (p rest : ℕ) (s : List Side) → (second_at p s ≡ Err (TooFew rest)) ↔ EndsAbove p s rest) where
-  pub told : (r : Result ℕ ShapeFault) → second_at p (take 64 sides) ≡ r → second_at p (take 64 sides) ≡ second_at p sides
+  pub told : (r : Result ℕ ShapeFault) → second_at p (take 65 sides) ≡ r → second_at p (take 65 sides) ≡ second_at p sides
   told (Ok t) e =
-      let way = ((second p t (take 64 sides)).0 e).way in
-      absurd (omega (arith, short t (p + 1) 63 (take 64 sides) (omega arith) way, length-take-le 64 sides long))
+      let way = ((second p t (take 65 sides)).0 e).way in
+      absurd (omega (arith, short t (p + 1) 64 (take 65 sides) (omega arith) way, length-take-le 65 sides long))
   told (Err (TooFew rest)) e =
-      let on = goes_on p rest (take 64 sides) ((few p rest (take 64 sides)).0 e) in
-      absurd (omega (arith, short on.0 (p + 1) 63 (take 64 sides ++ on.1 ∷ on.2) (omega arith) on.3, length-append (take 64 sides) (on.1 ∷ on.2), length-take-le 64 sides long))
+      let on = goes_on p rest (take 65 sides) ((few p rest (take 65 sides)).0 e) in
+      absurd (omega (arith, short on.0 (p + 1) 64 (take 65 sides ++ on.1 ∷ on.2) (omega arith) on.3, length-append (take 65 sides) (on.1 ∷ on.2), length-take-le 65 sides long))
   told (Err (TooMany place)) e =
-      let h = (many p place (take 64 sides)).0 e in
+      let h = (many p place (take 65 sides)).0 e in
       let within = h.more in
-      let count = length-take-le 64 sides long in
-      let same : take place (take 64 sides) ≡ take place sides = take_less place 64 sides (omega arith) long in
+      let count = length-take-le 65 sides long in
+      let same : take place (take 65 sides) ≡ take place sides = take_less place 65 sides (omega arith) long in
       let all : PassesLeaf p sides place = record { more = omega arith; second = h.second; reached = subst (λ (xs : List Side). IsSecond p xs h.second) same h.reached } in
       e ∙ sym ((many p place sides).1 all)
 
--- the uppermost sides of as many as there are, and of 64 at most
-pub uppermost_is : (p count : ℕ) (sides : List Side) → count ≡ min (length sides) 64 → (64 ≤ length sides → second_at p (take 64 sides) ≡ second_at p sides)
+-- the uppermost sides of as many as there are, and of 65 at most
+pub uppermost_is : (p count : ℕ) (sides : List Side) → count ≡ min (length sides) 65 → (65 ≤ length sides → second_at p (take 65 sides) ≡ second_at p sides)
     → second_at p (take count sides) ≡ second_at p sides
-uppermost_is p count sides is tell = elim (cases_lt (length sides) 64) [
+uppermost_is p count sides is tell = elim (cases_lt (length sides) 65) [
   | inl few ↦ (let all : count ≡ length sides = omega arith in ap (λ (n : ℕ). second_at p (take n sides)) all ∙ ap (second_at p) (take-length sides))
-  | inr long ↦ (let all : count ≡ 64 = omega arith in ap (λ (n : ℕ). second_at p (take n sides)) all ∙ tell long)
+  | inr long ↦ (let all : count ≡ 65 = omega arith in ap (λ (n : ℕ). second_at p (take n sides)) all ∙ tell long)
 ]
 
 -- an answer that is the value of the sides

@@ -19,8 +19,6 @@ mod climbing;
 pub mod laws;
 mod link;
 mod seconds;
-#[cfg(test)]
-mod tests;
 
 pub use climbing::climb_cal;
 pub use link::CalLink;

@@ -16,7 +16,6 @@ use ksi_split::{ShapeFault, Side, second_of};
 /// `TooMany(place)` where the links above the one at `place` are already the way to a second, and `TooFew(rest)` where
 /// the links end at a part that has `rest` seconds more than one.
 pub fn second(p: u64, links: &[CalLink]) -> Result<u64, ShapeFault>
-    requires { p < 2 ^ 63 }
     ensures second { (t : ℕ) → (result ≡ Ok t) ↔ IsSecond p (sides_from_top links.now) t }
     ensures too_many { (place : ℕ) →
         (result ≡ Err (TooMany place)) ↔ PassesLeaf p (sides_from_top links.now) place }
@@ -26,28 +25,28 @@ pub fn second(p: u64, links: &[CalLink]) -> Result<u64, ShapeFault>
 {
     one_answer();
     uppermost_tell();
-    let count = links.len().min(64);
+    let count = links.len().min(65);
     let sides = uppermost(links, count);
     second_of(p, &sides[..count])
 }
 
 /// The sides of the uppermost `count` links, the top first. Behind them all are left.
-fn uppermost(links: &[CalLink], count: usize) -> [Side; 64]
-    requires few { count ≤ 64 }
+fn uppermost(links: &[CalLink], count: usize) -> [Side; 65]
+    requires few { count ≤ 65 }
     requires there { count ≤ length links.now }
     ensures { take count result ≡ take count (sides_from_top links.now) }
 {
-    let mut sides = [Side::Left; 64];
+    let mut sides = [Side::Left; 65];
     for place in 0..count {
         sides[place] = links[links.len() - 1 - place].side;
     }
     sides
 }
 
-/// No way has more than 63 sides, so that the uppermost 64 pass a second where all of them do.
+/// No way among 2^64 seconds has more than 64 sides, so that the uppermost 65 pass a second where all of them do.
 fn uppermost_tell()
-    ensures { (p : ℕ) (sides : List Side) → p < 2 ^ 63 → 64 ≤ length sides →
-        second_at p (take 64 sides) ≡ second_at p sides }
+    ensures { (p : ℕ) (sides : List Side) → p < 2 ^ 64 → 65 ≤ length sides →
+        second_at p (take 65 sides) ≡ second_at p sides }
 {
     one_answer();
     proper_fronts();

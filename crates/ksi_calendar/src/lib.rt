@@ -22,8 +22,6 @@ mod calendar;
 mod join;
 pub mod laws;
 mod second_path;
-#[cfg(test)]
-mod tests;
 
 pub use calendar::Calendar;
 pub use ksi_rows::Steps;

@@ -4,7 +4,7 @@ use ksi_calchain::CalLink;
 use std::marker::Model;
 
 /// The links from a second up to the root of a calendar's tree, the lowest first. A contract sees their list.
-#[derive(Drop, Debug)]
+#[derive(Drop)]
 pub struct SecondPath {
     vec: Vec<CalLink>,
 }

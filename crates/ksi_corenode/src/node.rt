@@ -7,8 +7,8 @@ ghost use Rattle.ksi_corenode.specs.SecondState.{fresh_second};
 ghost use Rattle.ksi_aggtree.specs.Entries.{items_of, has_from, candidate_of};
 ghost use Rattle.ksi_signature.specs.declared.answer.Answer.TheVariants.{Late, Known, Full, Unsealed, Sealed, Undecided, Nothing, Last};
 ghost use Rattle.ksi_synod.specs.Ballots.{last_round};
-ghost use Rattle.ksi_synod.specs.Rows.{greater_round, OfBallot};
-ghost use Rattle.ksi_corenode.specs.Rows.{submission_row, seal_row, ballot_row, receive_row, tell_row, restart_row, is_news};
+ghost use Rattle.ksi_synod.specs.Rows.{greater_round, ballot_told, OfBallot};
+ghost use Rattle.ksi_corenode.specs.Rows.{submission_row, seal_row, ballot_answer, ballot_row, receive_row, tell_row, restart_row, is_news};
 ghost use Rattle.ksi_corenode.specs.CoreState.{second_at, held_by, IsSame, IsTurn};
 ghost use Rattle.ksi_corenode.specs.Kept.{IsKept};
 
@@ -213,14 +213,8 @@ impl<C: Compress> Core<C> {
             Some(kept) => kept.ballot(),
             None => unreachable!(),
         };
-        let answer = match begun {
-            Begun::Unsealed => Answer::Unsealed,
-            Begun::Last => Answer::Last,
-            Begun::Next(ballot) => {
-                push_each(self.members, &SynodMessage::NextBallot(ballot), &mut sends);
-                Answer::Done
-            }
-        };
+        let (answer, call) = called(begun);
+        push_told(self.members, second, self.me, &call, &mut sends);
         Ok(Step {
             answer,
             sends: Sends::from_vec(sends),
@@ -313,5 +307,19 @@ impl<C: Compress> Core<C> {
         let fresh = Second::new(self.alloc, self.me, self.members, second);
         self.seconds.insert(second, fresh)?;
         Ok(())
+    }
+}
+
+/// What comes of the command to try a ballot: NextBallot goes out where one is tried.
+fn called(begun: Begun) -> (Answer, Option<SynodMessage>)
+    ensures answer { result.0 ≡ ballot_answer begun }
+    ensures sends { result.1 ≡ ballot_told begun }
+    ensures unsealed { (result.0 ≡ Unsealed) ↔ (begun ≡ Begun.Unsealed) }
+    ensures last { (result.0 ≡ Last) ↔ (begun ≡ Begun.Last) }
+{
+    match begun {
+        Begun::Unsealed => (Answer::Unsealed, None),
+        Begun::Last => (Answer::Last, None),
+        Begun::Next(ballot) => (Answer::Done, Some(SynodMessage::NextBallot(ballot))),
     }
 }

@@ -1,18 +1,18 @@
-ghost use Rattle.std.specs.Prelude.{◌≡◌, ◌≢◌, ◌<◌, ◌≤◌, ◌↔◌, ◌++◌, ◌∷◌, [], IfOk, IfSome, OnErr, vec_len, vec_capacity, option_map, is_some, unwrap_or, length, IsTrue, IsSome, IsNone, Some, false};
+ghost use Rattle.std.specs.Prelude.{◌≡◌, ◌<◌, ◌≤◌, ◌↔◌, ◌++◌, ◌∷◌, [], IfOk, IfSome, OnErr, vec_len, vec_capacity, option_map, is_some, unwrap_or, IsSome, IsNone, Some};
 ghost use Rattle.std.specs.Option.{option_copied};
-ghost use Rattle.ksi_aggtree.specs.Entries.{items_of, has_from, candidate_of};
-ghost use Rattle.ksi_signature.specs.declared.answer.Answer.TheVariants.{Late, Known, Full, Sealed};
+ghost use Rattle.ksi_aggtree.specs.Entries.{items_of, candidate_of};
+ghost use Rattle.ksi_signature.specs.declared.answer.Answer.TheVariants.{Sealed};
 ghost use Rattle.ksi_synod.specs.Ballots.{last_round};
-ghost use Rattle.ksi_synod.specs.Rows.{greater_round, try_ballot, receive, OfBallot};
+ghost use Rattle.ksi_synod.specs.Rows.{greater_round, try_ballot, promise_told, decree_begun, vote_told, decree_told, receive, OfBallot};
 ghost use Rattle.ksi_corenode.specs.SecondState.{fresh_second};
 ghost use Rattle.ksi_corenode.specs.Kept.{StillHolds};
-ghost use Rattle.ksi_corenode.specs.Rows.{taken, submission_row, seal_row, is_mine, restart_row, is_news, news_answer};
+ghost use Rattle.ksi_corenode.specs.Rows.{taken, submission_row, seal_row, is_mine, restart_row, counts, is_news, news_answer};
 
 use ksi_aggchain::Item;
 use ksi_aggtree::{AddRefusal, Entries, Entry, Origin};
 use ksi_imprint::{Compress, Imprint, NoMemory};
 use ksi_signature::Answer;
-use ksi_synod::{Begun, Instance, SynodMessage, Took};
+use ksi_synod::{Begun, Instance, LastVote, SynodMessage, Took};
 use std::alloc::Global;
 use std::marker::Model;
 
@@ -123,11 +123,6 @@ impl<C: Compress> Second<C> {
         requires { item.now.level ≤ 239 }
         ensures after { IfOk result (λ answer. self.new ≡ (submission_row aggregator item.now self.old).after) }
         ensures answer { IfOk result (λ answer. answer ≡ (submission_row aggregator item.now self.old).answer) }
-        ensures late { IfOk result (λ answer. (answer ≡ Late) ↔ IsSome self.old.sealed) }
-        ensures known { IfOk result (λ answer. (answer ≡ Known) ↔
-            (IsNone self.old.sealed × IsTrue (has_from aggregator self.old.open_items))) }
-        ensures full { IfOk result (λ answer. (answer ≡ Full) ↔ (IsNone self.old.sealed ×
-            (has_from aggregator self.old.open_items ≡ false) × (length self.old.open_items ≡ 65536))) }
         ensures held { StillHolds self.old self.new }
         ensures unchanged { OnErr result (self.new ≡ self.old) }
     {
@@ -212,37 +207,70 @@ fn receive(vote: &mut Instance, from: u8, message: &SynodMessage) -> (Answer, Op
     ensures sends { result.1 ≡ (receive vote.old from message.now).1 }
 {
     match *message {
-        SynodMessage::NextBallot(ballot) => match vote.on_next(ballot) {
-            Some(last) => (Answer::Done, Some(SynodMessage::LastVote(last))),
-            None => (Answer::Nothing, None),
-        },
-        SynodMessage::LastVote(last) => match vote.on_last(from, last.ballot, last.vote) {
-            Took::Nothing => (Answer::Nothing, None),
-            Took::Added => (Answer::Done, None),
-            Took::Decree(decree) => (
-                Answer::Done,
-                Some(SynodMessage::BeginBallot(last.ballot, decree)),
-            ),
-        },
-        SynodMessage::BeginBallot(ballot, decree) => {
-            if vote.on_begin(ballot, decree) {
-                (Answer::Done, Some(SynodMessage::Voted(ballot)))
-            } else {
-                (Answer::Nothing, None)
-            }
+        SynodMessage::NextBallot(ballot) => promised(vote.on_next(ballot)),
+        SynodMessage::LastVote(last) => {
+            begun(last.ballot, vote.on_last(from, last.ballot, last.vote))
         }
-        SynodMessage::Voted(ballot) => match vote.on_voted(from, ballot) {
-            Took::Nothing => (Answer::Nothing, None),
-            Took::Added => (Answer::Done, None),
-            Took::Decree(decree) => (Answer::Done, Some(SynodMessage::Success(decree))),
-        },
-        SynodMessage::Success(decree) => {
-            if vote.on_success(decree) {
-                (Answer::Done, None)
-            } else {
-                (Answer::Nothing, None)
-            }
-        }
+        SynodMessage::BeginBallot(ballot, decree) => voted(ballot, vote.on_begin(ballot, decree)),
+        SynodMessage::Voted(ballot) => decided(vote.on_voted(from, ballot)),
+        SynodMessage::Success(decree) => (news_answer(vote.on_success(decree)), None),
+    }
+}
+
+/// Done where something changed, else Nothing.
+fn news_answer(news: bool) -> Answer
+    ensures { result ≡ news_answer news }
+{
+    if news { Answer::Done } else { Answer::Nothing }
+}
+
+/// What comes of NextBallot: LastVote goes back where the ballot was promised.
+fn promised(last: Option<LastVote>) -> (Answer, Option<SynodMessage>)
+    ensures answer { result.0 ≡ news_answer (is_some last) }
+    ensures sends { result.1 ≡ promise_told last }
+{
+    match last {
+        Some(last) => (Answer::Done, Some(SynodMessage::LastVote(last))),
+        None => (Answer::Nothing, None),
+    }
+}
+
+/// What comes of LastVote: BeginBallot goes out where a majority counts.
+fn begun(ballot: u64, took: Took) -> (Answer, Option<SynodMessage>)
+    ensures answer { result.0 ≡ news_answer (counts took) }
+    ensures sends { result.1 ≡ decree_begun ballot took }
+{
+    match took {
+        Took::Nothing => (Answer::Nothing, None),
+        Took::Added => (Answer::Done, None),
+        Took::Decree(decree) => (
+            Answer::Done,
+            Some(SynodMessage::BeginBallot(ballot, decree)),
+        ),
+    }
+}
+
+/// What comes of BeginBallot: Voted goes back where this core votes.
+fn voted(ballot: u64, votes: bool) -> (Answer, Option<SynodMessage>)
+    ensures answer { result.0 ≡ news_answer votes }
+    ensures sends { result.1 ≡ vote_told ballot votes }
+{
+    if votes {
+        (Answer::Done, Some(SynodMessage::Voted(ballot)))
+    } else {
+        (Answer::Nothing, None)
+    }
+}
+
+/// What comes of Voted: Success goes out where a majority counts for the first time.
+fn decided(took: Took) -> (Answer, Option<SynodMessage>)
+    ensures answer { result.0 ≡ news_answer (counts took) }
+    ensures sends { result.1 ≡ decree_told took }
+{
+    match took {
+        Took::Nothing => (Answer::Nothing, None),
+        Took::Added => (Answer::Done, None),
+        Took::Decree(decree) => (Answer::Done, Some(SynodMessage::Success(decree))),
     }
 }
 
@@ -257,10 +285,6 @@ fn take<C: Compress>(
     requires same { items.old.items ≡ items_of entries.old }
     ensures after { IfOk result (λ answer. entries.new ≡ (taken aggregator item.now entries.old).0) }
     ensures answer { IfOk result (λ answer. answer ≡ (taken aggregator item.now entries.old).1) }
-    ensures late { IfOk result (λ answer. answer ≢ Late) }
-    ensures known { IfOk result (λ answer. (answer ≡ Known) ↔ IsTrue (has_from aggregator entries.old)) }
-    ensures full { IfOk result (λ answer. (answer ≡ Full) ↔
-        ((has_from aggregator entries.old ≡ false) × (length entries.old ≡ 65536))) }
     ensures unchanged { OnErr result (entries.new ≡ entries.old) }
     ensures items { items.new.items ≡ items_of entries.new }
 {

@@ -6,7 +6,7 @@ use std::alloc::Global;
 use std::marker::Model;
 
 /// What a core sends, for the second of the call.
-#[derive(Drop, Debug)]
+#[derive(Drop)]
 pub enum Send {
     /// A message of the vote to this core.
     Synod(u8, SynodMessage),
@@ -15,7 +15,7 @@ pub enum Send {
 }
 
 /// What is sent, in order. A contract sees the list.
-#[derive(Drop, Debug)]
+#[derive(Drop)]
 pub struct Sends {
     sends: Vec<Send>,
 }
@@ -54,7 +54,7 @@ impl Sends {
 }
 
 /// What came of a call.
-#[derive(Drop, Debug)]
+#[derive(Drop)]
 pub struct Step {
     pub answer: Answer,
     pub sends: Sends,

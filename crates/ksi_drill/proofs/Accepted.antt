@@ -1,40 +1,31 @@
 -- As many signatures are accepted as were issued.
-use Rattle.std.proofs.Common.{◌≡◌, ℕ, zero, suc, ◌+◌, ◌<◌, ◌≤◌, Bool, true, false, List, [], ◌∷◌, length, map, refl, sym, ap, subst, ◌∙◌, arith, Option, Some, None, Ok, nat_lt, nat_le, ◌==◌}
-use Rattle.std.specs.Prelude.{◌↔◌, ◌&&◌, IsTrue, IfOk, slice_get}
-use Rattle.std.specs.List.{AllByRecursion, filter}
+use Rattle.std.proofs.Common.{◌≡◌, ℕ, zero, suc, ◌+◌, ◌<◌, ◌≤◌, Bool, true, false, List, [], ◌∷◌, length, map, refl, sym, ap, ◌∙◌, arith, Option, Some, None, Ok, nat_lt, nat_le, ◌==◌}
+use Rattle.std.specs.Prelude.{◌↔◌, ◌&&◌, IsTrue, slice_get}
+use Rattle.std.specs.List.{filter}
 use Rattle.std.proofs.lemmas.Bool.{cond-true, eq-eqb, le-leb, leb-true, lt-ltb, ltb-true}
-use Rattle.sha2.proofs.Facts256.{length-sha256}
-use Rattle.ksi_imprint.specs.Imprints.{IsImprint, imprint_of}
+use Rattle.ksi_imprint.specs.Imprints.{imprint_of}
 use Rattle.ksi_tlv.specs.Spelling.{AreBytes}
 use Rattle.ksi_calendar.specs.Calendar.{is_covered}
 use Rattle.ksi_signature.specs.declared.signature.Signature.{Signature}
 use Rattle.ksi_signature.specs.File.{IsSignature}
 use Rattle.ksi_signature.specs.Reading.{signature_at}
 use Rattle.ksi_publications.specs.Finding.{find}
+use Rattle.ksi_extender.specs.Extended.{extended}
 use Rattle.ksi_extender.specs.Accepted.{taken_on}
 use Rattle.ksi_schedule.specs.Events.{History}
 use Rattle.ksi_world.specs.declared.outcome.Asked.{Asked}
 use Rattle.ksi_world.specs.Histories.{world_of}
 use Rattle.ksi_world.specs.Records.{issued_of}
-use Rattle.ksi_journal.specs.Journal.{Contents, IsIssued}
+use Rattle.ksi_journal.specs.Journal.{Contents}
 use Rattle.ksi_journal.specs.Calendar.{IsCovered, calendar_of, kept_root, roots_from}
 use Rattle.ksi_history.specs.Joined.{Joined, Lasts}
 use Rattle.ksi_history.specs.Lasting.{LastsTo}
 use Rattle.ksi_drill.specs.declared.trial.Trial.{Trial}
 use Rattle.ksi_drill.specs.Covered.{greatest_covered, last_from, published}
 use Rattle.ksi_drill.specs.Drill.{count, tally_of}
-use Rattle.ksi_drill.specs.Taken.{AreTakenToBytes, IsTakenToBytes}
 use Rattle.ksi_drill.specs.Trials.{extension, if_extended, if_signature, is_accepted, trial, trial_for, trials}
 
-pub sha_imprints : (bytes : List ℕ) → IsImprint (imprint_of bytes)
-sha_imprints bytes = record { algorithm = refl; size = ap suc (length-sha256 bytes) }
-
 -- ---- lists
-
-all_at : {A : Type 0} (P : A → Type 0) (xs : List A) (k : ℕ) (x : A) → AllByRecursion P xs → slice_get xs k ≡ Some x → P x
-all_at P [] k x all at = absurd (cc at)
-all_at P (y ∷ xs) zero x all at = subst P (cc at) all.0
-all_at P (y ∷ xs) (suc k) x all at = all_at P xs k x all.1 at
 
 -- where all pass, as many pass as there are
 all_pass : {A B : Type 0} (test : B → Bool) (f : A → B) (xs : List A) → ((k : ℕ) (x : A) → slice_get xs k ≡ Some x → test (f x) ≡ true) → count test (map f xs) ≡ length xs
@@ -97,13 +88,13 @@ found_here p root = cond-true (p == p) (Some root) None (eq-eqb p p refl)
 pub record Facts (h : History) (journal : Contents) : Type 0 where
   pub joined : Joined imprint_of h journal
   pub listed : (k : ℕ) (x : ℕ × List ℕ) → slice_get journal.issued k ≡ Some x → issued_of imprint_of (world_of imprint_of h) x.0 ≡ Some x.1
-  pub issued : AllByRecursion IsIssued journal.issued
+  pub extends : (number : ℕ) (text : List ℕ) → issued_of imprint_of (world_of imprint_of h) number ≡ Some text → (p : ℕ) (bytes : List ℕ) → extended imprint_of journal text p ≡ Ok bytes → AreBytes bytes
   pub covered : (p : ℕ) → IsTrue (is_covered (calendar_of journal) p) ↔ IsCovered journal p
   pub read : (bytes : List ℕ) (signature : Signature) → AreBytes bytes → (signature_at bytes ≡ Ok signature) ↔ IsSignature bytes signature
 
 module _ (h : History) (journal : Contents) (facts : Facts h journal) where
   lasts : (k : ℕ) (x : ℕ × List ℕ) → slice_get journal.issued k ≡ Some x → Lasts imprint_of h journal x.0 x.1
-  lasts k x at = facts.joined.issued x.0 x.1 (facts.listed k x at) (all_at IsIssued journal.issued k x facts.issued at).bytes
+  lasts k x at = facts.joined.issued x.0 x.1 (facts.listed k x at)
 
   -- the second of each is at most the greatest one
   covered_until : (k : ℕ) (x : ℕ × List ℕ) (at : slice_get journal.issued k ≡ Some x) → (lasts k x at).asked.second < journal.start + covered_count journal
@@ -116,27 +107,27 @@ module _ (h : History) (journal : Contents) (facts : Facts h journal) where
       ((facts.covered p).0 (before_covered journal p is.0 (omega (arith, is.1))))
 
   -- what lasts is accepted
-  accepted_for : (p : ℕ) (x : ℕ × List ℕ) (asked : Asked) → slice_get (world_of imprint_of h).requests x.0 ≡ Some asked → IsTakenToBytes imprint_of journal p x
+  accepted_for : (p : ℕ) (x : ℕ × List ℕ) (asked : Asked) → slice_get (world_of imprint_of h).requests x.0 ≡ Some asked → issued_of imprint_of (world_of imprint_of h) x.0 ≡ Some x.1
       → LastsTo imprint_of journal asked x.1 p → (trial imprint_of (world_of imprint_of h).requests journal p x).accepted ≡ true
   unfolding trial
-  accepted_for p x asked there bytes l =
+  accepted_for p x asked there issued l =
       let signature = taken_on imprint_of journal l.signature p in
-      let are : AreBytes l.bytes = subst (λ result. IfOk result AreBytes) l.extension bytes in
+      let are = facts.extends x.0 x.1 issued p l.bytes l.extension in
       let read : extension imprint_of journal x.1 p ≡ Some signature = ap if_extended l.extension ∙ ap if_signature ((facts.read l.bytes signature are).1 l.after) in
       ap (λ (a : Option Asked). (trial_for imprint_of journal p a (extension imprint_of journal x.1 p)).accepted) there
       ∙ ap (λ (e : Option Signature). (trial_for imprint_of journal p (Some asked) e).accepted) read
       ∙ ap is_accepted (l.accepted (published imprint_of journal p) (found_here p (kept_root imprint_of journal p)))
 
-  all_trials : (greatest : Option ℕ) → greatest_covered journal ≡ greatest → AreTakenToBytes imprint_of journal greatest
+  all_trials : (greatest : Option ℕ) → greatest_covered journal ≡ greatest
       → count (λ (t : Trial). t.accepted) (trials imprint_of (world_of imprint_of h).requests journal greatest) ≡ length journal.issued
-  all_trials None none taken = sym (none_there journal.issued (λ x at.
+  all_trials None none = sym (none_there journal.issued (λ x at.
       let first = lasts 0 x at in
       let from = first.covered.from in
       omega (arith, covered_until 0 x at, from, greatest_none journal none)))
-  all_trials (Some p) greatest taken = all_pass (λ (t : Trial). t.accepted) (trial imprint_of (world_of imprint_of h).requests journal p) journal.issued (λ k x at.
-      accepted_for p x (lasts k x at).asked (lasts k x at).accepted (all_at (IsTakenToBytes imprint_of journal p) journal.issued k x taken at) (lasts_to p greatest k x at))
+  all_trials (Some p) greatest = all_pass (λ (t : Trial). t.accepted) (trial imprint_of (world_of imprint_of h).requests journal p) journal.issued (λ k x at.
+      accepted_for p x (lasts k x at).asked (lasts k x at).accepted (facts.listed k x at) (lasts_to p greatest k x at))
 
   -- as many are accepted as were issued
-  pub all_accepted : AreTakenToBytes imprint_of journal (greatest_covered journal) → (tally_of imprint_of h journal).accepted ≡ (tally_of imprint_of h journal).issued
+  pub all_accepted : (tally_of imprint_of h journal).accepted ≡ (tally_of imprint_of h journal).issued
   unfolding tally_of
-  all_accepted taken = all_trials (greatest_covered journal) refl taken
+  all_accepted = all_trials (greatest_covered journal) refl

@@ -1,4 +1,3 @@
 pub mod Covered
 pub mod Trials
 pub mod Drill
-pub mod Taken

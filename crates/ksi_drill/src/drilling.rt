@@ -1,15 +1,13 @@
 // The drill of a number, and what it counts.
 ghost use Rattle.std.specs.Prelude.{◌≡◌, ◌<◌, ◌^◌, Some, IfOk, map};
-ghost use Rattle.std.specs.List.{AllByRecursion};
 ghost use Rattle.ksi_imprint.specs.Imprints.{imprint_of};
 ghost use Rattle.ksi_replay.specs.Journals.{journal_of};
 ghost use Rattle.ksi_drill.specs.Covered.{greatest_covered, published};
 ghost use Rattle.ksi_drill.specs.Drill.{count, drilled, is_missed, tally_of, tally_with};
-ghost use Rattle.ksi_drill.specs.Taken.{AreTakenToBytes, IsTakenToBytes};
 ghost use Rattle.ksi_drill.specs.Trials.{trial, trials};
 
 use crate::covered::{greatest_covered, published};
-use crate::joining::all_are_accepted;
+use crate::joining::{all_are_accepted, follows_the_rules};
 use crate::tally::Tally;
 use crate::trial::Trial;
 use crate::trying::trial;
@@ -42,7 +40,8 @@ fn tally(alloc: Global, world: &World<Sha>, journal: &Journal<Sha>) -> Result<Ta
     ensures tally { IfOk result (λ tally. tally ≡ tally_of imprint_of world.now journal.now) }
     ensures accepted { IfOk result (λ tally. tally.accepted ≡ tally.issued) }
 {
-    all_are_accepted(world, journal);
+    follows_the_rules(world);
+    all_are_accepted();
     let trials = trials(alloc, world.requests(), journal)?;
     Ok(counted(journal, trials.as_slice()))
 }
@@ -62,8 +61,7 @@ fn counted(journal: &Journal<Sha>, trials: &[Trial]) -> Tally
 
 /// The trials of all issued signatures, none where no second is covered.
 fn trials(alloc: Global, requests: &[Asked], journal: &Journal<Sha>) -> Result<Vec<Trial>, NoMemory>
-    ensures trials { IfOk result (λ found. found.items ≡ trials imprint_of requests.now journal.now (greatest_covered journal.now)) }
-    ensures bytes { IfOk result (λ _. AreTakenToBytes imprint_of journal.now (greatest_covered journal.now)) }
+    ensures { IfOk result (λ found. found.items ≡ trials imprint_of requests.now journal.now (greatest_covered journal.now)) }
 {
     match greatest_covered(journal) {
         Some(p) => trials_at(alloc, requests, journal, p),
@@ -80,8 +78,7 @@ fn trials_at(
 ) -> Result<Vec<Trial>, NoMemory>
     requires early { p < 2 ^ 63 }
     requires greatest { greatest_covered journal.now ≡ Some p }
-    ensures trials { IfOk result (λ found. found.items ≡ map (trial imprint_of requests.now journal.now p) journal.now.issued) }
-    ensures bytes { IfOk result (λ _. AllByRecursion (IsTakenToBytes imprint_of journal.now p) journal.now.issued) }
+    ensures { IfOk result (λ found. found.items ≡ map (trial imprint_of requests.now journal.now p) journal.now.issued) }
 {
     let publications = published(alloc, journal, p)?;
     let all = journal.issued();

@@ -1,42 +1,40 @@
 // What holds over the history of a world, told to the proofs. These functions only read.
 ghost use Rattle.std.specs.Prelude.{◌≡◌};
 ghost use Rattle.ksi_imprint.specs.Imprints.{imprint_of};
-ghost use Rattle.ksi_history.specs.Joined.{Joined};
+ghost use Rattle.ksi_schedule.specs.Events.{History};
+ghost use Rattle.ksi_schedule.specs.Schedules.{IsHistory};
 ghost use Rattle.ksi_replay.specs.Journals.{journal_of};
-ghost use Rattle.ksi_drill.specs.Covered.{greatest_covered};
 ghost use Rattle.ksi_drill.specs.Drill.{tally_of};
-ghost use Rattle.ksi_drill.specs.Taken.{AreTakenToBytes};
 
 use crate::asking::asked_are_imprints;
-use ksi_history::laws::{history_is_joined, journal_keeps_roots};
+use ksi_history::laws::{extensions_are_bytes, history_is_joined};
 use ksi_imprint::Sha;
-use ksi_journal::Journal;
 use ksi_journal::laws::calendar_is_covered;
+use ksi_replay::laws::{hashes_are_bytes, history_has_a_journal};
 use ksi_signature::signature_is_read;
 use ksi_world::World;
 use ksi_world::laws::all_issued;
 
-/// As many signatures are accepted as were issued.
-pub(crate) fn all_are_accepted(world: &World<Sha>, journal: &Journal<Sha>)
-    requires { journal.now ≡ journal_of imprint_of world.now }
-    ensures { AreTakenToBytes imprint_of journal.now (greatest_covered journal.now) →
-        (tally_of imprint_of world.now journal.now).accepted ≡ (tally_of imprint_of world.now journal.now).issued }
+/// As many signatures are accepted as were issued, in every history.
+pub(crate) fn all_are_accepted()
+    ensures { (history : History) → IsHistory history →
+        (tally_of imprint_of history (journal_of imprint_of history)).accepted ≡ (tally_of imprint_of history (journal_of imprint_of history)).issued }
 {
     all_issued();
     calendar_is_covered();
+    hashes_are_bytes();
+    history_has_a_journal();
+    history_is_joined();
+    extensions_are_bytes();
     signature_is_read();
-    let _start = journal.start();
-    world_is_joined(world, journal);
 }
 
-/// What a world issued and published is joined to its journal.
-fn world_is_joined(world: &World<Sha>, journal: &Journal<Sha>)
-    requires { journal.now ≡ journal_of imprint_of world.now }
-    ensures { Joined imprint_of world.now journal.now }
+/// The events of a world follow the rules, as its types keep it.
+pub(crate) fn follows_the_rules(world: &World<Sha>)
+    ensures { IsHistory world.now }
 {
-    history_is_joined();
-    journal_keeps_roots();
     let _plan = world.plan();
-    let _start = journal.start();
-    asked_are_imprints(world.events());
+    let events = world.events();
+    let _count = events.len();
+    asked_are_imprints(events);
 }

@@ -21,6 +21,3 @@ mod trying;
 pub use drilling::drill;
 pub use ksi_imprint::NoMemory;
 pub use tally::Tally;
-
-#[cfg(test)]
-mod tests;

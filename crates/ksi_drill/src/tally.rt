@@ -1,5 +1,5 @@
 /// What a drill counts.
-#[derive(Clone, Copy, PartialEq, Eq, Debug)]
+#[derive(Clone, Copy, PartialEq, Eq)]
 pub struct Tally {
     /// The kept seconds.
     pub seconds: u64,

@@ -1,5 +1,5 @@
 /// What becomes of one issued signature.
-#[derive(Clone, Copy, PartialEq, Eq, Debug)]
+#[derive(Clone, Copy, PartialEq, Eq)]
 pub struct Trial {
     /// It is accepted.
     pub accepted: bool,

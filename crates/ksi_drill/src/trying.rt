@@ -1,13 +1,10 @@
 // One issued signature is put to the test.
 ghost use Rattle.std.specs.Prelude.{◌≡◌, ◌≢◌, ◌<◌, ◌^◌, None, Some, IfOk};
 ghost use Rattle.ksi_imprint.specs.Imprints.{imprint_of};
-ghost use Rattle.ksi_tlv.specs.Spelling.{AreBytes};
 ghost use Rattle.ksi_auditor.specs.Audit as audits;
-ghost use Rattle.ksi_extender.specs.Extended.{extended};
 ghost use Rattle.ksi_signature.specs.declared.fault.SigFault.TheVariants as faults;
 ghost use Rattle.ksi_signature.specs.Reading.{signature_at};
 ghost use Rattle.ksi_drill.specs.Covered.{published};
-ghost use Rattle.ksi_drill.specs.Taken.{IsTakenToBytes};
 ghost use Rattle.ksi_drill.specs.Trials.{extension, if_signature, is_accepted, is_beneath, is_inside, judged, trial};
 
 use crate::trial::Trial;
@@ -34,8 +31,7 @@ pub(crate) fn trial(
 ) -> Result<Trial, NoMemory>
     requires early { p < 2 ^ 63 }
     requires root { publications.now ≡ published imprint_of journal.now p }
-    ensures trial { IfOk result (λ found. found ≡ trial imprint_of requests.now journal.now p issued.now) }
-    ensures bytes { IfOk result (λ _. IsTakenToBytes imprint_of journal.now p issued.now) }
+    ensures { IfOk result (λ found. found ≡ trial imprint_of requests.now journal.now p issued.now) }
 {
     let extension = extension(alloc, journal, &issued.1, p)?;
     match requests.get(issued.0 as usize) {
@@ -52,8 +48,7 @@ fn extension(
     p: u64,
 ) -> Result<Option<Signature>, NoMemory>
     requires { p < 2 ^ 63 }
-    ensures extension { IfOk result (λ found. found ≡ extension imprint_of journal.now bytes.now p) }
-    ensures bytes { IfOk result (λ _. IfOk (extended imprint_of journal.now bytes.now p) AreBytes) }
+    ensures { IfOk result (λ found. found ≡ extension imprint_of journal.now bytes.now p) }
 {
     match extend::<Sha>(alloc, journal, bytes.as_slice(), p) {
         Ok(text) => if_signature(alloc, text.as_slice()),

@@ -23,11 +23,11 @@ use Rattle.ksi_extender.specs.Extended.{chain_to, record_to, fitting, extended}
 use Rattle.ksi_extender.specs.Accepted.{first_input, taken_on}
 use Rattle.ksi_extender.proofs.Passing.{then_ok, need_le}
 use Rattle.ksi_extender.proofs.Leaves.{leaves}
-use Rattle.ksi_extender.proofs.Imprints.{leaf_is, root_is, links_are}
+use Rattle.ksi_extender.proofs.Imprints.{zero_is, imprint_roots, leaf_is, root_is, links_are}
 use Rattle.ksi_extender.proofs.Whole.{passed, is_time}
 
 -- the bytes that fit
-fits : (bytes text : List ℕ) (chain : Calendar) (published : Publishing) → fitting bytes chain published ≡ Ok text → (length (extended_content bytes chain published) ≤ 65535) × (extended_text bytes chain published ≡ text)
+pub fits : (bytes text : List ℕ) (chain : Calendar) (published : Publishing) → fitting bytes chain published ≡ Ok text → (length (extended_content bytes chain published) ≤ 65535) × (extended_text bytes chain published ≡ text)
 fits bytes text chain published e =
     let size = length (extended_content bytes chain published) in
     let refusal = refusals.TooLarge (min size (2 ^ 64 - 1)) in
@@ -48,14 +48,15 @@ module _ (image : List ℕ → List ℕ)
       let to = h.kept.to in
       let covered = h.kept.covered in
       let leaf = leaves journal t (omega arith) in
+      let roots = imprint_roots image journal.seconds is.seconds in
       let chain : IsCalendar (chain_to image journal t p) = record {
         publication = early;
         time = omega arith;
-        input = subst IsImprint leaf (leaf_is image journal is t);
+        input = subst IsImprint leaf (leaf_is IsImprint zero_is journal roots t);
         count = lengths t p (omega arith);
-        links = links_are image journal images is t p;
+        links = links_are IsImprint zero_is journal roots image images t p;
       } in
-      let published : IsPublishing (record_to image journal p) = record { time = early; hash = root_is image journal images is p } in
+      let published : IsPublishing (record_to image journal p) = record { time = early; hash = root_is IsImprint zero_is journal roots image images p } in
       let text_fits = fits bytes text (chain_to image journal t p) (record_to image journal p) h.fits in
       let new = renews bytes signature (chain_to image journal t p) (record_to image journal p) are whole chain published text_fits.0 in
       subst (IsSignature text) (ap (λ (t : ℕ). renewed signature (chain_to image journal t p) (record_to image journal p)) (sym time))

@@ -22,7 +22,7 @@ use Rattle.ksi_extender.specs.declared.refusal.ExtendRefusal.TheVariants as refu
 use Rattle.ksi_extender.specs.Checks.{◌>>=◌, ◌>>◌, need}
 use Rattle.ksi_extender.specs.Extended.{or_refused, all_kept, chains_in, kept_to, chain_to, record_to, fitting, extended}
 use Rattle.ksi_extender.specs.Accepted.{LeadsToKept}
-use Rattle.ksi_extender.proofs.Imprints.{leaf_is, root_is, links_are}
+use Rattle.ksi_extender.proofs.Imprints.{zero_is, imprint_roots, leaf_is, root_is, links_are}
 use Rattle.ksi_extender.proofs.Leaves.{leaves}
 use Rattle.ksi_extender.proofs.Steps.{read_then}
 
@@ -73,9 +73,9 @@ module _ (image : List ℕ → List ℕ) (images : (x : List ℕ) → IsImprint 
         record {
           publication = omega (arith, last, early, starts);
           time = omega (arith, last, early, to, starts);
-          input = subst IsImprint (leaves journal t (omega (arith, last, to))) (leaf_is image journal is t);
+          input = subst IsImprint (leaves journal t (omega (arith, last, to))) (leaf_is IsImprint zero_is journal (imprint_roots image journal.seconds is.seconds) t);
           count = lengths t p (omega (arith, last, early, starts));
-          links = links_are image journal images is t p;
+          links = links_are IsImprint zero_is journal (imprint_roots image journal.seconds is.seconds) image images t p;
         }
 
     pub is_extended : (bytes : List ℕ) (signature : Signature) (chains : Aggregated) (p : ℕ) → AreBytes bytes → LeadsToKept image journal bytes signature chains p
@@ -91,7 +91,7 @@ module _ (image : List ℕ → List ℕ) (images : (x : List ℕ) → IsImprint 
         (refusals.Refused MissedSecond) (refusals.BeforeStart t) (refusals.TooEarly t p) (refusals.RootDiffers t (leaf_at journal t) chains.item.imprint)
         (differs chains.item.imprint zero_imprint h.real) (le-leb journal.start t h.from) (le-leb t p h.to) (none_missing p h.covered)
         ((bytes_eq-Decides (leaf_at journal t) chains.item.imprint).1 (leaf_kept t chains.item.imprint h.from h.root)) in
-        let size = small bytes signature chain p (kept_root image journal p) are h.whole (chain_kept t p h.to h.covered) (root_is image journal images is p) in
+        let size = small bytes signature chain p (kept_root image journal p) are h.whole (chain_kept t p h.to h.covered) (root_is IsImprint zero_is journal (imprint_roots image journal.seconds is.seconds) image images p) in
         let fits : nat_le (length (extended_content bytes chain published)) 65535 ≡ true = le-leb (length (extended_content bytes chain published)) 65535 (omega (arith, size, h.short)) in
         ap (λ (r : Result Aggregated ExtendRefusal). r >>= λ chains. kept_to journal chains p >> fitting bytes (chain_to image journal chains.time p) (record_to image journal p)) read
         ∙ ap (λ (r : Result (Unit {0}) ExtendRefusal). r >> fitting bytes chain published) kept

@@ -8,3 +8,4 @@ pub mod Told
 pub mod Imprints
 pub mod Again
 pub mod Covered
+pub mod OfBytes

@@ -36,6 +36,13 @@ unread image bytes fault refusal malformed memory read (inl stands) =
     inl (ap (λ (r : ExtendRefusal). Err r) (malformed other) ∙ read_fault image bytes fault (read stands))
 unread image bytes fault refusal malformed memory read (inr wanting) = inr (ap (λ (r : ExtendRefusal). Err r) (memory wanting.0))
 
+-- memory is wanting for a signature alone
+pub wanted : (bytes : List ℕ) (fault : SigFault) (refusal : ExtendRefusal) → ((fault ≢ answers.NoMemory) → refusal ≡ refusals.Malformed fault) → refusal ≡ refusals.NoMemory
+    → IsSignatureFault bytes fault ⊎ ((fault ≡ answers.NoMemory) × (signature : Signature) × IsSignature bytes signature) → (signature : Signature) × IsSignature bytes signature
+wanted bytes fault refusal malformed memory (inl stands) =
+    let is = malformed (λ is. no_memory bytes (subst (IsSignatureFault bytes) is stands)) in absurd cc
+wanted bytes fault refusal malformed memory (inr wanting) = (wanting.1, wanting.2)
+
 -- ---- the new bytes
 
 -- what is climbed from the leaf is the root

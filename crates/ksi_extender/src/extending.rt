@@ -36,7 +36,7 @@ use std::sync::ledger::{Blank, Ledger};
 /// The first of these that stands: the bytes are no signature; V2 to V6; the chains lead to the zero imprint (V9); their
 /// time is before the journal's start, or after `p`; a second from the start to `p` is not kept; the root that is kept
 /// for their time is another than the one that they lead to; the new content has more than 65,535 bytes. `NoMemory` may
-/// come in place of any other answer.
+/// come where the bytes are a signature: what its chains lead to is known only once it was read.
 pub fn extend<C: Compress>(
     alloc: Global,
     journal: &Journal<C>,
@@ -48,6 +48,7 @@ pub fn extend<C: Compress>(
     ensures accepted { IfOk result (IsExtended C.image journal.now bytes.now p) }
     ensures bytes { IfOk result AreBytes }
     ensures memory { result ≢ Err (refusals.Malformed answers.NoMemory) }
+    ensures wanting { result ≡ Err refusals.NoMemory → (signature : Signature) × IsSignature bytes.now signature }
 {
     extend_from::<C, Brand>(alloc, journal, bytes, p, Blank::new(1))
 }
@@ -67,12 +68,14 @@ fn extend_from<C: Compress, L: Ledger>(
     ensures accepted { IfOk result (IsExtended C.image journal.now bytes.now p) }
     ensures bytes { IfOk result AreBytes }
     ensures memory { result ≢ Err (refusals.Malformed answers.NoMemory) }
+    ensures wanting { result ≡ Err refusals.NoMemory → (signature : Signature) × IsSignature bytes.now signature }
 {
     let mut steps = Steps::<L>::open(blank);
     extend_counted(alloc, journal, bytes, p, &mut steps)
 }
 
-/// The same, with its steps: one for the search of the kept root, and at most 126 for stored nodes of the calendar.
+/// The same, with its steps: one for the search of the kept root, which the journal counts, and at most 126 for stored
+/// nodes of the calendar.
 ///
 /// # Errors
 /// As `extend`.
@@ -88,7 +91,9 @@ pub fn extend_counted<C: Compress, L: Ledger>(
     ensures accepted { IfOk result (IsExtended C.image journal.now bytes.now p) }
     ensures bytes { IfOk result AreBytes }
     ensures memory { result ≢ Err (refusals.Malformed answers.NoMemory) }
+    ensures wanting { result ≡ Err refusals.NoMemory → (signature : Signature) × IsSignature bytes.now signature }
     ensures most { steps.new ≤ steps.old + 127 }
+    ensures least { IfOk result (λ _. steps.old < steps.new) }
 {
     extended_is_accepted();
     signature_is_read();
@@ -108,24 +113,49 @@ fn taken_on<C: Compress, L: Ledger>(
     ensures again { IfOk result (λ text. (signature : Signature) × IsSignature bytes.now signature
         × IsSignature text (taken_on C.image journal.now signature p)) }
     ensures bytes { IfOk result AreBytes }
+    ensures wanting { result ≡ Err refusals.NoMemory → (signature : Signature) × IsSignature bytes.now signature }
     ensures most { steps.new ≤ steps.old + 127 }
+    ensures least { IfOk result (λ _. steps.old < steps.new) }
+{
+    signature_is_read();
+    match chains_in::<C>(alloc, bytes) {
+        Ok(chains) => over_journal(alloc, journal, bytes, &chains, p, steps),
+        Err(refusal) => Err(refusal),
+    }
+}
+
+/// What is taken on of a signature whose chains come to these. Memory is wanting only where all is kept.
+fn over_journal<C: Compress, L: Ledger>(
+    alloc: Global,
+    journal: &Journal<C>,
+    bytes: &[u8],
+    chains: &Aggregated,
+    p: u64,
+    steps: &mut Steps<L>,
+) -> Result<Bytes, ExtendRefusal>
+    requires early { p < 2 ^ 63 }
+    requires chains { chains_in C.image bytes.now ≡ Ok chains.now }
+    ensures answer { (result ≡ extended C.image journal.now bytes.now p) ⊎ (result ≡ Err refusals.NoMemory) }
+    ensures again { IfOk result (λ text. (signature : Signature) × IsSignature bytes.now signature
+        × IsSignature text (taken_on C.image journal.now signature p)) }
+    ensures bytes { IfOk result AreBytes }
+    ensures wanting { result ≡ Err refusals.NoMemory → kept_to journal.now chains.now p ≡ Ok tt }
+    ensures most { steps.new ≤ steps.old + 127 }
+    ensures least { IfOk result (λ _. steps.old < steps.new) }
 {
     aggregation();
     signature_is_read();
-    let chains = match chains_in::<C>(alloc, bytes) {
-        Ok(chains) => chains,
-        Err(refusal) => return Err(refusal),
-    };
-    if let Err(refusal) = check_kept(journal, &chains, p, steps) {
+    if let Err(refusal) = check_kept(journal, chains, p, steps) {
         return Err(refusal);
     }
-    let (chain, published) = proof_to(alloc, journal, &chains, p, steps)?;
+    let (chain, published) = proof_to(alloc, journal, chains, p, steps)?;
     renewed_with(alloc, bytes, &chain, &published)
 }
 
 /// What the aggregation chains of a signature come to.
 fn chains_in<C: Compress>(alloc: Global, bytes: &[u8]) -> Result<Aggregated, ExtendRefusal>
-    ensures { (result ≡ chains_in C.image bytes.now) ⊎ (result ≡ Err refusals.NoMemory) }
+    ensures answer { (result ≡ chains_in C.image bytes.now) ⊎ (result ≡ Err refusals.NoMemory) }
+    ensures wanting { result ≡ Err refusals.NoMemory → (signature : Signature) × IsSignature bytes.now signature }
 {
     signature_is_read();
     match read(alloc, bytes) {
@@ -157,6 +187,7 @@ fn check_kept<C: Compress, L: Ledger>(
 ) -> Result<(), ExtendRefusal>
     ensures kept { result ≡ kept_to journal.now chains.now p }
     ensures most { steps.new ≤ steps.old + 1 }
+    ensures least { IfOk result (λ _. steps.old < steps.new) }
 {
     let given = chains.item.imprint;
     let second = chains.time;
@@ -175,8 +206,7 @@ fn check_kept<C: Compress, L: Ledger>(
     if let Some(missing) = journal.first_missing(p) {
         return Err(ExtendRefusal::Undecided(missing));
     }
-    steps.tick();
-    let kept = match journal.root(second) {
+    let kept = match journal.root_counted(second, steps) {
         Some(root) => root,
         None => Imprint::ZERO,
     };
@@ -207,6 +237,7 @@ fn proof_to<C: Compress, L: Ledger>(
     ensures chain { IfOk result (λ proof. proof.0 ≡ chain_to C.image journal.now chains.now.time p) }
     ensures published { IfOk result (λ proof. proof.1 ≡ record_to C.image journal.now p) }
     ensures most { steps.new ≤ steps.old + 126 }
+    ensures least { IfOk result (λ _. steps.old ≤ steps.new) }
 {
     one_climb();
     let input = chains.item.imprint;

@@ -1,6 +1,7 @@
 //! What holds of signatures that were taken on to a later second, for the layers above to cite. None of these functions
 //! does anything.
 ghost use Rattle.std.specs.Prelude.{◌≡◌, ◌<◌, ◌^◌, ℕ, List, Ok};
+ghost use Rattle.std.specs.List.{AllByRecursion};
 ghost use Rattle.ksi_imprint.specs.Imprints.{IsImprint};
 ghost use Rattle.ksi_tlv.specs.Spelling.{AreBytes};
 ghost use Rattle.ksi_signature.specs.declared.signature.Signature.{Signature};
@@ -14,7 +15,9 @@ ghost use Rattle.ksi_extender.specs.Accepted.{AcceptedBy, LeadsToKept, taken_on}
 use ksi_calendar::laws::one_chain;
 use ksi_imprint::Imprint;
 use ksi_journal::laws::calendar_is_covered;
-use ksi_signature::{extended_is_short, extended_is_signature, signature_is_read};
+use ksi_signature::{
+    extended_is_bytes, extended_is_short, extended_is_signature, signature_is_read,
+};
 use ksi_split::laws::one_way;
 use ksi_split::trees::one_path;
 use ksi_verifier::laws::{accepted, aggregation};
@@ -53,4 +56,13 @@ pub fn covered_is_extended()
     signature_is_read();
     extended_is_short();
     calendar_is_covered();
+}
+
+/// Bytes that are taken on to a second are bytes again, where what is hashed and the roots of the journal are bytes.
+pub fn extension_is_bytes()
+    ensures { (image : List ℕ → List ℕ) (journal : Contents) → ((x : List ℕ) → AreBytes (image x)) →
+        AllByRecursion (λ kept. AreBytes kept.root) journal.seconds →
+        (bytes text : List ℕ) (p : ℕ) → AreBytes bytes → extended image journal bytes p ≡ Ok text → AreBytes text }
+{
+    extended_is_bytes();
 }

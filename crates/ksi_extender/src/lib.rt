@@ -6,7 +6,7 @@
 //! accepted: at the time of its chains, for the input hash of the first, by all publications whose first record of the
 //! second is the journal's root of the calendar to it. [`extend_counted`] does the same and counts its steps over what is
 //! stored, at most 127. The law [`extended_is_accepted`] says of the definition what `extend` says of its answer, and
-//! [`covered_is_extended`] which signatures are not refused.
+//! [`covered_is_extended`] which signatures are not refused, and [`extension_is_bytes`] that bytes are made of bytes.
 //!
 //! ```text
 //! let journal = load::<Sha>(alloc, file)?;
@@ -24,5 +24,5 @@ mod refusal;
 
 pub use extending::{extend, extend_counted};
 pub use ksi_imprint::NoMemory;
-pub use laws::{covered_is_extended, extended_is_accepted};
+pub use laws::{covered_is_extended, extended_is_accepted, extension_is_bytes};
 pub use refusal::ExtendRefusal;

@@ -38,15 +38,15 @@ first_core zero some = absurd (omega (arith, some))
 first_core (suc zero) some = (0, [], refl)
 first_core (suc (suc n)) some = let before = first_core (suc n) (omega arith) in (before.0, before.1 ++ suc n ∷ [], ap (λ (xs : List ℕ). xs ++ suc n ∷ []) before.2)
 
-ballot_asked : (n i t b : ℕ) → 1 ≤ n → tries (first (map (core_message i t) (to_each (cores_below n) (votes.NextBallot b)))) ≡ Tried b ∷ []
+pub ballot_asked : (n i t b : ℕ) → 1 ≤ n → tries (first (map (core_message i t) (to_each (cores_below n) (votes.NextBallot b)))) ≡ Tried b ∷ []
 ballot_asked n i t b some = ap (λ (cores : List ℕ). tries (first (map (core_message i t) (to_each cores (votes.NextBallot b))))) (first_core n some).2
 
 -- a root that is held where nothing was
-abbrev held_now : (root : List ℕ) → (held : Option (List ℕ)) → List What
+abbrev pub held_now : (root : List ℕ) → (held : Option (List ℕ)) → List What
 held_now root None = Holds root ∷ []
 held_now root (Some held) = []
 
-root_sent : (n i t : ℕ) (d : List ℕ) (held : Option (List ℕ)) → 1 ≤ n → decides (first (map (core_message i t) (to_each (cores_below n) (votes.Success d)))) held ≡ held_now d held
+pub root_sent : (n i t : ℕ) (d : List ℕ) (held : Option (List ℕ)) → 1 ≤ n → decides (first (map (core_message i t) (to_each (cores_below n) (votes.Success d)))) held ≡ held_now d held
 root_sent n i t d held some = ap (λ (cores : List ℕ). decides (first (map (core_message i t) (to_each cores (votes.Success d)))) held) (first_core n some).2 ∙ by held
   where
     by : (held : Option (List ℕ)) → decides (Some (contents.Synod (votes.Success d))) held ≡ held_now d held
@@ -60,9 +60,7 @@ no_flag y = elim (cases_lt y 9) [ inl lt ↦ get_or-replicate 9 y false false lt
 
 fresh_hand : (voters : List ℕ) (candidate : Option (List ℕ)) (own : List ℕ) → candidate ≡ Some own → (b : ℕ) → IsHandSo voters candidate (record { ballot = b; heard = [] }) (new_hand b)
 fresh_hand voters candidate own sealed b = record {
-  is = record { ballot = refl; last = no_flag; greatest = refl; decree = refl; voted = no_flag };
-  last_room = length-replicate 9 false;
-  voted_room = length-replicate 9 false;
+  is = record { ballot = refl; last = no_flag; greatest = refl; decree = refl; voted = no_flag; last_flags = length-replicate 9 false; voted_flags = length-replicate 9 false };
   own = own;
   sealed = sealed;
 }

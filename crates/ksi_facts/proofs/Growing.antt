@@ -12,7 +12,7 @@ use Rattle.ksi_facts.specs.Deeds.{Deed, Restarted, is_fact, facts_of, facts, is_
 
 module _ (image : List ℕ → List ℕ) (plan : PlanState) (actor : Actor) where
   -- the facts of one event more
-  now : (x : Seen) (past : List Seen) → facts actor (x ∷ past) ≡ facts_of (does actor x.event x.taken x.answer x.sent (deeds actor past)) ++ facts actor past
+  pub now : (x : Seen) (past : List Seen) → facts actor (x ∷ past) ≡ facts_of (does actor x.event x.taken x.answer x.sent (deeds actor past)) ++ facts actor past
   unfolding deeds
   now x past = filter-append is_fact (does actor x.event x.taken x.answer x.sent (deeds actor past)) (deeds actor past)
 
@@ -24,7 +24,7 @@ module _ (image : List ℕ → List ℕ) (plan : PlanState) (actor : Actor) wher
       let rest = grow es (happens image plan w e).world (x ∷ past) in
       (rest.0 ++ new, rest.1 ∙ ap (λ (fs : List Deed). rest.0 ++ fs) (now x past) ∙ sym (append_assoc rest.0 new (facts actor past)))
 
-  parts : (es later : List Event) (w : WorldState) (past : List Seen) → seen_from image plan w past (es ++ later) ≡ seen_from image plan (run image plan w es) (seen_from image plan w past es) later
+  pub parts : (es later : List Event) (w : WorldState) (past : List Seen) → seen_from image plan w past (es ++ later) ≡ seen_from image plan (run image plan w es) (seen_from image plan w past es) later
   parts [] later w past = refl
   parts (e ∷ es) later w past = parts es later (happens image plan w e).world (seen_of image plan w e ∷ past)
 

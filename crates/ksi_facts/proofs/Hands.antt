@@ -88,9 +88,9 @@ module _ (voters : List ℕ) (small : (y : ℕ) → is_voter voters y ≡ true �
           greatest = e3 ∙ so.is.greatest ∙ ap greatest_told (until ∙ sym until_now);
           decree = e4 ∙ so.is.decree ∙ decree_was ∙ sym decree_is;
           voted = λ y. some_voted m e y ∙ sym (ap (λ (o : Option Moment). is_voter (voted voters s.ballot (unwrap_or (option_map (λ (m : Moment). m.later) o) [])) y) e_now);
+          last_flags = ap length e2 ∙ so.is.last_flags;
+          voted_flags = room;
         };
-        last_room = ap length e2 ∙ so.last_room;
-        voted_room = room;
         own = so.own;
         sealed = so.sealed;
       }
@@ -116,9 +116,9 @@ module _ (voters : List ℕ) (small : (y : ℕ) → is_voter voters y ≡ true �
           greatest = e3 ∙ so.is.greatest ∙ ap greatest_told until ∙ sym (ap greatest_told until_now ∙ greatest e);
           decree = e4 ∙ so.is.decree ∙ ap (option_and_then decide) e ∙ sym (ap (option_and_then decide) e_now);
           voted = λ y. none_voted e y ∙ sym (ap (λ (o : Option Moment). is_voter (voted voters s.ballot (unwrap_or (option_map (λ (m : Moment). m.later) o) [])) y) e_now);
+          last_flags = ap length e2 ∙ so.is.last_flags;
+          voted_flags = room;
         };
-        last_room = ap length e2 ∙ so.last_room;
-        voted_room = room;
         own = so.own;
         sealed = so.sealed;
       }
@@ -183,7 +183,7 @@ module _ (voters : List ℕ) (small : (y : ℕ) → is_voter voters y ≡ true �
 
   -- it does not count
   pub last_idle : counts_last voters (Some h) from l.ballot ≡ false → IsHandSo voters candidate (with_reply X s) h
-  last_idle idle = stays voters small candidate s h so X h refl refl refl refl so.voted_room
+  last_idle idle = stays voters small candidate s h so X h refl refl refl refl so.is.voted_flags
       (λ none y. (both none (cases_Bool counted)).0 y) (λ none. (both none (cases_Bool counted)).1) (no_voted voters small candidate s h so X) (voted_was voters small candidate s h so X)
     where
       Same : Type 0
@@ -214,7 +214,7 @@ module _ (voters : List ℕ) (small : (y : ℕ) → is_voter voters y ≡ true �
     after = with_last h from l.vote
 
     flags_now : (y : ℕ) → is_flagged after.last y ≡ has_told (told voters s.ballot (X ∷ s.heard)) y
-    flags_now y = flag_set h.last from (has_told Old) so.last_room (small from (and_parts _ _ met).1) (told_was voters small candidate s h so X none) y
+    flags_now y = flag_set h.last from (has_told Old) so.is.last_flags (small from (and_parts _ _ met).1) (told_was voters small candidate s h so X none) y
         ∙ sym (ap (λ (ts : List Told). has_told ts y) (told_yes met))
 
     greatest_now : after.greatest ≡ greatest_told (told voters s.ballot (X ∷ s.heard))
@@ -240,9 +240,9 @@ module _ (voters : List ℕ) (small : (y : ℕ) → is_voter voters y ≡ true �
             greatest = greatest_now ∙ sym (ap (λ (o : Option Moment). greatest_told (told voters s.ballot (unwrap_or (option_map (λ (m : Moment). m.by_then) o) (X ∷ s.heard)))) e);
             decree = ap (λ (g : Option Vote). decree_of g candidate) greatest_now ∙ sym (ap (option_and_then (λ (m : Moment). decree_of (greatest_told (told voters s.ballot m.by_then)) candidate)) e);
             voted = λ y. no_voted voters small candidate s h so X none y ∙ sym (ap (λ (o : Option Moment). is_voter (voted voters s.ballot (unwrap_or (option_map (λ (m : Moment). m.later) o) [])) y) e);
+            last_flags = length-set h.last from true ∙ so.is.last_flags;
+            voted_flags = so.is.voted_flags;
           };
-          last_room = length-set h.last from true ∙ so.last_room;
-          voted_room = so.voted_room;
           own = so.own;
           sealed = so.sealed;
         }
@@ -253,9 +253,9 @@ module _ (voters : List ℕ) (small : (y : ℕ) → is_voter voters y ≡ true �
             greatest = greatest_now ∙ sym (ap (λ (o : Option Moment). greatest_told (told voters s.ballot (unwrap_or (option_map (λ (m : Moment). m.by_then) o) (X ∷ s.heard)))) e);
             decree = sym (ap (option_and_then (λ (m : Moment). decree_of (greatest_told (told voters s.ballot m.by_then)) candidate)) e);
             voted = λ y. no_voted voters small candidate s h so X none y ∙ sym (ap (λ (o : Option Moment). is_voter (voted voters s.ballot (unwrap_or (option_map (λ (m : Moment). m.later) o) [])) y) e);
+            last_flags = length-set h.last from true ∙ so.is.last_flags;
+            voted_flags = so.is.voted_flags;
           };
-          last_room = length-set h.last from true ∙ so.last_room;
-          voted_room = so.voted_room;
           own = so.own;
           sealed = so.sealed;
         }
@@ -288,7 +288,7 @@ module _ (voters : List ℕ) (small : (y : ℕ) → is_voter voters y ≡ true �
 
   -- it does not count
   pub voted_idle : voted_for voters (Some h) from b ≡ None → IsHandSo voters candidate (with_reply Y s) h
-  voted_idle idle = stays voters small candidate s h so Y h refl refl refl refl so.voted_room (λ none y. refl) (λ none. refl) (no_voted voters small candidate s h so Y)
+  voted_idle idle = stays voters small candidate s h so Y h refl refl refl refl so.is.voted_flags (λ none y. refl) (λ none. refl) (no_voted voters small candidate s h so Y)
       (λ m some y. voted_was voters small candidate s h so Y m some y ∙ sym (same m some (cases_Bool may) y))
     where
       flagged : (m : Moment) → begun voters s ≡ Some m → may ≡ true → (f : Bool) → is_flagged h.voted from ≡ f → f ≡ true
@@ -322,6 +322,6 @@ module _ (voters : List ℕ) (small : (y : ℕ) → is_voter voters y ≡ true �
           let may_be : may ≡ true = and_from _ _ (ap (λ (n : ℕ). eqb n b) (sym so.is.ballot) ∙ one.0) two.0 in
           let never : begun voters s ≡ None → (y : ℕ) → is_flagged (with_voted h from).voted y ≡ false =
           λ none y. (let undecided : h.decree ≡ None = decree_none voters small candidate s h so Y none in absurd (cc (decided, undecided))) in
-          stays voters small candidate s h so Y (with_voted h from) refl refl refl refl (length-set h.voted from true ∙ so.voted_room) (λ none y. refl) (λ none. refl) never
-          (λ m some y. flag_set h.voted from (is_voter (voted voters s.ballot m.later)) so.voted_room (small from two.0) (voted_was voters small candidate s h so Y m some) y
+          stays voters small candidate s h so Y (with_voted h from) refl refl refl refl (length-set h.voted from true ∙ so.is.voted_flags) (λ none y. refl) (λ none. refl) never
+          (λ m some y. flag_set h.voted from (is_voter (voted voters s.ballot m.later)) so.is.voted_flags (small from two.0) (voted_was voters small candidate s h so Y m some) y
           ∙ sym (ap (λ (xs : List ℕ). is_voter xs y) (voted_yes may_be m.later)))

@@ -4,3 +4,6 @@ pub mod CoreRows
 pub mod RoundRows
 pub mod Recalling
 pub mod Growing
+pub mod NewFacts
+pub mod ReadOff
+pub mod Stepping

@@ -30,7 +30,8 @@ use Rattle.ksi_world.specs.Histories as histories
 use Rattle.ksi_facts.specs.Seen.{Seen, seen_of, seen_from, seen}
 use Rattle.ksi_facts.specs.Deeds.{What, Deed, Accepted, Sealed, Closed, Answered, Restarted, of_second, facts_of, open_items, tried_ballot, held_root, numbered, where_done, first, tries, takes, is_actor, own, does, deeds}
 use Rattle.ksi_facts.specs.Since.{Since, since}
-use Rattle.ksi_facts.specs.Recalled.{own_candidate, IsKept, IsKeptRound, IsInHand, IsSecond, IsRound}
+use Rattle.ksi_facts.specs.State.{own_candidate}
+use Rattle.ksi_facts.specs.Recalled.{IsKept, IsKeptRound, IsInHand, IsSecond, IsRound}
 use Rattle.ksi_facts.proofs.Standing.{IsInHandSo, IsSo, IsRoundSo, facts_for, since_tried, did, observed, round_observed}
 use Rattle.ksi_facts.proofs.CoreRows.{submission_so, seal_so, ballot_so, receive_so, tell_so, respond_so, restart_so}
 use Rattle.ksi_facts.proofs.RoundRows as rows

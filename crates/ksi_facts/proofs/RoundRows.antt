@@ -10,7 +10,7 @@ use Rattle.ksi_aggregator.specs.Rows.{RoundState, RoundTurn, fresh_round, round_
 use Rattle.ksi_facts.specs.Deeds.{What, Deed, Accepted, Closed, Answered, Restarted, numbered, where_done}
 use Rattle.ksi_facts.proofs.Standing.{IsRoundSo, did}
 
-none_is : {A : Type 0} (o : Option A) → is_some o ≡ false → o ≡ None
+pub none_is : {A : Type 0} (o : Option A) → is_some o ≡ false → o ≡ None
 none_is None e = refl
 none_is (Some x) e = absurd (cc e)
 

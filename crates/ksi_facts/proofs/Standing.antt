@@ -1,5 +1,5 @@
 -- What every second and every round is, beside what was seen of it.
-use Rattle.std.proofs.Common.{◌≡◌, ℕ, Bool, true, false, cond, ◌&&◌, eqb, List, [], ◌∷◌, ◌++◌, map, length, refl, sym, ap, subst, ◌∙◌, Option, Some, None}
+use Rattle.std.proofs.Common.{◌≡◌, ℕ, Bool, true, false, cond, ◌&&◌, eqb, List, [], ◌∷◌, ◌++◌, map, refl, sym, ap, subst, ◌∙◌, Option, Some, None}
 use Rattle.std.specs.Prelude.{option_map}
 use Rattle.std.specs.List.{filter}
 use Rattle.std.proofs.lemmas.List.Elements.{filter-append}
@@ -17,8 +17,6 @@ use Rattle.ksi_facts.specs.Recalled.{IsKept, IsKeptRound, IsHand}
 -- the hand of a core that has sealed
 pub record IsHandSo (voters : List ℕ) (candidate : Option (List ℕ)) (s : Since) (h : Hand) : Type 0 where
   pub is : IsHand voters candidate s h
-  pub last_room : length h.last ≡ 9
-  pub voted_room : length h.voted ≡ 9
   pub own : List ℕ
   pub sealed : candidate ≡ Some own
 

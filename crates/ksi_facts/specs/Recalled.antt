@@ -1,7 +1,6 @@
 -- What a world keeps, as a history has it.
-use Rattle.std.specs.Prelude.{◌≡◌, ◌++◌, ◌∷◌, ℕ, List, [], option_map, Option, Some, None}
+use Rattle.std.specs.Prelude.{◌≡◌, ◌++◌, ◌∷◌, ℕ, List, [], length, Option, Some, None}
 use Rattle.ksi_aggtree.specs.declared.entries.Entry.{Entry}
-use Rattle.ksi_aggtree.specs.Entries.{candidate_of}
 use Rattle.ksi_synod.specs.Voters.{is_voter, is_flagged}
 use Rattle.ksi_synod.specs.VoteState.{Hand}
 use Rattle.ksi_corenode.specs.SecondState.{SecondState, voters_of}
@@ -11,14 +10,12 @@ use Rattle.ksi_schedule.specs.declared.actor.Actor.TheVariants as actors
 use Rattle.ksi_schedule.specs.declared.event.Event.{Event}
 use Rattle.ksi_schedule.specs.declared.event.Event.TheVariants.{RestartCore, RestartAggregator}
 use Rattle.ksi_schedule.specs.Events.{History}
-use Rattle.ksi_world.specs.Histories.{world_of}
+use Rattle.ksi_world.specs.Histories.{world_of, after}
 use Rattle.ksi_facts.specs.Seen.{Seen, seen}
 use Rattle.ksi_facts.specs.Deeds.{Deed, deeds, of_second, facts, open_items, sealed_items, closed_items, tried_ballot, greatest_promise, greatest_vote, held_root, kept_response}
 use Rattle.ksi_facts.specs.Since.{Since, since, told_until, voted_after, has_told, greatest_told, decree_begun}
-
--- the candidate of a core with these facts
-abbrev pub own_candidate : (List ℕ → List ℕ) → (facts : List Deed) → Option (List ℕ)
-own_candidate image facts = option_map (candidate_of image) (sealed_items facts)
+use Rattle.ksi_facts.specs.State.{own_candidate, world_seen}
+use Rattle.ksi_facts.specs.Steps.{IsStepByFacts}
 
 -- what a core keeps over restarts, for a second with these facts
 pub record IsKept (image : List ℕ → List ℕ) (facts : List Deed) (s : SecondState) : Type 0 where
@@ -34,13 +31,15 @@ pub record IsKeptRound (facts : List Deed) (r : RoundState) : Type 0 where
   pub closed : r.closed ≡ closed_items facts
   pub answered : r.answered ≡ kept_response facts
 
--- the hand has what came of the ballot
+-- the hand has what came of the ballot; its members are flags, one for each of the cores 0 to 8
 pub record IsHand (voters : List ℕ) (candidate : Option (List ℕ)) (s : Since) (h : Hand) : Type 0 where
   pub ballot : h.ballot ≡ s.ballot
   pub last : (core : ℕ) → is_flagged h.last core ≡ has_told (told_until voters s) core
   pub greatest : h.greatest ≡ greatest_told (told_until voters s)
   pub decree : h.decree ≡ decree_begun voters candidate s
   pub voted : (core : ℕ) → is_flagged h.voted core ≡ is_voter (voted_after voters s) core
+  pub last_flags : length h.last ≡ 9
+  pub voted_flags : length h.voted ≡ 9
 
 -- there is a hand exactly where a ballot was tried and the core was not restarted after it
 abbrev pub IsInHand : (voters : List ℕ) → (candidate : Option (List ℕ)) → Option Since → Option Hand → Type 0
@@ -65,10 +64,14 @@ pub record IsRound (past : List Seen) (aggregator second : ℕ) (r : RoundState)
   pub open_items : r.open_items ≡ open_items (of_second second (deeds (actors.Aggregator aggregator) past))
   pub shut : (items : List Entry) → r.closed ≡ Some items → r.open_items ≡ []
 
--- whatever any actor keeps after a history is what was seen; of its facts none is lost, and a restart adds none
+-- whatever any actor keeps after a history is what was seen. At each moment the whole world is what was seen by then, and
+-- the next event has the answer, the new facts and the messages of the step table over it. Of an actor's facts none is lost,
+-- and a restart adds none
 pub record IsRecalled (image : List ℕ → List ℕ) (history : History) : Type 0 where
   pub seconds : (core second : ℕ) → IsSecond image (seen image history.plan history.events) history.plan.cores core second ((world_of image history).seconds core second)
   pub rounds : (aggregator second : ℕ) → IsRound (seen image history.plan history.events) aggregator second ((world_of image history).rounds aggregator second)
+  pub world : (before later : List Event) → history.events ≡ before ++ later → after image history.plan before ≡ world_seen image history.plan (seen image history.plan before)
+  pub steps : (before later : List Event) (event : Event) → history.events ≡ before ++ event ∷ later → IsStepByFacts image history.plan before event
   pub grow : (actor : Actor) (before later : List Event) → history.events ≡ before ++ later
       → (more : List Deed) × (facts actor (seen image history.plan history.events) ≡ more ++ facts actor (seen image history.plan before))
   pub core_restarts : (actor : Actor) (core : ℕ) → facts actor (seen image history.plan (history.events ++ RestartCore core ∷ [])) ≡ facts actor (seen image history.plan history.events)

@@ -9,11 +9,13 @@ ghost use Rattle.ksi_schedule.specs.declared.event.Event.{Event};
 ghost use Rattle.ksi_schedule.specs.declared.event.Event.TheVariants as happenings;
 ghost use Rattle.ksi_schedule.specs.Plans.{PlanState, IsPlan};
 ghost use Rattle.ksi_schedule.specs.Events.{History};
-ghost use Rattle.ksi_world.specs.Histories.{world_of};
+ghost use Rattle.ksi_world.specs.Histories.{world_of, after};
 ghost use Rattle.ksi_facts.specs.Seen.{seen};
 ghost use Rattle.ksi_facts.specs.Deeds.{Deed, of_second, deeds, facts, open_items, tried_ballot};
 ghost use Rattle.ksi_facts.specs.Since.{since};
-ghost use Rattle.ksi_facts.specs.Recalled.{own_candidate, IsKept, IsKeptRound, IsInHand, IsRecalled};
+ghost use Rattle.ksi_facts.specs.State.{own_candidate, world_seen};
+ghost use Rattle.ksi_facts.specs.Steps.{IsStepByFacts};
+ghost use Rattle.ksi_facts.specs.Recalled.{IsKept, IsKeptRound, IsInHand, IsRecalled};
 
 /// Facts are only added, whatever happens later, and a restart adds none.
 pub fn facts_only_grow()
@@ -63,8 +65,22 @@ pub fn hand_is_since()
         ((world_of image history).seconds core second).vote.hand }
 {}
 
-/// All of these together: whatever an actor keeps after a history is what was seen of it, and its facts are those of each
-/// earlier moment and more.
+/// At each moment the world is the one that is read off what was seen by then: each second and each round, the wire, the
+/// requests and the publications.
+pub fn world_is_seen()
+    ensures { (image : List ℕ → List ℕ) (plan : PlanState) → IsPlan plan → (events : List Event) →
+        after image plan events ≡ world_seen image plan (seen image plan events) }
+{}
+
+/// The answer of each event, the facts that it adds and the messages that it sends are those of its row of the step table,
+/// for the state that is read off the facts before it and what came since.
+pub fn step_is_by_facts()
+    ensures { (image : List ℕ → List ℕ) (plan : PlanState) → IsPlan plan → (before : List Event) (event : Event) →
+        IsStepByFacts image plan before event }
+{}
+
+/// All of these together: whatever an actor keeps after a history is what was seen of it, each step is the one of the table
+/// over what was seen before it, and an actor's facts are those of each earlier moment and more.
 pub fn history_is_recalled()
     ensures { (image : List ℕ → List ℕ) (history : History) → IsPlan history.plan → IsRecalled image history }
 {}

@@ -7,8 +7,9 @@
 //!
 //! The layer above may rely on this: facts only grow, and a restart adds none; and whatever a core or an aggregator keeps
 //! after a history is what was seen of it: sealed and closed items, the ballots tried and promised, the vote, the root, the
-//! response, the open items, and the ballot in hand. [`laws`] has these statements, [`laws::history_is_recalled`] all of
-//! them together. Nothing here runs.
+//! response, the open items, and the ballot in hand (`specs/State`). So the answer of the next event, the facts that it adds
+//! and the messages that it sends are functions of what was seen before: those of its row of the step table
+//! (`specs/Steps`). [`laws`] has these statements, [`laws::history_is_recalled`] all of them together. Nothing here runs.
 #![tactic(auto)]
 
 pub mod laws;

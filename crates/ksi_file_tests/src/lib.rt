@@ -4,6 +4,8 @@
 #![tactic(auto)]
 
 #[cfg(test)]
+mod bounds;
+#[cfg(test)]
 mod extended_signatures;
 #[cfg(test)]
 mod issued_signatures;

@@ -1,7 +1,8 @@
 use crate::same::same;
 use ksi_imprint::Imprint;
 use ksi_schedule::{
-    Actor, Event, Events, LineFault, Parents, Plan, Schedule, ScheduleFault, print, read_schedule,
+    Actor, Event, Events, LineFault, NoMemory, Parents, Plan, Schedule, ScheduleFault, print,
+    read_schedule,
 };
 use std::alloc::Global;
 use std::process::Abort;
@@ -22,11 +23,16 @@ fn spelled(byte: &u8) -> &[u8] {
     }
 }
 
-fn expanded(alloc: Global, text: &str) -> Result<Vec<u8>, Fail> {
-    let mut whole = Vec::new(alloc);
+fn spell(whole: &mut Vec<u8>, text: &str) -> Result<(), NoMemory> {
     for byte in text.as_bytes() {
         whole.extend_from_slice(spelled(byte))?;
     }
+    Ok(())
+}
+
+fn expanded(alloc: Global, text: &str) -> Result<Vec<u8>, NoMemory> {
+    let mut whole = Vec::new(alloc);
+    spell(&mut whole, text)?;
     Ok(whole)
 }
 
@@ -121,26 +127,21 @@ fn each_text_is_printed_in_one_way(rt: HostRuntime) -> Result<(), Fail> {
     Ok(())
 }
 
-// The fault of a text and its line; none where it is read.
-fn fault_of(alloc: Global, text: &str) -> Result<Option<(LineFault, u64)>, Fail> {
-    let text = expanded(alloc, text)?;
-    match read_schedule(alloc, text.as_slice()) {
-        Ok(_) => Ok(None),
-        Err(ScheduleFault::Line(fault, line)) => Ok(Some((fault, line))),
-        Err(ScheduleFault::NoMemory) => Err(Fail::from("no memory")),
-    }
+// The fault of lines behind those of a header; none where they are read.
+fn fault_of(alloc: Global, header: &str, lines: &str) -> Result<Option<ScheduleFault>, NoMemory> {
+    let mut text = expanded(alloc, header)?;
+    spell(&mut text, lines)?;
+    Ok(read_schedule(alloc, text.as_slice()).err())
 }
 
-// Whether these lines have this fault behind those of a header.
 fn has_fault(
     rt: &impl Abort,
     alloc: Global,
     header: &str,
     lines: &str,
-    want: Option<(LineFault, u64)>,
-) -> Result<(), Fail> {
-    let text = format!(in alloc; "{header}{lines}")?;
-    same(rt, lines, fault_of(alloc, text.as_str())?, want);
+    want: Option<ScheduleFault>,
+) -> Result<(), NoMemory> {
+    same(rt, lines, fault_of(alloc, header, lines)?, want);
     Ok(())
 }
 
@@ -150,8 +151,8 @@ fn have_fault(
     alloc: Global,
     header: &str,
     texts: &str,
-    want: Option<(LineFault, u64)>,
-) -> Result<(), Fail> {
+    want: Option<ScheduleFault>,
+) -> Result<(), NoMemory> {
     for lines in texts.split(';') {
         has_fault(rt, alloc, header, lines, want)?;
     }
@@ -163,42 +164,42 @@ fn have_fault(
 fn each_line_behind_the_header_has_its_fault(rt: HostRuntime) -> Result<(), Fail> {
     const HEADER: &str =
         "ksi-schedule 1|cores 2|start 100|aggregator 0 parent c0|aggregator 1 parent a0|";
-    const ROWS: [(&str, Option<(LineFault, u64)>); 9] = [
+    const ROWS: [(&str, Option<ScheduleFault>); 9] = [
         (
             "seal 0 100;seal 0 100|;seal 1 16777315;request 1 100 #",
             None,
         ),
         (
             "|seal 0 100;seal 0;seal 0 100 ; seal 0 100;Seal 0 100;sealed 0 100;request 1 100;restart 0;restart b0;restart ;aggregator 2 child c0;aggregator 2 parent 0",
-            Some((LineFault::Word, 6)),
+            Some(ScheduleFault::Line(LineFault::Word, 6)),
         ),
         (
             "seal 0 100||;deliver 0|aggregator 2 parent c0",
-            Some((LineFault::Word, 7)),
+            Some(ScheduleFault::Line(LineFault::Word, 7)),
         ),
         (
             "seal  100;seal 0 ;seal x 100;seal 1 x;deliver 18446744073709551616;deliver 000000000000000000000;deliver -1;restart c;aggregator x parent c",
-            Some((LineFault::Number, 6)),
+            Some(ScheduleFault::Line(LineFault::Number, 6)),
         ),
         (
             "seal 2 x;seal 2 99;request 2 99 x;close 2 100;ballot 2 100;tell 2 100;respond 2 100;publish 2 100;restart c2;restart a2;aggregator 2 parent a2;aggregator 2 parent c2;aggregator 3 parent c2",
-            Some((LineFault::NoSuchActor, 6)),
+            Some(ScheduleFault::Line(LineFault::NoSuchActor, 6)),
         ),
         (
             "seal 0 100|seal 9 100|nothing",
-            Some((LineFault::NoSuchActor, 7)),
+            Some(ScheduleFault::Line(LineFault::NoSuchActor, 7)),
         ),
         (
             "seal 1 99;seal 1 16777316;request 1 99 x",
-            Some((LineFault::SecondOutOfRange, 6)),
+            Some(ScheduleFault::Line(LineFault::SecondOutOfRange, 6)),
         ),
         (
             "request 1 100 x;request 1 100 ;request 1 100 #0",
-            Some((LineFault::Hash, 6)),
+            Some(ScheduleFault::Line(LineFault::Hash, 6)),
         ),
         (
             "aggregator 3 parent c0;aggregator 1 parent c0",
-            Some((LineFault::Header, 6)),
+            Some(ScheduleFault::Line(LineFault::Header, 6)),
         ),
     ];
     for (texts, fault) in ROWS {
@@ -209,21 +210,21 @@ fn each_line_behind_the_header_has_its_fault(rt: HostRuntime) -> Result<(), Fail
 
 #[test]
 fn each_line_of_the_header_has_its_fault(rt: HostRuntime) -> Result<(), Fail> {
-    const ROWS: [(&str, &str, Option<(LineFault, u64)>); 4] = [
+    const ROWS: [(&str, &str, Option<ScheduleFault>); 4] = [
         (
             "",
             ";|;ksi-schedule 2|cores 1|start 0;ksi-schedule  1|cores 1|start 0;ksi-schedule 01|cores 1|start 0;cores 1|start 0",
-            Some((LineFault::Header, 1)),
+            Some(ScheduleFault::Line(LineFault::Header, 1)),
         ),
         (
             "ksi-schedule 1",
             ";|;|cores 0|start 0;|cores 10|start 0;|cores x|start 0;|core 1|start 0;|cores 1 |start 0",
-            Some((LineFault::Header, 2)),
+            Some(ScheduleFault::Line(LineFault::Header, 2)),
         ),
         (
             "ksi-schedule 1|cores 1",
             ";|start;|start ;|start 9223372036837998593;|cores 1",
-            Some((LineFault::Header, 3)),
+            Some(ScheduleFault::Line(LineFault::Header, 3)),
         ),
         ("ksi-schedule 1|cores 1", "|start 9223372036837998592", None),
     ];
@@ -237,9 +238,12 @@ fn each_line_of_the_header_has_its_fault(rt: HostRuntime) -> Result<(), Fail> {
 fn eight_aggregators_may_stand_above_one_another(rt: HostRuntime) -> Result<(), Fail> {
     const CHAIN: &str =
         "ksi-schedule 1|cores 1|start 0|aggregator 0 parent c0|aggregator 1 parent a0|aggregator 2 parent a1|aggregator 3 parent a2|aggregator 4 parent a3|aggregator 5 parent a4|aggregator 6 parent a5|aggregator 7 parent a6|";
-    const ROWS: [(&str, Option<(LineFault, u64)>); 3] = [
+    const ROWS: [(&str, Option<ScheduleFault>); 3] = [
         ("", None),
-        ("aggregator 8 parent a7|", Some((LineFault::Header, 12))),
+        (
+            "aggregator 8 parent a7|",
+            Some(ScheduleFault::Line(LineFault::Header, 12)),
+        ),
         ("aggregator 8 parent a6|", None),
     ];
     for (lines, fault) in ROWS {

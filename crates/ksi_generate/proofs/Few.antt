@@ -1,5 +1,5 @@
--- No schedule has more than a million events: each second adds at most 3,532.
-use Rattle.std.proofs.Common.{ℕ, zero, suc, ◌+◌, ◌*◌, ◌%◌, ◌<◌, ◌≤◌, ◌==◌, nat_lt, not, Bool, true, false, if◌then◌else◌, [], ◌∷◌, length, length-append, arith}
+-- No schedule has more than a million events: each second adds at most 3,875.
+use Rattle.std.proofs.Common.{ℕ, zero, suc, ◌+◌, ◌*◌, ◌%◌, ◌^◌, ◌<◌, ◌≤◌, ◌==◌, nat_lt, not, Bool, true, false, if◌then◌else◌, [], ◌∷◌, length, length-append, arith}
 use Rattle.std.proofs.Math.Nat.{mul-suc, mod-lt}
 use Rattle.std.specs.Int.{w64, from_be_bytes}
 use Rattle.ksi_schedule.specs.declared.event.Event.{Event}
@@ -60,7 +60,7 @@ at_holds core second = record { each = λ m. omega arith }
 
 -- ---- deliveries
 
-copies_few : (k : ℕ) → copies k ≤ 2
+pub copies_few : (k : ℕ) → copies k ≤ 2
 copies_few zero = omega arith
 copies_few (suc zero) = omega arith
 copies_few (suc (suc k)) = by (suc (suc k) == 0) (suc (suc k) == 1)
@@ -74,15 +74,15 @@ at_delivered : (manner : Manner) (number : ℕ) → AtMost 2 (delivered manner n
 at_delivered Once number = record { each = λ m. omega (arith, (at_happen (events.Deliver number)).each m) }
 at_delivered Drawn number = found {b = 2} {next = λ k. times (copies k) (happen (events.Deliver number))} (at_draw 8) (λ k. record { each = λ m. omega (arith, copies_few k, (at_times (copies k) 1 (happen (events.Deliver number)) (at_happen (events.Deliver number))).each m) })
 
-at_delivers : (manner : Manner) (first : ℕ) → AtMost 1000 (delivers manner first)
+at_delivers : (manner : Manner) (first : ℕ) → AtMost 1098 (delivers 549 manner first)
 unfolding delivers
-at_delivers manner first = at_each 500 2 first (delivered manner) (at_delivered manner)
+at_delivers manner first = at_each 549 2 first (delivered manner) (at_delivered manner)
 
-at_once : (first : ℕ) → AtMost 500 (delivers Once first)
+at_once : (first : ℕ) → AtMost 549 (delivers 549 Once first)
 unfolding delivers
-at_once first = at_each 500 1 first (delivered Once) (λ number. at_happen (events.Deliver number))
+at_once first = at_each 549 1 first (delivered Once) (λ number. at_happen (events.Deliver number))
 
-at_all : (event : Event) → AtMost 501 (happen_and_deliver event)
+at_all : (event : Event) → AtMost 550 (happen_and_deliver 549 event)
 unfolding happen_and_deliver
 at_all event = found at_messages (λ first. both (at_happen event) (at_once first))
 
@@ -92,9 +92,9 @@ at_request : (second : ℕ) → AtMost 1 (request second)
 unfolding request
 at_request second = found (at_draw 6) (λ aggregator. found at_digest (λ imprint. at_happen (events.Request aggregator second imprint)))
 
-drawn_few : (modulo : ℕ) (m : Making) → 0 < modulo → (draw modulo m).0 < modulo
+pub drawn_few : (modulo : ℕ) (m : Making) → 0 < modulo → (draw modulo m).0 < modulo
 unfolding draw
-drawn_few modulo m some = mod-lt (from_be_bytes w64 (stream m.place.number m.place.taken 8)) some
+drawn_few modulo m some = mod-lt (from_be_bytes w64 (stream m.place 8)) some
 
 at_requests : (second : ℕ) → AtMost 8 (requests second)
 unfolding requests
@@ -115,7 +115,7 @@ at_seals : (second : ℕ) → AtMost 3 (seals second)
 unfolding seals
 at_seals second = both (at_happen (events.Seal 0 second)) (both (at_happen (events.Seal 1 second)) (at_happen (events.Seal 2 second)))
 
-at_first_ballot : (second : ℕ) → AtMost 1001 (first_ballot second)
+at_first_ballot : (second : ℕ) → AtMost 1099 (first_ballot 549 second)
 unfolding first_ballot
 at_first_ballot second = found (at_draw 3) (λ core. found at_messages (λ first. both (at_happen (events.Ballot core second)) (both (at_delivers Drawn first) (none core))))
 
@@ -123,11 +123,11 @@ at_core : AtMost 1 core_may_restart
 unfolding core_may_restart core_restarts
 at_core = found (at_draw 4) (λ k. at_when (k == 0) (found (at_draw 3) (λ core. at_happen (events.RestartCore core))))
 
-at_second_ballot : (core second : ℕ) → AtMost 501 (second_ballot core second)
+at_second_ballot : (core second : ℕ) → AtMost 550 (second_ballot 549 core second)
 unfolding second_ballot
 at_second_ballot core second = found (at_holds core second) (λ held. at_when (not held) (at_all (events.Ballot core second)))
 
-at_responses : (second : ℕ) → AtMost 1503 (responses second)
+at_responses : (second : ℕ) → AtMost 1650 (responses 549 second)
 unfolding responses
 at_responses second = both (at_all (events.Respond 0 second)) (both (at_all (events.Respond 1 second)) (at_all (events.Respond 2 second)))
 
@@ -139,20 +139,20 @@ at_publish : (i second : ℕ) → AtMost 1 (may_publish i second)
 unfolding may_publish publishes
 at_publish i second = at_when (i % 16 == 15) (found (at_draw 3) (λ core. at_happen (events.Publish core second)))
 
-at_second : (i second : ℕ) → AtMost 3532 (steps_of i second)
+at_second : (i second : ℕ) → AtMost 3875 (steps_of 549 i second)
 unfolding steps_of
 at_second i second = both (at_requests second) (both (at_closes second) (both (at_seals second) (found (at_first_ballot second) (λ core.
     both at_core (both (at_second_ballot core second) (both (at_all (events.Tell core second)) (both (at_responses second) (both at_aggregator (at_publish i second)))))))))
 
-at_seconds : (n i : ℕ) → AtMost (3532 * n) (seconds_made n i)
+at_seconds : (n i : ℕ) → AtMost (3875 * n) (seconds_made 549 n i)
 at_seconds zero i = record { each = λ m. omega arith }
-at_seconds (suc n) i = record { each = λ m. omega (arith, mul-suc 3532 n, (at_second i (1700000000 + i)).each m, (at_seconds n (suc i)).each (steps_of i (1700000000 + i) m).1) }
+at_seconds (suc n) i = record { each = λ m. omega (arith, mul-suc 3875 n, (at_second i (1700000000 + i)).each m, (at_seconds n (suc i)).each (steps_of 549 i (1700000000 + i) m).1) }
 
 -- ---- the whole
 
-at_seconds_all : AtMost 904192 all_seconds
+at_seconds_all : AtMost 992000 (all_seconds 549)
 unfolding all_seconds
 at_seconds_all = at_seconds 256 0
 
-pub few_events : (number : ℕ) → length (all_seconds (first_making number)).1.history.events ≤ 1000000
-few_events number = omega (arith, at_seconds_all.each (first_making number))
+pub few_events : (number : ℕ) → length (all_seconds 549 (first_making (2 ^ 64) number)).1.history.events ≤ 1000000
+few_events number = omega (arith, at_seconds_all.each (first_making (2 ^ 64) number))

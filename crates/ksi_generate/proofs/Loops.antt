@@ -17,11 +17,11 @@ times_next steps n first now next is step =
     subst (λ k. next ≡ (times k steps first).1) (sym one) (step ∙ ap (λ m. (steps m).1) is ∙ sym (times_more steps n first))
 
 -- one second more
-pub seconds_more : (n i : ℕ) (m : Making) → (seconds_made (suc n) i m).1 ≡ (second_made (i + n) (seconds_made n i m).1).1
-seconds_more zero i m = ap (λ k. (second_made k m).1) (omega arith)
-seconds_more (suc n) i m =
-    seconds_more n (suc i) (second_made i m).1
-    ∙ ap (λ k. (second_made k (seconds_made n (suc i) (second_made i m).1).1).1) (omega arith)
+pub seconds_more : (most n i : ℕ) (m : Making) → (seconds_made most (suc n) i m).1 ≡ (second_made most (i + n) (seconds_made most n i m).1).1
+seconds_more most zero i m = ap (λ k. (second_made most k m).1) (omega arith)
+seconds_more most (suc n) i m =
+    seconds_more most n (suc i) (second_made most i m).1
+    ∙ ap (λ k. (second_made most k (seconds_made most n (suc i) (second_made most i m).1).1).1) (omega arith)
 
 -- none is left
 pub messages_end : (most first : ℕ) (steps : ℕ → Steps (Unit {0})) (m : Making) → length (world_of imprint_of m.history).wire ≤ first →

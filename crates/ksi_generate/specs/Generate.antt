@@ -1,6 +1,6 @@
 -- The schedule of a number: three cores, six aggregators, and 256 seconds of requests, lost and repeated messages, and
 -- restarts.
-use Rattle.std.specs.Prelude.{ℕ, zero, suc, ◌+◌, ◌%◌, ◌==◌, nat_lt, not, if◌then◌else◌, List, [], ◌∷◌}
+use Rattle.std.specs.Prelude.{ℕ, zero, suc, ◌+◌, ◌%◌, ◌^◌, ◌<◌, ◌≤◌, ◌==◌, nat_lt, not, if◌then◌else◌, List, [], ◌∷◌}
 use Rattle.ksi_schedule.specs.declared.actor.Actor.{Actor}
 use Rattle.ksi_schedule.specs.declared.actor.Actor.TheVariants as actors
 use Rattle.ksi_schedule.specs.declared.event.Event.TheVariants as events
@@ -34,17 +34,23 @@ delivered Drawn number = do
   k ← draw 8
   times (copies k) (happen (events.Deliver number))
 
--- each message from this number on, in order of number, those that these deliveries send included, until none is left. At
--- most 500 are looked at; no run that was seen comes to this bound.
-unfoldable pub delivers : Manner → (first : ℕ) → Steps (Unit {0})
-delivers manner first = each_message 500 first (delivered manner)
+-- each message from this number on, in order of number, those that these deliveries send included, until none is left; but
+-- at most so many
+unfoldable pub delivers : (most : ℕ) → Manner → (first : ℕ) → Steps (Unit {0})
+delivers most manner first = each_message most first (delivered manner)
+
+-- the same as a relation without a bound: from a making, with each message from this number on, to the last making, where
+-- none is left
+pub data DeliversAll (manner : Manner) : (first : ℕ) → (m last : Making) → Type 0 where
+  none_left : (first : ℕ) (m : Making) → (messages m).0 ≤ first → DeliversAll manner first m m
+  one_more : (first : ℕ) (m last : Making) → first < (messages m).0 → DeliversAll manner (suc first) (delivered manner first m).1 last → DeliversAll manner first m last
 
 -- an event, and then each message that was sent since
-unfoldable pub happen_and_deliver : Event → Steps (Unit {0})
-happen_and_deliver event = do
+unfoldable pub happen_and_deliver : (most : ℕ) → Event → Steps (Unit {0})
+happen_and_deliver most event = do
   first ← messages
   happen event
-  delivers Once first
+  delivers most Once first
 
 -- ---- the ten steps of a second
 
@@ -85,12 +91,12 @@ seals second = do
   happen (events.Seal 2 second)
 
 -- 4. a drawn core tries a ballot, and each message is delivered as often as a draw says; the core is what is found
-unfoldable pub first_ballot : (second : ℕ) → Steps ℕ
-first_ballot second = do
+unfoldable pub first_ballot : (most second : ℕ) → Steps ℕ
+first_ballot most second = do
   core ← draw 3
   first ← messages
   happen (events.Ballot core second)
-  delivers Drawn first
+  delivers most Drawn first
   done core
 
 -- 5. at one draw of four a drawn core restarts
@@ -105,17 +111,17 @@ core_may_restart = do
   when (k == 0) core_restarts
 
 -- 6. where the core holds nothing, it tries a ballot again, and all is delivered
-unfoldable pub second_ballot : (core second : ℕ) → Steps (Unit {0})
-second_ballot core second = do
+unfoldable pub second_ballot : (most core second : ℕ) → Steps (Unit {0})
+second_ballot most core second = do
   held ← holds core second
-  when (not held) (happen_and_deliver (events.Ballot core second))
+  when (not held) (happen_and_deliver most (events.Ballot core second))
 
 -- 8. each core responds, and all is delivered
-unfoldable pub responses : (second : ℕ) → Steps (Unit {0})
-responses second = do
-  happen_and_deliver (events.Respond 0 second)
-  happen_and_deliver (events.Respond 1 second)
-  happen_and_deliver (events.Respond 2 second)
+unfoldable pub responses : (most second : ℕ) → Steps (Unit {0})
+responses most second = do
+  happen_and_deliver most (events.Respond 0 second)
+  happen_and_deliver most (events.Respond 1 second)
+  happen_and_deliver most (events.Respond 2 second)
 
 -- 9. at one draw of eight a drawn aggregator restarts
 unfoldable pub aggregator_restarts : Steps (Unit {0})
@@ -138,38 +144,48 @@ unfoldable pub may_publish : (i second : ℕ) → Steps (Unit {0})
 may_publish i second = when (i % 16 == 15) (publishes second)
 
 -- the ten steps of the second that is number i; at 7 the core of the ballot tells, and all is delivered
-unfoldable pub steps_of : (i second : ℕ) → Steps (Unit {0})
-steps_of i second = do
+unfoldable pub steps_of : (most i second : ℕ) → Steps (Unit {0})
+steps_of most i second = do
   requests second
   closes second
   seals second
-  core ← first_ballot second
+  core ← first_ballot most second
   core_may_restart
-  second_ballot core second
-  happen_and_deliver (events.Tell core second)
-  responses second
+  second_ballot most core second
+  happen_and_deliver most (events.Tell core second)
+  responses most second
   aggregator_may_restart
   may_publish i second
 
 -- ---- the whole
 
 -- second i of the plan
-abbrev pub second_made : (i : ℕ) → Steps (Unit {0})
-second_made i = steps_of i (1700000000 + i)
+abbrev pub second_made : (most i : ℕ) → Steps (Unit {0})
+second_made most i = steps_of most i (1700000000 + i)
 
 -- so many seconds from number i on
-abbrev pub seconds_made : (count i : ℕ) → Steps (Unit {0})
-seconds_made zero i = done tt
-seconds_made (suc count) i = second_made i >> seconds_made count (suc i)
+abbrev pub seconds_made : (most count i : ℕ) → Steps (Unit {0})
+seconds_made most zero i = done tt
+seconds_made most (suc count) i = second_made most i >> seconds_made most count (suc i)
 
--- nothing is taken, and nothing has happened
-abbrev pub first_making : (number : ℕ) → Making
-first_making number = record { place = record { number = number; taken = 0 }; history = record { plan = header; events = [] } }
+-- nothing is taken of a stream of so many places, and nothing has happened
+abbrev pub first_making : (places number : ℕ) → Making
+first_making places number = record { place = record { number = number; places = places; taken = 0 }; history = record { plan = header; events = [] } }
 
 -- the seconds 0 to 255
-unfoldable pub all_seconds : Steps (Unit {0})
-all_seconds = seconds_made 256 0
+unfoldable pub all_seconds : (most : ℕ) → Steps (Unit {0})
+all_seconds most = seconds_made most 256 0
 
--- the schedule of a number
+-- the schedule of a number, where its stream has so many places, and at most so many messages are looked at since an event
+abbrev pub generated_within : (places most number : ℕ) → History
+generated_within places most number = (all_seconds most (first_making places number)).1.history
+
+-- as many as a ballot's three messages can lead to, where each is delivered twice: 3 NextBallot, 6 LastVote,
+-- 36 BeginBallot, 72 Voted and 432 Success; no other event leads to more
+abbrev pub enough : ℕ
+enough = 549
+
+-- The schedule of a number. No bound is reached: with greater ones each schedule is the same (the law
+-- `no_bound_is_reached`). All deliveries end because no message is left, and fewer than 2^21 bytes are taken.
 unfoldable pub generated : (number : ℕ) → History
-generated number = (all_seconds (first_making number)).1.history
+generated number = generated_within (2 ^ 64) enough number

@@ -32,7 +32,7 @@ first >> next = λ m. next (first m).1
 
 -- the next so many bytes of the stream
 abbrev pub bytes : ℕ → Steps (List ℕ)
-bytes count = λ m. (stream m.place.number m.place.taken count, record m { place = further m.place count })
+bytes count = λ m. (stream m.place count, record m { place = further m.place count })
 
 -- the next eight bytes as a number, most significant first, modulo this
 unfoldable pub draw : (modulo : ℕ) → Steps ℕ
@@ -72,7 +72,7 @@ times zero steps = done tt
 times (suc count) steps = steps >> times count steps
 
 -- with each message from this number on, in order of number, those that are sent meanwhile included, until none is left; but
--- with at most so many
+-- with at most so many, so that there is an end for any steps
 abbrev pub each_message : (most first : ℕ) → (ℕ → Steps (Unit {0})) → Steps (Unit {0})
 each_message zero first steps = done tt
 each_message (suc most) first steps = do

@@ -1,5 +1,5 @@
 -- The stream of bytes of a number.
-use Rattle.std.specs.Prelude.{ℕ, zero, suc, ◌+◌, ◌/◌, ◌%◌, ◌^◌, List, [], ◌∷◌, ◌++◌, codes, slice_index}
+use Rattle.std.specs.Prelude.{ℕ, zero, suc, ◌+◌, ◌/◌, ◌%◌, List, [], ◌∷◌, ◌++◌, codes, slice_index}
 use Rattle.std.specs.Int.{w64, to_be_bytes}
 use Rattle.sha2.specs.Sha256.{sha256}
 
@@ -11,21 +11,17 @@ block number i = sha256 (codes "ksi" ++ to_be_bytes w64 number ++ to_be_bytes w6
 unfoldable pub byte_of : (number k : ℕ) → ℕ
 byte_of number k = slice_index (block number (k / 32)) (k % 32)
 
--- the place behind so many more bytes. There are 2^64 places, and then the stream begins anew; no schedule comes near: none
--- takes as many as 2^21 bytes.
-abbrev pub behind : (place count : ℕ) → ℕ
-behind place count = (place + count) % 2 ^ 64
-
--- so many bytes of the stream from this place on
-abbrev pub stream : (number place count : ℕ) → List ℕ
-stream number place zero = []
-stream number place (suc count) = byte_of number place ∷ stream number (behind place 1) count
-
--- a place in the stream of a number
+-- a place in the stream of a number: how many bytes are taken. There are so many places, and then the stream begins anew.
 pub record Place : Type 0 where
   pub number : ℕ
+  pub places : ℕ
   pub taken : ℕ
 
 -- the place behind so many more bytes
 abbrev pub further : Place → (count : ℕ) → Place
-further p count = record { number = p.number; taken = behind p.taken count }
+further p count = record { number = p.number; places = p.places; taken = (p.taken + count) % p.places }
+
+-- so many bytes of the stream from a place on
+abbrev pub stream : Place → (count : ℕ) → List ℕ
+stream p zero = []
+stream p (suc count) = byte_of p.number p.taken ∷ stream (further p 1) count

@@ -1,15 +1,15 @@
 ghost use Rattle.std.specs.Prelude.{◌≡◌, ◌<◌, OnOk};
 ghost use Rattle.ksi_schedule.specs.Events.{IsEvent};
 ghost use Rattle.ksi_generate.specs.Making.{happen, messages, times};
-ghost use Rattle.ksi_generate.specs.Generate.{copies, delivered, delivers, happen_and_deliver, header};
+ghost use Rattle.ksi_generate.specs.Generate.{copies, delivered, delivers, enough, happen_and_deliver, header};
 
 use crate::maker::Maker;
 use crate::manner::Manner;
 use ksi_imprint::NoMemory;
 use ksi_schedule::Event;
 
-/// How many messages are looked at where all are delivered.
-const MOST: u32 = 500;
+/// No event leads to more messages.
+const ENOUGH: u32 = 549;
 
 impl Maker {
     /// An event, and then each message that was sent since is delivered once.
@@ -19,23 +19,23 @@ impl Maker {
     #[tactic(auto, unfolding(crate::specs::Generate::happen_and_deliver))]
     pub(crate) fn happen_and_deliver(&mut self, event: Event) -> Result<(), NoMemory>
         requires { IsEvent header event }
-        ensures { OnOk result (self.new ≡ (happen_and_deliver event self.old).1) }
+        ensures { OnOk result (self.new ≡ (happen_and_deliver enough event self.old).1) }
     {
         let first = self.messages();
         self.happen(event)?;
         self.delivers(Manner::Once, first)
     }
 
-    /// Each message from this number on is delivered, in order of number, those that this sends included. At most 500 are
-    /// looked at.
+    /// Each message from this number on is delivered, in order of number, those that this sends included, until none is
+    /// left. The definition looks at no more than `ENOUGH`, which no number comes to.
     ///
     /// # Errors
     /// `NoMemory`.
     pub(crate) fn delivers(&mut self, manner: Manner, first: u64) -> Result<(), NoMemory>
-        ensures { OnOk result (self.new ≡ (delivers manner first self.old).1) }
+        ensures { OnOk result (self.new ≡ (delivers enough manner first self.old).1) }
     {
         let mut number = first;
-        let mut left = MOST;
+        let mut left = ENOUGH;
         'messages: while left > 0 && number < self.messages() {
             self.delivered(manner, number)?;
             number += 1;

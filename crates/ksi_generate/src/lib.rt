@@ -6,9 +6,10 @@
 //! block SHA-256 of `ksi`, the number and the block's number (`specs/Stream`). Message numbers are found by running the
 //! events through a world as they are made.
 //!
-//! Where all messages since an event are delivered, "until none is left" is bounded: at most 500 are looked at. In the
-//! runs that tests look at, fewer are sent in any second; that none comes to the bound is not proved. With the bound
-//! there are at most 904,192 events, so each number has a schedule.
+//! Where all messages since an event are delivered, the definition looks at no more than 549, and its stream has 2^64
+//! places, so that there is an end for any number. No number comes to either, by the laws of [`laws`]: deliveries end
+//! because no message is left, and with greater bounds each schedule is the same. There are at most 992,000 events, so
+//! each number has a schedule.
 //!
 //! ```text
 //! let schedule = generate(alloc, 7)?;
@@ -17,6 +18,7 @@
 #![tactic(auto)]
 
 mod deliveries;
+pub mod laws;
 mod maker;
 mod manner;
 mod plan;
@@ -26,6 +28,3 @@ mod whole;
 
 pub use ksi_imprint::NoMemory;
 pub use whole::generate;
-
-#[cfg(test)]
-mod tests;

@@ -1,4 +1,4 @@
-ghost use Rattle.std.specs.Prelude.{◌≡◌, ◌<◌, IfOk, OnOk};
+ghost use Rattle.std.specs.Prelude.{◌≡◌, ◌<◌, ◌^◌, IfOk, OnOk};
 ghost use Rattle.ksi_schedule.specs.Events.{IsEvent, AreEvents};
 ghost use Rattle.ksi_generate.specs.Making.{draw, digest, happen, messages, holds};
 ghost use Rattle.ksi_generate.specs.Generate.{header, first_making};
@@ -36,7 +36,7 @@ impl Maker {
     /// # Errors
     /// `NoMemory`.
     pub(crate) fn new(alloc: Global, number: u64) -> Result<Maker, NoMemory>
-        ensures { IfOk result (λ maker. maker ≡ first_making number) }
+        ensures { IfOk result (λ maker. maker ≡ first_making (2 ^ 64) number) }
     {
         let plan = header(alloc)?;
         let world = World::new(alloc, &plan)?;
@@ -120,11 +120,5 @@ impl Maker {
         ensures same { self.now.history.plan ≡ header }
     {
         self.world.plan().copy(alloc)
-    }
-
-    /// How many seconds are published.
-    #[cfg(test)]
-    pub(crate) fn published(&self) -> usize {
-        self.world.published().len()
     }
 }

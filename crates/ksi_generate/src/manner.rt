@@ -1,5 +1,5 @@
 /// How often messages are delivered.
-#[derive(Clone, Copy, PartialEq, Eq, Debug)]
+#[derive(Clone, Copy, PartialEq, Eq)]
 pub(crate) enum Manner {
     /// Each once.
     Once,

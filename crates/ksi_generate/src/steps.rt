@@ -2,7 +2,7 @@
 ghost use Rattle.std.specs.Prelude.{◌≡◌, ◌<◌, ◌≤◌, IfOk, OnOk};
 ghost use Rattle.ksi_schedule.specs.Plans.{InRange};
 ghost use Rattle.ksi_generate.specs.Making.{draw, times};
-ghost use Rattle.ksi_generate.specs.Generate.{header, request, requests, close, closes, seals, first_ballot, core_restarts, core_may_restart, second_ballot, responses, aggregator_restarts, aggregator_may_restart, publishes, may_publish, steps_of};
+ghost use Rattle.ksi_generate.specs.Generate.{enough, header, request, requests, close, closes, seals, first_ballot, core_restarts, core_may_restart, second_ballot, responses, aggregator_restarts, aggregator_may_restart, publishes, may_publish, steps_of};
 
 use crate::maker::Maker;
 use crate::manner::Manner;
@@ -17,7 +17,7 @@ impl Maker {
     #[tactic(auto, unfolding(crate::specs::Generate::steps_of))]
     pub(crate) fn steps_of(&mut self, i: u64, second: u64) -> Result<(), NoMemory>
         requires { InRange header second }
-        ensures { OnOk result (self.new ≡ (steps_of i second self.old).1) }
+        ensures { OnOk result (self.new ≡ (steps_of enough i second self.old).1) }
     {
         self.requests(second)?;
         self.closes(second)?;
@@ -103,8 +103,8 @@ impl Maker {
     #[tactic(auto, unfolding(crate::specs::Generate::first_ballot))]
     fn first_ballot(&mut self, second: u64) -> Result<u8, NoMemory>
         requires { InRange header second }
-        ensures after { OnOk result (self.new ≡ (first_ballot second self.old).1) }
-        ensures core { IfOk result (λ core. core ≡ (first_ballot second self.old).0) }
+        ensures after { OnOk result (self.new ≡ (first_ballot enough second self.old).1) }
+        ensures core { IfOk result (λ core. core ≡ (first_ballot enough second self.old).0) }
         ensures there { IfOk result (λ core. core < 3) }
     {
         let core = self.draw(3) as u8;
@@ -136,7 +136,7 @@ impl Maker {
     fn second_ballot(&mut self, core: u8, second: u64) -> Result<(), NoMemory>
         requires there { core < 3 }
         requires second { InRange header second }
-        ensures { OnOk result (self.new ≡ (second_ballot core second self.old).1) }
+        ensures { OnOk result (self.new ≡ (second_ballot enough core second self.old).1) }
     {
         if !self.holds(core, second) {
             self.happen_and_deliver(Event::Ballot(core, second))?;
@@ -147,7 +147,7 @@ impl Maker {
     #[tactic(auto, unfolding(crate::specs::Generate::responses))]
     fn responses(&mut self, second: u64) -> Result<(), NoMemory>
         requires { InRange header second }
-        ensures { OnOk result (self.new ≡ (responses second self.old).1) }
+        ensures { OnOk result (self.new ≡ (responses enough second self.old).1) }
     {
         self.happen_and_deliver(Event::Respond(0, second))?;
         self.happen_and_deliver(Event::Respond(1, second))?;

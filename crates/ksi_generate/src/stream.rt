@@ -1,4 +1,4 @@
-ghost use Rattle.std.specs.Prelude.{◌≡◌, length};
+ghost use Rattle.std.specs.Prelude.{◌≡◌, ◌^◌, length};
 ghost use Rattle.ksi_generate.specs.Stream.{block, byte_of, further, stream};
 
 use sha2::{Digest, Sha256};
@@ -13,12 +13,12 @@ pub(crate) struct Stream {
 }
 
 impl Model for Stream {
-    ghost use Rattle.std.specs.Prelude.{◌≡◌, ◌/◌};
+    ghost use Rattle.std.specs.Prelude.{◌≡◌, ◌/◌, ◌^◌};
     ghost use Rattle.ksi_generate.specs.Stream.{Place, block};
 
     ghost Value = { Place };
 
-    ghost view = { λ s. record { number = s.number; taken = s.taken } };
+    ghost view = { λ s. record { number = s.number; places = 2 ^ 64; taken = s.taken } };
 
     ghost invariant = { λ s. s.kept ≡ block s.number (s.taken / 32) };
 }
@@ -26,7 +26,7 @@ impl Model for Stream {
 impl Stream {
     /// The stream from its first byte on.
     pub(crate) fn new(number: u64) -> Self
-        ensures { result ≡ record { number = number; taken = 0 } }
+        ensures { result ≡ record { number = number; places = 2 ^ 64; taken = 0 } }
     {
         Stream {
             number,
@@ -37,7 +37,7 @@ impl Stream {
 
     /// Fills the slice with the next bytes.
     pub(crate) fn fill(&mut self, bytes: &mut [u8])
-        ensures bytes { bytes.new ≡ stream self.old.number self.old.taken (length bytes.old) }
+        ensures bytes { bytes.new ≡ stream self.old (length bytes.old) }
         ensures place { self.new ≡ further self.old (length bytes.old) }
     {
         // A number that was read is known to be in its range.

@@ -24,8 +24,6 @@ mod publication;
 mod reader;
 mod record;
 mod row;
-#[cfg(test)]
-mod tests;
 
 pub use content::{algorithm, imprint, level, number, raw, time};
 pub use fault::ElementFault;

@@ -1,6 +1,5 @@
 -- What a history issued and published, beside what a journal keeps.
 use Rattle.std.specs.Prelude.{◌≡◌, ℕ, ◌<◌, ◌≤◌, List, ◌++◌, slice_get, Some}
-use Rattle.ksi_tlv.specs.Spelling.{AreBytes}
 use Rattle.ksi_journal.specs.Journal.{Contents}
 use Rattle.ksi_journal.specs.Calendar.{IsCovered, kept_root}
 use Rattle.ksi_signature.specs.declared.answer.Answer.TheVariants.{Published}
@@ -26,8 +25,7 @@ pub record IsPublished (image : List ℕ → List ℕ) (journal : Contents) (p :
 
 -- whatever was issued lasts, and whatever was published, or a core answers to `publish`, at any moment, is the journal's
 pub record Joined (image : List ℕ → List ℕ) (history : History) (journal : Contents) : Type 0 where
-  pub issued : (number : ℕ) (text : List ℕ) → issued_of image (world_of image history) number ≡ Some text → AreBytes text
-      → Lasts image history journal number text
+  pub issued : (number : ℕ) (text : List ℕ) → issued_of image (world_of image history) number ≡ Some text → Lasts image history journal number text
   pub answered : (before later : List Event) → history.events ≡ before ++ later
       → (core p : ℕ) (root : List ℕ) → core < history.plan.cores → history.plan.start ≤ p
       → publish_answer image (held_in (after image history.plan before) core) history.plan.start p ≡ Published root → IsPublished image journal p root

@@ -1,6 +1,6 @@
 //! The laws. None of these functions does anything.
 ghost use Rattle.std.specs.Prelude.{◌≡◌, ◌<◌, ◌≤◌, ◌++◌, ◌∷◌, ℕ, List, Ok, Some, slice_get};
-ghost use Rattle.ksi_imprint.specs.Imprints.{IsImprint};
+ghost use Rattle.ksi_imprint.specs.Imprints.{IsImprint, imprint_of};
 ghost use Rattle.ksi_tlv.specs.Spelling.{AreBytes};
 ghost use Rattle.ksi_aggchain.specs.declared.item.Item.{Item};
 ghost use Rattle.ksi_aggchain.specs.declared.link.Link.{Link};
@@ -14,6 +14,9 @@ ghost use Rattle.ksi_journal.specs.Calendar as calendars;
 ghost use Rattle.ksi_schedule.specs.declared.event.Event.{Event};
 ghost use Rattle.ksi_schedule.specs.Plans.{PlanState, IsPlan};
 ghost use Rattle.ksi_schedule.specs.Events.{History, AreEvents, AskForImprints};
+ghost use Rattle.ksi_schedule.specs.Schedules.{IsHistory};
+ghost use Rattle.ksi_schedule.specs.Spelled.{IsScheduleText};
+ghost use Rattle.ksi_extender.specs.Extended.{extended};
 ghost use Rattle.ksi_world.specs.declared.outcome.Asked.{Asked};
 ghost use Rattle.ksi_world.specs.Histories.{after, held_in, world_of};
 ghost use Rattle.ksi_world.specs.Joined.{ChainsClimb, IsCovered};
@@ -25,11 +28,15 @@ ghost use Rattle.ksi_history.specs.Lasting.{KeepsRoots, LastsTo, Publish};
 use ksi_auditor::laws::{audit_shows, decided_tells};
 use ksi_calchain::laws::one_climb;
 use ksi_calendar::laws::{one_calendar, one_chain};
-use ksi_extender::{covered_is_extended, extended_is_accepted};
+use ksi_extender::{covered_is_extended, extended_is_accepted, extension_is_bytes};
 use ksi_journal::laws::calendar_is_covered;
+use ksi_replay::laws::{hashes_are_bytes, history_has_a_journal, journal_is_of_bytes};
+use ksi_schedule::spelled_is_schedule;
 use ksi_signature::issued_is_signature;
 use ksi_verifier::laws::aggregation;
-use ksi_world::laws::{agreement, issued_is_carried, issued_is_joined, published_roots, validity};
+use ksi_world::laws::{
+    agreement, history_is_of_bytes, issued_is_carried, issued_is_joined, published_roots, validity,
+};
 
 /// Chains that climb from an imprint at level 0 to an item pass the checks of aggregation chains, as they are issued: they
 /// lead to this item, in the second that they were issued for.
@@ -42,17 +49,26 @@ pub fn issued_is_aggregated()
 }
 
 /// After every history, each issued signature is taken on to any covered second from its own on, and is then accepted;
-/// and an audit of it says where the request's imprint stands, or has a clash. The journal is one that keeps what the cores
-/// keep. What is hashed, and what was asked for, are imprints.
+/// and an audit of it says where the request's imprint stands, or has a clash: over any journal that keeps what the cores
+/// keep, where the signature is bytes; so over the history's own, where what is hashed are imprints, of bytes.
 pub fn issued_lasts()
-    ensures { (image : List ℕ → List ℕ) (history : History) (journal : Contents) → ((bytes : List ℕ) → IsImprint (image bytes)) →
+    ensures over { (image : List ℕ → List ℕ) (history : History) (journal : Contents) → ((bytes : List ℕ) → IsImprint (image bytes)) →
         IsPlan history.plan → AreEvents history.plan history.events → AskForImprints history.events →
         IsJournal image journal → KeepsRoots history.plan (world_of image history) journal →
         (number : ℕ) (asked : Asked) (text : List ℕ) → slice_get (world_of image history).requests number ≡ Some asked →
         issued_of image (world_of image history) number ≡ Some text → AreBytes text →
         (p : ℕ) → asked.second ≤ p → IsCovered history.plan (world_of image history) p →
         LastsTo image journal asked text p }
+    ensures own { (image : List ℕ → List ℕ) (history : History) →
+        ((bytes : List ℕ) → IsImprint (image bytes)) → ((bytes : List ℕ) → AreBytes (image bytes)) → IsHistory history →
+        (number : ℕ) (asked : Asked) (text : List ℕ) → slice_get (world_of image history).requests number ≡ Some asked →
+        issued_of image (world_of image history) number ≡ Some text →
+        (p : ℕ) → asked.second ≤ p → IsCovered history.plan (world_of image history) p →
+        LastsTo image (journal_of image history) asked text p }
 {
+    history_has_a_journal();
+    history_is_of_bytes();
+    journal_keeps_roots();
     aggregation();
     issued_is_signature();
     issued_is_carried();
@@ -109,17 +125,45 @@ pub fn published_is_kept()
     published_roots();
 }
 
-/// After every history, what was issued lasts and what was published is kept, over a journal that keeps what the cores
-/// keep. What is hashed, and what was asked for, are imprints.
+/// After every history, what was issued lasts and what was published is kept: over any journal that keeps what the cores
+/// keep, so over the history's own. What is hashed are imprints, of bytes, as those of SHA-256 are, and then every history
+/// that a schedule spells is so.
 pub fn history_is_joined()
-    ensures { (image : List ℕ → List ℕ) (history : History) (journal : Contents) → ((bytes : List ℕ) → IsImprint (image bytes)) →
-        IsPlan history.plan → AreEvents history.plan history.events → AskForImprints history.events →
+    ensures over { (image : List ℕ → List ℕ) (history : History) (journal : Contents) →
+        ((bytes : List ℕ) → IsImprint (image bytes)) → ((bytes : List ℕ) → AreBytes (image bytes)) → IsHistory history →
         IsJournal image journal → KeepsRoots history.plan (world_of image history) journal → Joined image history journal }
+    ensures own { (image : List ℕ → List ℕ) (history : History) →
+        ((bytes : List ℕ) → IsImprint (image bytes)) → ((bytes : List ℕ) → AreBytes (image bytes)) → IsHistory history →
+        Joined image history (journal_of image history) }
+    ensures spelled { (schedule : List ℕ) (history : History) → IsScheduleText schedule history →
+        Joined imprint_of history (journal_of imprint_of history) }
 {
+    hashes_are_bytes();
+    spelled_is_schedule();
+    history_has_a_journal();
+    history_is_of_bytes();
+    journal_keeps_roots();
     issued_is_joined();
     issued_lasts();
     answered_is_kept();
     published_is_kept();
+}
+
+/// Whatever an issued signature is taken on to, over the history's own journal, are bytes.
+pub fn extensions_are_bytes()
+    ensures own { (image : List ℕ → List ℕ) (history : History) →
+        ((bytes : List ℕ) → IsImprint (image bytes)) → ((bytes : List ℕ) → AreBytes (image bytes)) → IsHistory history →
+        (number : ℕ) (text : List ℕ) → issued_of image (world_of image history) number ≡ Some text →
+        (p : ℕ) (extension : List ℕ) → extended image (journal_of image history) text p ≡ Ok extension → AreBytes extension }
+    ensures spelled { (schedule : List ℕ) (history : History) → IsScheduleText schedule history →
+        (number : ℕ) (text : List ℕ) → issued_of imprint_of (world_of imprint_of history) number ≡ Some text →
+        (p : ℕ) (extension : List ℕ) → extended imprint_of (journal_of imprint_of history) text p ≡ Ok extension → AreBytes extension }
+{
+    hashes_are_bytes();
+    spelled_is_schedule();
+    history_is_of_bytes();
+    journal_is_of_bytes();
+    extension_is_bytes();
 }
 
 /// The journal of a history keeps the roots that its cores keep.

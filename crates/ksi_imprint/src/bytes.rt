@@ -5,7 +5,7 @@ use std::alloc::Global;
 use std::marker::Model;
 
 /// Bytes that are owned. A contract sees their list.
-#[derive(Drop, Debug)]
+#[derive(Drop)]
 pub struct Bytes {
     vec: Vec<u8>,
 }

@@ -24,7 +24,7 @@ pub trait Compress {
 }
 
 /// SHA-256 (FIPS 180-4).
-#[derive(Clone, Copy, Debug)]
+#[derive(Clone, Copy)]
 pub struct Sha;
 
 impl Compress for Sha {
@@ -46,7 +46,7 @@ impl Compress for Sha {
 }
 
 /// The sum of the bytes, modulo 256, and 31 zero bytes: a function whose clashes a test can find.
-#[derive(Clone, Copy, Debug)]
+#[derive(Clone, Copy)]
 pub struct Tiny;
 
 impl Compress for Tiny {

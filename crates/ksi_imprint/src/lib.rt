@@ -25,6 +25,3 @@ pub use compress::{Compress, Sha, Tiny};
 pub use fault::{HexFault, ImprintFault};
 pub use imprint::Imprint;
 pub use std::alloc::AllocError as NoMemory;
-
-#[cfg(test)]
-mod tests;

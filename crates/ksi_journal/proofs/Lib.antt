@@ -5,3 +5,4 @@ pub mod Files
 pub mod Texts
 pub mod Again
 pub mod Read
+pub mod Wanting

@@ -1,5 +1,6 @@
 -- What whole elements say is a journal: the state keeps what a journal keeps.
 use Rattle.std.proofs.Common.{◌≡◌, ◌≢◌, ◌⊎◌, inl, inr, ℕ, zero, suc, ◌+◌, ◌-◌, ◌^◌, ◌<◌, ◌≤◌, Bool, true, false, cond, ◌&&◌, leb, eqb, List, [], ◌∷◌, ◌++◌, length, take, map, get_or, Result, Ok, Err, refl, sym, ap, subst, ◌∙◌, arith, length-append}
+use Rattle.std.specs.Prelude.{IfOk}
 use Rattle.std.specs.List.{AllByRecursion}
 use Rattle.std.specs.Str.{bytes_eq}
 use Rattle.std.proofs.lemmas.Bool.{leb-true, eqb-true}
@@ -135,6 +136,10 @@ module _ (bounded : Bounded) where
         early = bounded.early one.0.0 time.0 time.1;
         imprint = bounded.imprint two.0.0 root.0 root.1;
       })
+
+  pub said_early : (least : ℕ) (at : PlacedTlv) (r : Result (ℕ × List ℕ × ℕ) OrderFault) → r ≡ said_at least at → IfOk r (λ (said : ℕ × List ℕ × ℕ). said.0 < 2 ^ 63)
+  said_early least at (Ok said) e = (said_ok least at said (sym e)).early
+  said_early least at (Err fault) e = tt
 
   signature_ok : (least : ℕ) (at : PlacedTlv) (signature : ℕ × List ℕ) → signature_at least at ≡ Ok signature → (least ≤ signature.0) × (length signature.1 ≤ 60000)
   unfolding signature_at

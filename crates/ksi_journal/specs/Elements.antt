@@ -1,5 +1,5 @@
 -- The elements of a journal in their order: what each says behind those before it, or its fault.
-use Rattle.std.specs.Prelude.{ℕ, ◌+◌, ◌-◌, ◌==◌, ◌&&◌, nat_le, List, [], ◌∷◌, ◌++◌, length, take, slice_index, Bool, true, false, Result, Ok, Err, if◌then◌else◌}
+use Rattle.std.specs.Prelude.{◌<◌, IsOk, ℕ, ◌+◌, ◌-◌, ◌==◌, ◌&&◌, nat_le, List, [], ◌∷◌, ◌++◌, length, take, slice_index, Bool, true, false, Result, Ok, Err, if◌then◌else◌}
 use Rattle.std.specs.Str.{bytes_eq}
 use Rattle.ksi_imprint.specs.declared.fault.ImprintFault.{ImprintFault}
 use Rattle.ksi_imprint.specs.Imprints.{zero_imprint}
@@ -186,6 +186,10 @@ element_read image s at =
     else if at.element.kind == 4 then issued_at s at
     else if at.element.kind == 5 then publication_at s at
     else end_at s at
+
+-- what memory may be wanting for: an element other than the start that has no fault
+abbrev pub WantsFor : (List ℕ → List ℕ) → Loaded → PlacedTlv → Type 0
+WantsFor image s at = (1 < at.element.kind) × IsOk (element_read image s at)
 
 abbrev pub journal_order : (List ℕ → List ℕ) → Order Loaded JournalFault
 journal_order image = record {

@@ -1,11 +1,11 @@
 -- Which bytes are which journal, and the first fault of bytes that are none.
 use Rattle.std.specs.Prelude.{◌≡◌, ℕ, ◌+◌, ◌⊎◌, List, ◌++◌, length, codes}
 use Rattle.ksi_tlv.specs.Walking.{elements}
-use Rattle.ksi_order.specs.Sequence.{IsWhole, IsFirstFault}
+use Rattle.ksi_order.specs.Sequence.{IsWhole, IsFirstFault, IsWanting}
 use Rattle.ksi_journal.specs.declared.fault.JournalFault.{JournalFault}
 use Rattle.ksi_journal.specs.declared.fault.JournalFault.TheVariants as faults
 use Rattle.ksi_journal.specs.Journal.{Contents}
-use Rattle.ksi_journal.specs.Elements.{Loaded, journal_order, nothing_yet}
+use Rattle.ksi_journal.specs.Elements.{Loaded, WantsFor, journal_order, nothing_yet}
 
 -- the eight bytes that a journal begins with
 abbrev pub magic : List ℕ
@@ -32,3 +32,9 @@ pub record IsFaultInside (image : List ℕ → List ℕ) (bytes : List ℕ) (fau
 
 abbrev pub IsJournalFault : (List ℕ → List ℕ) → List ℕ → JournalFault → Type 0
 IsJournalFault image bytes fault = IsOtherFile bytes fault ⊎ IsFaultInside image bytes fault
+
+-- memory was wanting for an element behind the start, up to which there is no fault
+pub record IsWantingInside (image : List ℕ → List ℕ) (bytes : List ℕ) : Type 0 where
+  pub rest : List ℕ
+  pub begins : bytes ≡ magic ++ rest
+  pub inside : IsWanting (journal_order image) (WantsFor image) (elements 8 rest) nothing_yet

@@ -6,7 +6,7 @@ ghost use Rattle.ksi_journal.specs.Kept.{view_signature};
 
 use ksi_aggchain::Item;
 use ksi_imprint::Imprint;
-use ksi_order::{Fields, OrderFault, imprint, number, time};
+use ksi_order::{Fields, OrderFault, imprint, number, time, values_are_bounded};
 use ksi_tlv::Placed;
 
 /// The greatest level of an item.
@@ -16,10 +16,17 @@ const MOST_LEVEL: u8 = 239;
 const LONGEST: usize = 60_000;
 
 /// A second, its root, and how many items it has.
-#[tactic(auto, unfolding(crate::specs::Elements::said_at))]
 pub(crate) fn read_second(at: &Placed<'_>, least: u64) -> Result<(u64, Imprint, u64), OrderFault>
     ensures value { result ≡ said_at least (view_placed at.now) }
     ensures early { IfOk result (λ said. said.0 < 2 ^ 63) }
+{
+    values_are_bounded();
+    second_fields(at, least)
+}
+
+#[tactic(auto, unfolding(crate::specs::Elements::said_at))]
+fn second_fields(at: &Placed<'_>, least: u64) -> Result<(u64, Imprint, u64), OrderFault>
+    ensures { result ≡ said_at least (view_placed at.now) }
 {
     let mut inside = Fields::new(at);
     let one = match inside.next(0x01) {

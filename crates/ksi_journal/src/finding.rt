@@ -1,15 +1,24 @@
 //! Where a second stands among those that are kept.
-ghost use Rattle.std.specs.Prelude.{◌≡◌, map};
+ghost use Rattle.std.specs.Prelude.{◌≡◌, ◌+◌, map};
 ghost use Rattle.ksi_journal.specs.Journal.{RiseFrom, kept_among};
 ghost use Rattle.ksi_journal.specs.Kept.{view_kept, at_place, place_of};
 
 use crate::second::Second;
+use ksi_calendar::Steps;
+use std::sync::ledger::Ledger;
 
-/// What is kept for a second, by halving.
-pub(crate) fn find(start: u64, seconds: &[Second], second: u64) -> Option<&Second>
+/// What is kept for a second, by halving. Each search is one step: there is no other way to look a second up.
+pub(crate) fn find<'a, L: Ledger>(
+    start: u64,
+    seconds: &'a [Second],
+    second: u64,
+    steps: &mut Steps<L>,
+) -> Option<&'a Second>
     requires rise { RiseFrom start (map (λ kept. kept.second) seconds.now) }
-    ensures { view_kept result ≡ kept_among seconds.now second }
+    ensures kept { view_kept result ≡ kept_among seconds.now second }
+    ensures step { steps.new ≡ steps.old + 1 }
 {
+    steps.tick();
     let place = place(start, seconds, second);
     match stands(seconds, place) {
         Some(kept) => {

@@ -1,4 +1,4 @@
-ghost use Rattle.std.specs.Prelude.{◌≡◌, ◌↔◌, ℕ, ◌<◌, ◌≤◌, ◌^◌, None, Some, IfOk, IfSome, IsSome, length};
+ghost use Rattle.std.specs.Prelude.{◌≡◌, ◌↔◌, ℕ, ◌<◌, ◌≤◌, ◌+◌, ◌^◌, None, Some, IfOk, IfSome, IsSome, length};
 ghost use Rattle.ksi_journal.specs.Journal.{contents, IsJournal, root_at, items_at, kept_among};
 ghost use Rattle.ksi_journal.specs.Calendar.{calendar_of, first_missing, IsFirstMissing};
 
@@ -6,10 +6,11 @@ use crate::calendar::calendar;
 use crate::finding::find;
 use crate::second::Second;
 use ksi_aggchain::Item;
-use ksi_calendar::Calendar;
+use ksi_calendar::{Calendar, Steps};
 use ksi_imprint::{Bytes, Compress, Imprint, NoMemory};
 use std::alloc::Global;
-use std::marker::Model;
+use std::marker::{Brand, Model};
+use std::sync::ledger::{Blank, Ledger};
 
 /// What cores kept: the start, the kept seconds with their roots and items, the issued signatures, and the
 /// publications. A contract sees a record of lists; the tree of each second has its root.
@@ -101,22 +102,38 @@ impl<C: Compress> Journal<C> {
     }
 
     /// The root of a second, none where it is not kept.
-    #[tactic(auto, unfolding(crate::specs::Journal::root_at))]
     pub fn root(&self, second: u64) -> Option<Imprint>
         ensures { result ≡ root_at self.now second }
     {
-        match find(self.start, &self.seconds, second) {
+        root_from::<C, Brand>(self, second, Blank::new(1))
+    }
+
+    /// The same, with its step: one search among the kept seconds.
+    #[tactic(auto, unfolding(crate::specs::Journal::root_at))]
+    pub fn root_counted<L: Ledger>(&self, second: u64, steps: &mut Steps<L>) -> Option<Imprint>
+        ensures root { result ≡ root_at self.now second }
+        ensures step { steps.new ≡ steps.old + 1 }
+    {
+        match find(self.start, &self.seconds, second, steps) {
             Some(kept) => Some(kept.root),
             None => None,
         }
     }
 
     /// The items of a second, in order, none where it is not kept or its root is the zero imprint.
-    #[tactic(auto, unfolding(crate::specs::Journal::items_at))]
     pub fn items(&self, second: u64) -> &[Item]
         ensures { result.now ≡ items_at self.now second }
     {
-        match find(self.start, &self.seconds, second) {
+        items_from::<C, Brand>(self, second, Blank::new(1))
+    }
+
+    /// The same, with its step: one search among the kept seconds.
+    #[tactic(auto, unfolding(crate::specs::Journal::items_at))]
+    pub fn items_counted<L: Ledger>(&self, second: u64, steps: &mut Steps<L>) -> &[Item]
+        ensures items { result.now ≡ items_at self.now second }
+        ensures step { steps.new ≡ steps.old + 1 }
+    {
+        match find(self.start, &self.seconds, second, steps) {
             Some(kept) => kept.items.as_slice(),
             None => &[],
         }
@@ -140,4 +157,30 @@ impl<C: Compress> Journal<C> {
         let missing = self.start + self.calendar.count();
         if missing <= p { Some(missing) } else { None }
     }
+}
+
+// The calls that count nothing: each opens a count of its own, and leaves it.
+
+fn root_from<C: Compress, L: Ledger>(
+    journal: &Journal<C>,
+    second: u64,
+    blank: Blank,
+) -> Option<Imprint>
+    requires name { blank.name ≡ L.name }
+    requires parts { blank.parts ≡ L.parts }
+    requires one { blank.parts ≡ 1 }
+    ensures { result ≡ root_at journal.now second }
+{
+    let mut steps = Steps::<L>::open(blank);
+    journal.root_counted(second, &mut steps)
+}
+
+fn items_from<C: Compress, L: Ledger>(journal: &Journal<C>, second: u64, blank: Blank) -> &[Item]
+    requires name { blank.name ≡ L.name }
+    requires parts { blank.parts ≡ L.parts }
+    requires one { blank.parts ≡ 1 }
+    ensures { result.now ≡ items_at journal.now second }
+{
+    let mut steps = Steps::<L>::open(blank);
+    journal.items_counted(second, &mut steps)
 }

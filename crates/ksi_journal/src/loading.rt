@@ -40,7 +40,8 @@ pub(crate) struct Parts {
     pub publications: Vec<(u64, Imprint)>,
 }
 
-/// What the elements so far say.
+/// What the elements so far say. Where memory is wanting for an element, some of it may have been taken: `load` then drops
+/// all that was loaded, and nobody sees it.
 #[derive(Drop)]
 pub(crate) struct Loading<C: Compress> {
     stage: Stage,
@@ -81,13 +82,13 @@ impl<C: Compress> Model for Loading<C> {
 }
 
 impl<C: Compress> Loading<C> {
-    ghost use Rattle.std.specs.Prelude.{◌≡◌, ◌+◌, ◌<◌, ◌≤◌, ◌^◌, length, Ok, ℕ};
+    ghost use Rattle.std.specs.Prelude.{◌≡◌, ◌≢◌, ◌+◌, ◌<◌, ◌≤◌, ◌^◌, length, Ok, Err, IsOk, ℕ};
     ghost use Rattle.std.specs.List.{AllByRecursion};
     ghost use Rattle.ksi_tlv.specs.Seen.{view_placed};
     ghost use Rattle.ksi_tlv.specs.Spelling.{AreBytes};
     ghost use Rattle.ksi_order.specs.Order.{Steps};
-    ghost use Rattle.ksi_aggtree.specs.Rounds as rounds;
-    ghost use Rattle.ksi_journal.specs.Elements.{nothing_yet, start_at, second_at, counted, closed, finished, item_at, issued_at, publication_at, end_at};
+    ghost use Rattle.ksi_order.specs.declared.fault.Stop.TheVariants as stops;
+    ghost use Rattle.ksi_journal.specs.Elements.{nothing_yet, start_at, second_at, counted, closed, finished, with_item, item_at, issued_at, publication_at, end_at};
     ghost use Rattle.ksi_journal.specs.Kept.{parts_of};
 
     pub(crate) fn new(alloc: Global) -> Self
@@ -143,7 +144,8 @@ impl<C: Compress> Loading<C> {
 
     #[tactic(auto, unfolding(crate::specs::Elements::start_at))]
     fn start(&mut self, at: &Placed<'_>) -> Result<(), Stop<JournalFault>>
-        ensures { Steps (start_at self.old (view_placed at.now)) self.new result }
+        ensures read { Steps (start_at self.old (view_placed at.now)) self.new result }
+        ensures memory { result ≢ Err stops.NoMemory }
     {
         match time(at) {
             Ok(start) => {
@@ -158,7 +160,8 @@ impl<C: Compress> Loading<C> {
 
     #[tactic(auto, unfolding(crate::specs::Elements::second_at))]
     fn second(&mut self, at: &Placed<'_>) -> Result<(), Stop<JournalFault>>
-        ensures { Steps (second_at self.old (view_placed at.now)) self.new result }
+        ensures read { Steps (second_at self.old (view_placed at.now)) self.new result }
+        ensures wanting { result ≡ Err stops.NoMemory → IsOk (second_at self.old (view_placed at.now)) }
     {
         match read_second(at, self.least_second) {
             Ok((second, root, count)) => self.open(second, root, count),
@@ -169,7 +172,8 @@ impl<C: Compress> Loading<C> {
     /// A second of which so many items are to come.
     fn open(&mut self, second: u64, root: Imprint, count: u64) -> Result<(), Stop<JournalFault>>
         requires { second < 2 ^ 63 }
-        ensures { Steps (counted self.old second root count) self.new result }
+        ensures read { Steps (counted self.old second root count) self.new result }
+        ensures wanting { result ≡ Err stops.NoMemory → IsOk (counted self.old second root count) }
     {
         if !counts(&root, count) {
             return Err(Stop::Fault(JournalFault::Count(second)));
@@ -220,41 +224,45 @@ impl<C: Compress> Loading<C> {
 
     #[tactic(auto, unfolding(crate::specs::Elements::item_at))]
     fn item(&mut self, at: &Placed<'_>) -> Result<(), Stop<JournalFault>>
-        ensures { Steps (item_at C.image self.old (view_placed at.now)) self.new result }
+        ensures read { Steps (item_at C.image self.old (view_placed at.now)) self.new result }
+        ensures wanting { result ≡ Err stops.NoMemory → IsOk (item_at C.image self.old (view_placed at.now)) }
     {
         let item = match read_item(at) {
             Ok(item) => item,
             Err(fault) => return Err(Stop::Fault(named(fault))),
         };
-        if self.items.push(item).is_err() {
-            return Err(Stop::NoMemory);
-        }
         if self.left > 1 {
+            if self.items.push(item).is_err() {
+                return Err(Stop::NoMemory);
+            }
             self.left -= 1;
             return Ok(());
         }
-        self.left = 0;
-        let items = mem::replace(&mut self.items, Vec::new(self.alloc));
-        self.finish(items)
+        self.finish(item)
     }
 
-    /// The last item of a second is there.
-    fn finish(&mut self, items: Vec<Item>) -> Result<(), Stop<JournalFault>>
-        requires some { 0 < length items.items }
-        requires few { length items.items ≤ 65536 }
-        requires low { (k : ℕ) → (rounds.item_at items.items k).level ≤ 239 }
-        ensures { Steps (finished C.image self.old (record self.old.current { items = items.items })) self.new result }
+    /// The last item of a second: memory is taken for it only where the tree has the root.
+    fn finish(&mut self, item: Item) -> Result<(), Stop<JournalFault>>
+        requires left { self.old.left ≤ 1 }
+        requires low { item.level ≤ 239 }
+        ensures read { Steps (finished C.image self.old (with_item self.old.current item)) self.new result }
+        ensures wanting { result ≡ Err stops.NoMemory → IsOk (finished C.image self.old (with_item self.old.current item)) }
     {
-        let computed = tree::<C>(&items).imprint;
+        let computed = tree::<C>(&self.items, &item).imprint;
         if !is_same(&computed, &self.root) {
             return Err(Stop::Fault(JournalFault::TreeRoot(self.second, self.root, computed)));
+        }
+        let mut items = mem::replace(&mut self.items, Vec::new(self.alloc));
+        if items.push(item).is_err() {
+            return Err(Stop::NoMemory);
         }
         self.close(self.second, self.root, items)
     }
 
     #[tactic(auto, unfolding(crate::specs::Elements::issued_at))]
     fn issued(&mut self, at: &Placed<'_>) -> Result<(), Stop<JournalFault>>
-        ensures { Steps (issued_at self.old (view_placed at.now)) self.new result }
+        ensures read { Steps (issued_at self.old (view_placed at.now)) self.new result }
+        ensures wanting { result ≡ Err stops.NoMemory → IsOk (issued_at self.old (view_placed at.now)) }
     {
         let (number, bytes) = match read_signature(at, self.least_number) {
             Ok(signature) => signature,
@@ -275,7 +283,8 @@ impl<C: Compress> Loading<C> {
 
     #[tactic(auto, unfolding(crate::specs::Elements::publication_at))]
     fn publication(&mut self, at: &Placed<'_>) -> Result<(), Stop<JournalFault>>
-        ensures { Steps (publication_at self.old (view_placed at.now)) self.new result }
+        ensures read { Steps (publication_at self.old (view_placed at.now)) self.new result }
+        ensures wanting { result ≡ Err stops.NoMemory → IsOk (publication_at self.old (view_placed at.now)) }
     {
         let (published, root) = match read_publication(at, self.least_time) {
             Ok(publication) => publication,
@@ -291,7 +300,8 @@ impl<C: Compress> Loading<C> {
 
     #[tactic(auto, unfolding(crate::specs::Elements::end_at))]
     fn end(&mut self, at: &Placed<'_>) -> Result<(), Stop<JournalFault>>
-        ensures { Steps (end_at self.old (view_placed at.now)) self.new result }
+        ensures read { Steps (end_at self.old (view_placed at.now)) self.new result }
+        ensures memory { result ≢ Err stops.NoMemory }
     {
         if at.element.body.is_empty() {
             self.stage = Stage::End;
@@ -303,9 +313,11 @@ impl<C: Compress> Loading<C> {
 }
 
 impl<C: Compress> Ordered<JournalFault> for Loading<C> {
-    ghost use Rattle.ksi_journal.specs.Elements.{journal_order};
+    ghost use Rattle.ksi_journal.specs.Elements.{WantsFor, journal_order};
 
     ghost order = { journal_order C.image };
+
+    ghost wants = { WantsFor C.image };
 
     fn may_stand(&self, kind: u16) -> bool {
         match self.stage {

@@ -2,7 +2,7 @@ use ksi_aggtree::Items;
 use ksi_imprint::Imprint;
 
 /// A kept second: the root that was decided for it, and the items of its tree, none where the root is the zero imprint.
-#[derive(Drop, Debug)]
+#[derive(Drop)]
 pub struct Second {
     pub second: u64,
     pub root: Imprint,
@@ -10,7 +10,7 @@ pub struct Second {
 }
 
 /// Where in a journal the elements so far end.
-#[derive(Clone, Copy, Debug)]
+#[derive(Clone, Copy)]
 pub enum Stage {
     /// Before the start.
     Start,

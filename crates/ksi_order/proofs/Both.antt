@@ -27,7 +27,7 @@ module _ {S F : Type 0} (o : Order S F) (end : ℕ) where
   bind_ok (Ok u) f t e = (u, refl, e)
   bind_ok (Err d) f t e = absurd cc
 
-  one_ok : (item : Result PlacedTlv Cut) (s u : S) → one_more o item s ≡ Ok u → (at : PlacedTlv) × (item ≡ Ok at) × (o.closed s ≡ false) × (may_stand (o.next s) at.element.kind ≡ true) × (o.read s at ≡ Ok u)
+  pub one_ok : (item : Result PlacedTlv Cut) (s u : S) → one_more o item s ≡ Ok u → (at : PlacedTlv) × (item ≡ Ok at) × (o.closed s ≡ false) × (may_stand (o.next s) at.element.kind ≡ true) × (o.read s at ≡ Ok u)
   unfolding one_more
   one_ok (Err cut) s u e = absurd (both_fail (o.closed s) (o.named (faults.Ends cut.place)) (o.named (faults.Tlv cut.place)) u e)
   one_ok (Ok at) s u e =

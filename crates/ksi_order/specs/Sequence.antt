@@ -1,6 +1,6 @@
 -- What it means that elements stand in their order, and where the first fault stands.
 use Rattle.std.specs.Prelude.{◌≡◌, ℕ, true, false, List, [], ◌∷◌, ◌++◌, Result, Ok, Err}
-use Rattle.ksi_tlv.specs.Walking.{PlacedTlv, Items, items_of}
+use Rattle.ksi_tlv.specs.Walking.{PlacedTlv, Cut, Items, items_of}
 use Rattle.ksi_order.specs.Order.{Order, one_more, may_stand}
 use Rattle.ksi_order.specs.declared.fault.OrderFault.TheVariants as faults
 use Rattle.ksi_order.specs.declared.fault.Stop.{Stop}
@@ -37,3 +37,21 @@ abbrev pub Tells : {S F : Type 0} → Order S F → ℕ → Items → S → S �
 Tells o end items s t (Ok u) = IsWhole o items s t
 Tells o end items s t (Err (stops.Fault fault)) = IsFirstFault o end items s fault
 Tells o end items s t (Err stops.NoMemory) = Unit {0}
+
+-- memory was wanting for the next element, which may stand there
+abbrev pub WantsAt : {S F : Type 0} → Order S F → (S → PlacedTlv → Type 0) → Result PlacedTlv Cut → S → Type 0
+WantsAt o wants (Err cut) s = ⊥
+WantsAt o wants (Ok at) s = (o.closed s ≡ false) × (may_stand (o.next s) at.element.kind ≡ true) × wants s at
+
+-- memory was wanting for an element that may stand there, and no fault stands before it; what else is known of such an
+-- element is said by the type of the state
+pub record IsWanting {S F : Type 0} (o : Order S F) (wants : S → PlacedTlv → Type 0) (items : Items) (s : S) : Type 0 where
+  pub before : List PlacedTlv
+  pub at : PlacedTlv
+  pub rest : Items
+  pub split : items ≡ items_of before ++ Ok at ∷ rest
+  pub said : S
+  pub leads : Leads o s before said
+  pub more : o.closed said ≡ false
+  pub kind : may_stand (o.next said) at.element.kind ≡ true
+  pub known : wants said at

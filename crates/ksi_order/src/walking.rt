@@ -1,7 +1,8 @@
-ghost use Rattle.std.specs.Prelude.{◌≡◌, ◌+◌, ◌^◌, ◌<◌, length};
-ghost use Rattle.ksi_tlv.specs.Walking.{elements};
+ghost use Rattle.std.specs.Prelude.{◌≡◌, ◌+◌, ◌^◌, ◌<◌, Err, length};
+ghost use Rattle.ksi_tlv.specs.Walking.{PlacedTlv, elements};
 ghost use Rattle.ksi_tlv.specs.Seen.{view_placed, view_item};
-ghost use Rattle.ksi_order.specs.Sequence.{Tells};
+ghost use Rattle.ksi_order.specs.declared.fault.Stop.TheVariants as stops;
+ghost use Rattle.ksi_order.specs.Sequence.{IsWanting, Tells, WantsAt};
 ghost use Rattle.ksi_order.specs.Order.{Order, may_stand, walked, one_more, Steps};
 
 use crate::fault::{OrderFault, Stop};
@@ -10,6 +11,9 @@ use ksi_tlv::{Elements, Placed, TlvFault};
 /// What the elements so far say, and what may stand behind them. `F` has the faults that the elements can have.
 pub trait Ordered<F> {
     ghost order: { Order Self F };
+
+    /// What is known of an element for which memory was wanting, behind what the state says.
+    ghost wants: { Self → PlacedTlv → Type 0 };
 
     /// Whether an element of the kind may stand next.
     fn may_stand(&self, kind: u16) -> bool
@@ -29,7 +33,8 @@ pub trait Ordered<F> {
 
     /// One element more, of a kind that may stand.
     fn take(&mut self, at: &Placed<'_>) -> Result<(), Stop<F>>
-        ensures { Steps (order.read self.old (view_placed at.now)) self.new result };
+        ensures read { Steps (order.read self.old (view_placed at.now)) self.new result }
+        ensures wanting { result ≡ Err stops.NoMemory → wants self.old (view_placed at.now) };
 }
 
 /// Reads the elements of bytes, whose first byte stands at a place, one after the other.
@@ -38,6 +43,8 @@ pub fn walk<F, S: Ordered<F>>(state: &mut S, place: usize, bytes: &[u8]) -> Resu
     // Whole elements in their order lead to the new state, or the first fault stands there.
     ensures told { Tells S.order (place + length bytes.now) (elements place bytes.now) state.old state.new result }
     ensures exact { Steps (walked S.order (place + length bytes.now) (elements place bytes.now) state.old) state.new result }
+    // Memory was wanting for an element before which there is no fault.
+    ensures wanting { result ≡ Err stops.NoMemory → IsWanting S.order S.wants (elements place bytes.now) state.old }
 {
     go(state, place, bytes)
 }
@@ -45,7 +52,8 @@ pub fn walk<F, S: Ordered<F>>(state: &mut S, place: usize, bytes: &[u8]) -> Resu
 #[tactic(auto, unfolding(crate::specs::Order::walked))]
 fn go<F, S: Ordered<F>>(state: &mut S, place: usize, bytes: &[u8]) -> Result<(), Stop<F>>
     requires { place + length bytes.now < 2 ^ 64 }
-    ensures { Steps (walked S.order (place + length bytes.now) (elements place bytes.now) state.old) state.new result }
+    ensures exact { Steps (walked S.order (place + length bytes.now) (elements place bytes.now) state.old) state.new result }
+    ensures wanting { result ≡ Err stops.NoMemory → IsWanting S.order S.wants (elements place bytes.now) state.old }
 {
     let end = place + bytes.len();
     let mut elements = Elements::at(place, bytes);
@@ -67,7 +75,8 @@ fn step<F, S: Ordered<F>>(
     state: &mut S,
     item: Result<Placed<'_>, (usize, TlvFault)>,
 ) -> Result<(), Stop<F>>
-    ensures { Steps (one_more S.order (view_item item.entry) state.old) state.new result }
+    ensures exact { Steps (one_more S.order (view_item item.entry) state.old) state.new result }
+    ensures wanting { result ≡ Err stops.NoMemory → WantsAt S.order S.wants (view_item item.entry) state.old }
 {
     match item {
         Ok(at) => {

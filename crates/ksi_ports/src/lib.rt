@@ -23,8 +23,6 @@ mod host_sink;
 mod mem_files;
 mod mem_sink;
 mod sink;
-#[cfg(test)]
-mod tests;
 
 pub use files::{Files, LoadRefusal, SaveRefusal};
 pub use host_files::HostFiles;

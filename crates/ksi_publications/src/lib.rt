@@ -21,8 +21,6 @@ mod fault;
 mod laws;
 mod publications;
 mod reader;
-#[cfg(test)]
-mod tests;
 mod writer;
 
 pub use containers::{FileContent, HeaderContent};

@@ -6,7 +6,7 @@ use ksi_imprint::Imprint;
 use std::marker::Model;
 
 /// Published times and hashes, in the order of their file. A contract sees the list of pairs.
-#[derive(Drop, Debug)]
+#[derive(Drop)]
 pub struct Publications {
     pairs: Vec<(u64, Imprint)>,
 }

@@ -11,10 +11,11 @@ use Rattle.ksi_schedule.specs.Plans.{PlanState}
 use Rattle.ksi_schedule.specs.Events.{IsEvent, AreEvents}
 use Rattle.ksi_world.specs.declared.kept.KeptSecond.{KeptSecond}
 use Rattle.ksi_world.specs.Histories.{WorldState}
-use Rattle.ksi_world.specs.Records.{issued_all, issued_among, issued_before, issued_of}
-use Rattle.ksi_world.specs.Validity.{AreRising, AreTimes, EachKept, IsKept}
-use Rattle.ksi_journal.specs.Journal.{IsIssued, IsItem, IsPublication, IsRootOf, IsSecond, RiseFrom}
-use Rattle.ksi_replay.specs.Journals.{second_of}
+use Rattle.ksi_world.specs.Records.{kept_seconds, issued_all, issued_among, issued_before, issued_of}
+use Rattle.ksi_world.specs.Validity.{AreRising, AreTimes, EachKept, IsKept, HasImprints}
+use Rattle.ksi_journal.specs.declared.second.Second.{Second}
+use Rattle.ksi_journal.specs.Journal.{IsIssued, IsItem, IsJournal, IsPublication, IsRootOf, IsSecond, RiseFrom}
+use Rattle.ksi_replay.specs.Journals.{second_of, journal_in}
 
 -- ALL OF A LIST
 
@@ -119,3 +120,48 @@ is_second image kept early (inr tree) root imprints = record {
   items = are_items kept.items tree.round.low imprints;
   tree = rooted image kept.root kept.items tree.real tree.some tree.tree;
 }
+
+-- THE JOURNAL OF A HISTORY
+
+seconds_are : (image : List ℕ → List ℕ) (kept : List KeptSecond) → EachKept (λ one. one.second < 2 ^ 63) kept → EachKept (IsKept image) kept → EachKept HasImprints kept
+    → AllByRecursion (IsSecond image) (map second_of kept)
+seconds_are image [] early trees imprints = tt
+seconds_are image (one ∷ kept) early trees imprints = (is_second image one early.0 trees.0 imprints.0.0 imprints.0.1, seconds_are image kept early.1 trees.1 imprints.1)
+
+pub roots_are_bytes : (kept : List KeptSecond) → EachKept (λ one. AreBytes one.root) kept → AllByRecursion (λ (one : Second). AreBytes one.root) (map second_of kept)
+roots_are_bytes [] are = tt
+roots_are_bytes (one ∷ kept) are = (are.0, roots_are_bytes kept are.1)
+
+-- the laws of a history's issued signatures
+pub record IssuedLaws (image : List ℕ → List ℕ) (w : WorldState) : Type 0 where
+  pub few : length w.requests < 2 ^ 64
+  pub short : (number : ℕ) (text : List ℕ) → issued_of image w number ≡ Some text → length text ≤ 10000
+  pub bytes : (number : ℕ) (text : List ℕ) → issued_of image w number ≡ Some text → AreBytes text
+
+module _ (image : List ℕ → List ℕ) (w : WorldState) (laws : IssuedLaws image w) where
+  issued_before_are : (n : ℕ) (o : Option (List ℕ)) (later : List (ℕ × List ℕ)) → n < length w.requests → issued_of image w n ≡ o → AllByRecursion IsIssued later → AllByRecursion IsIssued (issued_before n o later)
+  issued_before_are n None later lt is are = are
+  issued_before_are n (Some text) later lt is are =
+      let few = laws.few in
+      (record { number = omega (arith, lt, few); short = omega (arith, laws.short n text is); bytes = laws.bytes n text is }, are)
+
+  issued_from_are : (n m : ℕ) → n + m ≤ length w.requests → AllByRecursion IsIssued (issued_among image w n m)
+  issued_from_are n zero le = tt
+  issued_from_are n (suc m) le = issued_before_are n (issued_of image w n) (issued_among image w (suc n) m) (omega (arith, le)) refl (issued_from_are (suc n) m (omega (arith, le)))
+
+  issued_are : AllByRecursion IsIssued (issued_all image w)
+  unfolding issued_all
+  issued_are = issued_from_are 0 (length w.requests) (omega arith)
+
+  pub journal_is : (plan : PlanState) → plan.start < 2 ^ 63 → AreRising plan.start (kept_seconds image plan w) → EachKept (λ one. one.second < 2 ^ 63) (kept_seconds image plan w)
+      → EachKept (IsKept image) (kept_seconds image plan w) → EachKept HasImprints (kept_seconds image plan w)
+      → AreTimes plan.start (2 ^ 63) w.published → AllByRecursion (λ x. IsImprint x.1) w.published → IsJournal image (journal_in image plan w)
+  journal_is plan start rising early trees imprints times roots = record {
+    start = start;
+    seconds = seconds_are image (kept_seconds image plan w) early trees imprints;
+    seconds_rise = seconds_rise plan.start (kept_seconds image plan w) rising;
+    issued = issued_are;
+    numbers_rise = numbers_rise image w;
+    publications = are_publications plan.start w.published times roots;
+    times_rise = times_rise plan.start (2 ^ 63) w.published times;
+  }

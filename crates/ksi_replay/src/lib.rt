@@ -1,7 +1,8 @@
 //! Schedules run through the nodes, and the journal of what was kept, issued and published.
 //!
 //! The layer above may rely on this: [`replay`] gives the world whose events are those of the schedule, and [`journal_of`]
-//! the journal of a world: its kept seconds with their items, its issued signatures and what was published.
+//! the journal of a world: its kept seconds with their items, its issued signatures and what was published. That the
+//! journal of every history is one, with or without memory to make it, is a law ([`laws`]).
 //!
 //! ```text
 //! let schedule = read_schedule(alloc, text)?;
@@ -11,9 +12,8 @@
 #![tactic(auto)]
 
 mod journal;
+pub mod laws;
 mod replaying;
-#[cfg(test)]
-mod tests;
 
 pub use journal::journal_of;
 pub use ksi_imprint::NoMemory;

@@ -23,8 +23,6 @@ mod levels;
 mod row;
 mod rows;
 mod steps;
-#[cfg(test)]
-mod tests;
 mod uncounted;
 mod zeros;
 

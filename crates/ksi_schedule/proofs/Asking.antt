@@ -1,73 +1,89 @@
--- What a text asks to sign are imprints.
-use Rattle.std.proofs.Common.{◌≡◌, ◌&&◌, Bool, true, false, cond, eqb, leb, ltb, ◌-◌, ◌^◌, List, [], ◌∷◌, ◌++◌, length, codes, Ok, Err, subst}
+-- What a text asks to sign are imprints, of bytes.
+use Rattle.std.proofs.Common.{◌≡◌, ◌&&◌, Bool, true, false, cond, eqb, leb, ltb, ◌-◌, ◌^◌, List, [], ◌∷◌, ◌++◌, length, codes, Ok, Err, subst, arith}
+use Rattle.std.specs.List.{AllByRecursion}
 use Rattle.std.specs.Str.{bytes_eq}
 use Rattle.ksi_schedule.specs.declared.event.Event.{Event}
 use Rattle.ksi_schedule.specs.declared.fault.LineFault.TheVariants.{Header, TooManyEvents}
 use Rattle.ksi_schedule.specs.Pieces.{Text, lines, words}
 use Rattle.ksi_schedule.specs.Plans.{PlanState}
-use Rattle.ksi_schedule.specs.Events.{History, AsksForImprint, AskForImprints, with_event}
+use Rattle.ksi_schedule.specs.Events.{History, AsksForImprint, AskForImprints, AsksForBytes, with_event}
+use Rattle.ksi_schedule.specs.Schedules.{IsHistory}
 use Rattle.ksi_schedule.specs.Words.{form_at, kind_at, ◌>>=◌}
 use Rattle.ksi_schedule.specs.Forms.{event_kinds, aggregator_line}
 use Rattle.ksi_schedule.specs.Lines.{Said, nothing, title, cores, history, bare, with_parent, reaches_core, is_empty, next_parent, next_in, number_in, with_line}
 use Rattle.ksi_schedule.specs.Spelled.{Says, IsScheduleText}
-use Rattle.ksi_schedule.proofs.Within.{same, bind_ok, picked, GoodKinds, kind_holds, Either}
+use Rattle.ksi_schedule.proofs.Within.{same, bind_ok, picked, GoodKinds, kind_holds, Either, spelled_within}
 
-good_asks : (plan : PlanState) → GoodKinds plan AsksForImprint event_kinds
-good_asks plan =
-    (((λ vs h. h.1.1.0), tt), (((λ vs h. tt), tt), (((λ vs h. tt), tt), (((λ vs h. tt), tt), (((λ vs h. tt), tt), (((λ vs h. tt), tt), (((λ vs h. tt), tt), (((λ vs h. tt), tt), (((λ vs h. tt), ((λ vs h. tt), tt)), tt)))))))))
+module _ (Asking : Event → Type 0) (good : (plan : PlanState) → GoodKinds plan Asking event_kinds) where
+  asks_more : (es : List Event) (e : Event) → AllByRecursion Asking es → Asking e → AllByRecursion Asking (es ++ e ∷ [])
+  asks_more [] e all more = (more, tt)
+  asks_more (f ∷ es) e all more = (all.0, asks_more es e all.1 more)
 
-asks_more : (es : List Event) (e : Event) → AskForImprints es → AsksForImprint e → AskForImprints (es ++ e ∷ [])
-asks_more [] e all more = (more, tt)
-asks_more (f ∷ es) e all more = (all.0, asks_more es e all.1 more)
+  abbrev Asks : History → Type 0
+  Asks h = AllByRecursion Asking h.events
 
-abbrev Asks : History → Type 0
-Asks h = AskForImprints h.events
+  parent_asks : (h g : History) (ws : List Text) → (form_at h.plan aggregator_line.forms ws >>= next_parent h) ≡ Ok g → Asks h → Asks g
+  unfolding next_parent
+  parent_asks h g ws is asks =
+      let said = bind_ok (form_at h.plan aggregator_line.forms ws) (next_parent h) g is in
+      let p = picked (eqb said.0.0 (length h.plan.parents) && ltb (length h.plan.parents) 4096 && reaches_core h.plan 7 said.0.1) (record { plan = with_parent h.plan said.0.1; events = h.events }) g Header said.2 in
+      subst Asks p.1 asks
 
-parent_asks : (h g : History) (ws : List Text) → (form_at h.plan aggregator_line.forms ws >>= next_parent h) ≡ Ok g → Asks h → Asks g
-unfolding next_parent
-parent_asks h g ws is asks =
-    let said = bind_ok (form_at h.plan aggregator_line.forms ws) (next_parent h) g is in
-    let p = picked (eqb said.0.0 (length h.plan.parents) && ltb (length h.plan.parents) 4096 && reaches_core h.plan 7 said.0.1) (record { plan = with_parent h.plan said.0.1; events = h.events }) g Header said.2 in
-    subst Asks p.1 asks
+  event_asks : (h g : History) (name : Text) (ws : List Text) → (kind_at h.plan event_kinds name ws >>= λ event. Ok (with_event h event)) ≡ Ok g → Asks h → Asks g
+  event_asks h g name ws is asks =
+      let event = bind_ok (kind_at h.plan event_kinds name ws) (λ event. Ok (with_event h event)) g is in
+      subst Asks (same (with_event h event.0) g event.2) (asks_more h.events event.0 asks (kind_holds h.plan Asking event_kinds name ws event.0 (good h.plan) event.1))
 
-event_asks : (h g : History) (name : Text) (ws : List Text) → (kind_at h.plan event_kinds name ws >>= λ event. Ok (with_event h event)) ≡ Ok g → Asks h → Asks g
-event_asks h g name ws is asks =
-    let event = bind_ok (kind_at h.plan event_kinds name ws) (λ event. Ok (with_event h event)) g is in
-    subst Asks (same (with_event h event.0) g event.2) (asks_more h.events event.0 asks (kind_holds h.plan AsksForImprint event_kinds name ws event.0 (good_asks h.plan) event.1))
+  either_asks : (h g : History) (name : Text) (ws : List Text) (b : Bool) → Either h name ws b ≡ Ok g → Asks h → Asks g
+  either_asks h g name ws true is asks = parent_asks h g ws is asks
+  either_asks h g name ws false is asks = event_asks h g name ws is asks
 
-either_asks : (h g : History) (name : Text) (ws : List Text) (b : Bool) → Either h name ws b ≡ Ok g → Asks h → Asks g
-either_asks h g name ws true is asks = parent_asks h g ws is asks
-either_asks h g name ws false is asks = event_asks h g name ws is asks
+  full_asks : (h g : History) (name : Text) (ws : List Text) (full : Bool) → cond full (Err TooManyEvents) (Either h name ws (bytes_eq name aggregator_line.name && is_empty h.events)) ≡ Ok g → Asks h → Asks g
+  full_asks h g name ws true is asks = absurd cc
+  full_asks h g name ws false is asks = either_asks h g name ws (bytes_eq name aggregator_line.name && is_empty h.events) is asks
 
-full_asks : (h g : History) (name : Text) (ws : List Text) (full : Bool) → cond full (Err TooManyEvents) (Either h name ws (bytes_eq name aggregator_line.name && is_empty h.events)) ≡ Ok g → Asks h → Asks g
-full_asks h g name ws true is asks = absurd cc
-full_asks h g name ws false is asks = either_asks h g name ws (bytes_eq name aggregator_line.name && is_empty h.events) is asks
+  next_asks : (h g : History) (ws : List Text) → next_in h ws ≡ Ok g → Asks h → Asks g
+  unfolding next_in
+  next_asks h g [] is asks = absurd cc
+  next_asks h g (name ∷ ws) is asks = full_asks h g name ws (leb 1000000 (length h.events)) is asks
 
-next_asks : (h g : History) (ws : List Text) → next_in h ws ≡ Ok g → Asks h → Asks g
-unfolding next_in
-next_asks h g [] is asks = absurd cc
-next_asks h g (name ∷ ws) is asks = full_asks h g name ws (leb 1000000 (length h.events)) is asks
+  abbrev SaidAsks : Said → Type 0
+  SaidAsks (history h) = Asks h
+  SaidAsks _ = Unit {0}
 
-abbrev SaidAsks : Said → Type 0
-SaidAsks (history h) = Asks h
-SaidAsks _ = Unit {0}
+  line_asks : (a b : Said) (line : Text) → with_line a line ≡ Ok b → SaidAsks a → SaidAsks b
+  unfolding with_line
+  line_asks nothing b line is asks = let p = picked (bytes_eq line (codes "ksi-schedule 1")) title b Header is in subst SaidAsks p.1 tt
+  line_asks title b line is asks =
+      let n = bind_ok (number_in (codes "cores") 1 9 line) (λ n. Ok (cores n)) b is in
+      subst SaidAsks (same (cores n.0) b n.2) tt
+  line_asks (cores n) b line is asks =
+      let start = bind_ok (number_in (codes "start") 0 (2 ^ 63 - 2 ^ 24) line) (λ start. Ok (history (bare n start))) b is in
+      subst SaidAsks (same (history (bare n start.0)) b start.2) tt
+  line_asks (history h) b line is asks =
+      let next = bind_ok (next_in h (words line)) (λ next. Ok (history next)) b is in
+      subst SaidAsks (same (history next.0) b next.2) (next_asks h next.0 (words line) next.1 asks)
 
-line_asks : (a b : Said) (line : Text) → with_line a line ≡ Ok b → SaidAsks a → SaidAsks b
-unfolding with_line
-line_asks nothing b line is asks = let p = picked (bytes_eq line (codes "ksi-schedule 1")) title b Header is in subst SaidAsks p.1 tt
-line_asks title b line is asks =
-    let n = bind_ok (number_in (codes "cores") 1 9 line) (λ n. Ok (cores n)) b is in
-    subst SaidAsks (same (cores n.0) b n.2) tt
-line_asks (cores n) b line is asks =
-    let start = bind_ok (number_in (codes "start") 0 (2 ^ 63 - 2 ^ 24) line) (λ start. Ok (history (bare n start))) b is in
-    subst SaidAsks (same (history (bare n start.0)) b start.2) tt
-line_asks (history h) b line is asks =
-    let next = bind_ok (next_in h (words line)) (λ next. Ok (history next)) b is in
-    subst SaidAsks (same (history next.0) b next.2) (next_asks h next.0 (words line) next.1 asks)
+  says_asks : (a b : Said) (ls : List Text) → Says a ls b → SaidAsks a → SaidAsks b
+  says_asks a b [] says asks = subst SaidAsks says asks
+  says_asks a b (line ∷ ls) says asks = says_asks says.0 b ls says.2 (line_asks a says.0 line says.1 asks)
 
-says_asks : (a b : Said) (ls : List Text) → Says a ls b → SaidAsks a → SaidAsks b
-says_asks a b [] says asks = subst SaidAsks says asks
-says_asks a b (line ∷ ls) says asks = says_asks says.0 b ls says.2 (line_asks a says.0 line says.1 asks)
+  spelled : (text : Text) (h : History) → IsScheduleText text h → AllByRecursion Asking h.events
+  spelled text h says = says_asks nothing (history h) (lines text) says tt
+
+for_imprints : (plan : PlanState) → GoodKinds plan AsksForImprint event_kinds
+for_imprints plan =
+    (((λ vs h. h.1.1.0.0), tt), (((λ vs h. tt), tt), (((λ vs h. tt), tt), (((λ vs h. tt), tt), (((λ vs h. tt), tt), (((λ vs h. tt), tt), (((λ vs h. tt), tt), (((λ vs h. tt), tt), (((λ vs h. tt), ((λ vs h. tt), tt)), tt)))))))))
+
+for_bytes : (plan : PlanState) → GoodKinds plan AsksForBytes event_kinds
+for_bytes plan =
+    (((λ vs h. h.1.1.0.1), tt), (((λ vs h. tt), tt), (((λ vs h. tt), tt), (((λ vs h. tt), tt), (((λ vs h. tt), tt), (((λ vs h. tt), tt), (((λ vs h. tt), tt), (((λ vs h. tt), tt), (((λ vs h. tt), ((λ vs h. tt), tt)), tt)))))))))
 
 pub spelled_asks : (text : Text) (h : History) → IsScheduleText text h → AskForImprints h.events
-spelled_asks text h says = says_asks nothing (history h) (lines text) says tt
+spelled_asks = spelled AsksForImprint for_imprints
+
+-- so what a text spells follows the rules
+pub spelled_history : (text : Text) (h : History) → IsScheduleText text h → IsHistory h
+spelled_history text h is =
+    let within = spelled_within text h is in
+    record { plan = within.plan; events = within.events; few = omega (arith, within.few); imprints = spelled_asks text h is; bytes = spelled AsksForBytes for_bytes text h is }

@@ -1,13 +1,15 @@
 -- Words that are digests in hex.
 use Rattle.std.proofs.Common.{◌≡◌, ◌≢◌, ℕ, suc, zero, ◌+◌, ◌*◌, ◌<◌, ◌≤◌, Bool, true, false, not, cond, ◌&&◌, eqb, List, [], ◌∷◌, length, Option, Some, None, Result, Ok, Err, refl, ap, subst, arith}
+use Rattle.std.specs.Prelude.{All}
 use Rattle.std.specs.List.{list_all, position_from}
+use Rattle.std.proofs.lemmas.List.Elements.{All-nil, All-cons}
 use Rattle.std.specs.Str.{IsUtf8, IsAscii}
 use Rattle.std.proofs.lemmas.Bool.{ne_eqb}
 use Rattle.std.proofs.lemmas.Str.{IsUtf8-from_ascii}
 use Rattle.hex.specs.Hex.{is_hex_digit}
 use Rattle.std.proofs.lemmas.Bool.{eqb-true}
 use Rattle.ksi_imprint.specs.Imprints.{IsImprint}
-use Rattle.ksi_imprint.specs.Reading.{hex_at, digits_at, hex_bytes}
+use Rattle.ksi_imprint.specs.Reading.{hex_at, digits_at, digit_value, hex_bytes}
 use Rattle.ksi_imprint.specs.declared.fault.HexFault.{HexFault}
 use Rattle.ksi_schedule.specs.Pieces.{Text}
 use Rattle.ksi_schedule.specs.Words.{digest_at, or_hash}
@@ -66,6 +68,27 @@ read_imprint word imprint is = by_length (eqb (length word) 64) refl is
     by_length : (b : Bool) → eqb (length word) 64 ≡ b → or_hash (cond b (digits_at word (position_from is_bad 0 word)) (Err (Rattle.ksi_imprint.specs.declared.fault.HexFault.TheVariants.Length (length word)))) ≡ Ok imprint → IsImprint imprint
     by_length true size is = by_place (position_from is_bad 0 word) (eqb-true (length word) 64 size) is
     by_length false size is = absurd cc
+
+digit_small : (c : ℕ) → digit_value c ≤ 15
+digit_small c = grind arith
+
+half_bytes : (word : List ℕ) → All (λ b. b < 256) (hex_bytes word)
+half_bytes [] = All-nil (λ b. b < 256)
+half_bytes (c ∷ []) = All-nil (λ b. b < 256)
+half_bytes (c ∷ d ∷ word) = All-cons (λ b. b < 256) (digit_value c * 16 + digit_value d) (hex_bytes word) (omega (arith, digit_small c, digit_small d)) (half_bytes word)
+
+-- and its numbers are bytes
+pub read_bytes : (word imprint : List ℕ) → digest_at word ≡ Ok imprint → All (λ b. b < 256) imprint
+unfolding hex_at
+read_bytes word imprint is = by_length (eqb (length word) 64) is
+  where
+    by_place : (place : Option ℕ) → or_hash (digits_at word place) ≡ Ok imprint → All (λ b. b < 256) imprint
+    by_place None is = subst (All (λ b. b < 256)) (ok_same is) (All-cons (λ b. b < 256) 1 (hex_bytes word) (omega arith) (half_bytes word))
+    by_place (Some place) is = absurd cc
+
+    by_length : (b : Bool) → or_hash (cond b (digits_at word (position_from is_bad 0 word)) (Err (Rattle.ksi_imprint.specs.declared.fault.HexFault.TheVariants.Length (length word)))) ≡ Ok imprint → All (λ b. b < 256) imprint
+    by_length true is = by_place (position_from is_bad 0 word) is
+    by_length false is = absurd cc
 
 both : (b c : Bool) → (b && c) ≡ true → (b ≡ true) × (c ≡ true)
 both true c e = (refl, e)

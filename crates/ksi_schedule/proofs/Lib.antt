@@ -10,3 +10,4 @@ pub mod EventAgain
 pub mod Whole
 pub mod Within
 pub mod Asking
+pub mod Wanting

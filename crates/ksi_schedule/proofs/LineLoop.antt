@@ -5,6 +5,8 @@ use Rattle.ksi_schedule.specs.Events.{History}
 use Rattle.ksi_schedule.specs.Lines.{history, next_in, with_line}
 use Rattle.ksi_schedule.specs.Reading.{Fault, read_from, Goes, Reads, on_line}
 use Rattle.ksi_schedule.specs.declared.fault.LineFault.{LineFault}
+use Rattle.ksi_schedule.specs.declared.fault.ScheduleFault.{ScheduleFault}
+use Rattle.ksi_schedule.specs.declared.fault.ScheduleFault.TheVariants as faults
 use Rattle.ksi_schedule.specs.declared.fault.Stop.{Stop}
 use Rattle.ksi_schedule.specs.declared.fault.Stop.TheVariants as stops
 
@@ -27,3 +29,7 @@ stops_there n ls others line h new stops.NoMemory whole left is one = tt
 pub ends : (n : ℕ) (ls : List Text) (h : History) (whole : Result History Fault) → read_from n ls (history h) ≡ whole → ls ≡ [] → whole ≡ Ok h
 unfolding read_from
 ends n ls h whole left is = sym left ∙ ap (λ (ls : List Text). read_from n ls (history h)) is
+
+pub wants_memory : (n : ℕ) (stop : Stop) (fault : ScheduleFault) → fault ≡ on_line n stop → fault ≡ faults.NoMemory → stop ≡ stops.NoMemory
+wants_memory n (stops.Fault other) fault is memory = absurd cc
+wants_memory n stops.NoMemory fault is memory = refl

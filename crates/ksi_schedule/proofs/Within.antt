@@ -1,5 +1,6 @@
 -- What a text spells is within the limits of a schedule.
 use Rattle.std.proofs.Common.{◌≡◌, ℕ, ◌+◌, ◌-◌, ◌^◌, ◌<◌, ◌≤◌, Bool, true, false, cond, ◌&&◌, ltb, leb, eqb, List, [], ◌∷◌, length, codes, Option, Some, None, Result, Ok, Err, refl, subst, arith, length-append}
+use Rattle.std.specs.Prelude.{All}
 use Rattle.std.specs.Str.{bytes_eq}
 use Rattle.std.proofs.lemmas.Bool.{ltb-true, leb-true, leb-false}
 use Rattle.std.proofs.lemmas.Option.{slice_get_within}
@@ -16,7 +17,7 @@ use Rattle.ksi_schedule.specs.Forms.{event_kinds, aggregator_line}
 use Rattle.ksi_schedule.specs.Lines.{Said, nothing, title, cores, history, bare, with_parent, reaches_core, is_empty, next_parent, next_in, number_in, number_behind, within, with_line}
 use Rattle.ksi_schedule.specs.Spelled.{Says, IsScheduleText}
 use Rattle.ksi_imprint.specs.Imprints.{IsImprint}
-use Rattle.ksi_schedule.proofs.Digests.{read_imprint}
+use Rattle.ksi_schedule.proofs.Digests.{read_imprint, read_bytes}
 use Rattle.ksi_schedule.proofs.Next.{plan_next, events_next, no_events}
 
 -- ---- steps of a reading
@@ -47,7 +48,7 @@ Holds plan number v = Unit {0}
 Holds plan core j = j < plan.cores
 Holds plan aggregator k = k < length plan.parents
 Holds plan second t = InRange plan t
-Holds plan digest v = IsImprint v
+Holds plan digest v = IsImprint v × All (λ b. b < 256) v
 Holds plan core_actor j = j < plan.cores
 Holds plan aggregator_actor k = k < length plan.parents
 
@@ -80,7 +81,7 @@ value_holds plan number word v is = tt
 value_holds plan core word v is = core_holds plan word v is
 value_holds plan aggregator word v is = aggregator_holds plan word v is
 value_holds plan second word v is = second_holds plan word v is
-value_holds plan digest word v is = read_imprint word v is
+value_holds plan digest word v is = (read_imprint word v is, read_bytes word v is)
 value_holds plan core_actor [] v is = core_holds plan [] v is
 value_holds plan core_actor (b ∷ word) v is = core_holds plan word v is
 value_holds plan aggregator_actor [] v is = aggregator_holds plan [] v is

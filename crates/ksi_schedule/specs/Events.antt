@@ -1,5 +1,5 @@
 -- Histories: a plan, and what happened.
-use Rattle.std.specs.Prelude.{◌<◌, List, [], ◌∷◌, ◌++◌, length}
+use Rattle.std.specs.Prelude.{◌<◌, List, [], ◌∷◌, ◌++◌, length, All}
 use Rattle.std.specs.List.{AllByRecursion}
 use Rattle.ksi_imprint.specs.Imprints.{IsImprint}
 use Rattle.ksi_schedule.specs.Plans.{PlanState, InRange}
@@ -30,6 +30,14 @@ AsksForImprint _ = Unit {0}
 
 abbrev pub AskForImprints : List Event → Type 0
 AskForImprints es = AllByRecursion AsksForImprint es
+
+-- and its numbers are bytes
+abbrev pub AsksForBytes : Event → Type 0
+AsksForBytes (events.Request k t imprint) = All (λ b. b < 256) imprint
+AsksForBytes _ = Unit {0}
+
+abbrev pub AskForBytes : List Event → Type 0
+AskForBytes es = AllByRecursion AsksForBytes es
 
 -- a plan, and what happened
 pub record History : Type 0 where

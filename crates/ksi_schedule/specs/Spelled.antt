@@ -1,8 +1,8 @@
 -- Which texts are which schedule, and the first fault of a text that is none.
-use Rattle.std.specs.Prelude.{◌≡◌, ◌⊎◌, ℕ, ◌+◌, List, [], ◌∷◌, ◌++◌, length, Result, Ok, Err}
-use Rattle.ksi_schedule.specs.Pieces.{Text, lines}
+use Rattle.std.specs.Prelude.{◌≡◌, ◌⊎◌, ℕ, ◌+◌, List, [], ◌∷◌, ◌++◌, length, Result, Ok, Err, IsOk}
+use Rattle.ksi_schedule.specs.Pieces.{Text, lines, words}
 use Rattle.ksi_schedule.specs.Events.{History}
-use Rattle.ksi_schedule.specs.Lines.{Said, nothing, history, with_line}
+use Rattle.ksi_schedule.specs.Lines.{Said, nothing, history, next_in, with_line}
 use Rattle.ksi_schedule.specs.declared.fault.LineFault.{LineFault}
 use Rattle.ksi_schedule.specs.declared.fault.LineFault.TheVariants.{Header}
 use Rattle.ksi_schedule.specs.declared.fault.ScheduleFault.{ScheduleFault}
@@ -42,6 +42,19 @@ pub record IsCutShort (text : Text) (fault : LineFault) (n : ℕ) : Type 0 where
 
 abbrev pub IsScheduleFault : Text → LineFault → ℕ → Type 0
 IsScheduleFault text fault n = IsFaultyLine text fault n ⊎ IsCutShort text fault n
+
+-- behind what is said, memory was wanting for an aggregator or an event, whose line has no fault, and no line before it has
+pub record IsWantingFrom (said : Said) (ls : List Text) : Type 0 where
+  pub before : List Text
+  pub line : Text
+  pub others : List Text
+  pub split : ls ≡ before ++ line ∷ others
+  pub h : History
+  pub says : Says said before (history h)
+  pub fine : IsOk (next_in h (words line))
+
+abbrev pub IsWanting : Text → Type 0
+IsWanting text = IsWantingFrom nothing (lines text)
 
 -- ---- answers of `read_schedule`
 

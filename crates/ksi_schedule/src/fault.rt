@@ -27,7 +27,7 @@ pub enum ScheduleFault {
 }
 
 /// Why a line is not taken.
-#[derive(Clone, Copy, Debug)]
+#[derive(Clone, Copy)]
 pub(crate) enum Stop {
     Fault(LineFault),
     NoMemory,

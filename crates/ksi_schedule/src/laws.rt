@@ -2,7 +2,7 @@
 ghost use Rattle.std.specs.Prelude.{◌≡◌, ◌⊎◌, ◌↔◌, ℕ, List, Ok, Err};
 ghost use Rattle.ksi_schedule.specs.declared.fault.LineFault.{LineFault};
 ghost use Rattle.ksi_schedule.specs.Events.{History, AskForImprints};
-ghost use Rattle.ksi_schedule.specs.Schedules.{IsSchedule};
+ghost use Rattle.ksi_schedule.specs.Schedules.{IsSchedule, IsHistory};
 ghost use Rattle.ksi_schedule.specs.Spelled.{IsScheduleText, IsScheduleFault};
 ghost use Rattle.ksi_schedule.specs.Reading.{schedule_at};
 
@@ -20,9 +20,11 @@ pub fn schedule_is_read()
     ensures fault { (text : List ℕ) (fault : LineFault) (n : ℕ) → (schedule_at text ≡ Err (fault, n)) ↔ IsScheduleFault text fault n }
 {}
 
-/// What a text spells is within the limits of a schedule, and each request in it is for an imprint.
-#[tactic(auto, using(crate::proofs::Within::spelled_within, crate::proofs::Asking::spelled_asks))]
+/// What a text spells is within the limits of a schedule, and each request in it is for an imprint, whose numbers are
+/// bytes.
+#[tactic(auto, using(crate::proofs::Within::spelled_within, crate::proofs::Asking::spelled_asks, crate::proofs::Asking::spelled_history))]
 pub fn spelled_is_schedule()
     ensures schedule { (text : List ℕ) (h : History) → IsScheduleText text h → IsSchedule h }
     ensures imprints { (text : List ℕ) (h : History) → IsScheduleText text h → AskForImprints h.events }
+    ensures history { (text : List ℕ) (h : History) → IsScheduleText text h → IsHistory h }
 {}

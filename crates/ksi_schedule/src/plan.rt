@@ -7,7 +7,7 @@ use std::alloc::Global;
 use std::marker::Model;
 
 /// The parent of each aggregator, that of aggregator 0 first. A contract sees the list.
-#[derive(Drop, Debug)]
+#[derive(Drop)]
 pub struct Parents {
     parents: Vec<Actor>,
 }
@@ -59,7 +59,7 @@ impl Parents {
 /// There are 1 to 9 cores, the start is at most 2^63 - 2^24, and there are at most 4,096 aggregators. The parent of an
 /// aggregator is a core of the plan or an aggregator with a smaller number, and at most eight aggregators stand above one
 /// another.
-#[derive(Drop, Debug)]
+#[derive(Drop)]
 pub struct Plan {
     pub cores: u8,
     pub start: u64,

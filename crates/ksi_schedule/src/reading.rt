@@ -1,12 +1,14 @@
 // Reading the text of a schedule, line by line.
-ghost use Rattle.std.specs.Prelude.{◌≡◌, ◌≤◌, ◌-◌, ◌^◌, ◌∷◌, [], ℕ, length, IfSome};
+ghost use Rattle.std.specs.Prelude.{◌≡◌, ◌≤◌, ◌-◌, ◌^◌, ◌∷◌, [], ℕ, length, Err, IsOk, IfSome};
 ghost use Rattle.ksi_schedule.specs.Pieces.{lines, words};
 ghost use Rattle.ksi_schedule.specs.Plans.{IsParent};
 ghost use Rattle.ksi_schedule.specs.Events.{History};
-ghost use Rattle.ksi_schedule.specs.Lines.{history, next_in, next_parent, within, number_behind, bare};
-ghost use Rattle.ksi_schedule.specs.Spelled.{IsScheduleText, IsScheduleFault, Tells, Gives, Refuses};
+ghost use Rattle.ksi_schedule.specs.Lines.{history, nothing, next_in, next_parent, within, number_behind, bare};
+ghost use Rattle.ksi_schedule.specs.Spelled.{IsScheduleText, IsScheduleFault, IsWanting, IsWantingFrom, Tells, Gives, Refuses};
 ghost use Rattle.ksi_schedule.specs.Reading.{Goes, Reads, on_line, read_from, schedule_at, words_left};
 ghost use Rattle.ksi_schedule.specs.declared.fault.LineFault.{LineFault as TheLineFault};
+ghost use Rattle.ksi_schedule.specs.declared.fault.ScheduleFault.TheVariants as faults;
+ghost use Rattle.ksi_schedule.specs.declared.fault.Stop.TheVariants as stops;
 
 use crate::actor::Actor;
 use crate::cut::{Words, cut, next_line, one};
@@ -28,19 +30,22 @@ const LAST_START: u64 = 0x7fff_ffff_ff00_0000;
 /// The schedule that the text spells.
 ///
 /// # Errors
-/// The first line that is not as it must be, with its fault; `NoMemory` where the schedule has no room.
+/// The first line that is not as it must be, with its fault; `NoMemory` where the schedule has no room for an aggregator
+/// or an event, whose line has no fault.
 #[tactic(auto, using(crate::proofs::Both::told, crate::proofs::Both::found, crate::proofs::Both::refused))]
 pub fn read_schedule(alloc: Global, text: &[u8]) -> Result<Schedule, ScheduleFault>
     ensures told { Tells text.now result }
     ensures found { (h : History) → IsScheduleText text.now h → Gives h result }
     ensures refused { (fault : TheLineFault) (n : ℕ) → IsScheduleFault text.now fault n → Refuses fault n result }
+    ensures memory { result ≡ Err faults.NoMemory → IsWanting text.now }
 {
     read(alloc, text)
 }
 
 #[tactic(auto, unfolding(crate::specs::Reading::schedule_at, crate::specs::Reading::read_from, crate::specs::Lines::with_line, crate::specs::Lines::number_in))]
 fn read(alloc: Global, text: &[u8]) -> Result<Schedule, ScheduleFault>
-    ensures { Reads (schedule_at text.now) result }
+    ensures read { Reads (schedule_at text.now) result }
+    ensures memory { result ≡ Err faults.NoMemory → IsWantingFrom nothing (lines text.now) }
 {
     let Some((line, text)) = next_line(text) else {
         return Err(ScheduleFault::Line(LineFault::Header, 1))
@@ -103,7 +108,8 @@ fn bare(alloc: Global, cores: u8, start: u64) -> Schedule
 
 // The lines behind the first three.
 fn read_rest(schedule: Schedule, text: &[u8]) -> Result<Schedule, ScheduleFault>
-    ensures { Reads (read_from 4 (lines text.now) (history schedule)) result }
+    ensures read { Reads (read_from 4 (lines text.now) (history schedule)) result }
+    ensures memory { result ≡ Err faults.NoMemory → IsWantingFrom (history schedule) (lines text.now) }
 {
     let mut schedule = schedule;
     let mut rest = text;
@@ -131,7 +137,8 @@ fn on_line(number: u64, stop: Stop) -> ScheduleFault
 // One line more.
 #[tactic(auto, unfolding(crate::specs::Lines::next_in))]
 fn take_line(schedule: &mut Schedule, line: &[u8]) -> Result<(), Stop>
-    ensures { Goes (next_in schedule.old (words line.now)) schedule.new result }
+    ensures read { Goes (next_in schedule.old (words line.now)) schedule.new result }
+    ensures memory { result ≡ Err stops.NoMemory → IsOk (next_in schedule.old (words line.now)) }
 {
     let (name, words) = cut(b' ', line);
     if schedule.events().len() >= EVENTS {
@@ -157,7 +164,8 @@ fn take_line(schedule: &mut Schedule, line: &[u8]) -> Result<(), Stop>
 fn take_parent(schedule: &mut Schedule, number: u64, parent: Actor) -> Result<(), Stop>
     requires none { schedule.old.events ≡ [] }
     requires there { IsParent schedule.old.plan.cores (length schedule.old.plan.parents) parent }
-    ensures { Goes (next_parent schedule.old (number, parent)) schedule.new result }
+    ensures read { Goes (next_parent schedule.old (number, parent)) schedule.new result }
+    ensures memory { result ≡ Err stops.NoMemory → IsOk (next_parent schedule.old (number, parent)) }
 {
     let count = schedule.plan().aggregators();
     if number != count as u64 || count >= AGGREGATORS || !reaches_core(schedule.plan(), 7, parent) {

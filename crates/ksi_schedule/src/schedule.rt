@@ -12,7 +12,7 @@ use ksi_imprint::NoMemory;
 use std::marker::Model;
 
 /// Events in order. A contract sees the list.
-#[derive(Drop, Debug)]
+#[derive(Drop)]
 pub struct Events {
     events: Vec<Event>,
 }
@@ -62,7 +62,7 @@ impl Events {
 ///
 /// There are at most 1,000,000 events. The actor of each is one of the plan's, and its second is one of the 2^24 seconds
 /// from the plan's start on; any message may be delivered.
-#[derive(Drop, Debug)]
+#[derive(Drop)]
 pub struct Schedule {
     plan: Plan,
     events: Events,

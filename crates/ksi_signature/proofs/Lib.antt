@@ -18,3 +18,4 @@ pub mod IssuedAgain
 pub mod Moved
 pub mod ExtendedAgain
 pub mod Lasting
+pub mod Made

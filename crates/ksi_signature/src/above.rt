@@ -9,7 +9,7 @@ use ksi_imprint::Imprint;
 use std::marker::Model;
 
 /// The way from a round's root to that of its second, and on to the root of the calendar to that second.
-#[derive(Drop, Debug)]
+#[derive(Drop)]
 pub struct Above {
     /// The root of the second, which the calendar links lead from.
     pub root: Imprint,
@@ -20,7 +20,7 @@ pub struct Above {
 }
 
 /// A chain above a round.
-#[derive(Drop, Debug)]
+#[derive(Drop)]
 pub struct AboveChain {
     /// What the links lead from.
     pub input: Imprint,
@@ -29,7 +29,7 @@ pub struct AboveChain {
 }
 
 /// Links of a round, the lowest first: at most 16, each beside an imprint. A contract sees their list.
-#[derive(Drop, Debug)]
+#[derive(Drop)]
 pub struct AboveLinks {
     links: Vec<Link>,
 }
@@ -73,7 +73,7 @@ impl AboveLinks {
 }
 
 /// Chains one above the other, the lowest first: at most 8. A contract sees their list.
-#[derive(Drop, Debug)]
+#[derive(Drop)]
 pub struct AboveChains {
     chains: Vec<AboveChain>,
 }

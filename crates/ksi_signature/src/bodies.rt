@@ -4,6 +4,7 @@ ghost use Rattle.std.specs.Prelude.{◌≡◌, ◌≤◌, ◌+◌, ◌*◌, ◌+
 ghost use Rattle.std.specs.List.{AllByRecursion};
 ghost use Rattle.ksi_imprint.specs.Imprints.{IsImprint};
 ghost use Rattle.ksi_tlv.specs.Spelling.{plain, canonical};
+ghost use Rattle.ksi_tlv.specs.Numerals.{numeral};
 ghost use Rattle.ksi_tlv.specs.Writing.{texts};
 ghost use Rattle.ksi_signature.specs.Values.{HasSize};
 ghost use Rattle.ksi_signature.specs.Kept.{HasImprint, IsLink, IsPublishing};
@@ -58,14 +59,46 @@ pub(crate) fn chain_body(
     ensures input { IfOk result (λ _. IsImprint input.now) }
     ensures links { IfOk result (λ _. AllByRecursion IsLink links.now) }
 {
+    let mut body = chain_front(alloc, time, index, input_body)?;
+    put_chain_end(&mut body, alloc, input, links)?;
+    Ok(body)
+}
+
+/// What stands before the input hash of an aggregation chain.
+fn chain_front(
+    alloc: Global,
+    time: u64,
+    index: &[u64],
+    input_body: Option<&[u8]>,
+) -> Result<Writer, WriteRefusal>
+    ensures text { IfOk result (λ body. body ≡ texts (plain 2 (numeral time) ∷
+        (map part_element index.now ++ body_element (option_map (λ content. content.now) input_body.entry)))) }
+    ensures long { TellsLong (body_sizes (option_map (λ content. content.now) input_body.entry)) result }
+{
     let mut body = Writer::new(alloc);
     body.put_number(AGGREGATION_TIME, time)?;
     put_index(&mut body, index)?;
     put_input_data(&mut body, input_body)?;
-    put_short(&mut body, INPUT_HASH, input.bytes())?;
-    body.put_number(ALGORITHM, 1)?;
-    put_links(&mut body, alloc, links)?;
     Ok(body)
+}
+
+/// The input hash of an aggregation chain, and what stands behind it.
+fn put_chain_end(
+    writer: &mut Writer,
+    alloc: Global,
+    input: &Imprint,
+    links: &[Link],
+) -> Result<(), NoMemory>
+    requires { AllByRecursion (λ link. HasSize link.sibling) links.now }
+    ensures text { OnOk result (writer.new ≡ writer.old ++
+        texts (plain 5 input.now ∷ plain 6 (numeral 1) ∷ map link_element links.now)) }
+    ensures input { OnOk result (IsImprint input.now) }
+    ensures links { OnOk result (AllByRecursion IsLink links.now) }
+{
+    put_short(writer, INPUT_HASH, input.bytes())?;
+    writer.put_number(ALGORITHM, 1)?;
+    put_links(writer, alloc, links)?;
+    Ok(())
 }
 
 fn put_index(writer: &mut Writer, index: &[u64]) -> Result<(), NoMemory>

@@ -43,18 +43,30 @@ pub(crate) fn accepted(bytes: &[u8]) -> Result<(Element<'_>, usize), SigFault>
     ensures front { IfOk result (λ found. element_at bytes.now ≡ Ok (view found.0, found.1)) }
     ensures fault { IfErr result (λ fault. answer_of bytes.now ≡ Err fault) }
 {
-    let Ok((element, size)) = read_one(bytes) else {
-        return Err(SigFault::Tlv(0));
-    };
-    if element.kind != SIGNATURE {
-        return Err(SigFault::NotSignature(element.kind));
-    }
+    let (element, size) = first_element(bytes)?;
     let inside = size - element.body.len();
     if let Err(fault) = check_container::<SignatureContent>(0, inside, element.body) {
         return Err(name_of(fault));
     }
     if size < bytes.len() {
         return Err(SigFault::After(size));
+    }
+    Ok((element, size))
+}
+
+/// The element at the front, with its size, where its kind is that of a signature.
+#[tactic(auto, unfolding(crate::specs::File::answer_of))]
+fn first_element(bytes: &[u8]) -> Result<(Element<'_>, usize), SigFault>
+    ensures size { IfOk result (λ found. length found.0.body.now ≤ found.1) }
+    ensures kind { IfOk result (λ found. found.0.kind ≡ 2048) }
+    ensures front { IfOk result (λ found. element_at bytes.now ≡ Ok (view found.0, found.1)) }
+    ensures fault { IfErr result (λ fault. answer_of bytes.now ≡ Err fault) }
+{
+    let Ok((element, size)) = read_one(bytes) else {
+        return Err(SigFault::Tlv(0));
+    };
+    if element.kind != SIGNATURE {
+        return Err(SigFault::NotSignature(element.kind));
     }
     Ok((element, size))
 }

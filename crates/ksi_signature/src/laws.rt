@@ -14,7 +14,7 @@ ghost use Rattle.ksi_signature.specs.declared.signature.Signature.{Signature};
 ghost use Rattle.ksi_signature.specs.File.{IsSignature, IsSignatureFault, answer_of};
 ghost use Rattle.ksi_signature.specs.Reading.{elements_in, signature_at};
 ghost use Rattle.ksi_signature.specs.Kept.{IsCalendar, IsPublishing, IsKept};
-ghost use Rattle.ksi_signature.specs.Carried.{MayBeIssued};
+ghost use Rattle.ksi_signature.specs.Carried.{MayBeIssued, IsOfBytes, CalendarOfBytes};
 ghost use Rattle.ksi_signature.specs.Issued.{issued};
 ghost use Rattle.ksi_signature.specs.Extended.{extended_content, extended_text, renewed};
 ghost use Rattle.ksi_signature.specs.Written.{signature_text, sizes_of, first_long};
@@ -93,6 +93,14 @@ pub fn issued_is_signature()
     numeral_is_read();
 }
 
+/// What is issued are bytes, where all that it is issued of are.
+pub fn issued_is_bytes()
+    ensures { (second : ℕ) (input : List ℕ) (links : List Link) (above : Above) → MayBeIssued second input links above →
+        IsOfBytes input links above → AreBytes (signature_text (issued second input links above)) }
+{
+    issued_is_signature();
+}
+
 /// A signature with another calendar chain and publication record is the signature with these, where their parts are
 /// what their types keep and the content is not too long.
 pub fn extended_is_signature()
@@ -130,3 +138,12 @@ pub fn extended_is_short()
     canonical_is_shortest();
     numeral_is_read();
 }
+
+/// Bytes with another calendar chain and with a publication record that says a time and a hash alone are bytes, where
+/// these are of bytes and the content is not too long.
+pub fn extended_is_bytes()
+    ensures { (bytes : List ℕ) (chain : Calendar) (time : ℕ) (hash : List ℕ) → AreBytes bytes →
+        AreBytes chain.input → CalendarOfBytes chain.links → AreBytes hash →
+        length (extended_content bytes chain (record { time = time; hash = hash; references = []; repositories = [] })) ≤ 65535 →
+        AreBytes (extended_text bytes chain (record { time = time; hash = hash; references = []; repositories = [] })) }
+{}

@@ -55,8 +55,8 @@ pub use fault::SigFault;
 pub use issuing::issue;
 pub use ksi_imprint::NoMemory;
 pub use laws::{
-    chains_in_order, extended_is_short, extended_is_signature, issued_is_signature,
-    signature_is_read, signature_or_fault, written_is_signature,
+    chains_in_order, extended_is_bytes, extended_is_short, extended_is_signature, issued_is_bytes,
+    issued_is_signature, signature_is_read, signature_or_fault, written_is_signature,
 };
 pub use lists::{Bodies, CalLinks, Chains, Index, Links};
 pub use reader::read;

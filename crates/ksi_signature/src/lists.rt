@@ -10,7 +10,7 @@ use ksi_imprint::Bytes;
 use std::marker::Model;
 
 /// The parts of a chain's index, one or more. A contract sees their list.
-#[derive(Drop, Debug)]
+#[derive(Drop)]
 pub struct Index {
     parts: Vec<u64>,
 }
@@ -51,7 +51,7 @@ impl Index {
 
 /// The links of an aggregation chain, the lowest first: at most 63, raw siblings of 1 to 4,096 bytes. A contract sees
 /// their list.
-#[derive(Drop, Debug)]
+#[derive(Drop)]
 pub struct Links {
     links: Vec<Link>,
 }
@@ -91,7 +91,7 @@ impl Links {
 }
 
 /// The links of a calendar chain, the lowest first: at most 63. A contract sees their list.
-#[derive(Drop, Debug)]
+#[derive(Drop)]
 pub struct CalLinks {
     links: Vec<CalLink>,
 }
@@ -131,7 +131,7 @@ impl CalLinks {
 }
 
 /// Bodies of elements, in order. A contract sees the list of their bytes.
-#[derive(Drop, Debug)]
+#[derive(Drop)]
 pub struct Bodies {
     bodies: Vec<Bytes>,
 }
@@ -167,7 +167,7 @@ impl Bodies {
 }
 
 /// The aggregation chains of a signature by falling number of index parts, 1 to 16. A contract sees their list.
-#[derive(Drop, Debug)]
+#[derive(Drop)]
 pub struct Chains {
     chains: Vec<AggChain>,
 }

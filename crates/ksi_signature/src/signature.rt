@@ -6,7 +6,7 @@ use ksi_imprint::{Bytes, Imprint};
 use std::marker::Model;
 
 /// An aggregation hash chain.
-#[derive(Drop, Debug)]
+#[derive(Drop)]
 pub struct AggChain {
     /// The second of the aggregation, below 2^63.
     pub time: u64,
@@ -29,7 +29,7 @@ impl Model for AggChain {
 }
 
 /// A calendar hash chain.
-#[derive(Drop, Debug)]
+#[derive(Drop)]
 pub struct CalChain {
     /// The last second of the tree that the links lead to the root of, below 2^63.
     pub publication: u64,
@@ -50,7 +50,7 @@ impl Model for CalChain {
 }
 
 /// A publication record.
-#[derive(Drop, Debug)]
+#[derive(Drop)]
 pub struct PubRecord {
     /// The published second, below 2^63.
     pub time: u64,
@@ -71,7 +71,7 @@ impl Model for PubRecord {
 }
 
 /// A signature.
-#[derive(Drop, Debug)]
+#[derive(Drop)]
 pub struct Signature {
     /// The lowest first: `read` has them by falling number of index parts.
     pub chains: Chains,

@@ -23,8 +23,6 @@ pub mod laws;
 mod power;
 mod side;
 mod sides;
-#[cfg(test)]
-mod tests;
 mod tree_link;
 pub mod trees;
 mod walk;

@@ -4,7 +4,7 @@ use crate::side::Side;
 use std::marker::Model;
 
 /// The sides from the top of a tree to a leaf, at most 63. A contract sees a way as the list of its sides.
-#[derive(Clone, Copy, PartialEq, Eq, Debug)]
+#[derive(Clone, Copy, PartialEq, Eq)]
 pub struct Way {
     // behind the first `count` all are left, so that equal ways are equal values
     sides: [Side; 63],

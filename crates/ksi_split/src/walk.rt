@@ -41,7 +41,6 @@ pub fn way(t: u64, n: u64) -> Way
 /// `TooMany(place)` where the sides before the one at `place` are already the way to a second, and `TooFew(rest)`
 /// where the sides end at a part that has `rest` seconds more than one.
 pub fn second_of(p: u64, sides: &[Side]) -> Result<u64, ShapeFault>
-    requires { p < 2 ^ 63 }
     ensures second { (t : ℕ) → (result ≡ Ok t) ↔ IsSecond p sides.now t }
     ensures too_many { (place : ℕ) → (result ≡ Err (TooMany place)) ↔ PassesLeaf p sides.now place }
     ensures too_few { (rest : ℕ) → (result ≡ Err (TooFew rest)) ↔ EndsAbove p sides.now rest }

@@ -4,7 +4,7 @@ ghost use Rattle.ksi_synod.specs.declared.messages.Begun.TheVariants.{Unsealed, 
 ghost use Rattle.ksi_synod.specs.declared.messages.Took.TheVariants.{Nothing};
 ghost use Rattle.ksi_synod.specs.Voters.{cores_below};
 ghost use Rattle.ksi_synod.specs.VoteState.{fresh_vote};
-ghost use Rattle.ksi_synod.specs.Rows.{sealed_with, greater_round, try_ballot, on_next, counts_last, on_last, is_older, on_begin, voted_for, on_voted, on_success, restarted, receive, OfBallot, OfReply};
+ghost use Rattle.ksi_synod.specs.Rows.{sealed_with, greater_round, try_ballot, on_next, counts_last, on_last, is_older, on_begin, voted_for, on_voted, on_success, restarted, decree_begun, vote_told, decree_told, receive, OfBallot, OfReply};
 
 use crate::hand::InHand;
 use crate::messages::{Begun, LastVote, SynodMessage, Took, Vote};
@@ -266,25 +266,58 @@ impl Instance {
                 let last = self.on_next(ballot)?;
                 Some(SynodMessage::LastVote(last))
             }
-            SynodMessage::LastVote(last) => match self.on_last(from, last.ballot, last.vote) {
-                Took::Decree(decree) => Some(SynodMessage::BeginBallot(last.ballot, decree)),
-                _ => None,
-            },
-            SynodMessage::BeginBallot(ballot, decree) => {
-                if self.on_begin(ballot, decree) {
-                    Some(SynodMessage::Voted(ballot))
-                } else {
-                    None
-                }
+            SynodMessage::LastVote(last) => {
+                let took = self.on_last(from, last.ballot, last.vote);
+                decree_begun(last.ballot, took)
             }
-            SynodMessage::Voted(ballot) => match self.on_voted(from, ballot) {
-                Took::Decree(decree) => Some(SynodMessage::Success(decree)),
-                _ => None,
-            },
+            SynodMessage::BeginBallot(ballot, decree) => {
+                let votes = self.on_begin(ballot, decree);
+                vote_told(ballot, votes)
+            }
+            SynodMessage::Voted(ballot) => {
+                let took = self.on_voted(from, ballot);
+                decree_told(took)
+            }
             SynodMessage::Success(decree) => {
                 self.on_success(decree);
                 None
             }
         }
+    }
+}
+
+/// BeginBallot, where the sender's LastVote completed a majority.
+fn decree_begun(ballot: u64, took: Took) -> Option<SynodMessage>
+    requires ballot { IsBallot ballot }
+    ensures message { result ≡ decree_begun ballot took }
+    ensures reply { OfReply result }
+{
+    match took {
+        Took::Decree(decree) => Some(SynodMessage::BeginBallot(ballot, decree)),
+        _ => None,
+    }
+}
+
+/// Voted, where this core votes.
+fn vote_told(ballot: u64, votes: bool) -> Option<SynodMessage>
+    requires ballot { IsBallot ballot }
+    ensures message { result ≡ vote_told ballot votes }
+    ensures reply { OfReply result }
+{
+    if votes {
+        Some(SynodMessage::Voted(ballot))
+    } else {
+        None
+    }
+}
+
+/// Success, where the sender's Voted completed a majority.
+fn decree_told(took: Took) -> Option<SynodMessage>
+    ensures message { result ≡ decree_told took }
+    ensures reply { OfReply result }
+{
+    match took {
+        Took::Decree(decree) => Some(SynodMessage::Success(decree)),
+        _ => None,
     }
 }

@@ -4,7 +4,7 @@ ghost use Rattle.ksi_synod.specs.Voters.{cores_below, is_voter, is_majority};
 use std::marker::Model;
 
 /// The cores that vote on a second: a set of the cores 0 to 8. A contract sees their rising list.
-#[derive(Clone, Copy, Debug)]
+#[derive(Clone, Copy)]
 pub struct Voters {
     flags: [bool; 9],
 }

@@ -4,7 +4,7 @@ ghost use Rattle.ksi_tlv.specs.Front.{size_at, header_at, element_at};
 ghost use Rattle.ksi_tlv.specs.Seen.{view, view_front, view_header, view_cut};
 
 /// One element, with its body lent from the bytes it was read from.
-#[derive(Clone, Copy, Debug)]
+#[derive(Clone, Copy)]
 pub struct Element<'a> {
     /// At most 0x1fff.
     pub kind: u16,

@@ -24,8 +24,6 @@
 mod element;
 mod laws;
 mod numbers;
-#[cfg(test)]
-mod tests;
 mod walk;
 mod write;
 

@@ -3,7 +3,7 @@ ghost use Rattle.std.specs.Prelude.{◌≡◌, ◌+◌, ◌^◌, ◌<◌, length
 use crate::element::{Element, TlvFault, read_one};
 
 /// An element with its place.
-#[derive(Clone, Copy, Debug)]
+#[derive(Clone, Copy)]
 pub struct Placed<'a> {
     /// Where its first byte stands.
     pub place: usize,
@@ -15,7 +15,7 @@ pub struct Placed<'a> {
 
 /// The elements of bytes in turn, each with its place. Where one is cut off, its place and the fault come once, and
 /// then nothing any more.
-#[derive(Drop, Debug)]
+#[derive(Drop)]
 pub struct Elements<'a> {
     place: usize,
     bytes: &'a [u8],

@@ -1,5 +1,5 @@
 -- What was issued, and taken on, is accepted.
-use Rattle.std.proofs.Common.{◌≡◌, ℕ, ◌≤◌, List, length, Ok, refl, sym, ap, subst, inl, inr, arith, ◌∙◌}
+use Rattle.std.proofs.Common.{◌≡◌, ℕ, ◌≤◌, List, length, Ok, Some, refl, sym, ap, subst, inl, inr, arith, ◌∙◌}
 use Rattle.std.specs.Prelude.{◌↔◌}
 use Rattle.std.proofs.lemmas.Bool.{le-ltb}
 use Rattle.ksi_imprint.specs.Imprints.{imprint_of}
@@ -15,9 +15,11 @@ use Rattle.ksi_verifier.specs.Verdict.{verdict}
 use Rattle.ksi_history.specs.Joined.{Lasts}
 use Rattle.ksi_history.specs.Lasting.{LastsTo}
 use Rattle.ksi_extender.specs.Accepted.{taken_on}
-use Rattle.ksi_journal.specs.Journal.{IsJournal}
+use Rattle.ksi_extender.specs.Extended.{extended}
 use Rattle.ksi_replay.specs.Journals.{journal_of}
 use Rattle.ksi_world.specs.declared.outcome.Asked as requests
+use Rattle.ksi_world.specs.Histories.{world_of}
+use Rattle.ksi_world.specs.Records.{issued_of}
 use Rattle.ksi_top.specs.Loading.{content, loaded, within, signature_limit, file_limit}
 use Rattle.ksi_top.specs.Verify.{judged, verify_over, verify_run}
 use Rattle.ksi_schedule.specs.Events.{History}
@@ -35,6 +37,11 @@ signature_short bytes signature is = elim is.spelled [
   | inr long ↦ omega (arith, ap length long.1, long.0.body)
 ]
 
+-- what an issued signature is taken on to are bytes
+abbrev Extends : Type 0
+Extends = (schedule : List ℕ) (h : History) → IsScheduleText schedule h → (number : ℕ) (text : List ℕ) → issued_of imprint_of (world_of imprint_of h) number ≡ Some text
+    → (p : ℕ) (extension : List ℕ) → extended imprint_of (journal_of imprint_of h) text p ≡ Ok extension → AreBytes extension
+
 module _ (signature_read : (bytes : List ℕ) (signature : Signature) → AreBytes bytes → (signature_at bytes ≡ Ok signature) ↔ IsSignature bytes signature)
     (publications_read : (bytes : List ℕ) (pairs : List (ℕ × List ℕ)) → (publications_at bytes ≡ Ok pairs) ↔ IsPublications bytes pairs) where
   -- what is read of files that are in their grammars, and within their limits
@@ -50,10 +57,10 @@ module _ (signature_read : (bytes : List ℕ) (signature : Signature) → AreByt
         (publications_read (content held publications) pairs).1 are,
       ) refl
 
-  lasting : (signature hash publications : List ℕ) (held : Held) (second : ℕ) → (d : IsTakenFrom (content held signature) hash (content held publications) second)
+  lasting : Extends → (signature hash publications : List ℕ) (held : Held) (second : ℕ) → (d : IsTakenFrom (content held signature) hash (content held publications) second)
       → (l : Lasts imprint_of d.history (journal_of imprint_of d.history) d.number d.text) → l.asked ≡ d.asked
       → verify_run signature hash publications held ≡ judged (Accepted second)
-  lasting signature hash publications held second d l same =
+  lasting extends signature hash publications held second d l same =
       let journal = journal_of imprint_of d.history in
       let at : l.asked.second ≡ second = ap (λ (a : requests.Asked). a.second) same ∙ d.of_second in
       let for : l.asked.imprint ≡ hash = ap (λ (a : requests.Asked). a.imprint) same ∙ d.of_hash in
@@ -62,11 +69,11 @@ module _ (signature_read : (bytes : List ℕ) (signature : Signature) → AreByt
       let bytes : to.bytes ≡ content held signature = cc (to.extension, d.extension) in
       let is : IsSignature (content held signature) read = subst (λ bytes. IsSignature bytes read) bytes to.after in
       let accepted : verdict imprint_of read hash d.pairs ≡ Accepted second = ap (λ hash. verdict imprint_of read hash d.pairs) (sym for) ∙ to.accepted d.pairs d.published ∙ ap Accepted at in
-      verified signature hash publications held read d.pairs d.bytes is d.publications_are d.within ∙ ap judged accepted
+      verified signature hash publications held read d.pairs (extends d.schedule d.history d.spelled d.number d.text d.issued d.p (content held signature) d.extension) is d.publications_are d.within ∙ ap judged accepted
 
-  pub accepted_again : ((text : List ℕ) (h : History) → IsScheduleText text h → IsJournal imprint_of (journal_of imprint_of h) → HoldsOver h)
+  pub accepted_again : ((text : List ℕ) (h : History) → IsScheduleText text h → HoldsOver h) → Extends
       → (signature hash publications : List ℕ) (held : Held) (second : ℕ) → IsTakenFrom (content held signature) hash (content held publications) second
       → verify_run signature hash publications held ≡ judged (Accepted second)
-  accepted_again holds signature hash publications held second d =
-      let l = (holds d.schedule d.history d.spelled d.lawful).lasts d.number d.text d.issued in
-      lasting signature hash publications held second d l (cc (l.accepted, d.request))
+  accepted_again holds extends signature hash publications held second d =
+      let l = (holds d.schedule d.history d.spelled).lasts d.number d.text d.issued in
+      lasting extends signature hash publications held second d l (cc (l.accepted, d.request))

@@ -1,7 +1,6 @@
 -- Completeness: what was issued, and taken on, is accepted.
 use Rattle.std.specs.Prelude.{◌≡◌, ℕ, ◌≤◌, List, length, slice_get, Some, Ok}
 use Rattle.ksi_imprint.specs.Imprints.{imprint_of}
-use Rattle.ksi_tlv.specs.Spelling.{AreBytes}
 use Rattle.ksi_ports.specs.Stored.{Held}
 use Rattle.ksi_publications.specs.File.{IsPublications}
 use Rattle.ksi_verifier.specs.declared.verdict.Verdict.TheVariants.{Accepted}
@@ -10,7 +9,6 @@ use Rattle.ksi_schedule.specs.Spelled.{IsScheduleText}
 use Rattle.ksi_world.specs.declared.outcome.Asked as requests
 use Rattle.ksi_world.specs.Histories.{world_of}
 use Rattle.ksi_world.specs.Records.{issued_of}
-use Rattle.ksi_journal.specs.Journal.{IsJournal}
 use Rattle.ksi_journal.specs.Calendar.{IsCovered}
 use Rattle.ksi_replay.specs.Journals.{journal_of}
 use Rattle.ksi_extender.specs.Extended.{extended}
@@ -27,7 +25,6 @@ pub record IsTakenFrom (signature hash publications : List ℕ) (second : ℕ) :
   pub schedule : List ℕ
   pub history : History
   pub spelled : IsScheduleText schedule history
-  pub lawful : IsJournal imprint_of (journal_of imprint_of history)
   pub number : ℕ
   pub text : List ℕ
   pub issued : issued_of imprint_of (world_of imprint_of history) number ≡ Some text
@@ -39,7 +36,6 @@ pub record IsTakenFrom (signature hash publications : List ℕ) (second : ℕ) :
   pub from : second ≤ p
   pub covered : IsCovered (journal_of imprint_of history) p
   pub extension : extended imprint_of (journal_of imprint_of history) text p ≡ Ok signature
-  pub bytes : AreBytes signature
   pub pairs : List (ℕ × List ℕ)
   pub publications_are : IsPublications publications pairs
   pub published : Publish imprint_of (journal_of imprint_of history) p pairs

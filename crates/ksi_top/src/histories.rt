@@ -10,25 +10,25 @@ ghost use Rattle.ksi_replay.specs.Journals.{journal_of};
 ghost use Rattle.ksi_top.specs.Headline.{HoldsOver};
 
 use ksi_facts::laws::history_is_recalled;
-use ksi_history::laws::{held_stays, history_is_joined, journal_keeps_roots};
+use ksi_history::laws::{held_stays, history_is_joined};
 use ksi_journal::laws::written_is_journal;
+use ksi_replay::laws::hashes_are_bytes;
 use ksi_schedule::spelled_is_schedule;
-use ksi_world::laws::{agreement, all_issued, validity};
+use ksi_world::laws::{agreement, responses_climb, validity};
 
-/// What holds over every history that a schedule spells, where its journal is one.
+/// What holds over every history that a schedule spells.
 pub(crate) fn histories_hold()
-    ensures holds { (text : List ℕ) (history : History) → IsScheduleText text history →
-        IsJournal imprint_of (journal_of imprint_of history) → HoldsOver history }
+    ensures holds { (text : List ℕ) (history : History) → IsScheduleText text history → HoldsOver history }
     ensures again { (history : History) → IsJournal imprint_of (journal_of imprint_of history) →
         IsJournalFile imprint_of (journal_text (journal_of imprint_of history)) (journal_of imprint_of history) }
 {
     spelled_is_schedule();
+    hashes_are_bytes();
     agreement();
     held_stays();
     history_is_recalled();
     validity();
-    all_issued();
-    journal_keeps_roots();
+    responses_climb();
     history_is_joined();
     written_is_journal();
 }

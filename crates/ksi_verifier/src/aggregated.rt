@@ -1,7 +1,7 @@
 use ksi_aggchain::Item;
 
 /// What the aggregation chains of a signature come to.
-#[derive(Clone, Copy, PartialEq, Eq, Debug)]
+#[derive(Clone, Copy, PartialEq, Eq)]
 pub struct Aggregated {
     /// The second that each chain states.
     pub time: u64,

@@ -25,6 +25,3 @@ mod words;
 pub use asked::{Command, WordsRefusal};
 pub use values::{hash, number, time};
 pub use words::command;
-
-#[cfg(test)]
-mod tests;

@@ -1,4 +1,4 @@
--- Trees, chains and calendars of imprints have imprints alone.
+-- What holds of the zero imprint, of each hash and of each leaf holds of all that trees, chains and calendars have.
 use Rattle.std.proofs.Common.{◌≡◌, ℕ, zero, suc, ◌+◌, ◌-◌, ◌^◌, ◌<◌, ◌≤◌, Bool, true, false, List, [], ◌∷◌, ◌++◌, length, nat_lt, if◌then◌else◌, refl, arith, Option, Some, None, max}
 use Rattle.std.specs.Prelude.{slice_index_or, unwrap_or}
 use Rattle.std.specs.List.{AllByRecursion}
@@ -14,14 +14,15 @@ use Rattle.ksi_aggchain.specs.Links.{PlainLink}
 use Rattle.ksi_aggchain.specs.Owned.{plain_link, plain_links}
 use Rattle.ksi_aggchain.specs.declared.item.Item.{Item}
 use Rattle.ksi_aggchain.specs.declared.link.Link.{Link}
+use Rattle.ksi_aggchain.specs.declared.link.Sibling.{Sibling}
+use Rattle.ksi_aggchain.specs.declared.link.Sibling.TheVariants as siblings
 use Rattle.ksi_aggtree.specs.declared.entries.Entry.{Entry}
 use Rattle.ksi_aggtree.specs.Rounds.{IsRound, agg_join, item_at, tree_of, tree_path}
 use Rattle.ksi_aggtree.specs.Paths.{links_from, chain_of}
 use Rattle.ksi_aggtree.specs.Entries.{items_of, candidate_of}
-use Rattle.ksi_signature.specs.Above.{IsNode}
-use Rattle.ksi_signature.specs.Kept.{HasImprint, IsLink}
-use Rattle.ksi_signature.specs.Carried.{IsAboveChain}
-use Rattle.ksi_corenode.specs.Held.{Held, roots_among, held_seconds}
+use Rattle.ksi_signature.specs.Above.{IsNode, AreRoundLinks}
+use Rattle.ksi_signature.specs.declared.above.AboveChain.{AboveChain}
+use Rattle.ksi_corenode.specs.Held.{Held, roots_among, held_seconds, held_root}
 use Rattle.ksi_aggregator.specs.Responses.{chain_at}
 use Rattle.ksi_world.proofs.Joining.{ItemClimbs}
 use Rattle.ksi_world.proofs.Sending.{TreeRises}
@@ -73,83 +74,105 @@ module _ (A : Type 0) (P : A → Type 0) where
 pub zero_is : IsImprint zero_imprint
 zero_is = record { algorithm = refl; size = refl }
 
--- ROUNDS
+-- WHAT IS OF SUCH IMPRINTS
 
-abbrev pub HasImprintItem : Item → Type 0
-HasImprintItem item = IsImprint item.imprint
+module _ (P : List ℕ → Type 0) where
+  abbrev pub OfItem : Item → Type 0
+  OfItem item = P item.imprint
 
--- each item is of an imprint
-abbrev pub HaveImprints : List Entry → Type 0
-HaveImprints entries = AllByRecursion (λ entry. IsImprint entry.item.imprint) entries
+  -- each item is of one
+  abbrev pub OfEntries : List Entry → Type 0
+  OfEntries entries = AllByRecursion (λ entry. P entry.item.imprint) entries
 
-pub imprints_push : (es : List Entry) (e : Entry) → HaveImprints es → IsImprint e.item.imprint → HaveImprints (es ++ e ∷ [])
-imprints_push [] e all is = (is, tt)
-imprints_push (x ∷ es) e all is = (all.0, imprints_push es e all.1 is)
+  abbrev pub OfSibling : Sibling → Type 0
+  OfSibling (siblings.Imprint imprint) = P imprint
+  OfSibling (siblings.Legacy bytes) = P bytes
+  OfSibling (siblings.Metadata bytes) = P bytes
 
-pub item_is : (es : List Entry) → HaveImprints es → (k : ℕ) → HasImprintItem (item_at (items_of es) k)
-item_is [] all k = zero_is
-item_is (e ∷ es) all zero = all.0
-item_is (e ∷ es) all (suc k) = item_is es all.1 k
+  -- a link as a signature has it, with such a sibling
+  abbrev pub OfLink : Link → Type 0
+  OfLink link = (link.correction < 2 ^ 8) × OfSibling link.sibling
+
+  pub record OfChain (chain : AboveChain) : Type 0 where
+    pub input : P chain.input
+    pub limits : AreRoundLinks chain.links
+    pub links : AllByRecursion OfLink chain.links
+
+  pub entries_push : (es : List Entry) (e : Entry) → OfEntries es → P e.item.imprint → OfEntries (es ++ e ∷ [])
+  entries_push [] e all is = (is, tt)
+  entries_push (x ∷ es) e all is = (all.0, entries_push es e all.1 is)
+
+  module _ (zero_too : P zero_imprint) where
+    pub item_of : (es : List Entry) → OfEntries es → (k : ℕ) → OfItem (item_at (items_of es) k)
+    item_of [] all k = zero_too
+    item_of (e ∷ es) all zero = all.0
+    item_of (e ∷ es) all (suc k) = item_of es all.1 k
+
+  beside : (level : ℕ) (others : List (TreeLink Item)) → EachSibling OfItem others → AllByRecursion (λ link. OfSibling link.sibling) (links_from level others)
+  beside level [] all = tt
+  beside level (other ∷ others) all = (all.0, beside (max level other.sibling.level + 1) others all.1)
+
+  -- links that do not pass level 255
+  low_links : (level : ℕ) (links : List Link) → level_after level (plain_links links) ≤ 255 → AllByRecursion (λ link. OfSibling link.sibling) links → AllByRecursion OfLink links
+  low_links level [] low all = tt
+  low_links level (link ∷ links) low all =
+      let cons = sum_by-cons (λ (link : PlainLink). link.correction + 1) (plain_link link) (plain_links links) in
+      ((omega (arith, low, cons), all.0), low_links level links (omega (arith, low, cons)) all.1)
 
 nodes : (level : ℕ) (others : List (TreeLink Item)) → AllByRecursion (λ link. IsNode link.sibling) (links_from level others)
 nodes level [] = tt
 nodes level (other ∷ others) = (tt, nodes (max level other.sibling.level + 1) others)
 
-beside : (level : ℕ) (others : List (TreeLink Item)) → EachSibling HasImprintItem others → AllByRecursion (λ link. HasImprint link.sibling) (links_from level others)
-beside level [] all = tt
-beside level (other ∷ others) all = (all.0, beside (max level other.sibling.level + 1) others all.1)
+module _ (P : List ℕ → Type 0) (zero_too : P zero_imprint) (image : List ℕ → List ℕ) (images : (bytes : List ℕ) → P (image bytes)) where
+  -- ROUNDS
 
--- links that do not pass level 255
-low_links : (level : ℕ) (links : List Link) → level_after level (plain_links links) ≤ 255 → AllByRecursion (λ link. HasImprint link.sibling) links → AllByRecursion IsLink links
-low_links level [] low all = tt
-low_links level (link ∷ links) low all =
-    let cons = sum_by-cons (λ (link : PlainLink). link.correction + 1) (plain_link link) (plain_links links) in
-    (record { correction = omega (arith, low, cons); sibling = all.0 }, low_links level links (omega (arith, low, cons)) all.1)
-
-module _ (image : List ℕ → List ℕ) (images : (bytes : List ℕ) → IsImprint (image bytes)) where
-  joined_is : (a b : Item) → HasImprintItem (agg_join image a b)
+  joined_is : (a b : Item) → OfItem P (agg_join image a b)
   joined_is a b = images (join_text a.imprint b.imprint (max a.level b.level + 1))
 
-  pub round_imprint : (es : List Entry) → HaveImprints es → HasImprintItem (tree_of image (items_of es))
-  round_imprint es all = tree_is Item HasImprintItem (agg_join image) joined_is (item_at (items_of es)) (item_is es all) 0 (length (items_of es))
+  pub round_of : (es : List Entry) → OfEntries P es → OfItem P (tree_of image (items_of es))
+  round_of es all = tree_is Item (OfItem P) (agg_join image) joined_is (item_at (items_of es)) (item_of P zero_too es all) 0 (length (items_of es))
 
-  pub candidate_imprint : (es : List Entry) → HaveImprints es → IsImprint (candidate_of image es)
-  candidate_imprint [] all = zero_is
-  candidate_imprint (e ∷ es) all = round_imprint (e ∷ es) all
+  pub candidate_is : (es : List Entry) → OfEntries P es → P (candidate_of image es)
+  candidate_is [] all = zero_too
+  candidate_is (e ∷ es) all = round_of (e ∷ es) all
 
   module _ (rises : TreeRises image) (climb : ItemClimbs image) (few : (items : List Item) (k : ℕ) → length items ≤ 65536 → length (chain_of image items k) ≤ 16)
       (sum : (start top : Item) (links : List PlainLink) → Climbs image start links top → top.level ≡ level_after start.level links) where
-    pub chain_carried : (es : List Entry) (k : ℕ) → IsRound (items_of es) → k < length (items_of es) → HaveImprints es → IsAboveChain (chain_at image (items_of es) k)
+    pub chain_carried : (es : List Entry) (k : ℕ) → IsRound (items_of es) → k < length (items_of es) → OfEntries P es → OfChain P (chain_at image (items_of es) k)
     chain_carried es k round lt all =
         let items = items_of es in
         let top = rises items 239 round.few round.low in
         let high = sum (item_at items k) (tree_of image items) (plain_links (chain_of image items k)) (climb items k round lt) in
         record {
-          input = item_is es all k;
+          input = item_of P zero_too es all k;
           limits = record { count = few items k round.few; nodes = nodes (item_at items k).level (tree_path image items k) };
-          links = low_links (item_at items k).level (chain_of image items k) (omega (arith, top, high))
-              (beside (item_at items k).level (tree_path image items k) (path_is Item HasImprintItem (agg_join image) joined_is (item_at items) (item_is es all) 0 k (length items)));
+          links = low_links P (item_at items k).level (chain_of image items k) (omega (arith, top, high))
+              (beside P (item_at items k).level (tree_path image items k) (path_is Item (OfItem P) (agg_join image) joined_is (item_at items) (item_of P zero_too es all) 0 k (length items)));
         }
 
   -- CALENDARS
 
-  module _ (held : Held) (are : (t : ℕ) (root : List ℕ) → held t ≡ Some root → IsImprint root) where
-    one_root : (o : Option (List ℕ)) → ((root : List ℕ) → o ≡ Some root → IsImprint root) → IsImprint (unwrap_or o zero_imprint)
-    one_root None is = zero_is
+  module _ (held : Held) (are : (t : ℕ) (root : List ℕ) → held t ≡ Some root → P root) where
+    one_root : (o : Option (List ℕ)) → ((root : List ℕ) → o ≡ Some root → P root) → P (unwrap_or o zero_imprint)
+    one_root None is = zero_too
     one_root (Some root) is = is root refl
 
-    roots_are : (s n : ℕ) → AllByRecursion IsImprint (roots_among held s n)
+    roots_are : (s n : ℕ) → AllByRecursion P (roots_among held s n)
     roots_are s zero = tt
     roots_are s (suc n) = (one_root (held s) (are s), roots_are (suc s) n)
 
-    place_is : (roots : List (List ℕ)) (place : ℕ) → AllByRecursion IsImprint roots → IsImprint (slice_index_or roots place zero_imprint)
-    place_is [] place all = zero_is
+    place_is : (roots : List (List ℕ)) (place : ℕ) → AllByRecursion P roots → P (slice_index_or roots place zero_imprint)
+    place_is [] place all = zero_too
     place_is (root ∷ roots) zero all = all.0
     place_is (root ∷ roots) (suc place) all = place_is roots place all.1
 
-    leaf_is : (start last t : ℕ) → IsImprint (calendar_leaf (held_seconds held start last) t)
+    leaf_is : (start last t : ℕ) → P (calendar_leaf (held_seconds held start last) t)
     unfolding held_seconds
-    leaf_is start last t = either IsImprint (nat_lt t start) zero_imprint (slice_index_or (roots_among held start (suc last - start)) (t - start) zero_imprint) zero_is (place_is (roots_among held start (suc last - start)) (t - start) (roots_are start (suc last - start)))
+    leaf_is start last t = either P (nat_lt t start) zero_imprint (slice_index_or (roots_among held start (suc last - start)) (t - start) zero_imprint) zero_too (place_is (roots_among held start (suc last - start)) (t - start) (roots_are start (suc last - start)))
 
-    pub calendar_imprints : (start last t p : ℕ) → EachSibling IsImprint (calendar_path image (held_seconds held start last) t p)
-    calendar_imprints start last t p = path_is (List ℕ) IsImprint (cal_join image) (λ a b. images (cal_join_text a b)) (calendar_leaf (held_seconds held start last)) (leaf_is start last) 0 t (p + 1)
+    pub calendar_siblings : (start last t p : ℕ) → EachSibling P (calendar_path image (held_seconds held start last) t p)
+    calendar_siblings start last t p = path_is (List ℕ) P (cal_join image) (λ a b. images (cal_join_text a b)) (calendar_leaf (held_seconds held start last)) (leaf_is start last) 0 t (p + 1)
+
+    -- and the root of the calendar
+    pub root_is : (start p : ℕ) → P (held_root image held start p)
+    root_is start p = tree_is (List ℕ) P (cal_join image) (λ a b. images (cal_join_text a b)) (calendar_leaf (held_seconds held start p)) (leaf_is start p) 0 (p + 1)

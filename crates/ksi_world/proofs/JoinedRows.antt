@@ -1,5 +1,5 @@
 -- Each event keeps that what is told is so.
-use Rattle.std.proofs.Common.{◌≡◌, ◌≢◌, ℕ, ◌<◌, ◌≤◌, true, not, eqb, List, [], ◌∷◌, ◌++◌, length, refl, sym, ap, subst, ◌∙◌, is_some, Option, Some, None}
+use Rattle.std.proofs.Common.{◌≡◌, ◌≢◌, ℕ, suc, ◌-◌, ◌*◌, ◌<◌, ◌≤◌, arith, true, not, eqb, List, [], ◌∷◌, ◌++◌, length, refl, sym, ap, subst, ◌∙◌, is_some, Option, Some, None}
 use Rattle.std.specs.Prelude.{slice_get}
 use Rattle.std.specs.Str.{bytes_eq}
 use Rattle.std.proofs.lemmas.Bool.{cond_both, and_parts, not-true}
@@ -32,15 +32,16 @@ use Rattle.ksi_schedule.specs.Plans.{PlanState, IsPlan}
 use Rattle.ksi_world.specs.declared.message.Message.{Message}
 use Rattle.ksi_world.specs.Histories.{WorldState, at_core, at_round, held_in, delivered, happens}
 use Rattle.ksi_world.specs.Histories as histories
-use Rattle.ksi_world.specs.Sound.{IsRoundAt, IsSound}
+use Rattle.ksi_world.specs.Sound.{depth_of, IsRoundAt, IsSound}
 use Rattle.ksi_world.proofs.Covering.{none_missing}
 use Rattle.ksi_world.proofs.Growing.{restart_keeps, Grew, Holds, core_grew, round_grew, ballot_holds, receive_holds}
 use Rattle.ksi_world.proofs.Voting.{IsVoted, put_same}
 use Rattle.ksi_world.proofs.JoinedTurns.{IsJoinedSecond, IsJoinedRound, AllJoined, second_later, round_later, joined_noted, core_joined, round_joined, nothing_sent, EachCoreSo, core_so, each_told, core_answers, EachRoundSo, round_so, round_answers, all_answered, fresh_joined}
 use Rattle.ksi_world.proofs.Leaving.{seal_holds}
+use Rattle.ksi_world.proofs.Sending.{TreeRises, are_low}
 use Rattle.ksi_world.proofs.Joining.{ItemClimbs, IsClosedAs, Joins, IsAnswer, AreSubmitted, IsSo, all_later, none_submitted, submitted_push, requested_push, round_is}
 
-module _ (image : List ℕ → List ℕ) (plan : PlanState) (is : IsPlan plan) (climb : ItemClimbs image) (w : WorldState) (sound : IsSound plan w) (voted : IsVoted image plan w.seconds w.wire) (joined : AllJoined image plan w) where
+module _ (image : List ℕ → List ℕ) (plan : PlanState) (is : IsPlan plan) (rises : TreeRises image) (climb : ItemClimbs image) (w : WorldState) (sound : IsSound plan w) (voted : IsVoted image plan w.seconds w.wire) (joined : AllJoined image plan w) where
   -- A CORE'S TURNS
 
   still_joined : (j t : ℕ) (answer : Answer) → AllJoined image plan (at_core w j t (still (w.seconds j t) answer)).world
@@ -48,7 +49,7 @@ module _ (image : List ℕ → List ℕ) (plan : PlanState) (is : IsPlan plan) (
 
   -- a turn after which the same items are open and sealed
   same_items : (j t : ℕ) (turn : Turn) → Holds (w.seconds j t) turn.after → turn.after.open_items ≡ (w.seconds j t).open_items → turn.after.sealed ≡ (w.seconds j t).sealed →
-      EachCoreSo image plan (at_core w j t turn).world t turn.sends → AllJoined image plan (at_core w j t turn).world
+      EachCoreSo image plan (at_core w j t turn).world j t turn.sends → AllJoined image plan (at_core w j t turn).world
   same_items j t turn holds open_are sealed_are sends = core_joined image plan w j t turn holds (record {
     open_items = subst (λ es. AreSubmitted image plan w t es) (sym open_are) (joined.seconds j t).open_items;
     sealed = λ entries at. (joined.seconds j t).sealed entries (sym sealed_are ∙ at);
@@ -78,17 +79,17 @@ module _ (image : List ℕ → List ℕ) (plan : PlanState) (is : IsPlan plan) (
   ballot_joined : (j t : ℕ) → AllJoined image plan (at_core w j t (ballot_row plan.cores t j (w.seconds j t))).world
   unfolding ballot_row
   ballot_joined j t = same_items j t (ballot_row plan.cores t j (w.seconds j t)) (ballot_holds plan.cores t j (w.seconds j t)) refl refl
-      (each_told image plan (at_core w j t (ballot_row plan.cores t j (w.seconds j t))).world t plan.cores t j (ballot_told (try_ballot (w.seconds j t).vote).1))
+      (each_told image plan (at_core w j t (ballot_row plan.cores t j (w.seconds j t))).world j t plan.cores t j (ballot_told (try_ballot (w.seconds j t).vote).1))
 
   tell_joined : (j t : ℕ) → AllJoined image plan (at_core w j t (tell_row plan.cores t j (w.seconds j t))).world
   unfolding tell_row
   tell_joined j t = same_items j t (tell_row plan.cores t j (w.seconds j t)) (λ d held. held) refl refl
-      (each_told image plan (at_core w j t (tell_row plan.cores t j (w.seconds j t))).world t plan.cores t j (held_told (w.seconds j t).vote.held))
+      (each_told image plan (at_core w j t (tell_row plan.cores t j (w.seconds j t))).world j t plan.cores t j (held_told (w.seconds j t).vote.held))
 
   receive_joined : (j t from : ℕ) (m : SynodMessage) → AllJoined image plan (at_core w j t (receive_row plan.cores t from m (w.seconds j t))).world
   unfolding receive_row
   receive_joined j t from m = same_items j t (receive_row plan.cores t from m (w.seconds j t)) (receive_holds plan.cores t from m (w.seconds j t)) refl refl
-      (each_told image plan (at_core w j t (receive_row plan.cores t from m (w.seconds j t))).world t plan.cores t from (receive (w.seconds j t).vote from m).1)
+      (each_told image plan (at_core w j t (receive_row plan.cores t from m (w.seconds j t))).world j t plan.cores t from (receive (w.seconds j t).vote from m).1)
 
   tree_root : (entries : List Entry) (root : List ℕ) → candidate_of image entries ≡ root → root ≢ zero_imprint → (tree_of image (items_of entries)).imprint ≡ root
   tree_root [] root same real = absurd (real (sym same))
@@ -98,7 +99,7 @@ module _ (image : List ℕ → List ℕ) (plan : PlanState) (is : IsPlan plan) (
   responded_joined : (j t : ℕ) → j < plan.cores → plan.start ≤ t → (entries : List Entry) (root : List ℕ) → (w.seconds j t).sealed ≡ Some entries → first_missing (held_in w j) plan.start t ≡ None → held_in w j t ≡ Some root →
       is_mine image entries root ≡ true → AllJoined image plan (at_core w j t (responded image (held_in w j) plan.start t entries root (w.seconds j t))).world
   responded_joined j t lt from entries root sealed none held mine = core_joined image plan w j t turn (λ d is. is) (joined.seconds j t)
-      (core_so image plan w' j t turn.sends (core_answers image plan w' t (above_item image (held_seconds (held_in w j) plan.start t) t root (items_of entries)) 0 entries
+      (core_so image plan w' j t turn.sends (core_answers image plan w' j t (above_item image (held_seconds (held_in w j) plan.start t) t root (items_of entries)) (λ k. (core_grew w j t turn (λ d is. is)).held j t root held) 0 entries
       (all_answered image plan climb w w' (core_grew w j t turn (λ d is. is)) t above entries round ((joined.seconds j t).sealed entries sealed) joins))) joined
     where
       turn : Turn
@@ -119,6 +120,11 @@ module _ (image : List ℕ → List ℕ) (plan : PlanState) (is : IsPlan plan) (
       round : IsRound (items_of entries)
       round = round_is image plan is (actors.Core j) (length w.requests) entries (sound.sealed j t entries sealed) ((voted.sealed j t).few entries sealed)
 
+      core_low : (tree_of image (items_of entries)).level ≤ 144
+      core_low =
+          let low = rises (items_of entries) (144 - 16 * suc (depth_of plan (actors.Core j))) round.few (are_low plan is (actors.Core j) (length w.requests) entries (sound.sealed j t entries sealed)) in
+          omega (arith, low)
+
       joins : Joins image plan w t (tree_of image (items_of entries)) (record { root = root; chains = []; calendar = calendar_path image (held_seconds (held_in w j) plan.start t) t t })
       joins = record {
         top = tree_of image (items_of entries);
@@ -131,6 +137,7 @@ module _ (image : List ℕ → List ℕ) (plan : PlanState) (is : IsPlan plan) (
         all = none_missing (held_in w j) plan.start t none;
         calendar = refl;
         real = real;
+        low = core_low;
       }
 
   respond_joined : (j t : ℕ) → j < plan.cores → plan.start ≤ t → AllJoined image plan (at_core w j t (respond_row image (held_in w j) plan.start t (w.seconds j t))).world
@@ -254,13 +261,13 @@ module _ (image : List ℕ → List ℕ) (plan : PlanState) (is : IsPlan plan) (
   taken_joined (actors.Core from) (actors.Core j) t (contents.Response above) so = joined
   taken_joined (actors.Core from) (actors.Aggregator k) t (contents.Synod m) so = joined
   taken_joined (actors.Core from) (actors.Aggregator k) t (contents.Submission item) so = joined
-  taken_joined (actors.Core from) (actors.Aggregator k) t (contents.Response above) so = response_joined k t above so
+  taken_joined (actors.Core from) (actors.Aggregator k) t (contents.Response above) so = response_joined k t above so.1
   taken_joined (actors.Aggregator from) (actors.Core j) t (contents.Synod m) so = joined
   taken_joined (actors.Aggregator from) (actors.Core j) t (contents.Submission item) so = submission_joined j t from item so
   taken_joined (actors.Aggregator from) (actors.Core j) t (contents.Response above) so = joined
   taken_joined (actors.Aggregator from) (actors.Aggregator k) t (contents.Synod m) so = joined
   taken_joined (actors.Aggregator from) (actors.Aggregator k) t (contents.Submission item) so = take_joined k t from item so
-  taken_joined (actors.Aggregator from) (actors.Aggregator k) t (contents.Response above) so = response_joined k t above so
+  taken_joined (actors.Aggregator from) (actors.Aggregator k) t (contents.Response above) so = response_joined k t above so.1
 
   delivered_joined : (number : ℕ) (found : Option Message) → slice_get w.wire number ≡ found → AllJoined image plan (delivered image plan w found).world
   delivered_joined number None at = joined

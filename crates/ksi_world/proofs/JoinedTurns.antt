@@ -24,7 +24,7 @@ use Rattle.ksi_aggregator.specs.Responses as told
 use Rattle.ksi_aggregator.specs.Rows.{RoundState, RoundTurn, submitted_entry, fresh_round}
 use Rattle.ksi_schedule.specs.Plans.{PlanState}
 use Rattle.ksi_world.specs.declared.message.Message.{Message}
-use Rattle.ksi_world.specs.Histories.{WorldState, core_message, round_message, at_core, at_round}
+use Rattle.ksi_world.specs.Histories.{WorldState, core_message, round_message, at_core, at_round, held_in}
 use Rattle.ksi_world.proofs.Growing.{Grew, put_cases, Holds, Keeps, core_grew, round_grew}
 use Rattle.ksi_world.proofs.Sending.{get_in_either}
 use Rattle.ksi_world.proofs.Joining.{ItemClimbs, IsClosedAs, Joins, IsAnswer, AreSubmitted, IsSo, AreSo, closed_later, joins_later, answer_later, submitted_later, all_later, none_submitted, joins_below}
@@ -113,15 +113,15 @@ module _ (image : List ℕ → List ℕ) (plan : PlanState) where
 
   -- WHAT A CORE SENDS
 
-  abbrev pub CoreSo : WorldState → (t : ℕ) → core_step.Send → Type 0
-  CoreSo w t (core_sends.Synod to m) = Unit {0}
-  CoreSo w t (core_sends.Response to above) = IsAnswer image plan w to t above
+  abbrev pub CoreSo : WorldState → (j t : ℕ) → core_step.Send → Type 0
+  CoreSo w j t (core_sends.Synod to m) = Unit {0}
+  CoreSo w j t (core_sends.Response to above) = (held_in w j t ≡ Some above.root) × IsAnswer image plan w to t above
 
-  abbrev pub EachCoreSo : WorldState → (t : ℕ) → List core_step.Send → Type 0
-  EachCoreSo w t [] = Unit {0}
-  EachCoreSo w t (s ∷ ss) = CoreSo w t s × EachCoreSo w t ss
+  abbrev pub EachCoreSo : WorldState → (j t : ℕ) → List core_step.Send → Type 0
+  EachCoreSo w j t [] = Unit {0}
+  EachCoreSo w j t (s ∷ ss) = CoreSo w j t s × EachCoreSo w j t ss
 
-  pub core_so : (w : WorldState) (j t : ℕ) (sends : List core_step.Send) → EachCoreSo w t sends → AreSo image plan w (map (core_message j t) sends)
+  pub core_so : (w : WorldState) (j t : ℕ) (sends : List core_step.Send) → EachCoreSo w j t sends → AreSo image plan w (map (core_message j t) sends)
   core_so w j t [] each i m at = absurd (cc at)
   core_so w j t (core_sends.Synod to x ∷ ss) each zero m at =
       let same : core_message j t (core_sends.Synod to x) ≡ m = cc at in
@@ -131,17 +131,17 @@ module _ (image : List ℕ → List ℕ) (plan : PlanState) where
       subst (λ (m : Message). IsSo image plan w m.sender m.addressee m.second m.content) same each.0
   core_so w j t (s ∷ ss) each (suc i) m at = core_so w j t ss each.1 i m at
 
-  each_to : (w : WorldState) (t : ℕ) (m : SynodMessage) (to : List ℕ) → EachCoreSo w t (to_each to m)
-  each_to w t m [] = tt
-  each_to w t m (k ∷ ks) = (tt, each_to w t m ks)
+  each_to : (w : WorldState) (j t : ℕ) (m : SynodMessage) (to : List ℕ) → EachCoreSo w j t (to_each to m)
+  each_to w j t m [] = tt
+  each_to w j t m (k ∷ ks) = (tt, each_to w j t m ks)
 
-  pub each_told : (w : WorldState) (t members second from : ℕ) (o : Option SynodMessage) → EachCoreSo w t (turns.told members second from o)
-  each_told w t members second from None = tt
-  each_told w t members second from (Some (message.LastVote l)) = (tt, tt)
-  each_told w t members second from (Some (message.Voted b)) = (tt, tt)
-  each_told w t members second from (Some (message.NextBallot b)) = each_to w t (message.NextBallot b) (cores_below members)
-  each_told w t members second from (Some (message.BeginBallot b d)) = each_to w t (message.BeginBallot b d) (cores_below members)
-  each_told w t members second from (Some (message.Success d)) = each_to w t (message.Success d) (cores_below members)
+  pub each_told : (w : WorldState) (j t members second from : ℕ) (o : Option SynodMessage) → EachCoreSo w j t (turns.told members second from o)
+  each_told w j t members second from None = tt
+  each_told w j t members second from (Some (message.LastVote l)) = (tt, tt)
+  each_told w j t members second from (Some (message.Voted b)) = (tt, tt)
+  each_told w j t members second from (Some (message.NextBallot b)) = each_to w j t (message.NextBallot b) (cores_below members)
+  each_told w j t members second from (Some (message.BeginBallot b d)) = each_to w j t (message.BeginBallot b d) (cores_below members)
+  each_told w j t members second from (Some (message.Success d)) = each_to w j t (message.Success d) (cores_below members)
 
   -- where each item of an aggregator from place k on is answered, so is what is sent
   abbrev pub AreAnswered : WorldState → (t : ℕ) (above : ℕ → Above) (k : ℕ) → List Entry → Type 0
@@ -156,13 +156,13 @@ module _ (image : List ℕ → List ℕ) (plan : PlanState) where
   others_answered : (w : WorldState) (t : ℕ) (above : ℕ → Above) (k : ℕ) (e : Entry) (es : List Entry) → AreAnswered w t above k (e ∷ es) → AreAnswered w t above (suc k) es
   others_answered w t above k e es each i a item at = let same : k + suc i ≡ suc k + i = omega arith in subst (λ n. IsAnswer image plan w a t (above n)) same (each (suc i) a item at)
 
-  pub core_answers : (w : WorldState) (t : ℕ) (above : ℕ → Above) (k : ℕ) (es : List Entry) → AreAnswered w t above k es → EachCoreSo w t (responses_from above k es)
-  core_answers w t above k [] each = tt
-  core_answers w t above k (e ∷ es) each = by e.origin refl (core_answers w t above (suc k) es (others_answered w t above k e es each))
+  pub core_answers : (w : WorldState) (j t : ℕ) (above : ℕ → Above) (held : (k : ℕ) → held_in w j t ≡ Some (above k).root) (k : ℕ) (es : List Entry) → AreAnswered w t above k es → EachCoreSo w j t (responses_from above k es)
+  core_answers w j t above held k [] each = tt
+  core_answers w j t above held k (e ∷ es) each = by e.origin refl (core_answers w j t above held (suc k) es (others_answered w t above k e es each))
     where
-      by : (o : Origin) → e.origin ≡ o → EachCoreSo w t (responses_from above (suc k) es) → EachCoreSo w t (response_to o (above k) ++ responses_from above (suc k) es)
+      by : (o : Origin) → e.origin ≡ o → EachCoreSo w j t (responses_from above (suc k) es) → EachCoreSo w j t (response_to o (above k) ++ responses_from above (suc k) es)
       by (origins.Request number) is later = later
-      by (origins.Aggregator a) is later = (first_answered w t above k e es a each is, later)
+      by (origins.Aggregator a) is later = ((held k, first_answered w t above k e es a each is), later)
 
   -- WHAT AN AGGREGATOR SENDS
 
@@ -181,7 +181,7 @@ module _ (image : List ℕ → List ℕ) (plan : PlanState) where
       subst (λ (m : Message). IsSo image plan w m.sender m.addressee m.second m.content) same each.0
   round_so w k t (round_sends.Response to above ∷ ss) each zero m at =
       let same : round_message plan k t (round_sends.Response to above) ≡ m = cc at in
-      subst (λ (m : Message). IsSo image plan w m.sender m.addressee m.second m.content) same each.0
+      subst (λ (m : Message). IsSo image plan w m.sender m.addressee m.second m.content) same (tt, each.0)
   round_so w k t (s ∷ ss) each (suc i) m at = round_so w k t ss each.1 i m at
 
   pub round_answers : (w : WorldState) (here t : ℕ) (above : Above) (items : List Item) (k : ℕ) (es : List Entry) → AreAnswered w t (below image above items) k es → EachRoundSo w here t (told.responses_from image k above items es)

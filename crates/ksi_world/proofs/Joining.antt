@@ -55,6 +55,7 @@ module _ (image : List ℕ → List ℕ) (plan : PlanState) where
     pub all : AllHeld (held_in w core) plan.start t
     pub calendar : above.calendar ≡ calendar_path image (held_seconds (held_in w core) plan.start t) t t
     pub real : above.root ≢ zero_imprint
+    pub low : top.level ≤ 144
 
   pub record IsAnswer (w : WorldState) (a t : ℕ) (above : Above) : Type 0 where
     pub item : Item
@@ -69,13 +70,18 @@ module _ (image : List ℕ → List ℕ) (plan : PlanState) where
   IsSubmission w (actors.Aggregator a) t item = IsClosedAs w a t item
   IsSubmission w (actors.Core j) t item = Unit {0}
 
-  abbrev pub IsResponse : WorldState → (addressee : Actor) (t : ℕ) → Above → Type 0
-  IsResponse w (actors.Aggregator a) t above = IsAnswer w a t above
-  IsResponse w (actors.Core j) t above = Unit {0}
+  -- a core that sends it holds its root
+  abbrev pub IsHeldBy : WorldState → (sender : Actor) (t : ℕ) → Above → Type 0
+  IsHeldBy w (actors.Core j) t above = held_in w j t ≡ Some above.root
+  IsHeldBy w (actors.Aggregator a) t above = Unit {0}
+
+  abbrev pub IsResponse : WorldState → (sender addressee : Actor) (t : ℕ) → Above → Type 0
+  IsResponse w sender (actors.Aggregator a) t above = IsHeldBy w sender t above × IsAnswer w a t above
+  IsResponse w sender (actors.Core j) t above = Unit {0}
 
   abbrev pub IsSo : WorldState → (sender addressee : Actor) (t : ℕ) → Content → Type 0
   IsSo w sender addressee t (contents.Submission item) = IsSubmission w sender t item
-  IsSo w sender addressee t (contents.Response above) = IsResponse w addressee t above
+  IsSo w sender addressee t (contents.Response above) = IsResponse w sender addressee t above
   IsSo w sender addressee t (contents.Synod m) = Unit {0}
 
   abbrev pub AreSo : WorldState → List Message → Type 0
@@ -101,6 +107,7 @@ module _ (image : List ℕ → List ℕ) (plan : PlanState) where
           all = all_too (held_in w is.core) (held_in w' is.core) plan.start t is.all too;
           calendar = is.calendar ∙ ap (λ (seconds : Seconds). calendar_path image seconds t t) (seconds_same (held_in w is.core) (held_in w' is.core) plan.start t is.all too);
           real = is.real;
+          low = is.low;
         }
 
     pub answer_later : (a t : ℕ) (above : Above) → IsAnswer w a t above → IsAnswer w' a t above
@@ -113,13 +120,17 @@ module _ (image : List ℕ → List ℕ) (plan : PlanState) where
     submission_later (actors.Aggregator a) t item is = closed_later a t item is
     submission_later (actors.Core j) t item is = tt
 
-    response_later : (addressee : Actor) (t : ℕ) (above : Above) → IsResponse w addressee t above → IsResponse w' addressee t above
-    response_later (actors.Aggregator a) t above is = answer_later a t above is
-    response_later (actors.Core j) t above is = tt
+    held_later : (sender : Actor) (t : ℕ) (above : Above) → IsHeldBy w sender t above → IsHeldBy w' sender t above
+    held_later (actors.Core j) t above is = grew.held j t above.root is
+    held_later (actors.Aggregator a) t above is = tt
+
+    response_later : (sender addressee : Actor) (t : ℕ) (above : Above) → IsResponse w sender addressee t above → IsResponse w' sender addressee t above
+    response_later sender (actors.Aggregator a) t above is = (held_later sender t above is.0, answer_later a t above is.1)
+    response_later sender (actors.Core j) t above is = tt
 
     so_later : (sender addressee : Actor) (t : ℕ) (content : Content) → IsSo w sender addressee t content → IsSo w' sender addressee t content
     so_later sender addressee t (contents.Submission item) is = submission_later sender t item is
-    so_later sender addressee t (contents.Response above) is = response_later addressee t above is
+    so_later sender addressee t (contents.Response above) is = response_later sender addressee t above is
     so_later sender addressee t (contents.Synod m) is = tt
 
     pub all_later : (ms : List Message) → AreSo w ms → AreSo w' ms
@@ -176,4 +187,5 @@ module _ (image : List ℕ → List ℕ) (plan : PlanState) where
         all = joins.all;
         calendar = joins.calendar;
         real = joins.real;
+        low = joins.low;
       }

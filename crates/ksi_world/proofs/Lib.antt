@@ -33,3 +33,7 @@ pub mod IssuedJoined
 pub mod Imprinted
 pub mod Carrying
 pub mod IssuedCarried
+pub mod Wiring
+pub mod Beyond
+pub mod KeptOf
+pub mod Counting

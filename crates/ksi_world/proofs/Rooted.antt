@@ -115,7 +115,7 @@ module _ (image : List ℕ → List ℕ) (plan : PlanState) where
   run_roots [] w all are = are
   run_roots (e ∷ es) w all are = run_roots es (happens image plan w e).world all.1 (happens_roots w e all.0 are)
 
-  after_roots : (es : List Event) → AreEvents plan es → AreRoots (after image plan es)
+  pub after_roots : (es : List Event) → AreEvents plan es → AreRoots (after image plan es)
   unfolding after first_world
   after_roots es all = run_roots es (first_world plan) all (λ k p root at. absurd (cc at))
 
@@ -132,7 +132,7 @@ module _ (image : List ℕ → List ℕ) (plan : PlanState) where
     pub kept_too : (es : List Event) → AreEvents plan es → (core last : ℕ) → core < plan.cores → HeldToo (held_in (after image plan es) core) (kept_root plan (after image plan es)) plan.start last
     kept_too es are core last lt t from to root holds = kept_holds es are core t root lt holds
 
-    root_kept : (es : List Event) → AreEvents plan es → (p : ℕ) (root : List ℕ) → IsRootBy image plan (after image plan es) p root → IsRootOf image plan (after image plan es) p root
+    pub root_kept : (es : List Event) → AreEvents plan es → (p : ℕ) (root : List ℕ) → IsRootBy image plan (after image plan es) p root → IsRootOf image plan (after image plan es) p root
     root_kept es are p root by =
         let held = held_in (after image plan es) by.core in
         let kept = kept_root plan (after image plan es) in

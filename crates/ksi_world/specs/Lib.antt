@@ -8,3 +8,4 @@ pub mod Deciding
 pub mod Validity
 pub mod Keeping
 pub mod Joined
+pub mod Wire

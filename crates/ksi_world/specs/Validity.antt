@@ -1,6 +1,7 @@
 -- What a decided second is: missed, or the tree of items that a core sealed. And which seconds were published.
 use Rattle.std.specs.Prelude.{◌≡◌, ◌≢◌, ◌⊎◌, ℕ, suc, ◌<◌, ◌≤◌, List, [], ◌∷◌, length, Some}
-use Rattle.ksi_imprint.specs.Imprints.{zero_imprint}
+use Rattle.std.specs.List.{AllByRecursion}
+use Rattle.ksi_imprint.specs.Imprints.{IsImprint, zero_imprint}
 use Rattle.ksi_aggtree.specs.declared.entries.Entry.{Entry}
 use Rattle.ksi_aggtree.specs.Rounds.{IsRound, tree_of}
 use Rattle.ksi_aggtree.specs.Entries.{items_of, candidate_of}
@@ -32,6 +33,10 @@ pub record HasTree (image : List ℕ → List ℕ) (kept : KeptSecond) : Type 0 
 
 abbrev pub IsKept : (List ℕ → List ℕ) → KeptSecond → Type 0
 IsKept image kept = IsMissed kept ⊎ HasTree image kept
+
+-- its root and its items are imprints
+abbrev pub HasImprints : KeptSecond → Type 0
+HasImprints kept = IsImprint kept.root × AllByRecursion (λ item. IsImprint item.imprint) kept.items
 
 abbrev pub EachKept : (KeptSecond → Type 0) → List KeptSecond → Type 0
 EachKept P [] = Unit {0}

@@ -19,7 +19,7 @@ use std::marker::Model;
 
 /// A kept second: the root that is held for it, and the items whose tree has this root. A second with the zero imprint
 /// has no items.
-#[derive(Drop, Debug)]
+#[derive(Drop)]
 pub struct KeptSecond {
     pub second: u64,
     pub root: Imprint,
@@ -27,7 +27,7 @@ pub struct KeptSecond {
 }
 
 /// Kept seconds. A contract sees their list.
-#[derive(Drop, Debug)]
+#[derive(Drop)]
 pub struct Seconds {
     seconds: Vec<KeptSecond>,
 }
@@ -66,7 +66,7 @@ impl Seconds {
 }
 
 /// What is kept: the first second of the plan, and the kept seconds, rising.
-#[derive(Drop, Debug)]
+#[derive(Drop)]
 pub struct Kept {
     pub start: u64,
     pub seconds: Seconds,

@@ -1,19 +1,25 @@
 //! What holds after every history of a plan: whichever messages are lost, repeated, late or out of order, and whichever
 //! nodes restart, at any moment. Each law is the contract of a function that does nothing.
-ghost use Rattle.std.specs.Prelude.{◌≡◌, ◌≢◌, ◌<◌, ◌++◌, ℕ, List, slice_get, Some};
+ghost use Rattle.std.specs.Prelude.{◌≡◌, ◌≢◌, ◌<◌, ◌≤◌, ◌^◌, ◌++◌, ℕ, List, length, slice_get, Some};
+ghost use Rattle.std.specs.List.{AllByRecursion};
+ghost use Rattle.ksi_tlv.specs.Spelling.{AreBytes};
 ghost use Rattle.ksi_imprint.specs.Imprints.{IsImprint, zero_imprint};
 ghost use Rattle.ksi_schedule.specs.declared.event.Event.{Event};
 ghost use Rattle.ksi_schedule.specs.Plans.{PlanState, IsPlan, InRange};
 ghost use Rattle.ksi_schedule.specs.Events.{History, AreEvents, AskForImprints};
+ghost use Rattle.ksi_schedule.specs.Schedules.{IsHistory};
 ghost use Rattle.ksi_world.specs.Histories.{WorldState, held_in, after, world_of};
 ghost use Rattle.ksi_signature.specs.Carried.{MayBeIssued};
 ghost use Rattle.ksi_world.specs.Joined.{IsRootOf, IsJoined};
-ghost use Rattle.ksi_world.specs.Records.{issued_of, issued_all, kept_root};
-ghost use Rattle.ksi_world.specs.Validity.{IsProposed};
+ghost use Rattle.ksi_world.specs.Records.{issued_of, issued_all, kept_root, kept_seconds};
+ghost use Rattle.ksi_world.specs.Validity.{IsProposed, IsKept, HasImprints, EachKept, AreRising, AreTimes};
+ghost use Rattle.ksi_world.specs.Wire.{ResponsesClimb};
 
 use ksi_aggchain::laws::levels_rise;
 use ksi_aggtree::laws::{one_chain, one_round};
+use ksi_calendar::laws::one_chain as calendar_chain;
 use ksi_imprint::Imprint;
+use ksi_signature::{issued_is_bytes, issued_is_signature};
 use ksi_split::trees::one_path;
 use ksi_synod::laws::steps_agree;
 
@@ -91,3 +97,90 @@ pub fn issued_is_carried()
     one_path::<Imprint>();
     steps_agree();
 }
+
+/// Each Response that was ever sent leads from the item of its addressee's round to a root that is held: the aggregation
+/// chains climb from that item, at its level, to the root; a core holds it for this second, as the sender does where that is
+/// a core; and the calendar chain leads on from there to the root of the calendar to this second. It is never the zero
+/// imprint. There are at most 8 chains of at most 16 links, at levels to 144.
+pub fn responses_climb()
+    ensures { (image : List ℕ → List ℕ) (history : History) → ((bytes : List ℕ) → IsImprint (image bytes)) →
+        IsPlan history.plan → AreEvents history.plan history.events → AskForImprints history.events →
+        ResponsesClimb image history.plan (world_of image history) }
+{
+    one_round();
+    one_chain();
+    levels_rise();
+    calendar_chain();
+    one_path::<Imprint>();
+}
+
+/// What is issued of a request has at most 10,000 bytes, where each request is for an imprint, and what is hashed are
+/// imprints.
+pub fn issued_is_short()
+    ensures { (image : List ℕ → List ℕ) (history : History) → ((bytes : List ℕ) → IsImprint (image bytes)) →
+        IsPlan history.plan → AreEvents history.plan history.events → AskForImprints history.events →
+        (number : ℕ) (text : List ℕ) → issued_of image (world_of image history) number ≡ Some text → length text ≤ 10000 }
+{
+    issued_is_carried();
+    issued_is_signature();
+}
+
+/// What is issued of a request are bytes, and so are the roots that are kept, where what is hashed, and what requests ask
+/// for, are imprints of bytes.
+pub fn history_is_of_bytes()
+    ensures issued { (image : List ℕ → List ℕ) (history : History) →
+        ((bytes : List ℕ) → IsImprint (image bytes)) → ((bytes : List ℕ) → AreBytes (image bytes)) → IsHistory history →
+        (number : ℕ) (text : List ℕ) → issued_of image (world_of image history) number ≡ Some text → AreBytes text }
+    ensures kept { (image : List ℕ → List ℕ) (history : History) → ((bytes : List ℕ) → AreBytes (image bytes)) → IsHistory history →
+        EachKept (λ kept. AreBytes kept.root) (kept_seconds image history.plan (world_of image history)) }
+{
+    one_round();
+    one_chain();
+    levels_rise();
+    one_path::<Imprint>();
+    steps_agree();
+    issued_is_bytes();
+    issued_is_signature();
+}
+
+/// The kept seconds rise from the start and are below 2^63; each was missed or has a tree of items; and their roots and
+/// items are imprints, where each request is for one, and what is hashed are imprints.
+pub fn kept_is_listed()
+    ensures rising { (image : List ℕ → List ℕ) (history : History) → IsPlan history.plan → AreEvents history.plan history.events →
+        AreRising history.plan.start (kept_seconds image history.plan (world_of image history)) }
+    ensures early { (image : List ℕ → List ℕ) (history : History) → IsPlan history.plan → AreEvents history.plan history.events →
+        EachKept (λ one. one.second < 2 ^ 63) (kept_seconds image history.plan (world_of image history)) }
+    ensures trees { (image : List ℕ → List ℕ) (history : History) → IsPlan history.plan → AreEvents history.plan history.events →
+        EachKept (IsKept image) (kept_seconds image history.plan (world_of image history)) }
+    ensures imprints { (image : List ℕ → List ℕ) (history : History) → ((bytes : List ℕ) → IsImprint (image bytes)) →
+        IsPlan history.plan → AreEvents history.plan history.events → AskForImprints history.events →
+        EachKept HasImprints (kept_seconds image history.plan (world_of image history)) }
+{
+    one_round();
+    one_chain();
+    levels_rise();
+    one_path::<Imprint>();
+    steps_agree();
+}
+
+/// The published seconds rise from the start and are below 2^63; and their roots are imprints, where each request is for
+/// one, and what is hashed are imprints.
+pub fn published_is_listed()
+    ensures rising { (image : List ℕ → List ℕ) (history : History) → IsPlan history.plan → AreEvents history.plan history.events →
+        AreTimes history.plan.start (2 ^ 63) (world_of image history).published }
+    ensures imprints { (image : List ℕ → List ℕ) (history : History) → ((bytes : List ℕ) → IsImprint (image bytes)) →
+        IsPlan history.plan → AreEvents history.plan history.events → AskForImprints history.events →
+        AllByRecursion (λ pair. IsImprint pair.1) (world_of image history).published }
+{
+    one_round();
+    one_chain();
+    levels_rise();
+    one_path::<Imprint>();
+    steps_agree();
+}
+
+/// No more requests are accepted than events happen.
+#[tactic(auto, using(crate::proofs::Counting::accepted_few))]
+pub fn requests_are_few()
+    ensures { (image : List ℕ → List ℕ) (history : History) → length (world_of image history).requests ≤ length history.events }
+{}

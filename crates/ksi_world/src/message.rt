@@ -4,7 +4,7 @@ use ksi_signature::Above;
 use ksi_synod::SynodMessage;
 
 /// What is sent.
-#[derive(Drop, Debug)]
+#[derive(Drop)]
 pub enum Content {
     /// A message of the vote on a second.
     Synod(SynodMessage),
@@ -15,7 +15,7 @@ pub enum Content {
 }
 
 /// A message.
-#[derive(Drop, Debug)]
+#[derive(Drop)]
 pub struct Message {
     pub sender: Actor,
     pub addressee: Actor,

@@ -2,7 +2,7 @@ use ksi_imprint::Imprint;
 use ksi_signature::Answer;
 
 /// What came of an event.
-#[derive(Clone, Copy, PartialEq, Eq, Debug)]
+#[derive(Clone, Copy, PartialEq, Eq)]
 pub struct Outcome {
     pub answer: Answer,
     /// How many messages were sent.
@@ -10,7 +10,7 @@ pub struct Outcome {
 }
 
 /// A request that was accepted.
-#[derive(Clone, Copy, PartialEq, Eq, Debug)]
+#[derive(Clone, Copy, PartialEq, Eq)]
 pub struct Asked {
     /// The aggregator that took it.
     pub aggregator: u32,

@@ -112,11 +112,14 @@ impl<C: Compress> World<C> {
         &self.plan
     }
 
-    /// What a core of the plan holds for a second.
+    /// What a core holds for a second; none where the plan has no such core.
     pub fn held(&self, core: u8, second: u64) -> Option<Imprint>
-        requires { core < self.now.plan.cores }
         ensures { result ≡ held_in (world_of C.image self.now) core second }
     {
+        one_round();
+        if core >= self.plan.cores {
+            return None;
+        }
         self.nodes.core(core).held(second)
     }
 

@@ -1,4 +1,4 @@
-use Rattle.std.proofs.Common.{◌≡◌, ◌∙◌, ap, min, ℕ, length, List, sym, Ok, Err}
+use Rattle.std.proofs.Common.{◌≡◌, ◌∙◌, ap, min, ℕ, length, List, sym, Ok, Err, arith}
 use Rattle.ksi_split.specs.declared.side.Side.{Side}
 use Rattle.ksi_split.specs.declared.fault.ShapeFault.TheVariants.{TooMany, TooFew}
 use Rattle.ksi_split.specs.Ways.{IsSecond, PassesLeaf, EndsAbove}
@@ -11,9 +11,9 @@ pub returns : goal.returns
 returns c =
     let p = c.args.p in
     let sides : List Side = sides_from_top c.args.links.now in
-    let count : c.min-count.result ≡ min (length sides) 64 = c.min-count.ensures ∙ ap (λ (n : ℕ). min n 64) (sym (count_sides c.args.links.now)) in
+    let count : c.min-count.result ≡ min (length sides) 65 = c.min-count.ensures ∙ ap (λ (n : ℕ). min n 65) (sym (count_sides c.args.links.now)) in
     let is : c.second_of.result ≡ second_at p sides
-    = c.second_of.ensures.value ∙ ap (second_at p) c.uppermost-sides.ensures ∙ uppermost_is p c.min-count.result sides count (c.uppermost_tell.ensures p sides c.requires) in
+    = c.second_of.ensures.value ∙ ap (second_at p) c.uppermost-sides.ensures ∙ uppermost_is p c.min-count.result sides count (c.uppermost_tell.ensures p sides (omega arith)) in
     record {
       second = λ t. along c.second_of.result (second_at p sides) (Ok t) (IsSecond p sides t) is (c.one_answer.ensures.second p t sides);
       too_many = λ place. along c.second_of.result (second_at p sides) (Err (TooMany place)) (PassesLeaf p sides place) is (c.one_answer.ensures.too_many p place sides);

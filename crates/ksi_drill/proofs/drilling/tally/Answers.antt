@@ -1,6 +1,7 @@
 use Rattle.std.proofs.Common.{◌≡◌, List, ap, sym, ◌∙◌}
 use Rattle.ksi_imprint.specs.Imprints.{imprint_of}
 use Rattle.ksi_journal.specs.Journal.{Contents}
+use Rattle.ksi_replay.specs.Journals.{journal_of}
 use Rattle.ksi_schedule.specs.Events.{History}
 use Rattle.ksi_world.specs.declared.outcome.Asked.{Asked}
 use Rattle.ksi_world.specs.Histories.{world_of}
@@ -20,9 +21,15 @@ is_tally h journal requests found tally counted tried same =
 pub returns-clause-tally : goal.returns-clause-tally
 returns-clause-tally c =
     is_tally c.args.world.now c.args.journal.now c.requests.result.now c.as_slice.result.now c.counted.result c.counted.ensures
-    (c.as_slice.ensures.value ∙ c.in_ok-trials.ensures.trials) c.requests.ensures
+    (c.as_slice.ensures.value ∙ c.in_ok-trials.ensures) c.requests.ensures
+
+-- so as many are accepted as were issued
+as_many : (h : History) (journal : Contents) (tally : Tally) → tally ≡ tally_of imprint_of h journal → journal ≡ journal_of imprint_of h
+    → (tally_of imprint_of h (journal_of imprint_of h)).accepted ≡ (tally_of imprint_of h (journal_of imprint_of h)).issued → tally.accepted ≡ tally.issued
+as_many h journal tally is same accepted =
+    let own : tally ≡ tally_of imprint_of h (journal_of imprint_of h) = is ∙ ap (tally_of imprint_of h) same in
+    ap (λ (t : Tally). t.accepted) own ∙ accepted ∙ sym (ap (λ (t : Tally). t.issued) own)
 
 pub returns-clause-accepted : goal.returns-clause-accepted
-returns-clause-accepted c =
-    let is = returns-clause-tally c in
-    ap (λ (t : Tally). t.accepted) is ∙ c.all_are_accepted.ensures c.in_ok-trials.ensures.bytes ∙ sym (ap (λ (t : Tally). t.issued) is)
+returns-clause-accepted c = as_many c.args.world.now c.args.journal.now c.counted.result (returns-clause-tally c) c.requires
+    (c.all_are_accepted.ensures c.args.world.now c.follows_the_rules.ensures)

@@ -1,11 +1,12 @@
 use Rattle.ksi_journal.specs.Calendar.{calendar_of}
 use Rattle.ksi_world.specs.Histories.{world_of}
+use Rattle.ksi_replay.specs.Journals.{journal_of}
 use Rattle.ksi_history.proofs.Chaining.{issued_aggregated}
 use Rattle.ksi_history.proofs.Reaching.{Laws, covered_before, lasts_for}
 use Rattle.ksi_history.proofs.laws.issued_lasts.Goals as goal
 
-pub returns : goal.returns
-returns c = λ image h journal images plan events ask is keeps number asked text at is_issued are p to covered.
+pub returns-clause-over : goal.returns-clause-over
+returns-clause-over c = λ image h journal images plan events ask is keeps number asked text at is_issued are p to covered.
     let carried = c.issued_is_carried.ensures.issued image h images plan events ask number text is_issued in
     let laws : Laws image journal = record {
       aggregates = issued_aggregated image (c.aggregation.ensures image);
@@ -23,3 +24,8 @@ returns c = λ image h journal images plan events ask is keeps number asked text
       shows = λ signature hash publications imprint. c.audit_shows.ensures image journal signature hash publications images is imprint;
     } in
     lasts_for h.plan (world_of image h) journal keeps image laws number text are carried.0 carried.1 asked at p to covered
+
+pub returns-clause-own : goal.returns-clause-own
+returns-clause-own c = λ image h images bytes is number asked text at is_issued p to covered.
+    returns-clause-over c image h (journal_of image h) images is.plan is.events is.imprints (c.history_has_a_journal.ensures.any image h images bytes is)
+    (c.journal_keeps_roots.ensures image h is.plan is.events) number asked text at is_issued (c.history_is_of_bytes.ensures.issued image h images bytes is number text is_issued) p to covered

@@ -64,7 +64,7 @@ pub overflow_add-second : goal.overflow_add-second
 overflow_add-second c =
     let some : 1 < c.loop-place.rest + 1 = some_left c.loop-place.rest c.if-rest-eq0.false in
     let s = split_is (c.loop-place.rest + 1) some in
-    omega (arith, s.below, c.high_bit-half.ensures.value, c.loop-place.invariant.small, c.requires)
+    omega (arith, s.below, c.high_bit-half.ensures.value, c.loop-place.invariant.small)
 
 pub overflow_sub-rest-in-Right : goal.overflow_sub-rest-in-Right
 overflow_sub-rest-in-Right c =

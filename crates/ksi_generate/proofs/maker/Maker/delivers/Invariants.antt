@@ -4,7 +4,7 @@ use Rattle.ksi_generate.specs.Generate.{delivered, delivers}
 use Rattle.ksi_generate.proofs.maker.Maker.delivers.Given as goal
 
 abbrev pub invariant-messages : goal.invariant-messages
-invariant-messages l = (each_message l.left l.number (delivered l.manner) l.self).1 ≡ (delivers l.manner l.fn.first l.initial.self).1
+invariant-messages l = (each_message l.left l.number (delivered l.manner) l.self).1 ≡ (delivers 549 l.manner l.fn.first l.initial.self).1
 
 abbrev pub decreases-messages : goal.decreases-messages
 decreases-messages l = l.left

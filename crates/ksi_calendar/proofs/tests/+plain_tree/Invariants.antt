@@ -1,4 +1,0 @@
-use Rattle.ksi_calendar.proofs.tests.+plain_tree.Given as goal
-
-abbrev pub decreases-plain_tree : goal.decreases-plain_tree
-decreases-plain_tree l = l.n

@@ -1,0 +1,5 @@
+use Rattle.ksi_facts.proofs.Stepping.{by_facts}
+use Rattle.ksi_facts.proofs.laws.step_is_by_facts.Goals as goal
+
+pub returns : goal.returns
+returns c = λ image plan is before event. by_facts image plan is before event

@@ -1,0 +1,4 @@
+use Rattle.ksi_journal.proofs.journal.Journal.items.Given as goal
+
+abbrev pub ghosts-items_from : goal.ghosts-items_from
+ghosts-items_from g a = record { name = a.blank.name; parts = a.blank.parts }

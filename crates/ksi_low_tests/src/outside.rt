@@ -1,0 +1,165 @@
+use crate::same::same;
+use ksi_imprint::{Bytes, NoMemory};
+use ksi_ports::{
+    Files, HostFiles, HostSink, LoadRefusal, MemFiles, MemSink, SaveRefusal, Sink, SinkFailed,
+};
+use std::alloc::Global;
+use std::fs;
+use std::process::Abort;
+use std::test::Fail;
+
+fn told(load: &Result<Bytes, LoadRefusal>) -> Result<&[u8], LoadRefusal> {
+    match load {
+        Ok(bytes) => Ok(bytes.as_slice()),
+        Err(refusal) => Err(*refusal),
+    }
+}
+
+fn load(
+    rt: &impl Abort,
+    alloc: Global,
+    files: &mut impl Files,
+    rows: &[(&str, usize, Result<&[u8], LoadRefusal>)],
+) {
+    for (name, most, want) in rows {
+        let load = files.load(alloc, name, *most);
+        same(rt, *name, told(&load), *want);
+    }
+}
+
+fn save(
+    rt: &impl Abort,
+    alloc: Global,
+    files: &mut impl Files,
+    rows: &[(&str, &[u8], Result<(), SaveRefusal>)],
+) {
+    for (name, bytes, want) in rows {
+        same(rt, *name, files.save(alloc, name, bytes), *want);
+    }
+}
+
+fn put(rt: &impl Abort, out: &mut impl Sink, rows: &[(&[u8], Result<(), SinkFailed>)]) {
+    for (piece, want) in rows {
+        same(rt, piece.len(), out.put(piece), *want);
+    }
+}
+
+fn held_twice(alloc: Global) -> Result<MemFiles, NoMemory> {
+    let mut files = MemFiles::new(alloc, Vec::new(alloc));
+    files.hold("a", b"old")?;
+    files.hold("b", b"")?;
+    files.hold("a", b"new")?;
+    Ok(files)
+}
+
+#[test]
+fn a_load_gives_what_is_held_up_to_its_limit(rt: HostRuntime) -> Result<(), Fail> {
+    const LOADS: [(&str, usize, Result<&[u8], LoadRefusal>); 5] = [
+        ("a", 4, Ok(b"new")),
+        ("a", 3, Ok(b"new")),
+        ("a", 2, Err(LoadRefusal::TooLong)),
+        ("b", 0, Ok(b"")),
+        ("c", 9, Err(LoadRefusal::Failed)),
+    ];
+    let mut files = held_twice(rt.alloc())?;
+    load(&rt, rt.alloc(), &mut files, &LOADS);
+    let counts = [files.faults(), files.calls(), files.taken()];
+    same(&rt, "counts", counts, [1, 5, 9]);
+    same(&rt, "c", files.bytes("c"), None);
+    Ok(())
+}
+
+/// The second, third and sixth calls fail.
+fn three_fail(alloc: Global) -> Result<MemFiles, NoMemory> {
+    let mut files = MemFiles::new(alloc, [1, 2, 5].to_vec(alloc)?);
+    files.hold("a", b"one")?;
+    Ok(files)
+}
+
+#[test]
+fn listed_calls_fail_and_are_counted(rt: HostRuntime) -> Result<(), Fail> {
+    const LOADS: [(&str, usize, Result<&[u8], LoadRefusal>); 2] = [
+        ("a", 9, Ok(b"one")),
+        ("a", 9, Err(LoadRefusal::Failed)),
+    ];
+    const SAVES: [(&str, &[u8], Result<(), SaveRefusal>); 4] = [
+        ("c", b"three", Err(SaveRefusal::Failed)),
+        ("b", b"one", Ok(())),
+        ("b", b"two", Ok(())),
+        ("b", b"four", Err(SaveRefusal::Failed)),
+    ];
+    let mut files = three_fail(rt.alloc())?;
+    load(&rt, rt.alloc(), &mut files, &LOADS);
+    save(&rt, rt.alloc(), &mut files, &SAVES);
+    let held = (files.bytes("b"), files.bytes("c"), files.faults());
+    same(&rt, "held", held, (Some(b"two"), None, 3));
+    Ok(())
+}
+
+#[test]
+fn puts_append_but_for_those_listed_or_past_the_room(rt: HostRuntime) -> Result<(), Fail> {
+    const PUTS: [(&[u8], Result<(), SinkFailed>); 5] = [
+        (b"ab", Ok(())),
+        (b"c", Err(SinkFailed)),
+        (b"cdef", Err(SinkFailed)),
+        (b"cde", Ok(())),
+        (b"", Ok(())),
+    ];
+    let mut out = MemSink::new(rt.alloc(), 5, [1].to_vec(rt.alloc())?)?;
+    put(&rt, &mut out, &PUTS);
+    same(&rt, "counts", [out.puts(), out.faults()], [5, 2]);
+    same(&rt, "written", out.written(), b"abcde");
+    Ok(())
+}
+
+#[test]
+fn the_system_saves_and_loads_up_to_the_limit(rt: HostRuntime) {
+    const CONTENT: [u8; 5_000] = [7; 5_000];
+    const SAVES: [(&str, &[u8], Result<(), SaveRefusal>); 3] = [
+        ("ksi_ports_limit", &CONTENT, Ok(())),
+        ("ksi_ports_saved", b"longer", Ok(())),
+        ("ksi_ports_saved", b"by", Ok(())),
+    ];
+    const LOADS: [(&str, usize, Result<&[u8], LoadRefusal>); 4] = [
+        ("ksi_ports_limit", 5_001, Ok(&CONTENT)),
+        ("ksi_ports_limit", 5_000, Ok(&CONTENT)),
+        ("ksi_ports_limit", 4_999, Err(LoadRefusal::TooLong)),
+        ("ksi_ports_saved", 5_000, Ok(b"by")),
+    ];
+    let mut files = HostFiles::new(&rt);
+    save(&rt, rt.alloc(), &mut files, &SAVES);
+    load(&rt, rt.alloc(), &mut files, &LOADS);
+    let counts = [files.calls(), files.faults(), files.taken()];
+    same(&rt, "counts", counts, [7, 0, 15_002]);
+}
+
+/// A folder is opened, and it is the read that fails.
+#[test]
+fn the_system_loads_no_removed_file_and_no_folder(rt: HostRuntime) -> Result<(), Fail> {
+    const SAVES: [(&str, &[u8], Result<(), SaveRefusal>); 1] = [("ksi_ports_gone", b"by", Ok(()))];
+    const LOADS: [(&str, usize, Result<&[u8], LoadRefusal>); 2] = [
+        ("ksi_ports_gone", 5_000, Err(LoadRefusal::Failed)),
+        (".", 5_000, Err(LoadRefusal::Failed)),
+    ];
+    let mut files = HostFiles::new(&rt);
+    save(&rt, rt.alloc(), &mut files, &SAVES);
+    fs::remove_file(&rt, "ksi_ports_gone")?;
+    load(&rt, rt.alloc(), &mut files, &LOADS);
+    let counts = [files.calls(), files.faults(), files.taken()];
+    same(&rt, "counts", counts, [3, 2, 0]);
+    Ok(())
+}
+
+#[test]
+fn the_system_writes(rt: HostRuntime) {
+    const PUTS: [(&[u8], Result<(), SinkFailed>); 3] = [
+        (b"line ", Ok(())),
+        (b"", Ok(())),
+        (b"one", Ok(())),
+    ];
+    let mut written = Vec::new(rt.alloc());
+    let mut out = HostSink::new(&mut written);
+    put(&rt, &mut out, &PUTS);
+    same(&rt, "counts", [out.puts(), out.faults()], [3, 0]);
+    same(&rt, "written", written.as_slice(), b"line one");
+}

@@ -1,0 +1,185 @@
+use crate::same::same;
+use ksi_imprint::{Bytes, Compress, Imprint, NoMemory, Sha};
+use ksi_publications::{PubFault, Publications, read, write};
+use std::alloc::Global;
+use std::process::Abort;
+use std::test::Fail;
+
+/// The magic and what stands behind it.
+fn file(alloc: Global, behind: &[&[u8]]) -> Result<Bytes, NoMemory> {
+    let mut text = b"KSIPUBLF".to_vec(alloc)?;
+    for part in behind {
+        text.extend_from_slice(part)?;
+    }
+    Ok(Bytes::from_vec(text))
+}
+
+/// The only pair of a file, nothing where it has not one.
+fn listed(alloc: Global, bytes: &[u8]) -> Result<Option<(u64, Imprint)>, PubFault> {
+    match read(alloc, bytes) {
+        Ok(publications) => match publications.pairs() {
+            [pair] => Ok(Some(*pair)),
+            _ => Ok(None),
+        },
+        Err(fault) => Err(fault),
+    }
+}
+
+fn lists(
+    rt: &impl Abort,
+    alloc: Global,
+    behind: &[&[u8]],
+    want: Result<Option<(u64, Imprint)>, PubFault>,
+) -> Result<(), NoMemory> {
+    let text = file(alloc, behind)?;
+    same(rt, behind.len(), listed(alloc, text.as_slice()), want);
+    Ok(())
+}
+
+/// A header, and a record of second 0 but for the digest.
+const FRONT: [u8; 19] = [
+    0x87, 0x01, 0x00, 0x05, 0x01, 0x01, 0x01, 0x02, 0x00, 0x87, 0x03, 0x00, 0x27, 0x10, 0x25, 0x02,
+    0x00, 0x04, 0x21,
+];
+
+#[test]
+fn one_record_is_sixty_bytes(rt: HostRuntime) -> Result<(), Fail> {
+    let hash = Sha::of(b"");
+    let text = file(rt.alloc(), &[&FRONT, hash.bytes()])?;
+    let written = write(rt.alloc(), 0, &[(0, hash)])?;
+    same(&rt, "length", text.as_slice().len(), 60);
+    same(&rt, "written", written.as_slice(), text.as_slice());
+    Ok(())
+}
+
+#[test]
+fn reads_one_record_and_nothing_behind_it(rt: HostRuntime) -> Result<(), Fail> {
+    let hash = Sha::of(b"");
+    lists(
+        &rt,
+        rt.alloc(),
+        &[&FRONT, hash.bytes()],
+        Ok(Some((0, hash))),
+    )?;
+    let refused = PubFault::RefusedElement(1796, 60);
+    let behind: [&[u8]; 3] = [&FRONT, hash.bytes(), &[0x87, 0x04, 0x00, 0x00]];
+    lists(&rt, rt.alloc(), &behind, Err(refused))?;
+    Ok(())
+}
+
+#[test]
+fn the_magic_comes_first(rt: HostRuntime) {
+    same(
+        &rt,
+        "magic",
+        listed(rt.alloc(), b"KSIPUBL"),
+        Err(PubFault::Magic),
+    );
+}
+
+/// Worked out by hand: what stands behind the magic.
+#[test]
+fn answers_the_first_fault(rt: HostRuntime) -> Result<(), Fail> {
+    const ROWS: [(&[u8], PubFault); 13] = [
+        (&[], PubFault::Missing(1793, 0)),
+        (&[0x87], PubFault::Tlv(8)),
+        (&[0x87, 0x01, 0x00, 0x05, 0x01], PubFault::Tlv(8)),
+        (&[0x87, 0x02, 0x00, 0x00], PubFault::RefusedElement(1794, 8)),
+        (
+            &[0x87, 0x05, 0x00, 0x00],
+            PubFault::UnknownCritical(1797, 8),
+        ),
+        (&[0xc7, 0x05, 0x00, 0x00], PubFault::Missing(1793, 0)),
+        (
+            &[0x87, 0x01, 0x00, 0x03, 0x01, 0x01, 0x01],
+            PubFault::Missing(2, 8),
+        ),
+        (
+            &[
+                0x87, 0x01, 0x00, 0x04, 0x01, 0x00, 0x02, 0x00, 0x87, 0x01, 0x00, 0x00,
+            ],
+            PubFault::Repeated(1793, 16),
+        ),
+        (
+            &[
+                0x87, 0x01, 0x00, 0x0b, 0x01, 0x09, 0, 0, 0, 0, 0, 0, 0, 0, 0,
+            ],
+            PubFault::Number(12),
+        ),
+        (
+            &[
+                0x87, 0x01, 0x00, 0x0c, 0x01, 0x00, 0x02, 0x08, 0x80, 0, 0, 0, 0, 0, 0, 0,
+            ],
+            PubFault::Time(14),
+        ),
+        (&[0x87, 0x03, 0x00, 0x00], PubFault::Missing(16, 8)),
+        (
+            &[0x87, 0x03, 0x00, 0x04, 0x10, 0x02, 0x02, 0x00],
+            PubFault::Missing(4, 12),
+        ),
+        (
+            &[
+                0x87, 0x03, 0x00, 0x08, 0x10, 0x06, 0x02, 0x00, 0x04, 0x02, 0x01, 0x00,
+            ],
+            PubFault::Imprint(16),
+        ),
+    ];
+    for (behind, want) in ROWS {
+        lists(&rt, rt.alloc(), &[behind], Err(want))?;
+    }
+    Ok(())
+}
+
+/// A record before the header, long headers of short kinds, a number with a zero before it, and elements that may be
+/// passed over in every container: what stands before the digest, and what stands behind it.
+const PASSED_OVER: [&[u8]; 2] = [
+    &[
+        0x87, 0x03, 0x00, 0x32, 0x09, 0x01, 0xff, 0x5e, 0x00, 0x80, 0x10, 0x00, 0x29, 0x02, 0x02,
+        0x00, 0x05, 0x04, 0x21,
+    ],
+    &[
+        0x5e, 0x00, 0xc7, 0x05, 0x00, 0x00, 0x87, 0x01, 0x00, 0x07, 0x02, 0x00, 0x01, 0x00, 0x5e,
+        0x01, 0xaa,
+    ],
+];
+
+#[test]
+fn passes_over_what_it_may(rt: HostRuntime) -> Result<(), Fail> {
+    let hash = Sha::of(b"");
+    let [front, end] = PASSED_OVER;
+    lists(
+        &rt,
+        rt.alloc(),
+        &[front, hash.bytes(), end],
+        Ok(Some((5, hash))),
+    )?;
+    Ok(())
+}
+
+/// The hashes of the seconds 5, 6 and 7 in a file, nothing where it is none.
+fn found(alloc: Global, bytes: &[u8]) -> Option<[Option<Imprint>; 3]> {
+    let publications = read(alloc, bytes).ok()?;
+    Some([
+        publications.find(5),
+        publications.find(6),
+        publications.find(7),
+    ])
+}
+
+#[test]
+fn finds_the_first_of_a_time(rt: HostRuntime) -> Result<(), Fail> {
+    let hash = Sha::of(b"");
+    let pairs = [(5, hash), (5, Imprint::ZERO), (7, Imprint::ZERO)];
+    let file = write(rt.alloc(), 9, &pairs)?;
+    let want = [Some(hash), None, Some(Imprint::ZERO)];
+    same(&rt, "found", found(rt.alloc(), file.as_slice()), Some(want));
+    Ok(())
+}
+
+#[test]
+fn hands_its_pairs_over(rt: HostRuntime) -> Result<(), Fail> {
+    let pairs = vec![in rt.alloc(); (5, Imprint::ZERO); 1]?;
+    let again = Publications::from_vec(pairs).into_vec();
+    same(&rt, "pairs", again.as_slice(), &[(5, Imprint::ZERO)]);
+    Ok(())
+}
