@@ -68,7 +68,7 @@ Means P (Err NoMemory) = Unit {0}
 abbrev pub WhereRead : (Report → Type 0) → Report → Type 0
 WhereRead P report = report.status ≢ TooLong → report.status ≢ Malformed → P report
 
--- Want of memory stands in place of no file that is too long: where the run ends with one and memory was wanting, fewer loads
--- were made than the run makes, so this file's was not.
+-- A file that was loaded and is too long is never told as want of memory: where the run ends with one and memory was wanting,
+-- fewer loads were made than the run makes, so not that file's.
 abbrev pub Unloaded : Report → (loads before now : ℕ) → Result Report Halt → Type 0
 Unloaded ran loads before now result = result ≡ Err NoMemory → ran.status ≡ TooLong → now < before + loads

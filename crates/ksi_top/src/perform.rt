@@ -41,7 +41,6 @@ pub(crate) fn report_of<F: Files>(
     ensures few_calls { IfOk (command_of (texts words.now)) (λ command. F.calls files.new ≤ F.calls files.old + most_loads command) }
     ensures untouched { IfErr (command_of (texts words.now)) (λ _. F.calls files.new ≡ F.calls files.old) }
     ensures few_saves { IfOk (command_of (texts words.now)) (λ command. Means (λ report. saves_of report.saved ≤ most_saves command) result) }
-    ensures later { F.calls files.old ≤ F.calls files.new }
     ensures wanting { IsTrue F.tells → Unloaded (run (texts words.now) (F.held files.old)) (run_loads (command_of (texts words.now)) (F.held files.old)) (F.calls files.old) (F.calls files.new) result }
     ensures causes { RunCaused (command_of (texts words.now)) (counts (F.calls files.old) (F.saves files.old) (F.faults files.old) (F.taken files.old) (F.last_taken files.old)) (counts (F.calls files.new) (F.saves files.new) (F.faults files.new) (F.taken files.new) (F.last_taken files.new)) result }
 {

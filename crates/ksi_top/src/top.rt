@@ -57,8 +57,8 @@ pub fn ksi<F: Files, K: Sink>(alloc: Global, words: &[String], files: &mut F, ou
     ensures unput { result ≡ Status.NoMemory →
         (K.puts out.new ≡ K.puts out.old) × (IsTrue K.tells → K.written out.new ≡ K.written out.old) }
 
-    // Want of memory stands in place of no status 7: where the run ends with it and memory was wanting, fewer loads were made
-    // than the run makes, so not that of the file that is too long.
+    // A file that was loaded and is too long is never told as want of memory: where the run ends with status 7 and memory was
+    // wanting, fewer loads were made than the run makes, so not that file's.
     ensures wanting { IsTrue F.tells → result ≡ Status.NoMemory →
         (run (texts words.now) (F.held files.old)).status ≡ Status.TooLong →
         F.calls files.new < F.calls files.old + run_loads (command_of (texts words.now)) (F.held files.old) }
