@@ -1,14 +1,12 @@
 -- Causes over one call after another.
-use Rattle.std.proofs.Common.{◌≡◌, ℕ, ◌+◌, ◌≤◌, List, ◌∷◌, Option, Some, None, Result, Ok, Err, arith, refl, sym, subst, add-one}
-use Rattle.std.specs.Prelude.{slice_get}
-use Rattle.ksi_ports.specs.Outside.{count_up}
+use Rattle.std.proofs.Common.{ℕ, ◌+◌, ◌≤◌, List, ◌∷◌, Option, Some, None, Result, Ok, Err, arith, refl, sym, subst, add-one}
 use Rattle.ksi_top.specs.declared.report.Report.{Report}
 use Rattle.ksi_top.specs.declared.report.Halt.{Halt}
 use Rattle.ksi_top.specs.declared.report.Halt.TheVariants as halts
 use Rattle.ksi_top.specs.declared.status.Status.{Status}
 use Rattle.ksi_top.specs.declared.status.Status.TheVariants.{Done, Refused, Words, Malformed, Fault, NoMemory, Clash, TooLong}
 use Rattle.ksi_top.specs.Run.{saves_of}
-use Rattle.ksi_top.specs.Causes.{IsJudged, JudgedAs, CausedAs, Counts, Quiet, Faulty, LoadCaused, Loaded, Caused, ReportCaused, PassesLimit, SomePasses}
+use Rattle.ksi_top.specs.Causes.{IsJudged, JudgedAs, CausedAs, Counts, Quiet, LoadCaused, Loaded, Caused, ReportCaused, PassesLimit, SomePasses}
 
 judged_caused : (files : List (ℕ × ℕ)) (before now : Counts) (line : List ℕ) (status : Status) (saved : Option (List ℕ × List ℕ)) → JudgedAs status saved → CausedAs files before now line status saved
 judged_caused files before now line Done saved judged = tt
