@@ -5,3 +5,4 @@ pub mod Read
 pub mod Spacing
 pub mod Headline
 pub mod Accepting
+pub mod Wanting

@@ -1,5 +1,5 @@
 -- Reports, and how one follows from what was read.
-use Rattle.std.specs.Prelude.{◌≡◌, ◌≢◌, ℕ, List, Some, None, Result, Ok, Err}
+use Rattle.std.specs.Prelude.{◌≡◌, ◌≢◌, ℕ, ◌+◌, ◌<◌, List, Some, None, Result, Ok, Err}
 use Rattle.ksi_top.specs.declared.report.Report.{Report}
 use Rattle.ksi_top.specs.declared.report.Halt.{Halt}
 use Rattle.ksi_top.specs.declared.report.Halt.TheVariants.{Reported, Fault, NoMemory}
@@ -67,3 +67,8 @@ Means P (Err NoMemory) = Unit {0}
 -- what a report means where all files were read: none passed its limit or was malformed
 abbrev pub WhereRead : (Report → Type 0) → Report → Type 0
 WhereRead P report = report.status ≢ TooLong → report.status ≢ Malformed → P report
+
+-- Want of memory stands in place of no file that is too long: where the run ends with one and memory was wanting, fewer loads
+-- were made than the run makes, so this file's was not.
+abbrev pub Unloaded : Report → (loads before now : ℕ) → Result Report Halt → Type 0
+Unloaded ran loads before now result = result ≡ Err NoMemory → ran.status ≡ TooLong → now < before + loads

@@ -2,7 +2,7 @@
 ghost use Rattle.std.specs.Prelude.{◌≡◌, ◌≤◌, ◌+◌, ℕ, IsTrue, IfOk, None};
 ghost use Rattle.ksi_imprint.specs.Imprints.{imprint_of};
 ghost use Rattle.ksi_auditor.specs.Audit as audits;
-ghost use Rattle.ksi_top.specs.Reports.{Reports, Means, WhereRead};
+ghost use Rattle.ksi_top.specs.Reports.{Reports, Unloaded, Means, WhereRead};
 ghost use Rattle.ksi_top.specs.Headline.{IsAudited, IsAuditedBeside, IsAuditedOver, IsAnswered};
 ghost use Rattle.ksi_top.specs.Loading.{content};
 ghost use Rattle.ksi_top.specs.Causes.{ReportCaused, IsJudged, counts};
@@ -34,8 +34,8 @@ pub(crate) fn audit<F: Files>(
     ensures headline { IsTrue F.tells → Means (WhereRead (IsAudited (content (F.held files.old) journal.now) (content (F.held files.old) signature.now) hash.now (content (F.held files.old) publications.now))) result }
     ensures stays { IsTrue F.tells → F.held files.new ≡ F.held files.old }
     ensures calls { IsTrue F.tells → F.calls files.new ≤ F.calls files.old + audit_loads journal.now signature.now (F.held files.old) }
-    ensures few_calls { F.calls files.new ≤ F.calls files.old + 3 }
-    ensures later { F.calls files.old ≤ F.calls files.new }
+    ensures few_calls { (F.calls files.old ≤ F.calls files.new) × (F.calls files.new ≤ F.calls files.old + 3) }
+    ensures wanting { IsTrue F.tells → Unloaded (audit_run journal.now signature.now hash.now publications.now (F.held files.old)) (audit_loads journal.now signature.now (F.held files.old)) (F.calls files.old) (F.calls files.new) result }
     ensures unsaved { Means (λ report. report.saved ≡ None) result }
     ensures causes { ReportCaused audit_files (counts (F.calls files.old) (F.saves files.old) (F.faults files.old) (F.taken files.old) (F.last_taken files.old)) (counts (F.calls files.new) (F.saves files.new) (F.faults files.new) (F.taken files.new) (F.last_taken files.new)) result }
 {
@@ -58,8 +58,8 @@ fn audit_beside<F: Files>(
     ensures headline { IsTrue F.tells → Means (WhereRead (IsAuditedBeside journal.now (content (F.held files.old) signature.now) hash.now (content (F.held files.old) publications.now))) result }
     ensures stays { IsTrue F.tells → F.held files.new ≡ F.held files.old }
     ensures calls { IsTrue F.tells → F.calls files.new ≤ F.calls files.old + loads_beside signature.now (F.held files.old) }
-    ensures few_calls { F.calls files.new ≤ F.calls files.old + 2 }
-    ensures later { F.calls files.old ≤ F.calls files.new }
+    ensures few_calls { (F.calls files.old ≤ F.calls files.new) × (F.calls files.new ≤ F.calls files.old + 2) }
+    ensures wanting { IsTrue F.tells → Unloaded (audit_beside journal.now signature.now hash.now publications.now (F.held files.old)) (loads_beside signature.now (F.held files.old)) (F.calls files.old) (F.calls files.new) result }
     ensures unsaved { Means (λ report. report.saved ≡ None) result }
     ensures causes { ReportCaused beside_files (counts (F.calls files.old) (F.saves files.old) (F.faults files.old) (F.taken files.old) (F.last_taken files.old)) (counts (F.calls files.new) (F.saves files.new) (F.faults files.new) (F.taken files.new) (F.last_taken files.new)) result }
 {
@@ -81,8 +81,8 @@ fn audit_over<F: Files>(
     ensures told { IsTrue F.tells → Reports (audit_over journal.now signature.now hash.now publications.now (F.held files.old)) result }
     ensures headline { IsTrue F.tells → Means (WhereRead (IsAuditedOver journal.now signature.now hash.now (content (F.held files.old) publications.now))) result }
     ensures stays { IsTrue F.tells → F.held files.new ≡ F.held files.old }
-    ensures calls { F.calls files.new ≤ F.calls files.old + 1 }
-    ensures later { F.calls files.old ≤ F.calls files.new }
+    ensures few_calls { (F.calls files.old ≤ F.calls files.new) × (F.calls files.new ≤ F.calls files.old + 1) }
+    ensures wanting { IsTrue F.tells → Unloaded (audit_over journal.now signature.now hash.now publications.now (F.held files.old)) 1 (F.calls files.old) (F.calls files.new) result }
     ensures unsaved { Means (λ report. report.saved ≡ None) result }
     ensures causes { ReportCaused over_files (counts (F.calls files.old) (F.saves files.old) (F.faults files.old) (F.taken files.old) (F.last_taken files.old)) (counts (F.calls files.new) (F.saves files.new) (F.faults files.new) (F.taken files.new) (F.last_taken files.new)) result }
 {

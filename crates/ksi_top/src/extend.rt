@@ -3,7 +3,7 @@ ghost use Rattle.std.specs.Prelude.{◌≡◌, ◌≤◌, ◌<◌, ◌+◌, ◌^
 ghost use Rattle.ksi_imprint.specs.Imprints.{imprint_of};
 ghost use Rattle.ksi_extender.specs.Accepted.{first_time};
 ghost use Rattle.ksi_extender.specs.Extended.{extended};
-ghost use Rattle.ksi_top.specs.Reports.{Reports, Means, WhereRead};
+ghost use Rattle.ksi_top.specs.Reports.{Reports, Unloaded, Means, WhereRead};
 ghost use Rattle.ksi_top.specs.declared.status.Status.TheVariants as statuses;
 ghost use Rattle.ksi_top.specs.Headline.{IsExtension, IsExtensionOver, IsTakenOn};
 ghost use Rattle.ksi_top.specs.Loading.{content};
@@ -37,8 +37,8 @@ pub(crate) fn extend<F: Files>(
     ensures headline { IsTrue F.tells → Means (WhereRead (IsExtension (content (F.held files.old) journal.now) (content (F.held files.old) signature.now) second out.now)) result }
     ensures stays { IsTrue F.tells → F.held files.new ≡ F.held files.old }
     ensures calls { IsTrue F.tells → F.calls files.new ≤ F.calls files.old + extend_loads journal.now (F.held files.old) }
-    ensures few_calls { F.calls files.new ≤ F.calls files.old + 2 }
-    ensures later { F.calls files.old ≤ F.calls files.new }
+    ensures few_calls { (F.calls files.old ≤ F.calls files.new) × (F.calls files.new ≤ F.calls files.old + 2) }
+    ensures wanting { IsTrue F.tells → Unloaded (extend_run journal.now signature.now second out.now (F.held files.old)) (extend_loads journal.now (F.held files.old)) (F.calls files.old) (F.calls files.new) result }
     ensures causes { ReportCaused extend_files (counts (F.calls files.old) (F.saves files.old) (F.faults files.old) (F.taken files.old) (F.last_taken files.old)) (counts (F.calls files.new) (F.saves files.new) (F.faults files.new) (F.taken files.new) (F.last_taken files.new)) result }
 {
     let bytes = load_file(alloc, files, FILE_LIMIT, 1, journal)?;
@@ -60,8 +60,8 @@ fn extend_over<F: Files>(
     ensures told { IsTrue F.tells → Reports (extend_over journal.now signature.now second out.now (F.held files.old)) result }
     ensures headline { IsTrue F.tells → Means (WhereRead (IsExtensionOver journal.now (content (F.held files.old) signature.now) second out.now)) result }
     ensures stays { IsTrue F.tells → F.held files.new ≡ F.held files.old }
-    ensures calls { F.calls files.new ≤ F.calls files.old + 1 }
-    ensures later { F.calls files.old ≤ F.calls files.new }
+    ensures few_calls { (F.calls files.old ≤ F.calls files.new) × (F.calls files.new ≤ F.calls files.old + 1) }
+    ensures wanting { IsTrue F.tells → Unloaded (extend_over journal.now signature.now second out.now (F.held files.old)) 1 (F.calls files.old) (F.calls files.new) result }
     ensures causes { ReportCaused over_files (counts (F.calls files.old) (F.saves files.old) (F.faults files.old) (F.taken files.old) (F.last_taken files.old)) (counts (F.calls files.new) (F.saves files.new) (F.faults files.new) (F.taken files.new) (F.last_taken files.new)) result }
 {
     let bytes = load_file(alloc, files, SIGNATURE_LIMIT, 2, signature)?;

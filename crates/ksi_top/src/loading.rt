@@ -1,5 +1,6 @@
 // The file words that a command reads.
-ghost use Rattle.std.specs.Prelude.{◌≡◌, ◌≤◌, ◌+◌, ℕ, IsTrue, IfOk};
+ghost use Rattle.std.specs.Prelude.{◌≡◌, ◌≤◌, ◌+◌, ℕ, IsTrue, IfOk, Err};
+ghost use Rattle.ksi_top.specs.declared.report.Halt.TheVariants as halts;
 ghost use Rattle.ksi_top.specs.Reports.{Gives};
 ghost use Rattle.ksi_top.specs.Causes.{LoadCaused, counts};
 ghost use Rattle.ksi_top.specs.Loading.{content, loaded};
@@ -31,8 +32,8 @@ pub(crate) fn load_file<F: Files>(
     ensures told { IsTrue F.tells → Gives (loaded limit n (F.held files.old) name.now) result }
     ensures whole { IsTrue F.tells → IfOk result (λ bytes. bytes ≡ content (F.held files.old) name.now) }
     ensures stays { IsTrue F.tells → F.held files.new ≡ F.held files.old }
-    ensures calls { F.calls files.new ≤ F.calls files.old + 1 }
-    ensures later { F.calls files.old ≤ F.calls files.new }
+    ensures few_calls { (F.calls files.old ≤ F.calls files.new) × (F.calls files.new ≤ F.calls files.old + 1) }
+    ensures wanting { IsTrue F.tells → result ≡ Err halts.NoMemory → F.calls files.new ≡ F.calls files.old }
     ensures causes { LoadCaused n limit (counts (F.calls files.old) (F.saves files.old) (F.faults files.old) (F.taken files.old) (F.last_taken files.old)) (counts (F.calls files.new) (F.saves files.new) (F.faults files.new) (F.taken files.new) (F.last_taken files.new)) result }
 {
     match files.load(alloc, name, limit) {

@@ -1,6 +1,6 @@
 // What a run reports, before anything is saved or put.
 ghost use Rattle.std.specs.Prelude.{◌≡◌, ◌≤◌, ◌+◌, IsTrue, IfOk, IfErr};
-ghost use Rattle.ksi_top.specs.Reports.{Reports, Means};
+ghost use Rattle.ksi_top.specs.Reports.{Reports, Unloaded, Means};
 ghost use Rattle.ksi_top.specs.Causes.{ReportCaused, counts};
 ghost use Rattle.ksi_top.specs.Run.{performed, files_of, loads_of, most_loads, most_saves, run_loads, saves_of, refused, run};
 ghost use Rattle.ksi_top.specs.Top.{RunCaused};
@@ -42,6 +42,7 @@ pub(crate) fn report_of<F: Files>(
     ensures untouched { IfErr (command_of (texts words.now)) (λ _. F.calls files.new ≡ F.calls files.old) }
     ensures few_saves { IfOk (command_of (texts words.now)) (λ command. Means (λ report. saves_of report.saved ≤ most_saves command) result) }
     ensures later { F.calls files.old ≤ F.calls files.new }
+    ensures wanting { IsTrue F.tells → Unloaded (run (texts words.now) (F.held files.old)) (run_loads (command_of (texts words.now)) (F.held files.old)) (F.calls files.old) (F.calls files.new) result }
     ensures causes { RunCaused (command_of (texts words.now)) (counts (F.calls files.old) (F.saves files.old) (F.faults files.old) (F.taken files.old) (F.last_taken files.old)) (counts (F.calls files.new) (F.saves files.new) (F.faults files.new) (F.taken files.new) (F.last_taken files.new)) result }
 {
     issued_is_accepted();
@@ -61,9 +62,9 @@ fn perform<F: Files>(alloc: Global, files: &mut F, command: &Command<'_>) -> Res
     ensures headline { IsTrue F.tells → Means (Headline (asked command.now) (F.held files.old)) result }
     ensures stays { IsTrue F.tells → F.held files.new ≡ F.held files.old }
     ensures calls { IsTrue F.tells → F.calls files.new ≤ F.calls files.old + loads_of (asked command.now) (F.held files.old) }
-    ensures few_calls { F.calls files.new ≤ F.calls files.old + most_loads (asked command.now) }
+    ensures few_calls { (F.calls files.old ≤ F.calls files.new) × (F.calls files.new ≤ F.calls files.old + most_loads (asked command.now)) }
+    ensures wanting { IsTrue F.tells → Unloaded (performed (asked command.now) (F.held files.old)) (loads_of (asked command.now) (F.held files.old)) (F.calls files.old) (F.calls files.new) result }
     ensures few_saves { Means (λ report. saves_of report.saved ≤ most_saves (asked command.now)) result }
-    ensures later { F.calls files.old ≤ F.calls files.new }
     ensures causes { ReportCaused (files_of (asked command.now)) (counts (F.calls files.old) (F.saves files.old) (F.faults files.old) (F.taken files.old) (F.last_taken files.old)) (counts (F.calls files.new) (F.saves files.new) (F.faults files.new) (F.taken files.new) (F.last_taken files.new)) result }
 {
     match command {

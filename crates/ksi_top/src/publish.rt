@@ -1,6 +1,6 @@
 // The command `publish`.
 ghost use Rattle.std.specs.Prelude.{◌≡◌, ◌≤◌, ◌+◌, IsTrue, IfOk};
-ghost use Rattle.ksi_top.specs.Reports.{Reports};
+ghost use Rattle.ksi_top.specs.Reports.{Reports, Unloaded};
 ghost use Rattle.ksi_top.specs.Causes.{ReportCaused, IsJudged, counts};
 ghost use Rattle.ksi_top.specs.Publish.{publish_files, publish_run, published, last_time};
 
@@ -23,8 +23,8 @@ pub(crate) fn publish<F: Files>(
 ) -> Result<Report, Halt>
     ensures told { IsTrue F.tells → Reports (publish_run journal.now out.now (F.held files.old)) result }
     ensures stays { IsTrue F.tells → F.held files.new ≡ F.held files.old }
-    ensures calls { F.calls files.new ≤ F.calls files.old + 1 }
-    ensures later { F.calls files.old ≤ F.calls files.new }
+    ensures few_calls { (F.calls files.old ≤ F.calls files.new) × (F.calls files.new ≤ F.calls files.old + 1) }
+    ensures wanting { IsTrue F.tells → Unloaded (publish_run journal.now out.now (F.held files.old)) 1 (F.calls files.old) (F.calls files.new) result }
     ensures causes { ReportCaused publish_files (counts (F.calls files.old) (F.saves files.old) (F.faults files.old) (F.taken files.old) (F.last_taken files.old)) (counts (F.calls files.new) (F.saves files.new) (F.faults files.new) (F.taken files.new) (F.last_taken files.new)) result }
 {
     let bytes = load_file(alloc, files, FILE_LIMIT, 1, journal)?;

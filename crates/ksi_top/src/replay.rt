@@ -1,6 +1,6 @@
 // The command `replay`.
 ghost use Rattle.std.specs.Prelude.{◌≡◌, ◌≤◌, ◌+◌, IsTrue, IfOk};
-ghost use Rattle.ksi_top.specs.Reports.{Reports, Means, WhereRead};
+ghost use Rattle.ksi_top.specs.Reports.{Reports, Unloaded, Means, WhereRead};
 ghost use Rattle.ksi_imprint.specs.Imprints.{imprint_of};
 ghost use Rattle.ksi_journal.specs.Journal.{IsJournal};
 ghost use Rattle.ksi_journal.specs.File.{IsJournalFile};
@@ -38,8 +38,8 @@ pub(crate) fn replay<F: Files>(
     ensures told { IsTrue F.tells → Reports (replay_run schedule.now journal.now (F.held files.old)) result }
     ensures headline { IsTrue F.tells → Means (WhereRead (IsReplayed (content (F.held files.old) schedule.now) journal.now)) result }
     ensures stays { IsTrue F.tells → F.held files.new ≡ F.held files.old }
-    ensures calls { F.calls files.new ≤ F.calls files.old + 1 }
-    ensures later { F.calls files.old ≤ F.calls files.new }
+    ensures few_calls { (F.calls files.old ≤ F.calls files.new) × (F.calls files.new ≤ F.calls files.old + 1) }
+    ensures wanting { IsTrue F.tells → Unloaded (replay_run schedule.now journal.now (F.held files.old)) 1 (F.calls files.old) (F.calls files.new) result }
     ensures causes { ReportCaused replay_files (counts (F.calls files.old) (F.saves files.old) (F.faults files.old) (F.taken files.old) (F.last_taken files.old)) (counts (F.calls files.new) (F.saves files.new) (F.faults files.new) (F.taken files.new) (F.last_taken files.new)) result }
 {
     histories_hold();

@@ -1,7 +1,7 @@
 // The command `sign`.
 ghost use Rattle.std.specs.Prelude.{◌≡◌, ◌≤◌, ◌+◌, IsTrue, IfOk};
 ghost use Rattle.std.specs.Option.{option_copied};
-ghost use Rattle.ksi_top.specs.Reports.{Reports};
+ghost use Rattle.ksi_top.specs.Reports.{Reports, Unloaded};
 ghost use Rattle.ksi_top.specs.Causes.{ReportCaused, IsJudged, counts};
 ghost use Rattle.ksi_top.specs.Sign.{sign_files, sign_run, signature_of, signed};
 
@@ -26,8 +26,8 @@ pub(crate) fn sign<F: Files>(
 ) -> Result<Report, Halt>
     ensures told { IsTrue F.tells → Reports (sign_run journal.now number out.now (F.held files.old)) result }
     ensures stays { IsTrue F.tells → F.held files.new ≡ F.held files.old }
-    ensures calls { F.calls files.new ≤ F.calls files.old + 1 }
-    ensures later { F.calls files.old ≤ F.calls files.new }
+    ensures few_calls { (F.calls files.old ≤ F.calls files.new) × (F.calls files.new ≤ F.calls files.old + 1) }
+    ensures wanting { IsTrue F.tells → Unloaded (sign_run journal.now number out.now (F.held files.old)) 1 (F.calls files.old) (F.calls files.new) result }
     ensures causes { ReportCaused sign_files (counts (F.calls files.old) (F.saves files.old) (F.faults files.old) (F.taken files.old) (F.last_taken files.old)) (counts (F.calls files.new) (F.saves files.new) (F.faults files.new) (F.taken files.new) (F.last_taken files.new)) result }
 {
     let bytes = load_file(alloc, files, FILE_LIMIT, 1, journal)?;

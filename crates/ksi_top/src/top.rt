@@ -4,7 +4,7 @@ ghost use Rattle.ksi_top.specs.Top.{UnlessCut, FaultLeaves, outside, WordsStatus
 ghost use Rattle.ksi_top.specs.Causes.{counts};
 ghost use Rattle.ksi_top.specs.Complete.{Complete};
 ghost use Rattle.ksi_top.specs.Headline.{Headline};
-ghost use Rattle.ksi_top.specs.Run.{most_calls, run, run_calls, saved_into, saves_of};
+ghost use Rattle.ksi_top.specs.Run.{most_calls, run, run_calls, run_loads, saved_into, saves_of};
 ghost use Rattle.ksi_words.specs.Words.{texts, command_of};
 
 use crate::perform::report_of;
@@ -57,6 +57,12 @@ pub fn ksi<F: Files, K: Sink>(alloc: Global, words: &[String], files: &mut F, ou
     ensures unput { result ≡ Status.NoMemory →
         (K.puts out.new ≡ K.puts out.old) × (IsTrue K.tells → K.written out.new ≡ K.written out.old) }
 
+    // Want of memory stands in place of no status 7: where the run ends with it and memory was wanting, fewer loads were made
+    // than the run makes, so not that of the file that is too long.
+    ensures wanting { IsTrue F.tells → result ≡ Status.NoMemory →
+        (run (texts words.now) (F.held files.old)).status ≡ Status.TooLong →
+        F.calls files.new < F.calls files.old + run_loads (command_of (texts words.now)) (F.held files.old) }
+
     // These hold also where the files tell nothing.
     ensures words { UnlessCut result (WordsStatus (command_of (texts words.now)) result) }
     ensures words_line { IsTrue K.tells →
@@ -100,7 +106,7 @@ fn finish<F: Files, K: Sink>(alloc: Global, report: &Report, files: &mut F, out:
     ensures one_put { K.puts out.new ≤ K.puts out.old + 1 }
     ensures short_put { K.given out.new ≤ K.given out.old + 32767 }
     ensures untouched { report.now.saved ≡ None → files.new ≡ files.old }
-    ensures no_save { result ≡ Status.NoMemory → F.saves files.new ≡ F.saves files.old }
+    ensures no_save { result ≡ Status.NoMemory → (report.now.saved ≢ None) × (F.saves files.new ≡ F.saves files.old) }
     ensures quiet { result ≢ Status.Fault →
         (F.faults files.new ≡ F.faults files.old) × (K.faults out.new ≡ K.faults out.old) }
     ensures later { (F.faults files.old ≤ F.faults files.new) × (K.faults out.old ≤ K.faults out.new) }

@@ -1,6 +1,6 @@
 // The command `verify`.
 ghost use Rattle.std.specs.Prelude.{◌≡◌, ◌≤◌, ◌+◌, ℕ, IsTrue, None};
-ghost use Rattle.ksi_top.specs.Reports.{Reports, Means, WhereRead};
+ghost use Rattle.ksi_top.specs.Reports.{Reports, Unloaded, Means, WhereRead};
 ghost use Rattle.ksi_top.specs.Headline.{IsVerified, IsVerifiedOver};
 ghost use Rattle.ksi_top.specs.Loading.{content};
 ghost use Rattle.ksi_top.specs.Causes.{ReportCaused, IsJudged, counts};
@@ -35,8 +35,8 @@ pub(crate) fn verify<F: Files>(
     ensures headline { IsTrue F.tells → Means (WhereRead (IsVerified (content (F.held files.old) signature.now) hash.now (content (F.held files.old) publications.now))) result }
     ensures stays { IsTrue F.tells → F.held files.new ≡ F.held files.old }
     ensures calls { IsTrue F.tells → F.calls files.new ≤ F.calls files.old + verify_loads signature.now (F.held files.old) }
-    ensures few_calls { F.calls files.new ≤ F.calls files.old + 2 }
-    ensures later { F.calls files.old ≤ F.calls files.new }
+    ensures few_calls { (F.calls files.old ≤ F.calls files.new) × (F.calls files.new ≤ F.calls files.old + 2) }
+    ensures wanting { IsTrue F.tells → Unloaded (verify_run signature.now hash.now publications.now (F.held files.old)) (verify_loads signature.now (F.held files.old)) (F.calls files.old) (F.calls files.new) result }
     ensures unsaved { Means (λ report. report.saved ≡ None) result }
     ensures causes { ReportCaused verify_files (counts (F.calls files.old) (F.saves files.old) (F.faults files.old) (F.taken files.old) (F.last_taken files.old)) (counts (F.calls files.new) (F.saves files.new) (F.faults files.new) (F.taken files.new) (F.last_taken files.new)) result }
 {
@@ -57,8 +57,8 @@ fn verify_over<F: Files>(
     ensures told { IsTrue F.tells → Reports (verify_over signature.now hash.now publications.now (F.held files.old)) result }
     ensures headline { IsTrue F.tells → Means (WhereRead (IsVerifiedOver signature.now hash.now (content (F.held files.old) publications.now))) result }
     ensures stays { IsTrue F.tells → F.held files.new ≡ F.held files.old }
-    ensures calls { F.calls files.new ≤ F.calls files.old + 1 }
-    ensures later { F.calls files.old ≤ F.calls files.new }
+    ensures few_calls { (F.calls files.old ≤ F.calls files.new) × (F.calls files.new ≤ F.calls files.old + 1) }
+    ensures wanting { IsTrue F.tells → Unloaded (verify_over signature.now hash.now publications.now (F.held files.old)) 1 (F.calls files.old) (F.calls files.new) result }
     ensures unsaved { Means (λ report. report.saved ≡ None) result }
     ensures causes { ReportCaused over_files (counts (F.calls files.old) (F.saves files.old) (F.faults files.old) (F.taken files.old) (F.last_taken files.old)) (counts (F.calls files.new) (F.saves files.new) (F.faults files.new) (F.taken files.new) (F.last_taken files.new)) result }
 {
