@@ -5,9 +5,9 @@ ghost use Rattle.ksi_aggchain.specs.Climbing.{Climbs, PassesLevels, climbed};
 ghost use Rattle.ksi_aggchain.specs.declared.climbing.LevelFault.TheVariants.{Over};
 ghost use Rattle.ksi_aggchain.specs.declared.item.Item.{Item};
 
+use crate::any_link::AnyLink;
 use crate::item::Item;
 use crate::link::Link;
-use crate::seen::SeenLink;
 use ksi_imprint::{Compress, Imprint};
 use ksi_split::Side;
 
@@ -34,7 +34,7 @@ pub fn climb<C: Compress>(start: Imprint, level: u8, links: &[Link]) -> Result<I
 }
 
 /// The same along links of any owner.
-pub(crate) fn climb_along<C: Compress, L: SeenLink>(
+pub(crate) fn climb_along<C: Compress, L: AnyLink>(
     start: Imprint,
     level: u8,
     links: &[L],

@@ -16,14 +16,14 @@
 //! ```
 #![tactic(auto)]
 
-mod bits;
+mod any_link;
 mod climbing;
 mod item;
 pub mod laws;
 mod link;
-mod seen;
+mod shape;
 
-pub use bits::shape;
 pub use climbing::{LevelFault, climb};
 pub use item::Item;
 pub use link::{Link, Sibling};
+pub use shape::shape;

@@ -4,7 +4,7 @@ ghost use Rattle.ksi_signature.specs.Above.{AreRoundLinks};
 
 use ksi_aggchain::{Link, Sibling};
 use ksi_imprint::{Bytes, NoMemory};
-use ksi_signature::{Above, AboveChain, AboveChains, AboveLinks, CalLinks};
+use ksi_signature::{Above, AboveChain, AboveChains, AboveLinks, CalendarLinks};
 use std::alloc::Global;
 
 /// A copy of what stands above a round.
@@ -37,11 +37,11 @@ pub(crate) fn copy_with(alloc: Global, own: AboveChain, above: &Above) -> Result
     })
 }
 
-fn copy_calendar(alloc: Global, above: &Above) -> Result<CalLinks, NoMemory>
+fn copy_calendar(alloc: Global, above: &Above) -> Result<CalendarLinks, NoMemory>
     ensures { IfOk result (λ copy. copy ≡ above.now.calendar) }
 {
     let links = above.calendar.as_slice();
-    Ok(CalLinks::from_vec(links.to_vec(alloc)?))
+    Ok(CalendarLinks::from_vec(links.to_vec(alloc)?))
 }
 
 /// Puts copies of the chains behind others.

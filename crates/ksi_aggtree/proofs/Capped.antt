@@ -13,33 +13,33 @@ use Rattle.ksi_split.proofs.Levels.{tree_at}
 use Rattle.ksi_split.proofs.Upward.{path_at}
 use Rattle.ksi_rows.specs.Leaves.{leaf_at}
 use Rattle.ksi_aggchain.specs.declared.item.Item.{Item}
-use Rattle.ksi_aggtree.specs.Rounds.{joined_at, agg_join, capped_join, item_at, no_item, tree_of, root_from, root_of, node_from, node_of, tree_path, IsRound}
+use Rattle.ksi_aggtree.specs.Rounds.{joined_at, aggregation_join, capped_join, item_at, no_item, tree_of, root_from, root_of, node_from, node_of, tree_path, IsRound}
 
 module _ (image : List ℕ → List ℕ) (leaf : ℕ → Item) (low : (i : ℕ) → (leaf i).level ≤ 239) where
-  same_join : (a b : Item) (k : ℕ) → a.level ≤ 239 + k → b.level ≤ 239 + k → k < 16 → (capped_join image a b ≡ agg_join image a b) × ((agg_join image a b).level ≤ 239 + suc k)
+  same_join : (a b : Item) (k : ℕ) → a.level ≤ 239 + k → b.level ≤ 239 + k → k < 16 → (capped_join image a b ≡ aggregation_join image a b) × ((aggregation_join image a b).level ≤ 239 + suc k)
   same_join a b k la lb few =
       let e : min (max a.level b.level + 1) 255 ≡ max a.level b.level + 1 = omega arith in
       (ap (joined_at image a b) e, omega arith)
 
-  capped_within : (k lo n : ℕ) → k ≤ 16 → (tree_within (capped_join image) leaf k lo n ≡ tree_within (agg_join image) leaf k lo n) × ((tree_within (agg_join image) leaf k lo n).level ≤ 239 + k)
+  capped_within : (k lo n : ℕ) → k ≤ 16 → (tree_within (capped_join image) leaf k lo n ≡ tree_within (aggregation_join image) leaf k lo n) × ((tree_within (aggregation_join image) leaf k lo n).level ≤ 239 + k)
   unfolding tree_within
   capped_within zero lo n few = (refl, omega (arith, low lo))
   capped_within (suc k) lo n few = elim (lt_cases (2 ^ k) n) [
     | inl t ↦ (let left = capped_within k lo (2 ^ k) (omega arith) in
         let right = capped_within k (lo + 2 ^ k) (n - 2 ^ k) (omega arith) in
-        let both = same_join (tree_within (agg_join image) leaf k lo (2 ^ k)) (tree_within (agg_join image) leaf k (lo + 2 ^ k) (n - 2 ^ k)) k left.1 right.1 (omega arith) in
+        let both = same_join (tree_within (aggregation_join image) leaf k lo (2 ^ k)) (tree_within (aggregation_join image) leaf k (lo + 2 ^ k) (n - 2 ^ k)) k left.1 right.1 (omega arith) in
         rw t.0 (cc (left.0, right.0, both.0), both.1))
     | inr f ↦ rw f.0 (let one = capped_within k lo n (omega arith) in (one.0, omega (arith, one.1)))
   ]
 
   -- the tree of a round, as it is kept
-  pub capped_tree : (lo n : ℕ) → n ≤ 65536 → tree (capped_join image) leaf lo n ≡ tree (agg_join image) leaf lo n
-  capped_tree lo n few = tree_at (capped_join image) leaf 16 lo n few ∙ (capped_within 16 lo n (omega arith)).0 ∙ sym (tree_at (agg_join image) leaf 16 lo n few)
+  pub capped_tree : (lo n : ℕ) → n ≤ 65536 → tree (capped_join image) leaf lo n ≡ tree (aggregation_join image) leaf lo n
+  capped_tree lo n few = tree_at (capped_join image) leaf 16 lo n few ∙ (capped_within 16 lo n (omega arith)).0 ∙ sym (tree_at (aggregation_join image) leaf 16 lo n few)
 
-  pub level_within : (lo n : ℕ) → n ≤ 65536 → (tree (agg_join image) leaf lo n).level ≤ 255
-  level_within lo n few = let e = ap (λ (x : Item). x.level) (tree_at (agg_join image) leaf 16 lo n few) in omega (arith, e, (capped_within 16 lo n (omega arith)).1)
+  pub level_within : (lo n : ℕ) → n ≤ 65536 → (tree (aggregation_join image) leaf lo n).level ≤ 255
+  level_within lo n few = let e = ap (λ (x : Item). x.level) (tree_at (aggregation_join image) leaf 16 lo n few) in omega (arith, e, (capped_within 16 lo n (omega arith)).1)
 
-  capped_path_within : (k lo t n : ℕ) → k ≤ 16 → n ≤ 2 ^ k → path_within (capped_join image) leaf k lo t n ≡ path_within (agg_join image) leaf k lo t n
+  capped_path_within : (k lo t n : ℕ) → k ≤ 16 → n ≤ 2 ^ k → path_within (capped_join image) leaf k lo t n ≡ path_within (aggregation_join image) leaf k lo t n
   unfolding path_within
   capped_path_within zero lo t n few le = refl
   capped_path_within (suc k) lo t n few le =
@@ -53,15 +53,15 @@ module _ (image : List ℕ → List ℕ) (leaf : ℕ → Item) (low : (i : ℕ) 
         | inr f ↦ rw f.0 (capped_path_within k lo t n (omega arith) f.1)
       ]
 
-  pub capped_path : (lo t n : ℕ) → n ≤ 65536 → path_of (capped_join image) leaf lo t n ≡ path_of (agg_join image) leaf lo t n
-  capped_path lo t n few = path_at (capped_join image) leaf 16 lo t n few ∙ capped_path_within 16 lo t n (omega arith) few ∙ sym (path_at (agg_join image) leaf 16 lo t n few)
+  pub capped_path : (lo t n : ℕ) → n ≤ 65536 → path_of (capped_join image) leaf lo t n ≡ path_of (aggregation_join image) leaf lo t n
+  capped_path lo t n few = path_at (capped_join image) leaf 16 lo t n few ∙ capped_path_within 16 lo t n (omega arith) few ∙ sym (path_at (aggregation_join image) leaf 16 lo t n few)
 
   half_some : (part : Part) (side : Side) → 1 < part.count → (0 < (half_of part side).count) × ((half_of part side).count ≤ part.count)
   half_some part Left some = let s = split_is part.count some in (let g = s.greatest in omega arith, let b = s.below in omega arith)
   half_some part Right some = let s = split_is part.count some in (let b = s.below in omega arith, omega arith)
 
   capped_part : (place : ℕ) (part : Part) (sides : List Side) → 0 < part.count → part.count ≤ 65536
-      → node_in (capped_join image) leaf (part_at place part sides) ≡ node_in (agg_join image) leaf (part_at place part sides)
+      → node_in (capped_join image) leaf (part_at place part sides) ≡ node_in (aggregation_join image) leaf (part_at place part sides)
   capped_part place part [] some few = ap (λ (x : Item). Some x) (capped_tree part.first part.count few)
   capped_part place part (side ∷ sides) some few = elim (eq_cases part.count 1) [
     | inl t ↦ rw t.0 refl
@@ -70,7 +70,7 @@ module _ (image : List ℕ → List ℕ) (leaf : ℕ → Item) (low : (i : ℕ) 
         rw f.0 (capped_part (place + 1) (half_of part side) sides h.0 (omega (arith, h.1))))
   ]
 
-  pub capped_node : (last : ℕ) (sides : List Side) → last < 65536 → node_at (capped_join image) leaf last sides ≡ node_at (agg_join image) leaf last sides
+  pub capped_node : (last : ℕ) (sides : List Side) → last < 65536 → node_at (capped_join image) leaf last sides ≡ node_at (aggregation_join image) leaf last sides
   capped_node last sides few = capped_part 0 (record { first = 0; count = last + 1 }) sides (omega arith) (omega arith)
 
 -- ---- as the rows keep a round
@@ -104,12 +104,12 @@ pub round_root : (image : List ℕ → List ℕ) (start : ℕ) (before : Item) (
 round_root image start before items n s b round count some =
     ap (λ (f : ℕ → Item). Some (tree (capped_join image) f 0 n)) (leaves_are start before items s b)
     ∙ ap (λ (x : Item). Some x) (capped_tree image (item_at items) round.low 0 n (let few = round.few in omega arith))
-    ∙ ap (λ (m : ℕ). Some (tree (agg_join image) (item_at items) 0 m)) count
+    ∙ ap (λ (m : ℕ). Some (tree (aggregation_join image) (item_at items) 0 m)) count
     ∙ some_root (length items) (tree_of image items) (omega arith)
 
-pub last_node : (image : List ℕ → List ℕ) (items : List Item) (sides : List Side) (n last : ℕ) → n ≡ last + 1 → node_at (agg_join image) (item_at items) last sides ≡ node_from image items n sides
+pub last_node : (image : List ℕ → List ℕ) (items : List Item) (sides : List Side) (n last : ℕ) → n ≡ last + 1 → node_at (aggregation_join image) (item_at items) last sides ≡ node_from image items n sides
 last_node image items sides zero last e = absurd (omega arith)
-last_node image items sides (suc n) last e = let same : last ≡ n = omega arith in ap (λ (m : ℕ). node_at (agg_join image) (item_at items) m sides) same
+last_node image items sides (suc n) last e = let same : last ≡ n = omega arith in ap (λ (m : ℕ). node_at (aggregation_join image) (item_at items) m sides) same
 
 pub round_node : (image : List ℕ → List ℕ) (start : ℕ) (before : Item) (items : List Item) (last : ℕ) (sides : List Side) → start ≡ 0 → before ≡ no_item → IsRound items → length items ≡ last + 1
     → node_at (capped_join image) (leaf_at start before items) last sides ≡ node_of image items sides
@@ -123,7 +123,7 @@ pub round_path : (image : List ℕ → List ℕ) (start : ℕ) (before : Item) (
 round_path image start before items k n s b round count =
     ap (λ (f : ℕ → Item). path_of (capped_join image) f 0 k n) (leaves_are start before items s b)
     ∙ capped_path image (item_at items) round.low 0 k n (let few = round.few in omega arith)
-    ∙ ap (path_of (agg_join image) (item_at items) 0 k) count
+    ∙ ap (path_of (aggregation_join image) (item_at items) 0 k) count
 
 -- one item more
 pub round_more : (items : List Item) (x : Item) → IsRound items → length items < 65536 → x.level ≤ 239 → IsRound (items ++ x ∷ [])

@@ -9,17 +9,17 @@ use Rattle.ksi_aggchain.specs.declared.item.Item.{Item}
 use Rattle.ksi_aggchain.specs.Links.{side_text, level_above}
 use Rattle.ksi_aggchain.specs.Owned.{plain_link, plain_links}
 use Rattle.ksi_aggchain.specs.Climbing.{climbed}
-use Rattle.ksi_aggtree.specs.Rounds.{agg_join}
+use Rattle.ksi_aggtree.specs.Rounds.{aggregation_join}
 use Rattle.ksi_aggtree.specs.Paths.{link_beside, links_from}
 
 module _ (image : List ℕ → List ℕ) where
-  join_level : (x : Item) (s : TreeLink Item) (side : Side) → (link_from (agg_join image) x s side).level ≡ max x.level s.sibling.level + 1
+  join_level : (x : Item) (s : TreeLink Item) (side : Side) → (link_from (aggregation_join image) x s side).level ≡ max x.level s.sibling.level + 1
   join_level x s Left = refl
   join_level x s Right = omega arith
 
-  rises : (x : Item) (path : List (TreeLink Item)) → x.level ≤ (climb_links (agg_join image) x path).level
+  rises : (x : Item) (path : List (TreeLink Item)) → x.level ≤ (climb_links (aggregation_join image) x path).level
   rises x [] = omega arith
-  rises x (s ∷ path) = omega (arith, join_level x s s.side, rises (link_from (agg_join image) x s s.side) path)
+  rises x (s ∷ path) = omega (arith, join_level x s s.side, rises (link_from (aggregation_join image) x s s.side) path)
 
   beside_at : Item → TreeLink Item → Side → ℕ → Item
   beside_at x s side level = record { imprint = image (side_text side x.imprint s.sibling.imprint level); level = level }
@@ -27,20 +27,20 @@ module _ (image : List ℕ → List ℕ) where
   new_level : Item → TreeLink Item → ℕ
   new_level x s = level_above x.level (plain_link (link_beside x.level s))
 
-  same_join : (x : Item) (s : TreeLink Item) (side : Side) → beside_at x s side (new_level x s) ≡ link_from (agg_join image) x s side
+  same_join : (x : Item) (s : TreeLink Item) (side : Side) → beside_at x s side (new_level x s) ≡ link_from (aggregation_join image) x s side
   unfolding beside_at new_level
   same_join x s Left = let e : new_level x s ≡ max x.level s.sibling.level + 1 = omega arith in ap (beside_at x s Left) e
   same_join x s Right = let e : new_level x s ≡ max s.sibling.level x.level + 1 = omega arith in ap (beside_at x s Right) e
 
-  pub links_climb : (place : ℕ) (x : Item) (path : List (TreeLink Item)) → (climb_links (agg_join image) x path).level ≤ 255 → climbed image place x (plain_links (links_from x.level path)) ≡ Ok (climb_links (agg_join image) x path)
+  pub links_climb : (place : ℕ) (x : Item) (path : List (TreeLink Item)) → (climb_links (aggregation_join image) x path).level ≤ 255 → climbed image place x (plain_links (links_from x.level path)) ≡ Ok (climb_links (aggregation_join image) x path)
   unfolding beside_at new_level
   links_climb place x [] low = refl
   links_climb place x (s ∷ path) low =
-      let up = rises (link_from (agg_join image) x s s.side) path in
+      let up = rises (link_from (aggregation_join image) x s s.side) path in
       let level : new_level x s ≤ 255 = omega (arith, up, join_level x s s.side) in
       elim (lt_cases 255 (new_level x s)) [
         | inl t ↦ absurd (omega arith)
         | inr f ↦ rw f.0 (ap (λ (y : Item). climbed image (place + 1) y (plain_links (links_from (max x.level s.sibling.level + 1) path))) (same_join x s s.side)
-            ∙ ap (λ (l : ℕ). climbed image (place + 1) (link_from (agg_join image) x s s.side) (plain_links (links_from l path))) (sym (join_level x s s.side))
-            ∙ links_climb (place + 1) (link_from (agg_join image) x s s.side) path low)
+            ∙ ap (λ (l : ℕ). climbed image (place + 1) (link_from (aggregation_join image) x s s.side) (plain_links (links_from l path))) (sym (join_level x s s.side))
+            ∙ links_climb (place + 1) (link_from (aggregation_join image) x s s.side) path low)
       ]

@@ -11,8 +11,8 @@ abbrev pub joined_at : (List ℕ → List ℕ) → Item → Item → ℕ → Ite
 joined_at image left right level = record { imprint = image (join_text left.imprint right.imprint level); level = level }
 
 -- both parts joined, one level above the greater of their levels
-abbrev pub agg_join : (List ℕ → List ℕ) → Item → Item → Item
-agg_join image left right = joined_at image left right (max left.level right.level + 1)
+abbrev pub aggregation_join : (List ℕ → List ℕ) → Item → Item → Item
+aggregation_join image left right = joined_at image left right (max left.level right.level + 1)
 
 -- what stands for an item where there is none
 abbrev pub no_item : Item
@@ -24,7 +24,7 @@ item_at items k = slice_index_or items k no_item
 
 -- the tree over the n items from lo
 abbrev pub tree_from : (List ℕ → List ℕ) → List Item → ℕ → ℕ → Item
-tree_from image items lo n = tree (agg_join image) (item_at items) lo n
+tree_from image items lo n = tree (aggregation_join image) (item_at items) lo n
 
 -- the tree of all items
 abbrev pub tree_of : (List ℕ → List ℕ) → List Item → Item
@@ -41,7 +41,7 @@ root_of image items = root_from (length items) (tree_of image items)
 -- the node that sides from the top lead to in the tree of the items up to the last, where there is one
 abbrev pub node_from : (List ℕ → List ℕ) → List Item → ℕ → List Side → Option Item
 node_from image items zero sides = None
-node_from image items (suc last) sides = node_at (agg_join image) (item_at items) last sides
+node_from image items (suc last) sides = node_at (aggregation_join image) (item_at items) last sides
 
 -- the node of the tree that sides from the top lead to, where there is an item and they pass no leaf
 abbrev pub node_of : (List ℕ → List ℕ) → List Item → List Side → Option Item
@@ -49,7 +49,7 @@ node_of image items sides = node_from image items (length items) sides
 
 -- from item k up to the root, each other part with its level
 abbrev pub tree_path : (List ℕ → List ℕ) → List Item → ℕ → List (TreeLink Item)
-tree_path image items k = path_of (agg_join image) (item_at items) 0 k (length items)
+tree_path image items k = path_of (aggregation_join image) (item_at items) 0 k (length items)
 
 -- a round: at most 65,536 items, of levels to 239
 pub record IsRound (items : List Item) : Type 0 where

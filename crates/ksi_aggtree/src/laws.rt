@@ -6,7 +6,7 @@ ghost use Rattle.ksi_split.specs.declared.side.Side.{Side};
 ghost use Rattle.ksi_aggchain.specs.Climbing.{Climbs};
 ghost use Rattle.ksi_aggchain.specs.Owned.{plain_links};
 ghost use Rattle.ksi_aggchain.specs.declared.item.Item.{Item};
-ghost use Rattle.ksi_aggtree.specs.Rounds.{IsRound, agg_join, item_at, tree_from, tree_of, node_of};
+ghost use Rattle.ksi_aggtree.specs.Rounds.{IsRound, aggregation_join, item_at, tree_from, tree_of, node_of};
 ghost use Rattle.ksi_aggtree.specs.Paths.{chain_of, sides_from_top};
 
 use ksi_aggchain::Item;
@@ -20,7 +20,7 @@ pub fn one_round()
         tree_from image items lo 1 ≡ item_at items lo }
     ensures cut { (image : List ℕ → List ℕ) (items : List Item) (lo n k : ℕ) → IsSplit n k →
         tree_from image items lo n ≡
-        agg_join image (tree_from image items lo k) (tree_from image items (lo + k) (n - k)) }
+        aggregation_join image (tree_from image items lo k) (tree_from image items (lo + k) (n - k)) }
     ensures level { (image : List ℕ → List ℕ) (items : List Item) (most : ℕ) → length items ≤ 65536 →
         ((k : ℕ) → (item_at items k).level ≤ most) → (tree_of image items).level ≤ most + 16 }
 {

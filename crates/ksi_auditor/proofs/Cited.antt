@@ -6,12 +6,12 @@ use Rattle.ksi_split.specs.declared.tree_link.TreeLink.{TreeLink}
 use Rattle.ksi_split.specs.Powers.{IsSplit, split_of}
 use Rattle.ksi_split.specs.Parts.{Part, part_at, second_at}
 use Rattle.ksi_split.specs.Trees.{climb_links}
-use Rattle.ksi_split.specs.Ways.{LeadsTo, IsSecond}
+use Rattle.ksi_split.specs.Ways.{LeadsTo, NamesSecond}
 use Rattle.ksi_aggchain.specs.Links.{PlainLink}
 use Rattle.ksi_aggchain.specs.Climbing.{Climbs, climbed}
 use Rattle.ksi_aggchain.specs.declared.item.Item.{Item}
-use Rattle.ksi_aggtree.specs.Rounds.{agg_join, item_at, tree_from}
-use Rattle.ksi_calchain.specs.Climbing.{ClimbsCal, cal_join}
+use Rattle.ksi_aggtree.specs.Rounds.{aggregation_join, item_at, tree_from}
+use Rattle.ksi_calchain.specs.Climbing.{ClimbsCalendar, calendar_join}
 use Rattle.ksi_calendar.specs.Calendar.{Seconds, calendar_leaf, calendar_tree, is_covered}
 use Rattle.ksi_signature.specs.declared.signature.Signature.{Signature}
 use Rattle.ksi_verifier.specs.Accepted.{ChainsLead, IsAccepted}
@@ -25,13 +25,13 @@ use Rattle.ksi_journal.specs.Calendar.{IsCovered, calendar_of, leaf_at}
 pub record Laws : Type 0 where
   pub parts : (n : ℕ) (sides : List Side) (part : Part) → 0 < n → part_at 0 (record { first = 0; count = n }) sides ≡ Ok part → LeadsTo n sides part.first part.count
   pub split : (n k : ℕ) → 1 < n → IsSplit n k ↔ (k ≡ split_of n)
-  pub second : (p t : ℕ) (sides : List Side) → (second_at p sides ≡ Ok t) ↔ IsSecond p sides t
-  pub cal_one : (image : List ℕ → List ℕ) (seconds : Seconds) (lo : ℕ) → calendar_tree image seconds lo 1 ≡ calendar_leaf seconds lo
-  pub cal_cut : (image : List ℕ → List ℕ) (seconds : Seconds) (lo n k : ℕ) → IsSplit n k → calendar_tree image seconds lo n ≡ cal_join image (calendar_tree image seconds lo k) (calendar_tree image seconds (lo + k) (n - k))
-  pub agg_one : (image : List ℕ → List ℕ) (items : List Item) (lo : ℕ) → tree_from image items lo 1 ≡ item_at items lo
-  pub agg_cut : (image : List ℕ → List ℕ) (items : List Item) (lo n k : ℕ) → IsSplit n k → tree_from image items lo n ≡ agg_join image (tree_from image items lo k) (tree_from image items (lo + k) (n - k))
+  pub second : (p t : ℕ) (sides : List Side) → (second_at p sides ≡ Ok t) ↔ NamesSecond p sides t
+  pub calendar_one : (image : List ℕ → List ℕ) (seconds : Seconds) (lo : ℕ) → calendar_tree image seconds lo 1 ≡ calendar_leaf seconds lo
+  pub calendar_cut : (image : List ℕ → List ℕ) (seconds : Seconds) (lo n k : ℕ) → IsSplit n k → calendar_tree image seconds lo n ≡ calendar_join image (calendar_tree image seconds lo k) (calendar_tree image seconds (lo + k) (n - k))
+  pub aggregation_one : (image : List ℕ → List ℕ) (items : List Item) (lo : ℕ) → tree_from image items lo 1 ≡ item_at items lo
+  pub aggregation_cut : (image : List ℕ → List ℕ) (items : List Item) (lo n k : ℕ) → IsSplit n k → tree_from image items lo n ≡ aggregation_join image (tree_from image items lo k) (tree_from image items (lo + k) (n - k))
   pub climbs : (image : List ℕ → List ℕ) (start top : Item) (links : List PlainLink) → (climbed image 0 start links ≡ Ok top) ↔ Climbs image start links top
-  pub cal_climbs : (image : List ℕ → List ℕ) (start top : List ℕ) (links : List (TreeLink (List ℕ))) → ClimbsCal image start links top ↔ (top ≡ climb_links (cal_join image) start links)
+  pub calendar_climbs : (image : List ℕ → List ℕ) (start top : List ℕ) (links : List (TreeLink (List ℕ))) → ClimbsCalendar image start links top ↔ (top ≡ climb_links (calendar_join image) start links)
   pub lead : (image : List ℕ → List ℕ) (chains : List PlainChain) (start item : Item) → ChainsLead image start chains item → Climbs image start (all_links chains) item
   pub accepted : (image : List ℕ → List ℕ) (signature : Signature) (hash : List ℕ) (publications : List (ℕ × List ℕ)) (t : ℕ) → (verdict image signature hash publications ≡ Accepted t) ↔ IsAccepted image signature hash publications t
   pub leaves : (image : List ℕ → List ℕ) (journal : Contents) (t : ℕ) → IsJournal image journal → t < journal.start + length (calendar_of journal).roots → calendar_leaf (calendar_of journal) t ≡ leaf_at journal t

@@ -10,10 +10,10 @@ use Rattle.ksi_split.specs.Trees.{link_from}
 use Rattle.ksi_aggchain.specs.Links.{PlainLink, side_text}
 use Rattle.ksi_aggchain.specs.Climbing.{above, level_after}
 use Rattle.ksi_aggchain.specs.declared.item.Item.{Item}
-use Rattle.ksi_calchain.specs.Climbing.{cal_text, cal_join_text}
+use Rattle.ksi_calchain.specs.Climbing.{calendar_element_text, calendar_join_text}
 use Rattle.ksi_verifier.specs.Chains.{PlainChain}
 use Rattle.ksi_verifier.specs.Leading.{chain_links, all_links}
-use Rattle.ksi_auditor.specs.Beside.{Rung, rung_text, rung_from, rungs_from, cal_rung_from, cal_rungs_from}
+use Rattle.ksi_auditor.specs.Beside.{Rung, rung_text, rung_from, rungs_from, calendar_rung_from, calendar_rungs_from}
 use Rattle.ksi_auditor.specs.Climbed.{climbed_to}
 use Rattle.ksi_auditor.specs.Walks.{step, go}
 use Rattle.ksi_auditor.specs.declared.walk.Walk.{Walk}
@@ -30,31 +30,31 @@ go_append text walk (rung ∷ rungs) more = go_append text (step text walk rung)
 go_last : (text : List Side → Option (List ℕ)) (start walk : Walk) (rungs : List Rung) (rung : Rung) → walk ≡ go text start rungs → step text walk rung ≡ go text start (rungs ++ rung ∷ [])
 go_last text start walk rungs rung e = ap (λ (w : Walk). step text w rung) e ∙ sym (go_append text start rungs (rung ∷ []))
 
-cal_side : (side : Side) (below : List ℕ) (link : TreeLink (List ℕ)) → side_text side below link.sibling 255 ≡ link_from cal_join_text below link side
-cal_side Left below link = refl
-cal_side Right below link = refl
+calendar_side : (side : Side) (below : List ℕ) (link : TreeLink (List ℕ)) → side_text side below link.sibling 255 ≡ link_from calendar_join_text below link side
+calendar_side Left below link = refl
+calendar_side Right below link = refl
 
 -- a calendar link's string
-pub cal_text_is : (below : List ℕ) (link : TreeLink (List ℕ)) → rung_text (cal_rung_from below link) ≡ cal_text below link
-cal_text_is below link = cal_side link.side below link
+pub calendar_text_is : (below : List ℕ) (link : TreeLink (List ℕ)) → rung_text (calendar_rung_from below link) ≡ calendar_element_text below link
+calendar_text_is below link = calendar_side link.side below link
 
 abbrev rung_with : Side → List ℕ → ℕ → List ℕ → Rung
 rung_with side below level sibling = record { side = side; below = below; sibling = sibling; level = level }
 
 module _ (image : List ℕ → List ℕ) (text : List Side → Option (List ℕ)) where
-  pub cal_down : (start walk : Walk) (below next sibling : List ℕ) (link : TreeLink (List ℕ)) (higher links : List (TreeLink (List ℕ))) → links ≡ link ∷ higher → sibling ≡ link.sibling
-      → next ≡ image (side_text link.side below sibling 255) → walk ≡ go text start (cal_rungs_from image next higher)
-      → step text walk (rung_with link.side below 255 sibling) ≡ go text start (cal_rungs_from image below links)
-  cal_down start walk below next sibling link higher links is same to e =
-      let above_is : next ≡ image (cal_text below link) = to ∙ ap (λ (s : List ℕ). image (side_text link.side below s 255)) same ∙ ap image (cal_text_is below link) in
+  pub calendar_down : (start walk : Walk) (below next sibling : List ℕ) (link : TreeLink (List ℕ)) (higher links : List (TreeLink (List ℕ))) → links ≡ link ∷ higher → sibling ≡ link.sibling
+      → next ≡ image (side_text link.side below sibling 255) → walk ≡ go text start (calendar_rungs_from image next higher)
+      → step text walk (rung_with link.side below 255 sibling) ≡ go text start (calendar_rungs_from image below links)
+  calendar_down start walk below next sibling link higher links is same to e =
+      let above_is : next ≡ image (calendar_element_text below link) = to ∙ ap (λ (s : List ℕ). image (side_text link.side below s 255)) same ∙ ap image (calendar_text_is below link) in
       ap (λ (s : List ℕ). step text walk (rung_with link.side below 255 s)) same
-      ∙ go_last text start walk (cal_rungs_from image (image (cal_text below link)) higher) (cal_rung_from below link) (e ∙ ap (λ (x : List ℕ). go text start (cal_rungs_from image x higher)) above_is)
-      ∙ ap (λ (l : List (TreeLink (List ℕ))). go text start (cal_rungs_from image below l)) (sym is)
+      ∙ go_last text start walk (calendar_rungs_from image (image (calendar_element_text below link)) higher) (calendar_rung_from below link) (e ∙ ap (λ (x : List ℕ). go text start (calendar_rungs_from image x higher)) above_is)
+      ∙ ap (λ (l : List (TreeLink (List ℕ))). go text start (calendar_rungs_from image below l)) (sym is)
 
-  pub agg_down : (start walk : Walk) (below next : Item) (sibling : List ℕ) (level : ℕ) (link : PlainLink) (higher links : List PlainLink) → links ≡ link ∷ higher → sibling ≡ link.sibling → level ≡ below.level + link.correction + 1
+  pub aggregation_down : (start walk : Walk) (below next : Item) (sibling : List ℕ) (level : ℕ) (link : PlainLink) (higher links : List PlainLink) → links ≡ link ∷ higher → sibling ≡ link.sibling → level ≡ below.level + link.correction + 1
       → next.level ≡ level → next.imprint ≡ image (side_text link.side below.imprint sibling level) → walk ≡ go text start (rungs_from image next higher)
       → step text walk (rung_with link.side below.imprint level sibling) ≡ go text start (rungs_from image below links)
-  agg_down start walk below next sibling level link higher links is same high next_level next_imprint e =
+  aggregation_down start walk below next sibling level link higher links is same high next_level next_imprint e =
       let imprint : next.imprint ≡ (above image below link).imprint = next_imprint ∙ ap (λ (s : List ℕ). image (side_text link.side below.imprint s level)) same ∙ ap (λ (l : ℕ). image (side_text link.side below.imprint link.sibling l)) high in
       let next_is : next ≡ above image below link = λ i. record { imprint = imprint i; level = (next_level ∙ high) i } in
       ap (λ (s : List ℕ). step text walk (rung_with link.side below.imprint level s)) same

@@ -15,7 +15,7 @@ use Rattle.ksi_auditor.specs.declared.walk.Walk.TheVariants.{Apart, At, Past}
 use Rattle.ksi_auditor.specs.declared.answer.Audit.TheVariants as answers
 use Rattle.ksi_auditor.proofs.Cases.{eq_cases}
 use Rattle.ksi_auditor.proofs.Strings.{same_cases}
-use Rattle.ksi_auditor.proofs.Rungs.{agg_sides, rungs_count}
+use Rattle.ksi_auditor.proofs.Rungs.{aggregation_sides, rungs_count}
 
 abbrev pub pair_of : Clash → Pair
 pair_of clash = (clash.one, clash.two)
@@ -138,7 +138,7 @@ module _ (image : List ℕ → List ℕ) (items : List Item) (links : List Plain
   clash_below clash e = ap (found t (length items) (sides_of links) passed) (sym (apart_is (items_text image items) [] rungs clash e))
 
   sides_length : length (sides_of links) ≡ length rungs
-  sides_length = ap length (sym (agg_sides image (at_level_zero hash) links)) ∙ length-map rungs rung_side
+  sides_length = ap length (sym (aggregation_sides image (at_level_zero hash) links)) ∙ length-map rungs rung_side
 
   take_all : (n : ℕ) (sides : List Side) → n ≡ length sides → take n sides ≡ sides
   take_all n sides e = ap (λ (k : ℕ). take k sides) e ∙ all sides
@@ -151,7 +151,7 @@ module _ (image : List ℕ → List ℕ) (items : List Item) (links : List Plain
   inside_at place e =
       let all = at_is (items_text image items) [] rungs place e in
       let count : passed ≡ length (sides_of links) = all.1 ∙ sym sides_length in
-      let is : place ≡ sides_of links = all.0.is ∙ ap (take passed) (agg_sides image (at_level_zero hash) links) ∙ take_all passed (sides_of links) count in
+      let is : place ≡ sides_of links = all.0.is ∙ ap (take passed) (aggregation_sides image (at_level_zero hash) links) ∙ take_all passed (sides_of links) count in
       ap (answers.Inside t) is
       ∙ (elim (eq_cases passed (length (sides_of links))) as (λ z. answers.Inside t (sides_of links) ≡ ends t (length items) (sides_of links) passed) [ inl same ↦ rw same.0 refl | inr other ↦ absurd (other.1 count) ])
       ∙ ap (found t (length items) (sides_of links) passed) (sym all.0.none)
@@ -162,7 +162,7 @@ module _ (image : List ℕ → List ℕ) (items : List Item) (links : List Plain
       let fewer = all.1 in
       let sides = sides_length in
       let same = rungs_count image (at_level_zero hash) links in
-      let is : place ≡ take passed (sides_of links) = all.0.is ∙ ap (take passed) (agg_sides image (at_level_zero hash) links) in
+      let is : place ≡ take passed (sides_of links) = all.0.is ∙ ap (take passed) (aggregation_sides image (at_level_zero hash) links) in
       let depth : length place ≡ passed = ap length is ∙ length-take-le passed (sides_of links) (omega (arith, fewer, sides)) in
       let left : count - length place ≡ length (sides_of links) - passed = omega (arith, n, same, sides, depth) in (
         omega (arith, depth, fewer, same, n),

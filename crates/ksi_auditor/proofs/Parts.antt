@@ -9,7 +9,7 @@ use Rattle.ksi_split.specs.Trees.{tree, node_in, node_at}
 use Rattle.ksi_split.specs.Ways.{IsWay, LeadsTo}
 use Rattle.ksi_aggchain.specs.declared.item.Item.{Item}
 use Rattle.ksi_aggtree.specs.Rounds as rounds
-use Rattle.ksi_calchain.specs.Climbing.{cal_join}
+use Rattle.ksi_calchain.specs.Climbing.{calendar_join}
 use Rattle.ksi_calendar.specs.Calendar as calendars
 use Rattle.ksi_auditor.proofs.Cases.{eq_cases}
 
@@ -107,8 +107,8 @@ module _ (leaves : (n : ℕ) (sides : List Side) (part : Part) → 0 < n → par
   pub deep_calendar : (image : List ℕ → List ℕ) (seconds : calendars.Seconds) (p : ℕ) (sides : List Side) → p < 2 ^ 63 → 63 < length sides → calendars.node_of image seconds p sides ≡ None
   deep_calendar image seconds p sides early long = of (calendars.is_covered seconds p)
     where
-      of : (b : Bool) → (if b then node_at (cal_join image) (calendars.calendar_leaf seconds) p sides else None) ≡ None
-      of true = deep (cal_join image) (calendars.calendar_leaf seconds) p 63 sides early long
+      of : (b : Bool) → (if b then node_at (calendar_join image) (calendars.calendar_leaf seconds) p sides else None) ≡ None
+      of true = deep (calendar_join image) (calendars.calendar_leaf seconds) p 63 sides early long
       of false = refl
 
   pub deep_items : (image : List ℕ → List ℕ) (items : List Item) (sides : List Side) → length items ≤ 65536 → 63 < length sides → rounds.node_of image items sides ≡ None
@@ -116,4 +116,4 @@ module _ (leaves : (n : ℕ) (sides : List Side) (part : Part) → 0 < n → par
     where
       of : (n : ℕ) → n ≤ 65536 → rounds.node_from image items n sides ≡ None
       of zero few = refl
-      of (suc last) few = deep (rounds.agg_join image) (rounds.item_at items) last 63 sides (omega (arith, few)) long
+      of (suc last) few = deep (rounds.aggregation_join image) (rounds.item_at items) last 63 sides (omega (arith, few)) long

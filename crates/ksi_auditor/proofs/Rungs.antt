@@ -9,14 +9,14 @@ use Rattle.ksi_split.specs.Trees.{climb_links, link_from}
 use Rattle.ksi_aggchain.specs.Links.{PlainLink, level_above}
 use Rattle.ksi_aggchain.specs.Climbing.{above, climbed, level_after}
 use Rattle.ksi_aggchain.specs.declared.item.Item.{Item}
-use Rattle.ksi_calchain.specs.Climbing.{cal_join, cal_join_text, cal_text}
+use Rattle.ksi_calchain.specs.Climbing.{calendar_join, calendar_join_text, calendar_element_text}
 use Rattle.ksi_calchain.specs.Sides.{sides_from_top}
-use Rattle.ksi_auditor.specs.Beside.{Rung, rung_side, rung_text, rung_from, rungs_from, cal_rung_from, cal_rungs_from}
+use Rattle.ksi_auditor.specs.Beside.{Rung, rung_side, rung_text, rung_from, rungs_from, calendar_rung_from, calendar_rungs_from}
 use Rattle.ksi_auditor.specs.Climbed.{climbed_to}
 use Rattle.ksi_auditor.proofs.Cases.{lt_cases}
 use Rattle.ksi_auditor.proofs.Strings.{back_same}
 use Rattle.ksi_auditor.proofs.Climbing.{level_more}
-use Rattle.ksi_auditor.proofs.Going.{cal_text_is, rungs_append}
+use Rattle.ksi_auditor.proofs.Going.{calendar_text_is, rungs_append}
 use Rattle.ksi_auditor.proofs.Walking.{Holds}
 
 -- one more side at the top
@@ -31,19 +31,19 @@ module _ (image : List ℕ → List ℕ) where
   holds_more x y z [] rung h e n is = (sym h ∙ e, n, sym is)
   holds_more x y z (top ∷ rungs) rung h e n is = (h.0, h.1, holds_more x top.below z rungs rung h.2 e n is)
 
-  pub cal_sides : (x : List ℕ) (links : List (TreeLink (List ℕ))) → map rung_side (cal_rungs_from image x links) ≡ sides_from_top links
-  cal_sides x [] = refl
-  cal_sides x (link ∷ links) = more_sides (cal_rungs_from image (image (cal_text x link)) links) (cal_rung_from x link) (map (λ (s : TreeLink (List ℕ)). s.side) links) (cal_sides (image (cal_text x link)) links)
+  pub calendar_sides : (x : List ℕ) (links : List (TreeLink (List ℕ))) → map rung_side (calendar_rungs_from image x links) ≡ sides_from_top links
+  calendar_sides x [] = refl
+  calendar_sides x (link ∷ links) = more_sides (calendar_rungs_from image (image (calendar_element_text x link)) links) (calendar_rung_from x link) (map (λ (s : TreeLink (List ℕ)). s.side) links) (calendar_sides (image (calendar_element_text x link)) links)
 
-  pub agg_sides : (x : Item) (links : List PlainLink) → map rung_side (rungs_from image x links) ≡ reverse (map (λ (link : PlainLink). link.side) links)
-  agg_sides x [] = refl
-  agg_sides x (link ∷ links) = more_sides (rungs_from image (above image x link) links) (rung_from x link) (map (λ (l : PlainLink). l.side) links) (agg_sides (above image x link) links)
+  pub aggregation_sides : (x : Item) (links : List PlainLink) → map rung_side (rungs_from image x links) ≡ reverse (map (λ (link : PlainLink). link.side) links)
+  aggregation_sides x [] = refl
+  aggregation_sides x (link ∷ links) = more_sides (rungs_from image (above image x link) links) (rung_from x link) (map (λ (l : PlainLink). l.side) links) (aggregation_sides (above image x link) links)
 
   pub rungs_count : (x : Item) (links : List PlainLink) → length (rungs_from image x links) ≡ length links
   rungs_count x [] = refl
   rungs_count x (link ∷ links) = length-append (rungs_from image (above image x link) links) (rung_from x link ∷ []) ∙ (let so_far = rungs_count (above image x link) links in omega arith)
 
-  from_is : (side : Side) (x : List ℕ) (link : TreeLink (List ℕ)) → link_from (cal_join image) x link side ≡ image (link_from cal_join_text x link side)
+  from_is : (side : Side) (x : List ℕ) (link : TreeLink (List ℕ)) → link_from (calendar_join image) x link side ≡ image (link_from calendar_join_text x link side)
   from_is Left x link = refl
   from_is Right x link = refl
 
@@ -60,19 +60,19 @@ module _ (image : List ℕ → List ℕ) where
   ]
 
   module _ (sizes : (x : List ℕ) → length (image x) ≡ 33) where
-    pub cal_holds : (x : List ℕ) (links : List (TreeLink (List ℕ))) → length x ≡ 33 → Holds image x (climb_links (cal_join image) x links) (cal_rungs_from image x links)
-    cal_holds x [] n = refl
-    cal_holds x (link ∷ links) n =
-        let next = image (cal_text x link) in
-        let is : link_from (cal_join image) x link link.side ≡ next = from_is link.side x link in
-        holds_more x (climb_links (cal_join image) (link_from (cal_join image) x link link.side) links) next (cal_rungs_from image next links) (cal_rung_from x link)
-        (subst (λ (z : List ℕ). Holds image next (climb_links (cal_join image) z links) (cal_rungs_from image next links)) (sym is) (cal_holds next links (sizes (cal_text x link))))
-        (ap image (sym (cal_text_is x link))) n refl
+    pub calendar_holds : (x : List ℕ) (links : List (TreeLink (List ℕ))) → length x ≡ 33 → Holds image x (climb_links (calendar_join image) x links) (calendar_rungs_from image x links)
+    calendar_holds x [] n = refl
+    calendar_holds x (link ∷ links) n =
+        let next = image (calendar_element_text x link) in
+        let is : link_from (calendar_join image) x link link.side ≡ next = from_is link.side x link in
+        holds_more x (climb_links (calendar_join image) (link_from (calendar_join image) x link link.side) links) next (calendar_rungs_from image next links) (calendar_rung_from x link)
+        (subst (λ (z : List ℕ). Holds image next (climb_links (calendar_join image) z links) (calendar_rungs_from image next links)) (sym is) (calendar_holds next links (sizes (calendar_element_text x link))))
+        (ap image (sym (calendar_text_is x link))) n refl
 
-    pub agg_holds : (x : Item) (links : List PlainLink) → length x.imprint ≡ 33 → Holds image x.imprint (climbed_to image x links).imprint (rungs_from image x links)
-    agg_holds x [] n = refl
-    agg_holds x (link ∷ links) n = holds_more x.imprint (climbed_to image (above image x link) links).imprint (above image x link).imprint (rungs_from image (above image x link) links) (rung_from x link)
-        (agg_holds (above image x link) links (sizes _)) refl n refl
+    pub aggregation_holds : (x : Item) (links : List PlainLink) → length x.imprint ≡ 33 → Holds image x.imprint (climbed_to image x links).imprint (rungs_from image x links)
+    aggregation_holds x [] n = refl
+    aggregation_holds x (link ∷ links) n = holds_more x.imprint (climbed_to image (above image x link) links).imprint (above image x link).imprint (rungs_from image (above image x link) links) (rung_from x link)
+        (aggregation_holds (above image x link) links (sizes _)) refl n refl
 
     pub climbed_size : (x : Item) (links : List PlainLink) → length x.imprint ≡ 33 → length (climbed_to image x links).imprint ≡ 33
     climbed_size x [] n = n
@@ -87,6 +87,6 @@ module _ (image : List ℕ → List ℕ) where
         let parts = rungs_append image (λ sides. None) x (take m links) (drop m links) in
         let all : rungs_from image (climbed_to image x (take m links)) (drop m links) ++ rungs_from image x (take m links) ≡ passed ++ rung ∷ left = sym parts ∙ ap (rungs_from image x) (take-append-drop m links) ∙ e in
         let is : rungs_from image x (take m links) ≡ rung ∷ left = same_back _ _ _ _ all (rungs_count x (take m links) ∙ length-take-le m links (omega (arith, count))) in
-        let full = agg_holds x (take m links) n in
+        let full = aggregation_holds x (take m links) n in
         let there : Holds image x.imprint (climbed_to image x (take m links)).imprint (rung ∷ left) = subst (Holds image x.imprint (climbed_to image x (take m links)).imprint) is full in
         there.0 ∙ sym h.0

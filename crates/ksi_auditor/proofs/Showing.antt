@@ -13,12 +13,12 @@ use Rattle.ksi_split.specs.declared.side.Side.TheVariants.{Left, Right}
 use Rattle.ksi_split.specs.Powers.{split_of}
 use Rattle.ksi_split.specs.Parts.{Part, half_of, part_at, second_in, second_at}
 use Rattle.ksi_split.specs.Trees.{node_in, node_at}
-use Rattle.ksi_split.specs.Ways.{IsWay, IsSecond}
+use Rattle.ksi_split.specs.Ways.{IsWay, NamesSecond}
 use Rattle.ksi_aggchain.specs.Links.{PlainLink}
 use Rattle.ksi_aggchain.specs.Climbing.{Climbs, climbed, level_after}
 use Rattle.ksi_aggchain.specs.declared.item.Item.{Item}
 use Rattle.ksi_aggtree.specs.Rounds as rounds
-use Rattle.ksi_calchain.specs.Climbing.{cal_join, cal_join_text}
+use Rattle.ksi_calchain.specs.Climbing.{calendar_join, calendar_join_text}
 use Rattle.ksi_calchain.specs.Sides.{sides_from_top}
 use Rattle.ksi_calendar.specs.Calendar as calendars
 use Rattle.ksi_signature.specs.Values.{Calendar}
@@ -26,13 +26,13 @@ use Rattle.ksi_signature.specs.declared.signature.Signature.{Signature}
 use Rattle.ksi_verifier.specs.Accepted.{ChainsLead, IsAccepted}
 use Rattle.ksi_verifier.specs.Chains.{PlainChain, plain_chains, at_level_zero}
 use Rattle.ksi_verifier.specs.Leading.{all_links}
-use Rattle.ksi_verifier.specs.Verdict.{root_of, verdict}
+use Rattle.ksi_verifier.specs.Verdict.{chain_root, verdict}
 use Rattle.ksi_verifier.specs.declared.verdict.Verdict.{Verdict}
 use Rattle.ksi_verifier.specs.declared.verdict.Verdict.TheVariants.{Accepted, Refused}
 use Rattle.ksi_journal.specs.Journal.{Contents, IsJournal, items_at}
 use Rattle.ksi_journal.specs.Calendar.{IsCovered, calendar_of, roots_from, first_missing, kept_root, leaf_at}
 use Rattle.ksi_auditor.specs.declared.answer.Audit.TheVariants as answers
-use Rattle.ksi_auditor.specs.Beside.{Rung, rung_side, rungs_from, cal_rungs_from, Pair, differing}
+use Rattle.ksi_auditor.specs.Beside.{Rung, rung_side, rungs_from, calendar_rungs_from, Pair, differing}
 use Rattle.ksi_auditor.specs.Climbed.{climbed_to}
 use Rattle.ksi_auditor.specs.Kept.{calendar_text, joined_imprints, items_text, joined_items}
 use Rattle.ksi_auditor.specs.Audit.{links_of, link_sides, calendar_pairs, item_pairs, item_named, ends, found, compared, laid_beside, decided, kept_or_not, accepted_or_not, audit}
@@ -41,7 +41,7 @@ use Rattle.ksi_auditor.proofs.Cases.{lt_cases, eq_cases}
 use Rattle.ksi_auditor.proofs.Strings.{same_cases}
 use Rattle.ksi_auditor.proofs.Parts.{whole, part_goes_on, node_past, node_below}
 use Rattle.ksi_auditor.proofs.Walking.{Holds, first_is_clash, none_differs}
-use Rattle.ksi_auditor.proofs.Rungs.{cal_sides, agg_sides, rungs_count, climbed_ends, cal_holds, agg_holds, climbed_size, left_climbs}
+use Rattle.ksi_auditor.proofs.Rungs.{calendar_sides, aggregation_sides, rungs_count, climbed_ends, calendar_holds, aggregation_holds, climbed_size, left_climbs}
 use Rattle.ksi_auditor.proofs.Climbing.{rise, climbed_is}
 use Rattle.ksi_auditor.proofs.Keeping.{all_of_tree, item_size, leaf_size, items_kept, HasItems, leaf_has_items}
 use Rattle.ksi_auditor.proofs.Outcomes.{first_above, none_above}
@@ -126,13 +126,13 @@ root_is image j p seconds found same e from none =
 
 -- an audit of an accepted signature, whose publication is decided
 pub audit_laid : (image : List ℕ → List ℕ) (j : Contents) (signature : Signature) (hash : List ℕ) (publications : List (ℕ × List ℕ)) (t : ℕ) (calendar : Calendar) → verdict image signature hash publications ≡ Accepted t → signature.calendar ≡ Some calendar
-    → j.start ≤ calendar.publication → first_missing j calendar.publication ≡ None → root_of image calendar ≡ kept_root image j calendar.publication → audit image j signature hash publications ≡ laid_beside image j signature hash t calendar
+    → j.start ≤ calendar.publication → first_missing j calendar.publication ≡ None → chain_root image calendar ≡ kept_root image j calendar.publication → audit image j signature hash publications ≡ laid_beside image j signature hash t calendar
 unfolding audit
 audit_laid image j signature hash publications t calendar passes has from none root =
     ap (accepted_or_not image j signature hash) passes ∙ ap (kept_or_not image j signature hash t) has
     ∙ (elim (lt_cases calendar.publication j.start) as (λ z. kept_or_not image j signature hash t (Some calendar) ≡ decided image j signature hash t calendar (first_missing j calendar.publication)) [ inl early ↦ absurd (omega (arith, early.1, from)) | inr late ↦ rw late.0 refl ])
     ∙ ap (decided image j signature hash t calendar) none
-    ∙ (elim (same_cases (root_of image calendar) (kept_root image j calendar.publication)) as (λ z. decided image j signature hash t calendar None ≡ laid_beside image j signature hash t calendar) [ inl same ↦ rw same.0 refl | inr other ↦ absurd (other.1 root) ])
+    ∙ (elim (same_cases (chain_root image calendar) (kept_root image j calendar.publication)) as (λ z. decided image j signature hash t calendar None ≡ laid_beside image j signature hash t calendar) [ inl same ↦ rw same.0 refl | inr other ↦ absurd (other.1 root) ])
 
 -- no level of an accepted signature passes 255
 pub low : (climbs : (image : List ℕ → List ℕ) (start top : Item) (links : List PlainLink) → (climbed image 0 start links ≡ Ok top) ↔ Climbs image start links top)
@@ -153,72 +153,72 @@ module _ (laws : Laws) (image : List ℕ → List ℕ) (lawful : (bytes : List �
   abbrev seconds : calendars.Seconds
   seconds = calendar_of j
 
-  abbrev cal_at : Part → List ℕ
-  cal_at q = calendars.calendar_tree image seconds q.first q.count
+  abbrev calendar_chain_at : Part → List ℕ
+  calendar_chain_at q = calendars.calendar_tree image seconds q.first q.count
 
-  abbrev cal_string : Part → List ℕ
-  cal_string q = cal_join_text (cal_at (half_of q Left)) (cal_at (half_of q Right))
+  abbrev calendar_string : Part → List ℕ
+  calendar_string q = calendar_join_text (calendar_chain_at (half_of q Left)) (calendar_chain_at (half_of q Right))
 
-  cal_hashes : (q : Part) → 1 < q.count → cal_at q ≡ image (cal_string q)
-  cal_hashes q more = laws.cal_cut image seconds q.first q.count (split_of q.count) ((laws.split q.count (split_of q.count) more).1 refl)
+  calendar_hashes : (q : Part) → 1 < q.count → calendar_chain_at q ≡ image (calendar_string q)
+  calendar_hashes q more = laws.calendar_cut image seconds q.first q.count (split_of q.count) ((laws.split q.count (split_of q.count) more).1 refl)
 
-  cal_sizes : (q : Part) → length (cal_at q) ≡ 33
-  cal_sizes q = all_of_tree (λ (x : List ℕ). length x ≡ 33) (cal_join image) (calendars.calendar_leaf seconds) (λ a b. sizes _) (λ t. leaf_size image j t journal) q.first q.count
+  calendar_sizes : (q : Part) → length (calendar_chain_at q) ≡ 33
+  calendar_sizes q = all_of_tree (λ (x : List ℕ). length x ≡ 33) (calendar_join image) (calendars.calendar_leaf seconds) (λ a b. sizes _) (λ t. leaf_size image j t journal) q.first q.count
 
   module _ (p : ℕ) (covered : calendars.is_covered seconds p ≡ true) where
-    cal_open : (sides : List Side) → calendars.node_of image seconds p sides ≡ node_at (cal_join image) (calendars.calendar_leaf seconds) p sides
-    cal_open sides = rw covered refl
+    calendar_open : (sides : List Side) → calendars.node_of image seconds p sides ≡ node_at (calendar_join image) (calendars.calendar_leaf seconds) p sides
+    calendar_open sides = rw covered refl
 
-    cal_one : (sides : List Side) (q : Part) → part_at 0 (whole (p + 1)) sides ≡ Ok q → q.count ≡ 1 → calendar_text image seconds p sides ≡ None
-    cal_one sides q e one = ap (λ (o : Option (List ℕ)). joined_imprints o (calendars.node_of image seconds p (sides ++ Right ∷ [])))
-        (cal_open (sides ++ Left ∷ []) ∙ node_past (cal_join image) (calendars.calendar_leaf seconds) p laws.parts laws.split (laws.cal_cut image seconds) sides Left q e one)
+    calendar_one : (sides : List Side) (q : Part) → part_at 0 (whole (p + 1)) sides ≡ Ok q → q.count ≡ 1 → calendar_text image seconds p sides ≡ None
+    calendar_one sides q e one = ap (λ (o : Option (List ℕ)). joined_imprints o (calendars.node_of image seconds p (sides ++ Right ∷ [])))
+        (calendar_open (sides ++ Left ∷ []) ∙ node_past (calendar_join image) (calendars.calendar_leaf seconds) p laws.parts laws.split (laws.calendar_cut image seconds) sides Left q e one)
 
-    cal_more : (sides : List Side) (q : Part) → part_at 0 (whole (p + 1)) sides ≡ Ok q → 1 < q.count → calendar_text image seconds p sides ≡ Some (cal_string q)
-    cal_more sides q e more =
+    calendar_more : (sides : List Side) (q : Part) → part_at 0 (whole (p + 1)) sides ≡ Ok q → 1 < q.count → calendar_text image seconds p sides ≡ Some (calendar_string q)
+    calendar_more sides q e more =
         ap (λ (o : Option (List ℕ)). joined_imprints o (calendars.node_of image seconds p (sides ++ Right ∷ [])))
-        (cal_open (sides ++ Left ∷ []) ∙ node_below (cal_join image) (calendars.calendar_leaf seconds) p laws.parts laws.split (laws.cal_cut image seconds) sides Left q e more)
-        ∙ ap (λ (o : Option (List ℕ)). joined_imprints (Some (cal_at (half_of q Left))) o)
-        (cal_open (sides ++ Right ∷ []) ∙ node_below (cal_join image) (calendars.calendar_leaf seconds) p laws.parts laws.split (laws.cal_cut image seconds) sides Right q e more)
+        (calendar_open (sides ++ Left ∷ []) ∙ node_below (calendar_join image) (calendars.calendar_leaf seconds) p laws.parts laws.split (laws.calendar_cut image seconds) sides Left q e more)
+        ∙ ap (λ (o : Option (List ℕ)). joined_imprints (Some (calendar_chain_at (half_of q Left))) o)
+        (calendar_open (sides ++ Right ∷ []) ∙ node_below (calendar_join image) (calendars.calendar_leaf seconds) p laws.parts laws.split (laws.calendar_cut image seconds) sides Right q e more)
 
   -- ---- the items of a second
 
   module _ (items : List Item) (each : (k : ℕ) → length (rounds.item_at items k).imprint ≡ 33) (last : ℕ) (len : length items ≡ suc last) where
-    abbrev agg_at : Part → Item
-    agg_at q = rounds.tree_from image items q.first q.count
+    abbrev aggregation_at : Part → Item
+    aggregation_at q = rounds.tree_from image items q.first q.count
 
-    abbrev agg_imprint : Part → List ℕ
-    agg_imprint q = (agg_at q).imprint
+    abbrev aggregation_imprint : Part → List ℕ
+    aggregation_imprint q = (aggregation_at q).imprint
 
-    abbrev agg_level : Part → ℕ
-    agg_level q = max (agg_at (half_of q Left)).level (agg_at (half_of q Right)).level + 1
+    abbrev aggregation_level : Part → ℕ
+    aggregation_level q = max (aggregation_at (half_of q Left)).level (aggregation_at (half_of q Right)).level + 1
 
-    abbrev agg_string : Part → List ℕ
-    agg_string q = join_text (agg_imprint (half_of q Left)) (agg_imprint (half_of q Right)) (agg_level q)
+    abbrev aggregation_string : Part → List ℕ
+    aggregation_string q = join_text (aggregation_imprint (half_of q Left)) (aggregation_imprint (half_of q Right)) (aggregation_level q)
 
-    agg_hashes : (q : Part) → 1 < q.count → agg_imprint q ≡ image (agg_string q)
-    agg_hashes q more = ap (λ (x : Item). x.imprint) (laws.agg_cut image items q.first q.count (split_of q.count) ((laws.split q.count (split_of q.count) more).1 refl))
+    aggregation_hashes : (q : Part) → 1 < q.count → aggregation_imprint q ≡ image (aggregation_string q)
+    aggregation_hashes q more = ap (λ (x : Item). x.imprint) (laws.aggregation_cut image items q.first q.count (split_of q.count) ((laws.split q.count (split_of q.count) more).1 refl))
 
-    agg_sizes : (q : Part) → length (agg_imprint q) ≡ 33
-    agg_sizes q = all_of_tree (λ (x : Item). length x.imprint ≡ 33) (rounds.agg_join image) (rounds.item_at items) (λ a b. sizes _) each q.first q.count
+    aggregation_sizes : (q : Part) → length (aggregation_imprint q) ≡ 33
+    aggregation_sizes q = all_of_tree (λ (x : Item). length x.imprint ≡ 33) (rounds.aggregation_join image) (rounds.item_at items) (λ a b. sizes _) each q.first q.count
 
-    agg_open : (sides : List Side) → rounds.node_of image items sides ≡ node_at (rounds.agg_join image) (rounds.item_at items) last sides
-    agg_open sides = ap (λ (n : ℕ). rounds.node_from image items n sides) len
+    aggregation_open : (sides : List Side) → rounds.node_of image items sides ≡ node_at (rounds.aggregation_join image) (rounds.item_at items) last sides
+    aggregation_open sides = ap (λ (n : ℕ). rounds.node_from image items n sides) len
 
-    agg_one : (sides : List Side) (q : Part) → part_at 0 (whole (last + 1)) sides ≡ Ok q → q.count ≡ 1 → items_text image items sides ≡ None
-    agg_one sides q e one = ap (λ (o : Option Item). joined_items o (rounds.node_of image items (sides ++ Right ∷ [])))
-        (agg_open (sides ++ Left ∷ []) ∙ node_past (rounds.agg_join image) (rounds.item_at items) last laws.parts laws.split (laws.agg_cut image items) sides Left q e one)
+    aggregation_one : (sides : List Side) (q : Part) → part_at 0 (whole (last + 1)) sides ≡ Ok q → q.count ≡ 1 → items_text image items sides ≡ None
+    aggregation_one sides q e one = ap (λ (o : Option Item). joined_items o (rounds.node_of image items (sides ++ Right ∷ [])))
+        (aggregation_open (sides ++ Left ∷ []) ∙ node_past (rounds.aggregation_join image) (rounds.item_at items) last laws.parts laws.split (laws.aggregation_cut image items) sides Left q e one)
 
-    agg_more : (sides : List Side) (q : Part) → part_at 0 (whole (last + 1)) sides ≡ Ok q → 1 < q.count → items_text image items sides ≡ Some (agg_string q)
-    agg_more sides q e more =
+    aggregation_more : (sides : List Side) (q : Part) → part_at 0 (whole (last + 1)) sides ≡ Ok q → 1 < q.count → items_text image items sides ≡ Some (aggregation_string q)
+    aggregation_more sides q e more =
         ap (λ (o : Option Item). joined_items o (rounds.node_of image items (sides ++ Right ∷ [])))
-        (agg_open (sides ++ Left ∷ []) ∙ node_below (rounds.agg_join image) (rounds.item_at items) last laws.parts laws.split (laws.agg_cut image items) sides Left q e more)
-        ∙ ap (λ (o : Option Item). joined_items (Some (agg_at (half_of q Left))) o)
-        (agg_open (sides ++ Right ∷ []) ∙ node_below (rounds.agg_join image) (rounds.item_at items) last laws.parts laws.split (laws.agg_cut image items) sides Right q e more)
+        (aggregation_open (sides ++ Left ∷ []) ∙ node_below (rounds.aggregation_join image) (rounds.item_at items) last laws.parts laws.split (laws.aggregation_cut image items) sides Left q e more)
+        ∙ ap (λ (o : Option Item). joined_items (Some (aggregation_at (half_of q Left))) o)
+        (aggregation_open (sides ++ Right ∷ []) ∙ node_below (rounds.aggregation_join image) (rounds.item_at items) last laws.parts laws.split (laws.aggregation_cut image items) sides Right q e more)
 
   -- ---- an accepted signature whose publication is decided
 
   module _ (signature : Signature) (hash : List ℕ) (publications : List (ℕ × List ℕ)) (t : ℕ) (size : length hash ≡ 33) (a : IsAccepted image signature hash publications t)
-      (from : j.start ≤ a.calendar.publication) (none : first_missing j a.calendar.publication ≡ None) (root : root_of image a.calendar ≡ kept_root image j a.calendar.publication) where
+      (from : j.start ≤ a.calendar.publication) (none : first_missing j a.calendar.publication ≡ None) (root : chain_root image a.calendar ≡ kept_root image j a.calendar.publication) where
     abbrev p : ℕ
     p = a.calendar.publication
 
@@ -243,25 +243,25 @@ module _ (laws : Laws) (image : List ℕ → List ℕ) (lawful : (bytes : List �
     names : Names signature t
     names = record { calendar = a.calendar; has_calendar = a.has_calendar; second = a.second }
 
-    cal_clash : (pair : Pair) → differing (calendar_pairs image j a.calendar) ≡ Some pair → IsClash image (record { one = pair.0; two = pair.1 })
-    cal_clash pair e = first_is_clash image (calendar_text image seconds p) (p + 1) cal_at cal_string (λ q. 255) laws.split (cal_one p covered.0) (cal_more p covered.0) cal_hashes (λ q. refl) cal_sizes
-        (cal_rungs_from image a.calendar.input a.calendar.links) [] (whole (p + 1)) a.calendar.input (root_of image a.calendar) pair refl (omega arith) (cal_holds image sizes a.calendar.input a.calendar.links input_size) root e
+    calendar_clash : (pair : Pair) → differing (calendar_pairs image j a.calendar) ≡ Some pair → IsClash image (record { one = pair.0; two = pair.1 })
+    calendar_clash pair e = first_is_clash image (calendar_text image seconds p) (p + 1) calendar_chain_at calendar_string (λ q. 255) laws.split (calendar_one p covered.0) (calendar_more p covered.0) calendar_hashes (λ q. refl) calendar_sizes
+        (calendar_rungs_from image a.calendar.input a.calendar.links) [] (whole (p + 1)) a.calendar.input (chain_root image a.calendar) pair refl (omega arith) (calendar_holds image sizes a.calendar.input a.calendar.links input_size) root e
 
     at_leaf : differing (calendar_pairs image j a.calendar) ≡ None → a.calendar.input ≡ leaf_at j t
     at_leaf e =
-        let w = none_differs image (calendar_text image seconds p) (p + 1) cal_at cal_string (λ q. 255) laws.split (cal_one p covered.0) (cal_more p covered.0) cal_hashes (λ q. refl) cal_sizes
-        (cal_rungs_from image a.calendar.input a.calendar.links) [] (whole (p + 1)) a.calendar.input (root_of image a.calendar) refl (omega arith) (cal_holds image sizes a.calendar.input a.calendar.links input_size) root e in
+        let w = none_differs image (calendar_text image seconds p) (p + 1) calendar_chain_at calendar_string (λ q. 255) laws.split (calendar_one p covered.0) (calendar_more p covered.0) calendar_hashes (λ q. refl) calendar_sizes
+        (calendar_rungs_from image a.calendar.input a.calendar.links) [] (whole (p + 1)) a.calendar.input (chain_root image a.calendar) refl (omega arith) (calendar_holds image sizes a.calendar.input a.calendar.links input_size) root e in
         let named = leaf_named p t (sides_from_top a.calendar.links) ((laws.second p t (sides_from_top a.calendar.links)).1 a.second) in
         let reach : List Rung → Result Part ℕ = λ r. part_at 0 (whole (p + 1)) (map rung_side r) in
-        let all : reach (w.passed ++ w.left) ≡ Ok named.0 = ap reach (sym w.split) ∙ ap (part_at 0 (whole (p + 1))) (cal_sides image a.calendar.input a.calendar.links) ∙ named.1 in
+        let all : reach (w.passed ++ w.left) ≡ Ok named.0 = ap reach (sym w.split) ∙ ap (part_at 0 (whole (p + 1))) (calendar_sides image a.calendar.input a.calendar.links) ∙ named.1 in
         let ended = none_left (p + 1) w.part named.0 w.passed w.left w.reached w.stops all in
         let there : reach w.passed ≡ Ok named.0 = ap reach (sym (append-nil w.passed) ∙ ap (λ (r : List Rung). w.passed ++ r) (sym ended)) ∙ all in
         let same : w.part ≡ named.0 = ok_is (sym w.reached ∙ there) in
-        let rest : a.calendar.input ≡ cal_at w.part = subst (Holds image a.calendar.input (cal_at w.part)) ended w.rest in
-        let leaf : cal_at named.0 ≡ calendars.calendar_leaf seconds t = ap (λ (n : ℕ). cal_at (part_with named.0.first n)) named.2.one ∙ laws.cal_one image seconds named.0.first ∙ ap (calendars.calendar_leaf seconds) named.2.first in
+        let rest : a.calendar.input ≡ calendar_chain_at w.part = subst (Holds image a.calendar.input (calendar_chain_at w.part)) ended w.rest in
+        let leaf : calendar_chain_at named.0 ≡ calendars.calendar_leaf seconds t = ap (λ (n : ℕ). calendar_chain_at (part_with named.0.first n)) named.2.one ∙ laws.calendar_one image seconds named.0.first ∙ ap (calendars.calendar_leaf seconds) named.2.first in
         let early = a.second.within in
         let last = covered.1 in
-        rest ∙ ap cal_at same ∙ leaf ∙ laws.leaves image j t journal (omega (arith, early, last))
+        rest ∙ ap calendar_chain_at same ∙ leaf ∙ laws.leaves image j t journal (omega (arith, early, last))
 
     module _ (h : HasItems image j t) (leaf : a.calendar.input ≡ leaf_at j t) where
       abbrev items : List Item
@@ -279,35 +279,35 @@ module _ (laws : Laws) (image : List ℕ → List ℕ) (lawful : (bytes : List �
       each : (k : ℕ) → length (rounds.item_at items k).imprint ≡ 33
       each k = item_size items k (items_kept image j t journal).each
 
-      tree_root_is : (climbed_to image start links).imprint ≡ agg_imprint items each last len (whole (last + 1))
+      tree_root_is : (climbed_to image start links).imprint ≡ aggregation_imprint items each last len (whole (last + 1))
       tree_root_is = input_is ∙ leaf ∙ sym h.root ∙ ap (λ (n : ℕ). (rounds.tree_from image items 0 n).imprint) len1
 
       abbrev passed_links : ℕ
       passed_links = length (item_pairs image items links hash)
 
-      agg_clash : (pair : Pair) → differing (item_pairs image items links hash) ≡ Some pair → IsClash image (record { one = pair.0; two = pair.1 })
-      agg_clash pair e = first_is_clash image (items_text image items) (last + 1) (agg_imprint items each last len) (agg_string items each last len) (agg_level items each last len) laws.split (agg_one items each last len) (agg_more items each last len)
-          (agg_hashes items each last len) (λ q. refl) (agg_sizes items each last len) (rungs_from image start links) [] (whole (last + 1)) hash (climbed_to image start links).imprint pair refl (omega arith) (agg_holds image sizes start links size) tree_root_is e
+      aggregation_clash : (pair : Pair) → differing (item_pairs image items links hash) ≡ Some pair → IsClash image (record { one = pair.0; two = pair.1 })
+      aggregation_clash pair e = first_is_clash image (items_text image items) (last + 1) (aggregation_imprint items each last len) (aggregation_string items each last len) (aggregation_level items each last len) laws.split (aggregation_one items each last len) (aggregation_more items each last len)
+          (aggregation_hashes items each last len) (λ q. refl) (aggregation_sizes items each last len) (rungs_from image start links) [] (whole (last + 1)) hash (climbed_to image start links).imprint pair refl (omega arith) (aggregation_holds image sizes start links size) tree_root_is e
 
-      inside : (passed : List Rung) (part : Part) → rungs_from image start links ≡ passed → part_at 0 (whole (last + 1)) (map rung_side passed) ≡ Ok part → hash ≡ agg_imprint items each last len part → IsInside image j signature hash t (link_sides signature)
+      inside : (passed : List Rung) (part : Part) → rungs_from image start links ≡ passed → part_at 0 (whole (last + 1)) (map rung_side passed) ≡ Ok part → hash ≡ aggregation_imprint items each last len part → IsInside image j signature hash t (link_sides signature)
       inside passed part split reached rest =
-          let sides : link_sides signature ≡ map rung_side passed = sym (agg_sides image start links) ∙ ap (map rung_side) split in
+          let sides : link_sides signature ≡ map rung_side passed = sym (aggregation_sides image start links) ∙ ap (map rung_side) split in
           record {
             second = names;
             all = refl;
             node = ap (imprint_at image items) sides
-                ∙ ap (option_map (λ (x : Item). x.imprint)) (agg_open items each last len (map rung_side passed) ∙ ap (node_in (rounds.agg_join image) (rounds.item_at items)) reached)
+                ∙ ap (option_map (λ (x : Item). x.imprint)) (aggregation_open items each last len (map rung_side passed) ∙ ap (node_in (rounds.aggregation_join image) (rounds.item_at items)) reached)
                 ∙ ap (λ (x : List ℕ). Some x) (sym rest);
           }
 
       beneath : (passed left : List Rung) (rung : Rung) (part : Part) → rungs_from image start links ≡ passed ++ rung ∷ left → part_at 0 (whole (last + 1)) (map rung_side passed) ≡ Ok part → part.count ≡ 1
-          → Holds image hash (agg_imprint items each last len part) (rung ∷ left) → IsBeneath image j signature hash t part.first (length (rung ∷ left))
+          → Holds image hash (aggregation_imprint items each last len part) (rung ∷ left) → IsBeneath image j signature hash t part.first (length (rung ∷ left))
       beneath passed left rung part split reached one rest =
           let m : ℕ = length (rung ∷ left) in
           let count : length links ≡ length passed + m = sym (rungs_count image start links) ∙ ap length split ∙ length-append passed (rung ∷ left) in
           let some : 1 ≤ m = omega arith in
-          let sides : link_sides signature ≡ map rung_side passed ++ map rung_side (rung ∷ left) = sym (agg_sides image start links) ∙ ap (map rung_side) split ∙ map-append rung_side passed (rung ∷ left) in
-          let second : IsSecond last (map rung_side passed) part.first = (laws.second last part.first (map rung_side passed)).0 (leaf_second last (map rung_side passed) part reached one) in
+          let sides : link_sides signature ≡ map rung_side passed ++ map rung_side (rung ∷ left) = sym (aggregation_sides image start links) ∙ ap (map rung_side) split ∙ map-append rung_side passed (rung ∷ left) in
+          let second : NamesSecond last (map rung_side passed) part.first = (laws.second last part.first (map rung_side passed)).0 (leaf_second last (map rung_side passed) part reached one) in
           let within = second.within in
           let depth : length (map rung_side passed) ≡ length passed = length-map passed rung_side in
           let front : take (length links - m) (link_sides signature) ≡ map rung_side passed
@@ -323,21 +323,21 @@ module _ (laws : Laws) (image : List ℕ → List ℕ) (lawful : (bytes : List �
             within = omega (arith, count);
             top = climbed_to image start (take m links);
             climbs = (laws.climbs image start (climbed_to image start (take m links)) (take m links)).0 (climbed_is image 0 start (take m links) low_here);
-            imprint = left_climbs image sizes start (agg_imprint items each last len part) links passed left rung size split rest
-                ∙ ap (λ (n : ℕ). agg_imprint items each last len (part_with part.first n)) one ∙ ap (λ (x : Item). x.imprint) (laws.agg_one image items part.first);
+            imprint = left_climbs image sizes start (aggregation_imprint items each last len part) links passed left rung size split rest
+                ∙ ap (λ (n : ℕ). aggregation_imprint items each last len (part_with part.first n)) one ∙ ap (λ (x : Item). x.imprint) (laws.aggregation_one image items part.first);
             way = subst (λ (n : ℕ). IsWay part.first n (take (length links - m) (link_sides signature))) (sym len1) (subst (IsWay part.first (last + 1)) (sym front) second.way);
           }
 
       ended : (passed left : List Rung) (part : Part) → rungs_from image start links ≡ passed ++ left → part_at 0 (whole (last + 1)) (map rung_side passed) ≡ Ok part → passed_links ≡ length passed → (left ≡ []) ⊎ (part.count ≡ 1)
-          → Holds image hash (agg_imprint items each last len part) left → Shows image j signature hash (ends t (length items) (link_sides signature) passed_links)
+          → Holds image hash (aggregation_imprint items each last len part) left → Shows image j signature hash (ends t (length items) (link_sides signature) passed_links)
       ended passed [] part split reached count stops rest =
           let whole_is = split ∙ append-nil passed in
-          let sides : link_sides signature ≡ map rung_side passed = sym (agg_sides image start links) ∙ ap (map rung_side) whole_is in
+          let sides : link_sides signature ≡ map rung_side passed = sym (aggregation_sides image start links) ∙ ap (map rung_side) whole_is in
           let same : passed_links ≡ length (link_sides signature) = count ∙ sym (ap length sides ∙ length-map passed rung_side) in
           elim (eq_cases passed_links (length (link_sides signature))) [ inl equal ↦ rw equal.0 (inside passed part whole_is reached rest) | inr other ↦ absurd (other.1 same) ]
       ended passed (rung ∷ left) part split reached count stops rest =
           let one : part.count ≡ 1 = elim stops [ inl none ↦ absurd cc | inr one ↦ one ] in
-          let sides : link_sides signature ≡ map rung_side passed ++ map rung_side (rung ∷ left) = sym (agg_sides image start links) ∙ ap (map rung_side) split ∙ map-append rung_side passed (rung ∷ left) in
+          let sides : link_sides signature ≡ map rung_side passed ++ map rung_side (rung ∷ left) = sym (aggregation_sides image start links) ∙ ap (map rung_side) split ∙ map-append rung_side passed (rung ∷ left) in
           let depth = length-map passed rung_side in
           let rest_length = length-map (rung ∷ left) rung_side in
           let all : length (link_sides signature) ≡ length passed + length (rung ∷ left) = ap length sides ∙ length-append (map rung_side passed) (map rung_side (rung ∷ left)) ∙ (omega (arith, depth, rest_length)) in
@@ -353,10 +353,10 @@ module _ (laws : Laws) (image : List ℕ → List ℕ) (lawful : (bytes : List �
           ]
 
       on_items : (d : Option Pair) → differing (item_pairs image items links hash) ≡ d → Shows image j signature hash (found t (length items) (link_sides signature) passed_links d)
-      on_items (Some pair) e = agg_clash pair e
+      on_items (Some pair) e = aggregation_clash pair e
       on_items None e =
-          let w = none_differs image (items_text image items) (last + 1) (agg_imprint items each last len) (agg_string items each last len) (agg_level items each last len) laws.split (agg_one items each last len) (agg_more items each last len)
-          (agg_hashes items each last len) (λ q. refl) (agg_sizes items each last len) (rungs_from image start links) [] (whole (last + 1)) hash (climbed_to image start links).imprint refl (omega arith) (agg_holds image sizes start links size) tree_root_is e in
+          let w = none_differs image (items_text image items) (last + 1) (aggregation_imprint items each last len) (aggregation_string items each last len) (aggregation_level items each last len) laws.split (aggregation_one items each last len) (aggregation_more items each last len)
+          (aggregation_hashes items each last len) (λ q. refl) (aggregation_sizes items each last len) (rungs_from image start links) [] (whole (last + 1)) hash (climbed_to image start links).imprint refl (omega arith) (aggregation_holds image sizes start links size) tree_root_is e in
           ended w.passed w.left w.part w.split w.reached w.count w.stops w.rest
 
       items_show : Shows image j signature hash (compared image items links hash t [])
@@ -372,7 +372,7 @@ module _ (laws : Laws) (image : List ℕ → List ℕ) (lawful : (bytes : List �
 
     pub laid_shows : Shows image j signature hash (laid_beside image j signature hash t a.calendar)
     laid_shows = elim (on_calendar (differing (calendar_pairs image j a.calendar)) refl) [
-      | inl d ↦ subst (Shows image j signature hash) (clash_above d.0 d.1) (cal_clash d.0 d.1)
+      | inl d ↦ subst (Shows image j signature hash) (clash_above d.0 d.1) (calendar_clash d.0 d.1)
       | inr e ↦ (let leaf = at_leaf e in
           let h = leaf_has_items image j t journal (λ zero. a.not_missed (leaf ∙ zero)) in
           subst (Shows image j signature hash) (none_above image (items_at j t) links hash t (calendar_pairs image j a.calendar) e) (items_show h leaf))
@@ -381,7 +381,7 @@ module _ (laws : Laws) (image : List ℕ → List ℕ) (lawful : (bytes : List �
     -- of a second before the start, or a missed one, only with a clash
     pub missed_is_clash : leaf_at j t ≡ zero_imprint → (clash : Clash) × (laid_beside image j signature hash t a.calendar ≡ answers.Clash clash) × IsClash image clash
     missed_is_clash missed = elim (on_calendar (differing (calendar_pairs image j a.calendar)) refl) [
-      | inl d ↦ (record { one = d.0.0; two = d.0.1 }, sym (clash_above d.0 d.1), cal_clash d.0 d.1)
+      | inl d ↦ (record { one = d.0.0; two = d.0.1 }, sym (clash_above d.0 d.1), calendar_clash d.0 d.1)
       | inr e ↦ absurd (a.not_missed (at_leaf e ∙ missed))
     ]
 
@@ -390,7 +390,7 @@ module _ (laws : Laws) (image : List ℕ → List ℕ) (lawful : (bytes : List �
   module _ (signature : Signature) (hash : List ℕ) (publications : List (ℕ × List ℕ)) (size : length hash ≡ 33) where
     when_whole : (t : ℕ) (a : IsAccepted image signature hash publications t) → j.start ≤ a.calendar.publication → (missing : Option ℕ) → first_missing j a.calendar.publication ≡ missing → Shows image j signature hash (decided image j signature hash t a.calendar missing)
     when_whole t a from (Some second) e = tt
-    when_whole t a from None e = elim (same_cases (root_of image a.calendar) (kept_root image j a.calendar.publication)) [
+    when_whole t a from None e = elim (same_cases (chain_root image a.calendar) (kept_root image j a.calendar.publication)) [
       | inl root ↦ rw root.0 (laid_shows signature hash publications t size a from e root.1)
       | inr other ↦ rw other.0 tt
     ]
@@ -415,7 +415,7 @@ module _ (laws : Laws) (image : List ℕ → List ℕ) (lawful : (bytes : List �
         let a = (laws.accepted image signature hash publications t).0 passes in
         let same : a.calendar ≡ d.calendar = some_is (sym a.has_calendar ∙ d.has_calendar) in
         let covered : IsCovered j a.calendar.publication = subst (λ (c : Calendar). IsCovered j c.publication) (sym same) d.covered in
-        let root : root_of image a.calendar ≡ kept_root image j a.calendar.publication = subst (λ (c : Calendar). root_of image c ≡ kept_root image j c.publication) (sym same) d.root in
+        let root : chain_root image a.calendar ≡ kept_root image j a.calendar.publication = subst (λ (c : Calendar). chain_root image c ≡ kept_root image j c.publication) (sym same) d.root in
         let none = missing_none j a.calendar.publication ((laws.covered image j a.calendar.publication journal).1 covered) in
         let m = missed_is_clash signature hash publications t size a covered.from none root missed in
         (m.0, audit_laid image j signature hash publications t a.calendar passes a.has_calendar covered.from none root ∙ m.1, m.2)

@@ -6,7 +6,7 @@ use Rattle.ksi_split.specs.declared.side.Side.{Side}
 use Rattle.ksi_calendar.specs.Calendar.{is_covered}
 use Rattle.ksi_signature.specs.Values.{Calendar}
 use Rattle.ksi_signature.specs.declared.signature.Signature.{Signature}
-use Rattle.ksi_verifier.specs.Verdict.{root_of, verdict}
+use Rattle.ksi_verifier.specs.Verdict.{chain_root, verdict}
 use Rattle.ksi_verifier.specs.declared.verdict.Verdict.{Verdict}
 use Rattle.ksi_verifier.specs.declared.verdict.Verdict.TheVariants.{Accepted, Refused}
 use Rattle.ksi_journal.specs.Journal.{Contents, items_at}
@@ -67,7 +67,7 @@ decided_comes : (image : List ℕ → List ℕ) (journal : Contents) (signature 
     → Comes (decided image journal signature hash t calendar missing)
 decided_comes image journal signature hash t calendar (Some second) = tt
 decided_comes image journal signature hash t calendar None =
-    cond_both (bytes_eq (root_of image calendar) (kept_root image journal calendar.publication)) _ _ Comes (λ _. laid_comes image journal signature hash t calendar) (λ _. tt)
+    cond_both (bytes_eq (chain_root image calendar) (kept_root image journal calendar.publication)) _ _ Comes (λ _. laid_comes image journal signature hash t calendar) (λ _. tt)
 
 kept_comes : (image : List ℕ → List ℕ) (journal : Contents) (signature : Signature) (hash : List ℕ) (t : ℕ) (calendar : Option Calendar)
     → Comes (kept_or_not image journal signature hash t calendar)

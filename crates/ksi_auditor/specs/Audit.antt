@@ -10,7 +10,7 @@ use Rattle.ksi_signature.specs.Values.{Calendar}
 use Rattle.ksi_signature.specs.declared.signature.Signature.{Signature}
 use Rattle.ksi_verifier.specs.Chains.{plain_chains, at_level_zero}
 use Rattle.ksi_verifier.specs.Leading.{all_links}
-use Rattle.ksi_verifier.specs.Verdict.{root_of, verdict}
+use Rattle.ksi_verifier.specs.Verdict.{chain_root, verdict}
 use Rattle.ksi_verifier.specs.declared.refusal.Refusal.TheVariants.{NoCalendar}
 use Rattle.ksi_verifier.specs.declared.verdict.Verdict.{Verdict}
 use Rattle.ksi_verifier.specs.declared.verdict.Verdict.TheVariants.{Accepted, Refused}
@@ -18,7 +18,7 @@ use Rattle.ksi_journal.specs.Journal.{Contents, items_at}
 use Rattle.ksi_journal.specs.Calendar.{calendar_of, first_missing, kept_root}
 use Rattle.ksi_auditor.specs.declared.answer.Audit.{Audit}
 use Rattle.ksi_auditor.specs.declared.answer.Audit.TheVariants.{Inside, Beneath, Clash, NotAccepted, BeforeStart, Undecided, NotDecided}
-use Rattle.ksi_auditor.specs.Beside.{Pair, rungs_from, cal_rungs_from, pairs_below, differing}
+use Rattle.ksi_auditor.specs.Beside.{Pair, rungs_from, calendar_rungs_from, pairs_below, differing}
 use Rattle.ksi_auditor.specs.Kept.{calendar_text, items_text}
 
 -- the links of all aggregation chains of a signature, the lowest first
@@ -36,7 +36,7 @@ link_sides signature = sides_of (links_of signature)
 
 -- each calendar link's string and that of the kept calendar
 abbrev pub calendar_pairs : (List ℕ → List ℕ) → Contents → Calendar → List Pair
-calendar_pairs image journal calendar = pairs_below (calendar_text image (calendar_of journal) calendar.publication) [] (cal_rungs_from image calendar.input calendar.links)
+calendar_pairs image journal calendar = pairs_below (calendar_text image (calendar_of journal) calendar.publication) [] (calendar_rungs_from image calendar.input calendar.links)
 
 -- each aggregation link's string and that of the tree of the items, as far as an item
 abbrev pub item_pairs : (List ℕ → List ℕ) → List Item → List PlainLink → List ℕ → List Pair
@@ -73,9 +73,9 @@ laid_beside image journal signature hash t calendar = compared image (items_at j
 abbrev pub decided : (List ℕ → List ℕ) → Contents → Signature → List ℕ → ℕ → Calendar → Option ℕ → Audit
 decided image journal signature hash t calendar (Some second) = Undecided second
 decided image journal signature hash t calendar None =
-    if bytes_eq (root_of image calendar) (kept_root image journal calendar.publication)
+    if bytes_eq (chain_root image calendar) (kept_root image journal calendar.publication)
     then laid_beside image journal signature hash t calendar
-    else NotDecided calendar.publication (root_of image calendar) (kept_root image journal calendar.publication)
+    else NotDecided calendar.publication (chain_root image calendar) (kept_root image journal calendar.publication)
 
 -- of an accepted signature; it has a calendar chain
 abbrev pub kept_or_not : (List ℕ → List ℕ) → Contents → Signature → List ℕ → ℕ → Option Calendar → Audit

@@ -6,7 +6,7 @@ use Rattle.ksi_split.specs.declared.tree_link.TreeLink.{TreeLink}
 use Rattle.ksi_aggchain.specs.Links.{PlainLink, side_text, level_above}
 use Rattle.ksi_aggchain.specs.Climbing.{above}
 use Rattle.ksi_aggchain.specs.declared.item.Item.{Item}
-use Rattle.ksi_calchain.specs.Climbing.{cal_text}
+use Rattle.ksi_calchain.specs.Climbing.{calendar_element_text}
 
 -- a link as it is climbed: the side on which the node below it stands, that node's imprint, the other part, and the level
 -- of the join
@@ -31,13 +31,13 @@ abbrev pub rungs_from : (List ℕ → List ℕ) → Item → List PlainLink → 
 rungs_from image item [] = []
 rungs_from image item (link ∷ links) = rungs_from image (above image item link) links ++ rung_from item link ∷ []
 
-abbrev pub cal_rung_from : List ℕ → TreeLink (List ℕ) → Rung
-cal_rung_from imprint link = record { side = link.side; below = imprint; sibling = link.sibling; level = 255 }
+abbrev pub calendar_rung_from : List ℕ → TreeLink (List ℕ) → Rung
+calendar_rung_from imprint link = record { side = link.side; below = imprint; sibling = link.sibling; level = 255 }
 
 -- the links of a calendar chain, from an imprint up
-abbrev pub cal_rungs_from : (List ℕ → List ℕ) → List ℕ → List (TreeLink (List ℕ)) → List Rung
-cal_rungs_from image imprint [] = []
-cal_rungs_from image imprint (link ∷ links) = cal_rungs_from image (image (cal_text imprint link)) links ++ cal_rung_from imprint link ∷ []
+abbrev pub calendar_rungs_from : (List ℕ → List ℕ) → List ℕ → List (TreeLink (List ℕ)) → List Rung
+calendar_rungs_from image imprint [] = []
+calendar_rungs_from image imprint (link ∷ links) = calendar_rungs_from image (image (calendar_element_text imprint link)) links ++ calendar_rung_from imprint link ∷ []
 
 -- ---- beside a kept tree
 

@@ -5,13 +5,13 @@ use Rattle.ksi_split.specs.declared.side.Side.{Side}
 use Rattle.ksi_split.specs.declared.side.Side.TheVariants.{Left, Right}
 use Rattle.ksi_aggchain.specs.declared.item.Item.{Item}
 use Rattle.ksi_aggtree.specs.Rounds as rounds
-use Rattle.ksi_calchain.specs.Climbing.{cal_join_text}
+use Rattle.ksi_calchain.specs.Climbing.{calendar_join_text}
 use Rattle.ksi_calendar.specs.Calendar as calendars
 
 abbrev pub joined_imprints : Option (List ℕ) → Option (List ℕ) → Option (List ℕ)
 joined_imprints None right = None
 joined_imprints (Some left) None = None
-joined_imprints (Some left) (Some right) = Some (cal_join_text left right)
+joined_imprints (Some left) (Some right) = Some (calendar_join_text left right)
 
 -- the string that the node at the sides is made of, in the calendar tree of the seconds to p; none where there is no such
 -- node, or where it is a second's root

@@ -3,7 +3,7 @@ use Rattle.std.specs.Prelude.{◌≡◌, ℕ, ◌-◌, ◌<◌, ◌≤◌, List,
 use Rattle.ksi_imprint.specs.Imprints.{IsClash}
 use Rattle.ksi_imprint.specs.declared.clash.Clash as clashes
 use Rattle.ksi_split.specs.declared.side.Side.{Side}
-use Rattle.ksi_split.specs.Ways.{IsWay, IsSecond}
+use Rattle.ksi_split.specs.Ways.{IsWay, NamesSecond}
 use Rattle.ksi_aggchain.specs.Climbing.{Climbs}
 use Rattle.ksi_aggchain.specs.declared.item.Item.{Item}
 use Rattle.ksi_aggtree.specs.Rounds.{item_at, node_of}
@@ -11,7 +11,7 @@ use Rattle.ksi_calchain.specs.Sides.{sides_from_top}
 use Rattle.ksi_signature.specs.Values.{Calendar}
 use Rattle.ksi_signature.specs.declared.signature.Signature.{Signature}
 use Rattle.ksi_verifier.specs.Chains.{at_level_zero}
-use Rattle.ksi_verifier.specs.Verdict.{root_of}
+use Rattle.ksi_verifier.specs.Verdict.{chain_root}
 use Rattle.ksi_journal.specs.Journal.{Contents, items_at}
 use Rattle.ksi_journal.specs.Calendar.{IsCovered, kept_root}
 use Rattle.ksi_auditor.specs.declared.answer.Audit.{Audit}
@@ -22,7 +22,7 @@ use Rattle.ksi_auditor.specs.Audit.{links_of, link_sides}
 pub record Names (signature : Signature) (t : ℕ) : Type 0 where
   pub calendar : Calendar
   pub has_calendar : signature.calendar ≡ Some calendar
-  pub second : IsSecond calendar.publication (sides_from_top calendar.links) t
+  pub second : NamesSecond calendar.publication (sides_from_top calendar.links) t
 
 abbrev pub imprint_at : (List ℕ → List ℕ) → List Item → List Side → Option (List ℕ)
 imprint_at image items sides = option_map (λ node. node.imprint) (node_of image items sides)
@@ -50,7 +50,7 @@ pub record IsDecided (image : List ℕ → List ℕ) (journal : Contents) (signa
   pub calendar : Calendar
   pub has_calendar : signature.calendar ≡ Some calendar
   pub covered : IsCovered journal calendar.publication
-  pub root : root_of image calendar ≡ kept_root image journal calendar.publication
+  pub root : chain_root image calendar ≡ kept_root image journal calendar.publication
 
 -- so short strings that a line can show both: each is an imprint, a sibling of at most 4,096 bytes and a level
 abbrev pub AreShort : clashes.Clash → Type 0

@@ -17,11 +17,11 @@ use crate::place::Place;
 use crate::walk::{Walk, along_calendar, along_chains};
 use ksi_aggchain::Item;
 use ksi_aggtree::Builder;
-use ksi_calchain::climb_cal;
+use ksi_calchain::climb_calendar;
 use ksi_imprint::{Compress, Imprint, NoMemory};
 use ksi_journal::Journal;
 use ksi_publications::Publications;
-use ksi_signature::{AggChain, CalChain, Signature};
+use ksi_signature::{AggregationChain, CalendarChain, Signature};
 use ksi_split::second_of;
 use ksi_verifier::{Refusal, Verdict, verify};
 use std::alloc::{AllocError, Global};
@@ -86,7 +86,7 @@ fn decide<C: Compress>(
     signature: &Signature,
     hash: &Imprint,
     second: u64,
-    calendar: &CalChain,
+    calendar: &CalendarChain,
 ) -> Result<Audit, NoMemory>
     requires levels { level_after 0 (links_of signature.now) ≤ 255 }
     ensures answer { IfOk result (λ answer. answer ≡
@@ -101,7 +101,7 @@ fn decide<C: Compress>(
     match journal.first_missing(publication) {
         Some(second) => Ok(Audit::Undecided(second)),
         None => {
-            let given = climb_cal::<C>(calendar.input, calendar.links.as_slice());
+            let given = climb_calendar::<C>(calendar.input, calendar.links.as_slice());
             let kept = root_to(journal, publication);
             if given == kept {
                 lay_beside::<C>(alloc, journal, signature, hash, second, calendar)
@@ -132,7 +132,7 @@ fn lay_beside<C: Compress>(
     signature: &Signature,
     hash: &Imprint,
     second: u64,
-    calendar: &CalChain,
+    calendar: &CalendarChain,
 ) -> Result<Audit, NoMemory>
     requires levels { level_after 0 (links_of signature.now) ≤ 255 }
     requires journal { IsJournal C.image journal.now }
@@ -161,7 +161,7 @@ fn lay_beside<C: Compress>(
 fn lay_below<C: Compress>(
     alloc: Global,
     items: &[Item],
-    chains: &[AggChain],
+    chains: &[AggregationChain],
     hash: &Imprint,
     second: u64,
 ) -> Result<Audit, NoMemory>
@@ -202,7 +202,7 @@ fn beneath(second: u64, items: u64, place: &Place, links: u64) -> Audit
 }
 
 /// How many links the chains have.
-fn count_of(chains: &[AggChain]) -> u64
+fn count_of(chains: &[AggregationChain]) -> u64
     requires { length chains.now ≤ 16 }
     ensures { result ≡ length (all_links (plain_chains chains.now)) }
 {

@@ -24,6 +24,7 @@
 mod answer;
 mod auditing;
 mod calendar;
+mod climbing;
 mod deep;
 mod items;
 mod kept;
@@ -31,7 +32,6 @@ pub mod laws;
 mod nodes;
 mod place;
 mod rung;
-mod top;
 mod walk;
 
 pub use answer::Audit;

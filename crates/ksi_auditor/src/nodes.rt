@@ -2,7 +2,7 @@ ghost use Rattle.std.specs.Prelude.{◌≡◌, ◌++◌, ◌∷◌, [], ℕ, Lis
 ghost use Rattle.ksi_split.specs.declared.side.Side.{Side};
 ghost use Rattle.ksi_split.specs.declared.side.Side.TheVariants.{Left, Right};
 ghost use Rattle.ksi_aggchain.specs.declared.item.Item.{Item};
-ghost use Rattle.ksi_aggtree.specs.Rounds.{agg_join, node_of};
+ghost use Rattle.ksi_aggtree.specs.Rounds.{aggregation_join, node_of};
 
 use ksi_aggtree::laws::one_round;
 use ksi_split::laws::{one_split, parts};
@@ -11,7 +11,7 @@ use ksi_split::laws::{one_split, parts};
 pub(crate) fn joined_nodes()
     ensures { (image : List ℕ → List ℕ) (items : List Item) (sides : List Side) (left right : Item) →
         node_of image items (sides ++ Left ∷ []) ≡ Some left → node_of image items (sides ++ Right ∷ []) ≡ Some right →
-        node_of image items sides ≡ Some (agg_join image left right) }
+        node_of image items sides ≡ Some (aggregation_join image left right) }
 {
     parts();
     one_split();

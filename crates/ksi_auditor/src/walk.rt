@@ -6,20 +6,20 @@ ghost use Rattle.ksi_aggchain.specs.Climbing.{level_after};
 ghost use Rattle.ksi_signature.specs.Values.{HasSize};
 ghost use Rattle.ksi_verifier.specs.Chains.{plain_chains};
 ghost use Rattle.ksi_verifier.specs.Leading.{all_links};
-ghost use Rattle.ksi_auditor.specs.Beside.{cal_rungs_from, rungs_from};
+ghost use Rattle.ksi_auditor.specs.Beside.{calendar_rungs_from, rungs_from};
 ghost use Rattle.ksi_auditor.specs.Climbed.{climbed_to};
 ghost use Rattle.ksi_auditor.specs.Walks.{IsShortWalk, clash_in, go, step, laid, view_rung};
 ghost use Rattle.ksi_auditor.specs.declared.walk.Walk.TheVariants as walks;
 ghost use Rattle.ksi_auditor.specs.Shown.{AreShort};
 
+use crate::climbing::top_of;
 use crate::kept::KeptTree;
 use crate::place::Place;
 use crate::rung::{Rung, is_joined_of, join_of, text_of};
-use crate::top::top_of;
 use ksi_aggchain::{Item, Link, Sibling};
-use ksi_calchain::CalLink;
+use ksi_calchain::CalendarLink;
 use ksi_imprint::{Bytes, Clash, Compress, Imprint, NoMemory};
-use ksi_signature::AggChain;
+use ksi_signature::AggregationChain;
 use std::alloc::Global;
 
 /// How far links were laid beside a kept tree, from the top.
@@ -53,10 +53,10 @@ pub(crate) fn along_calendar<C: Compress, K: KeptTree>(
     alloc: Global,
     tree: &K,
     below: &Imprint,
-    links: &[CalLink],
+    links: &[CalendarLink],
 ) -> Result<Walk, NoMemory>
     ensures walk { IfOk result (λ walk. walk ≡
-        go (K.text tree.now) (walks.At []) (cal_rungs_from C.image below.now links.now)) }
+        go (K.text tree.now) (walks.At []) (calendar_rungs_from C.image below.now links.now)) }
     ensures short { IfOk result IsShortWalk }
 {
     let (link, higher) = match links.split_first() {
@@ -79,7 +79,7 @@ pub(crate) fn along_chains<C: Compress, K: KeptTree>(
     alloc: Global,
     tree: &K,
     below: &Item,
-    chains: &[AggChain],
+    chains: &[AggregationChain],
 ) -> Result<Walk, NoMemory>
     requires { level_after below.now.level (all_links (plain_chains chains.now)) ≤ 255 }
     ensures walk { IfOk result (λ walk. walk ≡

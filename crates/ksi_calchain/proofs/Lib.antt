@@ -1,2 +1,2 @@
-pub mod CalLemmas
+pub mod CalendarLemmas
 pub mod SideLemmas

@@ -9,7 +9,7 @@ use Rattle.ksi_split.specs.declared.side.Side.{Side}
 use Rattle.ksi_split.specs.declared.tree_link.TreeLink.{TreeLink}
 use Rattle.ksi_split.specs.declared.fault.ShapeFault.{ShapeFault}
 use Rattle.ksi_split.specs.declared.fault.ShapeFault.TheVariants.{TooMany, TooFew}
-use Rattle.ksi_split.specs.Ways.{IsWay, IsSecond, PassesLeaf, EndsAbove}
+use Rattle.ksi_split.specs.Ways.{IsWay, NamesSecond, PassesLeaf, EndsAbove}
 use Rattle.ksi_split.specs.Parts.{second_at}
 use Rattle.ksi_calchain.specs.Sides.{sides_from_top}
 
@@ -48,7 +48,7 @@ take_less n m sides le within =
 module _ (p : ℕ) (sides : List Side) (small : p < 2 ^ 64) (long : 65 ≤ length sides)
     (short : (t n k : ℕ) (s : List Side) → n ≤ 2 ^ k → IsWay t n s → length s ≤ k)
     (goes_on : (p rest : ℕ) (s : List Side) → EndsAbove p s rest → (t : ℕ) × (side : Side) × (more : List Side) × IsWay t (p + 1) (s ++ side ∷ more))
-    (second : (p t : ℕ) (s : List Side) → (second_at p s ≡ Ok t) ↔ IsSecond p s t)
+    (second : (p t : ℕ) (s : List Side) → (second_at p s ≡ Ok t) ↔ NamesSecond p s t)
     (many : (p place : ℕ) (s : List Side) → (second_at p s ≡ Err (TooMany place)) ↔ PassesLeaf p s place)
     (few : (p rest : ℕ) (s : List Side) → (second_at p s ≡ Err (TooFew rest)) ↔ EndsAbove p s rest) where
   pub told : (r : Result ℕ ShapeFault) → second_at p (take 65 sides) ≡ r → second_at p (take 65 sides) ≡ second_at p sides
@@ -63,7 +63,7 @@ module _ (p : ℕ) (sides : List Side) (small : p < 2 ^ 64) (long : 65 ≤ lengt
       let within = h.more in
       let count = length-take-le 65 sides long in
       let same : take place (take 65 sides) ≡ take place sides = take_less place 65 sides (omega arith) long in
-      let all : PassesLeaf p sides place = record { more = omega arith; second = h.second; reached = subst (λ (xs : List Side). IsSecond p xs h.second) same h.reached } in
+      let all : PassesLeaf p sides place = record { more = omega arith; second = h.second; reached = subst (λ (xs : List Side). NamesSecond p xs h.second) same h.reached } in
       e ∙ sym ((many p place sides).1 all)
 
 -- the uppermost sides of as many as there are, and of 65 at most

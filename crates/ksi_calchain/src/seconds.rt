@@ -1,11 +1,11 @@
 ghost use Rattle.std.specs.Prelude.{◌≡◌, ◌<◌, ◌≤◌, ◌^◌, ◌↔◌, ℕ, List, take, length};
-ghost use Rattle.ksi_split.specs.Ways.{IsSecond, PassesLeaf, EndsAbove};
+ghost use Rattle.ksi_split.specs.Ways.{NamesSecond, PassesLeaf, EndsAbove};
 ghost use Rattle.ksi_split.specs.Parts.{second_at};
 ghost use Rattle.ksi_split.specs.declared.side.Side.{Side};
 ghost use Rattle.ksi_split.specs.declared.fault.ShapeFault.TheVariants.{TooMany, TooFew};
 ghost use Rattle.ksi_calchain.specs.Sides.{sides_from_top};
 
-use crate::link::CalLink;
+use crate::link::CalendarLink;
 use ksi_split::laws::{one_answer, proper_fronts, short_ways};
 use ksi_split::{ShapeFault, Side, second_of};
 
@@ -15,8 +15,8 @@ use ksi_split::{ShapeFault, Side, second_of};
 /// # Errors
 /// `TooMany(place)` where the links above the one at `place` are already the way to a second, and `TooFew(rest)` where
 /// the links end at a part that has `rest` seconds more than one.
-pub fn second(p: u64, links: &[CalLink]) -> Result<u64, ShapeFault>
-    ensures second { (t : ℕ) → (result ≡ Ok t) ↔ IsSecond p (sides_from_top links.now) t }
+pub fn second(p: u64, links: &[CalendarLink]) -> Result<u64, ShapeFault>
+    ensures second { (t : ℕ) → (result ≡ Ok t) ↔ NamesSecond p (sides_from_top links.now) t }
     ensures too_many { (place : ℕ) →
         (result ≡ Err (TooMany place)) ↔ PassesLeaf p (sides_from_top links.now) place }
     ensures too_few { (rest : ℕ) →
@@ -31,7 +31,7 @@ pub fn second(p: u64, links: &[CalLink]) -> Result<u64, ShapeFault>
 }
 
 /// The sides of the uppermost `count` links, the top first. Behind them all are left.
-fn uppermost(links: &[CalLink], count: usize) -> [Side; 65]
+fn uppermost(links: &[CalendarLink], count: usize) -> [Side; 65]
     requires few { count ≤ 65 }
     requires there { count ≤ length links.now }
     ensures { take count result ≡ take count (sides_from_top links.now) }

@@ -4,7 +4,7 @@ use Rattle.ksi_imprint.specs.Imprints.{zero_imprint}
 use Rattle.ksi_split.specs.Trees.{tree, path_of, node_at}
 use Rattle.ksi_split.specs.declared.side.Side.{Side}
 use Rattle.ksi_split.specs.declared.tree_link.TreeLink.{TreeLink}
-use Rattle.ksi_calchain.specs.Climbing.{cal_join}
+use Rattle.ksi_calchain.specs.Climbing.{calendar_join}
 
 -- the start, and the roots of the seconds from it on
 pub record Seconds : Type 0 where
@@ -17,7 +17,7 @@ calendar_leaf seconds t = if nat_lt t seconds.start then zero_imprint else slice
 
 -- the calendar tree over the n seconds from lo
 abbrev pub calendar_tree : (List ℕ → List ℕ) → Seconds → ℕ → ℕ → List ℕ
-calendar_tree image seconds lo n = tree (cal_join image) (calendar_leaf seconds) lo n
+calendar_tree image seconds lo n = tree (calendar_join image) (calendar_leaf seconds) lo n
 
 -- the root of the seconds from 0 to p
 abbrev pub calendar_root : (List ℕ → List ℕ) → Seconds → ℕ → List ℕ
@@ -25,7 +25,7 @@ calendar_root image seconds p = calendar_tree image seconds 0 (p + 1)
 
 -- the chain of second t: the links from its leaf up to the root of the seconds from 0 to p
 abbrev pub calendar_path : (List ℕ → List ℕ) → Seconds → ℕ → ℕ → List (TreeLink (List ℕ))
-calendar_path image seconds t p = path_of (cal_join image) (calendar_leaf seconds) 0 t (p + 1)
+calendar_path image seconds t p = path_of (calendar_join image) (calendar_leaf seconds) 0 t (p + 1)
 
 -- whether p is at or after the start, and every second from there to p has a root
 abbrev pub is_covered : Seconds → ℕ → Bool
@@ -37,4 +37,4 @@ root_at image seconds p = if is_covered seconds p then Some (calendar_root image
 
 -- the node of the tree over the seconds from 0 to p that sides from the top lead to, where p is covered and they pass no leaf
 abbrev pub node_of : (List ℕ → List ℕ) → Seconds → ℕ → List Side → Option (List ℕ)
-node_of image seconds p sides = if is_covered seconds p then node_at (cal_join image) (calendar_leaf seconds) p sides else None
+node_of image seconds p sides = if is_covered seconds p then node_at (calendar_join image) (calendar_leaf seconds) p sides else None

@@ -1,6 +1,6 @@
 ghost use Rattle.std.specs.Prelude.{◌≡◌, ◌++◌, ◌∷◌, [], ◌<◌, ◌≤◌, ◌+◌, ◌^◌, length, OnOk, OnErr, IfOk};
 ghost use Rattle.ksi_split.specs.Ways.{way_of};
-ghost use Rattle.ksi_calchain.specs.Climbing.{ClimbsCal};
+ghost use Rattle.ksi_calchain.specs.Climbing.{ClimbsCalendar};
 ghost use Rattle.ksi_calchain.specs.Sides.{sides_from_top};
 ghost use Rattle.ksi_calendar.specs.Calendar.{calendar_leaf, calendar_root, calendar_path, root_at, node_of, is_covered};
 
@@ -87,7 +87,7 @@ impl<C: Compress> Calendar<C> {
         requires covered { p < self.now.start + length self.now.roots }
         ensures links { IfOk result (λ links. links ≡ calendar_path C.image self.now t p) }
         ensures climbs { IfOk result (λ links.
-            ClimbsCal C.image (calendar_leaf self.now t) links (calendar_root C.image self.now p)) }
+            ClimbsCalendar C.image (calendar_leaf self.now t) links (calendar_root C.image self.now p)) }
         ensures way { IfOk result (λ links. sides_from_top links ≡ way_of t (p + 1)) }
         ensures few { p < 2 ^ 63 → IfOk result (λ links. length links ≤ 63) }
     {
@@ -108,7 +108,7 @@ impl<C: Compress> Calendar<C> {
         requires covered { p < self.now.start + length self.now.roots }
         ensures links { IfOk result (λ links. links ≡ calendar_path C.image self.now t p) }
         ensures climbs { IfOk result (λ links.
-            ClimbsCal C.image (calendar_leaf self.now t) links (calendar_root C.image self.now p)) }
+            ClimbsCalendar C.image (calendar_leaf self.now t) links (calendar_root C.image self.now p)) }
         ensures way { IfOk result (λ links. sides_from_top links ≡ way_of t (p + 1)) }
         ensures few { p < 2 ^ 63 → IfOk result (λ links. length links ≤ 63) }
         ensures most { steps.new ≤ steps.old + 126 }
@@ -154,7 +154,7 @@ fn chain_from<C: Compress, L: Ledger>(
     requires covered { p < calendar.now.start + length calendar.now.roots }
     ensures links { IfOk result (λ links. links ≡ calendar_path C.image calendar.now t p) }
     ensures climbs { IfOk result (λ links.
-        ClimbsCal C.image (calendar_leaf calendar.now t) links (calendar_root C.image calendar.now p)) }
+        ClimbsCalendar C.image (calendar_leaf calendar.now t) links (calendar_root C.image calendar.now p)) }
     ensures way { IfOk result (λ links. sides_from_top links ≡ way_of t (p + 1)) }
     ensures few { p < 2 ^ 63 → IfOk result (λ links. length links ≤ 63) }
 {

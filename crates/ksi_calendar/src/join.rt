@@ -1,4 +1,4 @@
-ghost use Rattle.ksi_calchain.specs.Climbing.{cal_join};
+ghost use Rattle.ksi_calchain.specs.Climbing.{calendar_join};
 
 use ksi_imprint::{Compress, Imprint};
 use ksi_rows::Joins;
@@ -8,7 +8,7 @@ use std::marker::PhantomData;
 pub(crate) struct CalendarJoin<C: Compress>(PhantomData<C>);
 
 impl<C: Compress> Joins<Imprint> for CalendarJoin<C> {
-    ghost joined = { cal_join C.image };
+    ghost joined = { calendar_join C.image };
 
     fn join(left: &Imprint, right: &Imprint) -> Imprint {
         C::join(left.bytes(), right.bytes(), 0xff)

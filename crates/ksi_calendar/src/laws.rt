@@ -4,7 +4,7 @@ ghost use Rattle.ksi_imprint.specs.Imprints.{zero_imprint};
 ghost use Rattle.ksi_split.specs.Powers.{IsSplit};
 ghost use Rattle.ksi_split.specs.Ways.{way_of, LeadsTo, PassesLeaf};
 ghost use Rattle.ksi_split.specs.declared.side.Side.{Side};
-ghost use Rattle.ksi_calchain.specs.Climbing.{ClimbsCal, cal_join};
+ghost use Rattle.ksi_calchain.specs.Climbing.{ClimbsCalendar, calendar_join};
 ghost use Rattle.ksi_calchain.specs.Sides.{sides_from_top};
 ghost use Rattle.ksi_calendar.specs.Calendar.{Seconds, calendar_leaf, calendar_tree, calendar_root, calendar_path, is_covered, node_of};
 
@@ -19,7 +19,7 @@ pub fn one_calendar()
         calendar_tree image seconds lo 1 ≡ calendar_leaf seconds lo }
     ensures cut { (image : List ℕ → List ℕ) (seconds : Seconds) (lo n k : ℕ) → IsSplit n k →
         calendar_tree image seconds lo n ≡
-        cal_join image (calendar_tree image seconds lo k) (calendar_tree image seconds (lo + k) (n - k)) }
+        calendar_join image (calendar_tree image seconds lo k) (calendar_tree image seconds (lo + k) (n - k)) }
     ensures own_seconds { (image : List ℕ → List ℕ) (seconds other : Seconds) (lo n : ℕ) → 0 < n →
         ((t : ℕ) → lo ≤ t → t < lo + n → calendar_leaf seconds t ≡ calendar_leaf other t) →
         calendar_tree image seconds lo n ≡ calendar_tree image other lo n }
@@ -30,7 +30,7 @@ pub fn one_calendar()
 /// The chain of a second leads from its leaf to the root, and its sides from the top are the second's way.
 pub fn one_chain()
     ensures climbs { (image : List ℕ → List ℕ) (seconds : Seconds) (t p : ℕ) → t ≤ p →
-        ClimbsCal image (calendar_leaf seconds t) (calendar_path image seconds t p) (calendar_root image seconds p) }
+        ClimbsCalendar image (calendar_leaf seconds t) (calendar_path image seconds t p) (calendar_root image seconds p) }
     ensures way { (image : List ℕ → List ℕ) (seconds : Seconds) (t p : ℕ) →
         sides_from_top (calendar_path image seconds t p) ≡ way_of t (p + 1) }
 {

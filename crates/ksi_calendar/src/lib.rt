@@ -13,7 +13,7 @@
 //! let mut calendar = Calendar::<Sha>::new(alloc, 2)?;
 //! calendar.append(root)?;
 //! let links = calendar.chain_to(2, 2)?;
-//! assert_eq!(calendar.root_at(2), Some(climb_cal::<Sha>(root, links.as_slice())));
+//! assert_eq!(calendar.root_at(2), Some(climb_calendar::<Sha>(root, links.as_slice())));
 //! assert_eq!(calendar.root_at(1), None);
 //! ```
 #![tactic(auto)]

@@ -1,12 +1,12 @@
 ghost use Rattle.std.specs.Prelude.{◌≡◌};
 
-use ksi_calchain::CalLink;
+use ksi_calchain::CalendarLink;
 use std::marker::Model;
 
 /// The links from a second up to the root of a calendar's tree, the lowest first. A contract sees their list.
 #[derive(Drop)]
 pub struct SecondPath {
-    vec: Vec<CalLink>,
+    vec: Vec<CalendarLink>,
 }
 
 impl Model for SecondPath {
@@ -20,21 +20,21 @@ impl Model for SecondPath {
 
 impl SecondPath {
     /// The links of a `Vec`, which is not copied.
-    pub fn from_vec(vec: Vec<CalLink>) -> Self
+    pub fn from_vec(vec: Vec<CalendarLink>) -> Self
         ensures { result ≡ vec.items }
     {
         SecondPath { vec }
     }
 
     /// The links, which are not copied.
-    pub fn as_slice(&self) -> &[CalLink]
+    pub fn as_slice(&self) -> &[CalendarLink]
         ensures { result.now ≡ self.now }
     {
         &self.vec
     }
 
     /// The `Vec` of the links, which are not copied.
-    pub fn into_vec(self) -> Vec<CalLink>
+    pub fn into_vec(self) -> Vec<CalendarLink>
         ensures { result.items ≡ self }
     {
         let SecondPath { vec } = self;

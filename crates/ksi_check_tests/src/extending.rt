@@ -6,7 +6,7 @@ use ksi_extender::{ExtendRefusal, extend, extend_counted};
 use ksi_imprint::{Bytes, Compress, Imprint, Sha};
 use ksi_journal::{Journal, load};
 use ksi_publications::Publications;
-use ksi_signature::{CalChain, SigFault, read};
+use ksi_signature::{CalendarChain, SignatureFault, read};
 use ksi_split::Side;
 use ksi_verifier::{Verdict, verify};
 use std::alloc::Global;
@@ -61,7 +61,7 @@ fn journal(alloc: Global, text: &str) -> Result<Journal<Sha>, Fail> {
     }
 }
 
-fn taken_on(
+fn extended_to(
     alloc: Global,
     journal: &Journal<Sha>,
     bytes: &[u8],
@@ -89,7 +89,7 @@ fn counted<L: Ledger>(
 }
 
 /// The same for second T, with the steps counted.
-fn taken_on_counted(
+fn extended_counted(
     alloc: Global,
     journal: &Journal<Sha>,
     bytes: &[u8],
@@ -125,10 +125,10 @@ fn is_accepted(
     Ok(())
 }
 
-/// The signature of a text, taken on.
+/// The signature of a text, extended.
 fn taken(alloc: Global, journal: &Journal<Sha>, text: &str, p: u64) -> Result<Bytes, Fail> {
     let bytes = bytes(alloc, text)?;
-    Ok(taken_on(alloc, journal, bytes.as_slice(), p)?)
+    Ok(extended_to(alloc, journal, bytes.as_slice(), p)?)
 }
 
 fn passes_on(
@@ -165,17 +165,17 @@ fn what_is_to_be_passed_on_stays(rt: HostRuntime) -> Result<(), Fail> {
     each_passes_on(&rt, rt.alloc(), &journal)
 }
 
-fn is_taken_on_twice(rt: &impl Abort, alloc: Global, journal: &Journal<Sha>) -> Result<(), Fail> {
+fn is_extended_twice(rt: &impl Abort, alloc: Global, journal: &Journal<Sha>) -> Result<(), Fail> {
     let once = taken(alloc, journal, SIGNATURE, T)?;
-    let twice = taken_on_counted(alloc, journal, once.as_slice())?;
+    let twice = extended_counted(alloc, journal, once.as_slice())?;
     same(rt, "again", twice.as_slice(), once.as_slice());
     Ok(())
 }
 
 #[test]
-fn what_was_taken_on_is_taken_on_again(rt: HostRuntime) -> Result<(), Fail> {
+fn what_was_extended_is_extended_again(rt: HostRuntime) -> Result<(), Fail> {
     let journal = journal(rt.alloc(), JOURNAL)?;
-    is_taken_on_twice(&rt, rt.alloc(), &journal)
+    is_extended_twice(&rt, rt.alloc(), &journal)
 }
 
 /// The root of a part of the calendar of eight seconds, none of them covered.
@@ -189,7 +189,7 @@ fn zeros() -> Imprint {
 }
 
 /// Whether the links are, from the bottom, the zero imprint on the right side and then such a part.
-fn are_above_9(calendar: &CalChain) -> bool {
+fn are_above_9(calendar: &CalendarChain) -> bool {
     match calendar.links.as_slice() {
         [low, high] => {
             (low.side, low.sibling) == (Side::Right, Imprint::ZERO)
@@ -200,12 +200,12 @@ fn are_above_9(calendar: &CalChain) -> bool {
 }
 
 /// Whether the calendar chain of a signature has such links.
-fn is_above_9(alloc: Global, bytes: &[u8]) -> Result<bool, SigFault> {
+fn is_above_9(alloc: Global, bytes: &[u8]) -> Result<bool, SignatureFault> {
     let signature = read(alloc, bytes)?;
     Ok(signature.calendar.as_ref().is_some_and(are_above_9))
 }
 
-fn is_taken_on_to_9(rt: &impl Abort, alloc: Global, journal: &Journal<Sha>) -> Result<(), Fail> {
+fn is_extended_to_9(rt: &impl Abort, alloc: Global, journal: &Journal<Sha>) -> Result<(), Fail> {
     let taken = taken(alloc, journal, OF_9, 9)?;
     let is_above = is_above_9(alloc, taken.as_slice());
     same(rt, "links", is_above, Ok(true));
@@ -215,7 +215,7 @@ fn is_taken_on_to_9(rt: &impl Abort, alloc: Global, journal: &Journal<Sha>) -> R
 #[test]
 fn a_missed_second_has_the_zero_imprint(rt: HostRuntime) -> Result<(), Fail> {
     let journal = journal(rt.alloc(), FROM_8)?;
-    is_taken_on_to_9(&rt, rt.alloc(), &journal)
+    is_extended_to_9(&rt, rt.alloc(), &journal)
 }
 
 fn is_refused(
@@ -226,7 +226,7 @@ fn is_refused(
     want: ExtendRefusal,
 ) -> Result<(), Fail> {
     let bytes = bytes(alloc, SIGNATURE)?;
-    let answer = taken_on(alloc, journal, bytes.as_slice(), p);
+    let answer = extended_to(alloc, journal, bytes.as_slice(), p);
     same(rt, "refusal", answer.err(), Some(want));
     Ok(())
 }

@@ -1,4 +1,4 @@
--- The calendar that is kept: it stays one as long as nothing that is held is lost, and as it is taken on. Its leaves are
+-- The calendar that is kept: it stays one as long as nothing that is held is lost, and as it is lengthened. Its leaves are
 -- those of all that is held.
 use Rattle.std.proofs.Common.{◌≡◌, ◌∙◌, ℕ, zero, suc, ◌+◌, ◌-◌, ◌<◌, ◌≤◌, List, [], ◌∷◌, length, get_or, Option, Some, None, true, false, Bool, ◌&&◌, cond, refl, sym, ap, subst, arith, inl, inr, ltb, leb, le-leb, lt-ltb}
 use Rattle.std.specs.Prelude.{if◌then◌else◌, is_some, IfSome, IsSome, unwrap_or}
@@ -10,8 +10,8 @@ use Rattle.std.specs.BTreeMap.{is_at}
 use Rattle.std.specs.Map.{lookup, set_value}
 use Rattle.ksi_corenode.specs.SecondState.{SecondState, fresh_second}
 use Rattle.ksi_corenode.specs.Held.{Held, roots_among, held_seconds, first_missing}
-use Rattle.ksi_corenode.specs.Kept.{IsKept, StillHolds}
-use Rattle.ksi_corenode.specs.CoreState.{second_at, held_by}
+use Rattle.ksi_corenode.specs.Kept.{IsCalendarOf, StillHolds}
+use Rattle.ksi_corenode.specs.CoreState.{state_of, held_by}
 use Rattle.ksi_signature.specs.declared.answer.Answer.TheVariants.{Published}
 use Rattle.ksi_corenode.specs.Rows.{publish_answer, publish_where}
 use Rattle.ksi_corenode.proofs.Missing.{first_words, all_held}
@@ -21,7 +21,7 @@ use Rattle.ksi_corenode.proofs.Missing.{first_words, all_held}
 abbrev pub Lasts : (old new : Held) → Type 0
 Lasts old new = (t : ℕ) (root : List ℕ) → old t ≡ Some root → new t ≡ Some root
 
-pub kept_lasts : (old new : Held) (start : ℕ) (calendar : Option Seconds) → Lasts old new → IfSome calendar (IsKept old start) → IfSome calendar (IsKept new start)
+pub kept_lasts : (old new : Held) (start : ℕ) (calendar : Option Seconds) → Lasts old new → IfSome calendar (IsCalendarOf old start) → IfSome calendar (IsCalendarOf new start)
 kept_lasts old new start None lasts kept = kept
 kept_lasts old new start (Some calendar) lasts kept = record {
   begins = kept.begins;
@@ -29,7 +29,7 @@ kept_lasts old new start (Some calendar) lasts kept = record {
   roots = λ t from below. lasts t (calendar_leaf calendar t) (kept.roots t from below);
 }
 
--- THE CALENDAR IS TAKEN ON
+-- THE CALENDAR IS LENGTHENED
 
 -- the leaf of a second from the start on
 leaf_from : (seconds : Seconds) (t : ℕ) → seconds.start ≤ t → calendar_leaf seconds t ≡ get_or seconds.roots (t - seconds.start) zero_imprint
@@ -43,7 +43,7 @@ is_held : (held : Held) (t : ℕ) (root : List ℕ) → held t ≡ Some root →
 is_held held t root is = ap (λ (o : Option (List ℕ)). is_some o) is
 
 -- the first second behind the calendar is the first missing one
-pub kept_missing : (held : Held) (start last t : ℕ) (calendar : Seconds) → IsKept held start calendar → start + length calendar.roots ≡ t → t < last + 1 → held t ≡ None →
+pub kept_missing : (held : Held) (start last t : ℕ) (calendar : Seconds) → IsCalendarOf held start calendar → start + length calendar.roots ≡ t → t < last + 1 → held t ≡ None →
     first_missing held start last ≡ Some t
 kept_missing held start last t calendar kept here within none = (first_words held start last t).1 (record {
   from = omega (arith, here);
@@ -53,7 +53,7 @@ kept_missing held start last t calendar kept here within none = (first_words hel
 })
 
 -- none is missing in the calendar
-pub kept_none : (held : Held) (start last : ℕ) (calendar : Seconds) → IsKept held start calendar → last < start + length calendar.roots → first_missing held start last ≡ None
+pub kept_none : (held : Held) (start last : ℕ) (calendar : Seconds) → IsCalendarOf held start calendar → last < start + length calendar.roots → first_missing held start last ≡ None
 kept_none held start last calendar kept covered =
     all_held held start last (λ t from to. is_held held t (calendar_leaf calendar t) (kept.roots t from (omega (arith, to, covered))))
 
@@ -66,7 +66,7 @@ among_at held (suc n) t zero below = ap (λ (u : ℕ). unwrap_or (held u) zero_i
 among_at held (suc n) t (suc k) below =
     among_at held n (suc t) k (omega (arith, below)) ∙ ap (λ (u : ℕ). unwrap_or (held u) zero_imprint) (omega arith)
 
-pub kept_leaves : (held : Held) (start last : ℕ) (calendar : Seconds) → IsKept held start calendar → last < start + length calendar.roots →
+pub kept_leaves : (held : Held) (start last : ℕ) (calendar : Seconds) → IsCalendarOf held start calendar → last < start + length calendar.roots →
     (i : ℕ) → 0 ≤ i → i < 0 + (last + 1) → calendar_leaf calendar i ≡ calendar_leaf (held_seconds held start last) i
 unfolding held_seconds
 kept_leaves held start last calendar kept covered i above below = elim (cases_lt i start) [
@@ -114,9 +114,9 @@ lasts_write fresh test other (e ∷ es) before after is still d holds = by (λ l
 
 pub kept_write : (me members start second : ℕ) (old new : List (ℕ × SecondState)) (calendar : Option Seconds) (before after : SecondState) →
     lookup (is_at (nat_cmp second)) old ≡ Some before → new ≡ set_value (is_at (nat_cmp second)) old after → StillHolds before after →
-    IfSome calendar (IsKept (held_by (record { me = me; members = members; start = start; kept = old })) start) →
-    IfSome calendar (IsKept (held_by (record { me = me; members = members; start = start; kept = new })) start)
-unfolding second_at
+    IfSome calendar (IsCalendarOf (held_by (record { me = me; members = members; start = start; kept = old })) start) →
+    IfSome calendar (IsCalendarOf (held_by (record { me = me; members = members; start = start; kept = new })) start)
+unfolding state_of
 kept_write me members start second old new calendar before after there written still = kept_lasts
     (held_by (record { me = me; members = members; start = start; kept = old })) (held_by (record { me = me; members = members; start = start; kept = new })) start calendar
     (λ t d holds. subst (λ (es : List (ℕ × SecondState)). (unwrap_or (lookup (is_at (nat_cmp t)) es) (fresh_second me members t)).vote.held ≡ Some d) (sym written)
@@ -134,7 +134,7 @@ covered_of image calendar p root is = by (leb calendar.start p) (ltb p (calendar
     by false false test found = absurd (cc found)
 
 -- the root of the calendar that is kept is that of all that is held
-pub published_root : (image : List ℕ → List ℕ) (held : Held) (start p : ℕ) (calendar : Seconds) (root : List ℕ) → IsKept held start calendar → start ≤ p →
+pub published_root : (image : List ℕ → List ℕ) (held : Held) (start p : ℕ) (calendar : Seconds) (root : List ℕ) → IsCalendarOf held start calendar → start ≤ p →
     (((i : ℕ) → 0 ≤ i → i < 0 + (p + 1) → calendar_leaf calendar i ≡ calendar_leaf (held_seconds held start p) i) → calendar_root image calendar p ≡ calendar_root image (held_seconds held start p) p) →
     root_at image calendar p ≡ Some root → Published root ≡ publish_answer image held start p
 unfolding publish_answer

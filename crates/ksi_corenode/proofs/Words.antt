@@ -14,7 +14,7 @@ use Rattle.ksi_corenode.specs.SecondState.{SecondState}
 use Rattle.ksi_corenode.specs.Turns.{Turn}
 use Rattle.ksi_corenode.specs.Held.{Held, first_missing, IsFirstMissing}
 use Rattle.ksi_corenode.specs.Rows.{is_mine, respond_row, respond_where, IsNotMine, publish_answer, publish_where}
-use Rattle.ksi_corenode.specs.CoreState.{CoreState, second_at}
+use Rattle.ksi_corenode.specs.CoreState.{CoreState, state_of}
 use Rattle.ksi_corenode.proofs.Missing.{first_words, none_words, all_held}
 
 -- what holds of a second answer holds of an equal one
@@ -22,9 +22,9 @@ pub same_answer : (a b answer : Answer) {P : Type 0} → a ≡ b → (b ≡ answ
 same_answer a b answer is words = (λ e. words.0 (sym is ∙ e), λ p. is ∙ words.1 p)
 
 -- a second that stays, said of each second
-pub stays : (core : CoreState) (second : ℕ) (after : SecondState) → after ≡ second_at core second → (t : ℕ) → second_at core t ≡ (if t == second then after else second_at core t)
-stays core second after is t = cond_both (t == second) after (second_at core t) (λ (s : SecondState). second_at core t ≡ s)
-    (λ same. ap (second_at core) (eqb-true t second same) ∙ sym is) (λ _. refl)
+pub stays : (core : CoreState) (second : ℕ) (after : SecondState) → after ≡ state_of core second → (t : ℕ) → state_of core t ≡ (if t == second then after else state_of core t)
+stays core second after is t = cond_both (t == second) after (state_of core t) (λ (s : SecondState). state_of core t ≡ s)
+    (λ same. ap (state_of core) (eqb-true t second same) ∙ sym is) (λ _. refl)
 
 module _ (image : List ℕ → List ℕ) (held : Held) where
   pub publish_undecided : (start p s : ℕ) → (publish_answer image held start p ≡ Undecided s) ↔ IsFirstMissing held start p s

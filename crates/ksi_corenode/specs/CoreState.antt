@@ -16,25 +16,25 @@ pub record CoreState : Type 0 where
   pub kept : List (ℕ × SecondState)
 
 -- a second of the core; where nothing came, one before anything came
-unfoldable pub second_at : CoreState → (second : ℕ) → SecondState
-second_at core second = unwrap_or (lookup (is_at (nat_cmp second)) core.kept) (fresh_second core.me core.members second)
+unfoldable pub state_of : CoreState → (second : ℕ) → SecondState
+state_of core second = unwrap_or (lookup (is_at (nat_cmp second)) core.kept) (fresh_second core.me core.members second)
 
 -- what the core holds for each second
 abbrev pub held_by : CoreState → Held
-held_by core second = (second_at core second).vote.held
+held_by core second = (state_of core second).vote.held
 
 -- the core is as it was
 pub record IsSame (old new : CoreState) : Type 0 where
   pub me : new.me ≡ old.me
   pub members : new.members ≡ old.members
   pub start : new.start ≡ old.start
-  pub seconds : (t : ℕ) → second_at new t ≡ second_at old t
+  pub seconds : (t : ℕ) → state_of new t ≡ state_of old t
 
 -- the step is this turn of the second, and all else is as it was
 pub record IsTurn (old new : CoreState) (second : ℕ) (turn : Turn) (step : Step) : Type 0 where
   pub me : new.me ≡ old.me
   pub members : new.members ≡ old.members
   pub start : new.start ≡ old.start
-  pub seconds : (t : ℕ) → second_at new t ≡ (if t == second then turn.after else second_at old t)
+  pub seconds : (t : ℕ) → state_of new t ≡ (if t == second then turn.after else state_of old t)
   pub answer : step.answer ≡ turn.answer
   pub sends : step.sends ≡ turn.sends

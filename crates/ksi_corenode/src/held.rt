@@ -1,7 +1,7 @@
 //! The calendar of what a core holds.
 ghost use Rattle.std.specs.Prelude.{◌≡◌, ◌↔◌, ℕ, ◌<◌, ◌≤◌, ◌+◌, ◌^◌, [], length, IfOk, IsNone};
 ghost use Rattle.ksi_corenode.specs.Held.{first_missing, IsFirstMissing};
-ghost use Rattle.ksi_corenode.specs.Kept.{IsKept};
+ghost use Rattle.ksi_corenode.specs.Kept.{IsCalendarOf};
 ghost use Rattle.ksi_signature.specs.declared.answer.Answer.TheVariants.{Undecided};
 ghost use Rattle.ksi_corenode.specs.Rows.{publish_answer};
 ghost use Rattle.ksi_corenode.specs.CoreState.{held_by};
@@ -40,8 +40,8 @@ impl<C: Compress> Core<C> {
     fn published(&self, calendar: &mut Calendar<C>, p: u64) -> Result<Answer, NoMemory>
         requires from { self.now.start ≤ p }
         requires below { p < 2 ^ 63 }
-        requires kept { IsKept (held_by self.now) self.now.start calendar.old }
-        ensures kept { IsKept (held_by self.now) self.now.start calendar.new }
+        requires kept { IsCalendarOf (held_by self.now) self.now.start calendar.old }
+        ensures kept { IsCalendarOf (held_by self.now) self.now.start calendar.new }
         ensures answer { IfOk result (λ answer. answer ≡ publish_answer C.image (held_by self.now) self.now.start p) }
     {
         one_calendar();
@@ -64,8 +64,8 @@ impl<C: Compress> Core<C> {
     ) -> Result<Option<u64>, NoMemory>
         requires from { self.now.start ≤ last }
         requires below { last < 2 ^ 63 }
-        requires kept { IsKept (held_by self.now) self.now.start calendar.old }
-        ensures kept { IsKept (held_by self.now) self.now.start calendar.new }
+        requires kept { IsCalendarOf (held_by self.now) self.now.start calendar.old }
+        ensures kept { IsCalendarOf (held_by self.now) self.now.start calendar.new }
         ensures missing { IfOk result (λ missing. missing ≡ first_missing (held_by self.now) self.now.start last) }
         ensures covered { IfOk result (λ missing. IsNone missing → last < calendar.new.start + length calendar.new.roots) }
     {

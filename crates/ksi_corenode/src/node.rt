@@ -9,8 +9,8 @@ ghost use Rattle.ksi_signature.specs.declared.answer.Answer.TheVariants.{Late, K
 ghost use Rattle.ksi_synod.specs.Ballots.{last_round};
 ghost use Rattle.ksi_synod.specs.Rows.{greater_round, ballot_told, OfBallot};
 ghost use Rattle.ksi_corenode.specs.Rows.{submission_row, seal_row, ballot_answer, ballot_row, receive_row, tell_row, restart_row, is_news};
-ghost use Rattle.ksi_corenode.specs.CoreState.{second_at, held_by, IsSame, IsTurn};
-ghost use Rattle.ksi_corenode.specs.Kept.{IsKept};
+ghost use Rattle.ksi_corenode.specs.CoreState.{state_of, held_by, IsSame, IsTurn};
+ghost use Rattle.ksi_corenode.specs.Kept.{IsCalendarOf};
 
 use crate::second::Second;
 use crate::sending::{push_each, push_told};
@@ -39,26 +39,26 @@ pub struct Core<C: Compress> {
 impl<C: Compress> Model for Core<C> {
     ghost use Rattle.std.specs.Prelude.{◌<◌, ◌≤◌, IfSome};
     ghost use Rattle.ksi_corenode.specs.CoreState.{CoreState, held_by};
-    ghost use Rattle.ksi_corenode.specs.Kept.{IsKept};
+    ghost use Rattle.ksi_corenode.specs.Kept.{IsCalendarOf};
 
     ghost Value = { CoreState };
 
     ghost view = { λ c. record { me = c.me; members = c.members; start = c.start; kept = c.seconds.entries } };
 
     ghost invariant = { λ c. (c.me < c.members) × (c.members ≤ 9)
-        × IfSome c.calendar (IsKept (held_by (record { me = c.me; members = c.members; start = c.start; kept = c.seconds.entries })) c.start) };
+        × IfSome c.calendar (IsCalendarOf (held_by (record { me = c.me; members = c.members; start = c.start; kept = c.seconds.entries })) c.start) };
 }
 
 impl<C: Compress> Core<C> {
     /// Core `me` of so many, before anything came; the first second is `start`.
-    #[tactic(auto, unfolding(crate::specs::CoreState::second_at))]
+    #[tactic(auto, unfolding(crate::specs::CoreState::state_of))]
     pub fn new(alloc: Global, me: u8, members: u8, start: u64) -> Self
         requires mine { me < members }
         requires few { members ≤ 9 }
         ensures me { result.me ≡ me }
         ensures members { result.members ≡ members }
         ensures start { result.start ≡ start }
-        ensures seconds { (t : ℕ) → second_at result t ≡ fresh_second me members t }
+        ensures seconds { (t : ℕ) → state_of result t ≡ fresh_second me members t }
     {
         Core {
             alloc,
@@ -71,7 +71,7 @@ impl<C: Compress> Core<C> {
     }
 
     /// The root that this core holds for a second.
-    #[tactic(auto, unfolding(crate::specs::CoreState::second_at, crate::specs::SecondState::fresh_second, ksi_synod::specs::VoteState::fresh_vote))]
+    #[tactic(auto, unfolding(crate::specs::CoreState::state_of, crate::specs::SecondState::fresh_second, ksi_synod::specs::VoteState::fresh_vote))]
     pub fn held(&self, second: u64) -> Option<Imprint>
         ensures { result ≡ held_by self.now second }
     {
@@ -83,9 +83,9 @@ impl<C: Compress> Core<C> {
 
     /// The candidate of this core for a second: the imprint of the tree of its sealed items, the zero imprint where it
     /// sealed none. None where the second is not sealed.
-    #[tactic(auto, unfolding(crate::specs::CoreState::second_at, crate::specs::SecondState::fresh_second))]
+    #[tactic(auto, unfolding(crate::specs::CoreState::state_of, crate::specs::SecondState::fresh_second))]
     pub fn candidate(&self, second: u64) -> Option<Imprint>
-        ensures { result ≡ option_map (candidate_of C.image) (second_at self.now second).sealed }
+        ensures { result ≡ option_map (candidate_of C.image) (state_of self.now second).sealed }
     {
         match self.seconds.get(&second) {
             Some(kept) => kept.candidate(),
@@ -94,9 +94,9 @@ impl<C: Compress> Core<C> {
     }
 
     /// The sealed items of a second, in order; none where the second is not sealed.
-    #[tactic(auto, unfolding(crate::specs::CoreState::second_at, crate::specs::SecondState::fresh_second))]
+    #[tactic(auto, unfolding(crate::specs::CoreState::state_of, crate::specs::SecondState::fresh_second))]
     pub fn items(&self, second: u64) -> Option<&[Item]>
-        ensures { option_copied result ≡ option_map items_of (second_at self.now second).sealed }
+        ensures { option_copied result ≡ option_map items_of (state_of self.now second).sealed }
     {
         match self.seconds.get(&second) {
             Some(kept) => kept.items(),
@@ -127,7 +127,7 @@ impl<C: Compress> Core<C> {
     pub(crate) fn take_calendar(&mut self) -> Result<Calendar<C>, NoMemory>
         requires { self.old.start ≤ 2 ^ 63 }
         ensures same { self.new ≡ self.old }
-        ensures kept { IfOk result (λ calendar. IsKept (held_by self.old) self.old.start calendar) }
+        ensures kept { IfOk result (λ calendar. IsCalendarOf (held_by self.old) self.old.start calendar) }
     {
         match self.calendar.take() {
             Some(calendar) => Ok(calendar),
@@ -137,7 +137,7 @@ impl<C: Compress> Core<C> {
 
     /// Keeps a calendar of the first seconds that are held.
     pub(crate) fn keep(&mut self, calendar: Calendar<C>)
-        requires { IsKept (held_by self.old) self.old.start calendar }
+        requires { IsCalendarOf (held_by self.old) self.old.start calendar }
         ensures { self.new ≡ self.old }
     {
         self.calendar = Some(calendar);
@@ -150,17 +150,17 @@ impl<C: Compress> Core<C> {
     ///
     /// # Errors
     /// `NoMemory`: all is as it was.
-    #[tactic(auto, unfolding(crate::specs::CoreState::second_at, crate::specs::Rows::submission_row))]
+    #[tactic(auto, unfolding(crate::specs::CoreState::state_of, crate::specs::Rows::submission_row))]
     pub fn submission(&mut self, aggregator: u32, second: u64, item: Item) -> Result<Step, NoMemory>
         requires level { item.level ≤ 239 }
         ensures turn { IfOk result (λ step.
-            IsTurn self.old self.new second (submission_row aggregator item (second_at self.old second)) step) }
-        ensures late { IfOk result (λ step. (step.answer ≡ Late) ↔ IsSome (second_at self.old second).sealed) }
-        ensures known { IfOk result (λ step. (step.answer ≡ Known) ↔ (IsNone (second_at self.old second).sealed ×
-            IsTrue (has_from aggregator (second_at self.old second).open_items))) }
-        ensures full { IfOk result (λ step. (step.answer ≡ Full) ↔ (IsNone (second_at self.old second).sealed ×
-            (has_from aggregator (second_at self.old second).open_items ≡ false) ×
-            (length (second_at self.old second).open_items ≡ 65536))) }
+            IsTurn self.old self.new second (submission_row aggregator item (state_of self.old second)) step) }
+        ensures late { IfOk result (λ step. (step.answer ≡ Late) ↔ IsSome (state_of self.old second).sealed) }
+        ensures known { IfOk result (λ step. (step.answer ≡ Known) ↔ (IsNone (state_of self.old second).sealed ×
+            IsTrue (has_from aggregator (state_of self.old second).open_items))) }
+        ensures full { IfOk result (λ step. (step.answer ≡ Full) ↔ (IsNone (state_of self.old second).sealed ×
+            (has_from aggregator (state_of self.old second).open_items ≡ false) ×
+            (length (state_of self.old second).open_items ≡ 65536))) }
         ensures unchanged { OnErr result (IsSame self.old self.new) }
     {
         let alloc = self.alloc;
@@ -177,11 +177,11 @@ impl<C: Compress> Core<C> {
     ///
     /// # Errors
     /// `NoMemory`: all is as it was.
-    #[tactic(auto, unfolding(crate::specs::CoreState::second_at, crate::specs::Rows::seal_row))]
+    #[tactic(auto, unfolding(crate::specs::CoreState::state_of, crate::specs::Rows::seal_row))]
     pub fn seal(&mut self, second: u64) -> Result<Step, NoMemory>
         ensures turn { IfOk result (λ step.
-            IsTurn self.old self.new second (seal_row C.image (second_at self.old second)) step) }
-        ensures sealed { IfOk result (λ step. (step.answer ≡ Sealed) ↔ IsSome (second_at self.old second).sealed) }
+            IsTurn self.old self.new second (seal_row C.image (state_of self.old second)) step) }
+        ensures sealed { IfOk result (λ step. (step.answer ≡ Sealed) ↔ IsSome (state_of self.old second).sealed) }
         ensures unchanged { OnErr result (IsSame self.old self.new) }
     {
         let alloc = self.alloc;
@@ -198,13 +198,13 @@ impl<C: Compress> Core<C> {
     ///
     /// # Errors
     /// `NoMemory`: all is as it was.
-    #[tactic(auto, unfolding(crate::specs::CoreState::second_at, crate::specs::Rows::ballot_row))]
+    #[tactic(auto, unfolding(crate::specs::CoreState::state_of, crate::specs::Rows::ballot_row))]
     pub fn ballot(&mut self, second: u64) -> Result<Step, NoMemory>
         ensures turn { IfOk result (λ step. IsTurn self.old self.new second
-            (ballot_row self.old.members second self.old.me (second_at self.old second)) step) }
-        ensures unsealed { IfOk result (λ step. (step.answer ≡ Unsealed) ↔ IsNone (second_at self.old second).sealed) }
-        ensures last { IfOk result (λ step. (step.answer ≡ Last) ↔ (IsSome (second_at self.old second).sealed ×
-            (greater_round (second_at self.old second).vote ≡ last_round))) }
+            (ballot_row self.old.members second self.old.me (state_of self.old second)) step) }
+        ensures unsealed { IfOk result (λ step. (step.answer ≡ Unsealed) ↔ IsNone (state_of self.old second).sealed) }
+        ensures last { IfOk result (λ step. (step.answer ≡ Last) ↔ (IsSome (state_of self.old second).sealed ×
+            (greater_round (state_of self.old second).vote ≡ last_round))) }
         ensures unchanged { OnErr result (IsSame self.old self.new) }
     {
         let mut sends = Vec::with_capacity(self.alloc, self.members as usize)?;
@@ -227,7 +227,7 @@ impl<C: Compress> Core<C> {
     ///
     /// # Errors
     /// `NoMemory`: all is as it was.
-    #[tactic(auto, unfolding(crate::specs::CoreState::second_at, crate::specs::Rows::receive_row))]
+    #[tactic(auto, unfolding(crate::specs::CoreState::state_of, crate::specs::Rows::receive_row))]
     pub fn receive(
         &mut self,
         from: u8,
@@ -237,9 +237,9 @@ impl<C: Compress> Core<C> {
         requires member { from < 9 }
         requires ballot { OfBallot message.now }
         ensures turn { IfOk result (λ step. IsTurn self.old self.new second
-            (receive_row self.old.members second from message.now (second_at self.old second)) step) }
+            (receive_row self.old.members second from message.now (state_of self.old second)) step) }
         ensures nothing { IfOk result (λ step. (step.answer ≡ Nothing) ↔
-            (is_news (second_at self.old second).vote from message.now ≡ false)) }
+            (is_news (state_of self.old second).vote from message.now ≡ false)) }
         ensures unchanged { OnErr result (IsSame self.old self.new) }
     {
         let mut sends = Vec::with_capacity(self.alloc, self.members as usize)?;
@@ -260,10 +260,10 @@ impl<C: Compress> Core<C> {
     ///
     /// # Errors
     /// `NoMemory`: all is as it was.
-    #[tactic(auto, unfolding(crate::specs::CoreState::second_at, crate::specs::Rows::tell_row))]
+    #[tactic(auto, unfolding(crate::specs::CoreState::state_of, crate::specs::Rows::tell_row))]
     pub fn tell(&mut self, second: u64) -> Result<Step, NoMemory>
         ensures turn { IfOk result (λ step. IsTurn self.old self.new second
-            (tell_row self.old.members second self.old.me (second_at self.old second)) step) }
+            (tell_row self.old.members second self.old.me (state_of self.old second)) step) }
         ensures undecided { IfOk result (λ step. (step.answer ≡ Undecided second) ↔ IsNone (held_by self.old second)) }
         ensures unchanged { OnErr result (IsSame self.old self.new) }
     {
@@ -282,12 +282,12 @@ impl<C: Compress> Core<C> {
     }
 
     /// Forgets every ballot in hand and all open items, as a restart does.
-    #[tactic(auto, unfolding(crate::specs::CoreState::second_at))]
+    #[tactic(auto, unfolding(crate::specs::CoreState::state_of))]
     pub fn restart(&mut self)
         ensures me { self.new.me ≡ self.old.me }
         ensures members { self.new.members ≡ self.old.members }
         ensures start { self.new.start ≡ self.old.start }
-        ensures seconds { (t : ℕ) → second_at self.new t ≡ restart_row (second_at self.old t) }
+        ensures seconds { (t : ℕ) → state_of self.new t ≡ restart_row (state_of self.old t) }
     {
         self.seconds.retain(|_, kept| {
             kept.restart();
@@ -296,10 +296,10 @@ impl<C: Compress> Core<C> {
     }
 
     /// Makes room for a second, which changes nothing that is seen.
-    #[tactic(auto, unfolding(crate::specs::CoreState::second_at))]
+    #[tactic(auto, unfolding(crate::specs::CoreState::state_of))]
     fn make_room(&mut self, second: u64) -> Result<(), NoMemory>
         ensures same { IsSame self.old self.new }
-        ensures there { OnOk result (lookup (is_at (nat_cmp second)) self.new.kept ≡ Some (second_at self.old second)) }
+        ensures there { OnOk result (lookup (is_at (nat_cmp second)) self.new.kept ≡ Some (state_of self.old second)) }
     {
         if self.seconds.contains_key(&second) {
             return Ok(());

@@ -6,9 +6,9 @@ ghost use Rattle.ksi_aggtree.specs.Paths.{chain_of};
 ghost use Rattle.ksi_calendar.specs.Calendar.{Seconds, calendar_path};
 ghost use Rattle.ksi_signature.specs.declared.answer.Answer.TheVariants.{Unsealed, Undecided, NotMine};
 ghost use Rattle.ksi_corenode.specs.Held.{IsFirstMissing, held_seconds};
-ghost use Rattle.ksi_corenode.specs.Kept.{IsKept};
+ghost use Rattle.ksi_corenode.specs.Kept.{IsCalendarOf};
 ghost use Rattle.ksi_corenode.specs.Rows.{respond_row, IsNotMine, responses_from, response_to, above_item};
-ghost use Rattle.ksi_corenode.specs.CoreState.{second_at, held_by, IsTurn};
+ghost use Rattle.ksi_corenode.specs.CoreState.{state_of, held_by, IsTurn};
 
 use crate::node::Core;
 use crate::second::Second;
@@ -16,7 +16,7 @@ use crate::step::{Send, Sends, Step};
 use ksi_aggtree::{Entries, Origin};
 use ksi_calendar::{Calendar, SecondPath};
 use ksi_imprint::{Compress, Imprint, NoMemory};
-use ksi_signature::{Above, AboveChain, AboveChains, AboveLinks, Answer, CalLinks};
+use ksi_signature::{Above, AboveChain, AboveChains, AboveLinks, Answer, CalendarLinks};
 use ksi_split::trees::one_path;
 use std::alloc::Global;
 
@@ -33,12 +33,12 @@ impl<C: Compress> Core<C> {
         requires from { self.old.start ≤ second }
         requires below { second < 2 ^ 63 }
         ensures turn { IfOk result (λ step. IsTurn self.old self.new second
-            (respond_row C.image (held_by self.old) self.old.start second (second_at self.old second)) step) }
-        ensures unsealed { IfOk result (λ step. (step.answer ≡ Unsealed) ↔ IsNone (second_at self.old second).sealed) }
+            (respond_row C.image (held_by self.old) self.old.start second (state_of self.old second)) step) }
+        ensures unsealed { IfOk result (λ step. (step.answer ≡ Unsealed) ↔ IsNone (state_of self.old second).sealed) }
         ensures undecided { IfOk result (λ step. (t : ℕ) → (step.answer ≡ Undecided t) ↔
-            (IsSome (second_at self.old second).sealed × IsFirstMissing (held_by self.old) self.old.start second t)) }
+            (IsSome (state_of self.old second).sealed × IsFirstMissing (held_by self.old) self.old.start second t)) }
         ensures not_mine { IfOk result (λ step. (step.answer ≡ NotMine) ↔
-            IsNotMine C.image (held_by self.old) self.old.start second (second_at self.old second)) }
+            IsNotMine C.image (held_by self.old) self.old.start second (state_of self.old second)) }
         ensures same { self.new ≡ self.old }
     {
         let mut calendar = self.take_calendar()?;
@@ -48,16 +48,16 @@ impl<C: Compress> Core<C> {
         Ok(step)
     }
 
-    #[tactic(auto, unfolding(crate::specs::CoreState::second_at, crate::specs::SecondState::fresh_second, crate::specs::Rows::respond_row))]
+    #[tactic(auto, unfolding(crate::specs::CoreState::state_of, crate::specs::SecondState::fresh_second, crate::specs::Rows::respond_row))]
     fn responded(&self, calendar: &mut Calendar<C>, second: u64) -> Result<Step, NoMemory>
         requires from { self.now.start ≤ second }
         requires below { second < 2 ^ 63 }
-        requires kept { IsKept (held_by self.now) self.now.start calendar.old }
-        ensures kept { IsKept (held_by self.now) self.now.start calendar.new }
+        requires kept { IsCalendarOf (held_by self.now) self.now.start calendar.old }
+        ensures kept { IsCalendarOf (held_by self.now) self.now.start calendar.new }
         ensures answer { IfOk result (λ step. step.answer ≡
-            (respond_row C.image (held_by self.now) self.now.start second (second_at self.now second)).answer) }
+            (respond_row C.image (held_by self.now) self.now.start second (state_of self.now second)).answer) }
         ensures sends { IfOk result (λ step. step.sends ≡
-            (respond_row C.image (held_by self.now) self.now.start second (second_at self.now second)).sends) }
+            (respond_row C.image (held_by self.now) self.now.start second (state_of self.now second)).sends) }
     {
         let alloc = self.alloc();
         let Some(kept) = self.second(second) else {
@@ -91,7 +91,7 @@ impl<C: Compress> Core<C> {
         root: &Imprint,
     ) -> Result<Vec<Send>, NoMemory>
         requires below { second < 2 ^ 63 }
-        requires kept { IsKept (held_by self.now) self.now.start calendar.now }
+        requires kept { IsCalendarOf (held_by self.now) self.now.start calendar.now }
         requires covered { second < calendar.now.start + length calendar.now.roots }
         ensures { IfOk result (λ sends. IfSome kept.now.sealed (λ entries. sends.items ≡ responses_from
             (above_item C.image (held_seconds (held_by self.now) self.now.start second) second root.now (items_of entries)) 0 entries)) }
@@ -175,7 +175,7 @@ fn above<C: Compress>(
     Ok(Above {
         root: *root,
         chains: AboveChains::from_vec(chains),
-        calendar: CalLinks::from_vec(links.as_slice().to_vec(alloc)?),
+        calendar: CalendarLinks::from_vec(links.as_slice().to_vec(alloc)?),
     })
 }
 

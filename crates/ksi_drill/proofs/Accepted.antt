@@ -11,7 +11,7 @@ use Rattle.ksi_signature.specs.File.{IsSignature}
 use Rattle.ksi_signature.specs.Reading.{signature_at}
 use Rattle.ksi_publications.specs.Finding.{find}
 use Rattle.ksi_extender.specs.Extended.{extended}
-use Rattle.ksi_extender.specs.Accepted.{taken_on}
+use Rattle.ksi_extender.specs.Accepted.{extended_signature}
 use Rattle.ksi_schedule.specs.Events.{History}
 use Rattle.ksi_world.specs.declared.outcome.Asked.{Asked}
 use Rattle.ksi_world.specs.Histories.{world_of}
@@ -111,7 +111,7 @@ module _ (h : History) (journal : Contents) (facts : Facts h journal) where
       → LastsTo imprint_of journal asked x.1 p → (trial imprint_of (world_of imprint_of h).requests journal p x).accepted ≡ true
   unfolding trial
   accepted_for p x asked there issued l =
-      let signature = taken_on imprint_of journal l.signature p in
+      let signature = extended_signature imprint_of journal l.signature p in
       let are = facts.extends x.0 x.1 issued p l.bytes l.extension in
       let read : extension imprint_of journal x.1 p ≡ Some signature = ap if_extended l.extension ∙ ap if_signature ((facts.read l.bytes signature are).1 l.after) in
       ap (λ (a : Option Asked). (trial_for imprint_of journal p a (extension imprint_of journal x.1 p)).accepted) there

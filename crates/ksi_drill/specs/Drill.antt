@@ -33,7 +33,7 @@ tally_with journal trials = record {
   beneath = count (λ (trial : Trial). trial.beneath) trials;
 }
 
--- each issued signature is taken on to the greatest covered second, and is tried against its root
+-- each issued signature is extended to the greatest covered second, and is tried against its root
 unfoldable pub tally_of : (List ℕ → List ℕ) → History → Contents → Tally
 tally_of image history journal = tally_with journal (trials image (world_of image history).requests journal (greatest_covered journal))
 

@@ -2,7 +2,7 @@
 use Rattle.std.specs.Prelude.{ℕ, Bool, true, false, List, [], map, slice_get, Option, Some, None, Result, Ok, Err}
 use Rattle.ksi_extender.specs.declared.refusal.ExtendRefusal.{ExtendRefusal}
 use Rattle.ksi_extender.specs.Extended.{extended}
-use Rattle.ksi_signature.specs.declared.fault.SigFault.{SigFault}
+use Rattle.ksi_signature.specs.declared.fault.SignatureFault.{SignatureFault}
 use Rattle.ksi_signature.specs.declared.signature.Signature.{Signature}
 use Rattle.ksi_signature.specs.Reading.{signature_at}
 use Rattle.ksi_verifier.specs.declared.verdict.Verdict.{Verdict}
@@ -18,7 +18,7 @@ use Rattle.ksi_drill.specs.Covered.{published}
 
 -- ---- the extension
 
-abbrev pub if_signature : Result Signature SigFault → Option Signature
+abbrev pub if_signature : Result Signature SignatureFault → Option Signature
 if_signature (Ok signature) = Some signature
 if_signature (Err fault) = None
 
@@ -26,7 +26,7 @@ abbrev pub if_extended : Result (List ℕ) ExtendRefusal → Option Signature
 if_extended (Ok bytes) = if_signature (signature_at bytes)
 if_extended (Err refusal) = None
 
--- the signature of the bytes taken on to second p, as it is read; none where it is refused
+-- the signature of the bytes extended to second p, as it is read; none where it is refused
 abbrev pub extension : (List ℕ → List ℕ) → Contents → List ℕ → (p : ℕ) → Option Signature
 extension image journal bytes p = if_extended (extended image journal bytes p)
 

@@ -10,7 +10,7 @@ use crate::covered::{greatest_covered, published};
 use crate::joining::{all_are_accepted, follows_the_rules};
 use crate::tally::Tally;
 use crate::trial::Trial;
-use crate::trying::trial;
+use crate::trials::trial;
 use ksi_generate::generate;
 use ksi_imprint::{NoMemory, Sha};
 use ksi_journal::{Journal, Second};
@@ -18,7 +18,7 @@ use ksi_replay::{journal_of, replay};
 use ksi_world::{Asked, World};
 use std::alloc::Global;
 
-/// Makes the schedule of a number, runs it, and puts every issued signature to the test: it is taken on to the greatest
+/// Makes the schedule of a number, runs it, and puts every issued signature to the test: it is extended to the greatest
 /// covered second, and is then checked and audited against the root of that second, for the imprint of its request.
 ///
 /// # Errors

@@ -16,7 +16,7 @@ mod drilling;
 mod joining;
 mod tally;
 mod trial;
-mod trying;
+mod trials;
 
 pub use drilling::drill;
 pub use ksi_imprint::NoMemory;

@@ -7,7 +7,7 @@ pub struct Tally {
     pub missed: u64,
     /// The issued signatures.
     pub issued: u64,
-    /// Those that are accepted, taken on to the greatest covered second, against its root.
+    /// Those that are accepted, extended to the greatest covered second, against its root.
     pub accepted: u64,
     /// Those whose imprint the audit finds as a node of the kept tree of their second.
     pub inside: u64,

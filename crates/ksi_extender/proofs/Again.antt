@@ -20,7 +20,7 @@ use Rattle.ksi_extender.specs.declared.refusal.ExtendRefusal.{ExtendRefusal}
 use Rattle.ksi_extender.specs.declared.refusal.ExtendRefusal.TheVariants as refusals
 use Rattle.ksi_extender.specs.Checks.{need}
 use Rattle.ksi_extender.specs.Extended.{chain_to, record_to, fitting, extended}
-use Rattle.ksi_extender.specs.Accepted.{first_input, taken_on}
+use Rattle.ksi_extender.specs.Accepted.{first_input, extended_signature}
 use Rattle.ksi_extender.proofs.Passing.{then_ok, need_le}
 use Rattle.ksi_extender.proofs.Leaves.{leaves}
 use Rattle.ksi_extender.proofs.Imprints.{zero_is, imprint_roots, leaf_is, root_is, links_are}
@@ -40,7 +40,7 @@ module _ (image : List ℕ → List ℕ)
     (images : (x : List ℕ) → IsImprint (image x)) (journal : Contents) (is : IsJournal image journal)
     (lengths : (t p : ℕ) → p + 1 ≤ 2 ^ 63 → length (calendar_path image (calendar_of journal) t p) ≤ 63) where
   pub again : (renews : (bytes : List ℕ) (signature : Signature) (chain : Calendar) (published : Publishing) → AreBytes bytes → IsSignature bytes signature → IsCalendar chain → IsPublishing published → length (extended_content bytes chain published) ≤ 65535 → IsSignature (extended_text bytes chain published) (renewed signature chain published))
-      → (bytes text : List ℕ) (p : ℕ) (signature : Signature) → p < 2 ^ 63 → AreBytes bytes → IsSignature bytes signature → signature_at bytes ≡ Ok signature → extended image journal bytes p ≡ Ok text → IsSignature text (taken_on image journal signature p)
+      → (bytes text : List ℕ) (p : ℕ) (signature : Signature) → p < 2 ^ 63 → AreBytes bytes → IsSignature bytes signature → signature_at bytes ≡ Ok signature → extended image journal bytes p ≡ Ok text → IsSignature text (extended_signature image journal signature p)
   again renews bytes text p signature early are whole read e =
       let h = passed image journal bytes p text signature read e in
       let t = h.chains.time in

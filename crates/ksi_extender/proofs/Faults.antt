@@ -2,7 +2,7 @@
 use Rattle.std.proofs.Common.{◌≡◌, ℕ, List, inl, inr}
 use Rattle.ksi_grammar.specs.declared.fault.ElementFault.{ElementFault}
 use Rattle.ksi_grammar.specs.declared.fault.ElementFault.TheVariants as faults
-use Rattle.ksi_signature.specs.declared.fault.SigFault.TheVariants as answers
+use Rattle.ksi_signature.specs.declared.fault.SignatureFault.TheVariants as answers
 use Rattle.ksi_signature.specs.File.{name_of, IsSignatureFault}
 
 no_name : (fault : ElementFault) → answers.NoMemory ≡ name_of fault → ⊥

@@ -7,7 +7,7 @@ use Rattle.ksi_imprint.specs.Imprints.{IsImprint, zero_imprint}
 use Rattle.ksi_split.specs.declared.side.Side.TheVariants.{Left, Right}
 use Rattle.ksi_split.specs.declared.tree_link.TreeLink.{TreeLink}
 use Rattle.ksi_split.specs.Trees.{tree_within, tree, path_within, path_of}
-use Rattle.ksi_calchain.specs.Climbing.{cal_join, cal_join_text}
+use Rattle.ksi_calchain.specs.Climbing.{calendar_join, calendar_join_text}
 use Rattle.ksi_calendar.specs.Calendar.{calendar_leaf, calendar_root, calendar_path}
 use Rattle.ksi_journal.specs.declared.second.Second.{Second}
 use Rattle.ksi_journal.specs.Journal.{Contents, IsSecond}
@@ -86,7 +86,7 @@ module _ (P : List ℕ → Type 0) (zero_too : P zero_imprint) where
 
     module _ (image : List ℕ → List ℕ) (images : (x : List ℕ) → P (image x)) where
       pub root_is : (p : ℕ) → P (calendar_root image (calendar_of journal) p)
-      root_is p = tree_is P (cal_join image) (λ a b. images (cal_join_text a b)) (calendar_leaf (calendar_of journal)) leaf_is 0 (p + 1)
+      root_is p = tree_is P (calendar_join image) (λ a b. images (calendar_join_text a b)) (calendar_leaf (calendar_of journal)) leaf_is 0 (p + 1)
 
       pub links_are : (t p : ℕ) → AllSiblings P (calendar_path image (calendar_of journal) t p)
-      links_are t p = path_is P (cal_join image) (λ a b. images (cal_join_text a b)) (calendar_leaf (calendar_of journal)) leaf_is 0 t (p + 1)
+      links_are t p = path_is P (calendar_join image) (λ a b. images (calendar_join_text a b)) (calendar_leaf (calendar_of journal)) leaf_is 0 t (p + 1)

@@ -5,7 +5,7 @@ use Rattle.std.proofs.lemmas.Bool.Decides.{Decides-eqb, leb_tells, not_from_Deci
 use Rattle.ksi_imprint.specs.Imprints.{zero_imprint}
 use Rattle.ksi_calendar.specs.Calendar.{calendar_leaf}
 use Rattle.ksi_journal.specs.declared.second.Second.{Second}
-use Rattle.ksi_journal.specs.Journal.{Contents, kept_among, root_of, root_at}
+use Rattle.ksi_journal.specs.Journal.{Contents, kept_among, root_kept, root_at}
 use Rattle.ksi_journal.specs.Calendar.{calendar_of, leaf_at, roots_from}
 
 eq_cases : (a b : ℕ) → (((a == b) ≡ true) × (a ≡ b)) ⊎ (((a == b) ≡ false) × (a ≢ b))
@@ -16,18 +16,18 @@ eq_cases a b = of (a == b) refl
     of false e = inr (e, not_from_Decides (a == b) (Decides-eqb a b) e)
 
 abbrev kept_root_at : List Second → ℕ → List ℕ
-kept_root_at ks t = unwrap_or (root_of (kept_among ks t)) zero_imprint
+kept_root_at ks t = unwrap_or (root_kept (kept_among ks t)) zero_imprint
 
 first_root : (kept : Second) (others : List Second) (t : ℕ) → kept.second ≡ t → kept_root_at (kept ∷ others) t ≡ kept.root
 first_root kept others t e = elim (eq_cases kept.second t) [
-  | inl same ↦ ap (λ (b : Bool). unwrap_or (root_of (if b then Some kept else kept_among others t)) zero_imprint) same.0
+  | inl same ↦ ap (λ (b : Bool). unwrap_or (root_kept (if b then Some kept else kept_among others t)) zero_imprint) same.0
   | inr other ↦ absurd (other.1 e)
 ]
 
 later_root : (kept : Second) (others : List Second) (t : ℕ) → kept.second ≢ t → kept_root_at (kept ∷ others) t ≡ kept_root_at others t
 later_root kept others t e = elim (eq_cases kept.second t) [
   | inl same ↦ absurd (e same.1)
-  | inr other ↦ ap (λ (b : Bool). unwrap_or (root_of (if b then Some kept else kept_among others t)) zero_imprint) other.0
+  | inr other ↦ ap (λ (b : Bool). unwrap_or (root_kept (if b then Some kept else kept_among others t)) zero_imprint) other.0
 ]
 
 roots_on : (start : ℕ) (kept : Second) (others : List Second) → kept.second ≡ start → roots_from start (kept ∷ others) ≡ kept.root ∷ roots_from (start + 1) others

@@ -2,10 +2,10 @@
 use Rattle.std.proofs.Common.{◌≡◌, ◌≢◌, ℕ, ◌-◌, ◌^◌, min, Bool, true, false, List, length, Result, Ok, Err, refl, sym, ap, subst, ◌∙◌, ◌⊎◌, inl, inr, arith, nat_le}
 use Rattle.ksi_split.specs.declared.tree_link.TreeLink.{TreeLink}
 use Rattle.ksi_split.specs.Trees.{climb_links}
-use Rattle.ksi_calchain.specs.Climbing.{ClimbsCal, cal_join}
+use Rattle.ksi_calchain.specs.Climbing.{ClimbsCalendar, calendar_join}
 use Rattle.ksi_calendar.specs.Calendar.{Seconds, calendar_leaf, calendar_root}
-use Rattle.ksi_signature.specs.declared.fault.SigFault.{SigFault}
-use Rattle.ksi_signature.specs.declared.fault.SigFault.TheVariants as answers
+use Rattle.ksi_signature.specs.declared.fault.SignatureFault.{SignatureFault}
+use Rattle.ksi_signature.specs.declared.fault.SignatureFault.TheVariants as answers
 use Rattle.ksi_signature.specs.File.{IsSignature, IsSignatureFault}
 use Rattle.ksi_signature.specs.declared.signature.Signature.{Signature}
 use Rattle.ksi_signature.specs.Values.{Calendar, Publishing}
@@ -23,13 +23,13 @@ use Rattle.ksi_extender.proofs.Faults.{no_memory}
 -- ---- the chains
 
 pub read_then : (image : List ℕ → List ℕ) (bytes : List ℕ) (signature : Signature) → signature_at bytes ≡ Ok signature → or_refused (aggregated image signature) ≡ chains_in image bytes
-read_then image bytes signature e = sym (ap (λ (r : Result Signature SigFault). or_malformed r >>= (λ (s : Signature). or_refused (aggregated image s))) e)
+read_then image bytes signature e = sym (ap (λ (r : Result Signature SignatureFault). or_malformed r >>= (λ (s : Signature). or_refused (aggregated image s))) e)
 
-pub read_fault : (image : List ℕ → List ℕ) (bytes : List ℕ) (fault : SigFault) → signature_at bytes ≡ Err fault → Err (refusals.Malformed fault) ≡ chains_in image bytes
-read_fault image bytes fault e = sym (ap (λ (r : Result Signature SigFault). or_malformed r >>= (λ (s : Signature). or_refused (aggregated image s))) e)
+pub read_fault : (image : List ℕ → List ℕ) (bytes : List ℕ) (fault : SignatureFault) → signature_at bytes ≡ Err fault → Err (refusals.Malformed fault) ≡ chains_in image bytes
+read_fault image bytes fault e = sym (ap (λ (r : Result Signature SignatureFault). or_malformed r >>= (λ (s : Signature). or_refused (aggregated image s))) e)
 
 -- what is answered where nothing was read
-pub unread : (image : List ℕ → List ℕ) (bytes : List ℕ) (fault : SigFault) (refusal : ExtendRefusal) → ((fault ≢ answers.NoMemory) → refusal ≡ refusals.Malformed fault) → (fault ≡ answers.NoMemory → refusal ≡ refusals.NoMemory)
+pub unread : (image : List ℕ → List ℕ) (bytes : List ℕ) (fault : SignatureFault) (refusal : ExtendRefusal) → ((fault ≢ answers.NoMemory) → refusal ≡ refusals.Malformed fault) → (fault ≡ answers.NoMemory → refusal ≡ refusals.NoMemory)
     → (IsSignatureFault bytes fault → signature_at bytes ≡ Err fault) → IsSignatureFault bytes fault ⊎ ((fault ≡ answers.NoMemory) × (signature : Signature) × IsSignature bytes signature) → (let r : Result Aggregated ExtendRefusal = Err refusal in (r ≡ chains_in image bytes) ⊎ (r ≡ Err refusals.NoMemory))
 unread image bytes fault refusal malformed memory read (inl stands) =
     let other : fault ≢ answers.NoMemory = λ is. no_memory bytes (subst (IsSignatureFault bytes) is stands) in
@@ -37,7 +37,7 @@ unread image bytes fault refusal malformed memory read (inl stands) =
 unread image bytes fault refusal malformed memory read (inr wanting) = inr (ap (λ (r : ExtendRefusal). Err r) (memory wanting.0))
 
 -- memory is wanting for a signature alone
-pub wanted : (bytes : List ℕ) (fault : SigFault) (refusal : ExtendRefusal) → ((fault ≢ answers.NoMemory) → refusal ≡ refusals.Malformed fault) → refusal ≡ refusals.NoMemory
+pub wanted : (bytes : List ℕ) (fault : SignatureFault) (refusal : ExtendRefusal) → ((fault ≢ answers.NoMemory) → refusal ≡ refusals.Malformed fault) → refusal ≡ refusals.NoMemory
     → IsSignatureFault bytes fault ⊎ ((fault ≡ answers.NoMemory) × (signature : Signature) × IsSignature bytes signature) → (signature : Signature) × IsSignature bytes signature
 wanted bytes fault refusal malformed memory (inl stands) =
     let is = malformed (λ is. no_memory bytes (subst (IsSignatureFault bytes) is stands)) in absurd cc
@@ -47,12 +47,12 @@ wanted bytes fault refusal malformed memory (inr wanting) = (wanting.1, wanting.
 
 -- what is climbed from the leaf is the root
 pub hash_is : (image : List ℕ → List ℕ) (seconds kept : Seconds) (t p : ℕ) (input hash : List ℕ) (links given : List (TreeLink (List ℕ)))
-    → (ClimbsCal image (calendar_leaf seconds t) links (calendar_root image seconds p) → calendar_root image seconds p ≡ climb_links (cal_join image) (calendar_leaf seconds t) links)
-    → seconds ≡ kept → ClimbsCal image (calendar_leaf seconds t) links (calendar_root image seconds p) → calendar_leaf kept t ≡ input → given ≡ links → hash ≡ climb_links (cal_join image) input given → hash ≡ calendar_root image kept p
+    → (ClimbsCalendar image (calendar_leaf seconds t) links (calendar_root image seconds p) → calendar_root image seconds p ≡ climb_links (calendar_join image) (calendar_leaf seconds t) links)
+    → seconds ≡ kept → ClimbsCalendar image (calendar_leaf seconds t) links (calendar_root image seconds p) → calendar_leaf kept t ≡ input → given ≡ links → hash ≡ climb_links (calendar_join image) input given → hash ≡ calendar_root image kept p
 hash_is image seconds kept t p input hash links given value same climbs leaf read is =
-    is ∙ ap (λ (l : List (TreeLink (List ℕ))). climb_links (cal_join image) input l) read
-    ∙ ap (λ (x : List ℕ). climb_links (cal_join image) x links) (sym leaf)
-    ∙ ap (λ (s : Seconds). climb_links (cal_join image) (calendar_leaf s t) links) (sym same)
+    is ∙ ap (λ (l : List (TreeLink (List ℕ))). climb_links (calendar_join image) input l) read
+    ∙ ap (λ (x : List ℕ). climb_links (calendar_join image) x links) (sym leaf)
+    ∙ ap (λ (s : Seconds). climb_links (calendar_join image) (calendar_leaf s t) links) (sym same)
     ∙ sym (value climbs)
     ∙ ap (λ (s : Seconds). calendar_root image s p) same
 

@@ -3,8 +3,8 @@ use Rattle.std.proofs.Common.{◌≡◌, ℕ, ◌-◌, ◌^◌, min, Bool, true,
 use Rattle.std.specs.Prelude.{IfOk}
 use Rattle.std.specs.Str.{bytes_eq}
 use Rattle.ksi_imprint.specs.Imprints.{zero_imprint}
-use Rattle.ksi_signature.specs.declared.fault.SigFault.{SigFault}
-use Rattle.ksi_signature.specs.declared.fault.SigFault.TheVariants as answers
+use Rattle.ksi_signature.specs.declared.fault.SignatureFault.{SignatureFault}
+use Rattle.ksi_signature.specs.declared.fault.SignatureFault.TheVariants as answers
 use Rattle.ksi_signature.specs.declared.signature.Signature.{Signature}
 use Rattle.ksi_signature.specs.Values.{Calendar, Publishing}
 use Rattle.ksi_signature.specs.File.{IsSignature, IsSignatureFault}
@@ -19,7 +19,7 @@ use Rattle.ksi_journal.specs.Calendar.{leaf_at, first_missing}
 use Rattle.ksi_extender.specs.declared.refusal.ExtendRefusal.{ExtendRefusal}
 use Rattle.ksi_extender.specs.declared.refusal.ExtendRefusal.TheVariants as refusals
 use Rattle.ksi_extender.specs.Checks.{◌>>=◌, ◌>>◌, need}
-use Rattle.ksi_extender.specs.Accepted.{taken_on, AcceptedBy, IsExtended}
+use Rattle.ksi_extender.specs.Accepted.{extended_signature, AcceptedBy, IsExtended}
 use Rattle.ksi_extender.proofs.Faults.{no_memory}
 use Rattle.ksi_extender.specs.Extended.{or_malformed, or_refused, chains_in, all_kept, kept_to, chain_to, record_to, fitting, extended}
 
@@ -28,11 +28,11 @@ pub found : (image : List ℕ → List ℕ) (bytes : List ℕ) (chains : Aggrega
 found image bytes chains (inl is) = sym is
 found image bytes chains (inr wanting) = absurd cc
 
-read_ok : (r : Result Signature SigFault) (signature : Signature) → or_malformed r ≡ Ok signature → r ≡ Ok signature
+read_ok : (r : Result Signature SignatureFault) (signature : Signature) → or_malformed r ≡ Ok signature → r ≡ Ok signature
 read_ok (Ok x) signature e = let is : x ≡ signature = cc in ap (λ (s : Signature). Ok s) is
 read_ok (Err fault) signature e = absurd cc
 
-joined : (image : List ℕ → List ℕ) (r : Result Signature SigFault) (chains : Aggregated) → (or_malformed r >>= (λ (s : Signature). or_refused (aggregated image s))) ≡ Ok chains → (signature : Signature) × (r ≡ Ok signature)
+joined : (image : List ℕ → List ℕ) (r : Result Signature SignatureFault) (chains : Aggregated) → (or_malformed r >>= (λ (s : Signature). or_refused (aggregated image s))) ≡ Ok chains → (signature : Signature) × (r ≡ Ok signature)
 joined image (Ok signature) chains e = (signature, refl)
 joined image (Err fault) chains e = absurd cc
 
@@ -69,7 +69,7 @@ module _ (image : List ℕ → List ℕ) (journal : Contents) (bytes : List ℕ)
 
 -- ---- a signature is malformed by a fault of its bytes alone
 
-checked : (zero from to root fits : Bool) (missing : Option ℕ) (t p n : ℕ) (kept given text : List ℕ) (fault : SigFault)
+checked : (zero from to root fits : Bool) (missing : Option ℕ) (t p n : ℕ) (kept given text : List ℕ) (fault : SignatureFault)
     → ((need zero (refusals.Refused MissedSecond) >> (need from (refusals.BeforeStart t) >> (need to (refusals.TooEarly t p) >> (all_kept missing >> need root (refusals.RootDiffers t kept given))))) >> (need fits (refusals.TooLarge n) >> Ok text)) ≡ Err (refusals.Malformed fault) → ⊥
 checked false from to root fits missing t p n kept given text fault e = absurd cc
 checked true false to root fits missing t p n kept given text fault e = absurd cc
@@ -79,18 +79,18 @@ checked true true true false fits None t p n kept given text fault e = absurd cc
 checked true true true true false None t p n kept given text fault e = absurd cc
 checked true true true true true None t p n kept given text fault e = absurd cc
 
-by_chains : (image : List ℕ → List ℕ) (journal : Contents) (bytes : List ℕ) (p : ℕ) (r : Result Aggregated Refusal) (fault : SigFault) → (or_refused r >>= next image journal bytes p) ≡ Err (refusals.Malformed fault) → ⊥
+by_chains : (image : List ℕ → List ℕ) (journal : Contents) (bytes : List ℕ) (p : ℕ) (r : Result Aggregated Refusal) (fault : SignatureFault) → (or_refused r >>= next image journal bytes p) ≡ Err (refusals.Malformed fault) → ⊥
 by_chains image journal bytes p (Err refusal) fault e = absurd cc
 by_chains image journal bytes p (Ok chains) fault e =
     let size = length (extended_content bytes (chain_to image journal chains.time p) (record_to image journal p)) in
     checked (not (bytes_eq chains.item.imprint zero_imprint)) (nat_le journal.start chains.time) (nat_le chains.time p) (bytes_eq (leaf_at journal chains.time) chains.item.imprint) (nat_le size 65535)
     (first_missing journal p) chains.time p (min size (2 ^ 64 - 1)) (leaf_at journal chains.time) chains.item.imprint (extended_text bytes (chain_to image journal chains.time p) (record_to image journal p)) fault e
 
-by_reading : (image : List ℕ → List ℕ) (journal : Contents) (bytes : List ℕ) (p : ℕ) (r : Result Signature SigFault) (fault : SigFault) → ((or_malformed r >>= (λ (s : Signature). or_refused (aggregated image s))) >>= next image journal bytes p) ≡ Err (refusals.Malformed fault) → r ≡ Err fault
-by_reading image journal bytes p (Err other) fault e = let same : other ≡ fault = cc in ap (λ (f : SigFault). Err f) same
+by_reading : (image : List ℕ → List ℕ) (journal : Contents) (bytes : List ℕ) (p : ℕ) (r : Result Signature SignatureFault) (fault : SignatureFault) → ((or_malformed r >>= (λ (s : Signature). or_refused (aggregated image s))) >>= next image journal bytes p) ≡ Err (refusals.Malformed fault) → r ≡ Err fault
+by_reading image journal bytes p (Err other) fault e = let same : other ≡ fault = cc in ap (λ (f : SignatureFault). Err f) same
 by_reading image journal bytes p (Ok signature) fault e = absurd (by_chains image journal bytes p (aggregated image signature) fault e)
 
-pub malformed_by : (image : List ℕ → List ℕ) (journal : Contents) (bytes : List ℕ) (p : ℕ) (fault : SigFault) → extended image journal bytes p ≡ Err (refusals.Malformed fault) → signature_at bytes ≡ Err fault
+pub malformed_by : (image : List ℕ → List ℕ) (journal : Contents) (bytes : List ℕ) (p : ℕ) (fault : SignatureFault) → extended image journal bytes p ≡ Err (refusals.Malformed fault) → signature_at bytes ≡ Err fault
 unfolding extended
 malformed_by image journal bytes p fault e = by_reading image journal bytes p (signature_at bytes) fault e
 
@@ -103,7 +103,7 @@ never_memory image journal bytes p result fault (inr wanting) e = absurd cc
 pub accepted_answer : (image : List ℕ → List ℕ) (journal : Contents) (bytes : List ℕ) (p : ℕ) (result : Result (List ℕ) ExtendRefusal)
     → ((text : List ℕ) (signature : Signature) → IsSignature bytes signature → extended image journal bytes p ≡ Ok text → (publications : List (ℕ × List ℕ)) → AcceptedBy image journal signature p publications)
     → (result ≡ extended image journal bytes p) ⊎ (result ≡ Err refusals.NoMemory)
-    → IfOk result (λ text. (signature : Signature) × IsSignature bytes signature × IsSignature text (taken_on image journal signature p)) → IfOk result (IsExtended image journal bytes p)
+    → IfOk result (λ text. (signature : Signature) × IsSignature bytes signature × IsSignature text (extended_signature image journal signature p)) → IfOk result (IsExtended image journal bytes p)
 accepted_answer image journal bytes p (Ok text) law (inl is) again = record { signature = again.0; before = again.1; after = again.2; accepted = law text again.0 again.1 (sym is) }
 accepted_answer image journal bytes p (Ok text) law (inr wanting) again = absurd cc
 accepted_answer image journal bytes p (Err refusal) law answer again = tt

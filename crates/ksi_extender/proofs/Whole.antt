@@ -5,7 +5,7 @@ use Rattle.std.specs.List.{AllByRecursion}
 use Rattle.ksi_imprint.specs.Imprints.{zero_imprint}
 use Rattle.ksi_split.specs.declared.side.Side.{Side}
 use Rattle.ksi_split.specs.Ways.{IsWay, way_of}
-use Rattle.ksi_calchain.specs.Climbing.{ClimbsCal}
+use Rattle.ksi_calchain.specs.Climbing.{ClimbsCalendar}
 use Rattle.ksi_calchain.specs.Sides.{sides_from_top}
 use Rattle.ksi_calendar.specs.Calendar.{Seconds, calendar_leaf, calendar_root, calendar_path}
 use Rattle.ksi_publications.specs.Finding.{find}
@@ -25,7 +25,7 @@ use Rattle.ksi_journal.specs.Journal.{Contents}
 use Rattle.ksi_journal.specs.Calendar.{leaf_at, calendar_of, kept_root}
 use Rattle.ksi_extender.specs.Checks.{◌>>◌}
 use Rattle.ksi_extender.specs.Extended.{or_refused, chains_in, kept_to, chain_to, record_to, fitting, extended}
-use Rattle.ksi_extender.specs.Accepted.{first_time, first_input, taken_on, AcceptedBy}
+use Rattle.ksi_extender.specs.Accepted.{first_time, first_input, extended_signature, AcceptedBy}
 use Rattle.ksi_extender.proofs.Passing.{bind_ok, then_ok}
 use Rattle.ksi_extender.proofs.Steps.{read_then}
 use Rattle.ksi_extender.proofs.Kept.{IsKept, is_kept}
@@ -75,9 +75,9 @@ module _ (image : List ℕ → List ℕ)
   pub is_time : (signature : Signature) (chains : Aggregated) → aggregated image signature ≡ Ok chains → chains.item.imprint ≢ zero_imprint → first_time signature ≡ chains.time
   is_time signature chains e some = let is = is_aggregated signature chains e some in timed (plain_chains signature.chains) chains.time is.some is.times
 
-  -- what is read again is the signature taken on
+  -- what is read again is the signature extended
   pub read_again : (journal : Contents) (bytes text : List ℕ) (p : ℕ) (chains : Aggregated) (chain : Calendar) (published : Publishing) (signature : Signature) → signature_at bytes ≡ Ok signature → chains_in image bytes ≡ Ok chains
-      → chains.item.imprint ≢ zero_imprint → chain ≡ chain_to image journal chains.time p → published ≡ record_to image journal p → IsSignature text (renewed signature chain published) → IsSignature text (taken_on image journal signature p)
+      → chains.item.imprint ≢ zero_imprint → chain ≡ chain_to image journal chains.time p → published ≡ record_to image journal p → IsSignature text (renewed signature chain published) → IsSignature text (extended_signature image journal signature p)
   read_again journal bytes text p chains chain published signature read are some chain_is published_is again =
       let joined = or_refused_ok (aggregated image signature) chains (read_then image bytes signature read ∙ are) in
       let time = is_time signature chains joined some in
@@ -87,13 +87,13 @@ module _ (image : List ℕ → List ℕ)
       again
 
   module _ (accepted : (signature : Signature) (hash : List ℕ) (publications : List (ℕ × List ℕ)) (t : ℕ) → (verdict image signature hash publications ≡ Accepted t) ↔ IsAccepted image signature hash publications t)
-      (climbs : (seconds : Seconds) (t p : ℕ) → t ≤ p → ClimbsCal image (calendar_leaf seconds t) (calendar_path image seconds t p) (calendar_root image seconds p))
+      (climbs : (seconds : Seconds) (t p : ℕ) → t ≤ p → ClimbsCalendar image (calendar_leaf seconds t) (calendar_path image seconds t p) (calendar_root image seconds p))
       (sides : (seconds : Seconds) (t p : ℕ) → sides_from_top (calendar_path image seconds t p) ≡ way_of t (p + 1))
       (ways : (t n : ℕ) (sides : List Side) → IsWay t n sides ↔ ((t < n) × (sides ≡ way_of t n)))
       (journal : Contents)
       (leaves : (t : ℕ) → t < (calendar_of journal).start + length (calendar_of journal).roots → calendar_leaf (calendar_of journal) t ≡ leaf_at journal t) where
     is_accepted : (bytes : List ℕ) (p : ℕ) (text : List ℕ) (signature : Signature) (publications : List (ℕ × List ℕ)) → Passed image journal bytes p text signature
-        → find p publications ≡ Some (kept_root image journal p) → IsAccepted image (taken_on image journal signature p) (first_input signature) publications (first_time signature)
+        → find p publications ≡ Some (kept_root image journal p) → IsAccepted image (extended_signature image journal signature p) (first_input signature) publications (first_time signature)
     is_accepted bytes p text signature publications h found =
         let t = first_time signature in
         let time = is_time signature h.chains h.aggregation h.kept.some in
@@ -110,11 +110,11 @@ module _ (image : List ℕ → List ℕ)
           second = record { within = to; way = (ways t (p + 1) (sides_from_top (calendar_path image (calendar_of journal) t p))).1 (omega (arith, to), sides (calendar_of journal) t p) };
           time = refl;
           root = kept_root image journal p;
-          climbs = subst (λ (leaf : List ℕ). ClimbsCal image leaf (calendar_path image (calendar_of journal) t p) (kept_root image journal p)) (leaves t early) (climbs (calendar_of journal) t p to);
+          climbs = subst (λ (leaf : List ℕ). ClimbsCalendar image leaf (calendar_path image (calendar_of journal) t p) (kept_root image journal p)) (leaves t early) (climbs (calendar_of journal) t p to);
           stated = (refl, refl);
           published = found;
         }
 
     pub accepted_by : (bytes : List ℕ) (p : ℕ) (text : List ℕ) (signature : Signature) → signature_at bytes ≡ Ok signature → extended image journal bytes p ≡ Ok text → (publications : List (ℕ × List ℕ)) → AcceptedBy image journal signature p publications
     accepted_by bytes p text signature read e publications =
-        λ found. (accepted (taken_on image journal signature p) (first_input signature) publications (first_time signature)).1 (is_accepted bytes p text signature publications (passed image journal bytes p text signature read e) found)
+        λ found. (accepted (extended_signature image journal signature p) (first_input signature) publications (first_time signature)).1 (is_accepted bytes p text signature publications (passed image journal bytes p text signature read e) found)

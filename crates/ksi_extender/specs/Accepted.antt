@@ -1,4 +1,4 @@
--- What a signature is that was taken on to a later second.
+-- What a signature is that was extended to a later second.
 use Rattle.std.specs.Prelude.{◌≡◌, ◌≢◌, ◌≤◌, ℕ, List, length, Some, Ok}
 use Rattle.ksi_imprint.specs.Imprints.{zero_imprint}
 use Rattle.ksi_publications.specs.Finding.{find}
@@ -22,21 +22,21 @@ abbrev pub first_input : Signature → List ℕ
 first_input signature = (first_chain (plain_chains signature.chains)).input
 
 -- the signature with the calendar chain to p and the record of p in place of what it had of both
-abbrev pub taken_on : (List ℕ → List ℕ) → Contents → Signature → ℕ → Signature
-taken_on image journal signature p = renewed signature (chain_to image journal (first_time signature) p) (record_to image journal p)
+abbrev pub extended_signature : (List ℕ → List ℕ) → Contents → Signature → ℕ → Signature
+extended_signature image journal signature p = renewed signature (chain_to image journal (first_time signature) p) (record_to image journal p)
 
 -- no check of it fails against publications whose first record of p is the root of the calendar to p, and its second is
 -- the time that it stated
 abbrev pub AcceptedBy : (List ℕ → List ℕ) → Contents → Signature → ℕ → List (ℕ × List ℕ) → Type 0
 AcceptedBy image journal signature p publications =
     find p publications ≡ Some (kept_root image journal p)
-    → verdict image (taken_on image journal signature p) (first_input signature) publications ≡ Accepted (first_time signature)
+    → verdict image (extended_signature image journal signature p) (first_input signature) publications ≡ Accepted (first_time signature)
 
--- The text is the signature of the bytes taken on to p, and is accepted.
+-- The text is the signature of the bytes extended to p, and is accepted.
 pub record IsExtended (image : List ℕ → List ℕ) (journal : Contents) (bytes : List ℕ) (p : ℕ) (text : List ℕ) : Type 0 where
   pub signature : Signature
   pub before : IsSignature bytes signature
-  pub after : IsSignature text (taken_on image journal signature p)
+  pub after : IsSignature text (extended_signature image journal signature p)
   pub accepted : (publications : List (ℕ × List ℕ)) → AcceptedBy image journal signature p publications
 
 -- The bytes are a short signature whose chains lead to the root of a kept second, which was not missed; p is that second

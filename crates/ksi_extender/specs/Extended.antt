@@ -1,9 +1,9 @@
--- A signature taken on to a later second, over a journal.
+-- A signature extended to a later second, over a journal.
 use Rattle.std.specs.Prelude.{ℕ, ◌-◌, ◌^◌, min, nat_le, not, List, [], length, Option, Some, None, Result, Ok, Err}
 use Rattle.std.specs.Str.{bytes_eq}
 use Rattle.ksi_imprint.specs.Imprints.{zero_imprint}
 use Rattle.ksi_calendar.specs.Calendar.{calendar_path}
-use Rattle.ksi_signature.specs.declared.fault.SigFault.{SigFault}
+use Rattle.ksi_signature.specs.declared.fault.SignatureFault.{SignatureFault}
 use Rattle.ksi_signature.specs.declared.signature.Signature.{Signature}
 use Rattle.ksi_signature.specs.Values.{Calendar, Publishing}
 use Rattle.ksi_signature.specs.Reading.{signature_at}
@@ -20,7 +20,7 @@ use Rattle.ksi_extender.specs.Checks.{◌>>=◌, ◌>>◌, need}
 
 -- ---- the chains of the signature
 
-abbrev pub or_malformed : Result Signature SigFault → Result Signature ExtendRefusal
+abbrev pub or_malformed : Result Signature SignatureFault → Result Signature ExtendRefusal
 or_malformed (Ok signature) = Ok signature
 or_malformed (Err fault) = Err (refusals.Malformed fault)
 
@@ -67,7 +67,7 @@ fitting bytes chain published = do
   need (nat_le (length (extended_content bytes chain published)) 65535) (refusals.TooLarge (min (length (extended_content bytes chain published)) (2 ^ 64 - 1)))
   Ok (extended_text bytes chain published)
 
--- the signature of the bytes taken on to second p, or the first refusal
+-- the signature of the bytes extended to second p, or the first refusal
 unfoldable pub extended : (List ℕ → List ℕ) → Contents → List ℕ → ℕ → Result (List ℕ) ExtendRefusal
 extended image journal bytes p = do
   chains ← chains_in image bytes

@@ -2,25 +2,25 @@ ghost use Rattle.std.specs.Prelude.{◌≡◌, ◌≢◌, [], ◌⊎◌, ◌<◌
 ghost use Rattle.ksi_tlv.specs.Spelling.{AreBytes};
 ghost use Rattle.ksi_calendar.specs.Calendar.{calendar_leaf};
 ghost use Rattle.ksi_journal.specs.Calendar.{calendar_of, leaf_at};
-ghost use Rattle.ksi_signature.specs.declared.fault.SigFault.TheVariants as answers;
+ghost use Rattle.ksi_signature.specs.declared.fault.SignatureFault.TheVariants as answers;
 ghost use Rattle.ksi_signature.specs.declared.signature.Signature.{Signature};
 ghost use Rattle.ksi_signature.specs.File.{IsSignature};
 ghost use Rattle.ksi_signature.specs.Extended.{renewed};
 ghost use Rattle.ksi_extender.specs.declared.refusal.ExtendRefusal.TheVariants as refusals;
 ghost use Rattle.ksi_extender.specs.Extended.{chains_in, kept_to, chain_to, record_to, fitting, extended};
-ghost use Rattle.ksi_extender.specs.Accepted.{IsExtended, taken_on};
+ghost use Rattle.ksi_extender.specs.Accepted.{IsExtended, extended_signature};
 
 use crate::laws::extended_is_accepted;
 use crate::refusal::ExtendRefusal;
-use ksi_calchain::climb_cal;
+use ksi_calchain::climb_calendar;
 use ksi_calchain::laws::one_climb;
 use ksi_calendar::Steps;
 use ksi_imprint::{Bytes, Compress, Imprint, NoMemory};
 use ksi_journal::Journal;
 use ksi_journal::laws::are_bytes;
 use ksi_signature::{
-    Bodies, CalChain, CalLinks, PubRecord, SigFault, WithRefusal, read, signature_is_read,
-    signature_or_fault, with_calendar,
+    Bodies, CalendarChain, CalendarLinks, PublicationRecord, SignatureFault, WithRefusal, read,
+    signature_is_read, signature_or_fault, with_calendar,
 };
 use ksi_verifier::laws::aggregation;
 use ksi_verifier::{Aggregated, Refusal, aggregate};
@@ -97,11 +97,11 @@ pub fn extend_counted<C: Compress, L: Ledger>(
 {
     extended_is_accepted();
     signature_is_read();
-    taken_on(alloc, journal, bytes, p, steps)
+    extended_bytes(alloc, journal, bytes, p, steps)
 }
 
-/// What is taken on, and what it is read as.
-fn taken_on<C: Compress, L: Ledger>(
+/// What is extended, and what it is read as.
+fn extended_bytes<C: Compress, L: Ledger>(
     alloc: Global,
     journal: &Journal<C>,
     bytes: &[u8],
@@ -111,7 +111,7 @@ fn taken_on<C: Compress, L: Ledger>(
     requires { p < 2 ^ 63 }
     ensures answer { (result ≡ extended C.image journal.now bytes.now p) ⊎ (result ≡ Err refusals.NoMemory) }
     ensures again { IfOk result (λ text. (signature : Signature) × IsSignature bytes.now signature
-        × IsSignature text (taken_on C.image journal.now signature p)) }
+        × IsSignature text (extended_signature C.image journal.now signature p)) }
     ensures bytes { IfOk result AreBytes }
     ensures wanting { result ≡ Err refusals.NoMemory → (signature : Signature) × IsSignature bytes.now signature }
     ensures most { steps.new ≤ steps.old + 127 }
@@ -124,7 +124,7 @@ fn taken_on<C: Compress, L: Ledger>(
     }
 }
 
-/// What is taken on of a signature whose chains come to these. Memory is wanting only where all is kept.
+/// What is extended of a signature whose chains come to these. Memory is wanting only where all is kept.
 fn over_journal<C: Compress, L: Ledger>(
     alloc: Global,
     journal: &Journal<C>,
@@ -137,7 +137,7 @@ fn over_journal<C: Compress, L: Ledger>(
     requires chains { chains_in C.image bytes.now ≡ Ok chains.now }
     ensures answer { (result ≡ extended C.image journal.now bytes.now p) ⊎ (result ≡ Err refusals.NoMemory) }
     ensures again { IfOk result (λ text. (signature : Signature) × IsSignature bytes.now signature
-        × IsSignature text (taken_on C.image journal.now signature p)) }
+        × IsSignature text (extended_signature C.image journal.now signature p)) }
     ensures bytes { IfOk result AreBytes }
     ensures wanting { result ≡ Err refusals.NoMemory → kept_to journal.now chains.now p ≡ Ok tt }
     ensures most { steps.new ≤ steps.old + 127 }
@@ -168,12 +168,12 @@ fn chains_in<C: Compress>(alloc: Global, bytes: &[u8]) -> Result<Aggregated, Ext
 }
 
 /// The refusal where a signature was not read.
-fn named(fault: SigFault) -> ExtendRefusal
+fn named(fault: SignatureFault) -> ExtendRefusal
     ensures fault { fault ≢ answers.NoMemory → result ≡ refusals.Malformed fault }
     ensures memory { fault ≡ answers.NoMemory → result ≡ refusals.NoMemory }
 {
     match fault {
-        SigFault::NoMemory => ExtendRefusal::NoMemory,
+        SignatureFault::NoMemory => ExtendRefusal::NoMemory,
         _ => ExtendRefusal::Malformed(fault),
     }
 }
@@ -228,7 +228,7 @@ fn proof_to<C: Compress, L: Ledger>(
     chains: &Aggregated,
     p: u64,
     steps: &mut Steps<L>,
-) -> Result<(CalChain, PubRecord), NoMemory>
+) -> Result<(CalendarChain, PublicationRecord), NoMemory>
     requires below { p < 2 ^ 63 }
     requires to { chains.now.time ≤ p }
     requires covered { p < (calendar_of journal.now).start + length (calendar_of journal.now).roots }
@@ -242,22 +242,22 @@ fn proof_to<C: Compress, L: Ledger>(
     one_climb();
     let input = chains.item.imprint;
     let links = journal.calendar().chain_to_counted(chains.time, p, steps)?;
-    let root = climb_cal::<C>(input, links.as_slice());
-    let chain = CalChain {
+    let root = climb_calendar::<C>(input, links.as_slice());
+    let chain = CalendarChain {
         publication: p,
         time: chains.time,
         input,
-        links: CalLinks::from_vec(links.into_vec()),
+        links: CalendarLinks::from_vec(links.into_vec()),
     };
     Ok((chain, record(alloc, p, root)))
 }
 
 /// The record of a root, which names no place where it was published.
-fn record(alloc: Global, time: u64, hash: Imprint) -> PubRecord
+fn record(alloc: Global, time: u64, hash: Imprint) -> PublicationRecord
     requires { time < 2 ^ 63 }
     ensures { result ≡ record { time = time; hash = hash; references = []; repositories = [] } }
 {
-    PubRecord {
+    PublicationRecord {
         time,
         hash,
         references: Bodies::from_vec(Vec::new(alloc)),
@@ -269,8 +269,8 @@ fn record(alloc: Global, time: u64, hash: Imprint) -> PubRecord
 fn renewed_with(
     alloc: Global,
     bytes: &[u8],
-    chain: &CalChain,
-    published: &PubRecord,
+    chain: &CalendarChain,
+    published: &PublicationRecord,
 ) -> Result<Bytes, ExtendRefusal>
     ensures answer { (signature : Signature) → IsSignature bytes.now signature →
         (result ≡ fitting bytes.now chain.now published.now) ⊎ (result ≡ Err refusals.NoMemory) }

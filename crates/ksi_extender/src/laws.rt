@@ -1,4 +1,4 @@
-//! What holds of signatures that were taken on to a later second, for the layers above to cite. None of these functions
+//! What holds of signatures that were extended to a later second, for the layers above to cite. None of these functions
 //! does anything.
 ghost use Rattle.std.specs.Prelude.{◌≡◌, ◌<◌, ◌^◌, ℕ, List, Ok};
 ghost use Rattle.std.specs.List.{AllByRecursion};
@@ -10,7 +10,7 @@ ghost use Rattle.ksi_signature.specs.Extended.{extended_text};
 ghost use Rattle.ksi_verifier.specs.declared.aggregated.Aggregated.{Aggregated};
 ghost use Rattle.ksi_journal.specs.Journal.{Contents, IsJournal};
 ghost use Rattle.ksi_extender.specs.Extended.{chain_to, extended, record_to};
-ghost use Rattle.ksi_extender.specs.Accepted.{AcceptedBy, LeadsToKept, taken_on};
+ghost use Rattle.ksi_extender.specs.Accepted.{AcceptedBy, LeadsToKept, extended_signature};
 
 use ksi_calendar::laws::one_chain;
 use ksi_imprint::Imprint;
@@ -22,7 +22,7 @@ use ksi_split::laws::one_way;
 use ksi_split::trees::one_path;
 use ksi_verifier::laws::{accepted, aggregation};
 
-/// Where a signature is taken on to a second, it is accepted with the new calendar chain and record, by all
+/// Where a signature is extended to a second, it is accepted with the new calendar chain and record, by all
 /// publications whose first record of that second is the journal's root. For a journal, and where what is hashed are
 /// imprints, the new bytes are that signature.
 pub fn extended_is_accepted()
@@ -33,7 +33,7 @@ pub fn extended_is_accepted()
     ensures again { (image : List ℕ → List ℕ) (journal : Contents) (bytes text : List ℕ) (signature : Signature) (p : ℕ) →
         ((x : List ℕ) → IsImprint (image x)) → IsJournal image journal → p < 2 ^ 63 →
         AreBytes bytes → IsSignature bytes signature → extended image journal bytes p ≡ Ok text →
-        IsSignature text (taken_on image journal signature p) }
+        IsSignature text (extended_signature image journal signature p) }
 {
     one_chain();
     one_way();
@@ -44,7 +44,7 @@ pub fn extended_is_accepted()
     aggregation();
 }
 
-/// Over a journal, and where what is hashed are imprints, a short signature is taken on to each covered second from its
+/// Over a journal, and where what is hashed are imprints, a short signature is extended to each covered second from its
 /// own on, where its chains lead to the root that is kept for its own, which was not missed.
 pub fn covered_is_extended()
     ensures { (image : List ℕ → List ℕ) (journal : Contents) (bytes : List ℕ) (signature : Signature) (chains : Aggregated) (p : ℕ) →
@@ -58,7 +58,7 @@ pub fn covered_is_extended()
     calendar_is_covered();
 }
 
-/// Bytes that are taken on to a second are bytes again, where what is hashed and the roots of the journal are bytes.
+/// Bytes that are extended to a second are bytes again, where what is hashed and the roots of the journal are bytes.
 pub fn extension_is_bytes()
     ensures { (image : List ℕ → List ℕ) (journal : Contents) → ((x : List ℕ) → AreBytes (image x)) →
         AllByRecursion (λ kept. AreBytes kept.root) journal.seconds →

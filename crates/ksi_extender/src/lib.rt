@@ -1,4 +1,4 @@
-//! Signatures taken on to a later second of the calendar: to its root, over what a journal keeps.
+//! Signatures extended to a later second of the calendar: to its root, over what a journal keeps.
 //!
 //! The layer above may rely on this: [`extend`] gives exactly the bytes, or the first refusal, that the definition
 //! `extended` gives for the journal's record, the signature's bytes and the second; only want of memory may come in its

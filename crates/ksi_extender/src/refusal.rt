@@ -1,17 +1,17 @@
 use ksi_imprint::{Imprint, NoMemory};
-use ksi_signature::SigFault;
+use ksi_signature::SignatureFault;
 use ksi_verifier::Refusal;
 
-/// Why a signature is not taken on to a later second.
+/// Why a signature is not extended to a later second.
 #[derive(Clone, Copy, Debug, PartialEq, Eq)]
 pub enum ExtendRefusal {
     /// The bytes are no signature: the first fault in reading order.
-    Malformed(SigFault),
+    Malformed(SignatureFault),
     /// The first of the checks V2 to V6 that fails, or V9 where the chains lead to the zero imprint.
     Refused(Refusal),
     /// E4: the chains' time is before the journal's start.
     BeforeStart(u64),
-    /// E3: the chains' time is after the second that the signature is to be taken on to.
+    /// E3: the chains' time is after the second that the signature is to be extended to.
     TooEarly {
         second: u64,
         publication: u64,

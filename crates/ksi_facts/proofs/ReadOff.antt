@@ -27,7 +27,7 @@ use Rattle.ksi_facts.specs.Seen.{Seen, seen_of, seen_from, seen}
 use Rattle.ksi_facts.specs.Deeds.{of_second, facts, deeds}
 use Rattle.ksi_facts.specs.Since.{Since, since, told_until, voted_after, has_told}
 use Rattle.ksi_facts.specs.State.{own_candidate, flags_of, hand_since, second_seen, round_seen, wire_seen, asked_by, requests_seen, published_by, published_seen, world_seen}
-use Rattle.ksi_facts.specs.Recalled.{IsHand, IsInHand, IsSecond, IsRound}
+use Rattle.ksi_facts.specs.Recalled.{IsHand, IsInHand, IsRecalledSecond, IsRecalledRound}
 use Rattle.ksi_facts.proofs.Recalling.{after_seconds, after_rounds}
 
 -- FLAGS
@@ -66,7 +66,7 @@ in_hand_is voters candidate (Some s) (Some h) so = ap (λ (h : Hand). Some h) (h
 in_hand_is voters candidate None (Some h) so = absurd so
 in_hand_is voters candidate (Some s) None so = absurd so
 
-second_is : (image : List ℕ → List ℕ) (plan : PlanState) (past : List Seen) (core second : ℕ) (s : SecondState) → IsSecond image past plan.cores core second s → s ≡ second_seen image plan past core second
+second_is : (image : List ℕ → List ℕ) (plan : PlanState) (past : List Seen) (core second : ℕ) (s : SecondState) → IsRecalledSecond image past plan.cores core second s → s ≡ second_seen image plan past core second
 second_is image plan past core second s so = λ i. record {
   vote = record {
     me = so.me i;
@@ -82,7 +82,7 @@ second_is image plan past core second s so = λ i. record {
   sealed = so.kept.sealed i;
 }
 
-round_is : (past : List Seen) (aggregator second : ℕ) (r : RoundState) → IsRound past aggregator second r → r ≡ round_seen past aggregator second
+round_is : (past : List Seen) (aggregator second : ℕ) (r : RoundState) → IsRecalledRound past aggregator second r → r ≡ round_seen past aggregator second
 round_is past aggregator second r so = λ i. record { open_items = so.open_items i; closed = so.kept.closed i; answered = so.kept.answered i }
 
 -- THE WIRE, REQUESTS AND PUBLICATIONS

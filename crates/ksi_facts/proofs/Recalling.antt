@@ -31,7 +31,7 @@ use Rattle.ksi_facts.specs.Seen.{Seen, seen_of, seen_from, seen}
 use Rattle.ksi_facts.specs.Deeds.{What, Deed, Accepted, Sealed, Closed, Answered, Restarted, of_second, facts_of, open_items, tried_ballot, held_root, numbered, where_done, first, tries, takes, is_actor, own, does, deeds}
 use Rattle.ksi_facts.specs.Since.{Since, since}
 use Rattle.ksi_facts.specs.State.{own_candidate}
-use Rattle.ksi_facts.specs.Recalled.{IsKept, IsKeptRound, IsInHand, IsSecond, IsRound}
+use Rattle.ksi_facts.specs.Recalled.{IsStableState, IsStableRound, IsInHand, IsRecalledSecond, IsRecalledRound}
 use Rattle.ksi_facts.proofs.Standing.{IsInHandSo, IsSo, IsRoundSo, facts_for, since_tried, did, observed, round_observed}
 use Rattle.ksi_facts.proofs.CoreRows.{submission_so, seal_so, ballot_so, receive_so, tell_so, respond_so, restart_so}
 use Rattle.ksi_facts.proofs.RoundRows as rows
@@ -356,11 +356,11 @@ module _ (image : List ℕ → List ℕ) (plan : PlanState) (is : IsPlan plan) w
   ballot_is voters candidate ds (Some s) e None so h is = absurd so
   ballot_is voters candidate ds (Some s) e (Some g) so h is = let same : g ≡ h = cc is in ap (λ (h : Hand). h.ballot) (sym same) ∙ so.ballot ∙ since_tried ds s e
 
-  pub after_seconds : (es : List Event) (j t : ℕ) → IsSecond image (seen image plan es) plan.cores j t ((after image plan es).seconds j t)
+  pub after_seconds : (es : List Event) (j t : ℕ) → IsRecalledSecond image (seen image plan es) plan.cores j t ((after image plan es).seconds j t)
   after_seconds es j t =
       let so = (after_all es).seconds j t in
       let s = (after image plan es).seconds j t in
-      let kept : IsKept image (of_second t (facts_of (deeds (actors.Core j) (seen image plan es)))) s = subst (λ (ds : List Deed). IsKept image ds s) (sym (facts_for t (deeds (actors.Core j) (seen image plan es)))) so.kept in
+      let kept : IsStableState image (of_second t (facts_of (deeds (actors.Core j) (seen image plan es)))) s = subst (λ (ds : List Deed). IsStableState image ds s) (sym (facts_for t (deeds (actors.Core j) (seen image plan es)))) so.kept in
       record {
         me = so.me_is;
         voters = so.voters_are;
@@ -372,12 +372,12 @@ module _ (image : List ℕ → List ℕ) (plan : PlanState) (is : IsPlan plan) w
         hand = in_words (cores_below plan.cores) s.vote.voters _ s.vote.candidate so.voters_are kept.candidate (since (Ds (seen image plan es) (actors.Core j) t)) s.vote.hand so.hand;
       }
 
-  pub after_rounds : (es : List Event) (k t : ℕ) → IsRound (seen image plan es) k t ((after image plan es).rounds k t)
+  pub after_rounds : (es : List Event) (k t : ℕ) → IsRecalledRound (seen image plan es) k t ((after image plan es).rounds k t)
   after_rounds es k t =
       let so = (after_all es).rounds k t in
       let r = (after image plan es).rounds k t in
       record {
-        kept = subst (λ (ds : List Deed). IsKeptRound ds r) (sym (facts_for t (deeds (actors.Aggregator k) (seen image plan es)))) so.kept;
+        kept = subst (λ (ds : List Deed). IsStableRound ds r) (sym (facts_for t (deeds (actors.Aggregator k) (seen image plan es)))) so.kept;
         open_items = so.open_is;
         shut = so.shut;
       }

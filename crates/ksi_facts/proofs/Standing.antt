@@ -12,7 +12,7 @@ use Rattle.ksi_schedule.specs.declared.actor.Actor.TheVariants as actors
 use Rattle.ksi_facts.specs.Seen.{Seen}
 use Rattle.ksi_facts.specs.Deeds.{What, Deed, Did, Restarted, Accepted, Sealed, Closed, Tried, Promised, Cast, Holds, Answered, Heard, tried_ballot, is_of, of_second, is_fact, facts_of, open_items, is_actor, own, does, deeds}
 use Rattle.ksi_facts.specs.Since.{Since, with_reply, since}
-use Rattle.ksi_facts.specs.Recalled.{IsKept, IsKeptRound, IsHand}
+use Rattle.ksi_facts.specs.Recalled.{IsStableState, IsStableRound, IsHand}
 
 -- the hand of a core that has sealed
 pub record IsHandSo (voters : List ℕ) (candidate : Option (List ℕ)) (s : Since) (h : Hand) : Type 0 where
@@ -28,7 +28,7 @@ IsInHandSo voters candidate (Some s) None = ⊥
 
 -- the deeds are those for the second
 pub record IsSo (image : List ℕ → List ℕ) (voters : List ℕ) (me : ℕ) (ds : List Deed) (s : SecondState) : Type 0 where
-  pub kept : IsKept image (facts_of ds) s
+  pub kept : IsStableState image (facts_of ds) s
   pub open_is : s.open_items ≡ open_items ds
   pub shut : (items : List Entry) → s.sealed ≡ Some items → s.open_items ≡ []
   pub voters_are : s.vote.voters ≡ voters
@@ -36,7 +36,7 @@ pub record IsSo (image : List ℕ → List ℕ) (voters : List ℕ) (me : ℕ) (
   pub hand : IsInHandSo s.vote.voters s.vote.candidate (since ds) s.vote.hand
 
 pub record IsRoundSo (ds : List Deed) (r : RoundState) : Type 0 where
-  pub kept : IsKeptRound (facts_of ds) r
+  pub kept : IsStableRound (facts_of ds) r
   pub open_is : r.open_items ≡ open_items ds
   pub blank : r.closed ≡ None → r.answered ≡ None
   pub shut : (items : List Entry) → r.closed ≡ Some items → r.open_items ≡ []

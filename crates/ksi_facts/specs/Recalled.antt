@@ -18,7 +18,7 @@ use Rattle.ksi_facts.specs.State.{own_candidate, world_seen}
 use Rattle.ksi_facts.specs.Steps.{IsStepByFacts}
 
 -- what a core keeps over restarts, for a second with these facts
-pub record IsKept (image : List ℕ → List ℕ) (facts : List Deed) (s : SecondState) : Type 0 where
+pub record IsStableState (image : List ℕ → List ℕ) (facts : List Deed) (s : SecondState) : Type 0 where
   pub sealed : s.sealed ≡ sealed_items facts
   pub candidate : s.vote.candidate ≡ own_candidate image facts
   pub tried : s.vote.tried ≡ tried_ballot facts
@@ -27,7 +27,7 @@ pub record IsKept (image : List ℕ → List ℕ) (facts : List Deed) (s : Secon
   pub held : s.vote.held ≡ held_root facts
 
 -- the same of an aggregator's round
-pub record IsKeptRound (facts : List Deed) (r : RoundState) : Type 0 where
+pub record IsStableRound (facts : List Deed) (r : RoundState) : Type 0 where
   pub closed : r.closed ≡ closed_items facts
   pub answered : r.answered ≡ kept_response facts
 
@@ -49,18 +49,18 @@ IsInHand voters candidate _ _ = ⊥
 
 -- a core's second is what was seen of it. The core votes under its number, with the voters of the second; nothing is open
 -- once it is sealed; the ballot in hand is the one tried last
-pub record IsSecond (image : List ℕ → List ℕ) (past : List Seen) (cores core second : ℕ) (s : SecondState) : Type 0 where
+pub record IsRecalledSecond (image : List ℕ → List ℕ) (past : List Seen) (cores core second : ℕ) (s : SecondState) : Type 0 where
   pub me : s.vote.me ≡ core
   pub voters : s.vote.voters ≡ voters_of cores second
-  pub kept : IsKept image (of_second second (facts (actors.Core core) past)) s
+  pub kept : IsStableState image (of_second second (facts (actors.Core core) past)) s
   pub open_items : s.open_items ≡ open_items (of_second second (deeds (actors.Core core) past))
   pub shut : (items : List Entry) → s.sealed ≡ Some items → s.open_items ≡ []
   pub ballot : (h : Hand) → s.vote.hand ≡ Some h → h.ballot ≡ s.vote.tried
   pub hand : IsInHand (voters_of cores second) (own_candidate image (of_second second (facts (actors.Core core) past))) (since (of_second second (deeds (actors.Core core) past))) s.vote.hand
 
 -- an aggregator's round is what was seen of it; nothing is open once it is closed
-pub record IsRound (past : List Seen) (aggregator second : ℕ) (r : RoundState) : Type 0 where
-  pub kept : IsKeptRound (of_second second (facts (actors.Aggregator aggregator) past)) r
+pub record IsRecalledRound (past : List Seen) (aggregator second : ℕ) (r : RoundState) : Type 0 where
+  pub kept : IsStableRound (of_second second (facts (actors.Aggregator aggregator) past)) r
   pub open_items : r.open_items ≡ open_items (of_second second (deeds (actors.Aggregator aggregator) past))
   pub shut : (items : List Entry) → r.closed ≡ Some items → r.open_items ≡ []
 
@@ -68,8 +68,8 @@ pub record IsRound (past : List Seen) (aggregator second : ℕ) (r : RoundState)
 -- the next event has the answer, the new facts and the messages of the step table over it. Of an actor's facts none is lost,
 -- and a restart adds none
 pub record IsRecalled (image : List ℕ → List ℕ) (history : History) : Type 0 where
-  pub seconds : (core second : ℕ) → IsSecond image (seen image history.plan history.events) history.plan.cores core second ((world_of image history).seconds core second)
-  pub rounds : (aggregator second : ℕ) → IsRound (seen image history.plan history.events) aggregator second ((world_of image history).rounds aggregator second)
+  pub seconds : (core second : ℕ) → IsRecalledSecond image (seen image history.plan history.events) history.plan.cores core second ((world_of image history).seconds core second)
+  pub rounds : (aggregator second : ℕ) → IsRecalledRound (seen image history.plan history.events) aggregator second ((world_of image history).rounds aggregator second)
   pub world : (before later : List Event) → history.events ≡ before ++ later → after image history.plan before ≡ world_seen image history.plan (seen image history.plan before)
   pub steps : (before later : List Event) (event : Event) → history.events ≡ before ++ event ∷ later → IsStepByFacts image history.plan before event
   pub grow : (actor : Actor) (before later : List Event) → history.events ≡ before ++ later

@@ -15,7 +15,7 @@ ghost use Rattle.ksi_facts.specs.Deeds.{Deed, of_second, deeds, facts, open_item
 ghost use Rattle.ksi_facts.specs.Since.{since};
 ghost use Rattle.ksi_facts.specs.State.{own_candidate, world_seen};
 ghost use Rattle.ksi_facts.specs.Steps.{IsStepByFacts};
-ghost use Rattle.ksi_facts.specs.Recalled.{IsKept, IsKeptRound, IsInHand, IsRecalled};
+ghost use Rattle.ksi_facts.specs.Recalled.{IsStableState, IsStableRound, IsInHand, IsRecalled};
 
 /// Facts are only added, whatever happens later, and a restart adds none.
 pub fn facts_only_grow()
@@ -30,10 +30,10 @@ pub fn facts_only_grow()
 /// What a core and an aggregator keep over restarts is read off the facts.
 pub fn state_is_facts()
     ensures seconds { (image : List ℕ → List ℕ) (history : History) → IsPlan history.plan → (core second : ℕ) →
-        IsKept image (of_second second (facts (actors.Core core) (seen image history.plan history.events)))
+        IsStableState image (of_second second (facts (actors.Core core) (seen image history.plan history.events)))
         ((world_of image history).seconds core second) }
     ensures rounds { (image : List ℕ → List ℕ) (history : History) → IsPlan history.plan → (aggregator second : ℕ) →
-        IsKeptRound (of_second second (facts (actors.Aggregator aggregator) (seen image history.plan history.events)))
+        IsStableRound (of_second second (facts (actors.Aggregator aggregator) (seen image history.plan history.events)))
         ((world_of image history).rounds aggregator second) }
 {}
 

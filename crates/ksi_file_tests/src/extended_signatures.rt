@@ -2,7 +2,8 @@ use crate::same::same;
 use crate::signatures::{S0, joined};
 use ksi_imprint::{Bytes, Imprint, NoMemory};
 use ksi_signature::{
-    Bodies, CalChain, CalLinks, PubRecord, SigFault, WithRefusal, check, with_calendar,
+    Bodies, CalendarChain, CalendarLinks, PublicationRecord, SignatureFault, WithRefusal, check,
+    with_calendar,
 };
 use std::alloc::Global;
 use std::process::Abort;
@@ -19,22 +20,22 @@ fn hash() -> Imprint {
 }
 
 /// That of `S0`.
-fn calendar(alloc: Global) -> CalChain {
-    CalChain {
+fn calendar(alloc: Global) -> CalendarChain {
+    CalendarChain {
         publication: 0,
         time: 0,
         input: hash(),
-        links: CalLinks::from_vec(Vec::new(alloc)),
+        links: CalendarLinks::from_vec(Vec::new(alloc)),
     }
 }
 
 /// A record of second 0 with a reference of so many zero bytes, where they are more than none.
-fn record(alloc: Global, size: usize) -> Result<PubRecord, NoMemory> {
+fn record(alloc: Global, size: usize) -> Result<PublicationRecord, NoMemory> {
     let mut references = Vec::new(alloc);
     if size > 0 {
         references.push(Bytes::from_vec(vec![in alloc; 0; size]?))?;
     }
-    Ok(PubRecord {
+    Ok(PublicationRecord {
         time: 0,
         hash: hash(),
         references: Bodies::from_vec(references),
@@ -138,7 +139,7 @@ fn has_refusal(
 
 #[test]
 fn refuses_what_is_malformed_or_too_long(rt: HostRuntime) {
-    let fault = WithRefusal::Malformed(SigFault::Tlv(0));
+    let fault = WithRefusal::Malformed(SignatureFault::Tlv(0));
     has_refusal(&rt, rt.alloc(), &S0[..93], 0, Some(fault));
     has_refusal(&rt, rt.alloc(), &S0, 65_398, None);
     let long = WithRefusal::TooLong(65_536);

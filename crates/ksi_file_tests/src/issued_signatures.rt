@@ -3,11 +3,11 @@ ghost use Rattle.ksi_signature.specs.Above.{IsNode};
 use crate::same::same;
 use crate::signatures::S0;
 use ksi_aggchain::{Link, Sibling};
-use ksi_calchain::CalLink;
+use ksi_calchain::CalendarLink;
 use ksi_imprint::{Imprint, NoMemory};
 use ksi_signature::{
-    Above, AboveChain, AboveChains, AboveLinks, AggChain, CalChain, CalLinks, Signature, issue,
-    read,
+    Above, AboveChain, AboveChains, AboveLinks, AggregationChain, CalendarChain, CalendarLinks,
+    Signature, issue, read,
 };
 use ksi_split::Side;
 use std::alloc::Global;
@@ -26,7 +26,7 @@ fn issues_without_links(rt: HostRuntime) -> Result<(), Fail> {
     let above = Above {
         root: hash(),
         chains: AboveChains::from_vec(Vec::new(rt.alloc())),
-        calendar: CalLinks::from_vec(Vec::new(rt.alloc())),
+        calendar: CalendarLinks::from_vec(Vec::new(rt.alloc())),
     };
     let bytes = issue(rt.alloc(), 0, &hash(), &[], &above)?;
     same(&rt, "issued", bytes.as_slice(), &S0);
@@ -60,14 +60,14 @@ fn above_both(alloc: Global) -> Result<Above, NoMemory> {
     chains.push(above(alloc, link(Side::Right, 2))?)?;
     chains.push(above(alloc, link(Side::Left, 0))?)?;
     let mut calendar = Vec::new(alloc);
-    calendar.push(CalLink {
+    calendar.push(CalendarLink {
         side: Side::Right,
         sibling: hash(),
     })?;
     Ok(Above {
         root: Imprint::ZERO,
         chains: AboveChains::from_vec(chains),
-        calendar: CalLinks::from_vec(calendar),
+        calendar: CalendarLinks::from_vec(calendar),
     })
 }
 
@@ -82,7 +82,12 @@ fn issued(alloc: Global, second: u64, above: &Above) -> Option<Signature> {
 }
 
 /// Whether the chain of second 5 has this index, this input and this first link.
-fn is_chain(chain: &AggChain, index: &[u64], input: Imprint, wanted: Option<(Side, u8)>) -> bool {
+fn is_chain(
+    chain: &AggregationChain,
+    index: &[u64],
+    input: Imprint,
+    wanted: Option<(Side, u8)>,
+) -> bool {
     let first = chain.links.as_slice().first();
     chain.time == 5
         && chain.index.as_slice() == index
@@ -90,7 +95,7 @@ fn is_chain(chain: &AggChain, index: &[u64], input: Imprint, wanted: Option<(Sid
         && first.map(|link| (link.side, link.correction)) == wanted
 }
 
-fn are_three_chains(chains: &[AggChain]) -> bool {
+fn are_three_chains(chains: &[AggregationChain]) -> bool {
     match chains {
         [own, middle, top] => {
             is_chain(own, &[3, 2, 1], hash(), None)
@@ -101,7 +106,7 @@ fn are_three_chains(chains: &[AggChain]) -> bool {
     }
 }
 
-fn is_of_second_5(calendar: &CalChain) -> bool {
+fn is_of_second_5(calendar: &CalendarChain) -> bool {
     (calendar.publication, calendar.time, calendar.input) == (5, 5, Imprint::ZERO)
         && calendar.links.as_slice().len() == 1
 }

@@ -1,7 +1,7 @@
 use crate::same::same;
 use ksi_aggchain::{Link, Sibling};
 use ksi_imprint::{Bytes, NoMemory};
-use ksi_signature::{AggChain, SigFault, Signature, check, read};
+use ksi_signature::{AggregationChain, Signature, SignatureFault, check, read};
 use ksi_split::Side;
 use std::alloc::Global;
 use std::process::Abort;
@@ -37,16 +37,16 @@ fn changed(place: usize, byte: u8) -> [u8; 94] {
 
 #[test]
 fn answers_the_first_fault(rt: HostRuntime) {
-    const ROWS: [(usize, u8, SigFault); 9] = [
-        (7, 0xff, SigFault::Tlv(4)),
-        (9, 0x29, SigFault::Number(8)),
-        (9, 0x2a, SigFault::Tlv(8)),
-        (14, 0x22, SigFault::Imprint(13)),
-        (15, 0x02, SigFault::Imprint(13)),
-        (50, 0x02, SigFault::Algorithm(2)),
-        (5, 0x04, SigFault::RefusedElement(0x804, 4)),
-        (48, 0x1e, SigFault::UnknownCritical(0x1e, 48)),
-        (1, 0x01, SigFault::NotSignature(0x801)),
+    const ROWS: [(usize, u8, SignatureFault); 9] = [
+        (7, 0xff, SignatureFault::Tlv(4)),
+        (9, 0x29, SignatureFault::Number(8)),
+        (9, 0x2a, SignatureFault::Tlv(8)),
+        (14, 0x22, SignatureFault::Imprint(13)),
+        (15, 0x02, SignatureFault::Imprint(13)),
+        (50, 0x02, SignatureFault::Algorithm(2)),
+        (5, 0x04, SignatureFault::RefusedElement(0x804, 4)),
+        (48, 0x1e, SignatureFault::UnknownCritical(0x1e, 48)),
+        (1, 0x01, SignatureFault::NotSignature(0x801)),
     ];
     for (place, byte, want) in ROWS {
         same(&rt, place, check(&changed(place, byte)), Err(want));
@@ -72,7 +72,7 @@ fn has_fault(
     rt: &impl Abort,
     alloc: Global,
     body: &[u8],
-    want: Result<(), SigFault>,
+    want: Result<(), SignatureFault>,
 ) -> Result<(), NoMemory> {
     let bytes = with_link(alloc, body)?;
     same(rt, body.len(), check(bytes.as_slice()), want);
@@ -81,13 +81,19 @@ fn has_fault(
 
 #[test]
 fn links_have_one_sibling(rt: HostRuntime) -> Result<(), Fail> {
-    const ROWS: [(&[u8], Result<(), SigFault>); 6] = [
+    const ROWS: [(&[u8], Result<(), SignatureFault>); 6] = [
         (&[0x03, 0x01, 0xff], Ok(())),
-        (&[], Err(SigFault::Sibling(51))),
-        (&[0x03, 0x00], Err(SigFault::Sibling(53))),
-        (&[0x03, 0x01, 0xff, 0x04, 0x00], Err(SigFault::Sibling(56))),
-        (&[0x01, 0x00, 0x01, 0x00], Err(SigFault::Repeated(1, 55))),
-        (&[0x01, 0x02, 0x01, 0x00], Err(SigFault::Number(53))),
+        (&[], Err(SignatureFault::Sibling(51))),
+        (&[0x03, 0x00], Err(SignatureFault::Sibling(53))),
+        (
+            &[0x03, 0x01, 0xff, 0x04, 0x00],
+            Err(SignatureFault::Sibling(56)),
+        ),
+        (
+            &[0x01, 0x00, 0x01, 0x00],
+            Err(SignatureFault::Repeated(1, 55)),
+        ),
+        (&[0x01, 0x02, 0x01, 0x00], Err(SignatureFault::Number(53))),
     ];
     for (body, want) in ROWS {
         has_fault(&rt, rt.alloc(), body, want)?;
@@ -103,7 +109,7 @@ fn first_chain(signature: &Signature) -> Option<(u64, &[u64], Option<&[u8]>)> {
     }
 }
 
-fn body_of(chain: &AggChain) -> Option<&[u8]> {
+fn body_of(chain: &AggregationChain) -> Option<&[u8]> {
     match &chain.input_body {
         Some(body) => Some(body.as_slice()),
         None => None,
@@ -145,7 +151,7 @@ fn are_raw_and_metadata(links: &[Link]) -> bool {
 }
 
 /// Whether the longer index comes first.
-fn are_two_chains(chains: &[AggChain]) -> bool {
+fn are_two_chains(chains: &[AggregationChain]) -> bool {
     match chains {
         [low, high] => {
             high.index.as_slice() == [1].as_slice() && are_raw_and_metadata(low.links.as_slice())

@@ -1,7 +1,7 @@
 use crate::same::same;
 use crate::signatures::{S0, joined, two_chains, with_link};
 use ksi_imprint::{Bytes, Imprint, NoMemory};
-use ksi_signature::{AggChain, Chains, Index, Links, Signature, WriteRefusal, read, write};
+use ksi_signature::{AggregationChain, Chains, Index, Links, Signature, WriteRefusal, read, write};
 use std::alloc::Global;
 use std::process::Abort;
 use std::test::Fail;
@@ -98,7 +98,7 @@ fn writes_in_the_order_of_the_format(rt: HostRuntime) -> Result<(), Fail> {
 fn with_input(alloc: Global, size: usize) -> Result<Signature, NoMemory> {
     let mut parts = Vec::new(alloc);
     parts.push(1)?;
-    let chain = AggChain {
+    let chain = AggregationChain {
         time: 0,
         index: Index::from_vec(parts),
         input_body: Some(Bytes::from_vec(vec![in alloc; 0; size]?)),

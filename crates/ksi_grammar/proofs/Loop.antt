@@ -2,7 +2,7 @@
 use Rattle.std.proofs.Common.{◌≡◌, ℕ, List, [], ◌∷◌, replicate, true, Ok, Err, refl, sym, ap, ◌∙◌}
 use Rattle.ksi_tlv.specs.declared.element.TlvFault.{TlvFault}
 use Rattle.ksi_tlv.specs.declared.element.TlvFault.TheVariants.{Short}
-use Rattle.ksi_tlv.specs.Seen.{view_cut}
+use Rattle.ksi_tlv.specs.Views.{view_cut}
 use Rattle.ksi_tlv.specs.Walking.{PlacedTlv, Items, elements}
 use Rattle.ksi_grammar.specs.declared.fault.ElementFault.{ElementFault}
 use Rattle.ksi_grammar.specs.declared.fault.ElementFault.TheVariants as faults

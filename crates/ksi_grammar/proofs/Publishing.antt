@@ -13,7 +13,7 @@ use Rattle.ksi_grammar.specs.Table.{slot_of}
 use Rattle.ksi_grammar.specs.Reading.{container_verdict, inner_verdict}
 use Rattle.ksi_grammar.specs.Valid.{MayStandAs, MayStand}
 use Rattle.ksi_grammar.specs.Contents.{passes, time_in, imprint_in}
-use Rattle.ksi_grammar.specs.Held.{whole, first_of}
+use Rattle.ksi_grammar.specs.Inside.{whole, first_of}
 use Rattle.ksi_grammar.specs.Written.{MayBeWritten}
 use Rattle.ksi_grammar.specs.Published.{published_table, published_in, published_elements, record_table, published_or_zero, recorded_in, record_elements}
 use Rattle.ksi_grammar.proofs.Writes.{AreReadAgain, write_whole}

@@ -4,7 +4,7 @@ use Rattle.ksi_tlv.specs.Walking.{PlacedTlv, elements, items_of}
 use Rattle.ksi_grammar.specs.Table.{Table, is_table}
 use Rattle.ksi_grammar.specs.Reading.{container_verdict}
 use Rattle.ksi_grammar.specs.Valid.{IsContainer}
-use Rattle.ksi_grammar.specs.Held.{whole}
+use Rattle.ksi_grammar.specs.Inside.{whole}
 use Rattle.ksi_grammar.proofs.Ways.{container_ok}
 
 pub whole-items_of : (es : List PlacedTlv) → whole (items_of es) ≡ es

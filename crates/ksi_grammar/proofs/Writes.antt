@@ -7,7 +7,7 @@ use Rattle.ksi_tlv.specs.Writing.{texts, placed}
 use Rattle.ksi_grammar.specs.Table.{Table, is_among, count}
 use Rattle.ksi_grammar.specs.Reading.{container_verdict}
 use Rattle.ksi_grammar.specs.Valid.{MayStand}
-use Rattle.ksi_grammar.specs.Held.{whole}
+use Rattle.ksi_grammar.specs.Inside.{whole}
 use Rattle.ksi_grammar.specs.Written.{MayStandAnywhere, MayBeWritten}
 use Rattle.ksi_grammar.proofs.Ways.{container_again, within-alike, enough-alike}
 use Rattle.ksi_grammar.proofs.Wholes.{whole-items_of}

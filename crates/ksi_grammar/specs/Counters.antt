@@ -3,17 +3,17 @@ use Rattle.std.specs.Prelude.{◌≡◌, ℕ, suc, ◌+◌, min, List, [], ◌�
 use Rattle.ksi_tlv.specs.Walking.{PlacedTlv}
 use Rattle.ksi_grammar.specs.declared.fault.ElementFault.{ElementFault}
 use Rattle.ksi_grammar.specs.declared.fault.ElementFault.TheVariants as faults
-use Rattle.ksi_grammar.specs.declared.row.Row.{Row}
+use Rattle.ksi_grammar.specs.declared.rule.Rule.{Rule}
 use Rattle.ksi_grammar.specs.Table.{Verdict, Slot, Table, is_among, count}
 use Rattle.ksi_grammar.specs.Reading.{◌>>=◌, is_full, over_fault, or_lack}
 
 -- what the slots from a number on say of a kind
-abbrev pub row_from : ℕ → List Slot → ℕ → Option Row
-row_from i [] kind = None
-row_from i (slot ∷ slots) kind = if is_among kind slot.kinds then Some (record { slot = i; most = slot.most; over = slot.over }) else row_from (suc i) slots kind
+abbrev pub rule_from : ℕ → List Slot → ℕ → Option Rule
+rule_from i [] kind = None
+rule_from i (slot ∷ slots) kind = if is_among kind slot.kinds then Some (record { slot = i; most = slot.most; over = slot.over }) else rule_from (suc i) slots kind
 
-abbrev pub row_of : Table → ℕ → Option Row
-row_of t kind = row_from 0 t.slots kind
+abbrev pub rule_of : Table → ℕ → Option Rule
+rule_of t kind = rule_from 0 t.slots kind
 
 -- what is missing by the counters of the slots from a number on
 abbrev pub lack_from : ℕ → List Slot → List ℕ → ℕ → Verdict
@@ -31,17 +31,17 @@ missing_of (need ∷ needs) seen place = or_lack (Some (faults.Missing need.1)) 
 abbrev pub counted : List ℕ → ℕ → List ℕ
 counted seen slot = slice_set seen slot (min (slice_index seen slot + 1) 65535)
 
-abbrev pub row_step : Table → List ℕ → PlacedTlv → Option Row → Result (List ℕ) ElementFault
-row_step t seen at None = if at.element.non_critical then Ok seen else Err (faults.UnknownCritical at.element.kind at.place)
-row_step t seen at (Some row) =
-    if is_full row.most (slice_index seen row.slot) then Err (over_fault row.over at.element.kind at.place)
-    else t.content at >>= λ _. Ok (counted seen row.slot)
+abbrev pub rule_step : Table → List ℕ → PlacedTlv → Option Rule → Result (List ℕ) ElementFault
+rule_step t seen at None = if at.element.non_critical then Ok seen else Err (faults.UnknownCritical at.element.kind at.place)
+rule_step t seen at (Some rule) =
+    if is_full rule.most (slice_index seen rule.slot) then Err (over_fault rule.over at.element.kind at.place)
+    else t.content at >>= λ _. Ok (counted seen rule.slot)
 
 -- the counters behind an element, or what is wrong with it
 unfoldable pub step : Table → List ℕ → PlacedTlv → Result (List ℕ) ElementFault
 step t seen at =
     if is_among at.element.kind t.refused then Err (faults.RefusedElement at.element.kind at.place)
-    else row_step t seen at (row_of t at.element.kind)
+    else rule_step t seen at (rule_of t at.element.kind)
 
 abbrev pub IsStep : Table → List ℕ → PlacedTlv → List ℕ → Verdict → Type 0
 IsStep t old at new (Ok u) = step t old at ≡ Ok new

@@ -6,7 +6,7 @@ pub mod Contents
 pub mod Reading
 pub mod Valid
 pub mod Faults
-pub mod Held
+pub mod Inside
 pub mod Written
 pub mod Published
 pub mod Counters

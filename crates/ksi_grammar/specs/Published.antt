@@ -8,7 +8,7 @@ use Rattle.ksi_tlv.specs.Writing.{texts}
 use Rattle.ksi_grammar.specs.Table.{Verdict, Table, exactly_once, any_number}
 use Rattle.ksi_grammar.specs.Reading.{inner_verdict}
 use Rattle.ksi_grammar.specs.Contents.{passes, time_in, imprint_in}
-use Rattle.ksi_grammar.specs.Held.{inner_elements, first_of}
+use Rattle.ksi_grammar.specs.Inside.{inner_elements, first_of}
 
 abbrev pub published_content : PlacedTlv → Verdict
 published_content at = if at.element.kind == 2 then passes (time_in at) else passes (imprint_in at)

@@ -3,8 +3,8 @@ use Rattle.std.specs.Prelude.{ℕ, ◌==◌, nat_le, Bool, false, List, [], ◌�
 use Rattle.ksi_tlv.specs.Walking.{PlacedTlv, Items, elements}
 use Rattle.ksi_grammar.specs.declared.fault.ElementFault.{ElementFault}
 use Rattle.ksi_grammar.specs.declared.fault.ElementFault.TheVariants as faults
-use Rattle.ksi_grammar.specs.declared.row.Over.{Over}
-use Rattle.ksi_grammar.specs.declared.row.Over.TheVariants as overs
+use Rattle.ksi_grammar.specs.declared.rule.Over.{Over}
+use Rattle.ksi_grammar.specs.declared.rule.Over.TheVariants as overs
 use Rattle.ksi_grammar.specs.Table.{Verdict, Slot, Table, is_among, slot_of, count}
 
 -- the next, where nothing is wrong so far

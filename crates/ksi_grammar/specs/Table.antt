@@ -3,8 +3,8 @@ use Rattle.std.specs.Prelude.{ℕ, ◌+◌, ◌==◌, ◌||◌, ◌&&◌, not, n
 use Rattle.ksi_tlv.specs.Walking.{PlacedTlv}
 use Rattle.ksi_grammar.specs.declared.fault.ElementFault.{ElementFault}
 use Rattle.ksi_grammar.specs.declared.fault.ElementFault.TheVariants as faults
-use Rattle.ksi_grammar.specs.declared.row.Over.{Over}
-use Rattle.ksi_grammar.specs.declared.row.Over.TheVariants as overs
+use Rattle.ksi_grammar.specs.declared.rule.Over.{Over}
+use Rattle.ksi_grammar.specs.declared.rule.Over.TheVariants as overs
 
 -- nothing is wrong, or this is
 abbrev pub Verdict : Type 0

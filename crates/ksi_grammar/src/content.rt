@@ -1,5 +1,5 @@
 ghost use Rattle.std.specs.Prelude.{◌≡◌};
-ghost use Rattle.ksi_tlv.specs.Seen.{view_placed};
+ghost use Rattle.ksi_tlv.specs.Views.{view_placed};
 ghost use Rattle.ksi_grammar.specs.Contents.{number_in, time_in, level_in, algorithm_in, imprint_in, raw_in};
 
 use crate::fault::ElementFault;

@@ -1,14 +1,14 @@
 ghost use Rattle.std.specs.Prelude.{◌≡◌, Ok, IfSome, option_map};
-ghost use Rattle.ksi_tlv.specs.Seen.{view_placed};
+ghost use Rattle.ksi_tlv.specs.Views.{view_placed};
 ghost use Rattle.ksi_grammar.specs.Reading.{inner_verdict};
 ghost use Rattle.ksi_grammar.specs.Valid.{MayStand};
-ghost use Rattle.ksi_grammar.specs.Held.{inner_elements, first_of};
+ghost use Rattle.ksi_grammar.specs.Inside.{inner_elements, first_of};
 
 use crate::grammar::Grammar;
 use ksi_tlv::{Elements, Placed};
 
 /// The first element of a kind in a container that was accepted.
-pub fn held<'a, G: Grammar>(at: &Placed<'a>, kind: u16) -> Option<Placed<'a>>
+pub fn first_inside<'a, G: Grammar>(at: &Placed<'a>, kind: u16) -> Option<Placed<'a>>
     requires { inner_verdict G.table (view_placed at.now) ≡ Ok tt }
     ensures value { option_map view_placed result ≡ first_of kind (inner_elements (view_placed at.now)) }
     ensures may_stand { IfSome result (λ part. MayStand G.table (view_placed part)) }

@@ -1,10 +1,10 @@
 ghost use Rattle.std.specs.Prelude.{◌≡◌, ◌<◌, true, All, IfSome};
-ghost use Rattle.ksi_tlv.specs.Seen.{view_placed};
+ghost use Rattle.ksi_tlv.specs.Views.{view_placed};
 ghost use Rattle.ksi_grammar.specs.Table.{Table, is_among, is_table};
-ghost use Rattle.ksi_grammar.specs.Counters.{row_of, lack_of, missing_of};
+ghost use Rattle.ksi_grammar.specs.Counters.{rule_of, lack_of, missing_of};
 
 use crate::fault::ElementFault;
-use crate::row::{Row, Seen};
+use crate::rule::{Rule, Seen};
 use ksi_tlv::Placed;
 
 /// The table of one container.
@@ -12,9 +12,9 @@ pub trait Grammar {
     ghost table: { Table };
 
     /// What the table says of a kind, or nothing of an unknown one.
-    fn row(kind: u16) -> Option<Row>
-        ensures value { result ≡ row_of table kind }
-        ensures in_range { IfSome result (λ row. row.slot < 8) };
+    fn rule(kind: u16) -> Option<Rule>
+        ensures value { result ≡ rule_of table kind }
+        ensures in_range { IfSome result (λ rule. rule.slot < 8) };
 
     /// Whether the kind is refused by name.
     fn is_refused(kind: u16) -> bool

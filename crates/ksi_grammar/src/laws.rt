@@ -11,7 +11,7 @@ ghost use Rattle.ksi_grammar.specs.Table.{Table, is_table};
 ghost use Rattle.ksi_grammar.specs.Reading.{container_verdict, inner_verdict};
 ghost use Rattle.ksi_grammar.specs.Valid.{IsContainer, IsWhole, IsFirstFault};
 ghost use Rattle.ksi_grammar.specs.Faults.{PassesFaults};
-ghost use Rattle.ksi_grammar.specs.Held.{whole, inner_elements};
+ghost use Rattle.ksi_grammar.specs.Inside.{whole, inner_elements};
 ghost use Rattle.ksi_grammar.specs.Written.{MayBeWritten};
 ghost use Rattle.ksi_grammar.specs.Published.{published_table, published_in, published_elements, record_table, recorded_in, record_elements};
 
@@ -37,7 +37,7 @@ pub fn faults_by_table()
 {}
 
 /// A container that was accepted is one of the elements that are found in it.
-pub fn held_is_whole()
+pub fn inside_is_whole()
     ensures { (t : Table) (place inside : ℕ) (body : List ℕ) → is_table t ≡ true →
         container_verdict t place inside body ≡ Ok tt → IsContainer t inside body (whole (elements inside body)) }
 {}

@@ -7,9 +7,9 @@
 //! are written. Only what is written takes memory.
 //!
 //! ```text
-//! impl Grammar for RecordContent { .. } // rows, refused kinds, contents, what is missing at the end
+//! impl Grammar for RecordContent { .. } // rules, refused kinds, contents, what is missing at the end
 //! check::<RecordContent>(at.place, at.inside, at.element.body)?;
-//! if let Some(data) = held::<RecordContent>(&at, 0x10) {
+//! if let Some(data) = first_inside::<RecordContent>(&at, 0x10) {
 //!     let (time, hash) = published(&data);
 //! }
 //! ```
@@ -23,18 +23,18 @@ mod laws;
 mod publication;
 mod reader;
 mod record;
-mod row;
+mod rule;
 
 pub use content::{algorithm, imprint, level, number, raw, time};
 pub use fault::ElementFault;
-pub use finder::held;
+pub use finder::first_inside;
 pub use grammar::{Grammar, missing};
 pub use ksi_imprint::NoMemory;
 pub use laws::{
-    faults_by_table, held_is_whole, published_is_read, record_is_read, whole_or_fault,
+    faults_by_table, inside_is_whole, published_is_read, record_is_read, whole_or_fault,
     written_is_whole,
 };
 pub use publication::{PublishedContent, published, put_short, written_published};
 pub use reader::check;
 pub use record::{RecordContent, recorded, written_record};
-pub use row::{Over, Row, Seen};
+pub use rule::{Over, Rule, Seen};

@@ -1,5 +1,5 @@
 ghost use Rattle.std.specs.Prelude.{◌≡◌, ◌≤◌, ◌++◌, Ok, IfOk, OnOk, OnErr, refl, length};
-ghost use Rattle.ksi_tlv.specs.Seen.{view_placed};
+ghost use Rattle.ksi_tlv.specs.Views.{view_placed};
 ghost use Rattle.ksi_tlv.specs.Spelling.{plain, canonical};
 ghost use Rattle.ksi_tlv.specs.Writing.{texts};
 ghost use Rattle.ksi_tlv.specs.Numerals.{number_of};
@@ -10,9 +10,9 @@ ghost use Rattle.ksi_grammar.specs.Published.{published_table, published_in, pub
 use crate::NoMemory;
 use crate::content::{imprint, time};
 use crate::fault::ElementFault;
-use crate::finder::held;
+use crate::finder::first_inside;
 use crate::grammar::{Grammar, missing};
-use crate::row::{Row, Seen};
+use crate::rule::{Rule, Seen};
 use ksi_imprint::{Bytes, Imprint};
 use ksi_tlv::{Placed, PutRefusal, Writer, numeral_is_read};
 use std::alloc::Global;
@@ -28,10 +28,10 @@ pub struct PublishedContent;
 impl Grammar for PublishedContent {
     ghost table = { published_table };
 
-    fn row(kind: u16) -> Option<Row> {
+    fn rule(kind: u16) -> Option<Rule> {
         match kind {
-            TIME => Some(Row::once(0)),
-            HASH => Some(Row::once(1)),
+            TIME => Some(Rule::once(0)),
+            HASH => Some(Rule::once(1)),
             _ => None,
         }
     }
@@ -60,11 +60,11 @@ pub fn published(at: &Placed<'_>) -> (u64, Imprint)
     requires { inner_verdict published_table (view_placed at.now) ≡ Ok tt }
     ensures { result ≡ published_in (view_placed at.now) }
 {
-    let time = match held::<PublishedContent>(at, TIME) {
+    let time = match first_inside::<PublishedContent>(at, TIME) {
         Some(part) => time_of(&part),
         None => 0,
     };
-    let hash = match held::<PublishedContent>(at, HASH) {
+    let hash = match first_inside::<PublishedContent>(at, HASH) {
         Some(part) => hash_of(&part),
         None => Imprint::ZERO,
     };

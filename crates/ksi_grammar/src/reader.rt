@@ -1,12 +1,12 @@
 ghost use Rattle.std.specs.Prelude.{◌≡◌, ◌+◌, ◌^◌, ◌<◌, ◌↔◌, length, Err, IsOk};
-ghost use Rattle.ksi_tlv.specs.Seen.{view_placed};
+ghost use Rattle.ksi_tlv.specs.Views.{view_placed};
 ghost use Rattle.ksi_grammar.specs.Reading.{container_verdict, is_full, over_fault};
 ghost use Rattle.ksi_grammar.specs.Valid.{IsWhole, IsFirstFault};
 ghost use Rattle.ksi_grammar.specs.Counters.{IsStep};
 
 use crate::fault::ElementFault;
 use crate::grammar::Grammar;
-use crate::row::{Over, Row, Seen};
+use crate::rule::{Over, Rule, Seen};
 use ksi_tlv::{Elements, Placed};
 
 /// Reads the body of a container that stands at a place, the body's first byte inside: nothing where it may stand
@@ -44,25 +44,25 @@ fn count<G: Grammar>(seen: &mut Seen, at: &Placed<'_>) -> Result<(), ElementFaul
     if G::is_refused(kind) {
         return Err(ElementFault::RefusedElement(kind, at.place));
     }
-    let Some(row) = G::row(kind) else {
+    let Some(rule) = G::rule(kind) else {
         return if at.element.non_critical {
             Ok(())
         } else {
             Err(ElementFault::UnknownCritical(kind, at.place))
         };
     };
-    if is_full(&row, seen[row.slot]) {
-        return Err(too_many(row.over, kind, at.place));
+    if is_full(&rule, seen[rule.slot]) {
+        return Err(too_many(rule.over, kind, at.place));
     }
     G::content(at)?;
-    seen[row.slot] = seen[row.slot].saturating_add(1);
+    seen[rule.slot] = seen[rule.slot].saturating_add(1);
     Ok(())
 }
 
-fn is_full(row: &Row, count: u16) -> bool
-    ensures { result ≡ is_full row.now.most count }
+fn is_full(rule: &Rule, count: u16) -> bool
+    ensures { result ≡ is_full rule.now.most count }
 {
-    match row.most {
+    match rule.most {
         Some(most) => count >= most,
         None => false,
     }

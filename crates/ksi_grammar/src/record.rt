@@ -1,5 +1,5 @@
 ghost use Rattle.std.specs.Prelude.{◌≡◌, ◌≤◌, ◌+◌, ◌∷◌, [], Ok, IfOk, refl, length};
-ghost use Rattle.ksi_tlv.specs.Seen.{view_placed};
+ghost use Rattle.ksi_tlv.specs.Views.{view_placed};
 ghost use Rattle.ksi_tlv.specs.Spelling.{plain};
 ghost use Rattle.ksi_tlv.specs.Writing.{texts};
 ghost use Rattle.ksi_grammar.specs.Reading.{inner_verdict};
@@ -7,11 +7,11 @@ ghost use Rattle.ksi_grammar.specs.Published.{record_table, recorded_in, record_
 
 use crate::NoMemory;
 use crate::fault::ElementFault;
-use crate::finder::held;
+use crate::finder::first_inside;
 use crate::grammar::{Grammar, missing};
 use crate::publication::{PublishedContent, published, put_short, written_published};
 use crate::reader::check;
-use crate::row::{Row, Seen};
+use crate::rule::{Rule, Seen};
 use ksi_imprint::{Bytes, Imprint};
 use ksi_tlv::{Placed, Writer};
 use std::alloc::Global;
@@ -29,11 +29,11 @@ pub struct RecordContent;
 impl Grammar for RecordContent {
     ghost table = { record_table };
 
-    fn row(kind: u16) -> Option<Row> {
+    fn rule(kind: u16) -> Option<Rule> {
         match kind {
-            PUBLISHED => Some(Row::once(0)),
-            REFERENCE => Some(Row::any(1)),
-            REPOSITORY => Some(Row::any(2)),
+            PUBLISHED => Some(Rule::once(0)),
+            REFERENCE => Some(Rule::any(1)),
+            REPOSITORY => Some(Rule::any(2)),
             _ => None,
         }
     }
@@ -62,7 +62,7 @@ pub fn recorded(at: &Placed<'_>) -> (u64, Imprint)
     requires { inner_verdict record_table (view_placed at.now) ≡ Ok tt }
     ensures { result ≡ recorded_in (view_placed at.now) }
 {
-    match held::<RecordContent>(at, PUBLISHED) {
+    match first_inside::<RecordContent>(at, PUBLISHED) {
         Some(data) => published(&data),
         None => (0, Imprint::ZERO),
     }

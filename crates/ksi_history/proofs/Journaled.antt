@@ -3,7 +3,7 @@ use Rattle.std.proofs.Common.{◌≡◌, ◌≢◌, ℕ, zero, suc, ◌+◌, ◌
 use Rattle.std.specs.Prelude.{option_map}
 use Rattle.std.proofs.lemmas.Bool.{cases_eq, eq-eqb, ne_eqb, leb-true, leb-false}
 use Rattle.ksi_journal.specs.declared.second.Second.{Second}
-use Rattle.ksi_journal.specs.Journal.{contents, kept_among, root_of, root_at}
+use Rattle.ksi_journal.specs.Journal.{contents, kept_among, root_kept, root_at}
 use Rattle.ksi_schedule.specs.Plans.{PlanState, InRange}
 use Rattle.ksi_world.specs.Histories.{WorldState}
 use Rattle.ksi_world.specs.Records as records
@@ -24,18 +24,18 @@ module _ (image : List ℕ → List ℕ) (plan : PlanState) (w : WorldState) whe
   from s n = map second_of (records.kept_among (kept_at image plan w) s n)
 
   abbrev Is : (o : Option (List ℕ)) → (s n t : ℕ) → Type 0
-  Is o s n t = root_of (kept_among (map second_of (records.kept_before (option_map (λ root. kept_with s root (kept_items image plan w s root)) o) (records.kept_among (kept_at image plan w) (suc s) n))) t) ≡ kept_root plan w t
+  Is o s n t = root_kept (kept_among (map second_of (records.kept_before (option_map (λ root. kept_with s root (kept_items image plan w s root)) o) (records.kept_among (kept_at image plan w) (suc s) n))) t) ≡ kept_root plan w t
 
-  before : (s n t : ℕ) → t < s → root_of (kept_among (from s n) t) ≡ None
+  before : (s n t : ℕ) → t < s → root_kept (kept_among (from s n) t) ≡ None
   before s zero t lt = refl
   before s (suc n) t lt = by (kept_root plan w s) (before (suc s) n t (omega (arith, lt)))
     where
-      by : (o : Option (List ℕ)) → root_of (kept_among (from (suc s) n) t) ≡ None
-          → root_of (kept_among (map second_of (records.kept_before (option_map (λ root. kept_with s root (kept_items image plan w s root)) o) (records.kept_among (kept_at image plan w) (suc s) n))) t) ≡ None
+      by : (o : Option (List ℕ)) → root_kept (kept_among (from (suc s) n) t) ≡ None
+          → root_kept (kept_among (map second_of (records.kept_before (option_map (λ root. kept_with s root (kept_items image plan w s root)) o) (records.kept_among (kept_at image plan w) (suc s) n))) t) ≡ None
       by None rest = rest
-      by (Some root) rest = ap (λ (b : Bool). root_of (cond b (Some (second_of (kept_with s root (kept_items image plan w s root)))) (kept_among (from (suc s) n) t))) (ne_eqb s t (λ same. absurd (omega (arith, same, lt)))) ∙ rest
+      by (Some root) rest = ap (λ (b : Bool). root_kept (cond b (Some (second_of (kept_with s root (kept_items image plan w s root)))) (kept_among (from (suc s) n) t))) (ne_eqb s t (λ same. absurd (omega (arith, same, lt)))) ∙ rest
 
-  within : (s n t : ℕ) → s ≤ t → t < s + n → root_of (kept_among (from s n) t) ≡ kept_root plan w t
+  within : (s n t : ℕ) → s ≤ t → t < s + n → root_kept (kept_among (from s n) t) ≡ kept_root plan w t
   within s zero t le lt = absurd (omega (arith, le, lt))
   within s (suc n) t le lt = elim (cases_eq s t) [
     | inl same ↦ here (kept_root plan w s) same (ap (kept_root plan w) same)
@@ -45,21 +45,21 @@ module _ (image : List ℕ → List ℕ) (plan : PlanState) (w : WorldState) whe
       here : (o : Option (List ℕ)) → s ≡ t → o ≡ kept_root plan w t → Is o s n t
       here None same is = before (suc s) n t (omega (arith, same)) ∙ is
       here (Some root) same is =
-          ap (λ (b : Bool). root_of (cond b (Some (second_of (kept_with s root (kept_items image plan w s root)))) (kept_among (from (suc s) n) t))) (eq-eqb s t same) ∙ is
+          ap (λ (b : Bool). root_kept (cond b (Some (second_of (kept_with s root (kept_items image plan w s root)))) (kept_among (from (suc s) n) t))) (eq-eqb s t same) ∙ is
 
-      there : (o : Option (List ℕ)) → s ≢ t → root_of (kept_among (from (suc s) n) t) ≡ kept_root plan w t → Is o s n t
+      there : (o : Option (List ℕ)) → s ≢ t → root_kept (kept_among (from (suc s) n) t) ≡ kept_root plan w t → Is o s n t
       there None ne rest = rest
       there (Some root) ne rest =
-          ap (λ (b : Bool). root_of (cond b (Some (second_of (kept_with s root (kept_items image plan w s root)))) (kept_among (from (suc s) n) t))) (ne_eqb s t ne) ∙ rest
+          ap (λ (b : Bool). root_kept (cond b (Some (second_of (kept_with s root (kept_items image plan w s root)))) (kept_among (from (suc s) n) t))) (ne_eqb s t ne) ∙ rest
 
-  behind : (s n t : ℕ) → s + n ≤ t → root_of (kept_among (from s n) t) ≡ None
+  behind : (s n t : ℕ) → s + n ≤ t → root_kept (kept_among (from s n) t) ≡ None
   behind s zero t le = refl
   behind s (suc n) t le = by (kept_root plan w s) (behind (suc s) n t (omega (arith, le)))
     where
-      by : (o : Option (List ℕ)) → root_of (kept_among (from (suc s) n) t) ≡ None
-          → root_of (kept_among (map second_of (records.kept_before (option_map (λ root. kept_with s root (kept_items image plan w s root)) o) (records.kept_among (kept_at image plan w) (suc s) n))) t) ≡ None
+      by : (o : Option (List ℕ)) → root_kept (kept_among (from (suc s) n) t) ≡ None
+          → root_kept (kept_among (map second_of (records.kept_before (option_map (λ root. kept_with s root (kept_items image plan w s root)) o) (records.kept_among (kept_at image plan w) (suc s) n))) t) ≡ None
       by None rest = rest
-      by (Some root) rest = ap (λ (b : Bool). root_of (cond b (Some (second_of (kept_with s root (kept_items image plan w s root)))) (kept_among (from (suc s) n) t))) (ne_eqb s t (λ same. absurd (omega (arith, same, le)))) ∙ rest
+      by (Some root) rest = ap (λ (b : Bool). root_kept (cond b (Some (second_of (kept_with s root (kept_items image plan w s root)))) (kept_among (from (suc s) n) t))) (ne_eqb s t (λ same. absurd (omega (arith, same, le)))) ∙ rest
 
   module _ (range : (t : ℕ) (root : List ℕ) → kept_root plan w t ≡ Some root → InRange plan t) where
     outside : (t : ℕ) → (InRange plan t → ⊥) → kept_root plan w t ≡ None
@@ -69,7 +69,7 @@ module _ (image : List ℕ → List ℕ) (plan : PlanState) (w : WorldState) whe
         by None is = refl
         by (Some root) is = absurd (out (range t root is))
 
-    all_roots : (n t : ℕ) → (InRange plan t → (plan.start ≤ t) × (t < plan.start + n)) → ((plan.start ≤ t) × (t < plan.start + n) → InRange plan t) → root_of (kept_among (from plan.start n) t) ≡ kept_root plan w t
+    all_roots : (n t : ℕ) → (InRange plan t → (plan.start ≤ t) × (t < plan.start + n)) → ((plan.start ≤ t) × (t < plan.start + n) → InRange plan t) → root_kept (kept_among (from plan.start n) t) ≡ kept_root plan w t
     all_roots n t one other = elim (le_cases plan.start t) [
       | inr early ↦ before plan.start n t early ∙ sym (outside t (λ r. let both = one r in omega (arith, both.0, early)))
       | inl late ↦ elim (le_cases (plan.start + n) t) [

@@ -1,11 +1,11 @@
--- Issued signatures are taken on and accepted.
+-- Issued signatures are extended and accepted.
 use Rattle.std.proofs.Common.{◌≡◌, ℕ, ◌+◌, ◌^◌, ◌<◌, ◌≤◌, Bool, true, false, List, ◌∷◌, length, refl, sym, ap, subst, ◌∙◌, arith, is_some, Some, nat_lt, nat_le}
 use Rattle.std.specs.Prelude.{◌↔◌, ◌&&◌, Ok, IsTrue, slice_get}
 use Rattle.std.proofs.lemmas.Bool.{ltb-true}
 use Rattle.ksi_imprint.specs.Imprints.{IsImprint}
 use Rattle.ksi_split.specs.declared.tree_link.TreeLink.{TreeLink}
 use Rattle.ksi_split.specs.Trees.{climb_links}
-use Rattle.ksi_calchain.specs.Climbing.{ClimbsCal, cal_join}
+use Rattle.ksi_calchain.specs.Climbing.{ClimbsCalendar, calendar_join}
 use Rattle.ksi_tlv.specs.Spelling.{AreBytes}
 use Rattle.ksi_aggchain.specs.declared.item.Item.{Item}
 use Rattle.ksi_aggchain.specs.declared.link.Link.{Link}
@@ -20,12 +20,12 @@ use Rattle.ksi_signature.specs.Written.{signature_text}
 use Rattle.ksi_verifier.specs.declared.aggregated.Aggregated.{Aggregated}
 use Rattle.ksi_verifier.specs.declared.verdict.Verdict.TheVariants.{Accepted}
 use Rattle.ksi_verifier.specs.ChainChecks.{aggregated}
-use Rattle.ksi_verifier.specs.Verdict.{root_of, verdict}
+use Rattle.ksi_verifier.specs.Verdict.{chain_root, verdict}
 use Rattle.ksi_journal.specs.Journal.{Contents}
 use Rattle.ksi_journal.specs.Calendar.{calendar_of, leaf_at}
 use Rattle.ksi_journal.specs.Calendar as calendars
 use Rattle.ksi_extender.specs.Extended.{chain_to, record_to, extended}
-use Rattle.ksi_extender.specs.Accepted.{first_time, first_input, taken_on, AcceptedBy, LeadsToKept}
+use Rattle.ksi_extender.specs.Accepted.{first_time, first_input, extended_signature, AcceptedBy, LeadsToKept}
 use Rattle.ksi_auditor.specs.Audit.{audit}
 use Rattle.ksi_auditor.specs.Shown.{IsDecided, Shows, Tells}
 use Rattle.ksi_schedule.specs.Plans.{PlanState}
@@ -58,11 +58,11 @@ pub record Laws (image : List ℕ → List ℕ) (journal : Contents) : Type 0 wh
   pub before : (p : ℕ) → calendars.IsCovered journal p → p < journal.start + length (calendar_of journal).roots
   pub early : journal.start + length (calendar_of journal).roots ≤ 2 ^ 63
   pub leaves : (t : ℕ) → t < journal.start + length (calendar_of journal).roots → calendar_leaf (calendar_of journal) t ≡ leaf_at journal t
-  pub climbs : (t p : ℕ) → t ≤ p → ClimbsCal image (calendar_leaf (calendar_of journal) t) (calendar_path image (calendar_of journal) t p) (calendar_root image (calendar_of journal) p)
-  pub value : (start top : List ℕ) (links : List (TreeLink (List ℕ))) → ClimbsCal image start links top ↔ (top ≡ climb_links (cal_join image) start links)
+  pub climbs : (t p : ℕ) → t ≤ p → ClimbsCalendar image (calendar_leaf (calendar_of journal) t) (calendar_path image (calendar_of journal) t p) (calendar_root image (calendar_of journal) p)
+  pub value : (start top : List ℕ) (links : List (TreeLink (List ℕ))) → ClimbsCalendar image start links top ↔ (top ≡ climb_links (calendar_join image) start links)
   pub extends : (bytes : List ℕ) (signature : Signature) (chains : Aggregated) (p : ℕ) → AreBytes bytes → LeadsToKept image journal bytes signature chains p → extended image journal bytes p ≡ Ok (extended_text bytes (chain_to image journal chains.time p) (record_to image journal p))
   pub accepts : (bytes text : List ℕ) (signature : Signature) (p : ℕ) → AreBytes bytes → IsSignature bytes signature → extended image journal bytes p ≡ Ok text → (publications : List (ℕ × List ℕ)) → AcceptedBy image journal signature p publications
-  pub again : (bytes text : List ℕ) (signature : Signature) (p : ℕ) → p < 2 ^ 63 → AreBytes bytes → IsSignature bytes signature → extended image journal bytes p ≡ Ok text → IsSignature text (taken_on image journal signature p)
+  pub again : (bytes text : List ℕ) (signature : Signature) (p : ℕ) → p < 2 ^ 63 → AreBytes bytes → IsSignature bytes signature → extended image journal bytes p ≡ Ok text → IsSignature text (extended_signature image journal signature p)
   pub tells : (signature : Signature) (hash : List ℕ) (publications : List (ℕ × List ℕ)) (t : ℕ) → verdict image signature hash publications ≡ Accepted t → IsDecided image journal signature → Tells (audit image journal signature hash publications)
   pub shows : (signature : Signature) (hash : List ℕ) (publications : List (ℕ × List ℕ)) → IsImprint hash → Shows image journal signature hash (audit image journal signature hash publications)
 
@@ -80,14 +80,14 @@ module _ (plan : PlanState) (w : WorldState) (journal : Contents) (keeps : Keeps
 
   module _ (image : List ℕ → List ℕ) (laws : Laws image journal) where
     -- the calendar chain leads to the root
-    chain_leads : (t p : ℕ) → t ≤ p → calendars.IsCovered journal p → root_of image (chain_to image journal t p) ≡ calendars.kept_root image journal p
+    chain_leads : (t p : ℕ) → t ≤ p → calendars.IsCovered journal p → chain_root image (chain_to image journal t p) ≡ calendars.kept_root image journal p
     chain_leads t p to covered =
         let leaf = laws.leaves t (omega (arith, laws.before p covered, to)) in
         sym ((laws.value (leaf_at journal t) (calendars.kept_root image journal p) (calendar_path image (calendar_of journal) t p)).0
-        (subst (λ (leaf : List ℕ). ClimbsCal image leaf (calendar_path image (calendar_of journal) t p) (calendars.kept_root image journal p)) leaf (laws.climbs t p to)))
+        (subst (λ (leaf : List ℕ). ClimbsCalendar image leaf (calendar_path image (calendar_of journal) t p) (calendars.kept_root image journal p)) leaf (laws.climbs t p to)))
 
-    -- so what is taken on is decided
-    is_decided : (signature : Signature) (p : ℕ) → first_time signature ≤ p → calendars.IsCovered journal p → IsDecided image journal (taken_on image journal signature p)
+    -- so what is extended is decided
+    is_decided : (signature : Signature) (p : ℕ) → first_time signature ≤ p → calendars.IsCovered journal p → IsDecided image journal (extended_signature image journal signature p)
     is_decided signature p to covered = record {
       calendar = chain_to image journal (first_time signature) p;
       has_calendar = refl;
@@ -120,8 +120,8 @@ module _ (plan : PlanState) (w : WorldState) (journal : Contents) (keeps : Keeps
           let e = laws.extends text signature chains p are l in
           let first = first_is joined.asked.second joined.asked.imprint joined.links joined.above in
           let new = extended_text text (chain_to image journal joined.asked.second p) (record_to image journal p) in
-          let accepted : (publications : List (ℕ × List ℕ)) → Publish image journal p publications → verdict image (taken_on image journal signature p) joined.asked.imprint publications ≡ Accepted joined.asked.second = λ publications found.
-          ap (λ (hash : List ℕ). verdict image (taken_on image journal signature p) hash publications) (sym first.0)
+          let accepted : (publications : List (ℕ × List ℕ)) → Publish image journal p publications → verdict image (extended_signature image journal signature p) joined.asked.imprint publications ≡ Accepted joined.asked.second = λ publications found.
+          ap (λ (hash : List ℕ). verdict image (extended_signature image journal signature p) hash publications) (sym first.0)
           ∙ laws.accepts text new signature p are l.whole e publications found
           ∙ ap (λ (t : ℕ). Accepted t) first.1 in
           record {
@@ -132,9 +132,9 @@ module _ (plan : PlanState) (w : WorldState) (journal : Contents) (keeps : Keeps
             after = laws.again text new signature p (omega (arith, laws.before p l.covered, laws.early)) are l.whole e;
             accepted = accepted;
             audited = λ publications found.
-                laws.tells (taken_on image journal signature p) joined.asked.imprint publications joined.asked.second (accepted publications found)
+                laws.tells (extended_signature image journal signature p) joined.asked.imprint publications joined.asked.second (accepted publications found)
                 (is_decided signature p (subst (λ (t : ℕ). t ≤ p) (sym first.1) to) l.covered);
-            shown = λ publications. laws.shows (taken_on image journal signature p) joined.asked.imprint publications may.imprint;
+            shown = λ publications. laws.shows (extended_signature image journal signature p) joined.asked.imprint publications may.imprint;
           }
 
       -- of the request of this number

@@ -8,7 +8,7 @@ use Rattle.ksi_verifier.specs.Verdict.{verdict}
 use Rattle.ksi_journal.specs.Journal.{Contents, root_at}
 use Rattle.ksi_journal.specs.Calendar as calendars
 use Rattle.ksi_extender.specs.Extended.{extended}
-use Rattle.ksi_extender.specs.Accepted.{taken_on}
+use Rattle.ksi_extender.specs.Accepted.{extended_signature}
 use Rattle.ksi_auditor.specs.Audit.{audit}
 use Rattle.ksi_auditor.specs.Shown.{Shows, Tells}
 use Rattle.ksi_schedule.specs.Plans.{PlanState}
@@ -25,16 +25,16 @@ pub record KeepsRoots (plan : PlanState) (w : WorldState) (journal : Contents) :
 abbrev pub Publish : (List ℕ → List ℕ) → Contents → (p : ℕ) → List (ℕ × List ℕ) → Type 0
 Publish image journal p publications = find p publications ≡ Some (calendars.kept_root image journal p)
 
--- The text is a signature and is taken on to p. Against all publications that publish p so, it is then accepted, at the
+-- The text is a signature and is extended to p. Against all publications that publish p so, it is then accepted, at the
 -- second of the request and for its imprint, and an audit says where that imprint stands, or has a clash.
 pub record LastsTo (image : List ℕ → List ℕ) (journal : Contents) (asked : Asked) (text : List ℕ) (p : ℕ) : Type 0 where
   pub signature : Signature
   pub before : IsSignature text signature
   pub bytes : List ℕ
   pub extension : extended image journal text p ≡ Ok bytes
-  pub after : IsSignature bytes (taken_on image journal signature p)
+  pub after : IsSignature bytes (extended_signature image journal signature p)
   pub accepted : (publications : List (ℕ × List ℕ)) → Publish image journal p publications
-      → verdict image (taken_on image journal signature p) asked.imprint publications ≡ Accepted asked.second
+      → verdict image (extended_signature image journal signature p) asked.imprint publications ≡ Accepted asked.second
   pub audited : (publications : List (ℕ × List ℕ)) → Publish image journal p publications
-      → Tells (audit image journal (taken_on image journal signature p) asked.imprint publications)
-  pub shown : (publications : List (ℕ × List ℕ)) → Shows image journal (taken_on image journal signature p) asked.imprint (audit image journal (taken_on image journal signature p) asked.imprint publications)
+      → Tells (audit image journal (extended_signature image journal signature p) asked.imprint publications)
+  pub shown : (publications : List (ℕ × List ℕ)) → Shows image journal (extended_signature image journal signature p) asked.imprint (audit image journal (extended_signature image journal signature p) asked.imprint publications)

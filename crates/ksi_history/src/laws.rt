@@ -48,7 +48,7 @@ pub fn issued_is_aggregated()
     aggregation();
 }
 
-/// After every history, each issued signature is taken on to any covered second from its own on, and is then accepted;
+/// After every history, each issued signature is extended to any covered second from its own on, and is then accepted;
 /// and an audit of it says where the request's imprint stands, or has a clash: over any journal that keeps what the cores
 /// keep, where the signature is bytes; so over the history's own, where what is hashed are imprints, of bytes.
 pub fn issued_lasts()
@@ -149,7 +149,7 @@ pub fn history_is_joined()
     published_is_kept();
 }
 
-/// Whatever an issued signature is taken on to, over the history's own journal, are bytes.
+/// Whatever an issued signature is extended to, over the history's own journal, are bytes.
 pub fn extensions_are_bytes()
     ensures own { (image : List ℕ → List ℕ) (history : History) →
         ((bytes : List ℕ) → IsImprint (image bytes)) → ((bytes : List ℕ) → AreBytes (image bytes)) → IsHistory history →

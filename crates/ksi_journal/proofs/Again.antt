@@ -21,7 +21,7 @@ use Rattle.ksi_order.specs.Values.{number_at, time_at, imprint_at}
 use Rattle.ksi_journal.specs.declared.second.Second.{Second}
 use Rattle.ksi_journal.specs.declared.second.Stage.TheVariants as stages
 use Rattle.ksi_journal.specs.Journal.{Contents, RiseFrom, IsItem, IsRootOf, IsSecond, IsIssued, IsPublication, IsJournal}
-use Rattle.ksi_journal.specs.Elements.{Loaded, started, start_at, counts, closed, opened, said_at, second_at, item_in, with_item, item_at, signature_at, with_issued, issued_at, published_at, with_publication, publication_at, end_at, element_read, journal_order, nothing_yet, is_end, kinds_next}
+use Rattle.ksi_journal.specs.Elements.{Loaded, started, start_at, counts, closed, opened, said_at, read_second, item_in, with_item, item_at, signature_at, with_issued, issued_at, published_at, with_publication, publication_at, end_at, element_read, journal_order, nothing_yet, is_end, kinds_next}
 use Rattle.ksi_journal.specs.File.{IsJournalFile}
 use Rattle.ksi_journal.specs.Written.{head_elements, second_element, item_element, kept_elements, seconds_elements, pair_elements, issued_element, publication_element, journal_elements, journal_text}
 
@@ -229,7 +229,7 @@ module _ (laws : Written) where
 
     second_step : (s : Loaded) (kept : Second) → s.stage ≡ stages.Seconds → IsSecond image kept → s.least_second ≤ kept.second
         → Step s (second_element kept) (opened s (record kept { items = [] }) (length kept.items))
-    unfolding element_read second_at
+    unfolding element_read read_second
     second_step s kept at is rises = record {
       more = rw at refl;
       may = rw at refl;

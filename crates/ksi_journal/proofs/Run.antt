@@ -7,7 +7,7 @@ use Rattle.std.proofs.lemmas.Bool.{leb-true, leb-false, ltb-true, ltb-false, eqb
 use Rattle.ksi_imprint.specs.Imprints.{zero_imprint}
 use Rattle.ksi_calendar.specs.Calendar.{is_covered, calendar_leaf}
 use Rattle.ksi_journal.specs.declared.second.Second.{Second}
-use Rattle.ksi_journal.specs.Journal.{Contents, RiseFrom, IsSecond, IsJournal, kept_among, root_of, root_at}
+use Rattle.ksi_journal.specs.Journal.{Contents, RiseFrom, IsSecond, IsJournal, kept_among, root_kept, root_at}
 use Rattle.ksi_journal.specs.Kept.{at_place, place_of, view_kept}
 use Rattle.ksi_journal.specs.Calendar.{leaf_at, IsCovered, IsFirstMissing, roots_from, calendar_of, first_missing}
 
@@ -15,7 +15,7 @@ abbrev times : List Second → List ℕ
 times seconds = map (λ (kept : Second). kept.second) seconds
 
 abbrev root_among : List Second → ℕ → Option (List ℕ)
-root_among seconds t = root_of (kept_among seconds t)
+root_among seconds t = root_kept (kept_among seconds t)
 
 abbrev nothing : Option Second
 nothing = None

@@ -25,7 +25,7 @@ use Rattle.ksi_journal.specs.declared.second.Stage.{Stage}
 use Rattle.ksi_journal.specs.declared.second.Stage.TheVariants as stages
 use Rattle.ksi_journal.specs.declared.fault.JournalFault.{JournalFault}
 use Rattle.ksi_journal.specs.Journal.{RiseFrom, IsItem, IsRootOf, IsSecond, IsIssued, IsPublication, IsJournal}
-use Rattle.ksi_journal.specs.Elements.{Loaded, kinds_next, or_named, rises, started, start_at, counts, closed, opened, said_at, second_at, item_of, item_in, with_item, finished, item_at, short_at, signature_at, with_issued, issued_at, published_at, with_publication, publication_at, end_at, element_read, journal_order, nothing_yet}
+use Rattle.ksi_journal.specs.Elements.{Loaded, kinds_next, or_named, rises, started, start_at, counts, closed, opened, said_at, read_second, item_of, item_in, with_item, finished, item_at, short_at, signature_at, with_issued, issued_at, published_at, with_publication, publication_at, end_at, element_read, journal_order, nothing_yet}
 
 -- ---- rising
 
@@ -261,8 +261,8 @@ module _ (image : List ℕ → List ℕ) where
       let b = both_true (leb 1 n) (leb n 65536) counts in
       open_second s u t root n (eqb n 0) refl sound le early imprint (λ same. absurd (let yes = (bytes_eq-Decides root zero_imprint).1 same in cc)) (leb-true 1 n b.0) (leb-true n 65536 b.1) e
 
-  second_sound : (s u : Loaded) (at : PlacedTlv) → Bounded → IsSound image s → second_at s at ≡ Ok u → IsSound image u
-  unfolding second_at
+  second_sound : (s u : Loaded) (at : PlacedTlv) → Bounded → IsSound image s → read_second s at ≡ Ok u → IsSound image u
+  unfolding read_second
   second_sound s u at bounded sound e =
       let said = bind_ok (or_named (said_at s.least_second at)) _ u e in
       let is = said_ok bounded s.least_second at said.0 (or_named_ok (said_at s.least_second at) said.0 said.1) in

@@ -11,7 +11,7 @@ use Rattle.ksi_order.specs.Values.{time_at}
 use Rattle.ksi_journal.specs.declared.second.Second.{Second}
 use Rattle.ksi_journal.specs.declared.fault.JournalFault.{JournalFault}
 use Rattle.ksi_journal.specs.declared.fault.JournalFault.TheVariants as faults
-use Rattle.ksi_journal.specs.Elements.{Loaded, named, or_named, kinds_next, is_end, started, start_at, counts, opened, counted, said_at, second_at, item_in, with_item, closed, finished, added, item_at, signature_at, with_issued, issued_at, published_at, with_publication, publication_at, end_at, element_read, journal_order}
+use Rattle.ksi_journal.specs.Elements.{Loaded, named, or_named, kinds_next, is_end, started, start_at, counts, opened, counted, said_at, read_second, item_in, with_item, closed, finished, added, item_at, signature_at, with_issued, issued_at, published_at, with_publication, publication_at, end_at, element_read, journal_order}
 
 -- an answer that does not say that memory is wanting
 abbrev Other : {A : Type 0} → Result A JournalFault → Type 0
@@ -56,8 +56,8 @@ module _ (image : List ℕ → List ℕ) (s : Loaded) (at : PlacedTlv) where
   unfolding start_at
   start_other = bind_other (or_named (time_at at)) (λ t. Ok (started s t)) (or_named_other (time_at at)) (λ t. ok_other (started s t))
 
-  second_other : Other (second_at s at)
-  unfolding second_at
+  second_other : Other (read_second s at)
+  unfolding read_second
   second_other = bind_other (or_named (said_at s.least_second at)) (λ said. counted s said.0 said.1 said.2) (or_named_other (said_at s.least_second at))
       (λ said. cond_other (counts said.1 said.2) (Ok (opened s (record { second = said.0; root = said.1; items = [] }) said.2)) (Err (faults.Count said.0)) (ok_other _) (count_other said.0 _ refl))
 
@@ -83,7 +83,7 @@ module _ (image : List ℕ → List ℕ) (s : Loaded) (at : PlacedTlv) where
 
   read_other : Other (element_read image s at)
   unfolding element_read
-  read_other = cond_other (eqb at.element.kind 1) (start_at s at) _ start_other (cond_other (eqb at.element.kind 2) (second_at s at) _ second_other
+  read_other = cond_other (eqb at.element.kind 1) (start_at s at) _ start_other (cond_other (eqb at.element.kind 2) (read_second s at) _ second_other
       (cond_other (eqb at.element.kind 3) (item_at image s at) _ item_other (cond_other (eqb at.element.kind 4) (issued_at s at) _ issued_other
       (cond_other (eqb at.element.kind 5) (publication_at s at) (end_at s at) publication_other end_other))))
 

@@ -102,8 +102,8 @@ said_at least at =
     field 3 two.1 >>= λ three. number_at three.0 >>= λ n.
     done three.1 >>= λ _. Ok (t, root, n)
 
-unfoldable pub second_at : Loaded → PlacedTlv → Result Loaded JournalFault
-second_at s at = or_named (said_at s.least_second at) >>= λ said. counted s said.0 said.1 said.2
+unfoldable pub read_second : Loaded → PlacedTlv → Result Loaded JournalFault
+read_second s at = or_named (said_at s.least_second at) >>= λ said. counted s said.0 said.1 said.2
 
 -- ---- 3: an item: 34 bytes, an imprint and a level of at most 239
 
@@ -181,7 +181,7 @@ end_at s at = if length at.element.body == 0 then Ok (record s { stage = End }) 
 unfoldable pub element_read : (List ℕ → List ℕ) → Loaded → PlacedTlv → Result Loaded JournalFault
 element_read image s at =
     if at.element.kind == 1 then start_at s at
-    else if at.element.kind == 2 then second_at s at
+    else if at.element.kind == 2 then read_second s at
     else if at.element.kind == 3 then item_at image s at
     else if at.element.kind == 4 then issued_at s at
     else if at.element.kind == 5 then publication_at s at

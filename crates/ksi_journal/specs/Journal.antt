@@ -67,13 +67,13 @@ abbrev pub kept_among : List Second → ℕ → Option Second
 kept_among [] t = None
 kept_among (kept ∷ others) t = if kept.second == t then Some kept else kept_among others t
 
-abbrev pub root_of : Option Second → Option (List ℕ)
-root_of None = None
-root_of (Some kept) = Some kept.root
+abbrev pub root_kept : Option Second → Option (List ℕ)
+root_kept None = None
+root_kept (Some kept) = Some kept.root
 
 -- the root of a second, where it is kept
 unfoldable pub root_at : Contents → ℕ → Option (List ℕ)
-root_at journal t = root_of (kept_among journal.seconds t)
+root_at journal t = root_kept (kept_among journal.seconds t)
 
 abbrev pub items_of : Option Second → List Item
 items_of None = []

@@ -1,6 +1,6 @@
 //! What single elements say, by the elements inside them.
 ghost use Rattle.std.specs.Prelude.{◌≡◌, ◌<◌, ◌≤◌, ◌^◌, IfOk, length, Ok, Err, Result, ℕ, List};
-ghost use Rattle.ksi_tlv.specs.Seen.{view_placed};
+ghost use Rattle.ksi_tlv.specs.Views.{view_placed};
 ghost use Rattle.ksi_journal.specs.Elements.{item_in, said_at, signature_at, published_at, short_at, rises};
 ghost use Rattle.ksi_journal.specs.Kept.{view_signature};
 

@@ -1,6 +1,6 @@
 ghost use Rattle.std.specs.Prelude.{◌≡◌};
 ghost use Rattle.std.specs.Str.{bytes_eq};
-ghost use Rattle.ksi_tlv.specs.Seen.{view_placed};
+ghost use Rattle.ksi_tlv.specs.Views.{view_placed};
 ghost use Rattle.ksi_journal.specs.Elements.{named, counts};
 
 use crate::fault::JournalFault;
@@ -84,11 +84,11 @@ impl<C: Compress> Model for Loading<C> {
 impl<C: Compress> Loading<C> {
     ghost use Rattle.std.specs.Prelude.{◌≡◌, ◌≢◌, ◌+◌, ◌<◌, ◌≤◌, ◌^◌, length, Ok, Err, IsOk, ℕ};
     ghost use Rattle.std.specs.List.{AllByRecursion};
-    ghost use Rattle.ksi_tlv.specs.Seen.{view_placed};
+    ghost use Rattle.ksi_tlv.specs.Views.{view_placed};
     ghost use Rattle.ksi_tlv.specs.Spelling.{AreBytes};
     ghost use Rattle.ksi_order.specs.Order.{Steps};
     ghost use Rattle.ksi_order.specs.declared.fault.Stop.TheVariants as stops;
-    ghost use Rattle.ksi_journal.specs.Elements.{nothing_yet, start_at, second_at, counted, closed, finished, with_item, item_at, issued_at, publication_at, end_at};
+    ghost use Rattle.ksi_journal.specs.Elements.{nothing_yet, start_at, read_second, counted, closed, finished, with_item, item_at, issued_at, publication_at, end_at};
     ghost use Rattle.ksi_journal.specs.Kept.{parts_of};
 
     pub(crate) fn new(alloc: Global) -> Self
@@ -158,10 +158,10 @@ impl<C: Compress> Loading<C> {
         }
     }
 
-    #[tactic(auto, unfolding(crate::specs::Elements::second_at))]
+    #[tactic(auto, unfolding(crate::specs::Elements::read_second))]
     fn second(&mut self, at: &Placed<'_>) -> Result<(), Stop<JournalFault>>
-        ensures read { Steps (second_at self.old (view_placed at.now)) self.new result }
-        ensures wanting { result ≡ Err stops.NoMemory → IsOk (second_at self.old (view_placed at.now)) }
+        ensures read { Steps (read_second self.old (view_placed at.now)) self.new result }
+        ensures wanting { result ≡ Err stops.NoMemory → IsOk (read_second self.old (view_placed at.now)) }
     {
         match read_second(at, self.least_second) {
             Ok((second, root, count)) => self.open(second, root, count),

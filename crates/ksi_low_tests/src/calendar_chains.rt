@@ -1,13 +1,13 @@
 use crate::same::same;
-use ksi_calchain::{CalLink, climb_cal, second};
+use ksi_calchain::{CalendarLink, climb_calendar, second};
 use ksi_imprint::{Compress, Imprint, NoMemory, Sha, Tiny};
 use ksi_split::Side::{Left, Right};
 use ksi_split::{ShapeFault, Side};
 use std::alloc::Global;
 use std::test::Fail;
 
-fn link(side: Side, sibling: Imprint) -> CalLink {
-    CalLink { side, sibling }
+fn link(side: Side, sibling: Imprint) -> CalendarLink {
+    CalendarLink { side, sibling }
 }
 
 /// What links on these sides from the bottom name, where the last second is no more than it may be.
@@ -53,9 +53,9 @@ fn links_lead_to_the_joins_by_hand(rt: HostRuntime) {
     let first = Sha::join(start.bytes(), abc.bytes(), 0xff);
     let top = Sha::join(Imprint::ZERO.bytes(), first.bytes(), 0xff);
     // the first bytes of two zero imprints, which are 1, and the level
-    let sum = climb_cal::<Tiny>(Imprint::ZERO, &[link(Right, Imprint::ZERO)]);
+    let sum = climb_calendar::<Tiny>(Imprint::ZERO, &[link(Right, Imprint::ZERO)]);
     let links = [link(Left, abc), link(Right, Imprint::ZERO)];
-    same(&rt, "two", climb_cal::<Sha>(start, &links), top);
-    same(&rt, "none", climb_cal::<Sha>(start, &[]), start);
+    same(&rt, "two", climb_calendar::<Sha>(start, &links), top);
+    same(&rt, "none", climb_calendar::<Sha>(start, &[]), start);
     same(&rt, "sum", sum, Tiny::of(&[1]));
 }

@@ -1,7 +1,7 @@
 ghost use Rattle.std.specs.Prelude.{◌≡◌, ◌≤◌, ◌<◌, ◌+◌, ◌^◌, length, IfOk};
 
 use crate::same::same;
-use ksi_calchain::CalLink;
+use ksi_calchain::CalendarLink;
 use ksi_calendar::{Calendar, SecondPath, Steps};
 use ksi_imprint::{Imprint, NoMemory, Tiny};
 use ksi_split::Side;
@@ -19,8 +19,8 @@ fn named(first: u8) -> Imprint {
     Imprint::of_digest(&digest)
 }
 
-fn link(side: Side, first: u8) -> CalLink {
-    CalLink {
+fn link(side: Side, first: u8) -> CalendarLink {
+    CalendarLink {
         side,
         sibling: named(first),
     }
@@ -54,7 +54,7 @@ fn chain(
     calendar: &Calendar<Tiny>,
     t: u64,
     p: u64,
-    want: &[CalLink],
+    want: &[CalendarLink],
 ) -> Result<(), NoMemory>
     requires within { t ≤ p }
     requires covered { p < calendar.now.start + length calendar.now.roots }
@@ -127,7 +127,7 @@ fn zeros_stand_before_the_start(rt: HostRuntime) -> Result<(), Fail> {
     Ok(())
 }
 
-fn zeros_below(rt: &impl Abort, links: &[CalLink]) {
+fn zeros_below(rt: &impl Abort, links: &[CalendarLink]) {
     same(rt, "length", links.len(), 13);
     // 256 zero leaves have the root whose digest begins with 2 ^ 8 - 1
     same(rt, "lowest", links.first(), Some(&link(Right, 0xff)));

@@ -1,6 +1,6 @@
 use crate::same::same;
 use ksi_imprint::{Bytes, Compress, Imprint, NoMemory, Sha};
-use ksi_publications::{PubFault, Publications, read, write};
+use ksi_publications::{Publications, PublicationsFault, read, write};
 use std::alloc::Global;
 use std::process::Abort;
 use std::test::Fail;
@@ -15,7 +15,7 @@ fn file(alloc: Global, behind: &[&[u8]]) -> Result<Bytes, NoMemory> {
 }
 
 /// The only pair of a file, nothing where it has not one.
-fn listed(alloc: Global, bytes: &[u8]) -> Result<Option<(u64, Imprint)>, PubFault> {
+fn listed(alloc: Global, bytes: &[u8]) -> Result<Option<(u64, Imprint)>, PublicationsFault> {
     match read(alloc, bytes) {
         Ok(publications) => match publications.pairs() {
             [pair] => Ok(Some(*pair)),
@@ -29,7 +29,7 @@ fn lists(
     rt: &impl Abort,
     alloc: Global,
     behind: &[&[u8]],
-    want: Result<Option<(u64, Imprint)>, PubFault>,
+    want: Result<Option<(u64, Imprint)>, PublicationsFault>,
 ) -> Result<(), NoMemory> {
     let text = file(alloc, behind)?;
     same(rt, behind.len(), listed(alloc, text.as_slice()), want);
@@ -61,7 +61,7 @@ fn reads_one_record_and_nothing_behind_it(rt: HostRuntime) -> Result<(), Fail> {
         &[&FRONT, hash.bytes()],
         Ok(Some((0, hash))),
     )?;
-    let refused = PubFault::RefusedElement(1796, 60);
+    let refused = PublicationsFault::RefusedElement(1796, 60);
     let behind: [&[u8]; 3] = [&FRONT, hash.bytes(), &[0x87, 0x04, 0x00, 0x00]];
     lists(&rt, rt.alloc(), &behind, Err(refused))?;
     Ok(())
@@ -73,55 +73,61 @@ fn the_magic_comes_first(rt: HostRuntime) {
         &rt,
         "magic",
         listed(rt.alloc(), b"KSIPUBL"),
-        Err(PubFault::Magic),
+        Err(PublicationsFault::Magic),
     );
 }
 
 /// Worked out by hand: what stands behind the magic.
 #[test]
 fn answers_the_first_fault(rt: HostRuntime) -> Result<(), Fail> {
-    const ROWS: [(&[u8], PubFault); 13] = [
-        (&[], PubFault::Missing(1793, 0)),
-        (&[0x87], PubFault::Tlv(8)),
-        (&[0x87, 0x01, 0x00, 0x05, 0x01], PubFault::Tlv(8)),
-        (&[0x87, 0x02, 0x00, 0x00], PubFault::RefusedElement(1794, 8)),
+    const ROWS: [(&[u8], PublicationsFault); 13] = [
+        (&[], PublicationsFault::Missing(1793, 0)),
+        (&[0x87], PublicationsFault::Tlv(8)),
+        (&[0x87, 0x01, 0x00, 0x05, 0x01], PublicationsFault::Tlv(8)),
+        (
+            &[0x87, 0x02, 0x00, 0x00],
+            PublicationsFault::RefusedElement(1794, 8),
+        ),
         (
             &[0x87, 0x05, 0x00, 0x00],
-            PubFault::UnknownCritical(1797, 8),
+            PublicationsFault::UnknownCritical(1797, 8),
         ),
-        (&[0xc7, 0x05, 0x00, 0x00], PubFault::Missing(1793, 0)),
+        (
+            &[0xc7, 0x05, 0x00, 0x00],
+            PublicationsFault::Missing(1793, 0),
+        ),
         (
             &[0x87, 0x01, 0x00, 0x03, 0x01, 0x01, 0x01],
-            PubFault::Missing(2, 8),
+            PublicationsFault::Missing(2, 8),
         ),
         (
             &[
                 0x87, 0x01, 0x00, 0x04, 0x01, 0x00, 0x02, 0x00, 0x87, 0x01, 0x00, 0x00,
             ],
-            PubFault::Repeated(1793, 16),
+            PublicationsFault::Repeated(1793, 16),
         ),
         (
             &[
                 0x87, 0x01, 0x00, 0x0b, 0x01, 0x09, 0, 0, 0, 0, 0, 0, 0, 0, 0,
             ],
-            PubFault::Number(12),
+            PublicationsFault::Number(12),
         ),
         (
             &[
                 0x87, 0x01, 0x00, 0x0c, 0x01, 0x00, 0x02, 0x08, 0x80, 0, 0, 0, 0, 0, 0, 0,
             ],
-            PubFault::Time(14),
+            PublicationsFault::Time(14),
         ),
-        (&[0x87, 0x03, 0x00, 0x00], PubFault::Missing(16, 8)),
+        (&[0x87, 0x03, 0x00, 0x00], PublicationsFault::Missing(16, 8)),
         (
             &[0x87, 0x03, 0x00, 0x04, 0x10, 0x02, 0x02, 0x00],
-            PubFault::Missing(4, 12),
+            PublicationsFault::Missing(4, 12),
         ),
         (
             &[
                 0x87, 0x03, 0x00, 0x08, 0x10, 0x06, 0x02, 0x00, 0x04, 0x02, 0x01, 0x00,
             ],
-            PubFault::Imprint(16),
+            PublicationsFault::Imprint(16),
         ),
     ];
     for (behind, want) in ROWS {

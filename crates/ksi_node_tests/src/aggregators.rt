@@ -5,7 +5,8 @@ use ksi_aggchain::Item;
 use ksi_aggregator::{Aggregator, NoMemory, Send, Step};
 use ksi_imprint::{Compress, Imprint, Sha};
 use ksi_signature::{
-    Above, AboveChain, AboveChains, AboveLinks, AggChain, Answer, CalLinks, Signature, read,
+    Above, AboveChain, AboveChains, AboveLinks, AggregationChain, Answer, CalendarLinks, Signature,
+    read,
 };
 use ksi_split::Side;
 use std::alloc::Global;
@@ -136,7 +137,7 @@ fn response_of(alloc: Global, input: Imprint) -> Result<Above, NoMemory>
     Ok(Above {
         root: input,
         chains: AboveChains::from_vec(chains),
-        calendar: CalLinks::from_vec(Vec::new(alloc)),
+        calendar: CalendarLinks::from_vec(Vec::new(alloc)),
     })
 }
 
@@ -213,7 +214,7 @@ fn issued(alloc: Global, aggregator: &Aggregator<Sha>, number: u64) -> Option<Si
 }
 
 /// Whether a chain of the second has this index, this input and so many links.
-fn is_chain(chain: &AggChain, index: &[u64], input: Imprint, links: usize) -> bool {
+fn is_chain(chain: &AggregationChain, index: &[u64], input: Imprint, links: usize) -> bool {
     chain.time == T
         && chain.index.as_slice() == index
         && chain.input == input
@@ -221,7 +222,7 @@ fn is_chain(chain: &AggChain, index: &[u64], input: Imprint, links: usize) -> bo
 }
 
 /// Whether the first link of a chain is on this side of this sibling, and goes up one level.
-fn begins(chain: &AggChain, side: Side, sibling: Imprint) -> bool {
+fn begins(chain: &AggregationChain, side: Side, sibling: Imprint) -> bool {
     match chain.links.as_slice() {
         [link, ..] => {
             link.side == side
@@ -233,16 +234,22 @@ fn begins(chain: &AggChain, side: Side, sibling: Imprint) -> bool {
 }
 
 /// The chain of that round, from this index and input, with one link.
-fn is_of_round(chain: &AggChain, index: &[u64], input: &[u8], side: Side, sibling: &[u8]) -> bool {
+fn is_of_round(
+    chain: &AggregationChain,
+    index: &[u64],
+    input: &[u8],
+    side: Side,
+    sibling: &[u8],
+) -> bool {
     is_chain(chain, index, Sha::of(input), 1) && begins(chain, side, Sha::of(sibling))
 }
 
 /// The chain of the core, without links.
-fn is_of_core(chain: &AggChain) -> bool {
+fn is_of_core(chain: &AggregationChain) -> bool {
     is_chain(chain, &[1], root(), 0)
 }
 
-fn chains(signature: &Option<Signature>) -> &[AggChain] {
+fn chains(signature: &Option<Signature>) -> &[AggregationChain] {
     match signature {
         Some(signature) => signature.chains.as_slice(),
         None => &[],

@@ -4,7 +4,7 @@ ghost use Rattle.ksi_synod.specs.Rows.{OfBallot};
 
 use crate::same::same;
 use ksi_aggchain::Item;
-use ksi_calchain::{CalLink, climb_cal};
+use ksi_calchain::{CalendarLink, climb_calendar};
 use ksi_corenode::{Answer, Core, NoMemory, Send, Step};
 use ksi_imprint::{Compress, Imprint, Sha};
 use ksi_signature::Above;
@@ -154,18 +154,18 @@ fn zeros() -> Imprint {
     zeros
 }
 
-fn is_right(link: &CalLink) -> bool {
+fn is_right(link: &CalendarLink) -> bool {
     link.side == Side::Right
 }
 
-fn is_beside(link: Option<&CalLink>, sibling: Imprint) -> bool {
+fn is_beside(link: Option<&CalendarLink>, sibling: Imprint) -> bool {
     match link {
         Some(link) => link.sibling == sibling,
         None => false,
     }
 }
 
-fn are_first_of_a_calendar(rt: &impl Abort, links: &[CalLink]) {
+fn are_first_of_a_calendar(rt: &impl Abort, links: &[CalendarLink]) {
     same(rt, "the links", links.len(), 13);
     same(rt, "the sides", links.iter().all(is_right), true);
     let first = is_beside(links.first(), zeros());
@@ -178,7 +178,7 @@ fn climbed(rt: &impl Abort, above: &Above, input: &Imprint) -> Imprint {
     same(rt, "the chains", is_alone(above, input), true);
     let links = above.calendar.as_slice();
     are_first_of_a_calendar(rt, links);
-    climb_cal::<Sha>(above.root, links)
+    climb_calendar::<Sha>(above.root, links)
 }
 
 /// What is published where the response, which a step sends to aggregator 7 alone, climbs to it.

@@ -6,7 +6,7 @@ use crate::same::same;
 use ksi_aggchain::Item;
 use ksi_imprint::{Compress, Imprint, Sha};
 use ksi_schedule::read_schedule;
-use ksi_signature::{AggChain, read};
+use ksi_signature::{AggregationChain, read};
 use ksi_world::{Answer, Event, KeptSecond, Plan, World};
 use std::alloc::Global;
 use std::process::Abort;
@@ -189,7 +189,7 @@ fn has_indexes(alloc: Global, world: &World<Sha>, number: u64, indexes: &[&[u64]
     }
 }
 
-fn are_indexes(chains: &[AggChain], indexes: &[&[u64]]) -> bool {
+fn are_indexes(chains: &[AggregationChain], indexes: &[&[u64]]) -> bool {
     let mut same = chains.len() == indexes.len();
     for (chain, index) in chains.iter().zip(indexes.iter()) {
         same = same && chain.index.as_slice() == *index;

@@ -1,6 +1,6 @@
 -- What is left of an element, as the code has it.
 use Rattle.std.specs.Prelude.{◌≡◌, ℕ, Result, Ok, Err}
-use Rattle.ksi_tlv.specs.Seen.{view_placed, rest}
+use Rattle.ksi_tlv.specs.Views.{view_placed, rest}
 use Rattle.ksi_tlv.specs.declared.walk.Placed as code
 use Rattle.ksi_order.specs.declared.field.Fields.{Fields}
 use Rattle.ksi_order.specs.declared.fault.OrderFault.{OrderFault}

@@ -1,6 +1,6 @@
 ghost use Rattle.std.specs.Prelude.{◌≡◌, ◌+◌, ◌^◌, ◌<◌, Err, length};
 ghost use Rattle.ksi_tlv.specs.Walking.{PlacedTlv, elements};
-ghost use Rattle.ksi_tlv.specs.Seen.{view_placed, view_item};
+ghost use Rattle.ksi_tlv.specs.Views.{view_placed, view_item};
 ghost use Rattle.ksi_order.specs.declared.fault.Stop.TheVariants as stops;
 ghost use Rattle.ksi_order.specs.Sequence.{IsWanting, Tells, WantsAt};
 ghost use Rattle.ksi_order.specs.Order.{Order, may_stand, walked, one_more, Steps};

@@ -8,9 +8,9 @@ use Rattle.ksi_grammar.specs.declared.fault.ElementFault.TheVariants as faults
 use Rattle.ksi_grammar.specs.Table.{Verdict}
 use Rattle.ksi_grammar.specs.Reading.{container_verdict}
 use Rattle.ksi_grammar.specs.Valid.{IsContainer}
-use Rattle.ksi_grammar.specs.Held.{whole}
-use Rattle.ksi_publications.specs.declared.fault.PubFault.{PubFault}
-use Rattle.ksi_publications.specs.declared.fault.PubFault.TheVariants as answers
+use Rattle.ksi_grammar.specs.Inside.{whole}
+use Rattle.ksi_publications.specs.declared.fault.PublicationsFault.{PublicationsFault}
+use Rattle.ksi_publications.specs.declared.fault.PublicationsFault.TheVariants as answers
 use Rattle.ksi_publications.specs.Tables.{file_table}
 use Rattle.ksi_publications.specs.File.{magic, pairs_of, IsNamed, IsPublications, IsPublicationsFault}
 use Rattle.ksi_publications.specs.Reading.{behind, name_of, Read, read_as, read_behind, publications_at}
@@ -20,7 +20,7 @@ use Rattle.ksi_publications.proofs.Files.{Laws, whole-items_of, not_both, one_li
 abbrev given : List (ℕ × List ℕ) → Read
 given pairs = Ok pairs
 
-abbrev refused : PubFault → Read
+abbrev refused : PublicationsFault → Read
 refused fault = Err fault
 
 abbrev found : List ℕ → Option (List ℕ)
@@ -54,7 +54,7 @@ not_behind front bytes rest e begins =
 
 -- ---- the names
 
-is_name : (fault : ElementFault) (other : PubFault) → IsNamed fault other → other ≡ name_of fault
+is_name : (fault : ElementFault) (other : PublicationsFault) → IsNamed fault other → other ≡ name_of fault
 is_name (faults.Tlv place) other e = e
 is_name (faults.RefusedElement kind place) other e = e
 is_name (faults.UnknownCritical kind place) other e = e
@@ -96,12 +96,12 @@ ok_of : (laws : Laws) (bytes : List ℕ) (pairs : List (ℕ × List ℕ)) (r : R
 ok_of laws bytes pairs (Ok others) is file = ap given (one_list bytes others pairs is file)
 ok_of laws bytes pairs (Err fault) is file = absurd (not_both laws bytes pairs fault file is)
 
-err_of : (laws : Laws) (bytes : List ℕ) (fault : PubFault) (r : Read) → Is bytes r → IsPublicationsFault bytes fault → r ≡ refused fault
+err_of : (laws : Laws) (bytes : List ℕ) (fault : PublicationsFault) (r : Read) → Is bytes r → IsPublicationsFault bytes fault → r ≡ refused fault
 err_of laws bytes fault (Ok pairs) is f = absurd (not_both laws bytes pairs fault is f)
 err_of laws bytes fault (Err other) is f = ap refused (one_fault laws bytes other fault is f)
 
 pub pairs_read : (laws : Laws) → AreByTable → (bytes : List ℕ) (pairs : List (ℕ × List ℕ)) → (publications_at bytes ≡ Ok pairs) ↔ IsPublications bytes pairs
 pairs_read laws law bytes pairs = (λ e. subst (Is bytes) e (is_at laws law bytes), λ file. ok_of laws bytes pairs (publications_at bytes) (is_at laws law bytes) file)
 
-pub fault_read : (laws : Laws) → AreByTable → (bytes : List ℕ) (fault : PubFault) → (publications_at bytes ≡ Err fault) ↔ IsPublicationsFault bytes fault
+pub fault_read : (laws : Laws) → AreByTable → (bytes : List ℕ) (fault : PublicationsFault) → (publications_at bytes ≡ Err fault) ↔ IsPublicationsFault bytes fault
 fault_read laws law bytes fault = (λ e. subst (Is bytes) e (is_at laws law bytes), λ f. err_of laws bytes fault (publications_at bytes) (is_at laws law bytes) f)

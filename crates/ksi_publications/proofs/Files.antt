@@ -8,9 +8,9 @@ use Rattle.ksi_grammar.specs.declared.fault.ElementFault.{ElementFault}
 use Rattle.ksi_grammar.specs.Table.{Verdict, Table, is_table}
 use Rattle.ksi_grammar.specs.Reading.{container_verdict}
 use Rattle.ksi_grammar.specs.Valid.{IsContainer, IsWhole, IsFirstFault}
-use Rattle.ksi_grammar.specs.Held.{whole}
-use Rattle.ksi_publications.specs.declared.fault.PubFault.{PubFault}
-use Rattle.ksi_publications.specs.declared.fault.PubFault.TheVariants as answers
+use Rattle.ksi_grammar.specs.Inside.{whole}
+use Rattle.ksi_publications.specs.declared.fault.PublicationsFault.{PublicationsFault}
+use Rattle.ksi_publications.specs.declared.fault.PublicationsFault.TheVariants as answers
 use Rattle.ksi_publications.specs.Tables.{file_table}
 use Rattle.ksi_publications.specs.File.{magic, pairs_of, IsNamed, IsPublications, IsPublicationsFault}
 use Rattle.ksi_publications.proofs.Named.{AreByTable, file_named, one_name}
@@ -42,7 +42,7 @@ one_rest bytes rest other e f = append_cancel_left magic rest other (sym e ∙ f
 -- ---- one of both, and one list or fault
 
 inside_one : (laws : Laws) → AreByTable → (bytes rest : List ℕ) (v : Verdict) → bytes ≡ magic ++ rest → container_verdict file_table 0 8 rest ≡ v
-    → ((pairs : List (ℕ × List ℕ)) × IsPublications bytes pairs) ⊎ ((fault : PubFault) × IsPublicationsFault bytes fault)
+    → ((pairs : List (ℕ × List ℕ)) × IsPublications bytes pairs) ⊎ ((fault : PublicationsFault) × IsPublicationsFault bytes fault)
 inside_one laws law bytes rest (Ok u) e is =
     let c = (laws.whole file_table 0 8 rest refl).0 is in
     inl (pairs_of c.0, record { rest = rest; begins = e; elements = c.0; content = c.1; records = refl })
@@ -50,7 +50,7 @@ inside_one laws law bytes rest (Err inner) e is =
     let n = file_named law 0 8 rest inner is in
     inr (n.0, inr (record { rest = rest; begins = e; inner = inner; first = (laws.fault file_table 0 8 rest inner refl).0 is; named = n.1 }))
 
-pub one_of_both : (laws : Laws) → AreByTable → (bytes : List ℕ) → ((pairs : List (ℕ × List ℕ)) × IsPublications bytes pairs) ⊎ ((fault : PubFault) × IsPublicationsFault bytes fault)
+pub one_of_both : (laws : Laws) → AreByTable → (bytes : List ℕ) → ((pairs : List (ℕ × List ℕ)) × IsPublications bytes pairs) ⊎ ((fault : PublicationsFault) × IsPublicationsFault bytes fault)
 one_of_both laws law bytes =
     elim (begins magic bytes) [
       | inl found ↦ inside_one laws law bytes found.0 (container_verdict file_table 0 8 found.0) found.1 refl
@@ -65,7 +65,7 @@ verdict_of laws bytes rest pairs file e =
 abbrev failed : ElementFault → Verdict
 failed fault = Err fault
 
-pub not_both : (laws : Laws) (bytes : List ℕ) (pairs : List (ℕ × List ℕ)) (fault : PubFault) → IsPublications bytes pairs → IsPublicationsFault bytes fault → ⊥
+pub not_both : (laws : Laws) (bytes : List ℕ) (pairs : List (ℕ × List ℕ)) (fault : PublicationsFault) → IsPublications bytes pairs → IsPublicationsFault bytes fault → ⊥
 not_both laws bytes pairs fault file (inl other) = other.begins file.rest file.begins
 not_both laws bytes pairs fault file (inr inside) =
     let ok = verdict_of laws bytes inside.rest pairs file inside.begins in
@@ -86,7 +86,7 @@ pub one_list : (bytes : List ℕ) (some others : List (ℕ × List ℕ)) → IsP
 one_list bytes some others file other =
     file.records ∙ ap pairs_of (elements_of bytes file.rest some file file.begins ∙ sym (elements_of bytes file.rest others other file.begins)) ∙ sym other.records
 
-pub one_fault : (laws : Laws) (bytes : List ℕ) (a b : PubFault) → IsPublicationsFault bytes a → IsPublicationsFault bytes b → a ≡ b
+pub one_fault : (laws : Laws) (bytes : List ℕ) (a b : PublicationsFault) → IsPublicationsFault bytes a → IsPublicationsFault bytes b → a ≡ b
 one_fault laws bytes a b (inl x) (inl y) = x.named ∙ sym y.named
 one_fault laws bytes a b (inl x) (inr y) = absurd (x.begins y.rest y.begins)
 one_fault laws bytes a b (inr x) (inl y) = absurd (y.begins x.rest x.begins)
@@ -103,6 +103,6 @@ one_fault laws bytes a b (inr x) (inr y) =
 pub file_of : (bytes rest : List ℕ) (pairs : List (ℕ × List ℕ)) → bytes ≡ magic ++ rest → IsContainer file_table 8 rest (whole (elements 8 rest)) → pairs ≡ pairs_of (whole (elements 8 rest)) → IsPublications bytes pairs
 file_of bytes rest pairs e held is = record { rest = rest; begins = e; elements = whole (elements 8 rest); content = held; records = is }
 
-pub fault_of : (laws : Laws) (bytes rest : List ℕ) (inner : ElementFault) (fault : PubFault) → bytes ≡ magic ++ rest → container_verdict file_table 0 8 rest ≡ Err inner → IsNamed inner fault → IsPublicationsFault bytes fault
+pub fault_of : (laws : Laws) (bytes rest : List ℕ) (inner : ElementFault) (fault : PublicationsFault) → bytes ≡ magic ++ rest → container_verdict file_table 0 8 rest ≡ Err inner → IsNamed inner fault → IsPublicationsFault bytes fault
 fault_of laws bytes rest inner fault e is named =
     inr (record { rest = rest; begins = e; inner = inner; first = (laws.fault file_table 0 8 rest inner refl).0 is; named = named })

@@ -11,8 +11,8 @@ use Rattle.ksi_grammar.specs.Reading.{◌>>=◌, container_verdict, inner_verdic
 use Rattle.ksi_grammar.specs.Faults.{PassesFaults}
 use Rattle.ksi_grammar.specs.Contents.{passes, number_in, time_in, imprint_or, imprint_in}
 use Rattle.ksi_grammar.specs.Published.{published_table, record_table}
-use Rattle.ksi_publications.specs.declared.fault.PubFault.{PubFault}
-use Rattle.ksi_publications.specs.declared.fault.PubFault.TheVariants as answers
+use Rattle.ksi_publications.specs.declared.fault.PublicationsFault.{PublicationsFault}
+use Rattle.ksi_publications.specs.declared.fault.PublicationsFault.TheVariants as answers
 use Rattle.ksi_publications.specs.Tables.{header_table, file_table}
 use Rattle.ksi_publications.specs.File.{IsNamed}
 
@@ -35,7 +35,7 @@ is_named (faults.Links place) = false
 is_named (faults.Chains place) = false
 is_named (faults.Sibling place) = false
 
-pub name_of : (fault : ElementFault) → is_named fault ≡ true → (other : PubFault) × IsNamed fault other
+pub name_of : (fault : ElementFault) → is_named fault ≡ true → (other : PublicationsFault) × IsNamed fault other
 name_of (faults.Tlv place) e = (answers.Tlv place, refl)
 name_of (faults.RefusedElement kind place) e = (answers.RefusedElement kind place, refl)
 name_of (faults.UnknownCritical kind place) e = (answers.UnknownCritical kind place, refl)
@@ -49,7 +49,7 @@ name_of (faults.Links place) e = absurd cc
 name_of (faults.Chains place) e = absurd cc
 name_of (faults.Sibling place) e = absurd cc
 
-pub one_name : (fault : ElementFault) (a b : PubFault) → IsNamed fault a → IsNamed fault b → a ≡ b
+pub one_name : (fault : ElementFault) (a b : PublicationsFault) → IsNamed fault a → IsNamed fault b → a ≡ b
 one_name (faults.Tlv place) a b x y = x ∙ sym y
 one_name (faults.RefusedElement kind place) a b x y = x ∙ sym y
 one_name (faults.UnknownCritical kind place) a b x y = x ∙ sym y
@@ -165,5 +165,5 @@ file_passes law = record {
   ];
 }
 
-pub file_named : AreByTable → (place inside : ℕ) (body : List ℕ) (fault : ElementFault) → container_verdict file_table place inside body ≡ Err fault → (other : PubFault) × IsNamed fault other
+pub file_named : AreByTable → (place inside : ℕ) (body : List ℕ) (fault : ElementFault) → container_verdict file_table place inside body ≡ Err fault → (other : PublicationsFault) × IsNamed fault other
 file_named law place inside body fault e = name_of fault (law file_table is_named place inside body fault (file_passes law) e)

@@ -13,7 +13,7 @@ use Rattle.ksi_grammar.specs.Table.{Table, count, is_table}
 use Rattle.ksi_grammar.specs.Reading.{container_verdict, inner_verdict}
 use Rattle.ksi_grammar.specs.Valid.{IsContainer}
 use Rattle.ksi_grammar.specs.Contents.{time_in}
-use Rattle.ksi_grammar.specs.Held.{whole}
+use Rattle.ksi_grammar.specs.Inside.{whole}
 use Rattle.ksi_grammar.specs.Written.{MayStandAnywhere, MayBeWritten}
 use Rattle.ksi_grammar.specs.Published.{record_table, recorded_in, record_elements}
 use Rattle.ksi_publications.specs.Tables.{header_table, file_table}

@@ -8,8 +8,8 @@ use Rattle.ksi_grammar.specs.declared.fault.ElementFault.{ElementFault}
 use Rattle.ksi_grammar.specs.declared.fault.ElementFault.TheVariants as faults
 use Rattle.ksi_grammar.specs.Valid.{IsContainer, IsFirstFault}
 use Rattle.ksi_grammar.specs.Published.{recorded_in, record_elements}
-use Rattle.ksi_publications.specs.declared.fault.PubFault.{PubFault}
-use Rattle.ksi_publications.specs.declared.fault.PubFault.TheVariants as answers
+use Rattle.ksi_publications.specs.declared.fault.PublicationsFault.{PublicationsFault}
+use Rattle.ksi_publications.specs.declared.fault.PublicationsFault.TheVariants as answers
 use Rattle.ksi_publications.specs.Tables.{file_table}
 
 -- the eight bytes that a file begins with
@@ -33,7 +33,7 @@ pub record IsPublications (bytes : List ℕ) (pairs : List (ℕ × List ℕ)) : 
 -- ---- faults
 
 -- the fault of a file by that of an element; the last four are faults of signatures alone
-abbrev pub IsNamed : ElementFault → PubFault → Type 0
+abbrev pub IsNamed : ElementFault → PublicationsFault → Type 0
 IsNamed (faults.Tlv place) fault = fault ≡ answers.Tlv place
 IsNamed (faults.RefusedElement kind place) fault = fault ≡ answers.RefusedElement kind place
 IsNamed (faults.UnknownCritical kind place) fault = fault ≡ answers.UnknownCritical kind place
@@ -48,19 +48,19 @@ IsNamed (faults.Chains place) fault = ⊥
 IsNamed (faults.Sibling place) fault = ⊥
 
 -- the file begins with other bytes
-pub record IsOtherFile (bytes : List ℕ) (fault : PubFault) : Type 0 where
+pub record IsOtherFile (bytes : List ℕ) (fault : PublicationsFault) : Type 0 where
   pub begins : (rest : List ℕ) → bytes ≡ magic ++ rest → ⊥
   pub named : fault ≡ answers.Magic
 
 -- the first fault stands behind the magic; where the header is missing, its parent has place 0
-pub record IsFaultInside (bytes : List ℕ) (fault : PubFault) : Type 0 where
+pub record IsFaultInside (bytes : List ℕ) (fault : PublicationsFault) : Type 0 where
   pub rest : List ℕ
   pub begins : bytes ≡ magic ++ rest
   pub inner : ElementFault
   pub first : IsFirstFault file_table 0 8 rest inner
   pub named : IsNamed inner fault
 
-abbrev pub IsPublicationsFault : List ℕ → PubFault → Type 0
+abbrev pub IsPublicationsFault : List ℕ → PublicationsFault → Type 0
 IsPublicationsFault bytes fault = IsOtherFile bytes fault ⊎ IsFaultInside bytes fault
 
 -- ---- as it is written

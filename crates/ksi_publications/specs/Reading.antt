@@ -6,9 +6,9 @@ use Rattle.ksi_grammar.specs.declared.fault.ElementFault.{ElementFault}
 use Rattle.ksi_grammar.specs.declared.fault.ElementFault.TheVariants as faults
 use Rattle.ksi_grammar.specs.Table.{Verdict}
 use Rattle.ksi_grammar.specs.Reading.{container_verdict}
-use Rattle.ksi_grammar.specs.Held.{whole}
-use Rattle.ksi_publications.specs.declared.fault.PubFault.{PubFault}
-use Rattle.ksi_publications.specs.declared.fault.PubFault.TheVariants as answers
+use Rattle.ksi_grammar.specs.Inside.{whole}
+use Rattle.ksi_publications.specs.declared.fault.PublicationsFault.{PublicationsFault}
+use Rattle.ksi_publications.specs.declared.fault.PublicationsFault.TheVariants as answers
 use Rattle.ksi_publications.specs.Tables.{file_table}
 use Rattle.ksi_publications.specs.File.{magic, pairs_of}
 
@@ -19,7 +19,7 @@ behind (b ∷ front) [] = None
 behind (b ∷ front) (c ∷ bytes) = if b == c then behind front bytes else None
 
 -- the fault of a file by that of an element; the last four are faults of signatures alone, and do not come
-abbrev pub name_of : ElementFault → PubFault
+abbrev pub name_of : ElementFault → PublicationsFault
 name_of (faults.Tlv place) = answers.Tlv place
 name_of (faults.RefusedElement kind place) = answers.RefusedElement kind place
 name_of (faults.UnknownCritical kind place) = answers.UnknownCritical kind place
@@ -34,7 +34,7 @@ name_of (faults.Chains place) = answers.Magic
 name_of (faults.Sibling place) = answers.Magic
 
 abbrev pub Read : Type 0
-Read = Result (List (ℕ × List ℕ)) PubFault
+Read = Result (List (ℕ × List ℕ)) PublicationsFault
 
 abbrev pub read_as : List (ℕ × List ℕ) → Verdict → Read
 read_as pairs (Ok u) = Ok pairs

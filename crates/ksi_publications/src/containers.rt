@@ -1,7 +1,7 @@
 ghost use Rattle.std.specs.Prelude.{◌≡◌, refl};
 ghost use Rattle.ksi_publications.specs.Tables.{header_table, file_table};
 
-use ksi_grammar::{ElementFault, Grammar, RecordContent, Row, Seen, check, missing, number, time};
+use ksi_grammar::{ElementFault, Grammar, RecordContent, Rule, Seen, check, missing, number, time};
 use ksi_tlv::Placed;
 
 /// The bytes that a file begins with.
@@ -28,11 +28,11 @@ pub struct HeaderContent;
 impl Grammar for HeaderContent {
     ghost table = { header_table };
 
-    fn row(kind: u16) -> Option<Row> {
+    fn rule(kind: u16) -> Option<Rule> {
         match kind {
-            VERSION => Some(Row::once(0)),
-            CREATION => Some(Row::once(1)),
-            REPOSITORY => Some(Row::once(2)),
+            VERSION => Some(Rule::once(0)),
+            CREATION => Some(Rule::once(1)),
+            REPOSITORY => Some(Rule::once(2)),
             _ => None,
         }
     }
@@ -63,10 +63,10 @@ pub struct FileContent;
 impl Grammar for FileContent {
     ghost table = { file_table };
 
-    fn row(kind: u16) -> Option<Row> {
+    fn rule(kind: u16) -> Option<Rule> {
         match kind {
-            HEADER => Some(Row::once(0)),
-            RECORD => Some(Row::any(1)),
+            HEADER => Some(Rule::once(0)),
+            RECORD => Some(Rule::any(1)),
             _ => None,
         }
     }

@@ -3,7 +3,7 @@ use crate::NoMemory;
 /// Why there are no publications. A malformed file is reported by the codes Q1 to Q9 with the values of the variant. A
 /// place is the offset of an element's first byte in the file.
 #[derive(Clone, Copy, Debug, PartialEq, Eq)]
-pub enum PubFault {
+pub enum PublicationsFault {
     /// Q1: the first eight bytes are others, or fewer.
     Magic,
     /// Q2: the header or the body at this place passes the end of what holds it.
@@ -26,13 +26,13 @@ pub enum PubFault {
     NoMemory,
 }
 
-impl From<NoMemory> for PubFault {
+impl From<NoMemory> for PublicationsFault {
     ghost use Rattle.std.specs.Prelude.{◌≡◌};
-    ghost use Rattle.ksi_publications.specs.declared.fault.PubFault.TheVariants as answers;
+    ghost use Rattle.ksi_publications.specs.declared.fault.PublicationsFault.TheVariants as answers;
 
     ghost from_gives = { λ _ fault. fault ≡ answers.NoMemory };
 
     fn from(_: NoMemory) -> Self {
-        PubFault::NoMemory
+        PublicationsFault::NoMemory
     }
 }

@@ -3,24 +3,24 @@
 ghost use Rattle.std.specs.Prelude.{◌≡◌, ◌↔◌, ◌<◌, ◌^◌, ◌⊎◌, ℕ, List, Ok, Err};
 ghost use Rattle.std.specs.List.{AllByRecursion};
 ghost use Rattle.ksi_imprint.specs.Imprints.{IsImprint};
-ghost use Rattle.ksi_publications.specs.declared.fault.PubFault.{PubFault};
+ghost use Rattle.ksi_publications.specs.declared.fault.PublicationsFault.{PublicationsFault};
 ghost use Rattle.ksi_publications.specs.File.{IsPublications, IsPublicationsFault, publications_text};
 ghost use Rattle.ksi_publications.specs.Reading.{publications_at};
 
 use ksi_grammar::{
-    faults_by_table, held_is_whole, record_is_read, whole_or_fault, written_is_whole,
+    faults_by_table, inside_is_whole, record_is_read, whole_or_fault, written_is_whole,
 };
 use ksi_tlv::numeral_is_read;
 
 /// Bytes are a publications file or have a first fault, and not both; and they have one list and one first fault.
 pub fn file_or_fault()
     ensures one { (bytes : List ℕ) →
-        ((pairs : List (ℕ × List ℕ)) × IsPublications bytes pairs) ⊎ ((fault : PubFault) × IsPublicationsFault bytes fault) }
-    ensures not_both { (bytes : List ℕ) (pairs : List (ℕ × List ℕ)) (fault : PubFault) →
+        ((pairs : List (ℕ × List ℕ)) × IsPublications bytes pairs) ⊎ ((fault : PublicationsFault) × IsPublicationsFault bytes fault) }
+    ensures not_both { (bytes : List ℕ) (pairs : List (ℕ × List ℕ)) (fault : PublicationsFault) →
         IsPublications bytes pairs → IsPublicationsFault bytes fault → ⊥ }
     ensures one_list { (bytes : List ℕ) (some others : List (ℕ × List ℕ)) →
         IsPublications bytes some → IsPublications bytes others → some ≡ others }
-    ensures one_fault { (bytes : List ℕ) (fault other : PubFault) →
+    ensures one_fault { (bytes : List ℕ) (fault other : PublicationsFault) →
         IsPublicationsFault bytes fault → IsPublicationsFault bytes other → fault ≡ other }
 {
     whole_or_fault();
@@ -31,7 +31,7 @@ pub fn file_or_fault()
 pub fn publications_are_read()
     ensures pairs { (bytes : List ℕ) (pairs : List (ℕ × List ℕ)) →
         (publications_at bytes ≡ Ok pairs) ↔ IsPublications bytes pairs }
-    ensures fault { (bytes : List ℕ) (fault : PubFault) →
+    ensures fault { (bytes : List ℕ) (fault : PublicationsFault) →
         (publications_at bytes ≡ Err fault) ↔ IsPublicationsFault bytes fault }
 {
     whole_or_fault();
@@ -45,7 +45,7 @@ pub fn written_is_publications()
         IsPublications (publications_text creation pairs) pairs }
 {
     written_is_whole();
-    held_is_whole();
+    inside_is_whole();
     record_is_read();
     numeral_is_read();
 }

@@ -24,7 +24,7 @@ mod reader;
 mod writer;
 
 pub use containers::{FileContent, HeaderContent};
-pub use fault::PubFault;
+pub use fault::PublicationsFault;
 pub use ksi_imprint::NoMemory;
 pub use laws::{file_or_fault, publications_are_read, written_is_publications};
 pub use publications::Publications;

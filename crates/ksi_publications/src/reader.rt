@@ -1,41 +1,43 @@
 ghost use Rattle.std.specs.Prelude.{◌≡◌, ◌+◌, ◌^◌, ◌<◌, ◌⊎◌, ◌++◌, ℕ, List, length, None, Ok, Err, IfOk, IfErr, IfSome};
-ghost use Rattle.ksi_tlv.specs.Seen.{view_placed};
+ghost use Rattle.ksi_tlv.specs.Views.{view_placed};
 ghost use Rattle.ksi_tlv.specs.Walking.{elements};
 ghost use Rattle.ksi_grammar.specs.declared.fault.ElementFault.{ElementFault};
 ghost use Rattle.ksi_grammar.specs.Reading.{container_verdict};
 ghost use Rattle.ksi_grammar.specs.Valid.{MayStand};
-ghost use Rattle.ksi_grammar.specs.Held.{whole};
+ghost use Rattle.ksi_grammar.specs.Inside.{whole};
 ghost use Rattle.ksi_grammar.specs.Published.{recorded_in};
-ghost use Rattle.ksi_publications.specs.declared.fault.PubFault.TheVariants as answers;
+ghost use Rattle.ksi_publications.specs.declared.fault.PublicationsFault.TheVariants as answers;
 ghost use Rattle.ksi_publications.specs.Tables.{file_table};
 ghost use Rattle.ksi_publications.specs.File.{magic, pairs_of, IsNamed, IsPublications, IsPublicationsFault};
 
 use crate::NoMemory;
 use crate::containers::{FileContent, MAGIC, RECORD};
-use crate::fault::PubFault;
+use crate::fault::PublicationsFault;
 use crate::laws::file_or_fault;
 use crate::publications::Publications;
-use ksi_grammar::{ElementFault, check, faults_by_table, held_is_whole, recorded, whole_or_fault};
+use ksi_grammar::{
+    ElementFault, check, faults_by_table, inside_is_whole, recorded, whole_or_fault,
+};
 use ksi_imprint::Imprint;
 use ksi_tlv::{Elements, Placed};
 use std::alloc::Global;
 
 /// Reads a publications file. Memory is taken only where the whole file is one.
-pub fn read(alloc: Global, bytes: &[u8]) -> Result<Publications, PubFault>
+pub fn read(alloc: Global, bytes: &[u8]) -> Result<Publications, PublicationsFault>
     ensures pairs { IfOk result (λ publications. IsPublications bytes.now publications) }
-    ensures fault { (fault : PubFault) → IsPublicationsFault bytes.now fault → result ≡ Err fault }
+    ensures fault { (fault : PublicationsFault) → IsPublicationsFault bytes.now fault → result ≡ Err fault }
     ensures refused { IfErr result (λ fault. IsPublicationsFault bytes.now fault
         ⊎ ((fault ≡ answers.NoMemory) × (pairs : List (ℕ × List ℕ)) × IsPublications bytes.now pairs)) }
 {
     file_or_fault();
-    held_is_whole();
+    inside_is_whole();
     let rest = behind_magic(bytes)?;
     let pairs = pairs_in(alloc, rest)?;
     Ok(Publications::from_vec(pairs))
 }
 
 /// The bytes behind the magic, where the file has no fault.
-fn behind_magic(bytes: &[u8]) -> Result<&[u8], PubFault>
+fn behind_magic(bytes: &[u8]) -> Result<&[u8], PublicationsFault>
     ensures begins { IfOk result (λ rest. bytes.now ≡ magic ++ rest.now) }
     ensures whole { IfOk result (λ rest. container_verdict file_table 0 8 rest.now ≡ Ok tt) }
     ensures short { IfOk result (λ rest. 8 + length rest.now < 2 ^ 64) }
@@ -44,7 +46,7 @@ fn behind_magic(bytes: &[u8]) -> Result<&[u8], PubFault>
     faults_by_table();
     whole_or_fault();
     let Some(rest) = after_magic(bytes) else {
-        return Err(PubFault::Magic);
+        return Err(PublicationsFault::Magic);
     };
     match check::<FileContent>(0, MAGIC.len(), rest) {
         Ok(()) => Ok(rest),
@@ -60,19 +62,21 @@ fn after_magic(bytes: &[u8]) -> Option<&[u8]>
 }
 
 /// The fault of a file by that of its first element with one.
-fn named(fault: ElementFault) -> PubFault
-    requires { (other : PubFault) × IsNamed fault other }
+fn named(fault: ElementFault) -> PublicationsFault
+    requires { (other : PublicationsFault) × IsNamed fault other }
     ensures { IsNamed fault result }
 {
     match fault {
-        ElementFault::Tlv(place) => PubFault::Tlv(place),
-        ElementFault::RefusedElement(kind, place) => PubFault::RefusedElement(kind, place),
-        ElementFault::UnknownCritical(kind, place) => PubFault::UnknownCritical(kind, place),
-        ElementFault::Missing(kind, place) => PubFault::Missing(kind, place),
-        ElementFault::Repeated(kind, place) => PubFault::Repeated(kind, place),
-        ElementFault::Imprint(place) => PubFault::Imprint(place),
-        ElementFault::Number(place) => PubFault::Number(place),
-        ElementFault::Time(place) => PubFault::Time(place),
+        ElementFault::Tlv(place) => PublicationsFault::Tlv(place),
+        ElementFault::RefusedElement(kind, place) => PublicationsFault::RefusedElement(kind, place),
+        ElementFault::UnknownCritical(kind, place) => PublicationsFault::UnknownCritical(
+            kind, place,
+        ),
+        ElementFault::Missing(kind, place) => PublicationsFault::Missing(kind, place),
+        ElementFault::Repeated(kind, place) => PublicationsFault::Repeated(kind, place),
+        ElementFault::Imprint(place) => PublicationsFault::Imprint(place),
+        ElementFault::Number(place) => PublicationsFault::Number(place),
+        ElementFault::Time(place) => PublicationsFault::Time(place),
         ElementFault::Algorithm(_)
         | ElementFault::Links(_)
         | ElementFault::Chains(_)
@@ -86,7 +90,7 @@ fn pairs_in(alloc: Global, rest: &[u8]) -> Result<Vec<(u64, Imprint)>, NoMemory>
     requires short { 8 + length rest.now < 2 ^ 64 }
     ensures { IfOk result (λ pairs. pairs.items ≡ pairs_of (whole (elements 8 rest.now))) }
 {
-    held_is_whole();
+    inside_is_whole();
     let mut pairs = Vec::new(alloc);
     let mut elements = Elements::at(MAGIC.len(), rest);
     while let Some(item) = elements.next() {

@@ -13,7 +13,7 @@ use Rattle.ksi_schedule.specs.declared.fault.LineFault.TheVariants.{Word}
 use Rattle.ksi_schedule.specs.Pieces.{Text}
 use Rattle.ksi_schedule.specs.Plans.{PlanState, IsParent, InRange}
 use Rattle.ksi_schedule.specs.Events.{IsEvent}
-use Rattle.ksi_schedule.specs.Words.{core_at, aggregator_at, second_at, digest_at, form_at, kind_at, Kind}
+use Rattle.ksi_schedule.specs.Words.{core_at, aggregator_at, time_word, digest_at, form_at, kind_at, Kind}
 use Rattle.ksi_schedule.specs.Forms.{event_kinds, aggregator_line}
 use Rattle.ksi_schedule.specs.Printed.{event_words, actor_word, hex_of, IsTyped}
 use Rattle.ksi_schedule.proofs.Digests.{hex_digits, hex_lacks}
@@ -31,7 +31,7 @@ core_again plan j h lt = rw (number_again j (omega (arith, h.cores)), lt-ltb _ _
 aggregator_again : (plan : PlanState) (k : ℕ) → IsSmall plan → k < length plan.parents → aggregator_at plan (decimal k) ≡ Ok k
 aggregator_again plan k h lt = rw (number_again k (omega (arith, h.parents)), lt-ltb _ _ lt) refl
 
-second_again : (plan : PlanState) (t : ℕ) → IsSmall plan → InRange plan t → second_at plan (decimal t) ≡ Ok t
+second_again : (plan : PlanState) (t : ℕ) → IsSmall plan → InRange plan t → time_word plan (decimal t) ≡ Ok t
 second_again plan t h is = rw (number_again t (omega (arith, h.start, is.1)), le-leb _ _ is.0, lt-ltb _ _ is.1) refl
 
 digest_again : (imprint : List ℕ) → hex_at (hex_of imprint) ≡ Ok imprint → digest_at (hex_of imprint) ≡ Ok imprint

@@ -12,7 +12,7 @@ use Rattle.ksi_schedule.specs.Pieces.{Text, lines, words}
 use Rattle.ksi_schedule.specs.Plans.{PlanState, IsParent, InRange}
 use Rattle.ksi_schedule.specs.Events.{History, IsEvent, with_event}
 use Rattle.ksi_schedule.specs.Schedules.{IsSchedule}
-use Rattle.ksi_schedule.specs.Words.{Sort, the_word, number, core, aggregator, second, digest, core_actor, aggregator_actor, Value, Values, Form, Kind, number_at, core_at, aggregator_at, second_at, value_at, values_at, fits, form_at, kind_at, or_fault, ◌>>=◌}
+use Rattle.ksi_schedule.specs.Words.{Sort, the_word, number, core, aggregator, second, digest, core_actor, aggregator_actor, Value, Values, Form, Kind, number_at, core_at, aggregator_at, time_word, value_at, values_at, fits, form_at, kind_at, or_fault, ◌>>=◌}
 use Rattle.ksi_schedule.specs.Forms.{event_kinds, aggregator_line}
 use Rattle.ksi_schedule.specs.Lines.{Said, nothing, title, cores, history, bare, with_parent, reaches_core, is_empty, next_parent, next_in, number_in, number_behind, within, with_line}
 use Rattle.ksi_schedule.specs.Spelled.{Says, IsScheduleText}
@@ -68,7 +68,7 @@ aggregator_holds plan word k is =
     let p = picked (ltb n.0 (length plan.parents)) n.0 k NoSuchActor n.2 in
     subst (λ (k : ℕ). k < length plan.parents) p.1 (ltb-true _ _ p.0)
 
-second_holds : (plan : PlanState) (word : Text) (t : ℕ) → second_at plan word ≡ Ok t → InRange plan t
+second_holds : (plan : PlanState) (word : Text) (t : ℕ) → time_word plan word ≡ Ok t → InRange plan t
 second_holds plan word t is =
     let n = bind_ok (number_at word) (λ t. cond (leb plan.start t && ltb t (plan.start + 2 ^ 24)) (Ok t) (Err SecondOutOfRange)) t is in
     let p = picked (leb plan.start n.0 && ltb n.0 (plan.start + 2 ^ 24)) n.0 t SecondOutOfRange n.2 in

@@ -38,8 +38,8 @@ abbrev pub aggregator_at : PlanState → Text → Result ℕ LineFault
 aggregator_at plan word = number_at word >>= λ k. if nat_lt k (length plan.parents) then Ok k else Err NoSuchActor
 
 -- one of 2^24 seconds from the start on
-abbrev pub second_at : PlanState → Text → Result ℕ LineFault
-second_at plan word = number_at word >>= λ t. if nat_le plan.start t && nat_lt t (plan.start + 2 ^ 24) then Ok t else Err SecondOutOfRange
+abbrev pub time_word : PlanState → Text → Result ℕ LineFault
+time_word plan word = number_at word >>= λ t. if nat_le plan.start t && nat_lt t (plan.start + 2 ^ 24) then Ok t else Err SecondOutOfRange
 
 abbrev pub or_hash : Result (List ℕ) HexFault → Result (List ℕ) LineFault
 or_hash (Ok imprint) = Ok imprint
@@ -90,7 +90,7 @@ value_at plan (the_word text) word = Ok tt
 value_at plan number word = number_at word
 value_at plan core word = core_at plan word
 value_at plan aggregator word = aggregator_at plan word
-value_at plan second word = second_at plan word
+value_at plan second word = time_word plan word
 value_at plan digest word = digest_at word
 value_at plan core_actor word = core_at plan (behind_letter word)
 value_at plan aggregator_actor word = aggregator_at plan (behind_letter word)

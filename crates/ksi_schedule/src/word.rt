@@ -1,7 +1,7 @@
 // What a word of a line stands for.
 ghost use Rattle.std.specs.Prelude.{◌≡◌, ◌<◌, IfOk, length};
 ghost use Rattle.ksi_schedule.specs.Plans.{InRange};
-ghost use Rattle.ksi_schedule.specs.Words.{number_of, number_at, core_at, aggregator_at, second_at, digest_at, digits_after};
+ghost use Rattle.ksi_schedule.specs.Words.{number_of, number_at, core_at, aggregator_at, time_word, digest_at, digits_after};
 
 use crate::fault::LineFault;
 use crate::plan::Plan;
@@ -35,7 +35,7 @@ pub(crate) fn aggregator(plan: &Plan, word: &[u8]) -> Result<u32, LineFault>
 }
 
 pub(crate) fn second(plan: &Plan, word: &[u8]) -> Result<u64, LineFault>
-    ensures value { result ≡ second_at plan.now word.now }
+    ensures value { result ≡ time_word plan.now word.now }
     ensures there { IfOk result (λ t. InRange plan.now t) }
 {
     let n = number(word)?;

@@ -16,7 +16,7 @@ use Rattle.ksi_grammar.specs.Table.{Table, is_table}
 use Rattle.ksi_grammar.specs.Reading.{container_verdict, inner_verdict}
 use Rattle.ksi_grammar.specs.Valid.{AreWithin, AreEnough, IsContainer}
 use Rattle.ksi_grammar.specs.Contents.{number_in, time_in, level_in, algorithm_in, imprint_in, raw_in}
-use Rattle.ksi_grammar.specs.Held.{whole, first_of}
+use Rattle.ksi_grammar.specs.Inside.{whole, first_of}
 use Rattle.ksi_grammar.specs.Written.{MayStandAnywhere, MayBeWritten}
 use Rattle.ksi_grammar.specs.Published.{published_table, published_in, published_elements, record_elements, number_or_zero}
 use Rattle.ksi_signature.specs.Tables.{link_table}

@@ -13,7 +13,7 @@ use Rattle.ksi_tlv.specs.Numerals.{number_of, numeral}
 use Rattle.ksi_tlv.specs.Writing.{texts, placed}
 use Rattle.ksi_grammar.specs.Table.{is_among, count}
 use Rattle.ksi_grammar.specs.Reading.{inner_verdict}
-use Rattle.ksi_grammar.specs.Held.{first_of}
+use Rattle.ksi_grammar.specs.Inside.{first_of}
 use Rattle.ksi_grammar.specs.Written.{MayStandAnywhere, MayBeWritten}
 use Rattle.ksi_grammar.specs.Published.{number_or_zero, imprint_or_zero}
 use Rattle.ksi_signature.specs.Tables.{chain_table}

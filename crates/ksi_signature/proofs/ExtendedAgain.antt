@@ -11,7 +11,7 @@ use Rattle.ksi_tlv.specs.Writing.{written, texts}
 use Rattle.ksi_grammar.specs.Table.{Slot, slot_of, count}
 use Rattle.ksi_grammar.specs.Reading.{inner_verdict}
 use Rattle.ksi_grammar.specs.Valid.{MayStandAs, MayStand}
-use Rattle.ksi_grammar.specs.Held.{first_of}
+use Rattle.ksi_grammar.specs.Inside.{first_of}
 use Rattle.ksi_signature.specs.declared.signature.Signature.{Signature}
 use Rattle.ksi_signature.specs.Tables.{chain_table, chains, signature_table, signature_content}
 use Rattle.ksi_signature.specs.Values.{Aggregation, Calendar, Publishing}

@@ -15,7 +15,7 @@ use Rattle.ksi_aggchain.specs.Shapes.{left_powers, shape_of}
 use Rattle.ksi_tlv.specs.Numerals.{numeral}
 use Rattle.ksi_tlv.specs.Writing.{texts}
 use Rattle.ksi_signature.specs.Values.{Aggregation, HasSize, AreLinks, FallFrom}
-use Rattle.ksi_signature.specs.Kept.{IsLink, IsAggregation, IsKept}
+use Rattle.ksi_signature.specs.Kept.{IsLink, IsAggregation, IsLimited}
 use Rattle.ksi_signature.specs.Written.{chain_elements, chain_sizes, signature_elements, sizes_of, first_long}
 use Rattle.ksi_signature.specs.declared.above.AboveChain.{AboveChain}
 use Rattle.ksi_signature.specs.declared.above.Above.{Above}
@@ -108,7 +108,7 @@ all_chains input links above = own_chain input links ∷ above.chains
 are_all : (input : List ℕ) (links : List Link) (above : Above) → IsImprint input → AreRoundLinks links → AllByRecursion IsLink links → IsAbove above → AllByRecursion IsAboveChain (all_chains input links above)
 are_all input links above is limits are kept = (record { input = is; limits = limits; links = are }, kept.chains)
 
-pub issued_kept : (second : ℕ) (input : List ℕ) (links : List Link) (above : Above) → second < 2 ^ 63 → IsImprint input → AreRoundLinks links → AllByRecursion IsLink links → IsAbove above → IsKept (issued second input links above)
+pub issued_kept : (second : ℕ) (input : List ℕ) (links : List Link) (above : Above) → second < 2 ^ 63 → IsImprint input → AreRoundLinks links → AllByRecursion IsLink links → IsAbove above → IsLimited (issued second input links above)
 unfolding issued
 issued_kept second input links above lt is limits are kept = record {
   limits = record {

@@ -12,7 +12,7 @@ use Rattle.ksi_signature.specs.declared.signature.Signature.{Signature}
 use Rattle.ksi_signature.specs.declared.above.AboveChain.{AboveChain}
 use Rattle.ksi_signature.specs.declared.above.Above.{Above}
 use Rattle.ksi_signature.specs.Values.{Aggregation, Calendar, Publishing}
-use Rattle.ksi_signature.specs.Kept.{IsCalendar, IsKept}
+use Rattle.ksi_signature.specs.Kept.{IsCalendar, IsLimited}
 use Rattle.ksi_signature.specs.Carried.{IsAboveChain, MayBeIssued}
 use Rattle.ksi_signature.specs.File.{IsSignature}
 use Rattle.ksi_signature.specs.Reading.{elements_in}
@@ -57,7 +57,7 @@ module _ (fewest : Fewest) (short : (n : ℕ) → length (numeral n) ≤ 8) (sec
   unfolding signature_text
   text_small = omega (arith, content_small, length-canonical (plain 2048 (texts (signature_elements (issued second input links above)))))
 
-  pub issued_again : ((signature : Signature) → IsKept signature → first_long (sizes_of signature) ≡ None → IsSignature (signature_text signature) signature) → IsSignature (signature_text (issued second input links above)) (issued second input links above)
+  pub issued_again : ((signature : Signature) → IsLimited signature → first_long (sizes_of signature) ≡ None → IsSignature (signature_text signature) signature) → IsSignature (signature_text (issued second input links above)) (issued second input links above)
   issued_again written =
       written (issued second input links above) (issued_kept second input links above may.early may.imprint may.limits may.are may.kept)
       (issued_short fewest short second input links above may.imprint may.limits may.are may.kept (omega (arith, content_small)))

@@ -15,11 +15,11 @@ use Rattle.ksi_grammar.specs.Table.{Verdict, Table, slot_of, count, is_table}
 use Rattle.ksi_grammar.specs.Reading.{container_verdict, inner_verdict}
 use Rattle.ksi_grammar.specs.Valid.{MayStandAs, MayStand, IsContainer}
 use Rattle.ksi_grammar.specs.Contents.{time_in, raw_in}
-use Rattle.ksi_grammar.specs.Held.{whole, inner_elements, first_of}
+use Rattle.ksi_grammar.specs.Inside.{whole, inner_elements, first_of}
 use Rattle.ksi_grammar.specs.Published.{published_table, record_table, number_or_zero, published_in, published_or_zero, recorded_in}
 use Rattle.ksi_signature.specs.Tables.{link_table, chain_table, calendar_table, signature_table}
 use Rattle.ksi_signature.specs.Values.{Aggregation, HasSize, AreLinks, FallFrom, Fall, AreChains}
-use Rattle.ksi_signature.specs.Contents.{bodies_of, sibling_among, link_in, links_among, cal_links_among, chain_in, put_chain, chains_behind}
+use Rattle.ksi_signature.specs.Contents.{bodies_of, sibling_among, link_in, links_among, calendar_links_among, chain_in, put_chain, chains_behind}
 use Rattle.ksi_signature.proofs.Says.{passed, time_says}
 
 -- the law of what is held
@@ -42,14 +42,14 @@ length-links : (es : List PlacedTlv) → length (links_among es) ≡ count (7 �
 length-links [] = refl
 length-links (at ∷ es) = links_at (eqb at.element.kind 7) (eqb at.element.kind 8) at es (length-links es)
 
-cal_links_at : (b c : Bool) (link : TreeLink (List ℕ)) (es : List PlacedTlv) → length (cal_links_among es) ≡ count (7 ∷ 8 ∷ []) es → length (cond (b || c) (link ∷ cal_links_among es) (cal_links_among es)) ≡ cond (b || (c || false)) 1 0 + count (7 ∷ 8 ∷ []) es
-cal_links_at true c link es e = omega (arith, e)
-cal_links_at false true link es e = omega (arith, e)
-cal_links_at false false link es e = omega (arith, e)
+calendar_links_at : (b c : Bool) (link : TreeLink (List ℕ)) (es : List PlacedTlv) → length (calendar_links_among es) ≡ count (7 ∷ 8 ∷ []) es → length (cond (b || c) (link ∷ calendar_links_among es) (calendar_links_among es)) ≡ cond (b || (c || false)) 1 0 + count (7 ∷ 8 ∷ []) es
+calendar_links_at true c link es e = omega (arith, e)
+calendar_links_at false true link es e = omega (arith, e)
+calendar_links_at false false link es e = omega (arith, e)
 
-length-cal_links : (es : List PlacedTlv) → length (cal_links_among es) ≡ count (7 ∷ 8 ∷ []) es
-length-cal_links [] = refl
-length-cal_links (at ∷ es) = cal_links_at (eqb at.element.kind 7) (eqb at.element.kind 8) _ es (length-cal_links es)
+length-calendar_links : (es : List PlacedTlv) → length (calendar_links_among es) ≡ count (7 ∷ 8 ∷ []) es
+length-calendar_links [] = refl
+length-calendar_links (at ∷ es) = calendar_links_at (eqb at.element.kind 7) (eqb at.element.kind 8) _ es (length-calendar_links es)
 
 bodies_at : (b : Bool) (kind : ℕ) (body : List ℕ) (es : List PlacedTlv) → length (bodies_of kind es) ≡ count (kind ∷ []) es → length (cond b (body ∷ bodies_of kind es) (bodies_of kind es)) ≡ cond (b || false) 1 0 + count (kind ∷ []) es
 bodies_at true kind body es e = omega (arith, e)
@@ -61,11 +61,11 @@ length-bodies kind (at ∷ es) = bodies_at (eqb at.element.kind kind) kind at.el
 
 -- ---- links
 
-pub few_cal_links : IsHeld → (at : PlacedTlv) → inner_verdict calendar_table at ≡ Ok tt → length (cal_links_among (inner_elements at)) ≤ 63
-few_cal_links held at ok =
+pub few_calendar_links : IsHeld → (at : PlacedTlv) → inner_verdict calendar_table at ≡ Ok tt → length (calendar_links_among (inner_elements at)) ≤ 63
+few_calendar_links held at ok =
     let c = held calendar_table at.place at.inside at.element.body refl ok in
     let few : count (7 ∷ 8 ∷ []) (inner_elements at) ≤ 63 = c.within.1.1.1.0 in
-    omega (arith, few, length-cal_links (inner_elements at))
+    omega (arith, few, length-calendar_links (inner_elements at))
 
 abbrev passes_if : Bool → ElementFault → Verdict
 passes_if b fault = cond b (Ok tt) (Err fault)

@@ -24,7 +24,7 @@ use Rattle.ksi_signature.specs.Carried.{SiblingOfBytes, LinksOfBytes, ChainOfByt
 use Rattle.ksi_signature.specs.Reading.{elements_in}
 use Rattle.ksi_signature.specs.Extended.{is_retained, text_in, retained_texts, extended_content, extended_text}
 use Rattle.ksi_signature.specs.Issued.{index_of, issued_chains, own_chain, issued}
-use Rattle.ksi_signature.specs.Written.{side_kind, sibling_element, correction_elements, link_elements, link_element, part_element, chain_element, cal_link_element, calendar_elements, calendar_element, publishing_element, signature_elements, signature_text}
+use Rattle.ksi_signature.specs.Written.{side_kind, sibling_element, correction_elements, link_elements, link_element, part_element, chain_element, calendar_link_element, calendar_elements, calendar_element, publishing_element, signature_elements, signature_text}
 use Rattle.ksi_signature.proofs.Lasting.{bare}
 use Rattle.ksi_signature.proofs.Skips.{all_both}
 
@@ -156,14 +156,14 @@ module _ (second : ℕ) where
   chains_made [] are = tt
   chains_made (chain ∷ above) are = (chain_made chain above are.0, chains_made above are.1)
 
-cal_links_made : (links : List (TreeLink (List ℕ))) → CalendarOfBytes links → AllByRecursion IsMade (map cal_link_element links)
-cal_links_made [] are = tt
-cal_links_made (link ∷ links) are = (bytes_made (side_kind link.side) link.sibling (side_small link.side) are.0, cal_links_made links are.1)
+calendar_links_made : (links : List (TreeLink (List ℕ))) → CalendarOfBytes links → AllByRecursion IsMade (map calendar_link_element links)
+calendar_links_made [] are = tt
+calendar_links_made (link ∷ links) are = (bytes_made (side_kind link.side) link.sibling (side_small link.side) are.0, calendar_links_made links are.1)
 
 calendar_made : (c : Calendar) → AreBytes c.input → CalendarOfBytes c.links → IsMade (calendar_element c)
 calendar_made c input links = (
   omega arith,
-  texts_bytes (calendar_elements c) (number_made 1 c.publication (omega arith), (number_made 2 c.time (omega arith), (bytes_made 5 c.input (omega arith) input, cal_links_made c.links links))),
+  texts_bytes (calendar_elements c) (number_made 1 c.publication (omega arith), (number_made 2 c.time (omega arith), (bytes_made 5 c.input (omega arith) input, calendar_links_made c.links links))),
 )
 
 record_made : (time : ℕ) (hash : List ℕ) → AreBytes hash → IsMade (publishing_element (bare time hash))

@@ -20,7 +20,7 @@ use Rattle.ksi_grammar.specs.Table.{Verdict, Slot, Table, is_among, slot_of, cou
 use Rattle.ksi_grammar.specs.Reading.{◌>>=◌, container_verdict, inner_verdict}
 use Rattle.ksi_grammar.specs.Valid.{MayStandAs, MayStand, AtMost, AtLeast, AreWithin, AreEnough, IsContainer}
 use Rattle.ksi_grammar.specs.Contents.{passes, number_in, time_in, level_in, algorithm_in, imprint_or, imprint_in, raw_in}
-use Rattle.ksi_grammar.specs.Held.{whole, inner_elements, first_of}
+use Rattle.ksi_grammar.specs.Inside.{whole, inner_elements, first_of}
 use Rattle.ksi_grammar.specs.Published.{number_or_zero, imprint_or_zero}
 use Rattle.ksi_signature.specs.Tables.{link_table, link_content, chain_table, chain_content}
 use Rattle.ksi_signature.specs.Values.{Aggregation}

@@ -10,7 +10,7 @@ use Rattle.ksi_tlv.specs.Walking.{PlacedTlv, placed_at}
 use Rattle.ksi_tlv.specs.Writing.{texts, placed}
 use Rattle.ksi_grammar.specs.Table.{is_among, count}
 use Rattle.ksi_grammar.specs.Reading.{inner_verdict}
-use Rattle.ksi_grammar.specs.Held.{inner_elements, first_of}
+use Rattle.ksi_grammar.specs.Inside.{inner_elements, first_of}
 use Rattle.ksi_grammar.specs.Written.{MayStandAnywhere, MayBeWritten}
 use Rattle.ksi_grammar.specs.Published.{published_elements, record_table, published_or_zero, recorded_in}
 use Rattle.ksi_signature.specs.Values.{Publishing}

@@ -9,10 +9,10 @@ use Rattle.ksi_tlv.specs.Walking.{PlacedTlv, elements}
 use Rattle.ksi_tlv.specs.Writing.{texts}
 use Rattle.ksi_grammar.specs.declared.fault.ElementFault.{ElementFault}
 use Rattle.ksi_grammar.specs.declared.fault.ElementFault.TheVariants as faults
-use Rattle.ksi_grammar.specs.Held.{whole}
+use Rattle.ksi_grammar.specs.Inside.{whole}
 use Rattle.ksi_grammar.specs.Published.{published_elements}
-use Rattle.ksi_signature.specs.declared.fault.SigFault.{SigFault}
-use Rattle.ksi_signature.specs.declared.fault.SigFault.TheVariants as answers
+use Rattle.ksi_signature.specs.declared.fault.SignatureFault.{SignatureFault}
+use Rattle.ksi_signature.specs.declared.fault.SignatureFault.TheVariants as answers
 use Rattle.ksi_signature.specs.declared.refusal.WriteRefusal.{WriteRefusal}
 use Rattle.ksi_signature.specs.declared.refusal.WriteRefusal.TheVariants as unwritten
 use Rattle.ksi_signature.specs.declared.extension.WithRefusal.{WithRefusal}
@@ -49,16 +49,16 @@ no_memory bytes (inr (inr (inr b))) = let is = b.named in absurd cc
 
 -- ---- the clauses, by what reading answers
 
-pub malformed_is : {A : Type 0} (a : Answer) (fault f : SigFault) (F : Type 0) (r : Result A WithRefusal) → a ≡ Err fault → (a ≡ Err f) ↔ F → r ≡ Err (refusals.Malformed fault) → (r ≡ Err (refusals.Malformed f)) ↔ F
+pub malformed_is : {A : Type 0} (a : Answer) (fault f : SignatureFault) (F : Type 0) (r : Result A WithRefusal) → a ≡ Err fault → (a ≡ Err f) ↔ F → r ≡ Err (refusals.Malformed fault) → (r ≡ Err (refusals.Malformed f)) ↔ F
 malformed_is a fault f F r e law is = (λ same. law.0 (let one : fault ≡ f = cc in cc), λ stands. let here = law.1 stands in cc)
 
-pub malformed_not : {A : Type 0} (a : Answer) (f : SigFault) (F : Type 0) (r : Result A WithRefusal) → a ≡ Ok tt → (a ≡ Err f) ↔ F → (r ≡ Err (refusals.Malformed f) → ⊥) → (r ≡ Err (refusals.Malformed f)) ↔ F
+pub malformed_not : {A : Type 0} (a : Answer) (f : SignatureFault) (F : Type 0) (r : Result A WithRefusal) → a ≡ Ok tt → (a ≡ Err f) ↔ F → (r ≡ Err (refusals.Malformed f) → ⊥) → (r ≡ Err (refusals.Malformed f)) ↔ F
 malformed_not a f F r e law never = (λ is. absurd (never is), λ stands. let here = law.1 stands in absurd cc)
 
-pub never_memory : {A : Type 0} (bytes : List ℕ) (a : Answer) (fault : SigFault) (r : Result A WithRefusal) → a ≡ Err fault → (a ≡ Err fault) ↔ IsSignatureFault bytes fault → r ≡ Err (refusals.Malformed fault) → r ≡ Err (refusals.Malformed answers.NoMemory) → ⊥
+pub never_memory : {A : Type 0} (bytes : List ℕ) (a : Answer) (fault : SignatureFault) (r : Result A WithRefusal) → a ≡ Err fault → (a ≡ Err fault) ↔ IsSignatureFault bytes fault → r ≡ Err (refusals.Malformed fault) → r ≡ Err (refusals.Malformed answers.NoMemory) → ⊥
 never_memory bytes a fault r e law is other = let memory : fault ≡ answers.NoMemory = cc in no_memory bytes (subst (IsSignatureFault bytes) memory (law.0 e))
 
-pub long_no_signature : {A : Type 0} (a : Answer) (fault : SigFault) (S : Type 0) (size n : ℕ) (r : Result A WithRefusal) → a ≡ Err fault → (a ≡ Ok tt) ↔ S → r ≡ Err (refusals.Malformed fault) → (r ≡ Err (refusals.TooLong n)) ↔ (S × IsTooLong size n)
+pub long_no_signature : {A : Type 0} (a : Answer) (fault : SignatureFault) (S : Type 0) (size n : ℕ) (r : Result A WithRefusal) → a ≡ Err fault → (a ≡ Ok tt) ↔ S → r ≡ Err (refusals.Malformed fault) → (r ≡ Err (refusals.TooLong n)) ↔ (S × IsTooLong size n)
 long_no_signature a fault S size n r e law is = (λ long. absurd cc, λ h. let ok = law.1 h.0 in absurd cc)
 
 above : (size total : ℕ) → total ≡ capped size → 65535 < total → 65535 < size

@@ -8,12 +8,12 @@ use Rattle.ksi_tlv.specs.Spelling.{Tlv, plain, canonical}
 use Rattle.ksi_tlv.specs.Walking.{elements}
 use Rattle.ksi_tlv.specs.Writing.{texts, placed}
 use Rattle.ksi_grammar.specs.Table.{is_among, count}
-use Rattle.ksi_grammar.specs.Held.{whole, first_of}
+use Rattle.ksi_grammar.specs.Inside.{whole, first_of}
 use Rattle.ksi_grammar.specs.Written.{MayStandAnywhere, MayBeWritten}
 use Rattle.ksi_signature.specs.declared.signature.Signature.{Signature}
 use Rattle.ksi_signature.specs.Tables.{signature_table}
 use Rattle.ksi_signature.specs.Values.{Aggregation, Calendar, Publishing, FallFrom, Fall}
-use Rattle.ksi_signature.specs.Kept.{IsAggregation, IsCalendar, IsPublishing, IsKept}
+use Rattle.ksi_signature.specs.Kept.{IsAggregation, IsCalendar, IsPublishing, IsLimited}
 use Rattle.ksi_signature.specs.Contents.{calendar_in, publishing_in, put_chain, chains_behind, signature_of}
 use Rattle.ksi_signature.specs.File.{IsSignature}
 use Rattle.ksi_signature.specs.Written.{chain_elements, chain_element, calendar_element, publishing_elements, publishing_element, optional_element, signature_elements, signature_text, body_sizes, chain_sizes, publishing_sizes, optional_sizes, sizes_of, first_long}
@@ -121,12 +121,12 @@ publication_count s =
     omega (arith, behind.1, (last_counts behind.0 s.calendar s.publication).2)
 
 pub record FitsSignature (s : Signature) : Type 0 where
-  pub kept : IsKept s
+  pub kept : IsLimited s
   pub chains : AllByRecursion FitsChain s.chains
   pub publication : IfSome s.publication FitsPublishing
   pub all : length (texts (signature_elements s)) ≤ 65535
 
-signature_fits : (s : Signature) → IsKept s → first_long (sizes_of s) ≡ None → FitsSignature s
+signature_fits : (s : Signature) → IsLimited s → first_long (sizes_of s) ≡ None → FitsSignature s
 signature_fits s kept none =
     let short = all_short (sizes_of s) none in
     let inner = flat_map chain_sizes s.chains ++ optional_sizes s.publication in
@@ -220,7 +220,7 @@ signature_read laws place s fits =
     (ap (option_map calendar_in) calendar.1 ∙ calendar_at laws calendar.0 s.calendar s.publication fits.kept.calendar)
     (ap (option_map publishing_in) publication.1 ∙ publication_at laws publication.0 s.calendar s.publication fits.publication)
 
-pub signature_again : Written → (s : Signature) → IsKept s → first_long (sizes_of s) ≡ None → IsSignature (signature_text s) s
+pub signature_again : Written → (s : Signature) → IsLimited s → first_long (sizes_of s) ≡ None → IsSignature (signature_text s) s
 unfolding signature_text
 signature_again laws s kept none =
     let fits = signature_fits s kept none in

@@ -10,9 +10,9 @@ use Rattle.ksi_grammar.specs.declared.fault.ElementFault.{ElementFault}
 use Rattle.ksi_grammar.specs.Table.{Verdict, Table, is_table}
 use Rattle.ksi_grammar.specs.Reading.{container_verdict}
 use Rattle.ksi_grammar.specs.Valid.{IsContainer, IsWhole, IsFirstFault}
-use Rattle.ksi_grammar.specs.Held.{whole}
-use Rattle.ksi_signature.specs.declared.fault.SigFault.{SigFault}
-use Rattle.ksi_signature.specs.declared.fault.SigFault.TheVariants as answers
+use Rattle.ksi_grammar.specs.Inside.{whole}
+use Rattle.ksi_signature.specs.declared.fault.SignatureFault.{SignatureFault}
+use Rattle.ksi_signature.specs.declared.fault.SignatureFault.TheVariants as answers
 use Rattle.ksi_signature.specs.declared.signature.Signature.{Signature}
 use Rattle.ksi_signature.specs.Tables.{signature_table}
 use Rattle.ksi_signature.specs.Contents.{signature_of}
@@ -25,19 +25,19 @@ pub record Laws : Type 0 where
   pub found : (bytes : List ℕ) (e : Tlv) (n : ℕ) → AreBytes bytes → (element_at bytes ≡ Ok (e, n)) ↔ IsFront bytes e n
   pub spelled : (e : Tlv) (text rest : List ℕ) → Spells e text → element_at (text ++ rest) ≡ Ok (e, length text)
 
-abbrev failed : SigFault → Answer
+abbrev failed : SignatureFault → Answer
 failed fault = Err fault
 
-abbrev fails_if : Bool → SigFault → Answer
+abbrev fails_if : Bool → SignatureFault → Answer
 fails_if b fault = cond b (Err fault) (Ok tt)
 
 -- ---- no fault, and so a signature
 
-kind_ok : (b : Bool) (v : Answer) (d : SigFault) → cond b v (Err d) ≡ Ok tt → (b ≡ true) × (v ≡ Ok tt)
+kind_ok : (b : Bool) (v : Answer) (d : SignatureFault) → cond b v (Err d) ≡ Ok tt → (b ≡ true) × (v ≡ Ok tt)
 kind_ok true v d e = (refl, e)
 kind_ok false v d e = absurd cc
 
-test_ok : (b : Bool) (d : SigFault) → fails_if b d ≡ Ok tt → b ≡ false
+test_ok : (b : Bool) (d : SignatureFault) → fails_if b d ≡ Ok tt → b ≡ false
 test_ok true d e = absurd cc
 test_ok false d e = refl
 
@@ -84,19 +84,19 @@ ok_if_signature laws bytes signature s =
 
 -- ---- the first fault
 
-kind_err : (b : Bool) (v : Answer) (d f : SigFault) → cond b v (Err d) ≡ Err f → ((b ≡ true) × (v ≡ Err f)) ⊎ ((b ≡ false) × (f ≡ d))
+kind_err : (b : Bool) (v : Answer) (d f : SignatureFault) → cond b v (Err d) ≡ Err f → ((b ≡ true) × (v ≡ Err f)) ⊎ ((b ≡ false) × (f ≡ d))
 kind_err true v d f e = inl (refl, e)
 kind_err false v d f e = inr (refl, cc)
 
-test_err : (b : Bool) (d f : SigFault) → fails_if b d ≡ Err f → (b ≡ true) × (f ≡ d)
+test_err : (b : Bool) (d f : SignatureFault) → fails_if b d ≡ Err f → (b ≡ true) × (f ≡ d)
 test_err true d f e = (refl, cc)
 test_err false d f e = absurd cc
 
-inside_err : (bytes : List ℕ) (size : ℕ) (v : Verdict) (f : SigFault) → behind bytes size v ≡ Err f → ((inner : ElementFault) × (v ≡ Err inner) × (f ≡ name_of inner)) ⊎ ((v ≡ Ok tt) × (ltb size (length bytes) ≡ true) × (f ≡ answers.After size))
+inside_err : (bytes : List ℕ) (size : ℕ) (v : Verdict) (f : SignatureFault) → behind bytes size v ≡ Err f → ((inner : ElementFault) × (v ≡ Err inner) × (f ≡ name_of inner)) ⊎ ((v ≡ Ok tt) × (ltb size (length bytes) ≡ true) × (f ≡ answers.After size))
 inside_err bytes size (Ok u) f e = let t = test_err (ltb size (length bytes)) (answers.After size) f e in inr (refl, t.0, t.1)
 inside_err bytes size (Err inner) f e = inl (inner, refl, cc)
 
-with_err : (laws : Laws) (bytes : List ℕ) (r : Result (Tlv × ℕ) ℕ) (f : SigFault) → AreBytes bytes → element_at bytes ≡ r → answer_with bytes r ≡ Err f → IsSignatureFault bytes f
+with_err : (laws : Laws) (bytes : List ℕ) (r : Result (Tlv × ℕ) ℕ) (f : SignatureFault) → AreBytes bytes → element_at bytes ≡ r → answer_with bytes r ≡ Err f → IsSignatureFault bytes f
 with_err laws bytes (Err need) f fits read e =
     inl (record {
       none = λ element size front. let here = (laws.found bytes element size fits).1 front in absurd cc;
@@ -112,7 +112,7 @@ with_err laws bytes (Ok found) f fits read e =
       ]
     ]
 
-pub fault_if_err : (laws : Laws) (bytes : List ℕ) (f : SigFault) → AreBytes bytes → answer_of bytes ≡ Err f → IsSignatureFault bytes f
+pub fault_if_err : (laws : Laws) (bytes : List ℕ) (f : SignatureFault) → AreBytes bytes → answer_of bytes ≡ Err f → IsSignatureFault bytes f
 unfolding answer_of
 fault_if_err laws bytes f fits e = with_err laws bytes (element_at bytes) f fits refl e
 
@@ -122,7 +122,7 @@ none_at : (laws : Laws) (bytes : List ℕ) (r : Result (Tlv × ℕ) ℕ) → Are
 none_at laws bytes (Err need) fits read none = refl
 none_at laws bytes (Ok found) fits read none = absurd (none found.0 found.1 ((laws.found bytes found.0 found.1 fits).0 read))
 
-pub err_if_fault : (laws : Laws) (bytes : List ℕ) (f : SigFault) → AreBytes bytes → IsSignatureFault bytes f → answer_of bytes ≡ failed f
+pub err_if_fault : (laws : Laws) (bytes : List ℕ) (f : SignatureFault) → AreBytes bytes → IsSignatureFault bytes f → answer_of bytes ≡ failed f
 unfolding answer_of
 err_if_fault laws bytes f fits (inl h) = none_at laws bytes (element_at bytes) fits refl h.none ∙ ap failed (sym h.named)
 err_if_fault laws bytes f fits (inr (inl k)) = rw ((laws.found bytes k.element k.size fits).1 k.front, ne_eqb _ _ k.kind, k.named) refl
@@ -133,18 +133,18 @@ err_if_fault laws bytes f fits (inr (inr (inr b))) =
 
 -- ---- one of both, and one of each
 
-one_at : (laws : Laws) (bytes : List ℕ) (r : Answer) → AreBytes bytes → answer_of bytes ≡ r → ((signature : Signature) × IsSignature bytes signature) ⊎ ((fault : SigFault) × IsSignatureFault bytes fault)
+one_at : (laws : Laws) (bytes : List ℕ) (r : Answer) → AreBytes bytes → answer_of bytes ≡ r → ((signature : Signature) × IsSignature bytes signature) ⊎ ((fault : SignatureFault) × IsSignatureFault bytes fault)
 one_at laws bytes (Ok u) fits e = inl (signature_if_ok laws bytes fits e)
 one_at laws bytes (Err f) fits e = inr (f, fault_if_err laws bytes f fits e)
 
-pub one_of_both : (laws : Laws) (bytes : List ℕ) → AreBytes bytes → ((signature : Signature) × IsSignature bytes signature) ⊎ ((fault : SigFault) × IsSignatureFault bytes fault)
+pub one_of_both : (laws : Laws) (bytes : List ℕ) → AreBytes bytes → ((signature : Signature) × IsSignature bytes signature) ⊎ ((fault : SignatureFault) × IsSignatureFault bytes fault)
 one_of_both laws bytes fits = one_at laws bytes (answer_of bytes) fits refl
 
-pub not_both : (laws : Laws) (bytes : List ℕ) (signature : Signature) (fault : SigFault) → AreBytes bytes → IsSignature bytes signature → IsSignatureFault bytes fault → ⊥
+pub not_both : (laws : Laws) (bytes : List ℕ) (signature : Signature) (fault : SignatureFault) → AreBytes bytes → IsSignature bytes signature → IsSignatureFault bytes fault → ⊥
 not_both laws bytes signature fault fits s f =
     let no : failed fault ≡ Ok tt = sym (err_if_fault laws bytes fault fits f) ∙ ok_if_signature laws bytes signature s in absurd cc
 
-pub one_fault : (laws : Laws) (bytes : List ℕ) (fault other : SigFault) → AreBytes bytes → IsSignatureFault bytes fault → IsSignatureFault bytes other → fault ≡ other
+pub one_fault : (laws : Laws) (bytes : List ℕ) (fault other : SignatureFault) → AreBytes bytes → IsSignatureFault bytes fault → IsSignatureFault bytes other → fault ≡ other
 one_fault laws bytes fault other fits f g =
     let both : failed fault ≡ failed other = sym (err_if_fault laws bytes fault fits f) ∙ err_if_fault laws bytes other fits g in cc
 
@@ -183,7 +183,7 @@ pub ok_answer : (bytes : List ℕ) (r : Answer) → r ≡ answer_of bytes → (a
 ok_answer bytes (Ok u) e law = (λ ok. law.0 (sym e), λ s. refl)
 ok_answer bytes (Err f) e law = (λ ok. absurd cc, λ s. let no : failed f ≡ Ok tt = e ∙ law.1 s in absurd cc)
 
-pub err_answer : (bytes : List ℕ) (r : Answer) (fault : SigFault) → r ≡ answer_of bytes → (answer_of bytes ≡ Err fault) ↔ IsSignatureFault bytes fault → (r ≡ Err fault) ↔ IsSignatureFault bytes fault
+pub err_answer : (bytes : List ℕ) (r : Answer) (fault : SignatureFault) → r ≡ answer_of bytes → (answer_of bytes ≡ Err fault) ↔ IsSignatureFault bytes fault → (r ≡ Err fault) ↔ IsSignatureFault bytes fault
 err_answer bytes r fault e law = (λ is. law.0 (sym e ∙ is), λ is. e ∙ law.1 is)
 
 -- the signature that is read in the element at the front is the one that the bytes are

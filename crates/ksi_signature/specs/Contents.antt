@@ -9,7 +9,7 @@ use Rattle.ksi_aggchain.specs.declared.link.Sibling.{Sibling}
 use Rattle.ksi_aggchain.specs.declared.link.Sibling.TheVariants as siblings
 use Rattle.ksi_tlv.specs.Walking.{PlacedTlv}
 use Rattle.ksi_tlv.specs.Numerals.{number_of}
-use Rattle.ksi_grammar.specs.Held.{inner_elements, first_of}
+use Rattle.ksi_grammar.specs.Inside.{inner_elements, first_of}
 use Rattle.ksi_grammar.specs.Published.{number_or_zero, imprint_or_zero, recorded_in}
 use Rattle.ksi_signature.specs.Values.{Aggregation, Calendar, Publishing}
 use Rattle.ksi_signature.specs.declared.signature.Signature.{Signature}
@@ -53,11 +53,11 @@ chain_in at = record {
 
 -- ---- calendar chains
 
-abbrev pub cal_links_among : List PlacedTlv → List (TreeLink (List ℕ))
-cal_links_among [] = []
-cal_links_among (at ∷ es) =
-    if at.element.kind == 7 || at.element.kind == 8 then record { side = side_in at; sibling = at.element.body } ∷ cal_links_among es
-    else cal_links_among es
+abbrev pub calendar_links_among : List PlacedTlv → List (TreeLink (List ℕ))
+calendar_links_among [] = []
+calendar_links_among (at ∷ es) =
+    if at.element.kind == 7 || at.element.kind == 8 then record { side = side_in at; sibling = at.element.body } ∷ calendar_links_among es
+    else calendar_links_among es
 
 abbrev pub number_or : ℕ → Option PlacedTlv → ℕ
 number_or other None = other
@@ -69,7 +69,7 @@ calendar_in at = record {
   publication = number_or_zero (first_of 1 (inner_elements at));
   time = number_or (number_or_zero (first_of 1 (inner_elements at))) (first_of 2 (inner_elements at));
   input = imprint_or_zero (first_of 5 (inner_elements at));
-  links = cal_links_among (inner_elements at);
+  links = calendar_links_among (inner_elements at);
 }
 
 -- ---- publication records

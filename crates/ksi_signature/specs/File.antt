@@ -8,8 +8,8 @@ use Rattle.ksi_grammar.specs.declared.fault.ElementFault.TheVariants as faults
 use Rattle.ksi_grammar.specs.Table.{Verdict}
 use Rattle.ksi_grammar.specs.Reading.{container_verdict}
 use Rattle.ksi_grammar.specs.Valid.{IsContainer, IsWhole, IsFirstFault}
-use Rattle.ksi_signature.specs.declared.fault.SigFault.{SigFault}
-use Rattle.ksi_signature.specs.declared.fault.SigFault.TheVariants as answers
+use Rattle.ksi_signature.specs.declared.fault.SignatureFault.{SignatureFault}
+use Rattle.ksi_signature.specs.declared.fault.SignatureFault.TheVariants as answers
 use Rattle.ksi_signature.specs.declared.signature.Signature.{Signature}
 use Rattle.ksi_signature.specs.Tables.{signature_table}
 use Rattle.ksi_signature.specs.Contents.{signature_of}
@@ -27,7 +27,7 @@ pub record IsSignature (bytes : List ℕ) (signature : Signature) : Type 0 where
 -- ---- faults
 
 -- the fault of a signature by that of an element
-abbrev pub name_of : ElementFault → SigFault
+abbrev pub name_of : ElementFault → SignatureFault
 name_of (faults.Tlv place) = answers.Tlv place
 name_of (faults.RefusedElement kind place) = answers.RefusedElement kind place
 name_of (faults.UnknownCritical kind place) = answers.UnknownCritical kind place
@@ -42,12 +42,12 @@ name_of (faults.Sibling place) = answers.Sibling place
 name_of (faults.Time place) = answers.Time place
 
 -- no element is spelled at the front
-pub record IsCut (bytes : List ℕ) (fault : SigFault) : Type 0 where
+pub record IsCut (bytes : List ℕ) (fault : SignatureFault) : Type 0 where
   pub none : (element : Tlv) (size : ℕ) → IsFront bytes element size → ⊥
   pub named : fault ≡ answers.Tlv 0
 
 -- the first element is another
-pub record IsOtherKind (bytes : List ℕ) (fault : SigFault) : Type 0 where
+pub record IsOtherKind (bytes : List ℕ) (fault : SignatureFault) : Type 0 where
   pub element : Tlv
   pub size : ℕ
   pub front : IsFront bytes element size
@@ -55,7 +55,7 @@ pub record IsOtherKind (bytes : List ℕ) (fault : SigFault) : Type 0 where
   pub named : fault ≡ answers.NotSignature element.kind
 
 -- the first fault stands in the signature, whose place is 0
-pub record IsFaultInside (bytes : List ℕ) (fault : SigFault) : Type 0 where
+pub record IsFaultInside (bytes : List ℕ) (fault : SignatureFault) : Type 0 where
   pub element : Tlv
   pub size : ℕ
   pub front : IsFront bytes element size
@@ -65,7 +65,7 @@ pub record IsFaultInside (bytes : List ℕ) (fault : SigFault) : Type 0 where
   pub named : fault ≡ name_of inner
 
 -- bytes follow the signature
-pub record IsFaultBehind (bytes : List ℕ) (fault : SigFault) : Type 0 where
+pub record IsFaultBehind (bytes : List ℕ) (fault : SignatureFault) : Type 0 where
   pub element : Tlv
   pub size : ℕ
   pub front : IsFront bytes element size
@@ -74,13 +74,13 @@ pub record IsFaultBehind (bytes : List ℕ) (fault : SigFault) : Type 0 where
   pub more : size < length bytes
   pub named : fault ≡ answers.After size
 
-abbrev pub IsSignatureFault : List ℕ → SigFault → Type 0
+abbrev pub IsSignatureFault : List ℕ → SignatureFault → Type 0
 IsSignatureFault bytes fault = IsCut bytes fault ⊎ IsOtherKind bytes fault ⊎ IsFaultInside bytes fault ⊎ IsFaultBehind bytes fault
 
 -- ---- as they are read from left to right: the law `signature_or_fault` says that this is what stands above
 
 abbrev pub Answer : Type 0
-Answer = Result (Unit {0}) SigFault
+Answer = Result (Unit {0}) SignatureFault
 
 abbrev pub behind : List ℕ → ℕ → Verdict → Answer
 behind bytes size (Err fault) = Err (name_of fault)

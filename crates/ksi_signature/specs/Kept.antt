@@ -36,7 +36,7 @@ pub record IsPublishing (published : Publishing) : Type 0 where
   pub time : published.time < 2 ^ 63
   pub hash : IsImprint published.hash
 
-pub record IsKept (signature : Signature) : Type 0 where
+pub record IsLimited (signature : Signature) : Type 0 where
   pub limits : AreChains signature.chains
   pub chains : AllByRecursion IsAggregation signature.chains
   pub calendar : IfSome signature.calendar IsCalendar

@@ -2,7 +2,7 @@
 use Rattle.std.specs.Prelude.{◌==◌, ◌||◌, [], ◌∷◌, Some, None, Ok, if◌then◌else◌}
 use Rattle.ksi_tlv.specs.Walking.{PlacedTlv}
 use Rattle.ksi_grammar.specs.declared.fault.ElementFault.TheVariants as faults
-use Rattle.ksi_grammar.specs.declared.row.Over.TheVariants as overs
+use Rattle.ksi_grammar.specs.declared.rule.Over.TheVariants as overs
 use Rattle.ksi_grammar.specs.Table.{Verdict, Slot, Table, exactly_once, at_most_once, one_or_more}
 use Rattle.ksi_grammar.specs.Reading.{inner_verdict}
 use Rattle.ksi_grammar.specs.Contents.{passes, number_in, time_in, level_in, algorithm_in, imprint_in, raw_in}

@@ -51,13 +51,13 @@ chain_elements c =
 
 -- ---- calendar chains and publication records
 
-abbrev pub cal_link_element : TreeLink (List ℕ) → Tlv
-cal_link_element link = plain (side_kind link.side) link.sibling
+abbrev pub calendar_link_element : TreeLink (List ℕ) → Tlv
+calendar_link_element link = plain (side_kind link.side) link.sibling
 
 -- the aggregation time always
 abbrev pub calendar_elements : Calendar → List Tlv
 calendar_elements c =
-    plain 1 (numeral c.publication) ∷ plain 2 (numeral c.time) ∷ plain 5 c.input ∷ map cal_link_element c.links
+    plain 1 (numeral c.publication) ∷ plain 2 (numeral c.time) ∷ plain 5 c.input ∷ map calendar_link_element c.links
 
 abbrev pub publishing_elements : Publishing → List Tlv
 publishing_elements p =

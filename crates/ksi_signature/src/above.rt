@@ -3,7 +3,7 @@
 ghost use Rattle.std.specs.Prelude.{◌≡◌, ◌≤◌, length};
 ghost use Rattle.ksi_signature.specs.Above.{AreRoundLinks};
 
-use crate::lists::CalLinks;
+use crate::lists::CalendarLinks;
 use ksi_aggchain::Link;
 use ksi_imprint::Imprint;
 use std::marker::Model;
@@ -16,7 +16,7 @@ pub struct Above {
     /// The lowest first.
     pub chains: AboveChains,
     /// The lowest first, in the calendar whose last second is this one.
-    pub calendar: CalLinks,
+    pub calendar: CalendarLinks,
 }
 
 /// A chain above a round.

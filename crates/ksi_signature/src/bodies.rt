@@ -8,7 +8,7 @@ ghost use Rattle.ksi_tlv.specs.Numerals.{numeral};
 ghost use Rattle.ksi_tlv.specs.Writing.{texts};
 ghost use Rattle.ksi_signature.specs.Values.{HasSize};
 ghost use Rattle.ksi_signature.specs.Kept.{HasImprint, IsLink, IsPublishing};
-ghost use Rattle.ksi_signature.specs.Written.{part_element, body_element, correction_elements, link_elements, link_element, chain_elements, cal_link_element, calendar_elements, publishing_elements, side_kind, sibling_element, body_sizes, TellsLong};
+ghost use Rattle.ksi_signature.specs.Written.{part_element, body_element, correction_elements, link_elements, link_element, chain_elements, calendar_link_element, calendar_elements, publishing_elements, side_kind, sibling_element, body_sizes, TellsLong};
 
 use crate::NoMemory;
 use crate::kinds::{
@@ -16,9 +16,9 @@ use crate::kinds::{
     LEFT_LINK, LEGACY, METADATA, PUBLICATION_TIME, PUBLISHED, REFERENCE, REPOSITORY, RIGHT_LINK,
 };
 use crate::refusal::WriteRefusal;
-use crate::signature::PubRecord;
+use crate::signature::PublicationRecord;
 use ksi_aggchain::{Link, Sibling};
-use ksi_calchain::CalLink;
+use ksi_calchain::CalendarLink;
 use ksi_grammar::{put_short, written_published};
 use ksi_imprint::{Bytes, Imprint};
 use ksi_split::Side;
@@ -194,7 +194,7 @@ pub(crate) fn calendar_body(
     publication: u64,
     time: u64,
     input: &Imprint,
-    links: &[CalLink],
+    links: &[CalendarLink],
 ) -> Result<Writer, NoMemory>
     requires { length links.now ≤ 63 }
     ensures text { IfOk result (λ body. body ≡ texts (calendar_elements (record {
@@ -212,12 +212,12 @@ pub(crate) fn calendar_body(
     body.put_number(PUBLICATION_TIME, publication)?;
     body.put_number(AGGREGATION_TIME, time)?;
     put_short(&mut body, INPUT_HASH, input.bytes())?;
-    put_cal_links(&mut body, links)?;
+    put_calendar_links(&mut body, links)?;
     Ok(body)
 }
 
-fn put_cal_links(writer: &mut Writer, links: &[CalLink]) -> Result<(), NoMemory>
-    ensures text { OnOk result (writer.new ≡ writer.old ++ texts (map cal_link_element links.now)) }
+fn put_calendar_links(writer: &mut Writer, links: &[CalendarLink]) -> Result<(), NoMemory>
+    ensures text { OnOk result (writer.new ≡ writer.old ++ texts (map calendar_link_element links.now)) }
     ensures short { OnOk result (length writer.new ≤ length writer.old + 37 * length links.now) }
     ensures imprints { OnOk result (AllByRecursion (λ link. IsImprint link.sibling) links.now) }
 {
@@ -228,7 +228,10 @@ fn put_cal_links(writer: &mut Writer, links: &[CalLink]) -> Result<(), NoMemory>
 }
 
 /// The body of a publication record.
-pub(crate) fn publishing_body(alloc: Global, published: &PubRecord) -> Result<Writer, WriteRefusal>
+pub(crate) fn publishing_body(
+    alloc: Global,
+    published: &PublicationRecord,
+) -> Result<Writer, WriteRefusal>
     ensures text { IfOk result (λ body. body ≡ texts (publishing_elements published.now)) }
     ensures long { TellsLong (map length published.now.references ++ map length published.now.repositories) result }
     ensures kept { IsPublishing published.now }

@@ -7,19 +7,19 @@ ghost use Rattle.ksi_signature.specs.Kept.{HasImprint, IsLink, IsCalendar, IsPub
 ghost use Rattle.ksi_signature.specs.Carried.{IsAboveChain, IsAbove};
 
 use crate::above::{Above, AboveChain};
-use crate::signature::{CalChain, PubRecord};
+use crate::signature::{CalendarChain, PublicationRecord};
 use ksi_aggchain::{Link, Sibling};
-use ksi_calchain::CalLink;
+use ksi_calchain::CalendarLink;
 use ksi_imprint::Imprint;
 
-pub(crate) fn calendar_is_kept(chain: &CalChain)
+pub(crate) fn calendar_is_kept(chain: &CalendarChain)
     ensures { IsCalendar chain.now }
 {
     imprint_is_kept(&chain.input);
-    cal_links_are_kept(chain.links.as_slice());
+    calendar_links_are_kept(chain.links.as_slice());
 }
 
-pub(crate) fn record_is_kept(published: &PubRecord)
+pub(crate) fn record_is_kept(published: &PublicationRecord)
     ensures { IsPublishing published.now }
 {
     imprint_is_kept(&published.hash);
@@ -30,7 +30,7 @@ pub(crate) fn above_is_kept(above: &Above)
 {
     imprint_is_kept(&above.root);
     chains_are_kept(above.chains.as_slice());
-    cal_links_are_kept(above.calendar.as_slice());
+    calendar_links_are_kept(above.calendar.as_slice());
 }
 
 fn chains_are_kept(chains: &[AboveChain])
@@ -76,7 +76,7 @@ fn sibling_is_kept(sibling: &Sibling)
     }
 }
 
-fn cal_links_are_kept(links: &[CalLink])
+fn calendar_links_are_kept(links: &[CalendarLink])
     ensures { AllByRecursion (λ link. IsImprint link.sibling) links.now }
 {
     for link in links {

@@ -1,5 +1,5 @@
 ghost use Rattle.std.specs.Prelude.{◌≡◌, Some, refl};
-ghost use Rattle.ksi_grammar.specs.declared.row.Over.TheVariants.{Links};
+ghost use Rattle.ksi_grammar.specs.declared.rule.Over.TheVariants.{Links};
 ghost use Rattle.ksi_signature.specs.Tables.{link_table, chain_table, calendar_table, signature_table};
 
 use crate::kinds::{
@@ -7,7 +7,7 @@ use crate::kinds::{
     INPUT_HASH, LEFT_LINK, LEGACY, METADATA, PUBLICATION, PUBLICATION_TIME, RIGHT_LINK,
 };
 use ksi_grammar::{
-    ElementFault, Grammar, Over, RecordContent, Row, Seen, algorithm, check, imprint, level,
+    ElementFault, Grammar, Over, RecordContent, Rule, Seen, algorithm, check, imprint, level,
     missing, number, raw, time,
 };
 use ksi_tlv::Placed;
@@ -19,10 +19,10 @@ pub struct LinkContent;
 impl Grammar for LinkContent {
     ghost table = { link_table };
 
-    fn row(kind: u16) -> Option<Row> {
+    fn rule(kind: u16) -> Option<Rule> {
         match kind {
-            CORRECTION => Some(Row::once(0)),
-            IMPRINT | LEGACY | METADATA => Some(Row {
+            CORRECTION => Some(Rule::once(0)),
+            IMPRINT | LEGACY | METADATA => Some(Rule {
                 slot: 1,
                 most: Some(1),
                 over: Over::Sibling,
@@ -61,13 +61,13 @@ pub struct ChainContent;
 impl Grammar for ChainContent {
     ghost table = { chain_table };
 
-    fn row(kind: u16) -> Option<Row> {
+    fn rule(kind: u16) -> Option<Rule> {
         match kind {
-            AGGREGATION_TIME => Some(Row::once(0)),
-            INDEX_PART => Some(Row::any(1)),
-            INPUT_DATA => Some(Row::once(2)),
-            INPUT_HASH => Some(Row::once(3)),
-            ALGORITHM => Some(Row::once(4)),
+            AGGREGATION_TIME => Some(Rule::once(0)),
+            INDEX_PART => Some(Rule::any(1)),
+            INPUT_DATA => Some(Rule::once(2)),
+            INPUT_HASH => Some(Rule::once(3)),
+            ALGORITHM => Some(Rule::once(4)),
             LEFT_LINK | RIGHT_LINK => Some(links(5)),
             _ => None,
         }
@@ -108,11 +108,11 @@ pub struct CalendarContent;
 impl Grammar for CalendarContent {
     ghost table = { calendar_table };
 
-    fn row(kind: u16) -> Option<Row> {
+    fn rule(kind: u16) -> Option<Rule> {
         match kind {
-            PUBLICATION_TIME => Some(Row::once(0)),
-            AGGREGATION_TIME => Some(Row::once(1)),
-            INPUT_HASH => Some(Row::once(2)),
+            PUBLICATION_TIME => Some(Rule::once(0)),
+            AGGREGATION_TIME => Some(Rule::once(1)),
+            INPUT_HASH => Some(Rule::once(2)),
             LEFT_LINK | RIGHT_LINK => Some(links(3)),
             _ => None,
         }
@@ -143,15 +143,15 @@ pub struct SignatureContent;
 impl Grammar for SignatureContent {
     ghost table = { signature_table };
 
-    fn row(kind: u16) -> Option<Row> {
+    fn rule(kind: u16) -> Option<Rule> {
         match kind {
-            CHAIN => Some(Row {
+            CHAIN => Some(Rule {
                 slot: 0,
                 most: Some(16),
                 over: Over::Chains,
             }),
-            CALENDAR => Some(Row::once(1)),
-            PUBLICATION => Some(Row::once(2)),
+            CALENDAR => Some(Rule::once(1)),
+            PUBLICATION => Some(Rule::once(2)),
             _ => None,
         }
     }
@@ -176,10 +176,10 @@ impl Grammar for SignatureContent {
 }
 
 /// A slot that may hold 63 links.
-fn links(slot: usize) -> Row
+fn links(slot: usize) -> Rule
     ensures { result ≡ record { slot = slot; most = Some 63; over = Links } }
 {
-    Row {
+    Rule {
         slot,
         most: Some(63),
         over: Over::Links,

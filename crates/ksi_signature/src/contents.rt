@@ -1,5 +1,5 @@
 ghost use Rattle.std.specs.Prelude.{◌≡◌, ◌<◌, ◌^◌, Ok};
-ghost use Rattle.ksi_tlv.specs.Seen.{view_placed};
+ghost use Rattle.ksi_tlv.specs.Views.{view_placed};
 ghost use Rattle.ksi_tlv.specs.Numerals.{number_of};
 ghost use Rattle.ksi_grammar.specs.Contents.{passes, number_in, time_in, level_in, imprint_in};
 ghost use Rattle.ksi_signature.specs.Contents.{side_in};

@@ -1,11 +1,11 @@
 ghost use Rattle.std.specs.Prelude.{◌≡◌, ◌≢◌, ◌↔◌, ◌≤◌, ◌∷◌, [], ℕ, Err, IfOk, length};
 ghost use Rattle.std.specs.List.{AllByRecursion};
-ghost use Rattle.ksi_tlv.specs.Seen.{view, view_placed};
+ghost use Rattle.ksi_tlv.specs.Views.{view, view_placed};
 ghost use Rattle.ksi_tlv.specs.Spelling.{plain, canonical};
 ghost use Rattle.ksi_tlv.specs.Writing.{texts};
-ghost use Rattle.ksi_grammar.specs.Held.{inner_elements};
-ghost use Rattle.ksi_signature.specs.declared.fault.SigFault.{SigFault};
-ghost use Rattle.ksi_signature.specs.declared.fault.SigFault.TheVariants as answers;
+ghost use Rattle.ksi_grammar.specs.Inside.{inner_elements};
+ghost use Rattle.ksi_signature.specs.declared.fault.SignatureFault.{SignatureFault};
+ghost use Rattle.ksi_signature.specs.declared.fault.SignatureFault.TheVariants as answers;
 ghost use Rattle.ksi_signature.specs.declared.extension.WithRefusal.TheVariants as refusals;
 ghost use Rattle.ksi_signature.specs.declared.signature.Signature.{Signature};
 ghost use Rattle.ksi_signature.specs.File.{IsSignature, IsSignatureFault};
@@ -17,12 +17,12 @@ use crate::NoMemory;
 use crate::bodies::{calendar_body, publishing_body};
 use crate::carried::{calendar_is_kept, record_is_kept};
 use crate::checker::accepted;
-use crate::fault::SigFault;
+use crate::fault::SignatureFault;
 use crate::kinds::{CALENDAR, CHAIN, PUBLICATION, SIGNATURE};
 use crate::laws::{extended_is_signature, signature_or_fault};
 use crate::lengths::{calendar_size, publishing_size, size_of};
 use crate::refusal::WriteRefusal;
-use crate::signature::{CalChain, PubRecord};
+use crate::signature::{CalendarChain, PublicationRecord};
 use ksi_grammar::{put_short, whole_or_fault};
 use ksi_imprint::Bytes;
 use ksi_tlv::{Element, Elements, Placed, Writer, front_by_spelling, reading_is_elements};
@@ -35,7 +35,7 @@ const LIMIT: u64 = 65_535;
 #[derive(Clone, Copy, Debug, PartialEq, Eq)]
 pub enum WithRefusal {
     /// The bytes are no signature: the first fault in reading order.
-    Malformed(SigFault),
+    Malformed(SignatureFault),
     /// The new content has so many bytes, above 65,535.
     TooLong(u64),
     NoMemory,
@@ -52,13 +52,13 @@ impl From<NoMemory> for WithRefusal {
     }
 }
 
-impl From<SigFault> for WithRefusal {
+impl From<SignatureFault> for WithRefusal {
     ghost use Rattle.std.specs.Prelude.{◌≡◌};
     ghost use Rattle.ksi_signature.specs.declared.extension.WithRefusal.TheVariants as refusals;
 
     ghost from_gives = { λ fault refusal. refusal ≡ refusals.Malformed fault };
 
-    fn from(fault: SigFault) -> Self {
+    fn from(fault: SignatureFault) -> Self {
         WithRefusal::Malformed(fault)
     }
 }
@@ -70,11 +70,11 @@ impl From<SigFault> for WithRefusal {
 pub fn with_calendar(
     alloc: Global,
     bytes: &[u8],
-    calendar: &CalChain,
-    publication: &PubRecord,
+    calendar: &CalendarChain,
+    publication: &PublicationRecord,
 ) -> Result<Bytes, WithRefusal>
     ensures text { IfOk result (λ text. text ≡ extended_text bytes.now calendar.now publication.now) }
-    ensures malformed { (fault : SigFault) → (result ≡ Err (refusals.Malformed fault)) ↔ IsSignatureFault bytes.now fault }
+    ensures malformed { (fault : SignatureFault) → (result ≡ Err (refusals.Malformed fault)) ↔ IsSignatureFault bytes.now fault }
     ensures too_long { (n : ℕ) → (result ≡ Err (refusals.TooLong n)) ↔
         (((signature : Signature) × IsSignature bytes.now signature)
         × IsTooLong (length (extended_content bytes.now calendar.now publication.now)) n) }
@@ -104,7 +104,12 @@ pub fn with_calendar(
 }
 
 /// The size of the new content.
-fn content_size(bytes: &[u8], at: &Placed<'_>, calendar: &CalChain, publication: &PubRecord) -> u64
+fn content_size(
+    bytes: &[u8],
+    at: &Placed<'_>,
+    calendar: &CalendarChain,
+    publication: &PublicationRecord,
+) -> u64
     requires { AllByRecursion (StandsIn bytes.now) (inner_elements (view_placed at.now)) }
     ensures { result ≡ capped (length (content_with bytes.now (inner_elements (view_placed at.now)) calendar.now publication.now)) }
 {
@@ -154,8 +159,8 @@ fn text_with(
     alloc: Global,
     bytes: &[u8],
     at: &Placed<'_>,
-    calendar: &CalChain,
-    publication: &PubRecord,
+    calendar: &CalendarChain,
+    publication: &PublicationRecord,
 ) -> Result<Bytes, NoMemory>
     requires stand { AllByRecursion (StandsIn bytes.now) (inner_elements (view_placed at.now)) }
     requires short { length (content_with bytes.now (inner_elements (view_placed at.now)) calendar.now publication.now) ≤ 65535 }
@@ -189,8 +194,8 @@ fn retained(alloc: Global, bytes: &[u8], at: &Placed<'_>) -> Result<Vec<u8>, NoM
 /// The elements of both.
 fn proof_with(
     alloc: Global,
-    calendar: &CalChain,
-    publication: &PubRecord,
+    calendar: &CalendarChain,
+    publication: &PublicationRecord,
 ) -> Result<Writer, NoMemory>
     requires { length (texts (calendar_element calendar.now ∷ publishing_element publication.now ∷ [])) ≤ 65535 }
     ensures { IfOk result (λ proof. proof ≡ texts (calendar_element calendar.now ∷ publishing_element publication.now ∷ [])) }
@@ -210,7 +215,7 @@ fn proof_with(
 }
 
 /// The body of a record that is not too long.
-fn record_body(alloc: Global, publication: &PubRecord) -> Result<Writer, NoMemory>
+fn record_body(alloc: Global, publication: &PublicationRecord) -> Result<Writer, NoMemory>
     requires { length (texts (publishing_elements publication.now)) ≤ 65535 }
     ensures { IfOk result (λ body. body ≡ texts (publishing_elements publication.now)) }
 {

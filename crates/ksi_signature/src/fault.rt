@@ -3,7 +3,7 @@ use crate::NoMemory;
 /// Why there is no signature. A malformed signature is reported by the codes S1 to S14 with the values of the variant. A
 /// place is the offset of an element's first byte in the file.
 #[derive(Clone, Copy, Debug, PartialEq, Eq)]
-pub enum SigFault {
+pub enum SignatureFault {
     /// S1: the header or the body at this place passes the end of what holds it.
     Tlv(usize),
     /// S2: bytes follow the signature from this place on.
@@ -36,13 +36,13 @@ pub enum SigFault {
     NoMemory,
 }
 
-impl From<NoMemory> for SigFault {
+impl From<NoMemory> for SignatureFault {
     ghost use Rattle.std.specs.Prelude.{◌≡◌};
-    ghost use Rattle.ksi_signature.specs.declared.fault.SigFault.TheVariants as answers;
+    ghost use Rattle.ksi_signature.specs.declared.fault.SignatureFault.TheVariants as answers;
 
     ghost from_gives = { λ _ fault. fault ≡ answers.NoMemory };
 
     fn from(_: NoMemory) -> Self {
-        SigFault::NoMemory
+        SignatureFault::NoMemory
     }
 }

@@ -9,18 +9,18 @@ ghost use Rattle.ksi_signature.specs.Values.{Calendar, Publishing, Fall};
 ghost use Rattle.ksi_signature.specs.Contents.{signature_of};
 ghost use Rattle.ksi_signature.specs.Order.{chains_among, with_parts};
 ghost use Rattle.ksi_signature.specs.declared.above.Above.{Above};
-ghost use Rattle.ksi_signature.specs.declared.fault.SigFault.{SigFault};
+ghost use Rattle.ksi_signature.specs.declared.fault.SignatureFault.{SignatureFault};
 ghost use Rattle.ksi_signature.specs.declared.signature.Signature.{Signature};
 ghost use Rattle.ksi_signature.specs.File.{IsSignature, IsSignatureFault, answer_of};
 ghost use Rattle.ksi_signature.specs.Reading.{elements_in, signature_at};
-ghost use Rattle.ksi_signature.specs.Kept.{IsCalendar, IsPublishing, IsKept};
+ghost use Rattle.ksi_signature.specs.Kept.{IsCalendar, IsPublishing, IsLimited};
 ghost use Rattle.ksi_signature.specs.Carried.{MayBeIssued, IsOfBytes, CalendarOfBytes};
 ghost use Rattle.ksi_signature.specs.Issued.{issued};
 ghost use Rattle.ksi_signature.specs.Extended.{extended_content, extended_text, renewed};
 ghost use Rattle.ksi_signature.specs.Written.{signature_text, sizes_of, first_long};
 
 use ksi_grammar::{
-    held_is_whole, published_is_read, record_is_read, whole_or_fault, written_is_whole,
+    inside_is_whole, published_is_read, record_is_read, whole_or_fault, written_is_whole,
 };
 use ksi_tlv::{
     canonical_is_shortest, front_by_spelling, numeral_is_read, reading_is_elements, written_is_read,
@@ -31,16 +31,16 @@ use ksi_tlv::{
 /// the first.
 pub fn signature_or_fault()
     ensures one { (bytes : List ℕ) → AreBytes bytes →
-        ((signature : Signature) × IsSignature bytes signature) ⊎ ((fault : SigFault) × IsSignatureFault bytes fault) }
-    ensures not_both { (bytes : List ℕ) (signature : Signature) (fault : SigFault) → AreBytes bytes →
+        ((signature : Signature) × IsSignature bytes signature) ⊎ ((fault : SignatureFault) × IsSignatureFault bytes fault) }
+    ensures not_both { (bytes : List ℕ) (signature : Signature) (fault : SignatureFault) → AreBytes bytes →
         IsSignature bytes signature → IsSignatureFault bytes fault → ⊥ }
     ensures one_signature { (bytes : List ℕ) (some other : Signature) →
         IsSignature bytes some → IsSignature bytes other → some ≡ other }
-    ensures one_fault { (bytes : List ℕ) (fault other : SigFault) → AreBytes bytes →
+    ensures one_fault { (bytes : List ℕ) (fault other : SignatureFault) → AreBytes bytes →
         IsSignatureFault bytes fault → IsSignatureFault bytes other → fault ≡ other }
     ensures whole { (bytes : List ℕ) → AreBytes bytes →
         (answer_of bytes ≡ Ok tt) ↔ ((signature : Signature) × IsSignature bytes signature) }
-    ensures fault { (bytes : List ℕ) (fault : SigFault) → AreBytes bytes →
+    ensures fault { (bytes : List ℕ) (fault : SignatureFault) → AreBytes bytes →
         (answer_of bytes ≡ Err fault) ↔ IsSignatureFault bytes fault }
 {
     whole_or_fault();
@@ -52,7 +52,7 @@ pub fn signature_or_fault()
 pub fn signature_is_read()
     ensures signature { (bytes : List ℕ) (signature : Signature) → AreBytes bytes →
         (signature_at bytes ≡ Ok signature) ↔ IsSignature bytes signature }
-    ensures fault { (bytes : List ℕ) (fault : SigFault) → AreBytes bytes →
+    ensures fault { (bytes : List ℕ) (fault : SignatureFault) → AreBytes bytes →
         (signature_at bytes ≡ Err fault) ↔ IsSignatureFault bytes fault }
     ensures elements { (bytes : List ℕ) (signature : Signature) → (is : IsSignature bytes signature) →
         elements_in bytes ≡ is.elements }
@@ -71,11 +71,11 @@ pub fn chains_in_order()
 
 /// The text of a signature is that signature, where its parts are what their types keep and no body is too long.
 pub fn written_is_signature()
-    ensures { (signature : Signature) → IsKept signature → first_long (sizes_of signature) ≡ None →
+    ensures { (signature : Signature) → IsLimited signature → first_long (sizes_of signature) ≡ None →
         IsSignature (signature_text signature) signature }
 {
     written_is_whole();
-    held_is_whole();
+    inside_is_whole();
     published_is_read();
     record_is_read();
     canonical_is_shortest();
@@ -114,7 +114,7 @@ pub fn extended_is_signature()
     reading_is_elements();
     written_is_read();
     written_is_whole();
-    held_is_whole();
+    inside_is_whole();
     published_is_read();
     record_is_read();
     canonical_is_shortest();
@@ -132,7 +132,7 @@ pub fn extended_is_short()
     front_by_spelling();
     reading_is_elements();
     written_is_whole();
-    held_is_whole();
+    inside_is_whole();
     published_is_read();
     record_is_read();
     canonical_is_shortest();

@@ -5,14 +5,14 @@ ghost use Rattle.ksi_tlv.specs.Spelling.{plain, canonical};
 ghost use Rattle.ksi_tlv.specs.Numerals.{numeral, without_zeros};
 ghost use Rattle.ksi_tlv.specs.Writing.{texts};
 ghost use Rattle.ksi_signature.specs.Lengths.{capped, size_of};
-ghost use Rattle.ksi_signature.specs.Written.{cal_link_element, calendar_elements, publishing_elements};
+ghost use Rattle.ksi_signature.specs.Written.{calendar_link_element, calendar_elements, publishing_elements};
 ghost use Rattle.ksi_grammar.specs.Published.{published_elements};
 
 use crate::kinds::{
     AGGREGATION_TIME, INPUT_HASH, LEFT_LINK, PUBLICATION_TIME, PUBLISHED, REFERENCE, REPOSITORY,
 };
-use crate::signature::{CalChain, PubRecord};
-use ksi_calchain::CalLink;
+use crate::signature::{CalendarChain, PublicationRecord};
+use ksi_calchain::CalendarLink;
 use ksi_imprint::{Bytes, Imprint};
 
 /// An element with a body of so many bytes.
@@ -65,31 +65,31 @@ fn imprint_size(kind: u16, imprint: &Imprint) -> u64
 }
 
 /// The body of a calendar chain.
-pub(crate) fn calendar_size(chain: &CalChain) -> u64
+pub(crate) fn calendar_size(chain: &CalendarChain) -> u64
     ensures value { result ≡ length (texts (calendar_elements chain.now)) }
     ensures small { result ≤ 2392 }
 {
     let times = number_size(PUBLICATION_TIME, chain.publication)
         + number_size(AGGREGATION_TIME, chain.time);
     let input = imprint_size(INPUT_HASH, &chain.input);
-    times + input + cal_links_size(chain.links.as_slice())
+    times + input + calendar_links_size(chain.links.as_slice())
 }
 
 /// Links of a calendar chain.
-fn cal_links_size(links: &[CalLink]) -> u64
+fn calendar_links_size(links: &[CalendarLink]) -> u64
     requires { length links.now ≤ 63 }
-    ensures value { result ≡ length (texts (map cal_link_element links.now)) }
+    ensures value { result ≡ length (texts (map calendar_link_element links.now)) }
     ensures small { result ≤ 2331 }
 {
     let mut size = 0;
     for link in links {
-        size += cal_link_size(link);
+        size += calendar_link_size(link);
     }
     size
 }
 
-fn cal_link_size(link: &CalLink) -> u64
-    ensures value { result ≡ length (canonical (cal_link_element link.now)) }
+fn calendar_link_size(link: &CalendarLink) -> u64
+    ensures value { result ≡ length (canonical (calendar_link_element link.now)) }
     ensures small { result ≤ 37 }
 {
     // A right link takes as many bytes.
@@ -97,7 +97,7 @@ fn cal_link_size(link: &CalLink) -> u64
 }
 
 /// The body of a publication record.
-pub(crate) fn publishing_size(published: &PubRecord) -> u64
+pub(crate) fn publishing_size(published: &PublicationRecord) -> u64
     ensures { result ≡ capped (length (texts (publishing_elements published.now))) }
 {
     let data = published_size(published.time, &published.hash);

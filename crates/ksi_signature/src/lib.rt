@@ -20,7 +20,7 @@
 //!     // the next chain goes on from this item, at its level
 //!     let top = climb::<Sha>(first.input, 0, first.links.as_slice())?;
 //! }
-//! let proved = signature.calendar.as_ref().map(|chain| climb_cal::<Sha>(chain.input, chain.links.as_slice()));
+//! let proved = signature.calendar.as_ref().map(|chain| climb_calendar::<Sha>(chain.input, chain.links.as_slice()));
 //! let text = write(alloc, &signature)?; // the same signature, in the order of the format
 //! ```
 #![tactic(auto)]
@@ -51,15 +51,15 @@ pub use answer::Answer;
 pub use checker::check;
 pub use containers::{CalendarContent, ChainContent, LinkContent, SignatureContent};
 pub use extension::{WithRefusal, with_calendar};
-pub use fault::SigFault;
+pub use fault::SignatureFault;
 pub use issuing::issue;
 pub use ksi_imprint::NoMemory;
 pub use laws::{
     chains_in_order, extended_is_bytes, extended_is_short, extended_is_signature, issued_is_bytes,
     issued_is_signature, signature_is_read, signature_or_fault, written_is_signature,
 };
-pub use lists::{Bodies, CalLinks, Chains, Index, Links};
+pub use lists::{Bodies, CalendarLinks, Chains, Index, Links};
 pub use reader::read;
 pub use refusal::WriteRefusal;
-pub use signature::{AggChain, CalChain, PubRecord, Signature};
+pub use signature::{AggregationChain, CalendarChain, PublicationRecord, Signature};
 pub use writer::write;

@@ -3,9 +3,9 @@ ghost use Rattle.ksi_split.specs.declared.tree_link.TreeLink.{TreeLink};
 ghost use Rattle.ksi_aggchain.specs.declared.link.Link as chain;
 ghost use Rattle.ksi_signature.specs.Values.{Aggregation, AreLinks, AreChains};
 
-use crate::signature::AggChain;
+use crate::signature::AggregationChain;
 use ksi_aggchain::Link;
-use ksi_calchain::CalLink;
+use ksi_calchain::CalendarLink;
 use ksi_imprint::Bytes;
 use std::marker::Model;
 
@@ -92,11 +92,11 @@ impl Links {
 
 /// The links of a calendar chain, the lowest first: at most 63. A contract sees their list.
 #[derive(Drop)]
-pub struct CalLinks {
-    links: Vec<CalLink>,
+pub struct CalendarLinks {
+    links: Vec<CalendarLink>,
 }
 
-impl Model for CalLinks {
+impl Model for CalendarLinks {
     ghost Value = { List (TreeLink (List ℕ)) };
 
     ghost view = { λ links. links.links.items };
@@ -104,17 +104,17 @@ impl Model for CalLinks {
     ghost invariant = { λ links. length links.links.items ≤ 63 };
 }
 
-impl CalLinks {
+impl CalendarLinks {
     /// These links, which are not copied.
-    pub fn from_vec(links: Vec<CalLink>) -> Self
+    pub fn from_vec(links: Vec<CalendarLink>) -> Self
         requires { length links.items ≤ 63 }
         ensures { result ≡ links.items }
     {
-        CalLinks { links }
+        CalendarLinks { links }
     }
 
     /// The links, the lowest first.
-    pub fn as_slice(&self) -> &[CalLink]
+    pub fn as_slice(&self) -> &[CalendarLink]
         ensures links { result.now ≡ self.now }
         ensures count { length self.now ≤ 63 }
     {
@@ -122,10 +122,10 @@ impl CalLinks {
     }
 
     /// The links in a `Vec`, which are not copied.
-    pub fn into_vec(self) -> Vec<CalLink>
+    pub fn into_vec(self) -> Vec<CalendarLink>
         ensures { result.items ≡ self }
     {
-        let CalLinks { links } = self;
+        let CalendarLinks { links } = self;
         links
     }
 }
@@ -169,7 +169,7 @@ impl Bodies {
 /// The aggregation chains of a signature by falling number of index parts, 1 to 16. A contract sees their list.
 #[derive(Drop)]
 pub struct Chains {
-    chains: Vec<AggChain>,
+    chains: Vec<AggregationChain>,
 }
 
 impl Model for Chains {
@@ -182,7 +182,7 @@ impl Model for Chains {
 
 impl Chains {
     /// These chains, which are not copied.
-    pub fn from_vec(chains: Vec<AggChain>) -> Self
+    pub fn from_vec(chains: Vec<AggregationChain>) -> Self
         requires { AreChains chains.items }
         ensures { result ≡ chains.items }
     {
@@ -190,7 +190,7 @@ impl Chains {
     }
 
     /// The chains in their order.
-    pub fn as_slice(&self) -> &[AggChain]
+    pub fn as_slice(&self) -> &[AggregationChain]
         ensures chains { result.now ≡ self.now }
         ensures limits { AreChains self.now }
     {
@@ -198,7 +198,7 @@ impl Chains {
     }
 
     /// The chains in a `Vec`, which are not copied.
-    pub fn into_vec(self) -> Vec<AggChain>
+    pub fn into_vec(self) -> Vec<AggregationChain>
         ensures { result.items ≡ self }
     {
         let Chains { chains } = self;

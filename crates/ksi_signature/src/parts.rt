@@ -1,8 +1,8 @@
 ghost use Rattle.std.specs.Prelude.{◌≡◌, ◌<◌, ◌^◌, Ok, IfOk, map, option_map};
-ghost use Rattle.ksi_tlv.specs.Seen.{view_placed};
+ghost use Rattle.ksi_tlv.specs.Views.{view_placed};
 ghost use Rattle.ksi_tlv.specs.Numerals.{number_of};
 ghost use Rattle.ksi_grammar.specs.Reading.{inner_verdict};
-ghost use Rattle.ksi_grammar.specs.Held.{inner_elements, first_of};
+ghost use Rattle.ksi_grammar.specs.Inside.{inner_elements, first_of};
 ghost use Rattle.ksi_grammar.specs.Published.{number_or_zero, imprint_or_zero, recorded_in, record_table};
 ghost use Rattle.ksi_signature.specs.Tables.{chain_table, calendar_table};
 ghost use Rattle.ksi_signature.specs.Contents.{bodies_of, number_or, chain_in, calendar_in, publishing_in};
@@ -13,17 +13,17 @@ use crate::contents::{imprint_of, number_of, time_of};
 use crate::kinds::{
     AGGREGATION_TIME, INDEX_PART, INPUT_DATA, INPUT_HASH, PUBLICATION_TIME, REFERENCE, REPOSITORY,
 };
-use crate::links::{cal_links_of, links_of};
+use crate::links::{calendar_links_of, links_of};
 use crate::lists::{Bodies, Index};
-use crate::signature::{AggChain, CalChain, PubRecord};
-use ksi_grammar::{held, held_is_whole, recorded};
+use crate::signature::{AggregationChain, CalendarChain, PublicationRecord};
+use ksi_grammar::{first_inside, inside_is_whole, recorded};
 use ksi_imprint::{Bytes, Imprint};
 use ksi_tlv::{Elements, Placed};
 use std::alloc::Global;
 
 /// An aggregation chain that was accepted.
 #[tactic(auto, unfolding(crate::specs::Contents::chain_in))]
-pub(crate) fn chain_of(alloc: Global, at: &Placed<'_>) -> Result<AggChain, NoMemory>
+pub(crate) fn chain_of(alloc: Global, at: &Placed<'_>) -> Result<AggregationChain, NoMemory>
     requires { inner_verdict chain_table (view_placed at.now) ≡ Ok tt }
     ensures { IfOk result (λ chain. chain ≡ chain_in (view_placed at.now)) }
 {
@@ -32,7 +32,7 @@ pub(crate) fn chain_of(alloc: Global, at: &Placed<'_>) -> Result<AggChain, NoMem
     let input_body = input_body_of(alloc, at)?;
     let input = chain_input(at);
     let links = links_of(alloc, at)?;
-    Ok(AggChain {
+    Ok(AggregationChain {
         time,
         index,
         input_body,
@@ -46,7 +46,7 @@ fn chain_time(at: &Placed<'_>) -> u64
     ensures value { result ≡ number_or_zero (first_of 2 (inner_elements (view_placed at.now))) }
     ensures below { result < 2 ^ 63 }
 {
-    match held::<ChainContent>(at, AGGREGATION_TIME) {
+    match first_inside::<ChainContent>(at, AGGREGATION_TIME) {
         Some(part) => time_of(&part),
         None => 0,
     }
@@ -56,7 +56,7 @@ fn index_of(alloc: Global, at: &Placed<'_>) -> Result<Index, NoMemory>
     requires { inner_verdict chain_table (view_placed at.now) ≡ Ok tt }
     ensures { IfOk result (λ index. index ≡ map number_of (bodies_of 3 (inner_elements (view_placed at.now)))) }
 {
-    held_is_whole();
+    inside_is_whole();
     let mut parts = Vec::new(alloc);
     let mut elements = Elements::at(at.inside, at.element.body);
     while let Some(item) = elements.next() {
@@ -73,7 +73,7 @@ fn input_body_of(alloc: Global, at: &Placed<'_>) -> Result<Option<Bytes>, NoMemo
     requires { inner_verdict chain_table (view_placed at.now) ≡ Ok tt }
     ensures { IfOk result (λ body. body ≡ option_map (λ part. part.element.body) (first_of 4 (inner_elements (view_placed at.now)))) }
 {
-    match held::<ChainContent>(at, INPUT_DATA) {
+    match first_inside::<ChainContent>(at, INPUT_DATA) {
         Some(part) => Ok(Some(Bytes::copy_of(alloc, part.element.body)?)),
         None => Ok(None),
     }
@@ -83,7 +83,7 @@ fn chain_input(at: &Placed<'_>) -> Imprint
     requires { inner_verdict chain_table (view_placed at.now) ≡ Ok tt }
     ensures { result ≡ imprint_or_zero (first_of 5 (inner_elements (view_placed at.now))) }
 {
-    match held::<ChainContent>(at, INPUT_HASH) {
+    match first_inside::<ChainContent>(at, INPUT_HASH) {
         Some(part) => imprint_of(&part),
         None => Imprint::ZERO,
     }
@@ -91,15 +91,15 @@ fn chain_input(at: &Placed<'_>) -> Imprint
 
 /// A calendar chain that was accepted.
 #[tactic(auto, unfolding(crate::specs::Contents::calendar_in))]
-pub(crate) fn calendar_of(alloc: Global, at: &Placed<'_>) -> Result<CalChain, NoMemory>
+pub(crate) fn calendar_of(alloc: Global, at: &Placed<'_>) -> Result<CalendarChain, NoMemory>
     requires { inner_verdict calendar_table (view_placed at.now) ≡ Ok tt }
     ensures { IfOk result (λ chain. chain ≡ calendar_in (view_placed at.now)) }
 {
     let publication = publication_time(at);
     let time = calendar_time(at, publication);
     let input = calendar_input(at);
-    let links = cal_links_of(alloc, at)?;
-    Ok(CalChain {
+    let links = calendar_links_of(alloc, at)?;
+    Ok(CalendarChain {
         publication,
         time,
         input,
@@ -112,7 +112,7 @@ fn publication_time(at: &Placed<'_>) -> u64
     ensures value { result ≡ number_or_zero (first_of 1 (inner_elements (view_placed at.now))) }
     ensures below { result < 2 ^ 63 }
 {
-    match held::<CalendarContent>(at, PUBLICATION_TIME) {
+    match first_inside::<CalendarContent>(at, PUBLICATION_TIME) {
         Some(part) => time_of(&part),
         None => 0,
     }
@@ -125,7 +125,7 @@ fn calendar_time(at: &Placed<'_>, publication: u64) -> u64
     ensures value { result ≡ number_or publication (first_of 2 (inner_elements (view_placed at.now))) }
     ensures below { result < 2 ^ 63 }
 {
-    match held::<CalendarContent>(at, AGGREGATION_TIME) {
+    match first_inside::<CalendarContent>(at, AGGREGATION_TIME) {
         Some(part) => time_of(&part),
         None => publication,
     }
@@ -135,7 +135,7 @@ fn calendar_input(at: &Placed<'_>) -> Imprint
     requires { inner_verdict calendar_table (view_placed at.now) ≡ Ok tt }
     ensures { result ≡ imprint_or_zero (first_of 5 (inner_elements (view_placed at.now))) }
 {
-    match held::<CalendarContent>(at, INPUT_HASH) {
+    match first_inside::<CalendarContent>(at, INPUT_HASH) {
         Some(part) => imprint_of(&part),
         None => Imprint::ZERO,
     }
@@ -143,14 +143,14 @@ fn calendar_input(at: &Placed<'_>) -> Imprint
 
 /// A publication record that was accepted.
 #[tactic(auto, unfolding(crate::specs::Contents::publishing_in))]
-pub(crate) fn publishing_of(alloc: Global, at: &Placed<'_>) -> Result<PubRecord, NoMemory>
+pub(crate) fn publishing_of(alloc: Global, at: &Placed<'_>) -> Result<PublicationRecord, NoMemory>
     requires { inner_verdict record_table (view_placed at.now) ≡ Ok tt }
     ensures { IfOk result (λ published. published ≡ publishing_in (view_placed at.now)) }
 {
     let (time, hash) = recorded_below(at);
     let references = bodies(alloc, at, REFERENCE)?;
     let repositories = bodies(alloc, at, REPOSITORY)?;
-    Ok(PubRecord {
+    Ok(PublicationRecord {
         time,
         hash,
         references,
@@ -163,7 +163,7 @@ fn recorded_below(at: &Placed<'_>) -> (u64, Imprint)
     ensures value { result ≡ recorded_in (view_placed at.now) }
     ensures below { result.0 < 2 ^ 63 }
 {
-    held_is_whole();
+    inside_is_whole();
     recorded(at)
 }
 

@@ -1,9 +1,9 @@
 ghost use Rattle.std.specs.Prelude.{◌≡◌, ◌⊎◌, ◌≤◌, ◌+◌, length, Ok, Err, IfOk, IfErr, OnOk, option_map, [], List, ℕ};
-ghost use Rattle.ksi_tlv.specs.Seen.{view_placed};
+ghost use Rattle.ksi_tlv.specs.Views.{view_placed};
 ghost use Rattle.ksi_grammar.specs.Reading.{inner_verdict};
-ghost use Rattle.ksi_grammar.specs.Held.{inner_elements, first_of};
-ghost use Rattle.ksi_signature.specs.declared.fault.SigFault.{SigFault};
-ghost use Rattle.ksi_signature.specs.declared.fault.SigFault.TheVariants as answers;
+ghost use Rattle.ksi_grammar.specs.Inside.{inner_elements, first_of};
+ghost use Rattle.ksi_signature.specs.declared.fault.SignatureFault.{SignatureFault};
+ghost use Rattle.ksi_signature.specs.declared.fault.SignatureFault.TheVariants as answers;
 ghost use Rattle.ksi_signature.specs.declared.signature.Signature.{Signature};
 ghost use Rattle.ksi_signature.specs.Values.{Aggregation};
 ghost use Rattle.ksi_signature.specs.Tables.{signature_table};
@@ -14,20 +14,20 @@ ghost use Rattle.ksi_signature.specs.File.{IsSignature, IsSignatureFault};
 use crate::NoMemory;
 use crate::checker::accepted;
 use crate::containers::SignatureContent;
-use crate::fault::SigFault;
+use crate::fault::SignatureFault;
 use crate::kinds::{CALENDAR, CHAIN, PUBLICATION};
 use crate::laws::signature_or_fault;
 use crate::lists::Chains;
 use crate::parts::{calendar_of, chain_of, publishing_of};
-use crate::signature::{AggChain, CalChain, PubRecord, Signature};
-use ksi_grammar::{held, held_is_whole, whole_or_fault};
+use crate::signature::{AggregationChain, CalendarChain, PublicationRecord, Signature};
+use ksi_grammar::{first_inside, inside_is_whole, whole_or_fault};
 use ksi_tlv::{Elements, Placed, front_by_spelling};
 use std::alloc::Global;
 
 /// Reads a signature. Memory is taken only where the bytes are one.
-pub fn read(alloc: Global, bytes: &[u8]) -> Result<Signature, SigFault>
+pub fn read(alloc: Global, bytes: &[u8]) -> Result<Signature, SignatureFault>
     ensures signature { IfOk result (λ signature. IsSignature bytes.now signature) }
-    ensures fault { (fault : SigFault) → IsSignatureFault bytes.now fault → result ≡ Err fault }
+    ensures fault { (fault : SignatureFault) → IsSignatureFault bytes.now fault → result ≡ Err fault }
     ensures refused { IfErr result (λ fault. IsSignatureFault bytes.now fault
         ⊎ ((fault ≡ answers.NoMemory) × (signature : Signature) × IsSignature bytes.now signature)) }
 {
@@ -63,7 +63,7 @@ fn chains_of(alloc: Global, at: &Placed<'_>) -> Result<Chains, NoMemory>
     requires { inner_verdict signature_table (view_placed at.now) ≡ Ok tt }
     ensures { IfOk result (λ chains. chains ≡ chains_behind [] (inner_elements (view_placed at.now))) }
 {
-    held_is_whole();
+    inside_is_whole();
     let mut chains = Vec::new(alloc);
     let mut elements = Elements::at(at.inside, at.element.body);
     while let Some(item) = elements.next() {
@@ -77,7 +77,7 @@ fn chains_of(alloc: Global, at: &Placed<'_>) -> Result<Chains, NoMemory>
 }
 
 /// Puts a chain behind all that have as many index parts or more.
-fn put_chain(chains: &mut Vec<AggChain>, chain: AggChain) -> Result<(), NoMemory>
+fn put_chain(chains: &mut Vec<AggregationChain>, chain: AggregationChain) -> Result<(), NoMemory>
     ensures { OnOk result (chains.new.items ≡ put_chain chain chains.old.items) }
 {
     let place = place_among(chains.as_slice(), chain.index.as_slice().len());
@@ -86,7 +86,7 @@ fn put_chain(chains: &mut Vec<AggChain>, chain: AggChain) -> Result<(), NoMemory
 }
 
 /// The place of the first chain that has fewer index parts, or the end.
-fn place_among(chains: &[AggChain], parts: usize) -> usize
+fn place_among(chains: &[AggregationChain], parts: usize) -> usize
     ensures value { result ≡ place_of parts chains.now }
     ensures within { result ≤ length chains.now }
 {
@@ -98,21 +98,21 @@ fn place_among(chains: &[AggChain], parts: usize) -> usize
     chains.len()
 }
 
-fn calendar_among(alloc: Global, at: &Placed<'_>) -> Result<Option<CalChain>, NoMemory>
+fn calendar_among(alloc: Global, at: &Placed<'_>) -> Result<Option<CalendarChain>, NoMemory>
     requires { inner_verdict signature_table (view_placed at.now) ≡ Ok tt }
     ensures { IfOk result (λ chain. chain ≡ option_map calendar_in (first_of 2050 (inner_elements (view_placed at.now)))) }
 {
-    match held::<SignatureContent>(at, CALENDAR) {
+    match first_inside::<SignatureContent>(at, CALENDAR) {
         Some(part) => Ok(Some(calendar_of(alloc, &part)?)),
         None => Ok(None),
     }
 }
 
-fn publication_among(alloc: Global, at: &Placed<'_>) -> Result<Option<PubRecord>, NoMemory>
+fn publication_among(alloc: Global, at: &Placed<'_>) -> Result<Option<PublicationRecord>, NoMemory>
     requires { inner_verdict signature_table (view_placed at.now) ≡ Ok tt }
     ensures { IfOk result (λ published. published ≡ option_map publishing_in (first_of 2051 (inner_elements (view_placed at.now)))) }
 {
-    match held::<SignatureContent>(at, PUBLICATION) {
+    match first_inside::<SignatureContent>(at, PUBLICATION) {
         Some(part) => Ok(Some(publishing_of(alloc, &part)?)),
         None => Ok(None),
     }

@@ -1,13 +1,13 @@
 ghost use Rattle.std.specs.Prelude.{◌<◌, ◌^◌};
 ghost use Rattle.ksi_signature.specs.Values.{Aggregation, Calendar, Publishing};
 
-use crate::lists::{Bodies, CalLinks, Chains, Index, Links};
+use crate::lists::{Bodies, CalendarLinks, Chains, Index, Links};
 use ksi_imprint::{Bytes, Imprint};
 use std::marker::Model;
 
 /// An aggregation hash chain.
 #[derive(Drop)]
-pub struct AggChain {
+pub struct AggregationChain {
     /// The second of the aggregation, below 2^63.
     pub time: u64,
     /// Numbers that say where the chain stands; the last of them is to be the chain's shape, which a check compares.
@@ -20,7 +20,7 @@ pub struct AggChain {
     pub links: Links,
 }
 
-impl Model for AggChain {
+impl Model for AggregationChain {
     ghost Value = { Aggregation };
 
     ghost view = { λ chain. record { time = chain.time; index = chain.index; input_body = chain.input_body; input = chain.input; links = chain.links } };
@@ -30,7 +30,7 @@ impl Model for AggChain {
 
 /// A calendar hash chain.
 #[derive(Drop)]
-pub struct CalChain {
+pub struct CalendarChain {
     /// The last second of the tree that the links lead to the root of, below 2^63.
     pub publication: u64,
     /// The second that the links lead from, below 2^63.
@@ -38,10 +38,10 @@ pub struct CalChain {
     /// What is stated as the root of that second.
     pub input: Imprint,
     /// The lowest first.
-    pub links: CalLinks,
+    pub links: CalendarLinks,
 }
 
-impl Model for CalChain {
+impl Model for CalendarChain {
     ghost Value = { Calendar };
 
     ghost view = { λ chain. record { publication = chain.publication; time = chain.time; input = chain.input; links = chain.links } };
@@ -51,7 +51,7 @@ impl Model for CalChain {
 
 /// A publication record.
 #[derive(Drop)]
-pub struct PubRecord {
+pub struct PublicationRecord {
     /// The published second, below 2^63.
     pub time: u64,
     /// The published root of the calendar tree to that second.
@@ -62,7 +62,7 @@ pub struct PubRecord {
     pub repositories: Bodies,
 }
 
-impl Model for PubRecord {
+impl Model for PublicationRecord {
     ghost Value = { Publishing };
 
     ghost view = { λ published. record { time = published.time; hash = published.hash; references = published.references; repositories = published.repositories } };
@@ -76,7 +76,7 @@ pub struct Signature {
     /// The lowest first: `read` has them by falling number of index parts.
     pub chains: Chains,
     /// From the second's root to a root of the calendar.
-    pub calendar: Option<CalChain>,
+    pub calendar: Option<CalendarChain>,
     /// Where that root was published.
-    pub publication: Option<PubRecord>,
+    pub publication: Option<PublicationRecord>,
 }

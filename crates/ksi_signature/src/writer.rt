@@ -3,7 +3,7 @@ ghost use Rattle.ksi_signature.specs.declared.refusal.WriteRefusal.TheVariants a
 ghost use Rattle.std.specs.List.{AllByRecursion};
 ghost use Rattle.ksi_tlv.specs.Writing.{texts};
 ghost use Rattle.ksi_signature.specs.File.{IsSignature};
-ghost use Rattle.ksi_signature.specs.Kept.{IsAggregation, IsCalendar, IsPublishing, IsKept};
+ghost use Rattle.ksi_signature.specs.Kept.{IsAggregation, IsCalendar, IsPublishing, IsLimited};
 ghost use Rattle.ksi_signature.specs.Written.{chain_element, calendar_element, publishing_element, optional_element, signature_elements, signature_text, chain_sizes, publishing_sizes, optional_sizes, sizes_of, first_long, TellsLong};
 
 use crate::NoMemory;
@@ -11,7 +11,7 @@ use crate::bodies::{calendar_body, chain_body, publishing_body, put_body};
 use crate::kinds::{CALENDAR, CHAIN, PUBLICATION, SIGNATURE};
 use crate::laws::written_is_signature;
 use crate::refusal::WriteRefusal;
-use crate::signature::{AggChain, CalChain, PubRecord, Signature};
+use crate::signature::{AggregationChain, CalendarChain, PublicationRecord, Signature};
 use ksi_grammar::put_short;
 use ksi_imprint::Bytes;
 use ksi_tlv::Writer;
@@ -41,7 +41,7 @@ pub fn write(alloc: Global, signature: &Signature) -> Result<Bytes, WriteRefusal
 fn written(alloc: Global, signature: &Signature) -> Result<Bytes, WriteRefusal>
     ensures text { IfOk result (λ bytes. bytes ≡ signature_text signature.now) }
     ensures long { TellsLong (sizes_of signature.now) result }
-    ensures kept { IfOk result (λ _. IsKept signature.now) }
+    ensures kept { IfOk result (λ _. IsLimited signature.now) }
 {
     let body = signature_body(alloc, signature)?;
     let mut writer = Writer::new(alloc);
@@ -52,7 +52,7 @@ fn written(alloc: Global, signature: &Signature) -> Result<Bytes, WriteRefusal>
 fn signature_body(alloc: Global, signature: &Signature) -> Result<Writer, WriteRefusal>
     ensures text { IfOk result (λ body. body ≡ texts (signature_elements signature.now)) }
     ensures long { TellsLong (flat_map chain_sizes signature.now.chains ++ optional_sizes signature.now.publication) result }
-    ensures kept { IfOk result (λ _. IsKept signature.now) }
+    ensures kept { IfOk result (λ _. IsLimited signature.now) }
 {
     let mut body = Writer::new(alloc);
     put_chains(&mut body, alloc, signature.chains.as_slice())?;
@@ -61,7 +61,11 @@ fn signature_body(alloc: Global, signature: &Signature) -> Result<Writer, WriteR
     Ok(body)
 }
 
-fn put_chains(writer: &mut Writer, alloc: Global, chains: &[AggChain]) -> Result<(), WriteRefusal>
+fn put_chains(
+    writer: &mut Writer,
+    alloc: Global,
+    chains: &[AggregationChain],
+) -> Result<(), WriteRefusal>
     ensures text { OnOk result (writer.new ≡ writer.old ++ texts (map chain_element chains.now)) }
     ensures long { TellsLong (flat_map chain_sizes chains.now) result }
     ensures kept { OnOk result (AllByRecursion IsAggregation chains.now) }
@@ -72,7 +76,11 @@ fn put_chains(writer: &mut Writer, alloc: Global, chains: &[AggChain]) -> Result
     Ok(())
 }
 
-fn put_chain(writer: &mut Writer, alloc: Global, chain: &AggChain) -> Result<(), WriteRefusal>
+fn put_chain(
+    writer: &mut Writer,
+    alloc: Global,
+    chain: &AggregationChain,
+) -> Result<(), WriteRefusal>
     ensures text { OnOk result (writer.new ≡ writer.old ++ texts (chain_element chain.now ∷ [])) }
     ensures long { TellsLong (chain_sizes chain.now) result }
     ensures kept { OnOk result (IsAggregation chain.now) }
@@ -90,7 +98,7 @@ fn put_chain(writer: &mut Writer, alloc: Global, chain: &AggChain) -> Result<(),
 fn put_calendar(
     writer: &mut Writer,
     alloc: Global,
-    calendar: &Option<CalChain>,
+    calendar: &Option<CalendarChain>,
 ) -> Result<(), NoMemory>
     ensures text { OnOk result (writer.new ≡ writer.old ++ texts (optional_element calendar_element calendar.now)) }
     ensures kept { OnOk result (IfSome calendar.now IsCalendar) }
@@ -106,7 +114,7 @@ fn put_calendar(
 fn put_publication(
     writer: &mut Writer,
     alloc: Global,
-    publication: &Option<PubRecord>,
+    publication: &Option<PublicationRecord>,
 ) -> Result<(), WriteRefusal>
     ensures text { OnOk result (writer.new ≡ writer.old ++ texts (optional_element publishing_element publication.now)) }
     ensures long { TellsLong (optional_sizes publication.now) result }
@@ -121,7 +129,7 @@ fn put_publication(
 fn put_published(
     writer: &mut Writer,
     alloc: Global,
-    published: &PubRecord,
+    published: &PublicationRecord,
 ) -> Result<(), WriteRefusal>
     ensures text { OnOk result (writer.new ≡ writer.old ++ texts (publishing_element published.now ∷ [])) }
     ensures long { TellsLong (publishing_sizes published.now) result }

@@ -3,7 +3,7 @@ use Rattle.std.proofs.Common.{◌≡◌, ◌≢◌, ℕ, ◌+◌, ◌-◌, ◌<�
 use Rattle.ksi_split.specs.declared.side.Side.{Side}
 use Rattle.ksi_split.specs.declared.fault.ShapeFault.{ShapeFault}
 use Rattle.ksi_split.specs.declared.fault.ShapeFault.TheVariants.{TooMany, TooFew}
-use Rattle.ksi_split.specs.Ways.{IsWay, Begins, LeadsTo, IsSecond, PassesLeaf, EndsAbove}
+use Rattle.ksi_split.specs.Ways.{IsWay, Begins, LeadsTo, NamesSecond, PassesLeaf, EndsAbove}
 use Rattle.ksi_split.specs.Parts.{Part, part_at, second_in, second_at}
 use Rattle.ksi_split.proofs.Powers.{eq_cases}
 use Rattle.ksi_split.proofs.Ways.{part_of}
@@ -20,12 +20,12 @@ too_many place = Err (TooMany place)
 abbrev pub too_few : ℕ → Result ℕ ShapeFault
 too_few rest = Err (TooFew rest)
 
-pub is_second : (p t : ℕ) (sides : List Side) → second_at p sides ≡ named t → IsSecond p sides t
+pub is_second : (p t : ℕ) (sides : List Side) → second_at p sides ≡ named t → NamesSecond p sides t
 is_second p t sides e =
     let h = second_is p t sides e in
     record { within = h.within; way = subst (IsWay t (p + 1)) h.way (way_is t (p + 1) (omega (arith, h.within))) }
 
-pub second_found : (p t : ℕ) (sides : List Side) → IsSecond p sides t → second_at p sides ≡ named t
+pub second_found : (p t : ℕ) (sides : List Side) → NamesSecond p sides t → second_at p sides ≡ named t
 second_found p t sides h = ap (second_at p) (sym (word_is sides t (p + 1) h.way).word) ∙ second_names p t h.within
 
 -- what a part that is reached says
@@ -73,10 +73,10 @@ above_found p rest sides h =
     let less : rest + 1 - 1 ≡ rest = omega arith in
     ap second_in (part_is (p + 1) h.first (rest + 1) sides h.part) ∙ open_part (part_of h.first (rest + 1)) (λ one. absurd (omega (arith, h.more))) ∙ ap too_few less
 
-pub some_answer : (p : ℕ) (sides : List Side) → ((t : ℕ) × IsSecond p sides t) ⊎ (((place : ℕ) × PassesLeaf p sides place) ⊎ ((rest : ℕ) × EndsAbove p sides rest))
+pub some_answer : (p : ℕ) (sides : List Side) → ((t : ℕ) × NamesSecond p sides t) ⊎ (((place : ℕ) × PassesLeaf p sides place) ⊎ ((rest : ℕ) × EndsAbove p sides rest))
 some_answer p sides = of (second_at p sides) refl
   where
-    of : (r : Result ℕ ShapeFault) → second_at p sides ≡ r → ((t : ℕ) × IsSecond p sides t) ⊎ (((place : ℕ) × PassesLeaf p sides place) ⊎ ((rest : ℕ) × EndsAbove p sides rest))
+    of : (r : Result ℕ ShapeFault) → second_at p sides ≡ r → ((t : ℕ) × NamesSecond p sides t) ⊎ (((place : ℕ) × PassesLeaf p sides place) ⊎ ((rest : ℕ) × EndsAbove p sides rest))
     of (Ok t) e = inl (t, is_second p t sides e)
     of (Err (TooMany place)) e = inr (inl (place, is_passing p place sides e))
     of (Err (TooFew rest)) e = inr (inr (rest, is_above p rest sides e))
@@ -112,7 +112,7 @@ front_above p t side sides more way = elim (some_answer p sides) [
 
 -- ---- both ways, for any value that is the computed one
 
-pub second_both : (p : ℕ) (sides : List Side) (r : Result ℕ ShapeFault) → r ≡ second_at p sides → (t : ℕ) → (r ≡ named t) ↔ IsSecond p sides t
+pub second_both : (p : ℕ) (sides : List Side) (r : Result ℕ ShapeFault) → r ≡ second_at p sides → (t : ℕ) → (r ≡ named t) ↔ NamesSecond p sides t
 second_both p sides r e t = (λ h. is_second p t sides (sym e ∙ h), λ h. e ∙ second_found p t sides h)
 
 pub many_both : (p : ℕ) (sides : List Side) (r : Result ℕ ShapeFault) → r ≡ second_at p sides → (place : ℕ) → (r ≡ too_many place) ↔ PassesLeaf p sides place

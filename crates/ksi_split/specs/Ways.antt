@@ -33,7 +33,7 @@ pub record LeadsTo (n : ℕ) (sides : List Side) (first count : ℕ) : Type 0 wh
   pub leaves : (t : ℕ) → Begins t n sides ↔ ((first ≤ t) × (t < first + count))
 
 -- among the seconds from 0 to p the sides are the way to second t
-pub record IsSecond (p : ℕ) (sides : List Side) (t : ℕ) : Type 0 where
+pub record NamesSecond (p : ℕ) (sides : List Side) (t : ℕ) : Type 0 where
   pub within : t ≤ p
   pub way : IsWay t (p + 1) sides
 
@@ -41,7 +41,7 @@ pub record IsSecond (p : ℕ) (sides : List Side) (t : ℕ) : Type 0 where
 pub record PassesLeaf (p : ℕ) (sides : List Side) (place : ℕ) : Type 0 where
   pub more : place < length sides
   pub second : ℕ
-  pub reached : IsSecond p (take place sides) second
+  pub reached : NamesSecond p (take place sides) second
 
 -- the sides end too early: they lead to a part of `rest` seconds more than one
 pub record EndsAbove (p : ℕ) (sides : List Side) (rest : ℕ) : Type 0 where

@@ -2,7 +2,7 @@
 //! does anything.
 ghost use Rattle.std.specs.Prelude.{◌≡◌, ◌<◌, ◌≤◌, ◌+◌, ◌-◌, ◌^◌, ◌↔◌, ◌⊎◌, ℕ, List, [], ◌∷◌, ◌++◌, length};
 ghost use Rattle.ksi_split.specs.Powers.{IsSplit, IsHighBit, split_of, high_bit_of};
-ghost use Rattle.ksi_split.specs.Ways.{IsWay, way_of, LeadsTo, IsSecond, PassesLeaf, EndsAbove};
+ghost use Rattle.ksi_split.specs.Ways.{IsWay, way_of, LeadsTo, NamesSecond, PassesLeaf, EndsAbove};
 ghost use Rattle.ksi_split.specs.Parts.{Part, part_at, second_at};
 ghost use Rattle.ksi_split.specs.declared.side.Side.{Side};
 ghost use Rattle.ksi_split.specs.declared.side.Side.TheVariants.{Left, Right};
@@ -60,10 +60,10 @@ pub fn proper_fronts()
 /// Any sides are the way to a second, or pass one, or end above one, and `second_at` says which.
 pub fn one_answer()
     ensures some { (p : ℕ) (sides : List Side) →
-        ((t : ℕ) × IsSecond p sides t) ⊎
+        ((t : ℕ) × NamesSecond p sides t) ⊎
         (((place : ℕ) × PassesLeaf p sides place) ⊎ ((rest : ℕ) × EndsAbove p sides rest)) }
     ensures second { (p t : ℕ) (sides : List Side) →
-        (second_at p sides ≡ Ok t) ↔ IsSecond p sides t }
+        (second_at p sides ≡ Ok t) ↔ NamesSecond p sides t }
     ensures too_many { (p place : ℕ) (sides : List Side) →
         (second_at p sides ≡ Err (TooMany place)) ↔ PassesLeaf p sides place }
     ensures too_few { (p rest : ℕ) (sides : List Side) →
@@ -74,13 +74,13 @@ pub fn one_answer()
 /// one second, one place and one rest.
 pub fn only_one_answer()
     ensures second_or_place { (p t place : ℕ) (sides : List Side) →
-        IsSecond p sides t → ¬ PassesLeaf p sides place }
+        NamesSecond p sides t → ¬ PassesLeaf p sides place }
     ensures second_or_rest { (p t rest : ℕ) (sides : List Side) →
-        IsSecond p sides t → ¬ EndsAbove p sides rest }
+        NamesSecond p sides t → ¬ EndsAbove p sides rest }
     ensures place_or_rest { (p place rest : ℕ) (sides : List Side) →
         PassesLeaf p sides place → ¬ EndsAbove p sides rest }
     ensures one_second { (p t u : ℕ) (sides : List Side) →
-        IsSecond p sides t → IsSecond p sides u → t ≡ u }
+        NamesSecond p sides t → NamesSecond p sides u → t ≡ u }
     ensures one_place { (p place other : ℕ) (sides : List Side) →
         PassesLeaf p sides place → PassesLeaf p sides other → place ≡ other }
     ensures one_rest { (p rest other : ℕ) (sides : List Side) →

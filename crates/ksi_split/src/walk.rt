@@ -1,6 +1,6 @@
 ghost use Rattle.std.specs.Prelude.{◌≡◌, ◌<◌, ◌≤◌, ◌+◌, ◌^◌, ◌↔◌, ℕ, length};
 ghost use Rattle.ksi_split.specs.Ways.{way_of};
-ghost use Rattle.ksi_split.specs.Ways.{IsWay, IsSecond, PassesLeaf, EndsAbove};
+ghost use Rattle.ksi_split.specs.Ways.{IsWay, NamesSecond, PassesLeaf, EndsAbove};
 ghost use Rattle.ksi_split.specs.Parts.{second_at};
 ghost use Rattle.ksi_split.specs.declared.fault.ShapeFault.TheVariants.{TooMany, TooFew};
 
@@ -41,7 +41,7 @@ pub fn way(t: u64, n: u64) -> Way
 /// `TooMany(place)` where the sides before the one at `place` are already the way to a second, and `TooFew(rest)`
 /// where the sides end at a part that has `rest` seconds more than one.
 pub fn second_of(p: u64, sides: &[Side]) -> Result<u64, ShapeFault>
-    ensures second { (t : ℕ) → (result ≡ Ok t) ↔ IsSecond p sides.now t }
+    ensures second { (t : ℕ) → (result ≡ Ok t) ↔ NamesSecond p sides.now t }
     ensures too_many { (place : ℕ) → (result ≡ Err (TooMany place)) ↔ PassesLeaf p sides.now place }
     ensures too_few { (rest : ℕ) → (result ≡ Err (TooFew rest)) ↔ EndsAbove p sides.now rest }
     ensures value { result ≡ second_at p sides.now }

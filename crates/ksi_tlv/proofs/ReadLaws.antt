@@ -9,7 +9,7 @@ use Rattle.ksi_tlv.proofs.WalkLaws.{elements-nil, elements-cut}
 use Rattle.ksi_tlv.specs.declared.element.Element.{Element}
 use Rattle.ksi_tlv.specs.declared.element.TlvFault.{TlvFault}
 use Rattle.ksi_tlv.specs.declared.element.TlvFault.TheVariants.{Short}
-use Rattle.ksi_tlv.specs.Seen.{view, view_front, view_cut}
+use Rattle.ksi_tlv.specs.Views.{view, view_front, view_cut}
 
 abbrev ok : Tlv × ℕ → Result (Tlv × ℕ) ℕ
 ok x = Ok x

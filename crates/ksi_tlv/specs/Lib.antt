@@ -3,4 +3,4 @@ pub mod Front
 pub mod Walking
 pub mod Numerals
 pub mod Writing
-pub mod Seen
+pub mod Views

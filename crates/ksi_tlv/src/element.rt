@@ -1,7 +1,7 @@
 ghost use Rattle.std.specs.Prelude.{◌≡◌, ◌∷◌, ℕ, List, length, ◌+◌, ◌++◌, ◌<◌, ◌≤◌, ◌↔◌, ◌/◌, ◌%◌, ◌==◌, IfOk, IfErr, IsOk, IsOkAnd};
 ghost use Rattle.ksi_tlv.specs.Spelling.{Tlv, Spells, IsFront};
 ghost use Rattle.ksi_tlv.specs.Front.{size_at, header_at, element_at};
-ghost use Rattle.ksi_tlv.specs.Seen.{view, view_front, view_header, view_cut};
+ghost use Rattle.ksi_tlv.specs.Views.{view, view_front, view_header, view_cut};
 
 /// One element, with its body lent from the bytes it was read from.
 #[derive(Clone, Copy)]

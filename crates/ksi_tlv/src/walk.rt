@@ -24,7 +24,7 @@ pub struct Elements<'a> {
 
 impl<'a> Elements<'a> {
     ghost use Rattle.ksi_tlv.specs.Walking.{IsReading, elements};
-    ghost use Rattle.ksi_tlv.specs.Seen.{rest};
+    ghost use Rattle.ksi_tlv.specs.Views.{rest};
 
     /// The elements of bytes whose first byte stands at place 0.
     pub fn new(bytes: &'a [u8]) -> Self
@@ -46,7 +46,7 @@ impl<'a> Elements<'a> {
 
 impl<'a> Iterator for Elements<'a> {
     ghost use Rattle.std.specs.Iterator.{YieldsFirstBy, at_most};
-    ghost use Rattle.ksi_tlv.specs.Seen.{view_item, rest};
+    ghost use Rattle.ksi_tlv.specs.Views.{view_item, rest};
 
     type Item = Result<Placed<'a>, (usize, TlvFault)>;
 

@@ -1,4 +1,4 @@
--- What was issued, and taken on, is accepted.
+-- What was issued, and extended, is accepted.
 use Rattle.std.proofs.Common.{◌≡◌, ℕ, ◌≤◌, List, length, Ok, Some, refl, sym, ap, subst, inl, inr, arith, ◌∙◌}
 use Rattle.std.specs.Prelude.{◌↔◌}
 use Rattle.std.proofs.lemmas.Bool.{le-ltb}
@@ -14,7 +14,7 @@ use Rattle.ksi_verifier.specs.declared.verdict.Verdict.TheVariants.{Accepted}
 use Rattle.ksi_verifier.specs.Verdict.{verdict}
 use Rattle.ksi_history.specs.Joined.{Lasts}
 use Rattle.ksi_history.specs.Lasting.{LastsTo}
-use Rattle.ksi_extender.specs.Accepted.{taken_on}
+use Rattle.ksi_extender.specs.Accepted.{extended_signature}
 use Rattle.ksi_extender.specs.Extended.{extended}
 use Rattle.ksi_replay.specs.Journals.{journal_of}
 use Rattle.ksi_world.specs.declared.outcome.Asked as requests
@@ -37,7 +37,7 @@ signature_short bytes signature is = elim is.spelled [
   | inr long ↦ omega (arith, ap length long.1, long.0.body)
 ]
 
--- what an issued signature is taken on to are bytes
+-- what an issued signature is extended to are bytes
 abbrev Extends : Type 0
 Extends = (schedule : List ℕ) (h : History) → IsScheduleText schedule h → (number : ℕ) (text : List ℕ) → issued_of imprint_of (world_of imprint_of h) number ≡ Some text
     → (p : ℕ) (extension : List ℕ) → extended imprint_of (journal_of imprint_of h) text p ≡ Ok extension → AreBytes extension
@@ -65,7 +65,7 @@ module _ (signature_read : (bytes : List ℕ) (signature : Signature) → AreByt
       let at : l.asked.second ≡ second = ap (λ (a : requests.Asked). a.second) same ∙ d.of_second in
       let for : l.asked.imprint ≡ hash = ap (λ (a : requests.Asked). a.imprint) same ∙ d.of_hash in
       let to : LastsTo imprint_of journal l.asked d.text d.p = l.later d.p (omega (arith, at, d.from)) d.covered in
-      let read = taken_on imprint_of journal to.signature d.p in
+      let read = extended_signature imprint_of journal to.signature d.p in
       let bytes : to.bytes ≡ content held signature = cc (to.extension, d.extension) in
       let is : IsSignature (content held signature) read = subst (λ bytes. IsSignature bytes read) bytes to.after in
       let accepted : verdict imprint_of read hash d.pairs ≡ Accepted second = ap (λ hash. verdict imprint_of read hash d.pairs) (sym for) ∙ to.accepted d.pairs d.published ∙ ap Accepted at in

@@ -1,4 +1,4 @@
--- What is told of an audit, and of a signature that is not taken on, has what was read for its cause.
+-- What is told of an audit, and of a signature that is not extended, has what was read for its cause.
 use Rattle.std.proofs.Common.{◌≡◌, None, refl}
 use Rattle.ksi_auditor.specs.declared.answer.Audit.{Audit}
 use Rattle.ksi_auditor.specs.declared.answer.Audit.TheVariants as answers

@@ -1,4 +1,4 @@
--- Completeness: what was issued, and taken on, is accepted.
+-- Completeness: what was issued, and extended, is accepted.
 use Rattle.std.specs.Prelude.{◌≡◌, ℕ, ◌≤◌, List, length, slice_get, Some, Ok}
 use Rattle.ksi_imprint.specs.Imprints.{imprint_of}
 use Rattle.ksi_ports.specs.Stored.{Held}
@@ -19,7 +19,7 @@ use Rattle.ksi_top.specs.Loading.{content, file_limit}
 use Rattle.ksi_top.specs.Verify.{judged}
 
 -- The files and the hash of a signature that was issued for a second in a history, as `replay` reads one and gives its
--- journal. It was issued of a request for this hash and is taken on, over that journal, to a covered second p, its own or a
+-- journal. It was issued of a request for this hash and is extended, over that journal, to a covered second p, its own or a
 -- later one; and the first record of p in the publications file, which is within its limit, is the root of the journal to p.
 pub record IsTakenFrom (signature hash publications : List ℕ) (second : ℕ) : Type 0 where
   pub schedule : List ℕ

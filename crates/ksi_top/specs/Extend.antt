@@ -25,10 +25,10 @@ not_extended (refusals.RootDiffers second kept given) = report statuses.Refused 
 not_extended (refusals.TooLarge size) = report statuses.Refused (too_large_line size)
 not_extended refusals.NoMemory = report statuses.Refused (line_of [])
 
--- of a signature of a second, taken on to another
-abbrev pub taken_on : (second publication : ℕ) → (out : List ℕ) → Result (List ℕ) ExtendRefusal → Report
-taken_on second publication out (Ok bytes) = saving (extended_line second publication) out bytes
-taken_on second publication out (Err refusal) = not_extended refusal
+-- of a signature of a second, extended to another
+abbrev pub extended_report : (second publication : ℕ) → (out : List ℕ) → Result (List ℕ) ExtendRefusal → Report
+extended_report second publication out (Ok bytes) = saving (extended_line second publication) out bytes
+extended_report second publication out (Err refusal) = not_extended refusal
 
 -- the files that are loaded, each told by its word and its limit: the journal's, then the signature's
 abbrev pub over_files : List (ℕ × ℕ)
@@ -37,13 +37,13 @@ over_files = (2, signature_limit) ∷ []
 abbrev pub extend_files : List (ℕ × ℕ)
 extend_files = (1, file_limit) ∷ over_files
 
--- the signature's file is loaded and read, which is taken on to the second and saved
+-- the signature's file is loaded and read, which is extended to the second and saved
 unfoldable pub extend_over : Contents → List ℕ → ℕ → List ℕ → Held → Report
 extend_over journal signature second out held =
     on (loaded signature_limit 2 held signature) (λ b. on (signature_or_malformed 2 b) (λ s.
-    taken_on (first_time s) second out (extended imprint_of journal b second)))
+    extended_report (first_time s) second out (extended imprint_of journal b second)))
 
--- the journal's file is loaded and read, then the signature's, which is taken on to the second and saved
+-- the journal's file is loaded and read, then the signature's, which is extended to the second and saved
 unfoldable pub extend_run : List ℕ → List ℕ → ℕ → List ℕ → Held → Report
 extend_run journal signature second out held =
     on (loaded file_limit 1 held journal) (λ a. on (journal_or_malformed 1 a) (λ j.

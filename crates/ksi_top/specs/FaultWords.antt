@@ -1,10 +1,10 @@
 -- The faults of files as they are printed: a code and its values.
 use Rattle.std.specs.Prelude.{◌≡◌, ℕ, List, [], ◌∷◌, codes}
 use Rattle.std.specs.Fmt.{decimal}
-use Rattle.ksi_signature.specs.declared.fault.SigFault.{SigFault}
-use Rattle.ksi_signature.specs.declared.fault.SigFault.TheVariants as signatures
-use Rattle.ksi_publications.specs.declared.fault.PubFault.{PubFault}
-use Rattle.ksi_publications.specs.declared.fault.PubFault.TheVariants as publications
+use Rattle.ksi_signature.specs.declared.fault.SignatureFault.{SignatureFault}
+use Rattle.ksi_signature.specs.declared.fault.SignatureFault.TheVariants as signatures
+use Rattle.ksi_publications.specs.declared.fault.PublicationsFault.{PublicationsFault}
+use Rattle.ksi_publications.specs.declared.fault.PublicationsFault.TheVariants as publications
 use Rattle.ksi_journal.specs.declared.fault.JournalFault.{JournalFault}
 use Rattle.ksi_journal.specs.declared.fault.JournalFault.TheVariants as journals
 use Rattle.ksi_schedule.specs.declared.fault.LineFault.{LineFault}
@@ -14,7 +14,7 @@ use Rattle.ksi_schedule.specs.declared.fault.ScheduleFault.TheVariants as schedu
 use Rattle.ksi_top.specs.Lines.{digest_text, malformed_line}
 
 -- want of memory is no fault of a file, and has no code
-abbrev pub signature_fault : SigFault → List (List ℕ)
+abbrev pub signature_fault : SignatureFault → List (List ℕ)
 signature_fault (signatures.Tlv place) = codes "S1" ∷ decimal place ∷ []
 signature_fault (signatures.After place) = codes "S2" ∷ decimal place ∷ []
 signature_fault (signatures.NotSignature kind) = codes "S3" ∷ decimal kind ∷ []
@@ -31,7 +31,7 @@ signature_fault (signatures.Sibling place) = codes "S13" ∷ decimal place ∷ [
 signature_fault (signatures.Time place) = codes "S14" ∷ decimal place ∷ []
 signature_fault signatures.NoMemory = []
 
-abbrev pub publications_fault : PubFault → List (List ℕ)
+abbrev pub publications_fault : PublicationsFault → List (List ℕ)
 publications_fault publications.Magic = codes "Q1" ∷ []
 publications_fault (publications.Tlv place) = codes "Q2" ∷ decimal place ∷ []
 publications_fault (publications.RefusedElement kind place) = codes "Q3" ∷ decimal kind ∷ decimal place ∷ []

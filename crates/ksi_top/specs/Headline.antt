@@ -55,7 +55,7 @@ pub record HoldsOver (history : History) : Type 0 where
   -- a held root, other than that of a missed second, is the root of items that a core sealed for this second
   pub validity : (core second : ℕ) (root : List ℕ) → held_in (world_of imprint_of history) core second ≡ Some root → root ≢ zero_imprint →
       IsProposed imprint_of history.plan (world_of imprint_of history) second root
-  -- what was issued is taken on to each covered second from its own on, and is then accepted; an audit tells where it stands
+  -- what was issued is extended to each covered second from its own on, and is then accepted; an audit tells where it stands
   pub lasts : (number : ℕ) (text : List ℕ) → issued_of imprint_of (world_of imprint_of history) number ≡ Some text →
       Lasts imprint_of history (journal_of imprint_of history) number text
   -- what any core answers to `publish`, at any moment, is the root of the calendar over what is kept; so is each pair that
@@ -83,8 +83,8 @@ pub record IsReplayed (schedule name : List ℕ) (report : Report) : Type 0 wher
 
 -- ---- `extend`
 
--- what is saved is exactly the signature taken on to p over the journal, and is accepted
-pub record IsTakenOn (journal : Contents) (signature : List ℕ) (p : ℕ) (out : List ℕ) (report : Report) : Type 0 where
+-- what is saved is exactly the signature extended to p over the journal, and is accepted
+pub record SavesExtension (journal : Contents) (signature : List ℕ) (p : ℕ) (out : List ℕ) (report : Report) : Type 0 where
   pub text : List ℕ
   pub saved : report.saved ≡ Some (out, text)
   pub is : extended imprint_of journal signature p ≡ Ok text
@@ -92,7 +92,7 @@ pub record IsTakenOn (journal : Contents) (signature : List ℕ) (p : ℕ) (out 
   pub extended : IsExtended imprint_of journal signature p text
 
 pub record IsExtensionOver (journal : Contents) (signature : List ℕ) (p : ℕ) (out : List ℕ) (report : Report) : Type 0 where
-  pub taken : report.status ≡ Done → IsTakenOn journal signature p out report
+  pub taken : report.status ≡ Done → SavesExtension journal signature p out report
 
 pub record IsExtension (journal signature : List ℕ) (p : ℕ) (out : List ℕ) (report : Report) : Type 0 where
   pub contents : Contents

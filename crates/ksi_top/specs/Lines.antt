@@ -97,7 +97,7 @@ refusal_words (PublicationDiffers time in_file computed) = codes "V14" ∷ decim
 abbrev pub refused_line : Refusal → List ℕ
 refused_line refusal = line_of (codes "refused" ∷ refusal_words refusal)
 
--- ---- a signature that is taken on to a later second
+-- ---- a signature that is extended to a later second
 
 abbrev pub extended_line : (second publication : ℕ) → List ℕ
 extended_line second publication = line_of (codes "extended" ∷ decimal second ∷ decimal publication ∷ [])

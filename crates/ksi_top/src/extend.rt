@@ -5,10 +5,10 @@ ghost use Rattle.ksi_extender.specs.Accepted.{first_time};
 ghost use Rattle.ksi_extender.specs.Extended.{extended};
 ghost use Rattle.ksi_top.specs.Reports.{Reports, Unloaded, Means, WhereRead};
 ghost use Rattle.ksi_top.specs.declared.status.Status.TheVariants as statuses;
-ghost use Rattle.ksi_top.specs.Headline.{IsExtension, IsExtensionOver, IsTakenOn};
+ghost use Rattle.ksi_top.specs.Headline.{IsExtension, IsExtensionOver, SavesExtension};
 ghost use Rattle.ksi_top.specs.Loading.{content};
 ghost use Rattle.ksi_top.specs.Causes.{ReportCaused, IsJudged, counts};
-ghost use Rattle.ksi_top.specs.Extend.{extend_files, extend_loads, extend_over, over_files, extend_run, taken_on};
+ghost use Rattle.ksi_top.specs.Extend.{extend_files, extend_loads, extend_over, over_files, extend_run, extended_report};
 
 use crate::extend_line::not_extended;
 use crate::loading::{FILE_LIMIT, SIGNATURE_LIMIT, load_file};
@@ -22,7 +22,7 @@ use ksi_ports::Files;
 use ksi_signature::Signature;
 use std::alloc::Global;
 
-/// Loads and reads the journal, then the signature, and saves it taken on to the second.
+/// Loads and reads the journal, then the signature, and saves it extended to the second.
 #[tactic(auto, unfolding(crate::specs::Extend::extend_run, crate::specs::Extend::extend_loads))]
 pub(crate) fn extend<F: Files>(
     alloc: Global,
@@ -46,7 +46,7 @@ pub(crate) fn extend<F: Files>(
     extend_over(alloc, files, &journal, signature, second, out)
 }
 
-/// Loads and reads the signature, and saves it taken on to the second.
+/// Loads and reads the signature, and saves it extended to the second.
 #[tactic(auto, unfolding(crate::specs::Extend::extend_over))]
 fn extend_over<F: Files>(
     alloc: Global,
@@ -67,7 +67,7 @@ fn extend_over<F: Files>(
     let bytes = load_file(alloc, files, SIGNATURE_LIMIT, 2, signature)?;
     let signature = read_signature(alloc, 2, bytes.as_slice())?;
     let first = first_time(&signature);
-    Ok(taken_on(alloc, journal, bytes.as_slice(), first, second, out)?)
+    Ok(extended_report(alloc, journal, bytes.as_slice(), first, second, out)?)
 }
 
 /// The time of the aggregation chains.
@@ -80,8 +80,8 @@ fn first_time(signature: &Signature) -> u64
     }
 }
 
-/// The bytes of a signature of a second, taken on to a publication time.
-fn taken_on(
+/// The bytes of a signature of a second, extended to a publication time.
+fn extended_report(
     alloc: Global,
     journal: &Journal<Sha>,
     bytes: &[u8],
@@ -90,8 +90,8 @@ fn taken_on(
     out: &str,
 ) -> Result<Report, NoMemory>
     requires { publication < 2 ^ 63 }
-    ensures taken { IfOk result (λ report. report ≡ taken_on second publication out.now (extended imprint_of journal.now bytes.now publication)) }
-    ensures extended { IfOk result (λ report. report.status ≡ statuses.Done → IsTakenOn journal.now bytes.now publication out.now report) }
+    ensures taken { IfOk result (λ report. report ≡ extended_report second publication out.now (extended imprint_of journal.now bytes.now publication)) }
+    ensures extended { IfOk result (λ report. report.status ≡ statuses.Done → SavesExtension journal.now bytes.now publication out.now report) }
     ensures judged { IfOk result (λ report. IsJudged report) }
 {
     match ksi_extender::extend::<Sha>(alloc, journal, bytes, publication) {

@@ -1,6 +1,6 @@
-// What is reported of a signature that is not taken on to a later second.
+// What is reported of a signature that is not extended to a later second.
 ghost use Rattle.std.specs.Prelude.{◌≡◌, ◌≢◌, IfOk};
-ghost use Rattle.ksi_signature.specs.declared.fault.SigFault.TheVariants as signatures;
+ghost use Rattle.ksi_signature.specs.declared.fault.SignatureFault.TheVariants as signatures;
 ghost use Rattle.ksi_extender.specs.declared.refusal.ExtendRefusal.TheVariants as refusals;
 ghost use Rattle.ksi_top.specs.Extend.{not_extended};
 

@@ -1,8 +1,8 @@
 // The line of a file that is not in its grammar: the fault's code and its values.
 ghost use Rattle.std.specs.Prelude.{◌≡◌, ◌≢◌, ◌≤◌, ◌∷◌, [], IfOk, map, length};
 ghost use Rattle.std.specs.Fmt.{decimal};
-ghost use Rattle.ksi_signature.specs.declared.fault.SigFault.TheVariants as signatures;
-ghost use Rattle.ksi_publications.specs.declared.fault.PubFault.TheVariants as publications;
+ghost use Rattle.ksi_signature.specs.declared.fault.SignatureFault.TheVariants as signatures;
+ghost use Rattle.ksi_publications.specs.declared.fault.PublicationsFault.TheVariants as publications;
 ghost use Rattle.ksi_journal.specs.declared.fault.JournalFault.TheVariants as journals;
 ghost use Rattle.ksi_top.specs.FaultWords.{signature_fault, publications_fault, journal_fault, line_code, IsLineOf};
 ghost use Rattle.ksi_top.specs.Lines.{malformed_line};
@@ -13,50 +13,50 @@ use crate::printed::Word::{self, Digest, Number, Text};
 use crate::printed::print;
 use ksi_imprint::NoMemory;
 use ksi_journal::JournalFault;
-use ksi_publications::PubFault;
+use ksi_publications::PublicationsFault;
 use ksi_schedule::{LineFault, ScheduleFault};
-use ksi_signature::SigFault;
+use ksi_signature::SignatureFault;
 
 /// Of file word `n`, which is a signature.
-pub(crate) fn signature_fault_line(n: usize, fault: SigFault) -> Result<Line, NoMemory>
+pub(crate) fn signature_fault_line(n: usize, fault: SignatureFault) -> Result<Line, NoMemory>
     ensures line { IfOk result (λ line. line ≡ malformed_line n (signature_fault fault)) }
     ensures fault { IfOk result (λ _. fault ≢ signatures.NoMemory) }
 {
     match fault {
-        SigFault::Tlv(place) => Ok(at_place(n, "S1", place)),
-        SigFault::After(place) => Ok(at_place(n, "S2", place)),
-        SigFault::NotSignature(kind) => Ok(malformed(n, "S3", &[Number(kind as u64)])),
-        SigFault::RefusedElement(kind, place) => Ok(of_kind(n, "S4", kind, place)),
-        SigFault::UnknownCritical(kind, place) => Ok(of_kind(n, "S5", kind, place)),
-        SigFault::Missing(kind, place) => Ok(of_kind(n, "S6", kind, place)),
-        SigFault::Repeated(kind, place) => Ok(of_kind(n, "S7", kind, place)),
-        SigFault::Imprint(place) => Ok(at_place(n, "S8", place)),
-        SigFault::Number(place) => Ok(at_place(n, "S9", place)),
-        SigFault::Algorithm(value) => Ok(malformed(n, "S10", &[Number(value)])),
-        SigFault::Links(place) => Ok(at_place(n, "S11", place)),
-        SigFault::Chains(place) => Ok(at_place(n, "S12", place)),
-        SigFault::Sibling(place) => Ok(at_place(n, "S13", place)),
-        SigFault::Time(place) => Ok(at_place(n, "S14", place)),
-        SigFault::NoMemory => Err(NoMemory),
+        SignatureFault::Tlv(place) => Ok(at_place(n, "S1", place)),
+        SignatureFault::After(place) => Ok(at_place(n, "S2", place)),
+        SignatureFault::NotSignature(kind) => Ok(malformed(n, "S3", &[Number(kind as u64)])),
+        SignatureFault::RefusedElement(kind, place) => Ok(of_kind(n, "S4", kind, place)),
+        SignatureFault::UnknownCritical(kind, place) => Ok(of_kind(n, "S5", kind, place)),
+        SignatureFault::Missing(kind, place) => Ok(of_kind(n, "S6", kind, place)),
+        SignatureFault::Repeated(kind, place) => Ok(of_kind(n, "S7", kind, place)),
+        SignatureFault::Imprint(place) => Ok(at_place(n, "S8", place)),
+        SignatureFault::Number(place) => Ok(at_place(n, "S9", place)),
+        SignatureFault::Algorithm(value) => Ok(malformed(n, "S10", &[Number(value)])),
+        SignatureFault::Links(place) => Ok(at_place(n, "S11", place)),
+        SignatureFault::Chains(place) => Ok(at_place(n, "S12", place)),
+        SignatureFault::Sibling(place) => Ok(at_place(n, "S13", place)),
+        SignatureFault::Time(place) => Ok(at_place(n, "S14", place)),
+        SignatureFault::NoMemory => Err(NoMemory),
     }
 }
 
 /// Of file word `n`, which is a publications file.
-pub(crate) fn publications_fault_line(n: usize, fault: PubFault) -> Result<Line, NoMemory>
+pub(crate) fn publications_fault_line(n: usize, fault: PublicationsFault) -> Result<Line, NoMemory>
     ensures line { IfOk result (λ line. line ≡ malformed_line n (publications_fault fault)) }
     ensures fault { IfOk result (λ _. fault ≢ publications.NoMemory) }
 {
     match fault {
-        PubFault::Magic => Ok(malformed(n, "Q1", &[])),
-        PubFault::Tlv(place) => Ok(at_place(n, "Q2", place)),
-        PubFault::RefusedElement(kind, place) => Ok(of_kind(n, "Q3", kind, place)),
-        PubFault::UnknownCritical(kind, place) => Ok(of_kind(n, "Q4", kind, place)),
-        PubFault::Missing(kind, place) => Ok(of_kind(n, "Q5", kind, place)),
-        PubFault::Repeated(kind, place) => Ok(of_kind(n, "Q6", kind, place)),
-        PubFault::Imprint(place) => Ok(at_place(n, "Q7", place)),
-        PubFault::Number(place) => Ok(at_place(n, "Q8", place)),
-        PubFault::Time(place) => Ok(at_place(n, "Q9", place)),
-        PubFault::NoMemory => Err(NoMemory),
+        PublicationsFault::Magic => Ok(malformed(n, "Q1", &[])),
+        PublicationsFault::Tlv(place) => Ok(at_place(n, "Q2", place)),
+        PublicationsFault::RefusedElement(kind, place) => Ok(of_kind(n, "Q3", kind, place)),
+        PublicationsFault::UnknownCritical(kind, place) => Ok(of_kind(n, "Q4", kind, place)),
+        PublicationsFault::Missing(kind, place) => Ok(of_kind(n, "Q5", kind, place)),
+        PublicationsFault::Repeated(kind, place) => Ok(of_kind(n, "Q6", kind, place)),
+        PublicationsFault::Imprint(place) => Ok(at_place(n, "Q7", place)),
+        PublicationsFault::Number(place) => Ok(at_place(n, "Q8", place)),
+        PublicationsFault::Time(place) => Ok(at_place(n, "Q9", place)),
+        PublicationsFault::NoMemory => Err(NoMemory),
     }
 }
 

@@ -31,7 +31,7 @@ pub fn ksi<F: Files, K: Sink>(alloc: Global, words: &[String], files: &mut F, ou
     ensures headline { IsTrue F.tells → IfOk (command_of (texts words.now)) (λ asked.
         UnlessCut result (Headline asked (F.held files.old) (run (texts words.now) (F.held files.old)))) }
 
-    // What was issued, and taken on to a covered second, is accepted against the root that is published of it.
+    // What was issued, and extended to a covered second, is accepted against the root that is published of it.
     ensures complete { IfOk (command_of (texts words.now)) (λ asked.
         Complete asked (F.held files.old) (run (texts words.now) (F.held files.old))) }
 

@@ -1,4 +1,4 @@
-// Signatures taken on to a later second, and audited.
+// Signatures extended to a later second, and audited.
 use crate::same::same;
 use crate::text::{each_ends, hold_each, words};
 use ksi_ports::{MemFiles, MemSink};

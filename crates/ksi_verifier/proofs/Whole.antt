@@ -8,11 +8,11 @@ use Rattle.ksi_split.specs.declared.fault.ShapeFault.{ShapeFault}
 use Rattle.ksi_split.specs.declared.tree_link.TreeLink.{TreeLink}
 use Rattle.ksi_split.specs.Parts.{second_at}
 use Rattle.ksi_split.specs.Trees.{climb_links}
-use Rattle.ksi_split.specs.Ways.{IsSecond}
+use Rattle.ksi_split.specs.Ways.{NamesSecond}
 use Rattle.ksi_aggchain.specs.Links.{PlainLink}
 use Rattle.ksi_aggchain.specs.Climbing.{Climbs, climbed}
 use Rattle.ksi_aggchain.specs.declared.item.Item.{Item}
-use Rattle.ksi_calchain.specs.Climbing.{ClimbsCal, cal_join}
+use Rattle.ksi_calchain.specs.Climbing.{ClimbsCalendar, calendar_join}
 use Rattle.ksi_calchain.specs.Sides.{sides_from_top}
 use Rattle.ksi_publications.specs.Finding.{find}
 use Rattle.ksi_signature.specs.Values.{Calendar, Publishing}
@@ -25,7 +25,7 @@ use Rattle.ksi_verifier.specs.declared.verdict.Verdict.TheVariants.{Accepted}
 use Rattle.ksi_verifier.specs.Checks.{◌>>=◌, ◌>>◌, need}
 use Rattle.ksi_verifier.specs.Chains.{PlainChain, plain_chains, first_chain, at_level_zero}
 use Rattle.ksi_verifier.specs.ChainChecks.{chains_checked}
-use Rattle.ksi_verifier.specs.Verdict.{same_hash, some_calendar, or_shape, second_named, calendar_second, same_second, root_of, same_record, same_publication, published_checks, calendar_checked, checked, or_refused, verdict}
+use Rattle.ksi_verifier.specs.Verdict.{same_hash, some_calendar, or_shape, second_named, calendar_second, same_second, chain_root, same_record, same_publication, published_checks, calendar_checked, checked, or_refused, verdict}
 use Rattle.ksi_verifier.specs.Accepted.{IsAggregated, IsRecord, IsAccepted}
 use Rattle.ksi_verifier.proofs.Passing.{Passes, good, ok_is, bind_both, then_both, need_same, need_equal, need_other}
 use Rattle.ksi_verifier.proofs.Chained.{chains_both}
@@ -95,11 +95,11 @@ published_both published publications time root =
 record GoesOn (image : List ℕ → List ℕ) (aggregation : Aggregated) (calendar : Calendar) (published : Option Publishing) (publications : List (ℕ × List ℕ)) (t : ℕ) : Type 0 where
   named : (calendar.input ≡ aggregation.item.imprint) × (calendar.input ≢ zero_imprint) × (second_at calendar.publication (sides_from_top calendar.links) ≡ Ok t)
   times : (calendar.time ≡ t) × (aggregation.time ≡ t)
-  found : IfSome published (IsRecord calendar.publication (root_of image calendar)) × (find calendar.publication publications ≡ Some (root_of image calendar))
+  found : IfSome published (IsRecord calendar.publication (chain_root image calendar)) × (find calendar.publication publications ≡ Some (chain_root image calendar))
 
 module _ (image : List ℕ → List ℕ) (aggregation : Aggregated) (calendar : Calendar) (published : Option Publishing) (publications : List (ℕ × List ℕ)) (t : ℕ) where
   abbrev listed : Result (Unit {0}) Refusal
-  listed = published_checks published publications calendar.publication (root_of image calendar)
+  listed = published_checks published publications calendar.publication (chain_root image calendar)
 
   abbrev timed : ℕ → Result ℕ Refusal
   timed second = same_second calendar.time aggregation.time second >> (listed >> good second)
@@ -114,14 +114,14 @@ module _ (image : List ℕ → List ℕ) (aggregation : Aggregated) (calendar : 
       record {
         named = (named_both aggregation.item calendar t).0 (first.1 ∙ ap good is);
         times = (times_both calendar.time aggregation.time t).0 (ap (same_second calendar.time aggregation.time) (sym is) ∙ rest.0);
-        found = (published_both published publications calendar.publication (root_of image calendar)).0 last.0;
+        found = (published_both published publications calendar.publication (chain_root image calendar)).0 last.0;
       }
 
   comes_from : GoesOn image aggregation calendar published publications t → calendar_checked image aggregation calendar published publications ≡ Ok t
   comes_from h =
       let named = (named_both aggregation.item calendar t).1 h.named in
       let times = (times_both calendar.time aggregation.time t).1 h.times in
-      let last = (then_both listed (good t) t).1 ((published_both published publications calendar.publication (root_of image calendar)).1 h.found, refl) in
+      let last = (then_both listed (good t) t).1 ((published_both published publications calendar.publication (chain_root image calendar)).1 h.found, refl) in
       (bind_both (calendar_second aggregation.item calendar) timed t).1 (t, named, (then_both (same_second calendar.time aggregation.time t) (listed >> good t) t).1 (times, last))
 
 -- ---- V1 to V14
@@ -135,8 +135,8 @@ some_chain image [] aggregation e held = absurd (let is : record { time = 0; ite
 some_chain image (chain ∷ chains) aggregation e held = omega arith
 
 module _ (image : List ℕ → List ℕ) (climbs : (start top : Item) (links : List PlainLink) → (climbed image 0 start links ≡ Ok top) ↔ Climbs image start links top)
-    (climbs_cal : (start top : List ℕ) (links : List (TreeLink (List ℕ))) → ClimbsCal image start links top ↔ (top ≡ climb_links (cal_join image) start links))
-    (seconds : (p t : ℕ) (sides : List Side) → (second_at p sides ≡ Ok t) ↔ IsSecond p sides t) (signature : Signature) (hash : List ℕ) (publications : List (ℕ × List ℕ)) (t : ℕ) where
+    (climbs_calendar : (start top : List ℕ) (links : List (TreeLink (List ℕ))) → ClimbsCalendar image start links top ↔ (top ≡ climb_links (calendar_join image) start links))
+    (seconds : (p t : ℕ) (sides : List Side) → (second_at p sides ≡ Ok t) ↔ NamesSecond p sides t) (signature : Signature) (hash : List ℕ) (publications : List (ℕ × List ℕ)) (t : ℕ) where
   abbrev chains : List PlainChain
   chains = plain_chains signature.chains
 
@@ -166,8 +166,8 @@ module _ (image : List ℕ → List ℕ) (climbs : (start top : Item) (links : L
         not_missed = on.named.1;
         second = (seconds calendar.publication t (sides_from_top calendar.links)).0 on.named.2;
         time = on.times.0;
-        root = root_of image calendar;
-        climbs = (climbs_cal calendar.input (root_of image calendar) calendar.links).1 refl;
+        root = chain_root image calendar;
+        climbs = (climbs_calendar calendar.input (chain_root image calendar) calendar.links).1 refl;
         stated = on.found.0;
         published = on.found.1;
       }
@@ -177,7 +177,7 @@ module _ (image : List ℕ → List ℕ) (climbs : (start top : Item) (links : L
       let aggregation : Aggregated = record { time = t; item = h.item } in
       let hashes = first_is image chains hash t h.item h.chains in
       let agrees = subst (λ (x : List ℕ). IsAggregated image chains x t h.item) (sym hashes) h.chains in
-      let root : h.root ≡ root_of image h.calendar = (climbs_cal h.calendar.input h.root h.calendar.links).0 h.climbs in
+      let root : h.root ≡ chain_root image h.calendar = (climbs_calendar h.calendar.input h.root h.calendar.links).0 h.climbs in
       let on : GoesOn image aggregation h.calendar signature.publication publications t = record {
         named = (h.input, h.not_missed, (seconds h.calendar.publication t (sides_from_top h.calendar.links)).1 h.second);
         times = (h.time, refl);

@@ -2,10 +2,10 @@
 use Rattle.std.specs.Prelude.{◌≡◌, ◌≢◌, ℕ, ◌<◌, List, [], ◌∷◌, length, Some, IfSome}
 use Rattle.std.specs.List.{AllByRecursion}
 use Rattle.ksi_imprint.specs.Imprints.{zero_imprint}
-use Rattle.ksi_split.specs.Ways.{IsSecond}
+use Rattle.ksi_split.specs.Ways.{NamesSecond}
 use Rattle.ksi_aggchain.specs.Climbing.{Climbs}
 use Rattle.ksi_aggchain.specs.declared.item.Item.{Item}
-use Rattle.ksi_calchain.specs.Climbing.{ClimbsCal}
+use Rattle.ksi_calchain.specs.Climbing.{ClimbsCalendar}
 use Rattle.ksi_calchain.specs.Sides.{sides_from_top}
 use Rattle.ksi_publications.specs.Finding.{find}
 use Rattle.ksi_signature.specs.Values.{Calendar, Publishing}
@@ -45,9 +45,9 @@ pub record IsAccepted (image : List ℕ → List ℕ) (signature : Signature) (h
   pub has_calendar : signature.calendar ≡ Some calendar
   pub input : calendar.input ≡ item.imprint
   pub not_missed : calendar.input ≢ zero_imprint
-  pub second : IsSecond calendar.publication (sides_from_top calendar.links) t
+  pub second : NamesSecond calendar.publication (sides_from_top calendar.links) t
   pub time : calendar.time ≡ t
   pub root : List ℕ
-  pub climbs : ClimbsCal image calendar.input calendar.links root
+  pub climbs : ClimbsCalendar image calendar.input calendar.links root
   pub stated : IfSome signature.publication (IsRecord calendar.publication root)
   pub published : find calendar.publication publications ≡ Some root

@@ -6,7 +6,7 @@ use Rattle.ksi_split.specs.Parts.{second_at}
 use Rattle.ksi_split.specs.Trees.{climb_links}
 use Rattle.ksi_split.specs.declared.fault.ShapeFault.{ShapeFault}
 use Rattle.ksi_aggchain.specs.declared.item.Item.{Item}
-use Rattle.ksi_calchain.specs.Climbing.{cal_join}
+use Rattle.ksi_calchain.specs.Climbing.{calendar_join}
 use Rattle.ksi_calchain.specs.Sides.{sides_from_top}
 use Rattle.ksi_publications.specs.Finding.{find}
 use Rattle.ksi_signature.specs.Values.{Calendar, Publishing}
@@ -57,8 +57,8 @@ same_second calendar_time chain_time second = do
 -- ---- what was published
 
 -- the root of the calendar that the calendar chain leads to
-abbrev pub root_of : (List ℕ → List ℕ) → Calendar → List ℕ
-root_of image calendar = climb_links (cal_join image) calendar.input calendar.links
+abbrev pub chain_root : (List ℕ → List ℕ) → Calendar → List ℕ
+chain_root image calendar = climb_links (calendar_join image) calendar.input calendar.links
 
 -- V12: a publication record, where there is one, has the publication time and the root
 abbrev pub same_record : Option Publishing → ℕ → List ℕ → Result (Unit {0}) Refusal
@@ -84,7 +84,7 @@ abbrev pub calendar_checked : (List ℕ → List ℕ) → Aggregated → Calenda
 calendar_checked image aggregation calendar published publications = do
   second ← calendar_second aggregation.item calendar
   same_second calendar.time aggregation.time second
-  published_checks published publications calendar.publication (root_of image calendar)
+  published_checks published publications calendar.publication (chain_root image calendar)
   Ok second
 
 -- ---- V1 to V14

@@ -6,10 +6,10 @@ use crate::refusal::Refusal;
 use ksi_aggchain::Item;
 use ksi_calchain::second;
 use ksi_imprint::Imprint;
-use ksi_signature::CalChain;
+use ksi_signature::CalendarChain;
 
 /// V8, V9 and V10: the second that the sides name.
-pub(crate) fn check_calendar(item: &Item, calendar: &CalChain) -> Result<u64, Refusal>
+pub(crate) fn check_calendar(item: &Item, calendar: &CalendarChain) -> Result<u64, Refusal>
     ensures { result ≡ calendar_second item.now calendar.now }
 {
     if calendar.input != item.imprint {
@@ -24,7 +24,7 @@ pub(crate) fn check_calendar(item: &Item, calendar: &CalChain) -> Result<u64, Re
     second_named(calendar)
 }
 
-fn second_named(calendar: &CalChain) -> Result<u64, Refusal>
+fn second_named(calendar: &CalendarChain) -> Result<u64, Refusal>
     ensures { result ≡ second_named calendar.now }
 {
     match second(calendar.publication, calendar.links.as_slice()) {

@@ -6,13 +6,13 @@ ghost use Rattle.ksi_verifier.specs.ChainChecks.{chains_checked, index_order, in
 ghost use Rattle.ksi_verifier.specs.Folding.{or_break};
 
 use crate::aggregated::Aggregated;
+use crate::any_chain::AnyChain;
 use crate::refusal::Refusal;
-use crate::seen::SeenChain;
 use ksi_aggchain::{Item, LevelFault};
 use ksi_imprint::{Compress, Imprint};
 
 /// V2 to V6: the time of the chains and the item that they lead to.
-pub(crate) fn check_chains<C: Compress, T: SeenChain>(chains: &[T]) -> Result<Aggregated, Refusal>
+pub(crate) fn check_chains<C: Compress, T: AnyChain>(chains: &[T]) -> Result<Aggregated, Refusal>
     requires { 0 < length chains.now }
     ensures { result ≡ chains_checked C.image (map T.plain chains.now) }
 {
@@ -33,7 +33,7 @@ pub(crate) fn check_chains<C: Compress, T: SeenChain>(chains: &[T]) -> Result<Ag
     }
 }
 
-fn check_order<T: SeenChain>(chains: &[T]) -> Result<(), Refusal>
+fn check_order<T: AnyChain>(chains: &[T]) -> Result<(), Refusal>
     ensures { result ≡ index_order 0 (first_chain (map T.plain chains.now)) (higher_chains (map T.plain chains.now)) }
 {
     for place in 1..chains.len() {
@@ -46,7 +46,7 @@ fn check_order<T: SeenChain>(chains: &[T]) -> Result<(), Refusal>
     Ok(())
 }
 
-fn check_shapes<T: SeenChain>(chains: &[T]) -> Result<(), Refusal>
+fn check_shapes<T: AnyChain>(chains: &[T]) -> Result<(), Refusal>
     ensures { result ≡ index_shapes 0 (map T.plain chains.now) }
 {
     for (k, chain) in chains.iter().enumerate() {
@@ -64,7 +64,7 @@ fn check_shapes<T: SeenChain>(chains: &[T]) -> Result<(), Refusal>
 }
 
 /// Climbs along all chains once. A level that passes 255 in a higher chain counts before a break that was found below it.
-fn check_links<C: Compress, T: SeenChain>(chains: &[T]) -> Result<Item, Refusal>
+fn check_links<C: Compress, T: AnyChain>(chains: &[T]) -> Result<Item, Refusal>
     requires { 0 < length chains.now }
     ensures { result ≡ joined_chains C.image (map T.plain chains.now) }
 {
@@ -110,7 +110,7 @@ fn first_break(
 }
 
 /// The item that chain `k` leads to, from its own input hash at a level.
-fn climb_one<C: Compress, T: SeenChain>(k: u64, level: u8, chain: &T) -> Result<Item, Refusal>
+fn climb_one<C: Compress, T: AnyChain>(k: u64, level: u8, chain: &T) -> Result<Item, Refusal>
     ensures { result ≡ top_of C.image k level (T.plain chain.now) }
 {
     match chain.climb::<C>(level) {
@@ -123,7 +123,7 @@ fn climb_one<C: Compress, T: SeenChain>(k: u64, level: u8, chain: &T) -> Result<
     }
 }
 
-fn check_times<T: SeenChain>(first: u64, chains: &[T]) -> Result<(), Refusal>
+fn check_times<T: AnyChain>(first: u64, chains: &[T]) -> Result<(), Refusal>
     ensures { result ≡ same_times first 0 (map T.plain chains.now) }
 {
     for (k, chain) in chains.iter().enumerate() {

@@ -5,17 +5,17 @@ ghost use Rattle.ksi_verifier.specs.ChainChecks.{aggregated};
 ghost use Rattle.ksi_verifier.specs.Verdict.{calendar_checked, checked, verdict};
 
 use crate::aggregated::Aggregated;
+use crate::any_chain::AnyChain;
 use crate::calendar::{check_calendar, check_second};
 use crate::chains::check_chains;
 use crate::laws::accepted;
 use crate::publication::check_published;
 use crate::refusal::Refusal;
-use crate::seen::SeenChain;
 use crate::verdict::Verdict;
-use ksi_calchain::climb_cal;
+use ksi_calchain::climb_calendar;
 use ksi_imprint::{Compress, Imprint};
 use ksi_publications::Publications;
-use ksi_signature::{AggChain, CalChain, PubRecord, Signature};
+use ksi_signature::{AggregationChain, CalendarChain, PublicationRecord, Signature};
 
 /// What the aggregation chains of a signature come to.
 ///
@@ -24,7 +24,7 @@ use ksi_signature::{AggChain, CalChain, PubRecord, Signature};
 pub fn aggregate<C: Compress>(signature: &Signature) -> Result<Aggregated, Refusal>
     ensures { result ≡ aggregated C.image signature.now }
 {
-    check_chains::<C, AggChain>(signature.chains.as_slice())
+    check_chains::<C, AggregationChain>(signature.chains.as_slice())
 }
 
 /// Checks a signature for a hash against the published roots of the calendar: the first of V1 to V14 that fails, or the
@@ -50,7 +50,7 @@ fn verdict<C: Compress>(
     ensures { result ≡ verdict C.image signature.now hash.now publications.now }
 {
     let chains = signature.chains.as_slice();
-    match check::<C, AggChain>(
+    match check::<C, AggregationChain>(
         chains,
         &signature.calendar,
         &signature.publication,
@@ -63,10 +63,10 @@ fn verdict<C: Compress>(
 }
 
 /// The checks V1 to V14 in their order, whoever owns the chains.
-fn check<C: Compress, T: SeenChain>(
+fn check<C: Compress, T: AnyChain>(
     chains: &[T],
-    calendar: &Option<CalChain>,
-    published: &Option<PubRecord>,
+    calendar: &Option<CalendarChain>,
+    published: &Option<PublicationRecord>,
     hash: &Imprint,
     publications: &Publications,
 ) -> Result<u64, Refusal>
@@ -93,8 +93,8 @@ fn check<C: Compress, T: SeenChain>(
 /// The checks V8 to V14, where the chains come to an item.
 fn check_above<C: Compress>(
     aggregated: &Aggregated,
-    calendar: &CalChain,
-    published: &Option<PubRecord>,
+    calendar: &CalendarChain,
+    published: &Option<PublicationRecord>,
     publications: &Publications,
 ) -> Result<u64, Refusal>
     ensures { result ≡ calendar_checked C.image aggregated.now calendar.now published.now publications.now }
@@ -106,7 +106,7 @@ fn check_above<C: Compress>(
     if let Err(refusal) = check_second(calendar.time, aggregated.time, second) {
         return Err(refusal);
     }
-    let root = climb_cal::<C>(calendar.input, calendar.links.as_slice());
+    let root = climb_calendar::<C>(calendar.input, calendar.links.as_slice());
     match check_published(published, publications, calendar.publication, root) {
         Ok(()) => Ok(second),
         Err(refusal) => Err(refusal),

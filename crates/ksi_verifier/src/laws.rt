@@ -1,6 +1,6 @@
 //! What holds of the checks, for the layers above to cite. None of these functions does anything.
 ghost use Rattle.std.specs.Prelude.{◌≡◌, ◌↔◌, ◌<◌, ℕ, List, length, Ok, Err, Option};
-ghost use Rattle.ksi_split.specs.Ways.{IsSecond, PassesLeaf, EndsAbove};
+ghost use Rattle.ksi_split.specs.Ways.{NamesSecond, PassesLeaf, EndsAbove};
 ghost use Rattle.ksi_split.specs.declared.fault.ShapeFault.TheVariants.{TooMany, TooFew};
 ghost use Rattle.ksi_aggchain.specs.Climbing.{Climbs};
 ghost use Rattle.ksi_aggchain.specs.declared.item.Item.{Item};
@@ -77,7 +77,7 @@ pub fn joined()
 /// V10 holds exactly where the sides are the way to the second, and else says how they pass one or end above one.
 pub fn seconds()
     ensures second { (calendar : Calendar) (t : ℕ) →
-        (second_named calendar ≡ Ok t) ↔ IsSecond calendar.publication (sides_from_top calendar.links) t }
+        (second_named calendar ≡ Ok t) ↔ NamesSecond calendar.publication (sides_from_top calendar.links) t }
     ensures too_many { (calendar : Calendar) (place : ℕ) →
         (second_named calendar ≡ Err (CalendarShape (TooMany place))) ↔
         PassesLeaf calendar.publication (sides_from_top calendar.links) place }

@@ -23,6 +23,7 @@
 #![tactic(auto)]
 
 mod aggregated;
+mod any_chain;
 mod calendar;
 mod chains;
 mod checking;
@@ -31,7 +32,6 @@ mod index;
 pub mod laws;
 mod publication;
 mod refusal;
-mod seen;
 mod verdict;
 
 pub use aggregated::Aggregated;

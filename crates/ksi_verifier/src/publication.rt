@@ -6,11 +6,11 @@ use crate::difference::RecordDifference;
 use crate::refusal::Refusal;
 use ksi_imprint::Imprint;
 use ksi_publications::Publications;
-use ksi_signature::PubRecord;
+use ksi_signature::PublicationRecord;
 
 /// V12, V13 and V14: what was published for a time is the root.
 pub(crate) fn check_published(
-    published: &Option<PubRecord>,
+    published: &Option<PublicationRecord>,
     publications: &Publications,
     time: u64,
     root: Imprint,
@@ -23,7 +23,11 @@ pub(crate) fn check_published(
     }
 }
 
-fn check_record(published: &Option<PubRecord>, time: u64, root: Imprint) -> Result<(), Refusal>
+fn check_record(
+    published: &Option<PublicationRecord>,
+    time: u64,
+    root: Imprint,
+) -> Result<(), Refusal>
     ensures { result ≡ same_record published.now time root }
 {
     let published = match published {

@@ -7,7 +7,7 @@ use Rattle.clap.specs.Words.{Rule, new_rule, rule_of, with_subcommand}
 use Rattle.clap.specs.declared.builder.arg.Arg.{Arg}
 use Rattle.clap.specs.declared.builder.range.ValueRange.{ValueRange}
 use Rattle.ksi_words.specs.Grammar.{words_rule, bare, app_over, row_app, form_of}
-use Rattle.ksi_words.specs.declared.table.Row.{Row}
+use Rattle.ksi_words.specs.declared.table.CommandForm.{CommandForm}
 
 abbrev exactly : ℕ → ValueRange
 exactly n = record { start_inclusive = n; end_inclusive = n }
@@ -23,7 +23,7 @@ rule_is a b c n new needed ranged range =
     second ∙ ap₂ (λ (r : Rule) (v : Option ValueRange). record r { range = v }) (first ∙ ap (λ (r : Rule). record r { required = true }) new) (some_range c.num_vals n range)
 
 -- one more row is one more subcommand
-pub app_over_more : (rows : List Row) (i : ℕ) (d : Row) → i < length rows → app_over (map form_of (take (i + 1) rows)) ≡ with_subcommand (app_over (map form_of (take i rows))) (row_app (form_of (get_or rows i d))).top
+pub app_over_more : (rows : List CommandForm) (i : ℕ) (d : CommandForm) → i < length rows → app_over (map form_of (take (i + 1) rows)) ≡ with_subcommand (app_over (map form_of (take i rows))) (row_app (form_of (get_or rows i d))).top
 app_over_more rows i d lt =
     let more : map form_of (take (i + 1) rows) ≡ map form_of (take i rows) ++ form_of (get_or rows i d) ∷ [] = ap (map form_of) (take_more rows i d lt) ∙ map_push form_of (take i rows) (get_or rows i d) in
     ap app_over more ∙ fold_push _ bare (map form_of (take i rows)) (form_of (get_or rows i d))

@@ -8,21 +8,21 @@ use Rattle.clap.specs.declared.error.Error.{Error}
 use Rattle.clap.specs.declared.error.kind.ErrorKind.{ErrorKind}
 use Rattle.clap.specs.declared.error.kind.ErrorKind.TheVariants.{OutOfMemory}
 use Rattle.ksi_words.specs.Grammar.{refusal_of}
-use Rattle.ksi_words.specs.Words.{Asked, Reads, Row, command_form, command_named, command_of, begins_with_dash, table}
+use Rattle.ksi_words.specs.Words.{Asked, Reads, CommandForm, command_form, command_named, command_of, begins_with_dash, table}
 use Rattle.ksi_words.specs.declared.asked.WordsRefusal.{WordsRefusal}
 use Rattle.ksi_words.specs.declared.asked.WordsRefusal.TheVariants.{Words}
 use Rattle.ksi_words.proofs.Leaf.{AllPlain, words_row}
 use Rattle.ksi_words.proofs.Commands.{AllGood, all_good, Form, app_with, fits, fits_no_fault, fits_subcommand, misfit_fault}
 
-abbrev pub form_in : Row → Form
+abbrev pub form_in : CommandForm → Form
 form_in row = (row.name, length row.sorts)
 
-misfit_next : (b : Bool) (row : Row) (rows : List Row) (name : Text) (words : List Text) → bytes_eq row.name name ≡ b → (fits (map form_in rows) (name ∷ words) ≡ false → command_named rows name words ≡ Err Words) → fits (map form_in (row ∷ rows)) (name ∷ words) ≡ false → command_named (row ∷ rows) name words ≡ Err Words
+misfit_next : (b : Bool) (row : CommandForm) (rows : List CommandForm) (name : Text) (words : List Text) → bytes_eq row.name name ≡ b → (fits (map form_in rows) (name ∷ words) ≡ false → command_named rows name words ≡ Err Words) → fits (map form_in (row ∷ rows)) (name ∷ words) ≡ false → command_named (row ∷ rows) name words ≡ Err Words
 misfit_next true row rows name words is rest =
     rw (is) (λ misfit. rw misfit refl)
 misfit_next false row rows name words is rest = rw (is) rest
 
-pub misfit_named : (rows : List Row) (name : Text) (words : List Text) → fits (map form_in rows) (name ∷ words) ≡ false → command_named rows name words ≡ Err Words
+pub misfit_named : (rows : List CommandForm) (name : Text) (words : List Text) → fits (map form_in rows) (name ∷ words) ≡ false → command_named rows name words ≡ Err Words
 misfit_named [] name words misfit = refl
 misfit_named (row ∷ rows) name words misfit = misfit_next (bytes_eq row.name name) row rows name words refl (misfit_named rows name words) misfit
 

@@ -6,10 +6,10 @@ use Rattle.clap.specs.declared.error.kind.ErrorKind.{ErrorKind}
 use Rattle.clap.specs.declared.error.kind.ErrorKind.TheVariants.{OutOfMemory}
 use Rattle.ksi_words.specs.declared.asked.WordsRefusal.{WordsRefusal}
 use Rattle.ksi_words.specs.declared.asked.WordsRefusal.TheVariants.{NoMemory, Words}
-use Rattle.ksi_words.specs.declared.table.Row.{Row}
+use Rattle.ksi_words.specs.declared.table.CommandForm.{CommandForm}
 
 -- a command's name, and how many words follow it
-abbrev pub form_of : Row → Text × ℕ
+abbrev pub form_of : CommandForm → Text × ℕ
 form_of row = (row.name.now, row.words)
 
 -- the words after a name: n of them, all wanted

@@ -26,36 +26,36 @@ From [] = Asked
 From (sort ∷ sorts) = Of sort → From sorts
 
 -- a command's name, the sorts of the words after it, and the command of what they stand for
-pub record Row : Type 0 where
+pub record CommandForm : Type 0 where
   pub name : List ℕ
   pub sorts : List Sort
   pub asks : From sorts
 
-abbrev pub replay_row : Row
+abbrev pub replay_row : CommandForm
 replay_row = record { name = codes "replay"; sorts = file_word ∷ file_word ∷ []; asks = replay }
 
-abbrev pub sign_row : Row
+abbrev pub sign_row : CommandForm
 sign_row = record { name = codes "sign"; sorts = file_word ∷ number_word ∷ file_word ∷ []; asks = sign }
 
-abbrev pub publish_row : Row
+abbrev pub publish_row : CommandForm
 publish_row = record { name = codes "publish"; sorts = file_word ∷ file_word ∷ []; asks = publish }
 
-abbrev pub extend_row : Row
+abbrev pub extend_row : CommandForm
 extend_row = record { name = codes "extend"; sorts = file_word ∷ file_word ∷ time_word ∷ file_word ∷ []; asks = extend }
 
-abbrev pub verify_row : Row
+abbrev pub verify_row : CommandForm
 verify_row = record { name = codes "verify"; sorts = file_word ∷ hash_word ∷ file_word ∷ []; asks = verify }
 
-abbrev pub audit_row : Row
+abbrev pub audit_row : CommandForm
 audit_row = record { name = codes "audit"; sorts = file_word ∷ file_word ∷ hash_word ∷ file_word ∷ []; asks = audit }
 
-abbrev pub make_row : Row
+abbrev pub make_row : CommandForm
 make_row = record { name = codes "make"; sorts = number_word ∷ file_word ∷ []; asks = make }
 
-abbrev pub drill_row : Row
+abbrev pub drill_row : CommandForm
 drill_row = record { name = codes "drill"; sorts = number_word ∷ []; asks = drill }
 
-abbrev pub table : List Row
+abbrev pub table : List CommandForm
 table = replay_row ∷ sign_row ∷ publish_row ∷ extend_row ∷ verify_row ∷ audit_row ∷ make_row ∷ drill_row ∷ []
 
 abbrev pub texts : List (String Global) → List (List ℕ)
@@ -83,11 +83,11 @@ asked_from n (sort ∷ sorts) command [] = Err Words
 asked_from n (sort ∷ sorts) command (word ∷ words) = word_at n (value_of sort word) >>= λ value. asked_from (n + 1) sorts (command value) words
 
 -- as many words as the row has sorts, of which the first bad one is told
-abbrev pub asked_by : Row → List (List ℕ) → Result Asked WordsRefusal
+abbrev pub asked_by : CommandForm → List (List ℕ) → Result Asked WordsRefusal
 asked_by row words = if length words == length row.sorts then asked_from 1 row.sorts row.asks words else Err Words
 
 -- by the command's name
-abbrev pub command_named : List Row → List ℕ → List (List ℕ) → Result Asked WordsRefusal
+abbrev pub command_named : List CommandForm → List ℕ → List (List ℕ) → Result Asked WordsRefusal
 command_named [] name words = Err Words
 command_named (row ∷ rows) name words = if bytes_eq row.name name then asked_by row words else command_named rows name words
 

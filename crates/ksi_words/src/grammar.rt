@@ -4,12 +4,12 @@ ghost use Rattle.clap.specs.Words.{app_of};
 ghost use Rattle.clap.specs.declared.builder.command.Command.TheViews.{out-Command};
 ghost use Rattle.ksi_words.specs.Grammar.{app_over, row_app, form_of};
 
-use crate::table::Row;
+use crate::table::CommandForm;
 use clap::{Arg, Command};
 use std::alloc::{AllocError, Global};
 
 /// The grammar of the rows' commands: a row's name, and as many words after it as the row shows.
-pub(crate) fn grammar<'a>(alloc: Global, rows: &[Row]) -> Result<Command<'a>, AllocError>
+pub(crate) fn grammar<'a>(alloc: Global, rows: &[CommandForm]) -> Result<Command<'a>, AllocError>
     ensures { IfOk result (λ grammar. app_of grammar ≡ app_over (map form_of rows.now)) }
 {
     let mut grammar = Command::new(alloc, "ksi")
@@ -23,7 +23,7 @@ pub(crate) fn grammar<'a>(alloc: Global, rows: &[Row]) -> Result<Command<'a>, Al
     Ok(grammar)
 }
 
-fn form<'a>(alloc: Global, row: &Row) -> Result<Command<'a>, AllocError>
+fn form<'a>(alloc: Global, row: &CommandForm) -> Result<Command<'a>, AllocError>
     ensures { IfOk result (λ form. (app_of form ≡ row_app (form_of row.now)) × ((out-Command form).has_globals ≡ false)) }
 {
     let words = Arg::new(alloc, "words").required(true).num_args(row.words);

@@ -9,41 +9,41 @@ use ksi_imprint::Imprint;
 
 /// A command's name, and how many words follow it.
 #[derive(Drop)]
-pub(crate) struct Row {
+pub(crate) struct CommandForm {
     pub(crate) name: &'static str,
     pub(crate) words: usize,
 }
 
-pub(crate) static TABLE: [Row; 8] = [
-    Row {
+pub(crate) static TABLE: [CommandForm; 8] = [
+    CommandForm {
         name: "replay",
         words: 2,
     },
-    Row {
+    CommandForm {
         name: "sign",
         words: 3,
     },
-    Row {
+    CommandForm {
         name: "publish",
         words: 2,
     },
-    Row {
+    CommandForm {
         name: "extend",
         words: 4,
     },
-    Row {
+    CommandForm {
         name: "verify",
         words: 3,
     },
-    Row {
+    CommandForm {
         name: "audit",
         words: 4,
     },
-    Row {
+    CommandForm {
         name: "make",
         words: 2,
     },
-    Row {
+    CommandForm {
         name: "drill",
         words: 1,
     },

@@ -6,7 +6,7 @@ use Rattle.ksi_corenode.specs.SecondState.{SecondState}
 use Rattle.ksi_corenode.specs.Turns.{Turn}
 use Rattle.ksi_corenode.specs.Held.{Held}
 use Rattle.ksi_corenode.specs.Rows.{ballot_row, tell_row, receive_row, respond_row, publish_answer}
-use Rattle.ksi_corenode.specs.CoreState.{CoreState, second_at, held_by}
+use Rattle.ksi_corenode.specs.CoreState.{CoreState, state_of, held_by}
 use Rattle.ksi_aggregator.specs.Rows.{RoundState, RoundTurn, round_request}
 use Rattle.ksi_aggregator.specs.Rounds.{AggregatorState, rounds_of}
 use Rattle.ksi_synod.specs.declared.messages.SynodMessage.{SynodMessage}
@@ -152,20 +152,20 @@ get_there (x ∷ xs) (suc i) lt = get_there xs i (omega (arith, lt))
 -- THE ROWS OF A CORE are those of its second in the world
 
 module _ (plan : PlanState) (w : WorldState) (j : ℕ) (core : CoreState) (is : IsCore plan (w.seconds j) j core) (t : ℕ) where
-  pub ballot_same : ballot_row core.members t core.me (second_at core t) ≡ ballot_row plan.cores t j (w.seconds j t)
-  ballot_same = ap (λ n. ballot_row n t core.me (second_at core t)) is.members ∙ ap (λ me. ballot_row plan.cores t me (second_at core t)) is.me ∙ ap (λ s. ballot_row plan.cores t j s) (is.keeps t)
+  pub ballot_same : ballot_row core.members t core.me (state_of core t) ≡ ballot_row plan.cores t j (w.seconds j t)
+  ballot_same = ap (λ n. ballot_row n t core.me (state_of core t)) is.members ∙ ap (λ me. ballot_row plan.cores t me (state_of core t)) is.me ∙ ap (λ s. ballot_row plan.cores t j s) (is.keeps t)
 
-  pub tell_same : tell_row core.members t core.me (second_at core t) ≡ tell_row plan.cores t j (w.seconds j t)
-  tell_same = ap (λ n. tell_row n t core.me (second_at core t)) is.members ∙ ap (λ me. tell_row plan.cores t me (second_at core t)) is.me ∙ ap (λ s. tell_row plan.cores t j s) (is.keeps t)
+  pub tell_same : tell_row core.members t core.me (state_of core t) ≡ tell_row plan.cores t j (w.seconds j t)
+  tell_same = ap (λ n. tell_row n t core.me (state_of core t)) is.members ∙ ap (λ me. tell_row plan.cores t me (state_of core t)) is.me ∙ ap (λ s. tell_row plan.cores t j s) (is.keeps t)
 
-  pub receive_same : (from : ℕ) (m : SynodMessage) → receive_row core.members t from m (second_at core t) ≡ receive_row plan.cores t from m (w.seconds j t)
-  receive_same from m = ap (λ n. receive_row n t from m (second_at core t)) is.members ∙ ap (λ s. receive_row plan.cores t from m s) (is.keeps t)
+  pub receive_same : (from : ℕ) (m : SynodMessage) → receive_row core.members t from m (state_of core t) ≡ receive_row plan.cores t from m (w.seconds j t)
+  receive_same from m = ap (λ n. receive_row n t from m (state_of core t)) is.members ∙ ap (λ s. receive_row plan.cores t from m s) (is.keeps t)
 
   held_same : held_by core ≡ held_in w j
   held_same = same_function (held_by core) (held_in w j) (λ u. ap (λ (s : SecondState). s.vote.held) (is.keeps u))
 
-  pub respond_same : (image : List ℕ → List ℕ) → respond_row image (held_by core) core.start t (second_at core t) ≡ respond_row image (held_in w j) plan.start t (w.seconds j t)
-  respond_same image = ap (λ (held : Held). respond_row image held core.start t (second_at core t)) held_same ∙ ap (λ start. respond_row image (held_in w j) start t (second_at core t)) is.start ∙ ap (λ s. respond_row image (held_in w j) plan.start t s) (is.keeps t)
+  pub respond_same : (image : List ℕ → List ℕ) → respond_row image (held_by core) core.start t (state_of core t) ≡ respond_row image (held_in w j) plan.start t (w.seconds j t)
+  respond_same image = ap (λ (held : Held). respond_row image held core.start t (state_of core t)) held_same ∙ ap (λ start. respond_row image (held_in w j) start t (state_of core t)) is.start ∙ ap (λ s. respond_row image (held_in w j) plan.start t s) (is.keeps t)
 
   pub publish_same : (image : List ℕ → List ℕ) → publish_answer image (held_by core) core.start t ≡ publish_answer image (held_in w j) plan.start t
   publish_same image = ap (λ (held : Held). publish_answer image held core.start t) held_same ∙ ap (λ start. publish_answer image (held_in w j) start t) is.start

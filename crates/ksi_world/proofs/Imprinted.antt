@@ -7,7 +7,7 @@ use Rattle.ksi_imprint.specs.Imprints.{IsImprint, join_text, zero_imprint}
 use Rattle.ksi_split.specs.declared.side.Side.TheVariants.{Left, Right}
 use Rattle.ksi_split.specs.declared.tree_link.TreeLink.{TreeLink}
 use Rattle.ksi_split.specs.Trees.{tree_within, tree, path_within, path_of}
-use Rattle.ksi_calchain.specs.Climbing.{cal_join, cal_join_text}
+use Rattle.ksi_calchain.specs.Climbing.{calendar_join, calendar_join_text}
 use Rattle.ksi_calendar.specs.Calendar.{calendar_leaf, calendar_path}
 use Rattle.ksi_aggchain.specs.Climbing.{Climbs, level_after}
 use Rattle.ksi_aggchain.specs.Links.{PlainLink}
@@ -17,7 +17,7 @@ use Rattle.ksi_aggchain.specs.declared.link.Link.{Link}
 use Rattle.ksi_aggchain.specs.declared.link.Sibling.{Sibling}
 use Rattle.ksi_aggchain.specs.declared.link.Sibling.TheVariants as siblings
 use Rattle.ksi_aggtree.specs.declared.entries.Entry.{Entry}
-use Rattle.ksi_aggtree.specs.Rounds.{IsRound, agg_join, item_at, tree_of, tree_path}
+use Rattle.ksi_aggtree.specs.Rounds.{IsRound, aggregation_join, item_at, tree_of, tree_path}
 use Rattle.ksi_aggtree.specs.Paths.{links_from, chain_of}
 use Rattle.ksi_aggtree.specs.Entries.{items_of, candidate_of}
 use Rattle.ksi_signature.specs.Above.{IsNode, AreRoundLinks}
@@ -126,11 +126,11 @@ nodes level (other ∷ others) = (tt, nodes (max level other.sibling.level + 1) 
 module _ (P : List ℕ → Type 0) (zero_too : P zero_imprint) (image : List ℕ → List ℕ) (images : (bytes : List ℕ) → P (image bytes)) where
   -- ROUNDS
 
-  joined_is : (a b : Item) → OfItem P (agg_join image a b)
+  joined_is : (a b : Item) → OfItem P (aggregation_join image a b)
   joined_is a b = images (join_text a.imprint b.imprint (max a.level b.level + 1))
 
   pub round_of : (es : List Entry) → OfEntries P es → OfItem P (tree_of image (items_of es))
-  round_of es all = tree_is Item (OfItem P) (agg_join image) joined_is (item_at (items_of es)) (item_of P zero_too es all) 0 (length (items_of es))
+  round_of es all = tree_is Item (OfItem P) (aggregation_join image) joined_is (item_at (items_of es)) (item_of P zero_too es all) 0 (length (items_of es))
 
   pub candidate_is : (es : List Entry) → OfEntries P es → P (candidate_of image es)
   candidate_is [] all = zero_too
@@ -147,7 +147,7 @@ module _ (P : List ℕ → Type 0) (zero_too : P zero_imprint) (image : List ℕ
           input = item_of P zero_too es all k;
           limits = record { count = few items k round.few; nodes = nodes (item_at items k).level (tree_path image items k) };
           links = low_links P (item_at items k).level (chain_of image items k) (omega (arith, top, high))
-              (beside P (item_at items k).level (tree_path image items k) (path_is Item (OfItem P) (agg_join image) joined_is (item_at items) (item_of P zero_too es all) 0 k (length items)));
+              (beside P (item_at items k).level (tree_path image items k) (path_is Item (OfItem P) (aggregation_join image) joined_is (item_at items) (item_of P zero_too es all) 0 k (length items)));
         }
 
   -- CALENDARS
@@ -171,8 +171,8 @@ module _ (P : List ℕ → Type 0) (zero_too : P zero_imprint) (image : List ℕ
     leaf_is start last t = either P (nat_lt t start) zero_imprint (slice_index_or (roots_among held start (suc last - start)) (t - start) zero_imprint) zero_too (place_is (roots_among held start (suc last - start)) (t - start) (roots_are start (suc last - start)))
 
     pub calendar_siblings : (start last t p : ℕ) → EachSibling P (calendar_path image (held_seconds held start last) t p)
-    calendar_siblings start last t p = path_is (List ℕ) P (cal_join image) (λ a b. images (cal_join_text a b)) (calendar_leaf (held_seconds held start last)) (leaf_is start last) 0 t (p + 1)
+    calendar_siblings start last t p = path_is (List ℕ) P (calendar_join image) (λ a b. images (calendar_join_text a b)) (calendar_leaf (held_seconds held start last)) (leaf_is start last) 0 t (p + 1)
 
     -- and the root of the calendar
     pub root_is : (start p : ℕ) → P (held_root image held start p)
-    root_is start p = tree_is (List ℕ) P (cal_join image) (λ a b. images (cal_join_text a b)) (calendar_leaf (held_seconds held start p)) (leaf_is start p) 0 (p + 1)
+    root_is start p = tree_is (List ℕ) P (calendar_join image) (λ a b. images (calendar_join_text a b)) (calendar_leaf (held_seconds held start p)) (leaf_is start p) 0 (p + 1)

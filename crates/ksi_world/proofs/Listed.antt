@@ -4,7 +4,7 @@ use Rattle.std.specs.Prelude.{option_map, unwrap_or}
 use Rattle.std.specs.Str.{bytes_eq}
 use Rattle.ksi_imprint.specs.Imprints.{zero_imprint}
 use Rattle.ksi_corenode.specs.SecondState.{SecondState}
-use Rattle.ksi_corenode.specs.CoreState.{CoreState, second_at, held_by}
+use Rattle.ksi_corenode.specs.CoreState.{CoreState, state_of, held_by}
 use Rattle.ksi_schedule.specs.Plans.{PlanState, InRange}
 use Rattle.ksi_world.specs.declared.kept.KeptSecond.{KeptSecond}
 use Rattle.ksi_world.specs.Histories.{WorldState, held_in}
@@ -27,7 +27,7 @@ module _ (image : List ℕ → List ℕ) (plan : PlanState) (w : WorldState) whe
         ∙ ap (λ n. lowest (λ core. held_in w core t) 0 n) are.many
 
     sealed_is : (t : ℕ) (root : List ℕ) → sealed_among image cores t root ≡ lowest (λ core. sealed_as image root (w.seconds core t).sealed) 0 plan.cores
-    sealed_is t root = first_lowest (λ (core : CoreState). sealed_as image root (second_at core t).sealed) (λ core. sealed_as image root (w.seconds core t).sealed) cores 0
+    sealed_is t root = first_lowest (λ (core : CoreState). sealed_as image root (state_of core t).sealed) (λ core. sealed_as image root (w.seconds core t).sealed) cores 0
         (λ i j core is at. ap (λ (s : SecondState). sealed_as image root s.sealed) ((are.each j core at).keeps t) ∙ ap (λ j. sealed_as image root (w.seconds j t).sealed) (omega (arith, is)))
         ∙ ap (λ n. lowest (λ core. sealed_as image root (w.seconds core t).sealed) 0 n) are.many
 

@@ -13,7 +13,7 @@ use Rattle.ksi_corenode.specs.SecondState.{SecondState}
 use Rattle.ksi_corenode.specs.Turns.{Turn, told, to_each}
 use Rattle.ksi_corenode.specs.Rows.{ballot_row, receive_row, tell_row, seal_row, submission_row}
 use Rattle.ksi_aggchain.specs.declared.item.Item.{Item}
-use Rattle.ksi_corenode.specs.CoreState.{CoreState, second_at, IsSame, IsTurn}
+use Rattle.ksi_corenode.specs.CoreState.{CoreState, state_of, IsSame, IsTurn}
 use Rattle.ksi_world.specs.declared.outcome.Outcome.{Outcome}
 use Rattle.ksi_world.specs.declared.message.Message.{Message}
 use Rattle.ksi_schedule.specs.Plans.{PlanState}
@@ -138,5 +138,5 @@ cores_turned plan seconds row j t cores cores' wire wire' outcome turn step same
       me = step.me ∙ old_core.me;
       members = step.members ∙ old_core.members;
       start = step.start ∙ old_core.start;
-      keeps = λ u. step.seconds u ∙ ap (λ (z : Turn). cond (eqb u t) z.after (second_at step.old u)) same ∙ ap (λ s. cond (eqb u t) turn.after s) (old_core.keeps u) ∙ put_here seconds j t turn.after u;
+      keeps = λ u. step.seconds u ∙ ap (λ (z : Turn). cond (eqb u t) z.after (state_of step.old u)) same ∙ ap (λ s. cond (eqb u t) turn.after s) (old_core.keeps u) ∙ put_here seconds j t turn.after u;
     }

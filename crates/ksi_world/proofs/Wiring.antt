@@ -5,7 +5,7 @@ use Rattle.std.specs.List.{AllByRecursion}
 use Rattle.std.proofs.lemmas.Bool.{ltb-true}
 use Rattle.ksi_imprint.specs.Imprints.{IsImprint, zero_imprint}
 use Rattle.ksi_split.specs.declared.tree_link.TreeLink.{TreeLink}
-use Rattle.ksi_calchain.specs.Climbing.{ClimbsCal}
+use Rattle.ksi_calchain.specs.Climbing.{ClimbsCalendar}
 use Rattle.ksi_calendar.specs.Calendar.{Seconds, calendar_leaf, calendar_path, calendar_root}
 use Rattle.ksi_aggchain.specs.declared.item.Item.{Item}
 use Rattle.ksi_signature.specs.declared.above.Above.{Above}
@@ -32,7 +32,7 @@ use Rattle.ksi_world.proofs.Joining.{IsHeldBy, IsResponse, IsSo}
 
 -- a calendar's path climbs from the leaf of its second to the root
 abbrev pub PathClimbs : (List ℕ → List ℕ) → Type 0
-PathClimbs image = (seconds : Seconds) (t p : ℕ) → t ≤ p → ClimbsCal image (calendar_leaf seconds t) (calendar_path image seconds t p) (calendar_root image seconds p)
+PathClimbs image = (seconds : Seconds) (t p : ℕ) → t ≤ p → ClimbsCalendar image (calendar_leaf seconds t) (calendar_path image seconds t p) (calendar_root image seconds p)
 
 -- THE LEAF OF A HELD SECOND
 
@@ -96,8 +96,8 @@ module _ (image : List ℕ → List ℕ) (plan : PlanState) (is : IsPlan plan) (
         there = joins.there;
         held = joins.held;
         sender = held_by_sender image plan w message.sender t above response.0;
-        leads_on = subst (λ links. ClimbsCal image above.root links (held_root image (held_in w joins.core) plan.start t)) (sym joins.calendar)
-            (subst (λ leaf. ClimbsCal image leaf (calendar_path image (held_seconds (held_in w joins.core) plan.start t) t t) (held_root image (held_in w joins.core) plan.start t))
+        leads_on = subst (λ links. ClimbsCalendar image above.root links (held_root image (held_in w joins.core) plan.start t)) (sym joins.calendar)
+            (subst (λ leaf. ClimbsCalendar image leaf (calendar_path image (held_seconds (held_in w joins.core) plan.start t) t t) (held_root image (held_in w joins.core) plan.start t))
             (leaf_held (held_in w joins.core) plan.start t above.root joins.from joins.held)
             (climbs (held_seconds (held_in w joins.core) plan.start t) t t (omega arith)));
         from = joins.from;

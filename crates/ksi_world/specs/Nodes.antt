@@ -2,7 +2,7 @@
 use Rattle.std.specs.Prelude.{◌≡◌, ℕ, ◌≤◌, ◌==◌, if◌then◌else◌, List, ◌++◌, length, map, slice_get, slice_set, Some}
 use Rattle.ksi_corenode.specs.SecondState.{SecondState}
 use Rattle.ksi_corenode.specs.Turns.{Turn}
-use Rattle.ksi_corenode.specs.CoreState.{CoreState, second_at}
+use Rattle.ksi_corenode.specs.CoreState.{CoreState, state_of}
 use Rattle.ksi_aggregator.specs.Rows.{RoundState, RoundTurn, round_still, round_response}
 use Rattle.ksi_aggregator.specs.Rounds.{AggregatorState, rounds_of, HasPlace, IsTurn}
 use Rattle.ksi_schedule.specs.declared.event.Event.{Event}
@@ -32,7 +32,7 @@ pub record IsCore (plan : PlanState) (seconds : ℕ → SecondState) (j : ℕ) (
   pub me : core.me ≡ j
   pub members : core.members ≡ plan.cores
   pub start : core.start ≡ plan.start
-  pub keeps : (t : ℕ) → second_at core t ≡ seconds t
+  pub keeps : (t : ℕ) → state_of core t ≡ seconds t
 
 pub record AreCores (plan : PlanState) (seconds : ℕ → ℕ → SecondState) (cores : List CoreState) : Type 0 where
   pub many : length cores ≡ plan.cores
@@ -66,7 +66,7 @@ pub record CoreStep (row : CoreState → Turn) (j second : ℕ) (cores cores' : 
   pub me : new.me ≡ old.me
   pub members : new.members ≡ old.members
   pub start : new.start ≡ old.start
-  pub seconds : (t : ℕ) → second_at new t ≡ (if t == second then (row old).after else second_at old t)
+  pub seconds : (t : ℕ) → state_of new t ≡ (if t == second then (row old).after else state_of old t)
   pub posted : wire' ≡ wire ++ map (core_message j second) (row old).sends
   pub told : outcome ≡ outcome_of (row old).answer (length (row old).sends)
 
@@ -90,7 +90,7 @@ pub record CoreRestart (row : SecondState → SecondState) (j : ℕ) (cores core
   pub me : new.me ≡ old.me
   pub members : new.members ≡ old.members
   pub start : new.start ≡ old.start
-  pub seconds : (t : ℕ) → second_at new t ≡ row (second_at old t)
+  pub seconds : (t : ℕ) → state_of new t ≡ row (state_of old t)
 
 -- aggregator k took a step of every second, which is this function of the round, and nothing is sent
 pub record RoundRestart (row : RoundState → RoundState) (k : ℕ) (aggregators aggregators' : List AggregatorState) : Type 0 where

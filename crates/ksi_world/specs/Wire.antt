@@ -6,7 +6,7 @@ use Rattle.ksi_aggchain.specs.declared.item.Item.{Item}
 use Rattle.ksi_aggtree.specs.declared.entries.Entry.{Entry}
 use Rattle.ksi_aggtree.specs.Rounds.{tree_of}
 use Rattle.ksi_aggtree.specs.Entries.{items_of}
-use Rattle.ksi_calchain.specs.Climbing.{ClimbsCal}
+use Rattle.ksi_calchain.specs.Climbing.{ClimbsCalendar}
 use Rattle.ksi_signature.specs.declared.above.Above.{Above}
 use Rattle.ksi_corenode.specs.Held.{held_root}
 use Rattle.ksi_schedule.specs.declared.actor.Actor.{Actor}
@@ -40,7 +40,7 @@ pub record IsLinked (image : List ℕ → List ℕ) (plan : PlanState) (w : Worl
   pub held : held_in w core message.second ≡ Some above.root
   pub sender : IsHeldBySender w message.sender message.second above.root
   -- the calendar chain leads on from the root to the root of the calendar to this second, of which the core holds each second
-  pub leads_on : ClimbsCal image above.root above.calendar (held_root image (held_in w core) plan.start message.second)
+  pub leads_on : ClimbsCalendar image above.root above.calendar (held_root image (held_in w core) plan.start message.second)
   pub from : plan.start ≤ message.second
   pub covered : (t : ℕ) → plan.start ≤ t → t ≤ message.second → IsSome (held_in w core t)
   -- the root is not the zero imprint, which would say that the second was missed

@@ -3,7 +3,7 @@ ghost use Rattle.std.specs.Prelude.{◌≡◌, ◌≤◌, ◌<◌, ◌+◌, ◌^
 ghost use Rattle.ksi_synod.specs.Rows.{OfBallot};
 ghost use Rattle.ksi_corenode.specs.Rows.{submission_row, seal_row, ballot_row, receive_row, tell_row, respond_row, publish_answer, restart_row};
 ghost use Rattle.ksi_corenode.specs.SecondState.{fresh_second};
-ghost use Rattle.ksi_corenode.specs.CoreState.{CoreState, second_at, held_by};
+ghost use Rattle.ksi_corenode.specs.CoreState.{CoreState, state_of, held_by};
 ghost use Rattle.ksi_world.specs.Nodes.{AreCores, EachCore, CoreStep, CoreRestart, CoresStay};
 
 use crate::message::Message;
@@ -35,7 +35,7 @@ pub(crate) fn seal<C: Compress>(
     second: u64,
 ) -> Result<Outcome, NoMemory>
     requires there { core < length cores.old.items }
-    ensures ok { IfOk result (CoreStep (λ c. seal_row C.image (second_at c second)) core second cores.old.items cores.new.items wire.old.items wire.new.items) }
+    ensures ok { IfOk result (CoreStep (λ c. seal_row C.image (state_of c second)) core second cores.old.items cores.new.items wire.old.items wire.new.items) }
     ensures cores { OnErr result (CoresStay cores.old.items cores.new.items) }
     ensures wire { OnErr result (wire.new.items ≡ wire.old.items) }
 {
@@ -52,7 +52,7 @@ pub(crate) fn ballot<C: Compress>(
 ) -> Result<Outcome, NoMemory>
     requires there { core < length cores.old.items }
     requires few { EachCore (λ c. c.members ≤ 9) cores.old.items }
-    ensures ok { IfOk result (CoreStep (λ c. ballot_row c.members second c.me (second_at c second)) core second cores.old.items cores.new.items wire.old.items wire.new.items) }
+    ensures ok { IfOk result (CoreStep (λ c. ballot_row c.members second c.me (state_of c second)) core second cores.old.items cores.new.items wire.old.items wire.new.items) }
     ensures cores { OnErr result (CoresStay cores.old.items cores.new.items) }
     ensures wire { OnErr result (wire.new.items ≡ wire.old.items) }
 {
@@ -74,7 +74,7 @@ pub(crate) fn receive<C: Compress>(
     requires few { EachCore (λ c. c.members ≤ 9) cores.old.items }
     requires member { from < 9 }
     requires ballot { OfBallot message.now }
-    ensures ok { IfOk result (CoreStep (λ c. receive_row c.members second from message.now (second_at c second)) core second cores.old.items cores.new.items wire.old.items wire.new.items) }
+    ensures ok { IfOk result (CoreStep (λ c. receive_row c.members second from message.now (state_of c second)) core second cores.old.items cores.new.items wire.old.items wire.new.items) }
     ensures cores { OnErr result (CoresStay cores.old.items cores.new.items) }
     ensures wire { OnErr result (wire.new.items ≡ wire.old.items) }
 {
@@ -92,7 +92,7 @@ pub(crate) fn tell<C: Compress>(
 ) -> Result<Outcome, NoMemory>
     requires there { core < length cores.old.items }
     requires few { EachCore (λ c. c.members ≤ 9) cores.old.items }
-    ensures ok { IfOk result (CoreStep (λ c. tell_row c.members second c.me (second_at c second)) core second cores.old.items cores.new.items wire.old.items wire.new.items) }
+    ensures ok { IfOk result (CoreStep (λ c. tell_row c.members second c.me (state_of c second)) core second cores.old.items cores.new.items wire.old.items wire.new.items) }
     ensures cores { OnErr result (CoresStay cores.old.items cores.new.items) }
     ensures wire { OnErr result (wire.new.items ≡ wire.old.items) }
 {
@@ -112,7 +112,7 @@ pub(crate) fn submission<C: Compress>(
 ) -> Result<Outcome, NoMemory>
     requires there { core < length cores.old.items }
     requires level { item.level ≤ 239 }
-    ensures ok { IfOk result (CoreStep (λ c. submission_row from item (second_at c second)) core second cores.old.items cores.new.items wire.old.items wire.new.items) }
+    ensures ok { IfOk result (CoreStep (λ c. submission_row from item (state_of c second)) core second cores.old.items cores.new.items wire.old.items wire.new.items) }
     ensures cores { OnErr result (CoresStay cores.old.items cores.new.items) }
     ensures wire { OnErr result (wire.new.items ≡ wire.old.items) }
 {
@@ -130,7 +130,7 @@ pub(crate) fn respond<C: Compress>(
     requires there { core < length cores.old.items }
     requires from { EachCore (λ c. c.start ≤ second) cores.old.items }
     requires below { second < 2 ^ 63 }
-    ensures ok { IfOk result (CoreStep (λ c. respond_row C.image (held_by c) c.start second (second_at c second)) core second cores.old.items cores.new.items wire.old.items wire.new.items) }
+    ensures ok { IfOk result (CoreStep (λ c. respond_row C.image (held_by c) c.start second (state_of c second)) core second cores.old.items cores.new.items wire.old.items wire.new.items) }
     ensures cores { OnErr result (CoresStay cores.old.items cores.new.items) }
     ensures wire { OnErr result (wire.new.items ≡ wire.old.items) }
 {

@@ -1,7 +1,7 @@
 //! The kept seconds: what the cores hold, and whose items it is.
 ghost use Rattle.std.specs.Prelude.{◌≡◌, ◌<◌, [], length, IfOk};
 ghost use Rattle.std.specs.Option.{option_copied};
-ghost use Rattle.ksi_corenode.specs.CoreState.{second_at};
+ghost use Rattle.ksi_corenode.specs.CoreState.{state_of};
 ghost use Rattle.ksi_world.specs.Records.{sealed_as};
 ghost use Rattle.ksi_world.specs.Deciding.{decides, ListsTold};
 ghost use Rattle.ksi_world.specs.Keeping.{root_among, sealed_among, items_among, second_among, kept_listed, AreListed};
@@ -208,7 +208,7 @@ fn items_of_root<'a, C: Compress>(
     second: u64,
     root: &Imprint,
 ) -> Option<&'a [Item]>
-    ensures { option_copied result ≡ sealed_as C.image root.now (second_at core.now second).sealed }
+    ensures { option_copied result ≡ sealed_as C.image root.now (state_of core.now second).sealed }
 {
     match core.candidate(second) {
         Some(candidate) if candidate == *root => core.items(second),

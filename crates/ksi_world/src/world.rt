@@ -1,5 +1,5 @@
 ghost use Rattle.std.specs.Prelude.{◌≡◌, ◌<◌, ◌≤◌, ◌^◌, ◌++◌, ◌∷◌, [], ℕ, length, vec_len, vec_capacity, IfOk, IfSome, IfNone, OnOk, OnErr};
-ghost use Rattle.ksi_corenode.specs.CoreState.{second_at};
+ghost use Rattle.ksi_corenode.specs.CoreState.{state_of};
 ghost use Rattle.ksi_world.specs.Histories.{happens, held_in, world_of};
 ghost use Rattle.ksi_world.specs.Records.{issued_of, IsIssuedOf, NotIssuedOf, kept_seconds};
 ghost use Rattle.ksi_world.specs.Validity.{AreRising, AreTimes, EachKept, IsKept};
@@ -127,7 +127,7 @@ impl<C: Compress> World<C> {
     pub fn core(&self, core: u8) -> &Core<C>
         requires { core < self.now.plan.cores }
         ensures me { result.now.me ≡ core }
-        ensures seconds { (second : ℕ) → second_at result.now second ≡ (world_of C.image self.now).seconds core second }
+        ensures seconds { (second : ℕ) → state_of result.now second ≡ (world_of C.image self.now).seconds core second }
     {
         self.nodes.core(core)
     }

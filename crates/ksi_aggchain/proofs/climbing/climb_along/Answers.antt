@@ -10,7 +10,7 @@ use Rattle.ksi_aggchain.proofs.climbing.climb_along.Goals as goal
 pub returns-then-above-gt255 : goal.returns-then-above-gt255
 returns-then-above-gt255 g c =
     let image = g.C.Compress.image in
-    let plain = g.L.SeenLink.plain in
+    let plain = g.L.AnyLink.plain in
     let start : Item = record { imprint = c.args.start; level = c.args.level } in
     let links : List PlainLink = map plain c.args.links.now in
     let place = c.loop-place.place in
@@ -26,7 +26,7 @@ returns-then-above-gt255 g c =
 pub loop-place-preserved : goal.loop-place-preserved
 loop-place-preserved g c =
     let image = g.C.Compress.image in
-    let plain = g.L.SeenLink.plain in
+    let plain = g.L.AnyLink.plain in
     let start : Item = record { imprint = c.args.start; level = c.args.level } in
     let links : List PlainLink = map plain c.args.links.now in
     let place = c.loop-place.place in
@@ -40,7 +40,7 @@ loop-place-preserved g c =
 pub returns : goal.returns
 returns g c =
     let image = g.C.Compress.image in
-    let plain = g.L.SeenLink.plain in
+    let plain = g.L.AnyLink.plain in
     let start : Item = record { imprint = c.args.start; level = c.args.level } in
     let links : List PlainLink = map plain c.args.links.now in
     let top : Item = record { imprint = c.loop-place.imprint; level = c.loop-place.level } in

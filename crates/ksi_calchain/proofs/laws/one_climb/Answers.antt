@@ -1,4 +1,4 @@
-use Rattle.ksi_calchain.proofs.CalLemmas.{climbs_from, climbs_to, link_leads}
+use Rattle.ksi_calchain.proofs.CalendarLemmas.{climbs_from, climbs_to, link_leads}
 use Rattle.ksi_calchain.proofs.laws.one_climb.Goals as goal
 
 pub returns-clause-value : goal.returns-clause-value

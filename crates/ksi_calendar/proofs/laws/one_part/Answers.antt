@@ -1,5 +1,5 @@
 use Rattle.std.proofs.Common.{◌≡◌, ℕ, List, Bool, true, false, Option, None, refl, if◌then◌else◌}
-use Rattle.ksi_calchain.specs.Climbing.{cal_join}
+use Rattle.ksi_calchain.specs.Climbing.{calendar_join}
 use Rattle.ksi_split.specs.Trees.{node_at}
 use Rattle.ksi_calendar.specs.Calendar.{calendar_leaf, is_covered}
 use Rattle.ksi_calendar.proofs.laws.one_part.Goals as goal
@@ -10,4 +10,4 @@ none_of false found none = refl
 
 pub returns-clause-none : goal.returns-clause-none
 returns-clause-none c = λ image seconds p place sides passes.
-    none_of (is_covered seconds p) (node_at (cal_join image) (calendar_leaf seconds) p sides) (c.one_node.ensures.none (cal_join image) (calendar_leaf seconds) p place sides passes)
+    none_of (is_covered seconds p) (node_at (calendar_join image) (calendar_leaf seconds) p sides) (c.one_node.ensures.none (calendar_join image) (calendar_leaf seconds) p place sides passes)

@@ -14,7 +14,7 @@ returns-clause-published g c =
     let image = g.C.Compress.image in
     let t = c.args.chains.now.time in
     let seconds = c.calendar.result.now in
-    let hash = hash_is image seconds (calendar_of c.args.journal.now) t c.args.p c.args.chains.now.item.imprint c.climb_cal-root.result c.in_ok-links.links c.as_slice.result.now
+    let hash = hash_is image seconds (calendar_of c.args.journal.now) t c.args.p c.args.chains.now.item.imprint c.climb_calendar-root.result c.in_ok-links.links c.as_slice.result.now
     (c.one_climb.ensures.value image (calendar_leaf seconds t) (calendar_root image seconds c.args.p) c.in_ok-links.links).0
-    c.calendar.ensures c.in_ok-links.ensures.climbs c.requires.root c.as_slice.ensures c.climb_cal-root.ensures.value in
+    c.calendar.ensures c.in_ok-links.ensures.climbs c.requires.root c.as_slice.ensures c.climb_calendar-root.ensures.value in
     c.record.ensures ∙ ap (λ (x : List ℕ). record_with c.args.p x) hash

@@ -1,5 +1,5 @@
 use Rattle.std.proofs.Common.{◌+◌}
-use Rattle.ksi_calchain.specs.Climbing.{cal_join}
+use Rattle.ksi_calchain.specs.Climbing.{calendar_join}
 use Rattle.ksi_calendar.specs.Calendar.{calendar_leaf}
 use Rattle.ksi_journal.specs.Calendar.{calendar_of}
 use Rattle.ksi_extender.proofs.Again.{again}
@@ -16,6 +16,6 @@ returns-clause-accepted c = λ image journal bytes text signature p fits read e 
 pub returns-clause-again : goal.returns-clause-again
 returns-clause-again c = λ image journal bytes text signature p images is early fits read e.
     again image (λ signature chains some. c.aggregation.ensures image signature chains some) images journal is
-    (λ t p few. c.one_path.ensures.length (cal_join image) (calendar_leaf (calendar_of journal)) 0 t (p + 1) 63 few)
+    (λ t p few. c.one_path.ensures.length (calendar_join image) (calendar_leaf (calendar_of journal)) 0 t (p + 1) 63 few)
     (λ bytes signature chain published. c.extended_is_signature.ensures bytes signature chain published)
     bytes text p signature early fits read ((c.signature_is_read.ensures.signature bytes signature fits).1 read) e

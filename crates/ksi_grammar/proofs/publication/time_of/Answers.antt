@@ -1,4 +1,4 @@
-use Rattle.ksi_tlv.specs.Seen.{view_placed}
+use Rattle.ksi_tlv.specs.Views.{view_placed}
 use Rattle.ksi_grammar.proofs.Publishing.{time_stands}
 use Rattle.ksi_grammar.proofs.publication.time_of.Goals as goal
 

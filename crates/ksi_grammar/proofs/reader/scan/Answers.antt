@@ -1,6 +1,6 @@
 use Rattle.std.proofs.Common.{◌≡◌, ◌∷◌, Ok, Err, ◌∙◌}
 use Rattle.std.proofs.lemmas.Result.{err_from_is_err_and}
-use Rattle.ksi_tlv.specs.Seen.{view_placed, view_cut, rest}
+use Rattle.ksi_tlv.specs.Views.{view_placed, view_cut, rest}
 use Rattle.ksi_grammar.proofs.Loop.{starts, goes_on, stops, is_cut, ends}
 use Rattle.ksi_grammar.proofs.reader.scan.Goals as goal
 

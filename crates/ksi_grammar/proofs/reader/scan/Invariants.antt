@@ -1,4 +1,4 @@
-use Rattle.ksi_tlv.specs.Seen.{rest}
+use Rattle.ksi_tlv.specs.Views.{rest}
 use Rattle.ksi_grammar.proofs.Loop.{Leaves}
 use Rattle.ksi_grammar.proofs.reader.scan.Given as goal
 

@@ -1,6 +1,6 @@
 use Rattle.std.proofs.Common.{◌∙◌, ◌+◌, length, sym, ap, subst}
 use Rattle.ksi_tlv.specs.Walking.{Items}
-use Rattle.ksi_tlv.specs.Seen.{rest, view_item}
+use Rattle.ksi_tlv.specs.Views.{rest, view_item}
 use Rattle.ksi_order.specs.Order.{walked}
 use Rattle.ksi_order.specs.Sequence.{IsWanting}
 use Rattle.ksi_order.proofs.Wanting.{wanting_here, wanting_behind, left_on}

@@ -1,6 +1,6 @@
 use Rattle.std.proofs.Common.{◌≡◌}
 use Rattle.ksi_tlv.specs.Walking.{elements}
-use Rattle.ksi_tlv.specs.Seen.{rest}
+use Rattle.ksi_tlv.specs.Views.{rest}
 use Rattle.ksi_order.specs.Order.{walked}
 use Rattle.ksi_order.specs.Sequence.{IsWanting}
 use Rattle.ksi_order.proofs.walking.go.Given as goal

@@ -1,5 +1,5 @@
 use Rattle.std.proofs.Common.{sym, ◌∙◌}
-use Rattle.ksi_tlv.specs.Seen.{view_placed}
+use Rattle.ksi_tlv.specs.Views.{view_placed}
 use Rattle.ksi_signature.proofs.Says.{imprint_says}
 use Rattle.ksi_signature.proofs.contents.imprint_of.Goals as goal
 

@@ -2,7 +2,7 @@ use Rattle.std.proofs.Common.{◌≤◌, ◌<◌, ℕ, List, length, Err, refl, 
 use Rattle.std.specs.List.{AllByRecursion}
 use Rattle.std.proofs.lemmas.List.Elements.{All-from_get_or}
 use Rattle.std.proofs.lemmas.Result.{err_from_is_err_and}
-use Rattle.ksi_tlv.specs.Seen.{view}
+use Rattle.ksi_tlv.specs.Views.{view}
 use Rattle.ksi_tlv.specs.Spelling.{plain, canonical}
 use Rattle.ksi_signature.specs.declared.extension.WithRefusal.{WithRefusal}
 use Rattle.ksi_signature.specs.Lengths.{capped}

@@ -7,7 +7,7 @@ returns c =
     c.reading_is_elements.ensures
     (record {
       again = c.written_is_whole.ensures;
-      held = c.held_is_whole.ensures;
+      held = c.inside_is_whole.ensures;
       published = c.published_is_read.ensures;
       short = c.record_is_read.ensures.short;
       spells = c.canonical_is_shortest.ensures.spells;

@@ -4,7 +4,7 @@ use Rattle.ksi_signature.proofs.laws.written_is_signature.Goals as goal
 pub returns : goal.returns
 returns c = signature_again (record {
   again = c.written_is_whole.ensures;
-  held = c.held_is_whole.ensures;
+  held = c.inside_is_whole.ensures;
   published = c.published_is_read.ensures;
   short = c.record_is_read.ensures.short;
   spells = c.canonical_is_shortest.ensures.spells;

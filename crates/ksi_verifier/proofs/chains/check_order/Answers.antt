@@ -7,5 +7,5 @@ pub returns : goal.returns
 returns g c =
     let below = c.loop-place.place - 1 in
     let rest = drop below c.args.chains.now in
-    let few : length (map g.T.SeenChain.plain rest) ≤ 1 = omega (arith, length-map rest g.T.SeenChain.plain, length-drop below c.args.chains.now, c.loop-place-test.false, c.loop-place.invariant.some) in
-    order_ends below (map g.T.SeenChain.plain rest) few ∙ c.loop-place.invariant.so_far
+    let few : length (map g.T.AnyChain.plain rest) ≤ 1 = omega (arith, length-map rest g.T.AnyChain.plain, length-drop below c.args.chains.now, c.loop-place-test.false, c.loop-place.invariant.some) in
+    order_ends below (map g.T.AnyChain.plain rest) few ∙ c.loop-place.invariant.so_far

@@ -1,7 +1,7 @@
 use Rattle.std.proofs.Common.{[], ◌∷◌, length, length-append, sym, ap, ◌∙◌, arith, inl, inr}
 use Rattle.std.specs.Prelude.{slice_get}
 use Rattle.ksi_corenode.specs.SecondState.{fresh_second}
-use Rattle.ksi_corenode.specs.CoreState.{CoreState, second_at}
+use Rattle.ksi_corenode.specs.CoreState.{CoreState, state_of}
 use Rattle.ksi_schedule.specs.Plans.{PlanState}
 use Rattle.ksi_world.proofs.Turning.{get_push}
 use Rattle.ksi_world.proofs.cores.new.Goals as goal
@@ -19,7 +19,7 @@ adding-preserved g c =
           me = ap (λ (z : CoreState). z.me) new.1 ∙ c.new.ensures.me ∙ same;
           members = ap (λ (z : CoreState). z.members) new.1 ∙ c.new.ensures.members ∙ cores;
           start = ap (λ (z : CoreState). z.start) new.1 ∙ c.new.ensures.start ∙ ap (λ (p : PlanState). p.start) c.plan.view_is;
-          keeps = λ t. ap (λ (z : CoreState). second_at z t) new.1 ∙ c.new.ensures.seconds t ∙ ap (λ n. fresh_second c.adding.me n t) cores ∙ ap (λ j. fresh_second j c.args.plan.now.cores t) same;
+          keeps = λ t. ap (λ (z : CoreState). state_of z t) new.1 ∙ c.new.ensures.seconds t ∙ ap (λ n. fresh_second c.adding.me n t) cores ∙ ap (λ j. fresh_second j c.args.plan.now.cores t) same;
         }
       ];
     }

@@ -1,6 +1,6 @@
 use Rattle.std.proofs.Common.{◌+◌, sym, subst}
 use Rattle.ksi_tlv.specs.Spelling.{AreBytes}
-use Rattle.ksi_calchain.specs.Climbing.{cal_join}
+use Rattle.ksi_calchain.specs.Climbing.{calendar_join}
 use Rattle.ksi_calendar.specs.Calendar.{calendar_leaf}
 use Rattle.ksi_world.specs.Histories.{world_of}
 use Rattle.ksi_world.specs.Records.{kept_seconds}
@@ -21,7 +21,7 @@ returns-clause-issued c = λ image h images bytes is number text is_issued.
       sum = c.levels_rise.ensures.sum image;
     } in
     let carried = issued_carried Both image h.plan is.plan laws c.steps_agree.ensures.agreement c.steps_agree.ensures.validity
-    (λ seconds t p few. c.one_path.ensures.length (cal_join image) (calendar_leaf seconds) 0 t (p + 1) 63 few) h.events is.events (ask_for_both h.events is.imprints is.bytes) number text is_issued in
+    (λ seconds t p few. c.one_path.ensures.length (calendar_join image) (calendar_leaf seconds) 0 t (p + 1) 63 few) h.events is.events (ask_for_both h.events is.imprints is.bytes) number text is_issued in
     let joined = carried.0 in
     let second = joined.asked.second in
     let input = joined.asked.imprint in
@@ -42,4 +42,4 @@ returns-clause-kept c = λ image h bytes is.
     } in
     roots_of AreBytes (kept_seconds image h.plan (world_of image h))
     (kept_each AreBytes image h.plan is.plan laws c.steps_agree.ensures.agreement c.steps_agree.ensures.validity
-    (λ seconds t p few. c.one_path.ensures.length (cal_join image) (calendar_leaf seconds) 0 t (p + 1) 63 few) h.events is.events (ask_for_bytes h.events is.bytes))
+    (λ seconds t p few. c.one_path.ensures.length (calendar_join image) (calendar_leaf seconds) 0 t (p + 1) 63 few) h.events is.events (ask_for_bytes h.events is.bytes))

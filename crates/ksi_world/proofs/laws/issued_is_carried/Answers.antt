@@ -1,6 +1,6 @@
 use Rattle.std.proofs.Common.{◌+◌}
 use Rattle.ksi_imprint.specs.Imprints.{IsImprint}
-use Rattle.ksi_calchain.specs.Climbing.{cal_join}
+use Rattle.ksi_calchain.specs.Climbing.{calendar_join}
 use Rattle.ksi_calendar.specs.Calendar.{calendar_leaf}
 use Rattle.ksi_world.proofs.Carrying.{RoundLaws}
 use Rattle.ksi_world.proofs.Imprinted.{zero_is}
@@ -19,7 +19,7 @@ returns-clause-issued c = λ image h images is are ask number text is_issued.
       sum = c.levels_rise.ensures.sum image;
     } in
     let carried = issued_carried IsImprint image h.plan is laws c.steps_agree.ensures.agreement c.steps_agree.ensures.validity
-    (λ seconds t p few. c.one_path.ensures.length (cal_join image) (calendar_leaf seconds) 0 t (p + 1) 63 few) h.events are (ask_for_imprints h.events ask) number text is_issued in
+    (λ seconds t p few. c.one_path.ensures.length (calendar_join image) (calendar_leaf seconds) 0 t (p + 1) 63 few) h.events are (ask_for_imprints h.events ask) number text is_issued in
     let joined = carried.0 in
     (joined, may_be_issued joined.asked.second joined.asked.imprint joined.links joined.above carried.1)
 
@@ -34,4 +34,4 @@ returns-clause-kept c = λ image h images is are ask.
       sum = c.levels_rise.ensures.sum image;
     } in
     kept_is IsImprint image h.plan is laws c.steps_agree.ensures.agreement c.steps_agree.ensures.validity
-    (λ seconds t p few. c.one_path.ensures.length (cal_join image) (calendar_leaf seconds) 0 t (p + 1) 63 few) h.events are (ask_for_imprints h.events ask)
+    (λ seconds t p few. c.one_path.ensures.length (calendar_join image) (calendar_leaf seconds) 0 t (p + 1) 63 few) h.events are (ask_for_imprints h.events ask)

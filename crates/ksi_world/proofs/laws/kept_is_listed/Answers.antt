@@ -1,6 +1,6 @@
 use Rattle.std.proofs.Common.{◌+◌}
 use Rattle.ksi_imprint.specs.Imprints.{IsImprint}
-use Rattle.ksi_calchain.specs.Climbing.{cal_join}
+use Rattle.ksi_calchain.specs.Climbing.{calendar_join}
 use Rattle.ksi_calendar.specs.Calendar.{calendar_leaf}
 use Rattle.ksi_world.specs.Histories.{after}
 use Rattle.ksi_world.proofs.Carrying.{RoundLaws}
@@ -33,4 +33,4 @@ returns-clause-imprints c = λ image h images is are ask.
       sum = c.levels_rise.ensures.sum image;
     } in
     kept_each IsImprint image h.plan is laws c.steps_agree.ensures.agreement c.steps_agree.ensures.validity
-    (λ seconds t p few. c.one_path.ensures.length (cal_join image) (calendar_leaf seconds) 0 t (p + 1) 63 few) h.events are (ask_for_imprints h.events ask)
+    (λ seconds t p few. c.one_path.ensures.length (calendar_join image) (calendar_leaf seconds) 0 t (p + 1) 63 few) h.events are (ask_for_imprints h.events ask)

@@ -1,6 +1,6 @@
 use Rattle.std.proofs.Common.{◌+◌}
 use Rattle.ksi_imprint.specs.Imprints.{IsImprint}
-use Rattle.ksi_calchain.specs.Climbing.{cal_join}
+use Rattle.ksi_calchain.specs.Climbing.{calendar_join}
 use Rattle.ksi_calendar.specs.Calendar.{calendar_leaf}
 use Rattle.ksi_world.proofs.Carrying.{RoundLaws}
 use Rattle.ksi_world.proofs.Imprinted.{zero_is}
@@ -19,4 +19,4 @@ returns c = λ image h images is are ask.
       sum = c.levels_rise.ensures.sum image;
     } in
     all_linked image h.plan is laws (c.one_chain-2.ensures.climbs image)
-    (λ seconds t p few. c.one_path.ensures.length (cal_join image) (calendar_leaf seconds) 0 t (p + 1) 63 few) h.events are (ask_for_imprints h.events ask)
+    (λ seconds t p few. c.one_path.ensures.length (calendar_join image) (calendar_leaf seconds) 0 t (p + 1) 63 few) h.events are (ask_for_imprints h.events ask)

@@ -5,7 +5,7 @@ use Rattle.ksi_split.specs.declared.side.Side.{Side}
 use Rattle.ksi_split.specs.Trees.{path_of}
 use Rattle.ksi_split.specs.declared.tree_link.TreeLink.{TreeLink}
 use Rattle.ksi_rows.specs.Leaves.{leaf_at}
-use Rattle.ksi_calchain.specs.Climbing.{ClimbsCal, cal_join}
+use Rattle.ksi_calchain.specs.Climbing.{ClimbsCalendar, calendar_join}
 use Rattle.ksi_calchain.specs.Sides.{sides_from_top}
 use Rattle.ksi_calendar.specs.Calendar.{Seconds, calendar_leaf, calendar_root, calendar_path}
 use Rattle.ksi_calendar.proofs.calendar.Calendar.chain_to_counted.Goals as goal
@@ -21,11 +21,11 @@ returns g c =
     let p = c.args.p in
     let is : c.from_vec.result ≡ calendar_path image now t p
     = c.from_vec.ensures ∙ c.in_ok-path_counted.ensures.path
-    ∙ ap (λ (before : List ℕ). path_of (cal_join image) (leaf_at c.self.inside.rows.start before c.self.inside.rows.items) 0 t (p + 1)) c.self.invariant
+    ∙ ap (λ (before : List ℕ). path_of (calendar_join image) (leaf_at c.self.inside.rows.start before c.self.inside.rows.items) 0 t (p + 1)) c.self.invariant
     ∙ ap (λ (seconds : Seconds). calendar_path image seconds t p) c.self.view_is in
     record {
       links = is;
-      climbs = subst (λ (links : List (TreeLink (List ℕ))). ClimbsCal image (calendar_leaf now t) links (calendar_root image now p)) (sym is) (c.one_chain.ensures.climbs image now t p c.requires.within);
+      climbs = subst (λ (links : List (TreeLink (List ℕ))). ClimbsCalendar image (calendar_leaf now t) links (calendar_root image now p)) (sym is) (c.one_chain.ensures.climbs image now t p c.requires.within);
       way = ap sides_from_top is ∙ c.one_chain.ensures.way image now t p;
       few = λ below.
           let short : length (way_of t (p + 1)) ≤ 63

@@ -1,13 +1,13 @@
 use Rattle.std.proofs.Common.{◌≡◌, ℕ, List, Bool, true, None, if◌then◌else◌, ◌∙◌, sym, ap}
 use Rattle.ksi_split.specs.Trees.{node_at}
 use Rattle.ksi_rows.specs.Leaves.{leaf_at}
-use Rattle.ksi_calchain.specs.Climbing.{cal_join}
+use Rattle.ksi_calchain.specs.Climbing.{calendar_join}
 use Rattle.ksi_calendar.specs.Calendar.{Seconds, calendar_leaf, is_covered}
 use Rattle.ksi_calendar.proofs.calendar.Calendar.node.Goals as goal
 
 pub returns-then-covers : goal.returns-then-covers
 returns-then-covers g c =
-    let join = cal_join g.C.Compress.image in
+    let join = calendar_join g.C.Compress.image in
     let p = c.args.p in
     let sides = c.args.sides.now in
     let covered : is_covered c.args.self.now p ≡ true = sym c.covers.ensures ∙ c.if-covers.true in

@@ -7,7 +7,7 @@ use Rattle.std.proofs.lemmas.Map.Made.{map_same_pairs, lookup-map_values}
 use Rattle.ksi_synod.specs.VoteState.{fresh_vote}
 use Rattle.ksi_corenode.specs.SecondState.{SecondState, fresh_second}
 use Rattle.ksi_corenode.specs.Rows.{restart_row}
-use Rattle.ksi_corenode.specs.CoreState.{CoreState, second_at, held_by}
+use Rattle.ksi_corenode.specs.CoreState.{CoreState, state_of, held_by}
 use Rattle.ksi_corenode.proofs.Kept.{kept_lasts}
 use Rattle.ksi_corenode.proofs.node.Core.restart.Goals as goal
 
@@ -18,7 +18,7 @@ restarted_or None me members t = refl
 restarted_or (Some s) me members t = refl
 
 pub returns-clause-seconds : goal.returns-clause-seconds
-unfolding second_at
+unfolding state_of
 returns-clause-seconds g c = λ t.
     let inside = c.self.inside in
     let fresh = fresh_second inside.me inside.members t in
@@ -26,10 +26,10 @@ returns-clause-seconds g c = λ t.
     ap (λ (kept : List (ℕ × SecondState)). unwrap_or (lookup (is_at (nat_cmp t)) kept) fresh) mapped
     ∙ ap (λ (o : Option SecondState). unwrap_or o fresh) (lookup-map_values restart_row (is_at (nat_cmp t)) inside.seconds.entries)
     ∙ restarted_or (lookup (is_at (nat_cmp t)) inside.seconds.entries) inside.me inside.members t
-    ∙ ap (λ (core : CoreState). restart_row (second_at core t)) c.self.view_is
+    ∙ ap (λ (core : CoreState). restart_row (state_of core t)) c.self.view_is
 
 pub invariant_of-self : goal.invariant_of-self
-unfolding second_at
+unfolding state_of
 invariant_of-self g c =
     let inside = c.self.inside in
     let kept = c.self.invariant in

@@ -1,6 +1,6 @@
 use Rattle.std.proofs.Common.{◌≡◌, ◌∙◌, ◌+◌, List, arith}
 use Rattle.std.specs.Option.{option_copied}
-use Rattle.ksi_calchain.specs.Climbing.{cal_join}
+use Rattle.ksi_calchain.specs.Climbing.{calendar_join}
 use Rattle.ksi_calendar.specs.Calendar.{calendar_leaf, calendar_path}
 use Rattle.ksi_aggtree.specs.declared.entries.Entry.{Entry}
 use Rattle.ksi_aggtree.specs.Entries.{items_of}
@@ -20,7 +20,7 @@ returns-in-Some g c =
     let all = held_seconds (held_by now) now.start second in
     let path : c.in_ok-links.links ≡ calendar_path image all second second =
     c.in_ok-links.ensures.links
-    ∙ c.one_path.ensures.own_leaves (cal_join image) (calendar_leaf calendar) (calendar_leaf all) 0 second (second + 1)
+    ∙ c.one_path.ensures.own_leaves (calendar_join image) (calendar_leaf calendar) (calendar_leaf all) 0 second (second + 1)
     (kept_leaves (held_by now) now.start second calendar c.requires.kept (omega (arith, c.requires.covered, c.requires.kept.begins))) in
     of_sealed c.args.kept.now.sealed (option_copied c.entries.result)
     (λ (entries : List Entry). c.in_ok-sends-in-Some.sends.items ≡ responses_from (above_item image all second c.args.root.now (items_of entries)) 0 entries)

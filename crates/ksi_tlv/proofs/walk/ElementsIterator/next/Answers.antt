@@ -1,6 +1,6 @@
 use Rattle.std.proofs.Common.{sym, ◌∙◌}
 use Rattle.ksi_tlv.proofs.WalkLaws.{elements-empty, elements-cons, element_at-takes}
-use Rattle.ksi_tlv.specs.Seen.{view}
+use Rattle.ksi_tlv.specs.Views.{view}
 use Rattle.ksi_tlv.proofs.ReadLaws.{rest_cut}
 use Rattle.ksi_tlv.proofs.walk.ElementsIterator.next.Goals as goal
 

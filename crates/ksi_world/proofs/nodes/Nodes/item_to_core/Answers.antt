@@ -1,6 +1,6 @@
 use Rattle.std.proofs.Common.{sym, ap, subst, arith}
 use Rattle.std.proofs.lemmas.Result.{IfOk-weaker, on_err_weaker}
-use Rattle.ksi_corenode.specs.CoreState.{second_at}
+use Rattle.ksi_corenode.specs.CoreState.{state_of}
 use Rattle.ksi_corenode.specs.Rows.{submission_row}
 use Rattle.ksi_world.specs.Nodes.{NodesState, Fits}
 use Rattle.ksi_world.proofs.Fitting.{core_fits, core_stands, both_errors}
@@ -13,7 +13,7 @@ returns-clause-ok g c = IfOk-weaker c.submission.result _ _
     let fits' = subst (λ (n : NodesState). Fits plan w n) (sym c.self.view_is) fits in
     let is = fits'.cores.each c.args.to step.old step.at in
     core_fits plan w c.self.inside.cores.items c.submission.new.cores.items c.self.inside.aggregators.items c.self.inside.aggregators.items c.self.inside.wire.items c.submission.new.wire.items c.self.inside.requests.items c.self.inside.requests.items c.self.inside.published.items c.self.inside.published.items
-    fits' (λ core. submission_row c.args.from c.args.item (second_at core c.args.second)) c.args.to c.args.second outcome (submission_row c.args.from c.args.item (w.seconds c.args.to c.args.second)) step (ap (submission_row c.args.from c.args.item) (is.keeps c.args.second)))
+    fits' (λ core. submission_row c.args.from c.args.item (state_of core c.args.second)) c.args.to c.args.second outcome (submission_row c.args.from c.args.item (w.seconds c.args.to c.args.second)) step (ap (submission_row c.args.from c.args.item) (is.keeps c.args.second)))
     c.submission.ensures.ok
 
 pub returns-clause-err : goal.returns-clause-err

@@ -1,6 +1,6 @@
 use Rattle.std.proofs.Common.{sym, subst}
 use Rattle.std.proofs.lemmas.Result.{IfOk-weaker, on_err_weaker}
-use Rattle.ksi_corenode.specs.CoreState.{second_at, held_by}
+use Rattle.ksi_corenode.specs.CoreState.{state_of, held_by}
 use Rattle.ksi_corenode.specs.Rows.{respond_row}
 use Rattle.ksi_world.specs.Histories.{happens, held_in}
 use Rattle.ksi_world.specs.Nodes.{NodesState, Fits}
@@ -14,7 +14,7 @@ returns-clause-ok g c = IfOk-weaker c.respond.result _ _
     let fits' = subst (λ (n : NodesState). Fits plan w n) (sym c.self.view_is) fits in
     let is = fits'.cores.each c.args.core step.old step.at in
     core_fits plan w c.self.inside.cores.items c.respond.new.cores.items c.self.inside.aggregators.items c.self.inside.aggregators.items c.self.inside.wire.items c.respond.new.wire.items c.self.inside.requests.items c.self.inside.requests.items c.self.inside.published.items c.self.inside.published.items
-    fits' (λ core. respond_row g.C.Compress.image (held_by core) core.start c.args.second (second_at core c.args.second)) c.args.core c.args.second outcome (respond_row g.C.Compress.image (held_in w c.args.core) plan.start c.args.second (w.seconds c.args.core c.args.second)) step (respond_same plan w c.args.core step.old is c.args.second g.C.Compress.image))
+    fits' (λ core. respond_row g.C.Compress.image (held_by core) core.start c.args.second (state_of core c.args.second)) c.args.core c.args.second outcome (respond_row g.C.Compress.image (held_in w c.args.core) plan.start c.args.second (w.seconds c.args.core c.args.second)) step (respond_same plan w c.args.core step.old is c.args.second g.C.Compress.image))
     c.respond.ensures.ok
 
 pub returns-clause-err : goal.returns-clause-err

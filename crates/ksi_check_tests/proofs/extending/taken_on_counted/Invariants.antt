@@ -1,4 +1,0 @@
-use Rattle.ksi_check_tests.proofs.extending.taken_on_counted.Given as goal
-
-abbrev pub ghosts-counted : goal.ghosts-counted
-ghosts-counted a = record { name = a.blank.name; parts = a.blank.parts }

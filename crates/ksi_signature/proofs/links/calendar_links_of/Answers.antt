@@ -1,0 +1,11 @@
+use Rattle.std.proofs.Common.{◌≤◌, length, refl, sym, subst}
+use Rattle.ksi_tlv.specs.Views.{view_placed, rest}
+use Rattle.ksi_grammar.specs.Inside.{inner_elements}
+use Rattle.ksi_signature.specs.Contents.{calendar_links_among}
+use Rattle.ksi_signature.proofs.Limits.{done, few_calendar_links}
+use Rattle.ksi_signature.proofs.links.calendar_links_of.Goals as goal
+
+pub from_vec-requires : goal.from_vec-requires
+from_vec-requires c =
+    let all = done calendar_links_among c.loop-item.links.items (calendar_links_among (inner_elements (view_placed c.args.at.now))) (rest c.loop-item.elements) refl c.in_default.ensures.steps.0 c.loop-item.invariant.0 in
+    subst (λ links. length links ≤ 63) (sym all) (few_calendar_links c.inside_is_whole.ensures (view_placed c.args.at.now) c.requires)

@@ -1,0 +1,65 @@
+ghost use Rattle.std.specs.Prelude.{◌≡◌};
+ghost use Rattle.ksi_aggchain.specs.Climbing.{climbed};
+ghost use Rattle.ksi_verifier.specs.Chains.{PlainChain, plain_chain, chain_shape, last_part, without_last};
+ghost use Rattle.ksi_verifier.specs.ChainChecks.{same_parts};
+
+use crate::index::compare_parts;
+use crate::refusal::Refusal;
+use ksi_aggchain::{Item, LevelFault, climb, shape};
+use ksi_imprint::{Compress, Imprint};
+use ksi_signature::AggregationChain;
+
+/// An aggregation chain as the checks see it, whoever owns its parts.
+pub(crate) trait AnyChain {
+    ghost plain: { Self → PlainChain };
+
+    fn time(&self) -> u64
+        ensures { result ≡ (plain self.now).time };
+
+    fn input(&self) -> Imprint
+        ensures { result ≡ (plain self.now).input };
+
+    fn last_part(&self) -> u64
+        ensures { result ≡ last_part (plain self.now).index };
+
+    fn shape(&self) -> u64
+        ensures { result ≡ chain_shape (plain self.now) };
+
+    /// Compares the index without its last part with that of the chain above, this one being chain `k`.
+    fn compare_index(&self, k: u64, higher: &Self) -> Result<(), Refusal>
+        ensures { result ≡ same_parts k 0 (without_last (plain self.now).index) (plain higher.now).index };
+
+    /// The item that the links lead to from the input hash.
+    fn climb<C: Compress>(&self, level: u8) -> Result<Item, LevelFault>
+        ensures { result ≡ climbed C.image 0 (record { imprint = (plain self.now).input; level = level }) (plain self.now).links };
+}
+
+impl AnyChain for AggregationChain {
+    ghost plain = { plain_chain };
+
+    fn time(&self) -> u64 {
+        self.time
+    }
+
+    fn input(&self) -> Imprint {
+        self.input
+    }
+
+    fn last_part(&self) -> u64 {
+        let parts = self.index.as_slice();
+        parts[parts.len() - 1]
+    }
+
+    fn shape(&self) -> u64 {
+        shape(self.links.as_slice())
+    }
+
+    fn compare_index(&self, k: u64, higher: &Self) -> Result<(), Refusal> {
+        let parts = self.index.as_slice();
+        compare_parts(k, &parts[..parts.len() - 1], higher.index.as_slice())
+    }
+
+    fn climb<C: Compress>(&self, level: u8) -> Result<Item, LevelFault> {
+        climb::<C>(self.input, level, self.links.as_slice())
+    }
+}
