@@ -9,7 +9,7 @@ use Rattle.std.proofs.lemmas.List.{length-map}
 use Rattle.ksi_split.specs.declared.side.Side.{Side}
 use Rattle.ksi_aggchain.specs.Links.{PlainLink, side_text, link_text, level_above}
 use Rattle.ksi_aggchain.specs.Climbing.{Leads, Climbs, level_after, PassesLevels, above, climbed}
-use Rattle.ksi_aggchain.specs.declared.item.Item.{Item}
+use Rattle.ksi_aggchain.specs.declared.node.Node.{Node}
 use Rattle.ksi_aggchain.specs.declared.climbing.LevelFault.{LevelFault}
 use Rattle.ksi_aggchain.specs.declared.climbing.LevelFault.TheVariants.{Over}
 
@@ -67,24 +67,24 @@ module _ (start : ℕ) (link : PlainLink) (links : List PlainLink) (place high :
 
 -- ---- items
 
-same_item : (a b : Item) → a.imprint ≡ b.imprint → a.level ≡ b.level → a ≡ b
+same_item : (a b : Node) → a.imprint ≡ b.imprint → a.level ≡ b.level → a ≡ b
 same_item a b imprint level = λ i. record { imprint = imprint i; level = level i }
 
 module _ (image : List ℕ → List ℕ) where
   -- a link leads to one item
-  lead_is : (link : PlainLink) (x y : Item) → Leads image link x y → above image x link ≡ y
+  lead_is : (link : PlainLink) (x y : Node) → Leads image link x y → above image x link ≡ y
   lead_is link x y h = same_item (above image x link) y
       (ap (λ (n : ℕ). image (link_text x.imprint link n)) (sym h.level) ∙ sym h.imprint) (sym h.level)
 
-  leads_up : (link : PlainLink) (x : Item) → level_above x.level link ≤ 255 → Leads image link x (above image x link)
+  leads_up : (link : PlainLink) (x : Node) → level_above x.level link ≤ 255 → Leads image link x (above image x link)
   leads_up link x low = record { level = refl; low = low; imprint = refl }
 
-  leads_same : (link other : PlainLink) (x y u v : Item) → link ≡ other → x ≡ u → y ≡ v → Leads image link x y → Leads image other u v
+  leads_same : (link other : PlainLink) (x y u v : Node) → link ≡ other → x ≡ u → y ≡ v → Leads image link x y → Leads image other u v
   leads_same link other x y u v l s t h =
-      subst (λ (o : PlainLink). Leads image o u v) l (subst (λ (z : Item). Leads image link z v) s (subst (λ (z : Item). Leads image link x z) t h))
+      subst (λ (o : PlainLink). Leads image o u v) l (subst (λ (z : Node). Leads image link z v) s (subst (λ (z : Node). Leads image link x z) t h))
 
-  module _ (x y top : Item) (link : PlainLink) (links : List PlainLink) (lead : Leads image link x y) (h : Climbs image y links top) where
-    each_on : (k : ℕ) (l : PlainLink) (u v : Item) → slice_get (link ∷ links) k ≡ Some l → slice_get (x ∷ h.items) k ≡ Some u → slice_get (x ∷ h.items) (k + 1) ≡ Some v → Leads image l u v
+  module _ (x y top : Node) (link : PlainLink) (links : List PlainLink) (lead : Leads image link x y) (h : Climbs image y links top) where
+    each_on : (k : ℕ) (l : PlainLink) (u v : Node) → slice_get (link ∷ links) k ≡ Some l → slice_get (x ∷ h.items) k ≡ Some u → slice_get (x ∷ h.items) (k + 1) ≡ Some v → Leads image l u v
     each_on zero l u v is below next =
         let first = h.first in
         let same_link : link ≡ l = cc in
@@ -98,34 +98,34 @@ module _ (image : List ℕ → List ℕ) where
     climbs_on : Climbs image x (link ∷ links) top
     climbs_on = record { items = x ∷ h.items; count = (let c = h.count in omega arith); first = refl; last = h.last; each = each_on }
 
-  pub climbs_from : (place : ℕ) (x : Item) (links : List PlainLink) (top : Item) → climbed image place x links ≡ Ok top → Climbs image x links top
-  climbs_from place x [] top e = record { items = x ∷ []; count = refl; first = refl; last = (let same : x ≡ top = cc in ap (λ (z : Item). Some z) same); each = λ k l u v is below next. cc }
+  pub climbs_from : (place : ℕ) (x : Node) (links : List PlainLink) (top : Node) → climbed image place x links ≡ Ok top → Climbs image x links top
+  climbs_from place x [] top e = record { items = x ∷ []; count = refl; first = refl; last = (let same : x ≡ top = cc in ap (λ (z : Node). Some z) same); each = λ k l u v is below next. cc }
   climbs_from place x (link ∷ links) top e = elim (lt_cases 255 (level_above x.level link)) [
     | inl t ↦ (let here = rw t.0 at e in cc)
     | inr f ↦ (let here = rw f.0 at e in climbs_on x (above image x link) top link links (leads_up link x f.1) (climbs_from (place + 1) (above image x link) links top here))
   ]
 
-  climbs_list : (place : ℕ) (x : Item) (items : List Item) (links : List PlainLink) (top : Item) → length items ≡ length links + 1 → slice_get items 0 ≡ Some x → slice_get items (length links) ≡ Some top
-      → ((k : ℕ) (l : PlainLink) (u v : Item) → slice_get links k ≡ Some l → slice_get items k ≡ Some u → slice_get items (k + 1) ≡ Some v → Leads image l u v) → climbed image place x links ≡ Ok top
+  climbs_list : (place : ℕ) (x : Node) (items : List Node) (links : List PlainLink) (top : Node) → length items ≡ length links + 1 → slice_get items 0 ≡ Some x → slice_get items (length links) ≡ Some top
+      → ((k : ℕ) (l : PlainLink) (u v : Node) → slice_get links k ≡ Some l → slice_get items k ≡ Some u → slice_get items (k + 1) ≡ Some v → Leads image l u v) → climbed image place x links ≡ Ok top
   climbs_list place x [] links top count first last each = absurd (omega arith)
-  climbs_list place x (z ∷ items) [] top count first last each = let same : x ≡ top = cc in ap (λ (t : Item). Ok t) same
+  climbs_list place x (z ∷ items) [] top count first last each = let same : x ≡ top = cc in ap (λ (t : Node). Ok t) same
   climbs_list place x (z ∷ []) (link ∷ links) top count first last each = absurd (omega arith)
   climbs_list place x (z ∷ y ∷ items) (link ∷ links) top count first last each =
       let same : z ≡ x = cc in
-      let lead : Leads image link x y = subst (λ (t : Item). Leads image link t y) same (each 0 link z y refl refl refl) in
+      let lead : Leads image link x y = subst (λ (t : Node). Leads image link t y) same (each 0 link z y refl refl refl) in
       let level = lead.level in
       let low = lead.low in
       elim (lt_cases 255 (level_above x.level link)) [
         | inl t ↦ absurd (omega arith)
-        | inr f ↦ rw f.0 (ap (λ (t : Item). climbed image (place + 1) t links) (lead_is link x y lead)
+        | inr f ↦ rw f.0 (ap (λ (t : Node). climbed image (place + 1) t links) (lead_is link x y lead)
             ∙ climbs_list (place + 1) y (y ∷ items) links top (omega arith) refl last
             (λ k l u v is below next. each (suc k) l u v is below (let s : suc k + 1 ≡ suc (k + 1) = omega arith in ap (λ (n : ℕ). slice_get (z ∷ y ∷ items) n) s ∙ next)))
       ]
 
-  pub climbs_to : (place : ℕ) (x : Item) (links : List PlainLink) (top : Item) → Climbs image x links top → climbed image place x links ≡ Ok top
+  pub climbs_to : (place : ℕ) (x : Node) (links : List PlainLink) (top : Node) → Climbs image x links top → climbed image place x links ≡ Ok top
   climbs_to place x links top h = climbs_list place x h.items links top h.count h.first h.last h.each
 
-  pub passes_from : (place : ℕ) (x : Item) (links : List PlainLink) (p high : ℕ) → climbed image place x links ≡ Err (Over p high) → (j : ℕ) × (p ≡ place + j) × PassesLevels x.level links j high
+  pub passes_from : (place : ℕ) (x : Node) (links : List PlainLink) (p high : ℕ) → climbed image place x links ≡ Err (Over p high) → (j : ℕ) × (p ≡ place + j) × PassesLevels x.level links j high
   passes_from place x [] p high e = cc
   passes_from place x (link ∷ links) p high e = elim (lt_cases 255 (level_above x.level link)) [
     | inl t ↦ (let here = rw t.0 at e in
@@ -137,7 +137,7 @@ module _ (image : List ℕ → List ℕ) where
         (r.0 + 1, omega (arith, r.1), passes_later x.level link links r.0 high f.1 r.2))
   ]
 
-  pub passes_to : (place : ℕ) (x : Item) (links : List PlainLink) (j high : ℕ) → PassesLevels x.level links j high → climbed image place x links ≡ Err (Over (place + j) high)
+  pub passes_to : (place : ℕ) (x : Node) (links : List PlainLink) (j high : ℕ) → PassesLevels x.level links j high → climbed image place x links ≡ Err (Over (place + j) high)
   passes_to place x [] j high h = let w = h.within in absurd (omega arith)
   passes_to place x (link ∷ links) zero high h =
       let level : high ≡ level_above x.level link = omega (arith, level_take x.level link links 0 1 refl, h.level) in
@@ -156,10 +156,10 @@ module _ (image : List ℕ → List ℕ) where
 
   -- ---- as the clauses say it
 
-  pub climb_both : (x : Item) (links : List PlainLink) (r : Result Item LevelFault) → r ≡ climbed image 0 x links → (top : Item) → (r ≡ Ok top) ↔ Climbs image x links top
+  pub climb_both : (x : Node) (links : List PlainLink) (r : Result Node LevelFault) → r ≡ climbed image 0 x links → (top : Node) → (r ≡ Ok top) ↔ Climbs image x links top
   climb_both x links r is top = (λ e. climbs_from 0 x links top (sym is ∙ e), λ h. is ∙ climbs_to 0 x links top h)
 
-  pub over_both : (x : Item) (links : List PlainLink) (r : Result Item LevelFault) → r ≡ climbed image 0 x links → (place high : ℕ) → (r ≡ Err (Over place high)) ↔ PassesLevels x.level links place high
+  pub over_both : (x : Node) (links : List PlainLink) (r : Result Node LevelFault) → r ≡ climbed image 0 x links → (place high : ℕ) → (r ≡ Err (Over place high)) ↔ PassesLevels x.level links place high
   over_both x links r is place high = (
     λ e. (let p = passes_from 0 x links place high (sym is ∙ e) in
         let at : p.0 ≡ place = omega (arith, p.1) in
@@ -169,11 +169,11 @@ module _ (image : List ℕ → List ℕ) where
 
   -- ---- one list after another
 
-  pub climbed_both : (place : ℕ) (x y : Item) (links more : List PlainLink) → climbed image place x links ≡ Ok y → climbed image place x (links ++ more) ≡ climbed image (place + length links) y more
+  pub climbed_both : (place : ℕ) (x y : Node) (links more : List PlainLink) → climbed image place x links ≡ Ok y → climbed image place x (links ++ more) ≡ climbed image (place + length links) y more
   climbed_both place x y [] more e =
       let same : x ≡ y = cc in
       let at : place ≡ place + 0 = omega arith in
-      ap (λ (z : Item). climbed image place z more) same ∙ ap (λ (n : ℕ). climbed image n y more) at
+      ap (λ (z : Node). climbed image place z more) same ∙ ap (λ (n : ℕ). climbed image n y more) at
   climbed_both place x y (link ∷ links) more e = elim (lt_cases 255 (level_above x.level link)) [
     | inl t ↦ (let here = rw t.0 at e in cc)
     | inr f ↦ (let here = rw f.0 at e in
@@ -181,7 +181,7 @@ module _ (image : List ℕ → List ℕ) where
         rw f.0 (climbed_both (place + 1) (above image x link) y links more here ∙ ap (λ (n : ℕ). climbed image n y more) at))
   ]
 
-  pub climbed_first : (place : ℕ) (x z : Item) (links more : List PlainLink) → climbed image place x (links ++ more) ≡ Ok z → (y : Item) × (climbed image place x links ≡ Ok y)
+  pub climbed_first : (place : ℕ) (x z : Node) (links more : List PlainLink) → climbed image place x (links ++ more) ≡ Ok z → (y : Node) × (climbed image place x links ≡ Ok y)
   climbed_first place x z [] more e = (x, refl)
   climbed_first place x z (link ∷ links) more e = elim (lt_cases 255 (level_above x.level link)) [
     | inl t ↦ (let here = rw t.0 at e in cc)
@@ -190,44 +190,44 @@ module _ (image : List ℕ → List ℕ) where
         (r.0, rw f.0 r.1))
   ]
 
-  pub climbs_apart : (x z : Item) (links more : List PlainLink) → Climbs image x (links ++ more) z → (y : Item) × Climbs image x links y × Climbs image y more z
+  pub climbs_apart : (x z : Node) (links more : List PlainLink) → Climbs image x (links ++ more) z → (y : Node) × Climbs image x links y × Climbs image y more z
   climbs_apart x z links more h =
       let all = climbs_to 0 x (links ++ more) z h in
       let r = climbed_first 0 x z links more all in
       (r.0, climbs_from 0 x links r.0 r.1, climbs_from (0 + length links) r.0 more z (sym (climbed_both 0 x r.0 links more r.1) ∙ all))
 
-  pub climbs_joined : (x y z : Item) (links more : List PlainLink) → Climbs image x links y → Climbs image y more z → Climbs image x (links ++ more) z
+  pub climbs_joined : (x y z : Node) (links more : List PlainLink) → Climbs image x links y → Climbs image y more z → Climbs image x (links ++ more) z
   climbs_joined x y z links more h k =
       climbs_from 0 x (links ++ more) z (climbed_both 0 x y links more (climbs_to 0 x links y h) ∙ climbs_to (0 + length links) y more z k)
 
   -- ---- levels of a climb
 
-  top_level : (place : ℕ) (x y : Item) (links : List PlainLink) → climbed image place x links ≡ Ok y → y.level ≡ level_after x.level links
-  top_level place x y [] e = let same : x ≡ y = cc in ap (λ (z : Item). z.level) (sym same) ∙ omega arith
+  top_level : (place : ℕ) (x y : Node) (links : List PlainLink) → climbed image place x links ≡ Ok y → y.level ≡ level_after x.level links
+  top_level place x y [] e = let same : x ≡ y = cc in ap (λ (z : Node). z.level) (sym same) ∙ omega arith
   top_level place x y (link ∷ links) e = elim (lt_cases 255 (level_above x.level link)) [
     | inl t ↦ (let here = rw t.0 at e in cc)
     | inr f ↦ (let here = rw f.0 at e in top_level (place + 1) (above image x link) y links here ∙ sym (level_cons x.level link links))
   ]
 
-  pub level_of_top : (x y : Item) (links : List PlainLink) → Climbs image x links y → y.level ≡ level_after x.level links
+  pub level_of_top : (x y : Node) (links : List PlainLink) → Climbs image x links y → y.level ≡ level_after x.level links
   level_of_top x y links h = top_level 0 x y links (climbs_to 0 x links y h)
 
-  pub one_top : (x y z : Item) (links : List PlainLink) → Climbs image x links y → Climbs image x links z → y ≡ z
+  pub one_top : (x y z : Node) (links : List PlainLink) → Climbs image x links y → Climbs image x links z → y ≡ z
   one_top x y z links h k = let a = climbs_to 0 x links y h in let b = climbs_to 0 x links z k in cc
 
-  pub either : (x : Item) (links : List PlainLink) → ((top : Item) × Climbs image x links top) ⊎ ((place : ℕ) × (high : ℕ) × PassesLevels x.level links place high)
+  pub either : (x : Node) (links : List PlainLink) → ((top : Node) × Climbs image x links top) ⊎ ((place : ℕ) × (high : ℕ) × PassesLevels x.level links place high)
   either x links = of (climbed image 0 x links) refl
     where
-      of : (r : Result Item LevelFault) → climbed image 0 x links ≡ r → ((top : Item) × Climbs image x links top) ⊎ ((place : ℕ) × (high : ℕ) × PassesLevels x.level links place high)
+      of : (r : Result Node LevelFault) → climbed image 0 x links ≡ r → ((top : Node) × Climbs image x links top) ⊎ ((place : ℕ) × (high : ℕ) × PassesLevels x.level links place high)
       of (Ok top) e = inl (top, climbs_from 0 x links top e)
       of (Err (Over place high)) e = (let p = passes_from 0 x links place high e in inr (p.0, high, p.2))
 
-  pub not_both : (x top : Item) (links : List PlainLink) (place high : ℕ) → Climbs image x links top → PassesLevels x.level links place high → ⊥
+  pub not_both : (x top : Node) (links : List PlainLink) (place high : ℕ) → Climbs image x links top → PassesLevels x.level links place high → ⊥
   not_both x top links place high h k = let a = climbs_to 0 x links top h in let b = passes_to 0 x links place high k in cc
 
   -- ---- as a loop climbs
 
-  module _ (place level high : ℕ) (imprint : List ℕ) (link : PlainLink) (links : List PlainLink) (all : Result Item LevelFault) (lt : place < length links) (is : link ≡ get_or links place link)
+  module _ (place level high : ℕ) (imprint : List ℕ) (link : PlainLink) (links : List PlainLink) (all : Result Node LevelFault) (lt : place < length links) (is : link ≡ get_or links place link)
       (so_far : climbed image place (record { imprint = imprint; level = level }) (drop place links) ≡ all) (up : high ≡ level_above level link) where
     rest_is : drop place links ≡ link ∷ drop (place + 1) links
     rest_is = let s : suc place ≡ place + 1 = omega arith in
@@ -249,11 +249,11 @@ module _ (image : List ℕ → List ℕ) where
       | inr f ↦ (let at = rw f.0 at here in
           let text : side_text side node sibling high ≡ side_text link.side imprint link.sibling (level_above level link) = λ i. side_text (s i) (n i) (b i) (up i) in
           let same : next ≡ image (link_text imprint link (level_above level link)) = is_next ∙ ap image text in
-          ap (λ (x : Item). climbed image (place + 1) x (drop (place + 1) links))
+          ap (λ (x : Node). climbed image (place + 1) x (drop (place + 1) links))
           (same_item (record { imprint = next; level = high }) (above image (record { imprint = imprint; level = level }) link) same up) ∙ at)
     ]
 
-  pub loop_ends : (place : ℕ) (x : Item) (links : List PlainLink) (all : Result Item LevelFault) → length links ≤ place → climbed image place x (drop place links) ≡ all → Ok x ≡ all
+  pub loop_ends : (place : ℕ) (x : Node) (links : List PlainLink) (all : Result Node LevelFault) → length links ≤ place → climbed image place x (drop place links) ≡ all → Ok x ≡ all
   loop_ends place x links all end so_far =
       let none : drop place links ≡ [] = drop_of_length-le links {i = place} end in
       ap (λ (more : List PlainLink). climbed image place x more) (sym none) ∙ so_far
@@ -276,7 +276,7 @@ level_rises level (link ∷ links) = omega (arith, level_cons level link links, 
 pub one_fault : (start place high other_place other : ℕ) (links : List PlainLink) → PassesLevels start links place high → PassesLevels start links other_place other → (place ≡ other_place) × (high ≡ other)
 one_fault start place high other_place other links h k =
     let image = λ (bytes : List ℕ). bytes in
-    let item : Item = record { imprint = []; level = start } in
+    let item : Node = record { imprint = []; level = start } in
     let a = passes_to image 0 item links place high h in
     let b = passes_to image 0 item links other_place other k in
     let places : 0 + place ≡ 0 + other_place = cc in

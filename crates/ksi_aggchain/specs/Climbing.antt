@@ -1,24 +1,24 @@
 -- Climbing along links, the lowest first.
 use Rattle.std.specs.Prelude.{◌≡◌, ℕ, ◌+◌, ◌<◌, ◌≤◌, nat_lt, List, [], ◌∷◌, length, take, slice_get, Some, sum_by, Result, Ok, Err, if◌then◌else◌}
 use Rattle.ksi_aggchain.specs.Links.{PlainLink, link_text, level_above}
-use Rattle.ksi_aggchain.specs.declared.item.Item.{Item}
+use Rattle.ksi_aggchain.specs.declared.node.Node.{Node}
 use Rattle.ksi_aggchain.specs.declared.climbing.LevelFault.{LevelFault}
 use Rattle.ksi_aggchain.specs.declared.climbing.LevelFault.TheVariants.{Over}
 
 -- a link leads from an item to the item that its join makes, at a level that does not pass 255
-pub record Leads (image : List ℕ → List ℕ) (link : PlainLink) (below above : Item) : Type 0 where
+pub record Leads (image : List ℕ → List ℕ) (link : PlainLink) (below above : Node) : Type 0 where
   pub level : above.level ≡ level_above below.level link
   pub low : above.level ≤ 255
   pub imprint : above.imprint ≡ image (link_text below.imprint link above.level)
 
 -- links lead from `start` to `top`: there are items, one more than there are links, from `start` to `top`, and each
 -- link leads from one of them to the next
-pub record Climbs (image : List ℕ → List ℕ) (start : Item) (links : List PlainLink) (top : Item) : Type 0 where
-  pub items : List Item
+pub record Climbs (image : List ℕ → List ℕ) (start : Node) (links : List PlainLink) (top : Node) : Type 0 where
+  pub items : List Node
   pub count : length items ≡ length links + 1
   pub first : slice_get items 0 ≡ Some start
   pub last : slice_get items (length links) ≡ Some top
-  pub each : (k : ℕ) (link : PlainLink) (below above : Item) → slice_get links k ≡ Some link →
+  pub each : (k : ℕ) (link : PlainLink) (below above : Node) → slice_get links k ≡ Some link →
       slice_get items k ≡ Some below → slice_get items (k + 1) ≡ Some above → Leads image link below above
 
 -- the level that links lead to from a level
@@ -35,12 +35,12 @@ pub record PassesLevels (start : ℕ) (links : List PlainLink) (place high : ℕ
 -- ---- the same as values
 
 -- the item that a link leads to, whatever its level
-abbrev pub above : (List ℕ → List ℕ) → Item → PlainLink → Item
+abbrev pub above : (List ℕ → List ℕ) → Node → PlainLink → Node
 above image item link =
     record { imprint = image (link_text item.imprint link (level_above item.level link)); level = level_above item.level link }
 
 -- the item that links lead to, or the first of them whose level passes 255; the lowest has the place given
-abbrev pub climbed : (List ℕ → List ℕ) → ℕ → Item → List PlainLink → Result Item LevelFault
+abbrev pub climbed : (List ℕ → List ℕ) → ℕ → Node → List PlainLink → Result Node LevelFault
 climbed image place item [] = Ok item
 climbed image place item (link ∷ links) =
     if nat_lt 255 (level_above item.level link)

@@ -3,11 +3,11 @@ ghost use Rattle.ksi_aggchain.specs.Links.{PlainLink, side_text};
 ghost use Rattle.ksi_aggchain.specs.Owned.{plain_links};
 ghost use Rattle.ksi_aggchain.specs.Climbing.{Climbs, PassesLevels, climbed};
 ghost use Rattle.ksi_aggchain.specs.declared.climbing.LevelFault.TheVariants.{Over};
-ghost use Rattle.ksi_aggchain.specs.declared.item.Item.{Item};
+ghost use Rattle.ksi_aggchain.specs.declared.node.Node.{Node};
 
 use crate::any_link::AnyLink;
-use crate::item::Item;
 use crate::link::Link;
+use crate::node::Node;
 use ksi_imprint::{Compress, Imprint};
 use ksi_split::Side;
 
@@ -22,8 +22,8 @@ pub enum LevelFault {
 ///
 /// # Errors
 /// `Over` with the first link whose level passes 255.
-pub fn climb<C: Compress>(start: Imprint, level: u8, links: &[Link]) -> Result<Item, LevelFault>
-    ensures climbs { (item : Item) → (result ≡ Ok item) ↔
+pub fn climb<C: Compress>(start: Imprint, level: u8, links: &[Link]) -> Result<Node, LevelFault>
+    ensures climbs { (item : Node) → (result ≡ Ok item) ↔
         Climbs C.image (record { imprint = start; level = level }) (plain_links links.now) item }
     ensures over { (place high : ℕ) → (result ≡ Err (Over place high)) ↔
         PassesLevels level (plain_links links.now) place high }
@@ -38,8 +38,8 @@ pub(crate) fn climb_along<C: Compress, L: AnyLink>(
     start: Imprint,
     level: u8,
     links: &[L],
-) -> Result<Item, LevelFault>
-    ensures climbs { (item : Item) → (result ≡ Ok item) ↔
+) -> Result<Node, LevelFault>
+    ensures climbs { (item : Node) → (result ≡ Ok item) ↔
         Climbs C.image (record { imprint = start; level = level }) (map L.plain links.now) item }
     ensures over { (place high : ℕ) → (result ≡ Err (Over place high)) ↔
         PassesLevels level (map L.plain links.now) place high }
@@ -59,7 +59,7 @@ pub(crate) fn climb_along<C: Compress, L: AnyLink>(
         level = above as u8;
         imprint = join_beside::<C>(link.side(), imprint.bytes(), link.sibling(), level);
     }
-    Ok(Item { imprint, level })
+    Ok(Node { imprint, level })
 }
 
 /// The join of a node and its sibling, the node on the side that is given.

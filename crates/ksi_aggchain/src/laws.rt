@@ -4,45 +4,45 @@ ghost use Rattle.ksi_split.specs.declared.side.Side.{Side};
 ghost use Rattle.ksi_aggchain.specs.Links.{PlainLink};
 ghost use Rattle.ksi_aggchain.specs.Climbing.{Leads, Climbs, PassesLevels, level_after, climbed};
 ghost use Rattle.ksi_aggchain.specs.Shapes.{IsShape, shape_of};
-ghost use Rattle.ksi_aggchain.specs.declared.item.Item.{Item};
+ghost use Rattle.ksi_aggchain.specs.declared.node.Node.{Node};
 ghost use Rattle.ksi_aggchain.specs.declared.climbing.LevelFault.TheVariants.{Over};
 
 /// Links lead from an item to one other, or the level of one of them is the first to pass 255, and not both. `climbed`
 /// says which.
 pub fn one_climb()
-    ensures some { (image : List ℕ → List ℕ) (start : Item) (links : List PlainLink) →
-        ((top : Item) × Climbs image start links top) ⊎
+    ensures some { (image : List ℕ → List ℕ) (start : Node) (links : List PlainLink) →
+        ((top : Node) × Climbs image start links top) ⊎
         ((place : ℕ) × (high : ℕ) × PassesLevels start.level links place high) }
-    ensures one_top { (image : List ℕ → List ℕ) (start one other : Item) (links : List PlainLink) →
+    ensures one_top { (image : List ℕ → List ℕ) (start one other : Node) (links : List PlainLink) →
         Climbs image start links one → Climbs image start links other → one ≡ other }
     ensures one_fault { (start place high other_place other : ℕ) (links : List PlainLink) →
         PassesLevels start links place high → PassesLevels start links other_place other →
         (place ≡ other_place) × (high ≡ other) }
-    ensures not_both { (image : List ℕ → List ℕ) (start top : Item) (links : List PlainLink) (place high : ℕ) →
+    ensures not_both { (image : List ℕ → List ℕ) (start top : Node) (links : List PlainLink) (place high : ℕ) →
         Climbs image start links top → ¬ PassesLevels start.level links place high }
-    ensures climbs { (image : List ℕ → List ℕ) (start top : Item) (links : List PlainLink) →
+    ensures climbs { (image : List ℕ → List ℕ) (start top : Node) (links : List PlainLink) →
         (climbed image 0 start links ≡ Ok top) ↔ Climbs image start links top }
-    ensures over { (image : List ℕ → List ℕ) (start : Item) (links : List PlainLink) (place high : ℕ) →
+    ensures over { (image : List ℕ → List ℕ) (start : Node) (links : List PlainLink) (place high : ℕ) →
         (climbed image 0 start links ≡ Err (Over place high)) ↔ PassesLevels start.level links place high }
 {}
 
 /// Climbing along links and then along more links, at the level that was reached, is climbing along all of them.
 pub fn one_after_another()
-    ensures together { (image : List ℕ → List ℕ) (start middle top : Item) (links more : List PlainLink) →
+    ensures together { (image : List ℕ → List ℕ) (start middle top : Node) (links more : List PlainLink) →
         Climbs image start links middle → Climbs image middle more top → Climbs image start (links ++ more) top }
-    ensures apart { (image : List ℕ → List ℕ) (start top : Item) (links more : List PlainLink) →
+    ensures apart { (image : List ℕ → List ℕ) (start top : Node) (links more : List PlainLink) →
         Climbs image start (links ++ more) top →
-        (middle : Item) × Climbs image start links middle × Climbs image middle more top }
-    ensures value { (image : List ℕ → List ℕ) (start middle : Item) (links more : List PlainLink) (place : ℕ) →
+        (middle : Node) × Climbs image start links middle × Climbs image middle more top }
+    ensures value { (image : List ℕ → List ℕ) (start middle : Node) (links more : List PlainLink) (place : ℕ) →
         climbed image place start links ≡ Ok middle →
         climbed image place start (links ++ more) ≡ climbed image (place + length links) middle more }
 {}
 
 /// A level rises with each link: by one and the link's correction.
 pub fn levels_rise()
-    ensures one_link { (image : List ℕ → List ℕ) (link : PlainLink) (below above : Item) →
+    ensures one_link { (image : List ℕ → List ℕ) (link : PlainLink) (below above : Node) →
         Leads image link below above → below.level < above.level }
-    ensures sum { (image : List ℕ → List ℕ) (start top : Item) (links : List PlainLink) →
+    ensures sum { (image : List ℕ → List ℕ) (start top : Node) (links : List PlainLink) →
         Climbs image start links top → top.level ≡ level_after start.level links }
     ensures count { (level : ℕ) (links : List PlainLink) →
         level + length links ≤ level_after level links }

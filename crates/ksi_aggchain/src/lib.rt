@@ -18,12 +18,12 @@
 
 mod any_link;
 mod climbing;
-mod item;
 pub mod laws;
 mod link;
-mod shape;
+mod node;
+mod shapes;
 
 pub use climbing::{LevelFault, climb};
-pub use item::Item;
 pub use link::{Link, Sibling};
-pub use shape::shape;
+pub use node::Node;
+pub use shapes::shape;

@@ -1,6 +1,6 @@
 -- An aggregator's round of one second, and each row of the step table as a function of it.
 use Rattle.std.specs.Prelude.{ℕ, if◌then◌else◌, List, [], ◌∷◌, ◌++◌, is_some, Option, Some, None}
-use Rattle.ksi_aggchain.specs.declared.item.Item.{Item}
+use Rattle.ksi_aggchain.specs.declared.node.Node.{Node}
 use Rattle.ksi_aggtree.specs.declared.entries.Origin.TheVariants as origins
 use Rattle.ksi_aggtree.specs.declared.entries.Entry.{Entry}
 use Rattle.ksi_aggtree.specs.Rounds.{tree_of}
@@ -54,11 +54,11 @@ round_request number imprint r =
 
 -- SUBMISSION of an item by a lower aggregator
 
-abbrev pub submitted_entry : ℕ → Item → Entry
+abbrev pub submitted_entry : ℕ → Node → Entry
 submitted_entry from item = record { origin = origins.Aggregator from; item = item }
 
 -- Late where the round is closed; Known where an item of that aggregator is there; Full at 65,536 items; else Done
-unfoldable pub round_submission : (from : ℕ) → Item → RoundState → RoundTurn
+unfoldable pub round_submission : (from : ℕ) → Node → RoundState → RoundTurn
 round_submission from item r =
     if is_some r.closed then round_still r answers.Late
     else if has_from from r.open_items then round_still r answers.Known

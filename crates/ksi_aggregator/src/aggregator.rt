@@ -7,7 +7,7 @@ ghost use Rattle.ksi_aggregator.specs.Issuing.{IsIssued, NotIssued};
 use crate::place::Place;
 use crate::rounds::Rounds;
 use crate::step::Step;
-use ksi_aggchain::Item;
+use ksi_aggchain::Node;
 use ksi_imprint::{Bytes, Compress, Imprint, NoMemory};
 use ksi_signature::{Above, Answer};
 use std::alloc::Global;
@@ -91,7 +91,7 @@ impl<C: Compress> Aggregator<C> {
     ///
     /// # Errors
     /// `NoMemory`: all is as it was.
-    pub fn submission(&mut self, aggregator: u32, second: u64, item: Item) -> Result<Step, NoMemory>
+    pub fn submission(&mut self, aggregator: u32, second: u64, item: Node) -> Result<Step, NoMemory>
         requires early { second < 2 ^ 63 }
         requires level { item.level ≤ 239 }
         ensures me { self.new.me ≡ self.old.me }

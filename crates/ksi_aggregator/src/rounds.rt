@@ -8,7 +8,7 @@ ghost use Rattle.ksi_aggregator.specs.Issuing.{IsIssuedAt, NotIssuedAt};
 
 use crate::round::Round;
 use crate::step::Step;
-use ksi_aggchain::Item;
+use ksi_aggchain::Node;
 use ksi_imprint::{Bytes, Compress, Imprint, NoMemory};
 use ksi_signature::{Above, Answer};
 use std::alloc::Global;
@@ -83,7 +83,7 @@ impl<C: Compress> Rounds<C> {
         &mut self,
         aggregator: u32,
         second: u64,
-        item: Item,
+        item: Node,
     ) -> Result<Step, NoMemory>
         requires { item.level ≤ 239 }
         ensures step { IfOk result (IsTurn (round_at self.old) (round_at self.new) second (round_submission aggregator item (round_at self.old second))) }

@@ -1,6 +1,6 @@
 ghost use Rattle.std.specs.Prelude.{◌≡◌, []};
 
-use ksi_aggchain::Item;
+use ksi_aggchain::Node;
 use ksi_signature::{Above, Answer};
 use std::alloc::Global;
 use std::marker::Model;
@@ -9,7 +9,7 @@ use std::marker::Model;
 #[derive(Drop)]
 pub enum Send {
     /// The item of its round, to its parent.
-    Submission(Item),
+    Submission(Node),
     /// What stands above an item, to the aggregator of this number, which submitted it.
     Response(u32, Above),
 }

@@ -12,11 +12,11 @@ use Rattle.ksi_split.proofs.Powers.{lt_cases, le_cases, eq_cases, doubled, split
 use Rattle.ksi_split.proofs.Levels.{tree_at}
 use Rattle.ksi_split.proofs.Upward.{path_at}
 use Rattle.ksi_rows.specs.Leaves.{leaf_at}
-use Rattle.ksi_aggchain.specs.declared.item.Item.{Item}
+use Rattle.ksi_aggchain.specs.declared.node.Node.{Node}
 use Rattle.ksi_aggtree.specs.Rounds.{joined_at, aggregation_join, capped_join, item_at, no_item, tree_of, root_from, root_of, node_from, node_of, tree_path, IsRound}
 
-module _ (image : List ℕ → List ℕ) (leaf : ℕ → Item) (low : (i : ℕ) → (leaf i).level ≤ 239) where
-  same_join : (a b : Item) (k : ℕ) → a.level ≤ 239 + k → b.level ≤ 239 + k → k < 16 → (capped_join image a b ≡ aggregation_join image a b) × ((aggregation_join image a b).level ≤ 239 + suc k)
+module _ (image : List ℕ → List ℕ) (leaf : ℕ → Node) (low : (i : ℕ) → (leaf i).level ≤ 239) where
+  same_join : (a b : Node) (k : ℕ) → a.level ≤ 239 + k → b.level ≤ 239 + k → k < 16 → (capped_join image a b ≡ aggregation_join image a b) × ((aggregation_join image a b).level ≤ 239 + suc k)
   same_join a b k la lb few =
       let e : min (max a.level b.level + 1) 255 ≡ max a.level b.level + 1 = omega arith in
       (ap (joined_at image a b) e, omega arith)
@@ -37,7 +37,7 @@ module _ (image : List ℕ → List ℕ) (leaf : ℕ → Item) (low : (i : ℕ) 
   capped_tree lo n few = tree_at (capped_join image) leaf 16 lo n few ∙ (capped_within 16 lo n (omega arith)).0 ∙ sym (tree_at (aggregation_join image) leaf 16 lo n few)
 
   pub level_within : (lo n : ℕ) → n ≤ 65536 → (tree (aggregation_join image) leaf lo n).level ≤ 255
-  level_within lo n few = let e = ap (λ (x : Item). x.level) (tree_at (aggregation_join image) leaf 16 lo n few) in omega (arith, e, (capped_within 16 lo n (omega arith)).1)
+  level_within lo n few = let e = ap (λ (x : Node). x.level) (tree_at (aggregation_join image) leaf 16 lo n few) in omega (arith, e, (capped_within 16 lo n (omega arith)).1)
 
   capped_path_within : (k lo t n : ℕ) → k ≤ 16 → n ≤ 2 ^ k → path_within (capped_join image) leaf k lo t n ≡ path_within (aggregation_join image) leaf k lo t n
   unfolding path_within
@@ -62,7 +62,7 @@ module _ (image : List ℕ → List ℕ) (leaf : ℕ → Item) (low : (i : ℕ) 
 
   capped_part : (place : ℕ) (part : Part) (sides : List Side) → 0 < part.count → part.count ≤ 65536
       → node_in (capped_join image) leaf (part_at place part sides) ≡ node_in (aggregation_join image) leaf (part_at place part sides)
-  capped_part place part [] some few = ap (λ (x : Item). Some x) (capped_tree part.first part.count few)
+  capped_part place part [] some few = ap (λ (x : Node). Some x) (capped_tree part.first part.count few)
   capped_part place part (side ∷ sides) some few = elim (eq_cases part.count 1) [
     | inl t ↦ rw t.0 refl
     | inr f ↦ (let more : 1 < part.count = (let ne = f.1 in omega arith) in
@@ -78,63 +78,63 @@ module _ (image : List ℕ → List ℕ) (leaf : ℕ → Item) (low : (i : ℕ) 
 same_functions : {A B : Type 0} (f g : A → B) → ((x : A) → f x ≡ g x) → f ≡ g
 same_functions f g h = λ j x. h x j
 
-same_items : (items : List Item) (i : ℕ) → leaf_at 0 no_item items i ≡ item_at items i
+same_items : (items : List Node) (i : ℕ) → leaf_at 0 no_item items i ≡ item_at items i
 same_items items i = elim (lt_cases i 0) [
   | inl t ↦ absurd (omega arith)
   | inr w ↦ (let e : i - 0 ≡ i = omega arith in rw (w.0, e) refl)
 ]
 
-pub leaves_are : (start : ℕ) (before : Item) (items : List Item) → start ≡ 0 → before ≡ no_item → leaf_at start before items ≡ item_at items
-leaves_are start before items s b = ap (λ (n : ℕ). leaf_at n before items) s ∙ ap (λ (x : Item). leaf_at 0 x items) b ∙ same_functions (leaf_at 0 no_item items) (item_at items) (same_items items)
+pub leaves_are : (start : ℕ) (before : Node) (items : List Node) → start ≡ 0 → before ≡ no_item → leaf_at start before items ≡ item_at items
+leaves_are start before items s b = ap (λ (n : ℕ). leaf_at n before items) s ∙ ap (λ (x : Node). leaf_at 0 x items) b ∙ same_functions (leaf_at 0 no_item items) (item_at items) (same_items items)
 
-some_root : (count : ℕ) (root : Item) → 0 < count → Some root ≡ root_from count root
+some_root : (count : ℕ) (root : Node) → 0 < count → Some root ≡ root_from count root
 some_root zero root some = absurd (omega arith)
 some_root (suc n) root some = refl
 
-pub no_root : (count : ℕ) (root : Item) → count ≡ 0 → None ≡ root_from count root
+pub no_root : (count : ℕ) (root : Node) → count ≡ 0 → None ≡ root_from count root
 no_root zero root none = refl
 no_root (suc n) root none = absurd (omega arith)
 
-pub no_node : (image : List ℕ → List ℕ) (items : List Item) (sides : List Side) (count : ℕ) → count ≡ 0 → None ≡ node_from image items count sides
+pub no_node : (image : List ℕ → List ℕ) (items : List Node) (sides : List Side) (count : ℕ) → count ≡ 0 → None ≡ node_from image items count sides
 no_node image items sides zero none = refl
 no_node image items sides (suc n) none = absurd (omega arith)
 
-pub round_root : (image : List ℕ → List ℕ) (start : ℕ) (before : Item) (items : List Item) (n : ℕ) → start ≡ 0 → before ≡ no_item → IsRound items → n ≡ length items → 0 < n
+pub round_root : (image : List ℕ → List ℕ) (start : ℕ) (before : Node) (items : List Node) (n : ℕ) → start ≡ 0 → before ≡ no_item → IsRound items → n ≡ length items → 0 < n
     → Some (tree (capped_join image) (leaf_at start before items) 0 n) ≡ root_of image items
 round_root image start before items n s b round count some =
-    ap (λ (f : ℕ → Item). Some (tree (capped_join image) f 0 n)) (leaves_are start before items s b)
-    ∙ ap (λ (x : Item). Some x) (capped_tree image (item_at items) round.low 0 n (let few = round.few in omega arith))
+    ap (λ (f : ℕ → Node). Some (tree (capped_join image) f 0 n)) (leaves_are start before items s b)
+    ∙ ap (λ (x : Node). Some x) (capped_tree image (item_at items) round.low 0 n (let few = round.few in omega arith))
     ∙ ap (λ (m : ℕ). Some (tree (aggregation_join image) (item_at items) 0 m)) count
     ∙ some_root (length items) (tree_of image items) (omega arith)
 
-pub last_node : (image : List ℕ → List ℕ) (items : List Item) (sides : List Side) (n last : ℕ) → n ≡ last + 1 → node_at (aggregation_join image) (item_at items) last sides ≡ node_from image items n sides
+pub last_node : (image : List ℕ → List ℕ) (items : List Node) (sides : List Side) (n last : ℕ) → n ≡ last + 1 → node_at (aggregation_join image) (item_at items) last sides ≡ node_from image items n sides
 last_node image items sides zero last e = absurd (omega arith)
 last_node image items sides (suc n) last e = let same : last ≡ n = omega arith in ap (λ (m : ℕ). node_at (aggregation_join image) (item_at items) m sides) same
 
-pub round_node : (image : List ℕ → List ℕ) (start : ℕ) (before : Item) (items : List Item) (last : ℕ) (sides : List Side) → start ≡ 0 → before ≡ no_item → IsRound items → length items ≡ last + 1
+pub round_node : (image : List ℕ → List ℕ) (start : ℕ) (before : Node) (items : List Node) (last : ℕ) (sides : List Side) → start ≡ 0 → before ≡ no_item → IsRound items → length items ≡ last + 1
     → node_at (capped_join image) (leaf_at start before items) last sides ≡ node_of image items sides
 round_node image start before items last sides s b round count =
-    ap (λ (f : ℕ → Item). node_at (capped_join image) f last sides) (leaves_are start before items s b)
+    ap (λ (f : ℕ → Node). node_at (capped_join image) f last sides) (leaves_are start before items s b)
     ∙ capped_node image (item_at items) round.low last sides (let few = round.few in omega arith)
     ∙ last_node image items sides (length items) last count
 
-pub round_path : (image : List ℕ → List ℕ) (start : ℕ) (before : Item) (items : List Item) (k n : ℕ) → start ≡ 0 → before ≡ no_item → IsRound items → n ≡ length items
+pub round_path : (image : List ℕ → List ℕ) (start : ℕ) (before : Node) (items : List Node) (k n : ℕ) → start ≡ 0 → before ≡ no_item → IsRound items → n ≡ length items
     → path_of (capped_join image) (leaf_at start before items) 0 k n ≡ tree_path image items k
 round_path image start before items k n s b round count =
-    ap (λ (f : ℕ → Item). path_of (capped_join image) f 0 k n) (leaves_are start before items s b)
+    ap (λ (f : ℕ → Node). path_of (capped_join image) f 0 k n) (leaves_are start before items s b)
     ∙ capped_path image (item_at items) round.low 0 k n (let few = round.few in omega arith)
     ∙ ap (path_of (aggregation_join image) (item_at items) 0 k) count
 
 -- one item more
-pub round_more : (items : List Item) (x : Item) → IsRound items → length items < 65536 → x.level ≤ 239 → IsRound (items ++ x ∷ [])
+pub round_more : (items : List Node) (x : Node) → IsRound items → length items < 65536 → x.level ≤ 239 → IsRound (items ++ x ∷ [])
 round_more items x round room low = record {
   few = omega (arith, length-append items (x ∷ []));
   low = λ k. elim (lt_cases k (length items)) [
-    | inl t ↦ (let e = ap (λ (y : Item). y.level) (get_or_append_left items (x ∷ []) no_item k t.1) in omega (arith, e, round.low k))
+    | inl t ↦ (let e = ap (λ (y : Node). y.level) (get_or_append_left items (x ∷ []) no_item k t.1) in omega (arith, e, round.low k))
     | inr w ↦ elim (le_cases k (length items)) [
       | inl le ↦ (let at : k ≡ length items = omega arith in
-          let e = ap (λ (y : Item). y.level) (ap (item_at (items ++ x ∷ [])) at ∙ get_or-append_seam items x [] no_item) in omega (arith, e))
-      | inr above ↦ (let e = ap (λ (y : Item). y.level) (get_or-eq_default (items ++ x ∷ []) no_item {n = k} (omega (arith, length-append items (x ∷ [])))) in omega (arith, e))
+          let e = ap (λ (y : Node). y.level) (ap (item_at (items ++ x ∷ [])) at ∙ get_or-append_seam items x [] no_item) in omega (arith, e))
+      | inr above ↦ (let e = ap (λ (y : Node). y.level) (get_or-eq_default (items ++ x ∷ []) no_item {n = k} (omega (arith, length-append items (x ∷ [])))) in omega (arith, e))
     ]
   ];
 }

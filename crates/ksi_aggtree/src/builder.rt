@@ -8,7 +8,7 @@ ghost use Rattle.ksi_aggtree.specs.Paths.{chain_of, sides_from_top};
 use crate::item_path::ItemPath;
 use crate::join::AggregationJoin;
 use crate::laws::one_chain;
-use ksi_aggchain::Item;
+use ksi_aggchain::Node;
 use ksi_imprint::{Compress, Imprint, NoMemory};
 use ksi_rows::{Rows, Steps};
 use ksi_split::Side;
@@ -38,15 +38,15 @@ impl From<NoMemory> for AddRefusal {
 /// A round: items of levels to 239, at most 65,536 of them, and their tree. A contract sees their list.
 #[derive(Drop)]
 pub struct Builder<C: Compress> {
-    rows: Rows<Item, AggregationJoin<C>>,
+    rows: Rows<Node, AggregationJoin<C>>,
 }
 
 impl<C: Compress> Model for Builder<C> {
     ghost use Rattle.std.specs.Prelude.{List, ◌≡◌};
-    ghost use Rattle.ksi_aggchain.specs.declared.item.Item as items;
+    ghost use Rattle.ksi_aggchain.specs.declared.node.Node as nodes;
     ghost use Rattle.ksi_aggtree.specs.Rounds.{IsRound, no_item};
 
-    ghost Value = { List items.Item };
+    ghost Value = { List nodes.Node };
 
     ghost view = { λ b. b.rows.items };
 
@@ -61,7 +61,7 @@ impl<C: Compress> Builder<C> {
     pub fn new(alloc: Global) -> Result<Self, NoMemory>
         ensures { IfOk result (λ round. round ≡ []) }
     {
-        let none = Item {
+        let none = Node {
             imprint: Imprint::ZERO,
             level: 0,
         };
@@ -77,8 +77,8 @@ impl<C: Compress> Builder<C> {
         self.rows.count() as usize
     }
 
-    /// Item `k`, which is below the count.
-    pub fn item(&self, k: usize) -> Item
+    /// Node `k`, which is below the count.
+    pub fn item(&self, k: usize) -> Node
         requires { k < length self.now }
         ensures item { result ≡ item_at self.now k }
         ensures low { result.level ≤ 239 }
@@ -87,7 +87,7 @@ impl<C: Compress> Builder<C> {
     }
 
     /// The tree of the items, none where there is no item.
-    pub fn root(&self) -> Option<Item>
+    pub fn root(&self) -> Option<Node>
         ensures { result ≡ root_of C.image self.now }
     {
         let count = self.rows.count();
@@ -99,7 +99,7 @@ impl<C: Compress> Builder<C> {
     }
 
     /// The node of the tree that sides from the top lead to, none where there is no item or they go past a leaf.
-    pub fn node(&self, sides: &[Side]) -> Option<Item>
+    pub fn node(&self, sides: &[Side]) -> Option<Node>
         ensures { result ≡ node_of C.image self.now sides.now }
     {
         let count = self.rows.count();
@@ -155,7 +155,7 @@ impl<C: Compress> Builder<C> {
     ///
     /// # Errors
     /// `Full` exactly where there are 65,536 items, or `NoMemory`: all is as it was.
-    pub fn add(&mut self, item: Item) -> Result<usize, AddRefusal>
+    pub fn add(&mut self, item: Node) -> Result<usize, AddRefusal>
         requires { item.level ≤ 239 }
         ensures place { IfOk result (λ k. k ≡ length self.old) }
         ensures added { IfOk result (λ k. self.new ≡ self.old ++ item ∷ []) }

@@ -9,7 +9,7 @@ ghost use Rattle.ksi_aggtree.specs.Entries.{items_of, has_from, candidate_of};
 use crate::builder::{AddRefusal, Builder};
 use crate::item_path::ItemPath;
 use crate::senders::{make_room, note};
-use ksi_aggchain::Item;
+use ksi_aggchain::Node;
 use ksi_imprint::{Compress, Imprint, NoMemory};
 use std::alloc::Global;
 use std::collections::HashSet;
@@ -28,7 +28,7 @@ pub enum Origin {
 #[derive(Clone, Copy, PartialEq, Eq, Debug)]
 pub struct Entry {
     pub origin: Origin,
-    pub item: Item,
+    pub item: Node,
 }
 
 /// A round with where its items came from. A contract sees their list.
@@ -75,7 +75,7 @@ impl<C: Compress> Entries<C> {
         self.round.count()
     }
 
-    /// Item `k`, which is below the count, and where it came from.
+    /// Node `k`, which is below the count, and where it came from.
     pub fn entry(&self, k: usize) -> Entry
         requires { k < length self.now }
         ensures { slice_get self.now k ≡ Some result }
@@ -94,7 +94,7 @@ impl<C: Compress> Entries<C> {
     }
 
     /// The tree of the items, none where there is no item.
-    pub fn root(&self) -> Option<Item>
+    pub fn root(&self) -> Option<Node>
         ensures { result ≡ root_of C.image (items_of self.now) }
     {
         self.round.root()

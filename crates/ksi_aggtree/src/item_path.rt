@@ -1,7 +1,7 @@
 ghost use Rattle.std.specs.Prelude.{◌≡◌, ◌≤◌, IfOk, length};
 ghost use Rattle.ksi_aggtree.specs.Paths.{links_from};
 
-use ksi_aggchain::{Item, Link, Sibling};
+use ksi_aggchain::{Link, Node, Sibling};
 use ksi_imprint::NoMemory;
 use ksi_split::TreeLink;
 use std::alloc::Global;
@@ -49,7 +49,7 @@ impl ItemPath {
     pub(crate) fn beside(
         alloc: Global,
         start: u8,
-        others: &[TreeLink<Item>],
+        others: &[TreeLink<Node>],
     ) -> Result<Self, NoMemory>
         requires { length others.now ≤ 64 }
         ensures { IfOk result (λ links. links ≡ links_from start others.now) }

@@ -12,7 +12,7 @@
 //!
 //! ```text
 //! let mut round = Builder::<Sha>::new(alloc)?;
-//! let first = round.add(Item { imprint, level: 0 })?;
+//! let first = round.add(Node { imprint, level: 0 })?;
 //! round.add(other)?;
 //! let links = round.path(first)?;
 //! assert_eq!(climb::<Sha>(imprint, 0, links.as_slice()).ok(), round.root());

@@ -3,7 +3,7 @@ use Rattle.std.proofs.Common.{◌≡◌, ℕ, ◌+◌, ◌≤◌, List, [], ◌�
 use Rattle.std.proofs.lemmas.List.Sums.{sum_by-cons}
 use Rattle.ksi_aggchain.specs.Links.{PlainLink, level_above}
 use Rattle.ksi_aggchain.specs.Climbing.{above, climbed, level_after}
-use Rattle.ksi_aggchain.specs.declared.item.Item.{Item}
+use Rattle.ksi_aggchain.specs.declared.node.Node.{Node}
 use Rattle.ksi_auditor.specs.Climbed.{climbed_to}
 use Rattle.ksi_auditor.proofs.Cases.{lt_cases}
 
@@ -18,7 +18,7 @@ pub level_most : (level : ℕ) (links : List PlainLink) → level ≤ level_afte
 level_most level links = omega arith
 
 module _ (image : List ℕ → List ℕ) where
-  pub climbed_is : (place : ℕ) (item : Item) (links : List PlainLink) → level_after item.level links ≤ 255 → climbed image place item links ≡ Ok (climbed_to image item links)
+  pub climbed_is : (place : ℕ) (item : Node) (links : List PlainLink) → level_after item.level links ≤ 255 → climbed image place item links ≡ Ok (climbed_to image item links)
   climbed_is place item [] low = refl
   climbed_is place item (link ∷ links) low =
       let more = level_more item.level link links in
@@ -29,6 +29,6 @@ module _ (image : List ℕ → List ℕ) where
         | inr low_here ↦ rw low_here.0 (climbed_is (place + 1) (above image item link) links rest)
       ]
 
-  pub climbed_level : (item : Item) (links : List PlainLink) → (climbed_to image item links).level ≡ level_after item.level links
+  pub climbed_level : (item : Node) (links : List PlainLink) → (climbed_to image item links).level ≡ level_after item.level links
   climbed_level item [] = sym (omega arith)
   climbed_level item (link ∷ links) = climbed_level (above image item link) links ∙ sym (level_more item.level link links)

@@ -9,7 +9,7 @@ use Rattle.ksi_split.specs.declared.tree_link.TreeLink.{TreeLink}
 use Rattle.ksi_split.specs.Trees.{link_from}
 use Rattle.ksi_aggchain.specs.Links.{PlainLink, side_text}
 use Rattle.ksi_aggchain.specs.Climbing.{above, level_after}
-use Rattle.ksi_aggchain.specs.declared.item.Item.{Item}
+use Rattle.ksi_aggchain.specs.declared.node.Node.{Node}
 use Rattle.ksi_calchain.specs.Climbing.{calendar_element_text, calendar_join_text}
 use Rattle.ksi_verifier.specs.Chains.{PlainChain}
 use Rattle.ksi_verifier.specs.Leading.{chain_links, all_links}
@@ -51,7 +51,7 @@ module _ (image : List ℕ → List ℕ) (text : List Side → Option (List ℕ)
       ∙ go_last text start walk (calendar_rungs_from image (image (calendar_element_text below link)) higher) (calendar_rung_from below link) (e ∙ ap (λ (x : List ℕ). go text start (calendar_rungs_from image x higher)) above_is)
       ∙ ap (λ (l : List (TreeLink (List ℕ))). go text start (calendar_rungs_from image below l)) (sym is)
 
-  pub aggregation_down : (start walk : Walk) (below next : Item) (sibling : List ℕ) (level : ℕ) (link : PlainLink) (higher links : List PlainLink) → links ≡ link ∷ higher → sibling ≡ link.sibling → level ≡ below.level + link.correction + 1
+  pub aggregation_down : (start walk : Walk) (below next : Node) (sibling : List ℕ) (level : ℕ) (link : PlainLink) (higher links : List PlainLink) → links ≡ link ∷ higher → sibling ≡ link.sibling → level ≡ below.level + link.correction + 1
       → next.level ≡ level → next.imprint ≡ image (side_text link.side below.imprint sibling level) → walk ≡ go text start (rungs_from image next higher)
       → step text walk (rung_with link.side below.imprint level sibling) ≡ go text start (rungs_from image below links)
   aggregation_down start walk below next sibling level link higher links is same high next_level next_imprint e =
@@ -59,19 +59,19 @@ module _ (image : List ℕ → List ℕ) (text : List Side → Option (List ℕ)
       let next_is : next ≡ above image below link = λ i. record { imprint = imprint i; level = (next_level ∙ high) i } in
       ap (λ (s : List ℕ). step text walk (rung_with link.side below.imprint level s)) same
       ∙ ap (λ (l : ℕ). step text walk (rung_with link.side below.imprint l link.sibling)) high
-      ∙ go_last text start walk (rungs_from image (above image below link) higher) (rung_from below link) (e ∙ ap (λ (x : Item). go text start (rungs_from image x higher)) next_is)
+      ∙ go_last text start walk (rungs_from image (above image below link) higher) (rung_from below link) (e ∙ ap (λ (x : Node). go text start (rungs_from image x higher)) next_is)
       ∙ ap (λ (l : List PlainLink). go text start (rungs_from image below l)) (sym is)
 
-  pub rungs_append : (x : Item) (links more : List PlainLink) → rungs_from image x (links ++ more) ≡ rungs_from image (climbed_to image x links) more ++ rungs_from image x links
+  pub rungs_append : (x : Node) (links more : List PlainLink) → rungs_from image x (links ++ more) ≡ rungs_from image (climbed_to image x links) more ++ rungs_from image x links
   rungs_append x [] more = sym (append-nil (rungs_from image x more))
   rungs_append x (link ∷ links) more =
       ap (λ (r : List Rung). r ++ rung_from x link ∷ []) (rungs_append (above image x link) links more)
       ∙ append_assoc (rungs_from image (climbed_to image (above image x link) links) more) (rungs_from image (above image x link) links) (rung_from x link ∷ [])
 
-  pub chain_down : (start walk : Walk) (below top : Item) (chain : PlainChain) (higher chains : List PlainChain) (links : List PlainLink) → chains ≡ chain ∷ higher → links ≡ chain.links → top ≡ climbed_to image below links
+  pub chain_down : (start walk : Walk) (below top : Node) (chain : PlainChain) (higher chains : List PlainChain) (links : List PlainLink) → chains ≡ chain ∷ higher → links ≡ chain.links → top ≡ climbed_to image below links
       → walk ≡ go text start (rungs_from image top (all_links higher)) → go text walk (rungs_from image below links) ≡ go text start (rungs_from image below (all_links chains))
   chain_down start walk below top chain higher chains links is same to e =
-      ap (λ (w : Walk). go text w (rungs_from image below links)) (e ∙ ap (λ (x : Item). go text start (rungs_from image x (all_links higher))) to)
+      ap (λ (w : Walk). go text w (rungs_from image below links)) (e ∙ ap (λ (x : Node). go text start (rungs_from image x (all_links higher))) to)
       ∙ sym (go_append text start (rungs_from image (climbed_to image below links) (all_links higher)) (rungs_from image below links))
       ∙ ap (go text start) (sym (rungs_append below links (all_links higher)))
       ∙ ap (λ (l : List PlainLink). go text start (rungs_from image below (l ++ all_links higher))) same

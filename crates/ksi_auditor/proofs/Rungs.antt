@@ -8,7 +8,7 @@ use Rattle.ksi_split.specs.declared.tree_link.TreeLink.{TreeLink}
 use Rattle.ksi_split.specs.Trees.{climb_links, link_from}
 use Rattle.ksi_aggchain.specs.Links.{PlainLink, level_above}
 use Rattle.ksi_aggchain.specs.Climbing.{above, climbed, level_after}
-use Rattle.ksi_aggchain.specs.declared.item.Item.{Item}
+use Rattle.ksi_aggchain.specs.declared.node.Node.{Node}
 use Rattle.ksi_calchain.specs.Climbing.{calendar_join, calendar_join_text, calendar_element_text}
 use Rattle.ksi_calchain.specs.Sides.{sides_from_top}
 use Rattle.ksi_auditor.specs.Beside.{Rung, rung_side, rung_text, rung_from, rungs_from, calendar_rung_from, calendar_rungs_from}
@@ -35,11 +35,11 @@ module _ (image : List ℕ → List ℕ) where
   calendar_sides x [] = refl
   calendar_sides x (link ∷ links) = more_sides (calendar_rungs_from image (image (calendar_element_text x link)) links) (calendar_rung_from x link) (map (λ (s : TreeLink (List ℕ)). s.side) links) (calendar_sides (image (calendar_element_text x link)) links)
 
-  pub aggregation_sides : (x : Item) (links : List PlainLink) → map rung_side (rungs_from image x links) ≡ reverse (map (λ (link : PlainLink). link.side) links)
+  pub aggregation_sides : (x : Node) (links : List PlainLink) → map rung_side (rungs_from image x links) ≡ reverse (map (λ (link : PlainLink). link.side) links)
   aggregation_sides x [] = refl
   aggregation_sides x (link ∷ links) = more_sides (rungs_from image (above image x link) links) (rung_from x link) (map (λ (l : PlainLink). l.side) links) (aggregation_sides (above image x link) links)
 
-  pub rungs_count : (x : Item) (links : List PlainLink) → length (rungs_from image x links) ≡ length links
+  pub rungs_count : (x : Node) (links : List PlainLink) → length (rungs_from image x links) ≡ length links
   rungs_count x [] = refl
   rungs_count x (link ∷ links) = length-append (rungs_from image (above image x link) links) (rung_from x link ∷ []) ∙ (let so_far = rungs_count (above image x link) links in omega arith)
 
@@ -48,7 +48,7 @@ module _ (image : List ℕ → List ℕ) where
   from_is Right x link = refl
 
   -- a chain that ends with no level past 255: where it leads, and its levels
-  pub climbed_ends : (place : ℕ) (x top : Item) (links : List PlainLink) → climbed image place x links ≡ Ok top → x.level ≤ 255 → (climbed_to image x links ≡ top) × (level_after x.level links ≤ 255)
+  pub climbed_ends : (place : ℕ) (x top : Node) (links : List PlainLink) → climbed image place x links ≡ Ok top → x.level ≤ 255 → (climbed_to image x links ≡ top) × (level_after x.level links ≤ 255)
   climbed_ends place x top [] e low = (cc, omega (arith, low))
   climbed_ends place x top (link ∷ links) e low = elim (lt_cases 255 (level_above x.level link)) [
     | inl high ↦ (let over = rw high.0 at e in absurd cc)
@@ -69,17 +69,17 @@ module _ (image : List ℕ → List ℕ) where
         (subst (λ (z : List ℕ). Holds image next (climb_links (calendar_join image) z links) (calendar_rungs_from image next links)) (sym is) (calendar_holds next links (sizes (calendar_element_text x link))))
         (ap image (sym (calendar_text_is x link))) n refl
 
-    pub aggregation_holds : (x : Item) (links : List PlainLink) → length x.imprint ≡ 33 → Holds image x.imprint (climbed_to image x links).imprint (rungs_from image x links)
+    pub aggregation_holds : (x : Node) (links : List PlainLink) → length x.imprint ≡ 33 → Holds image x.imprint (climbed_to image x links).imprint (rungs_from image x links)
     aggregation_holds x [] n = refl
     aggregation_holds x (link ∷ links) n = holds_more x.imprint (climbed_to image (above image x link) links).imprint (above image x link).imprint (rungs_from image (above image x link) links) (rung_from x link)
         (aggregation_holds (above image x link) links (sizes _)) refl n refl
 
-    pub climbed_size : (x : Item) (links : List PlainLink) → length x.imprint ≡ 33 → length (climbed_to image x links).imprint ≡ 33
+    pub climbed_size : (x : Node) (links : List PlainLink) → length x.imprint ≡ 33 → length (climbed_to image x links).imprint ≡ 33
     climbed_size x [] n = n
     climbed_size x (link ∷ links) n = climbed_size (above image x link) links (sizes _)
 
     -- links that are left, down from an imprint: the first so many lead to it
-    pub left_climbs : (x : Item) (y : List ℕ) (links : List PlainLink) (passed left : List Rung) (rung : Rung) → length x.imprint ≡ 33 → rungs_from image x links ≡ passed ++ rung ∷ left → Holds image x.imprint y (rung ∷ left)
+    pub left_climbs : (x : Node) (y : List ℕ) (links : List PlainLink) (passed left : List Rung) (rung : Rung) → length x.imprint ≡ 33 → rungs_from image x links ≡ passed ++ rung ∷ left → Holds image x.imprint y (rung ∷ left)
         → (climbed_to image x (take (length (rung ∷ left)) links)).imprint ≡ y
     left_climbs x y links passed left rung n e h =
         let m : ℕ = length (rung ∷ left) in

@@ -16,7 +16,7 @@ use Rattle.ksi_split.specs.Trees.{node_in, node_at}
 use Rattle.ksi_split.specs.Ways.{IsWay, NamesSecond}
 use Rattle.ksi_aggchain.specs.Links.{PlainLink}
 use Rattle.ksi_aggchain.specs.Climbing.{Climbs, climbed, level_after}
-use Rattle.ksi_aggchain.specs.declared.item.Item.{Item}
+use Rattle.ksi_aggchain.specs.declared.node.Node.{Node}
 use Rattle.ksi_aggtree.specs.Rounds as rounds
 use Rattle.ksi_calchain.specs.Climbing.{calendar_join, calendar_join_text}
 use Rattle.ksi_calchain.specs.Sides.{sides_from_top}
@@ -135,8 +135,8 @@ audit_laid image j signature hash publications t calendar passes has from none r
     ∙ (elim (same_cases (chain_root image calendar) (kept_root image j calendar.publication)) as (λ z. decided image j signature hash t calendar None ≡ laid_beside image j signature hash t calendar) [ inl same ↦ rw same.0 refl | inr other ↦ absurd (other.1 root) ])
 
 -- no level of an accepted signature passes 255
-pub low : (climbs : (image : List ℕ → List ℕ) (start top : Item) (links : List PlainLink) → (climbed image 0 start links ≡ Ok top) ↔ Climbs image start links top)
-    (lead : (image : List ℕ → List ℕ) (chains : List PlainChain) (start item : Item) → ChainsLead image start chains item → Climbs image start (all_links chains) item)
+pub low : (climbs : (image : List ℕ → List ℕ) (start top : Node) (links : List PlainLink) → (climbed image 0 start links ≡ Ok top) ↔ Climbs image start links top)
+    (lead : (image : List ℕ → List ℕ) (chains : List PlainChain) (start item : Node) → ChainsLead image start chains item → Climbs image start (all_links chains) item)
     (image : List ℕ → List ℕ) (signature : Signature) (hash : List ℕ) (publications : List (ℕ × List ℕ)) (t : ℕ) → IsAccepted image signature hash publications t → level_after 0 (links_of signature) ≤ 255
 low climbs lead image signature hash publications t a =
     (climbed_ends image 0 (at_level_zero hash) a.item (links_of signature) ((climbs image (at_level_zero hash) a.item (links_of signature)).1 (lead image (plain_chains signature.chains) (at_level_zero hash) a.item a.chains.lead)) (omega arith)).1
@@ -182,8 +182,8 @@ module _ (laws : Laws) (image : List ℕ → List ℕ) (lawful : (bytes : List �
 
   -- ---- the items of a second
 
-  module _ (items : List Item) (each : (k : ℕ) → length (rounds.item_at items k).imprint ≡ 33) (last : ℕ) (len : length items ≡ suc last) where
-    abbrev aggregation_at : Part → Item
+  module _ (items : List Node) (each : (k : ℕ) → length (rounds.item_at items k).imprint ≡ 33) (last : ℕ) (len : length items ≡ suc last) where
+    abbrev aggregation_at : Part → Node
     aggregation_at q = rounds.tree_from image items q.first q.count
 
     abbrev aggregation_imprint : Part → List ℕ
@@ -196,23 +196,23 @@ module _ (laws : Laws) (image : List ℕ → List ℕ) (lawful : (bytes : List �
     aggregation_string q = join_text (aggregation_imprint (half_of q Left)) (aggregation_imprint (half_of q Right)) (aggregation_level q)
 
     aggregation_hashes : (q : Part) → 1 < q.count → aggregation_imprint q ≡ image (aggregation_string q)
-    aggregation_hashes q more = ap (λ (x : Item). x.imprint) (laws.aggregation_cut image items q.first q.count (split_of q.count) ((laws.split q.count (split_of q.count) more).1 refl))
+    aggregation_hashes q more = ap (λ (x : Node). x.imprint) (laws.aggregation_cut image items q.first q.count (split_of q.count) ((laws.split q.count (split_of q.count) more).1 refl))
 
     aggregation_sizes : (q : Part) → length (aggregation_imprint q) ≡ 33
-    aggregation_sizes q = all_of_tree (λ (x : Item). length x.imprint ≡ 33) (rounds.aggregation_join image) (rounds.item_at items) (λ a b. sizes _) each q.first q.count
+    aggregation_sizes q = all_of_tree (λ (x : Node). length x.imprint ≡ 33) (rounds.aggregation_join image) (rounds.item_at items) (λ a b. sizes _) each q.first q.count
 
     aggregation_open : (sides : List Side) → rounds.node_of image items sides ≡ node_at (rounds.aggregation_join image) (rounds.item_at items) last sides
     aggregation_open sides = ap (λ (n : ℕ). rounds.node_from image items n sides) len
 
     aggregation_one : (sides : List Side) (q : Part) → part_at 0 (whole (last + 1)) sides ≡ Ok q → q.count ≡ 1 → items_text image items sides ≡ None
-    aggregation_one sides q e one = ap (λ (o : Option Item). joined_items o (rounds.node_of image items (sides ++ Right ∷ [])))
+    aggregation_one sides q e one = ap (λ (o : Option Node). joined_items o (rounds.node_of image items (sides ++ Right ∷ [])))
         (aggregation_open (sides ++ Left ∷ []) ∙ node_past (rounds.aggregation_join image) (rounds.item_at items) last laws.parts laws.split (laws.aggregation_cut image items) sides Left q e one)
 
     aggregation_more : (sides : List Side) (q : Part) → part_at 0 (whole (last + 1)) sides ≡ Ok q → 1 < q.count → items_text image items sides ≡ Some (aggregation_string q)
     aggregation_more sides q e more =
-        ap (λ (o : Option Item). joined_items o (rounds.node_of image items (sides ++ Right ∷ [])))
+        ap (λ (o : Option Node). joined_items o (rounds.node_of image items (sides ++ Right ∷ [])))
         (aggregation_open (sides ++ Left ∷ []) ∙ node_below (rounds.aggregation_join image) (rounds.item_at items) last laws.parts laws.split (laws.aggregation_cut image items) sides Left q e more)
-        ∙ ap (λ (o : Option Item). joined_items (Some (aggregation_at (half_of q Left))) o)
+        ∙ ap (λ (o : Option Node). joined_items (Some (aggregation_at (half_of q Left))) o)
         (aggregation_open (sides ++ Right ∷ []) ∙ node_below (rounds.aggregation_join image) (rounds.item_at items) last laws.parts laws.split (laws.aggregation_cut image items) sides Right q e more)
 
   -- ---- an accepted signature whose publication is decided
@@ -225,7 +225,7 @@ module _ (laws : Laws) (image : List ℕ → List ℕ) (lawful : (bytes : List �
     abbrev links : List PlainLink
     links = links_of signature
 
-    abbrev start : Item
+    abbrev start : Node
     start = at_level_zero hash
 
     covered : (calendars.is_covered (calendar_of j) p ≡ true) × (p < j.start + length (calendar_of j).roots)
@@ -235,7 +235,7 @@ module _ (laws : Laws) (image : List ℕ → List ℕ) (lawful : (bytes : List �
     top = climbed_ends image 0 start a.item links ((laws.climbs image start a.item links).1 (laws.lead image (plain_chains signature.chains) start a.item a.chains.lead)) (omega arith)
 
     input_is : (climbed_to image start links).imprint ≡ a.calendar.input
-    input_is = ap (λ (x : Item). x.imprint) top.0 ∙ sym a.input
+    input_is = ap (λ (x : Node). x.imprint) top.0 ∙ sym a.input
 
     input_size : length a.calendar.input ≡ 33
     input_size = ap length (sym input_is) ∙ climbed_size image sizes start links size
@@ -264,7 +264,7 @@ module _ (laws : Laws) (image : List ℕ → List ℕ) (lawful : (bytes : List �
         rest ∙ ap calendar_chain_at same ∙ leaf ∙ laws.leaves image j t journal (omega (arith, early, last))
 
     module _ (h : HasItems image j t) (leaf : a.calendar.input ≡ leaf_at j t) where
-      abbrev items : List Item
+      abbrev items : List Node
       items = items_at j t
 
       abbrev last : ℕ
@@ -296,7 +296,7 @@ module _ (laws : Laws) (image : List ℕ → List ℕ) (lawful : (bytes : List �
             second = names;
             all = refl;
             node = ap (imprint_at image items) sides
-                ∙ ap (option_map (λ (x : Item). x.imprint)) (aggregation_open items each last len (map rung_side passed) ∙ ap (node_in (rounds.aggregation_join image) (rounds.item_at items)) reached)
+                ∙ ap (option_map (λ (x : Node). x.imprint)) (aggregation_open items each last len (map rung_side passed) ∙ ap (node_in (rounds.aggregation_join image) (rounds.item_at items)) reached)
                 ∙ ap (λ (x : List ℕ). Some x) (sym rest);
           }
 
@@ -324,7 +324,7 @@ module _ (laws : Laws) (image : List ℕ → List ℕ) (lawful : (bytes : List �
             top = climbed_to image start (take m links);
             climbs = (laws.climbs image start (climbed_to image start (take m links)) (take m links)).0 (climbed_is image 0 start (take m links) low_here);
             imprint = left_climbs image sizes start (aggregation_imprint items each last len part) links passed left rung size split rest
-                ∙ ap (λ (n : ℕ). aggregation_imprint items each last len (part_with part.first n)) one ∙ ap (λ (x : Item). x.imprint) (laws.aggregation_one image items part.first);
+                ∙ ap (λ (n : ℕ). aggregation_imprint items each last len (part_with part.first n)) one ∙ ap (λ (x : Node). x.imprint) (laws.aggregation_one image items part.first);
             way = subst (λ (n : ℕ). IsWay part.first n (take (length links - m) (link_sides signature))) (sym len1) (subst (IsWay part.first (last + 1)) (sym front) second.way);
           }
 

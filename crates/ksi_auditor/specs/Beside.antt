@@ -5,7 +5,7 @@ use Rattle.ksi_split.specs.declared.side.Side.{Side}
 use Rattle.ksi_split.specs.declared.tree_link.TreeLink.{TreeLink}
 use Rattle.ksi_aggchain.specs.Links.{PlainLink, side_text, level_above}
 use Rattle.ksi_aggchain.specs.Climbing.{above}
-use Rattle.ksi_aggchain.specs.declared.item.Item.{Item}
+use Rattle.ksi_aggchain.specs.declared.node.Node.{Node}
 use Rattle.ksi_calchain.specs.Climbing.{calendar_element_text}
 
 -- a link as it is climbed: the side on which the node below it stands, that node's imprint, the other part, and the level
@@ -23,11 +23,11 @@ rung_side rung = rung.side
 abbrev pub rung_text : Rung → List ℕ
 rung_text rung = side_text rung.side rung.below rung.sibling rung.level
 
-abbrev pub rung_from : Item → PlainLink → Rung
+abbrev pub rung_from : Node → PlainLink → Rung
 rung_from item link = record { side = link.side; below = item.imprint; sibling = link.sibling; level = level_above item.level link }
 
 -- the links of aggregation chains, from an item up
-abbrev pub rungs_from : (List ℕ → List ℕ) → Item → List PlainLink → List Rung
+abbrev pub rungs_from : (List ℕ → List ℕ) → Node → List PlainLink → List Rung
 rungs_from image item [] = []
 rungs_from image item (link ∷ links) = rungs_from image (above image item link) links ++ rung_from item link ∷ []
 

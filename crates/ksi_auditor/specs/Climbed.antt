@@ -2,9 +2,9 @@
 use Rattle.std.specs.Prelude.{ℕ, List, [], ◌∷◌}
 use Rattle.ksi_aggchain.specs.Links.{PlainLink}
 use Rattle.ksi_aggchain.specs.Climbing.{above}
-use Rattle.ksi_aggchain.specs.declared.item.Item.{Item}
+use Rattle.ksi_aggchain.specs.declared.node.Node.{Node}
 
 -- the item that links lead to, whatever the levels
-abbrev pub climbed_to : (List ℕ → List ℕ) → Item → List PlainLink → Item
+abbrev pub climbed_to : (List ℕ → List ℕ) → Node → List PlainLink → Node
 climbed_to image item [] = item
 climbed_to image item (link ∷ links) = climbed_to image (above image item link) links

@@ -5,7 +5,7 @@ use Rattle.ksi_imprint.specs.declared.clash.Clash as clashes
 use Rattle.ksi_split.specs.declared.side.Side.{Side}
 use Rattle.ksi_split.specs.Ways.{IsWay, NamesSecond}
 use Rattle.ksi_aggchain.specs.Climbing.{Climbs}
-use Rattle.ksi_aggchain.specs.declared.item.Item.{Item}
+use Rattle.ksi_aggchain.specs.declared.node.Node.{Node}
 use Rattle.ksi_aggtree.specs.Rounds.{item_at, node_of}
 use Rattle.ksi_calchain.specs.Sides.{sides_from_top}
 use Rattle.ksi_signature.specs.Values.{Calendar}
@@ -24,7 +24,7 @@ pub record Names (signature : Signature) (t : ℕ) : Type 0 where
   pub has_calendar : signature.calendar ≡ Some calendar
   pub second : NamesSecond calendar.publication (sides_from_top calendar.links) t
 
-abbrev pub imprint_at : (List ℕ → List ℕ) → List Item → List Side → Option (List ℕ)
+abbrev pub imprint_at : (List ℕ → List ℕ) → List Node → List Side → Option (List ℕ)
 imprint_at image items sides = option_map (λ node. node.imprint) (node_of image items sides)
 
 -- the hash is a node of the tree that is kept for the second: the one that the sides of all aggregation links lead to
@@ -40,7 +40,7 @@ pub record IsBeneath (image : List ℕ → List ℕ) (journal : Contents) (signa
   pub there : item < length (items_at journal t)
   pub some : 1 ≤ links
   pub within : links ≤ length (links_of signature)
-  pub top : Item
+  pub top : Node
   pub climbs : Climbs image (at_level_zero hash) (take links (links_of signature)) top
   pub imprint : top.imprint ≡ (item_at (items_at journal t) item).imprint
   pub way : IsWay item (length (items_at journal t)) (take (length (links_of signature) - links) (link_sides signature))

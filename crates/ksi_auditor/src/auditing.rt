@@ -15,7 +15,7 @@ use crate::items::ItemsOf;
 use crate::laws::{audit_shows, low_levels};
 use crate::place::Place;
 use crate::walk::{Walk, along_calendar, along_chains};
-use ksi_aggchain::Item;
+use ksi_aggchain::Node;
 use ksi_aggtree::Builder;
 use ksi_calchain::climb_calendar;
 use ksi_imprint::{Compress, Imprint, NoMemory};
@@ -160,7 +160,7 @@ fn lay_beside<C: Compress>(
 /// Lays the links of aggregation chains beside the tree of items.
 fn lay_below<C: Compress>(
     alloc: Global,
-    items: &[Item],
+    items: &[Node],
     chains: &[AggregationChain],
     hash: &Imprint,
     second: u64,
@@ -175,7 +175,7 @@ fn lay_below<C: Compress>(
 {
     let round = round_of::<C>(alloc, items)?;
     let tree = ItemsOf { round: &round };
-    let start = Item {
+    let start = Node {
         imprint: *hash,
         level: 0,
     };
@@ -214,7 +214,7 @@ fn count_of(chains: &[AggregationChain]) -> u64
 }
 
 /// The tree of items.
-fn round_of<C: Compress>(alloc: Global, items: &[Item]) -> Result<Builder<C>, NoMemory>
+fn round_of<C: Compress>(alloc: Global, items: &[Node]) -> Result<Builder<C>, NoMemory>
     requires few { length items.now ≤ 65536 }
     requires low { (k : ℕ) → (item_at items.now k).level ≤ 239 }
     ensures { IfOk result (λ round. round ≡ items.now) }

@@ -16,7 +16,7 @@ use crate::climbing::top_of;
 use crate::kept::KeptTree;
 use crate::place::Place;
 use crate::rung::{Rung, is_joined_of, join_of, text_of};
-use ksi_aggchain::{Item, Link, Sibling};
+use ksi_aggchain::{Link, Node, Sibling};
 use ksi_calchain::CalendarLink;
 use ksi_imprint::{Bytes, Clash, Compress, Imprint, NoMemory};
 use ksi_signature::AggregationChain;
@@ -78,7 +78,7 @@ pub(crate) fn along_calendar<C: Compress, K: KeptTree>(
 pub(crate) fn along_chains<C: Compress, K: KeptTree>(
     alloc: Global,
     tree: &K,
-    below: &Item,
+    below: &Node,
     chains: &[AggregationChain],
 ) -> Result<Walk, NoMemory>
     requires { level_after below.now.level (all_links (plain_chains chains.now)) ≤ 255 }
@@ -101,7 +101,7 @@ fn along_links<C: Compress, K: KeptTree>(
     alloc: Global,
     tree: &K,
     start: Walk,
-    below: &Item,
+    below: &Node,
     links: &[Link],
 ) -> Result<Walk, NoMemory>
     requires levels { level_after below.now.level (plain_links links.now) ≤ 255 }
@@ -123,7 +123,7 @@ fn along_links<C: Compress, K: KeptTree>(
         sibling,
         level,
     };
-    let above = Item {
+    let above = Node {
         imprint: join_of::<C>(&rung),
         level,
     };

@@ -6,7 +6,7 @@
 
 ghost use Rattle.std.specs.Prelude.{◌≡◌, ◌≤◌, ◌+◌, ◌^◌, length, IfOk};
 
-use ksi_aggchain::Item;
+use ksi_aggchain::Node;
 use ksi_aggtree::Builder;
 use ksi_calendar::Calendar;
 use ksi_imprint::{Compress, Imprint, NoMemory, Sha};
@@ -65,7 +65,7 @@ fn joined(times: u32) -> Imprint {
 fn round(alloc: Global, paths: bool) -> Result<u8, NoMemory> {
     let mut round = Builder::<Sha>::new(alloc)?;
     for n in 0..ITEMS {
-        let item = Item {
+        let item = Node {
             imprint: Sha::of(&n.to_be_bytes()),
             level: 0,
         };

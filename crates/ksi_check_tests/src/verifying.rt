@@ -2,7 +2,7 @@ use crate::same::same;
 use crate::signatures::{
     CALENDAR, CalendarRow, ChainRow, HIGH, LOW, SignatureRow, bytes_of, listed, named, row,
 };
-use ksi_aggchain::Item;
+use ksi_aggchain::Node;
 use ksi_imprint::{NoMemory, Tiny};
 use ksi_signature::{Signature, SignatureFault, read};
 use ksi_split::{ShapeFault, Side};
@@ -67,7 +67,7 @@ fn accepts_the_second_of_the_sides(rt: HostRuntime) {
 
 #[test]
 fn the_chains_lead_to_an_item(rt: HostRuntime) {
-    let item = Item {
+    let item = Node {
         imprint: named(0x1d),
         level: 4,
     };

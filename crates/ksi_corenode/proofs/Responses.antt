@@ -5,7 +5,7 @@ use Rattle.std.specs.List.{AllByRecursion}
 use Rattle.std.proofs.lemmas.Option.{slice_get_within, get_or_from_slice_get}
 use Rattle.std.proofs.Math.Seq.{drop-cons}
 use Rattle.ksi_split.specs.declared.tree_link.TreeLink.{TreeLink}
-use Rattle.ksi_aggchain.specs.declared.item.Item.{Item}
+use Rattle.ksi_aggchain.specs.declared.node.Node.{Node}
 use Rattle.ksi_aggchain.specs.declared.link.Link.{Link}
 use Rattle.ksi_aggtree.specs.declared.entries.Entry.{Entry}
 use Rattle.ksi_aggtree.specs.Rounds.{item_at, no_item, tree_path}
@@ -17,11 +17,11 @@ use Rattle.ksi_corenode.specs.declared.step.Send.{Send}
 use Rattle.ksi_corenode.specs.Rows.{response_to, responses_from}
 
 -- links of a tree stand beside imprints
-links_nodes : (others : List (TreeLink Item)) (level : ℕ) → AllByRecursion (λ (link : Link). IsNode link.sibling) (links_from level others)
+links_nodes : (others : List (TreeLink Node)) (level : ℕ) → AllByRecursion (λ (link : Link). IsNode link.sibling) (links_from level others)
 links_nodes [] level = tt
 links_nodes (other ∷ others) level = (tt, links_nodes others _)
 
-pub round_links : (image : List ℕ → List ℕ) (items : List Item) (k : ℕ) (links : List Link) → links ≡ chain_of image items k → length links ≤ 16 → AreRoundLinks links
+pub round_links : (image : List ℕ → List ℕ) (items : List Node) (k : ℕ) (links : List Link) → links ≡ chain_of image items k → length links ≤ 16 → AreRoundLinks links
 round_links image items k links is few = record {
   count = few;
   nodes = subst (λ (links : List Link). AllByRecursion (λ (link : Link). IsNode link.sibling) links) (sym is) (links_nodes (tree_path image items k) (item_at items k).level);
@@ -32,7 +32,7 @@ pub entry_item : (entries : List Entry) (k : ℕ) (entry : Entry) → slice_get 
 entry_item [] k entry is = absurd (cc is)
 entry_item (e ∷ es) zero entry is = ap (λ (o : Option Entry). item_or o) is
   where
-    item_or : Option Entry → Item
+    item_or : Option Entry → Node
     item_or None = no_item
     item_or (Some entry) = entry.item
 entry_item (e ∷ es) (suc k) entry is = entry_item es k entry is

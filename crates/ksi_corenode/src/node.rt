@@ -15,7 +15,7 @@ ghost use Rattle.ksi_corenode.specs.Kept.{IsCalendarOf};
 use crate::second::Second;
 use crate::sending::{push_each, push_told};
 use crate::step::{Sends, Step};
-use ksi_aggchain::Item;
+use ksi_aggchain::Node;
 use ksi_calendar::Calendar;
 use ksi_imprint::{Compress, Imprint, NoMemory};
 use ksi_signature::Answer;
@@ -95,7 +95,7 @@ impl<C: Compress> Core<C> {
 
     /// The sealed items of a second, in order; none where the second is not sealed.
     #[tactic(auto, unfolding(crate::specs::CoreState::state_of, crate::specs::SecondState::fresh_second))]
-    pub fn items(&self, second: u64) -> Option<&[Item]>
+    pub fn items(&self, second: u64) -> Option<&[Node]>
         ensures { option_copied result ≡ option_map items_of (state_of self.now second).sealed }
     {
         match self.seconds.get(&second) {
@@ -151,7 +151,7 @@ impl<C: Compress> Core<C> {
     /// # Errors
     /// `NoMemory`: all is as it was.
     #[tactic(auto, unfolding(crate::specs::CoreState::state_of, crate::specs::Rows::submission_row))]
-    pub fn submission(&mut self, aggregator: u32, second: u64, item: Item) -> Result<Step, NoMemory>
+    pub fn submission(&mut self, aggregator: u32, second: u64, item: Node) -> Result<Step, NoMemory>
         requires level { item.level ≤ 239 }
         ensures turn { IfOk result (λ step.
             IsTurn self.old self.new second (submission_row aggregator item (state_of self.old second)) step) }

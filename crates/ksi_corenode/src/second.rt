@@ -8,7 +8,7 @@ ghost use Rattle.ksi_corenode.specs.SecondState.{fresh_second};
 ghost use Rattle.ksi_corenode.specs.Kept.{StillHolds};
 ghost use Rattle.ksi_corenode.specs.Rows.{taken, submission_row, seal_row, is_mine, restart_row, counts, is_news, news_answer};
 
-use ksi_aggchain::Item;
+use ksi_aggchain::Node;
 use ksi_aggtree::{AddRefusal, Entries, Entry, Origin};
 use ksi_imprint::{Compress, Imprint, NoMemory};
 use ksi_signature::Answer;
@@ -22,7 +22,7 @@ pub(crate) struct Second<C: Compress> {
     vote: Instance,
     is_sealed: bool,
     entries: Option<Entries<C>>,
-    items: Vec<Item>,
+    items: Vec<Node>,
 }
 
 impl<C: Compress> Model for Second<C> {
@@ -81,7 +81,7 @@ impl<C: Compress> Second<C> {
     }
 
     /// The sealed items, none where they are not sealed.
-    pub fn items(&self) -> Option<&[Item]>
+    pub fn items(&self) -> Option<&[Node]>
         ensures { option_copied result ≡ option_map items_of self.now.sealed }
     {
         if self.is_sealed {
@@ -118,7 +118,7 @@ impl<C: Compress> Second<C> {
         &mut self,
         alloc: Global,
         aggregator: u32,
-        item: &Item,
+        item: &Node,
     ) -> Result<Answer, NoMemory>
         requires { item.now.level ≤ 239 }
         ensures after { IfOk result (λ answer. self.new ≡ (submission_row aggregator item.now self.old).after) }
@@ -277,9 +277,9 @@ fn decided(took: Took) -> (Answer, Option<SynodMessage>)
 /// Takes an item of an aggregator among the open ones.
 fn take<C: Compress>(
     entries: &mut Entries<C>,
-    items: &mut Vec<Item>,
+    items: &mut Vec<Node>,
     aggregator: u32,
-    item: &Item,
+    item: &Node,
 ) -> Result<Answer, NoMemory>
     requires level { item.now.level ≤ 239 }
     requires same { items.old.items ≡ items_of entries.old }
@@ -307,7 +307,7 @@ fn take<C: Compress>(
 }
 
 /// Puts an item behind the others, where there is room.
-fn put(items: &mut Vec<Item>, item: &Item)
+fn put(items: &mut Vec<Node>, item: &Node)
     requires { vec_len items.old < vec_capacity items.old }
     ensures { items.new.items ≡ items.old.items ++ item.now ∷ [] }
 {

@@ -4,7 +4,7 @@ use Rattle.std.specs.Prelude.{◌↔◌, Ok, slice_index}
 use Rattle.std.specs.List.{AllByRecursion}
 use Rattle.std.proofs.Math.Seq.{take-append_seam}
 use Rattle.ksi_split.specs.declared.side.Side.{Side}
-use Rattle.ksi_aggchain.specs.declared.item.Item.{Item}
+use Rattle.ksi_aggchain.specs.declared.node.Node.{Node}
 use Rattle.ksi_aggchain.specs.declared.link.Link.{Link}
 use Rattle.ksi_aggchain.specs.Owned.{plain_links}
 use Rattle.ksi_aggchain.specs.Shapes.{shape_of}
@@ -53,12 +53,12 @@ times second [] = tt
 times second (chain ∷ above) = (refl, times second above)
 
 module _ (image : List ℕ → List ℕ) where
-  lead : (second : ℕ) (chains : List AboveChain) (start top : Item) → ChainsClimb image start chains top → ChainsLead image start (plain_chains (issued_chains second chains)) top
+  lead : (second : ℕ) (chains : List AboveChain) (start top : Node) → ChainsClimb image start chains top → ChainsLead image start (plain_chains (issued_chains second chains)) top
   lead second [] start top is = is
   lead second (chain ∷ above) start top is = (is.0, is.1, is.2, lead second above is.0 top is.3)
 
   pub issued_aggregated : ((signature : Signature) (chains : Aggregated) → 0 < length signature.chains → (aggregated image signature ≡ Ok chains) ↔ IsAggregated image (plain_chains signature.chains) (first_chain (plain_chains signature.chains)).input chains.time chains.item)
-      → (second : ℕ) (input : List ℕ) (links : List Link) (above : Above) (top : Item) → ChainsClimb image (record { imprint = input; level = 0 }) (own_chain input links ∷ above.chains) top
+      → (second : ℕ) (input : List ℕ) (links : List Link) (above : Above) (top : Node) → ChainsClimb image (record { imprint = input; level = 0 }) (own_chain input links ∷ above.chains) top
       → aggregated image (issued second input links above) ≡ Ok (record { time = second; item = top })
   unfolding issued
   issued_aggregated aggregation second input links above top climbs =

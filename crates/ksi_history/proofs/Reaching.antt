@@ -7,7 +7,7 @@ use Rattle.ksi_split.specs.declared.tree_link.TreeLink.{TreeLink}
 use Rattle.ksi_split.specs.Trees.{climb_links}
 use Rattle.ksi_calchain.specs.Climbing.{ClimbsCalendar, calendar_join}
 use Rattle.ksi_tlv.specs.Spelling.{AreBytes}
-use Rattle.ksi_aggchain.specs.declared.item.Item.{Item}
+use Rattle.ksi_aggchain.specs.declared.node.Node.{Node}
 use Rattle.ksi_aggchain.specs.declared.link.Link.{Link}
 use Rattle.ksi_calendar.specs.Calendar.{calendar_leaf, calendar_path, calendar_root, is_covered}
 use Rattle.ksi_signature.specs.declared.above.Above.{Above}
@@ -52,7 +52,7 @@ covered_before journal p covered =
 
 -- the laws below
 pub record Laws (image : List ℕ → List ℕ) (journal : Contents) : Type 0 where
-  pub aggregates : (second : ℕ) (input : List ℕ) (links : List Link) (above : Above) (top : Item) → ChainsClimb image (record { imprint = input; level = 0 }) (own_chain input links ∷ above.chains) top → aggregated image (issued second input links above) ≡ Ok (record { time = second; item = top })
+  pub aggregates : (second : ℕ) (input : List ℕ) (links : List Link) (above : Above) (top : Node) → ChainsClimb image (record { imprint = input; level = 0 }) (own_chain input links ∷ above.chains) top → aggregated image (issued second input links above) ≡ Ok (record { time = second; item = top })
   pub whole : (second : ℕ) (input : List ℕ) (links : List Link) (above : Above) → MayBeIssued second input links above → IsSignature (signature_text (issued second input links above)) (issued second input links above)
   pub short : (second : ℕ) (input : List ℕ) (links : List Link) (above : Above) → MayBeIssued second input links above → length (signature_text (issued second input links above)) ≤ 10000
   pub before : (p : ℕ) → calendars.IsCovered journal p → p < journal.start + length (calendar_of journal).roots

@@ -2,7 +2,7 @@
 ghost use Rattle.std.specs.Prelude.{◌≡◌, ◌<◌, ◌≤◌, ◌++◌, ◌∷◌, ℕ, List, Ok, Some, slice_get};
 ghost use Rattle.ksi_imprint.specs.Imprints.{IsImprint, imprint_of};
 ghost use Rattle.ksi_tlv.specs.Spelling.{AreBytes};
-ghost use Rattle.ksi_aggchain.specs.declared.item.Item.{Item};
+ghost use Rattle.ksi_aggchain.specs.declared.node.Node.{Node};
 ghost use Rattle.ksi_aggchain.specs.declared.link.Link.{Link};
 ghost use Rattle.ksi_signature.specs.declared.above.Above.{Above};
 ghost use Rattle.ksi_signature.specs.Issued.{issued, own_chain};
@@ -41,7 +41,7 @@ use ksi_world::laws::{
 /// Chains that climb from an imprint at level 0 to an item pass the checks of aggregation chains, as they are issued: they
 /// lead to this item, in the second that they were issued for.
 pub fn issued_is_aggregated()
-    ensures { (image : List ℕ → List ℕ) (second : ℕ) (input : List ℕ) (links : List Link) (above : Above) (top : Item) →
+    ensures { (image : List ℕ → List ℕ) (second : ℕ) (input : List ℕ) (links : List Link) (above : Above) (top : Node) →
         ChainsClimb image (record { imprint = input; level = 0 }) (own_chain input links ∷ above.chains) top →
         aggregated image (issued second input links above) ≡ Ok (record { time = second; item = top }) }
 {

@@ -5,7 +5,7 @@ use Rattle.ksi_imprint.specs.declared.fault.ImprintFault.{ImprintFault}
 use Rattle.ksi_imprint.specs.Imprints.{zero_imprint}
 use Rattle.ksi_imprint.specs.Reading as imprints
 use Rattle.ksi_tlv.specs.Walking.{PlacedTlv}
-use Rattle.ksi_aggchain.specs.declared.item.Item.{Item}
+use Rattle.ksi_aggchain.specs.declared.node.Node.{Node}
 use Rattle.ksi_aggtree.specs.Rounds.{tree_of}
 use Rattle.ksi_order.specs.declared.fault.OrderFault.{OrderFault}
 use Rattle.ksi_order.specs.declared.fault.OrderFault.TheVariants as orders
@@ -107,17 +107,17 @@ read_second s at = or_named (said_at s.least_second at) >>= λ said. counted s s
 
 -- ---- 3: an item: 34 bytes, an imprint and a level of at most 239
 
-abbrev pub item_of : ℕ → ℕ → Result (List ℕ) ImprintFault → Result Item OrderFault
+abbrev pub item_of : ℕ → ℕ → Result (List ℕ) ImprintFault → Result Node OrderFault
 item_of place level (Ok imprint) = if nat_le level 239 then Ok (record { imprint = imprint; level = level }) else Err (orders.Bound place)
 item_of place level (Err fault) = Err (orders.Imprint place)
 
-unfoldable pub item_in : PlacedTlv → Result Item OrderFault
+unfoldable pub item_in : PlacedTlv → Result Node OrderFault
 item_in at =
     if length at.element.body == 34
     then item_of at.place (slice_index at.element.body 33) (imprints.imprint_at (take 33 at.element.body))
     else Err (orders.Imprint at.place)
 
-abbrev pub with_item : Second → Item → Second
+abbrev pub with_item : Second → Node → Second
 with_item kept item = record kept { items = kept.items ++ item ∷ [] }
 
 -- the last item closes its second, where the tree has its root

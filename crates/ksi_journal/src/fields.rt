@@ -4,7 +4,7 @@ ghost use Rattle.ksi_tlv.specs.Views.{view_placed};
 ghost use Rattle.ksi_journal.specs.Elements.{item_in, said_at, signature_at, published_at, short_at, rises};
 ghost use Rattle.ksi_journal.specs.Kept.{view_signature};
 
-use ksi_aggchain::Item;
+use ksi_aggchain::Node;
 use ksi_imprint::Imprint;
 use ksi_order::{Fields, OrderFault, imprint, number, time, values_are_bounded};
 use ksi_tlv::Placed;
@@ -62,7 +62,7 @@ fn check_rise(least: u128, value: u128, place: usize) -> Result<(), OrderFault>
 
 /// An item: 33 bytes of imprint and one of level.
 #[tactic(auto, unfolding(crate::specs::Elements::item_in))]
-pub(crate) fn read_item(at: &Placed<'_>) -> Result<Item, OrderFault>
+pub(crate) fn read_item(at: &Placed<'_>) -> Result<Node, OrderFault>
     ensures value { result ≡ item_in (view_placed at.now) }
     ensures low { IfOk result (λ item. item.level ≤ 239) }
 {
@@ -78,7 +78,7 @@ pub(crate) fn read_item(at: &Placed<'_>) -> Result<Item, OrderFault>
     if level > MOST_LEVEL {
         return Err(OrderFault::Bound(at.place));
     }
-    Ok(Item { imprint, level })
+    Ok(Node { imprint, level })
 }
 
 /// The number of an issued signature, and its bytes.

@@ -5,7 +5,7 @@ ghost use Rattle.ksi_journal.specs.Calendar.{calendar_of, first_missing, IsFirst
 use crate::calendar::calendar;
 use crate::finding::find;
 use crate::second::Second;
-use ksi_aggchain::Item;
+use ksi_aggchain::Node;
 use ksi_calendar::{Calendar, Steps};
 use ksi_imprint::{Bytes, Compress, Imprint, NoMemory};
 use std::alloc::Global;
@@ -121,7 +121,7 @@ impl<C: Compress> Journal<C> {
     }
 
     /// The items of a second, in order, none where it is not kept or its root is the zero imprint.
-    pub fn items(&self, second: u64) -> &[Item]
+    pub fn items(&self, second: u64) -> &[Node]
         ensures { result.now ≡ items_at self.now second }
     {
         items_from::<C, Brand>(self, second, Blank::new(1))
@@ -129,7 +129,7 @@ impl<C: Compress> Journal<C> {
 
     /// The same, with its step: one search among the kept seconds.
     #[tactic(auto, unfolding(crate::specs::Journal::items_at))]
-    pub fn items_counted<L: Ledger>(&self, second: u64, steps: &mut Steps<L>) -> &[Item]
+    pub fn items_counted<L: Ledger>(&self, second: u64, steps: &mut Steps<L>) -> &[Node]
         ensures items { result.now ≡ items_at self.now second }
         ensures step { steps.new ≡ steps.old + 1 }
     {
@@ -175,7 +175,7 @@ fn root_from<C: Compress, L: Ledger>(
     journal.root_counted(second, &mut steps)
 }
 
-fn items_from<C: Compress, L: Ledger>(journal: &Journal<C>, second: u64, blank: Blank) -> &[Item]
+fn items_from<C: Compress, L: Ledger>(journal: &Journal<C>, second: u64, blank: Blank) -> &[Node]
     requires name { blank.name ≡ L.name }
     requires parts { blank.parts ≡ L.parts }
     requires one { blank.parts ≡ 1 }

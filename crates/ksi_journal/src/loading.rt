@@ -8,7 +8,7 @@ use crate::fields::{read_item, read_publication, read_second, read_signature};
 use crate::laws::are_bytes;
 use crate::second::{Second, Stage};
 use crate::tree::tree;
-use ksi_aggchain::Item;
+use ksi_aggchain::Node;
 use ksi_aggtree::Items;
 use ksi_imprint::{Bytes, Compress, Imprint};
 use ksi_order::{OrderFault, Ordered, Stop, time};
@@ -55,7 +55,7 @@ pub(crate) struct Loading<C: Compress> {
     least_time: u64,
     second: u64,
     root: Imprint,
-    items: Vec<Item>,
+    items: Vec<Node>,
     left: usize,
     alloc: Global,
     compress: PhantomData<C>,
@@ -199,7 +199,7 @@ impl<C: Compress> Loading<C> {
         &mut self,
         second: u64,
         root: Imprint,
-        items: Vec<Item>,
+        items: Vec<Node>,
     ) -> Result<(), Stop<JournalFault>>
         requires { second < 2 ^ 63 }
         ensures { Steps (Ok (closed self.old (record { second = second; root = root; items = items.items }))) self.new result }
@@ -242,7 +242,7 @@ impl<C: Compress> Loading<C> {
     }
 
     /// The last item of a second: memory is taken for it only where the tree has the root.
-    fn finish(&mut self, item: Item) -> Result<(), Stop<JournalFault>>
+    fn finish(&mut self, item: Node) -> Result<(), Stop<JournalFault>>
         requires left { self.old.left ≤ 1 }
         requires low { item.level ≤ 239 }
         ensures read { Steps (finished C.image self.old (with_item self.old.current item)) self.new result }

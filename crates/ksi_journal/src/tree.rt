@@ -2,14 +2,14 @@ ghost use Rattle.std.specs.Prelude.{◌≡◌, ◌<◌, ◌≤◌, ◌+◌, ◌-
 ghost use Rattle.ksi_split.specs.Powers.{IsSplit};
 ghost use Rattle.ksi_aggtree.specs.Rounds.{item_at, tree_from, tree_of};
 
-use ksi_aggchain::Item;
+use ksi_aggchain::Node;
 use ksi_aggtree::laws::one_round;
 use ksi_imprint::Compress;
 use ksi_split::split;
 
 /// The tree of items and a last one behind them, together at most 65,536, of levels to 239. It takes no memory, and tells
 /// what the tree is before there is room for the last.
-pub(crate) fn tree<C: Compress>(items: &[Item], last: &Item) -> Item
+pub(crate) fn tree<C: Compress>(items: &[Node], last: &Node) -> Node
     requires few { length items.now < 65536 }
     requires low { (k : ℕ) → (item_at items.now k).level ≤ 239 }
     requires last { last.now.level ≤ 239 }
@@ -19,7 +19,7 @@ pub(crate) fn tree<C: Compress>(items: &[Item], last: &Item) -> Item
 }
 
 /// The tree of the `count` items from `first`, of which there are at most 2^`height`.
-fn part<C: Compress>(items: &[Item], last: &Item, first: usize, count: usize, height: u8) -> Item
+fn part<C: Compress>(items: &[Node], last: &Node, first: usize, count: usize, height: u8) -> Node
     requires some { 0 < count }
     requires within { first + count ≤ length items.now + 1 }
     requires few { count ≤ 2 ^ height }
@@ -38,11 +38,11 @@ fn part<C: Compress>(items: &[Item], last: &Item, first: usize, count: usize, he
     let right = part::<C>(items, last, first + half, count - half, height - 1);
     let level = left.level.max(right.level) + 1;
     let imprint = C::join(left.imprint.bytes(), right.imprint.bytes(), level);
-    Item { imprint, level }
+    Node { imprint, level }
 }
 
 /// The item at a place, behind the others the last.
-fn leaf(items: &[Item], last: &Item, place: usize) -> Item
+fn leaf(items: &[Node], last: &Node, place: usize) -> Node
     requires within { place ≤ length items.now }
     requires low { (k : ℕ) → (item_at items.now k).level ≤ 239 }
     requires last { last.now.level ≤ 239 }

@@ -1,5 +1,5 @@
 use crate::same::same;
-use ksi_aggchain::{Item, LevelFault, Link, Sibling, climb, shape};
+use ksi_aggchain::{LevelFault, Link, Node, Sibling, climb, shape};
 use ksi_imprint::{Bytes, Compress, Imprint, NoMemory, Sha, Tiny};
 use ksi_split::Side;
 use ksi_split::Side::{Left, Right};
@@ -70,7 +70,7 @@ fn links_lead_to_the_joins_by_hand(rt: HostRuntime) -> Result<(), Fail> {
     let second = Sha::join(b"name", first.bytes(), 9);
     let imprint = Sha::join(second.bytes(), b"data", 11);
     let links = three_kinds(rt.alloc(), abc)?;
-    let item = Item { imprint, level: 11 };
+    let item = Node { imprint, level: 11 };
     same(&rt, "three", climb::<Sha>(start, 5, &links), Ok(item));
     Ok(())
 }
@@ -124,7 +124,7 @@ fn the_level_255_is_reached(rt: HostRuntime) {
     let imprint = Sha::join(Imprint::ZERO.bytes(), start.bytes(), 255);
     let level = 255;
     let climbed = climb::<Sha>(start, 0, &[link(Right, 254, Imprint::ZERO)]);
-    same(&rt, "255", climbed, Ok(Item { imprint, level }));
+    same(&rt, "255", climbed, Ok(Node { imprint, level }));
 }
 
 fn named(first: u8) -> Imprint {
@@ -136,8 +136,8 @@ fn sums_of_links(rt: HostRuntime) {
     let imprint = named(0x0f);
     let climbed = climb::<Tiny>(named(0x05), 0, &[link(Left, 0, named(0x07))]);
     // 5 and 7, the level 1 and the first byte of both imprints, which is 1
-    same(&rt, "one", climbed, Ok(Item { imprint, level: 1 }));
+    same(&rt, "one", climbed, Ok(Node { imprint, level: 1 }));
     let level = 255;
     let climbed = climb::<Tiny>(imprint, level, &[]);
-    same(&rt, "none", climbed, Ok(Item { imprint, level }));
+    same(&rt, "none", climbed, Ok(Node { imprint, level }));
 }

@@ -1,13 +1,13 @@
 use crate::same::same;
-use ksi_aggchain::{Item, Link};
+use ksi_aggchain::{Link, Node};
 use ksi_aggtree::{Entries, Entry, ItemPath, Origin};
 use ksi_imprint::{Compress, Imprint, NoMemory, Sha};
 use ksi_split::Side;
 use std::alloc::Global;
 use std::process::Abort;
 
-fn item(level: u8, bytes: &[u8]) -> Item {
-    Item {
+fn item(level: u8, bytes: &[u8]) -> Node {
+    Node {
         imprint: Sha::of(bytes),
         level,
     }
@@ -95,7 +95,7 @@ fn are_links(links: &Option<ItemPath>) -> bool {
 
 fn has_tree(rt: &impl Abort, entries: &Entries<Sha>) {
     let root = Sha::join(Sha::of(b"a").bytes(), Sha::of(b"b").bytes(), 3);
-    let item = Item {
+    let item = Node {
         imprint: root,
         level: 3,
     };
@@ -114,7 +114,7 @@ fn the_tree_of_items_from_anywhere(rt: HostRuntime) {
 }
 
 /// The candidate and the root of no items.
-fn of_none(alloc: Global) -> Option<(Imprint, Option<Item>)> {
+fn of_none(alloc: Global) -> Option<(Imprint, Option<Node>)> {
     match Entries::<Sha>::new(alloc) {
         Ok(none) => Some((none.candidate(), none.root())),
         Err(_) => None,

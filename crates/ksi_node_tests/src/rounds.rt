@@ -1,7 +1,7 @@
 ghost use Rattle.std.specs.Prelude.{◌≡◌, ◌<◌, ◌≤◌, length};
 
 use crate::same::same;
-use ksi_aggchain::{Item, Link, shape};
+use ksi_aggchain::{Link, Node, shape};
 use ksi_aggtree::{AddRefusal, Builder, ItemPath, Steps};
 use ksi_imprint::{Compress, Imprint, NoMemory, Sha, Tiny};
 use ksi_split::Side;
@@ -12,18 +12,18 @@ use std::process::Abort;
 use std::sync::ledger::{Blank, Ledger};
 
 /// The item of the hash of these bytes.
-fn item(level: u8, bytes: &[u8]) -> Item
+fn item(level: u8, bytes: &[u8]) -> Node
     ensures { result.level ≡ level }
 {
-    Item {
+    Node {
         imprint: Sha::of(bytes),
         level,
     }
 }
 
 /// The join of two imprints at a level, by hand.
-fn joined(left: Imprint, right: Imprint, level: u8) -> Item {
-    Item {
+fn joined(left: Imprint, right: Imprint, level: u8) -> Node {
+    Node {
         imprint: Sha::join(left.bytes(), right.bytes(), level),
         level,
     }
@@ -78,7 +78,7 @@ fn path_counted(round: &Builder<Sha>, k: usize) -> Option<ItemPath> {
     }
 }
 
-fn item_of(round: &Builder<Sha>, k: usize) -> Option<Item> {
+fn item_of(round: &Builder<Sha>, k: usize) -> Option<Node> {
     if k < round.count() {
         Some(round.item(k))
     } else {
@@ -196,7 +196,7 @@ fn full(alloc: Global) -> Result<Builder<Tiny>, AddRefusal> {
     Ok(round)
 }
 
-fn level_of(root: Option<Item>) -> Option<u8> {
+fn level_of(root: Option<Node>) -> Option<u8> {
     match root {
         Some(root) => Some(root.level),
         None => None,

@@ -3,7 +3,7 @@ ghost use Rattle.ksi_schedule.specs.Plans.{InRange};
 ghost use Rattle.ksi_schedule.specs.Events.{IsEvent};
 
 use crate::same::same;
-use ksi_aggchain::Item;
+use ksi_aggchain::Node;
 use ksi_imprint::{Compress, Imprint, Sha};
 use ksi_schedule::read_schedule;
 use ksi_signature::{AggregationChain, read};
@@ -212,7 +212,7 @@ fn keeps(world: &World<Sha>, root: Imprint) -> bool {
 /// Whether the imprint is the only item.
 fn is_alone(one: &KeptSecond, imprint: Imprint) -> bool {
     match one.items.as_slice() {
-        [item] => *item == Item { imprint, level: 0 },
+        [item] => *item == Node { imprint, level: 0 },
         _ => false,
     }
 }

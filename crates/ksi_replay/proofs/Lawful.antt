@@ -4,7 +4,7 @@ use Rattle.std.specs.List.{AllByRecursion}
 use Rattle.std.proofs.lemmas.List.{append_assoc}
 use Rattle.ksi_imprint.specs.Imprints.{IsImprint, zero_imprint}
 use Rattle.ksi_tlv.specs.Spelling.{AreBytes}
-use Rattle.ksi_aggchain.specs.declared.item.Item.{Item}
+use Rattle.ksi_aggchain.specs.declared.node.Node.{Node}
 use Rattle.ksi_aggtree.specs.Rounds.{item_at, tree_of}
 use Rattle.ksi_schedule.specs.declared.event.Event.{Event}
 use Rattle.ksi_schedule.specs.Plans.{PlanState}
@@ -96,11 +96,11 @@ are_publications from (x ∷ xs) times imprints = (record { early = times.1; imp
 
 -- A KEPT SECOND
 
-are_items : (items : List Item) → ((k : ℕ) → (item_at items k).level ≤ 239) → AllByRecursion (λ item. IsImprint item.imprint) items → AllByRecursion IsItem items
+are_items : (items : List Node) → ((k : ℕ) → (item_at items k).level ≤ 239) → AllByRecursion (λ item. IsImprint item.imprint) items → AllByRecursion IsItem items
 are_items [] low imprints = tt
 are_items (item ∷ items) low imprints = (record { imprint = imprints.0; level = low 0 }, are_items items (λ k. low (suc k)) imprints.1)
 
-rooted : (image : List ℕ → List ℕ) (root : List ℕ) (items : List Item) → root ≢ zero_imprint → 1 ≤ length items → (tree_of image items).imprint ≡ root → IsRootOf image items root
+rooted : (image : List ℕ → List ℕ) (root : List ℕ) (items : List Node) → root ≢ zero_imprint → 1 ≤ length items → (tree_of image items).imprint ≡ root → IsRootOf image items root
 rooted image root [] real some tree = absurd (omega (arith, some))
 rooted image root (item ∷ items) real some tree = (real, tree)
 

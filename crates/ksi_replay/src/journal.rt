@@ -7,7 +7,7 @@ ghost use Rattle.ksi_world.specs.Validity.{EachKept, IsKept};
 ghost use Rattle.ksi_journal.specs.Journal.{IsIssued, IsSecond};
 ghost use Rattle.ksi_replay.specs.Journals.{journal_of, second_of};
 
-use ksi_aggchain::Item;
+use ksi_aggchain::Node;
 use ksi_imprint::{Bytes, Compress, Imprint, NoMemory};
 use ksi_journal::laws::are_bytes;
 use ksi_journal::{Journal, Second};
@@ -94,7 +94,7 @@ fn push_issued(
 }
 
 /// All are imprints, as their type keeps it.
-fn imprints_in(items: &[Item])
+fn imprints_in(items: &[Node])
     ensures { AllByRecursion (λ item. IsImprint item.imprint) items.now }
 {
     'items: for item in items {

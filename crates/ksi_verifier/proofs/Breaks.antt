@@ -7,7 +7,7 @@ use Rattle.std.proofs.lemmas.Bool.Decides.{not_from_Decides}
 use Rattle.ksi_imprint.specs.Imprints.{zero_imprint}
 use Rattle.ksi_aggchain.specs.Links.{PlainLink}
 use Rattle.ksi_aggchain.specs.Climbing.{Climbs, climbed}
-use Rattle.ksi_aggchain.specs.declared.item.Item.{Item}
+use Rattle.ksi_aggchain.specs.declared.node.Node.{Node}
 use Rattle.ksi_aggchain.specs.declared.climbing.LevelFault.{LevelFault}
 use Rattle.ksi_aggchain.specs.declared.climbing.LevelFault.TheVariants.{Over}
 use Rattle.ksi_verifier.specs.declared.refusal.Refusal.{Refusal}
@@ -20,20 +20,20 @@ use Rattle.ksi_verifier.proofs.Passing.{good}
 use Rattle.ksi_verifier.proofs.Levels.{tops_both}
 
 -- the first chain of a list that does not state the imprint of the item at its place
-record FirstBreak (items : List Item) (chains : List PlainChain) (j : ℕ) (computed stated : List ℕ) : Type 0 where
-  item : Item
+record FirstBreak (items : List Node) (chains : List PlainChain) (j : ℕ) (computed stated : List ℕ) : Type 0 where
+  item : Node
   chain : PlainChain
   has_item : slice_get items j ≡ Some item
   has_chain : slice_get chains j ≡ Some chain
   is_computed : computed ≡ item.imprint
   is_stated : stated ≡ chain.input
   differ : stated ≢ computed
-  first : (i : ℕ) (below : Item) (next : PlainChain) → i < j → slice_get items i ≡ Some below → slice_get chains i ≡ Some next → next.input ≡ below.imprint
+  first : (i : ℕ) (below : Node) (next : PlainChain) → i < j → slice_get items i ≡ Some below → slice_get chains i ≡ Some next → next.input ≡ below.imprint
 
-module _ (below : Item) (items : List Item) (chain : PlainChain) (chains : List PlainChain) (computed stated : List ℕ) where
+module _ (below : Node) (items : List Node) (chain : PlainChain) (chains : List PlainChain) (computed stated : List ℕ) where
   before : (j : ℕ) → chain.input ≡ below.imprint → FirstBreak items chains j computed stated
-      → (i : ℕ) (other : Item) (next : PlainChain) → i < suc j → slice_get (below ∷ items) i ≡ Some other → slice_get (chain ∷ chains) i ≡ Some next → next.input ≡ other.imprint
-  before j same f zero other next lt a b = let x : below ≡ other = cc in let y : chain ≡ next = cc in ap (λ (c : PlainChain). c.input) (sym y) ∙ (same ∙ ap (λ (z : Item). z.imprint) x)
+      → (i : ℕ) (other : Node) (next : PlainChain) → i < suc j → slice_get (below ∷ items) i ≡ Some other → slice_get (chain ∷ chains) i ≡ Some next → next.input ≡ other.imprint
+  before j same f zero other next lt a b = let x : below ≡ other = cc in let y : chain ≡ next = cc in ap (λ (c : PlainChain). c.input) (sym y) ∙ (same ∙ ap (λ (z : Node). z.imprint) x)
   before j same f (suc i) other next lt a b = f.first i other next (omega (arith, lt)) a b
 
   pushed : (j : ℕ) → chain.input ≡ below.imprint → FirstBreak items chains j computed stated → FirstBreak (below ∷ items) (chain ∷ chains) (suc j) computed stated
@@ -77,15 +77,15 @@ module _ (below : Item) (items : List Item) (chain : PlainChain) (chains : List 
   input_of f = let there = f.has_chain in let is : chain ≡ f.chain = cc in f.is_stated ∙ ap (λ (c : PlainChain). c.input) (sym is)
 
   imprint_of : FirstBreak (below ∷ items) (chain ∷ chains) 0 computed stated → computed ≡ below.imprint
-  imprint_of f = let there = f.has_item in let is : below ≡ f.item = cc in f.is_computed ∙ ap (λ (x : Item). x.imprint) (sym is)
+  imprint_of f = let there = f.has_item in let is : below ≡ f.item = cc in f.is_computed ∙ ap (λ (x : Node). x.imprint) (sym is)
 
 abbrev failed : Refusal → Result (Unit {0}) Refusal
 failed refusal = Err refusal
 
-abbrev Broken : ℕ → ℕ → List Item → List PlainChain → List ℕ → List ℕ → Type 0
+abbrev Broken : ℕ → ℕ → List Node → List PlainChain → List ℕ → List ℕ → Type 0
 Broken n k items chains computed stated = (j : ℕ) × (k ≡ n + j) × FirstBreak items chains j computed stated
 
-breaks_both : (n : ℕ) (items : List Item) (chains : List PlainChain) (k : ℕ) (computed stated : List ℕ) → (unbroken n items chains ≡ failed (ChainBreak k computed stated)) ↔ Broken n k items chains computed stated
+breaks_both : (n : ℕ) (items : List Node) (chains : List PlainChain) (k : ℕ) (computed stated : List ℕ) → (unbroken n items chains ≡ failed (ChainBreak k computed stated)) ↔ Broken n k items chains computed stated
 breaks_both n [] [] k computed stated = (λ e. absurd cc, λ h. absurd (let there = h.2.has_item in cc))
 breaks_both n [] (chain ∷ chains) k computed stated = (λ e. absurd cc, λ h. absurd (let there = h.2.has_item in cc))
 breaks_both n (below ∷ items) [] k computed stated = (λ e. absurd cc, λ h. absurd (let there = h.2.has_chain in cc))
@@ -122,15 +122,15 @@ higher_at : (chains : List PlainChain) (j : ℕ) → slice_get (higher_chains ch
 higher_at [] j = refl
 higher_at (chain ∷ chains) j = let s : suc j ≡ j + 1 = omega arith in ap (slice_get (chain ∷ chains)) s
 
-abbrev ends : Refusal → Result Item Refusal
+abbrev ends : Refusal → Result Node Refusal
 ends refusal = Err refusal
 
-then_fails : (r : Result (Unit {0}) Refusal) (top : Item) (refusal : Refusal) → ((r >> good top) ≡ ends refusal) ↔ (r ≡ failed refusal)
+then_fails : (r : Result (Unit {0}) Refusal) (top : Node) (refusal : Refusal) → ((r >> good top) ≡ ends refusal) ↔ (r ≡ failed refusal)
 then_fails (Ok tt) top refusal = (λ e. absurd cc, λ e. absurd cc)
 then_fails (Err other) top refusal = (λ e. let is : other ≡ refusal = cc in ap failed is, λ e. let is : other ≡ refusal = cc in ap ends is)
 
 module _ (image : List ℕ → List ℕ) where
-  abbrev lists : Refusal → Result (List Item) Refusal
+  abbrev lists : Refusal → Result (List Node) Refusal
   lists refusal = Err refusal
 
   -- levels that pass 255 are no break
@@ -139,26 +139,26 @@ module _ (image : List ℕ → List ℕ) where
   no_break n level (chain ∷ chains) k computed stated e =
       of (λ top. no_break (n + 1) top.level chains k computed stated) (climbed image 0 (record { imprint = chain.input; level = level }) chain.links) e
     where
-      put : Item → Result (List Item) Refusal → Result (List Item) Refusal
+      put : Node → Result (List Node) Refusal → Result (List Node) Refusal
       put top r = r >>= λ higher. good (top ∷ higher)
 
-      behind : (top : Item) (r : Result (List Item) Refusal) → (r ≡ lists (ChainBreak k computed stated) → ⊥) → put top r ≡ lists (ChainBreak k computed stated) → ⊥
+      behind : (top : Node) (r : Result (List Node) Refusal) → (r ≡ lists (ChainBreak k computed stated) → ⊥) → put top r ≡ lists (ChainBreak k computed stated) → ⊥
       behind top (Ok higher) none f = absurd cc
       behind top (Err refusal) none f = none (let is : refusal ≡ ChainBreak k computed stated = cc in ap lists is)
 
-      of : ((top : Item) → tops image (n + 1) top.level chains ≡ lists (ChainBreak k computed stated) → ⊥) → (r : Result Item LevelFault)
+      of : ((top : Node) → tops image (n + 1) top.level chains ≡ lists (ChainBreak k computed stated) → ⊥) → (r : Result Node LevelFault)
           → (or_level n r >>= λ top. put top (tops image (n + 1) top.level chains)) ≡ lists (ChainBreak k computed stated) → ⊥
       of none (Ok top) f = behind top (tops image (n + 1) top.level chains) (none top) f
       of none (Err (Over link high)) f = absurd cc
 
-  module _ (climbs : (start top : Item) (links : List PlainLink) → (climbed image 0 start links ≡ Ok top) ↔ Climbs image start links top) (chains : List PlainChain) (k : ℕ) (computed stated : List ℕ) where
-    abbrev after : List Item → Result Item Refusal
+  module _ (climbs : (start top : Node) (links : List PlainLink) → (climbed image 0 start links ≡ Ok top) ↔ Climbs image start links top) (chains : List PlainChain) (k : ℕ) (computed stated : List ℕ) where
+    abbrev after : List Node → Result Node Refusal
     after items = unbroken 1 items (higher_chains chains) >> good (last_item (at_level_zero zero_imprint) items)
 
     there : (j : ℕ) → k ≡ j + 1 → slice_get (higher_chains chains) j ≡ slice_get chains k
     there j is = higher_at chains j ∙ ap (slice_get chains) (sym is)
 
-    fails : (r : Result (List Item) Refusal) → tops image 0 0 chains ≡ r → (r >>= after) ≡ ends (ChainBreak k computed stated) → BreaksAt image chains k computed stated
+    fails : (r : Result (List Node) Refusal) → tops image 0 0 chains ≡ r → (r >>= after) ≡ ends (ChainBreak k computed stated) → BreaksAt image chains k computed stated
     fails (Ok items) is e =
         let at = (breaks_both 1 items (higher_chains chains) k computed stated).0 ((then_fails (unbroken 1 items (higher_chains chains)) (last_item (at_level_zero zero_imprint) items) (ChainBreak k computed stated)).0 e) in
         let j = at.0 in
@@ -194,7 +194,7 @@ module _ (image : List ℕ → List ℕ) where
           first = λ i other next lt a b. h.first i other next lt a (sym (higher_at chains i) ∙ b);
         } in
         let broken = (breaks_both 1 h.items (higher_chains chains) k computed stated).1 (h.below, omega (arith, h.above), f) in
-        ap (λ (r : Result (List Item) Refusal). r >>= after) is ∙ (then_fails (unbroken 1 h.items (higher_chains chains)) (last_item (at_level_zero zero_imprint) h.items) (ChainBreak k computed stated)).1 broken
+        ap (λ (r : Result (List Node) Refusal). r >>= after) is ∙ (then_fails (unbroken 1 h.items (higher_chains chains)) (last_item (at_level_zero zero_imprint) h.items) (ChainBreak k computed stated)).1 broken
 
     pub joined_broken : (joined_chains image chains ≡ ends (ChainBreak k computed stated)) ↔ BreaksAt image chains k computed stated
     joined_broken = (λ e. fails (tops image 0 0 chains) refl e, comes)

@@ -7,7 +7,7 @@ use Rattle.std.proofs.lemmas.Bool.Decides.{Decides-eqb}
 use Rattle.std.proofs.lemmas.List.{length-map}
 use Rattle.ksi_aggchain.specs.Links.{PlainLink}
 use Rattle.ksi_aggchain.specs.Climbing.{Climbs, climbed}
-use Rattle.ksi_aggchain.specs.declared.item.Item.{Item}
+use Rattle.ksi_aggchain.specs.declared.node.Node.{Node}
 use Rattle.ksi_aggchain.specs.declared.climbing.LevelFault.{LevelFault}
 use Rattle.ksi_aggchain.specs.declared.climbing.LevelFault.TheVariants.{Over}
 use Rattle.ksi_signature.specs.Values.{Aggregation}
@@ -56,22 +56,22 @@ times_both first chains = each_both (same_time first) (λ chain. chain.time ≡ 
 
 -- ---- V4 and V5
 
-or_level_both : (k : ℕ) (r : Result Item LevelFault) (top : Item) → (or_level k r ≡ Ok top) ↔ (r ≡ Ok top)
-or_level_both k (Ok x) top = (λ e. let is : x ≡ top = cc in ap (λ (y : Item). Ok y) is, λ e. let is : x ≡ top = cc in ap (λ (y : Item). Ok y) is)
+or_level_both : (k : ℕ) (r : Result Node LevelFault) (top : Node) → (or_level k r ≡ Ok top) ↔ (r ≡ Ok top)
+or_level_both k (Ok x) top = (λ e. let is : x ≡ top = cc in ap (λ (y : Node). Ok y) is, λ e. let is : x ≡ top = cc in ap (λ (y : Node). Ok y) is)
 or_level_both k (Err (Over link level)) top = (λ e. absurd cc, λ e. absurd cc)
 
-module _ (image : List ℕ → List ℕ) (climbs : (start top : Item) (links : List PlainLink) → (climbed image 0 start links ≡ Ok top) ↔ Climbs image start links top) where
-  abbrev from_input : PlainChain → ℕ → Item
+module _ (image : List ℕ → List ℕ) (climbs : (start top : Node) (links : List PlainLink) → (climbed image 0 start links ≡ Ok top) ↔ Climbs image start links top) where
+  abbrev from_input : PlainChain → ℕ → Node
   from_input chain level = record { imprint = chain.input; level = level }
 
-  pub top_both : (k level : ℕ) (chain : PlainChain) (top : Item) → (top_of image k level chain ≡ Ok top) ↔ Climbs image (from_input chain level) chain.links top
+  pub top_both : (k level : ℕ) (chain : PlainChain) (top : Node) → (top_of image k level chain ≡ Ok top) ↔ Climbs image (from_input chain level) chain.links top
   top_both k level chain top =
       let named = or_level_both k (climbed image 0 (from_input chain level) chain.links) top in
       let climb = climbs (from_input chain level) top chain.links in
       (λ e. climb.0 (named.0 e), λ h. named.1 (climb.1 h))
 
   -- from the item below the chains from k on
-  pub lead_both : (k : ℕ) (below : Item) (chains : List PlainChain) (top : Item) → (links_from image k None below chains ≡ Ok top) ↔ ChainsLead image below chains top
+  pub lead_both : (k : ℕ) (below : Node) (chains : List PlainChain) (top : Node) → (links_from image k None below chains ≡ Ok top) ↔ ChainsLead image below chains top
   lead_both k below [] top = (λ e. ok_is below top e, λ is. ap good is)
   lead_both k below (chain ∷ chains) top = (forward (λ next. lead_both (k + 1) next chains top), backward (λ next. lead_both (k + 1) next chains top))
     where
@@ -81,32 +81,32 @@ module _ (image : List ℕ → List ℕ) (climbs : (start top : Item) (links : L
       joins_both : Passes joins ↔ (chain.input ≡ below.imprint)
       joins_both = need_same chain.input below.imprint (ChainBreak k below.imprint chain.input)
 
-      above : Item → List Item → Result (Unit {0}) Refusal
+      above : Node → List Node → Result (Unit {0}) Refusal
       above next higher = unbroken (k + 1) (next ∷ higher) chains
 
-      put : Item → Result (List Item) Refusal → Result (List Item) Refusal
+      put : Node → Result (List Node) Refusal → Result (List Node) Refusal
       put next r = r >>= λ higher. Ok (next ∷ higher)
 
-      more : Item → Result (List Item) Refusal
+      more : Node → Result (List Node) Refusal
       more next = tops image (k + 1) next.level chains
 
-      ends : List Item → Result Item Refusal
+      ends : List Node → Result Node Refusal
       ends items = unbroken k (below ∷ items) (chain ∷ chains) >> Ok (last_item below items)
 
       -- the same with the first chain apart
-      moved : (next : Item) (r : Result (List Item) Refusal) → (put next r >>= ends) ≡ (r >>= λ higher. ((joins >> above next higher) >> good (last_item next higher)))
+      moved : (next : Node) (r : Result (List Node) Refusal) → (put next r >>= ends) ≡ (r >>= λ higher. ((joins >> above next higher) >> good (last_item next higher)))
       moved next (Ok higher) = refl
       moved next (Err refusal) = refl
 
-      apart : (next : Item) → top_of image k below.level chain ≡ Ok next
+      apart : (next : Node) → top_of image k below.level chain ≡ Ok next
           → links_from image k None below (chain ∷ chains) ≡ (more next >>= λ higher. ((joins >> above next higher) >> good (last_item next higher)))
-      apart next e = ap (λ (r : Result Item Refusal). (r >>= λ x. put x (more x)) >>= ends) e ∙ moved next (more next)
+      apart next e = ap (λ (r : Result Node Refusal). (r >>= λ x. put x (more x)) >>= ends) e ∙ moved next (more next)
 
       start : chain.input ≡ below.imprint → from_input chain below.level ≡ below
       start same = ap (λ (x : List ℕ). record { imprint = x; level = below.level }) same
 
       Higher : Type 0
-      Higher = (next : Item) → (links_from image (k + 1) None next chains ≡ Ok top) ↔ ChainsLead image next chains top
+      Higher = (next : Node) → (links_from image (k + 1) None next chains ≡ Ok top) ↔ ChainsLead image next chains top
 
       forward : Higher → links_from image k None below (chain ∷ chains) ≡ Ok top → ChainsLead image below (chain ∷ chains) top
       forward higher_both e =
@@ -119,12 +119,12 @@ module _ (image : List ℕ → List ℕ) (climbs : (start top : Item) (links : L
           let both = (then_both joins (above next higher) tt).0 checks.0 in
           let same = joins_both.0 both.0 in
           let leads = (bind_both (more next) (λ items. (above next items >> good (last_item next items))) top).1 (higher, rest.1, (then_both (above next higher) (good (last_item next higher)) top).1 (both.1, checks.1)) in
-          (next, same, subst (λ (from : Item). Climbs image from chain.links next) (start same) ((top_both k below.level chain next).0 first.1), (higher_both next).0 leads)
+          (next, same, subst (λ (from : Node). Climbs image from chain.links next) (start same) ((top_both k below.level chain next).0 first.1), (higher_both next).0 leads)
 
       backward : Higher → ChainsLead image below (chain ∷ chains) top → links_from image k None below (chain ∷ chains) ≡ Ok top
       backward higher_both h =
           let next = h.0 in
-          let first = (top_both k below.level chain next).1 (subst (λ (from : Item). Climbs image from chain.links next) (sym (start h.1)) h.2) in
+          let first = (top_both k below.level chain next).1 (subst (λ (from : Node). Climbs image from chain.links next) (sym (start h.1)) h.2) in
           let rest = (bind_both (more next) (λ items. (above next items >> good (last_item next items))) top).0 ((higher_both next).1 h.3) in
           let higher = rest.0 in
           let checks = (then_both (above next higher) (good (last_item next higher)) top).0 rest.2 in
@@ -132,13 +132,13 @@ module _ (image : List ℕ → List ℕ) (climbs : (start top : Item) (links : L
           apart next first
           ∙ (bind_both (more next) (λ items. ((joins >> above next items) >> good (last_item next items))) top).1 (higher, rest.1, (then_both (joins >> above next higher) (good (last_item next higher)) top).1 (both, checks.1))
 
-  pub joined_both : (chain : PlainChain) (chains : List PlainChain) (top : Item) → (joined_chains image (chain ∷ chains) ≡ Ok top) ↔ ChainsLead image (at_level_zero chain.input) (chain ∷ chains) top
+  pub joined_both : (chain : PlainChain) (chains : List PlainChain) (top : Node) → (joined_chains image (chain ∷ chains) ≡ Ok top) ↔ ChainsLead image (at_level_zero chain.input) (chain ∷ chains) top
   joined_both chain chains top =
       let lead = lead_both 0 (at_level_zero chain.input) (chain ∷ chains) top in
       let same = start_joins image chain chains in
       (λ e. lead.0 (same ∙ e), λ h. sym same ∙ lead.1 h)
 
-  pub some_joined : (chains : List PlainChain) (top : Item) → 0 < length chains → (joined_chains image chains ≡ Ok top) ↔ ChainsLead image (at_level_zero (first_chain chains).input) chains top
+  pub some_joined : (chains : List PlainChain) (top : Node) → 0 < length chains → (joined_chains image chains ≡ Ok top) ↔ ChainsLead image (at_level_zero (first_chain chains).input) chains top
   some_joined [] top some = absurd (omega (arith, some))
   some_joined (chain ∷ chains) top some = joined_both chain chains top
 
@@ -153,7 +153,7 @@ module _ (image : List ℕ → List ℕ) (climbs : (start top : Item) (links : L
       order : Result (Unit {0}) Refusal
       order = index_order 0 chain chains
 
-      timed : Item → Result Aggregated Refusal
+      timed : Node → Result Aggregated Refusal
       timed item = same_times chain.time 0 all >> Ok (record { time = chain.time; item = item })
 
       forward : chains_checked image all ≡ Ok aggregation → IsAggregated image all chain.input aggregation.time aggregation.item

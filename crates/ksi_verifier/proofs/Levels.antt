@@ -6,7 +6,7 @@ use Rattle.std.proofs.lemmas.Bool.{ltb-false}
 use Rattle.std.specs.Prelude.{nat_lt, if◌then◌else◌}
 use Rattle.ksi_aggchain.specs.Links.{PlainLink, level_above}
 use Rattle.ksi_aggchain.specs.Climbing.{Climbs, PassesLevels, level_after, above, climbed}
-use Rattle.ksi_aggchain.specs.declared.item.Item.{Item}
+use Rattle.ksi_aggchain.specs.declared.node.Node.{Node}
 use Rattle.ksi_aggchain.specs.declared.climbing.LevelFault.{LevelFault}
 use Rattle.ksi_aggchain.specs.declared.climbing.LevelFault.TheVariants.{Over}
 use Rattle.ksi_verifier.specs.declared.refusal.Refusal.{Refusal}
@@ -52,12 +52,12 @@ passed_above level place high links more h =
 abbrev bad : {A : Type 0} → Refusal → Result A Refusal
 bad refusal = Err refusal
 
-put_err : (top : Item) (r : Result (List Item) Refusal) (refusal : Refusal) → ((r >>= λ higher. good (top ∷ higher)) ≡ Err refusal) ↔ (r ≡ Err refusal)
+put_err : (top : Node) (r : Result (List Node) Refusal) (refusal : Refusal) → ((r >>= λ higher. good (top ∷ higher)) ≡ Err refusal) ↔ (r ≡ Err refusal)
 put_err top (Ok higher) refusal = (λ e. absurd cc, λ e. absurd cc)
 put_err top (Err other) refusal = (λ e. let is : other ≡ refusal = cc in ap bad is, λ e. let is : other ≡ refusal = cc in ap bad is)
 
-module _ (image : List ℕ → List ℕ) (climbs : (start top : Item) (links : List PlainLink) → (climbed image 0 start links ≡ Ok top) ↔ Climbs image start links top) where
-  pub tops_both : (k level : ℕ) (chains : List PlainChain) (items : List Item) → (tops image k level chains ≡ Ok items) ↔ HaveTops image level chains items
+module _ (image : List ℕ → List ℕ) (climbs : (start top : Node) (links : List PlainLink) → (climbed image 0 start links ≡ Ok top) ↔ Climbs image start links top) where
+  pub tops_both : (k level : ℕ) (chains : List PlainChain) (items : List Node) → (tops image k level chains ≡ Ok items) ↔ HaveTops image level chains items
   tops_both k level [] [] = (λ e. tt, λ h. refl)
   tops_both k level [] (top ∷ items) = (λ e. absurd cc, λ h. absurd h)
   tops_both k level (chain ∷ chains) [] = (none, λ h. absurd h)
@@ -69,7 +69,7 @@ module _ (image : List ℕ → List ℕ) (climbs : (start top : Item) (links : L
           let is = rest.2 in cc
   tops_both k level (chain ∷ chains) (top ∷ items) = (forward (tops_both (k + 1) top.level chains items), backward (tops_both (k + 1) top.level chains items))
     where
-      next : Item → Result (List Item) Refusal
+      next : Node → Result (List Node) Refusal
       next x = tops image (k + 1) x.level chains >>= λ higher. good (x ∷ higher)
 
       forward : (tops image (k + 1) top.level chains ≡ Ok items) ↔ HaveTops image top.level chains items → tops image k level (chain ∷ chains) ≡ Ok (top ∷ items) → HaveTops image level (chain ∷ chains) (top ∷ items)
@@ -81,7 +81,7 @@ module _ (image : List ℕ → List ℕ) (climbs : (start top : Item) (links : L
           let is : x ≡ top = cc in
           let others : rest.0 ≡ items = cc in
           let reached : top_of image k level chain ≡ Ok top = first.1 ∙ ap good is in
-          let above : tops image (k + 1) top.level chains ≡ Ok items = ap (λ (y : Item). tops image (k + 1) y.level chains) (sym is) ∙ (rest.1 ∙ ap good others) in
+          let above : tops image (k + 1) top.level chains ≡ Ok items = ap (λ (y : Node). tops image (k + 1) y.level chains) (sym is) ∙ (rest.1 ∙ ap good others) in
           ((top_both image climbs k level chain top).0 reached, higher.0 above)
 
       backward : (tops image (k + 1) top.level chains ≡ Ok items) ↔ HaveTops image top.level chains items → HaveTops image level (chain ∷ chains) (top ∷ items) → tops image k level (chain ∷ chains) ≡ Ok (top ∷ items)
@@ -123,14 +123,14 @@ passes_here level chain chains place high h =
     let is : h.chain ≡ chain = cc in
     subst (λ (c : PlainChain). PassesLevels level c.links place high) is (subst (λ (l : ℕ). PassesLevels l h.chain.links place high) same h.passes)
 
-module _ (image : List ℕ → List ℕ) (climbs : (start top : Item) (links : List PlainLink) → (climbed image 0 start links ≡ Ok top) ↔ Climbs image start links top)
-    (over : (start : Item) (links : List PlainLink) (place high : ℕ) → (climbed image 0 start links ≡ Err (Over place high)) ↔ PassesLevels start.level links place high)
-    (rise : (start top : Item) (links : List PlainLink) → Climbs image start links top → top.level ≡ level_after start.level links) where
-  low_top : (place : ℕ) (links : List PlainLink) (item top : Item) → item.level ≤ 255 → climbed image place item links ≡ Ok top → top.level ≤ 255
-  low_top place [] item top low e = let is : item ≡ top = cc in subst (λ (y : Item). y.level ≤ 255) is low
+module _ (image : List ℕ → List ℕ) (climbs : (start top : Node) (links : List PlainLink) → (climbed image 0 start links ≡ Ok top) ↔ Climbs image start links top)
+    (over : (start : Node) (links : List PlainLink) (place high : ℕ) → (climbed image 0 start links ≡ Err (Over place high)) ↔ PassesLevels start.level links place high)
+    (rise : (start top : Node) (links : List PlainLink) → Climbs image start links top → top.level ≡ level_after start.level links) where
+  low_top : (place : ℕ) (links : List PlainLink) (item top : Node) → item.level ≤ 255 → climbed image place item links ≡ Ok top → top.level ≤ 255
+  low_top place [] item top low e = let is : item ≡ top = cc in subst (λ (y : Node). y.level ≤ 255) is low
   low_top place (link ∷ links) item top low e = of (low_top (place + 1) links (above image item link) top) (nat_lt 255 (level_above item.level link)) refl e
     where
-      next : Item
+      next : Node
       next = above image item link
 
       of : (next.level ≤ 255 → climbed image (place + 1) next links ≡ Ok top → top.level ≤ 255) → (t : Bool) → nat_lt 255 (level_above item.level link) ≡ t
@@ -138,7 +138,7 @@ module _ (image : List ℕ → List ℕ) (climbs : (start top : Item) (links : L
       of rest true is e = absurd cc
       of rest false is e = rest (ltb-false _ _ is) e
 
-  abbrev from : PlainChain → ℕ → Item
+  abbrev from : PlainChain → ℕ → Node
   from chain level = record { imprint = chain.input; level = level }
 
   -- chain k, of chains from chain n on
@@ -146,7 +146,7 @@ module _ (image : List ℕ → List ℕ) (climbs : (start top : Item) (links : L
   PassesAt n level chains k place high = (j : ℕ) × (k ≡ n + j) × PassesIn level chains j place high
 
   module _ (n level : ℕ) (chain : PlainChain) (chains : List PlainChain) (k place high : ℕ) (low : level ≤ 255) where
-    here_over : (p h : ℕ) → climbed image 0 (from chain level) chain.links ≡ Err (Over p h) → bad {A = List Item} (Level n p h) ≡ Err (Level k place high) → PassesAt n level (chain ∷ chains) k place high
+    here_over : (p h : ℕ) → climbed image 0 (from chain level) chain.links ≡ Err (Over p h) → bad {A = List Node} (Level n p h) ≡ Err (Level k place high) → PassesAt n level (chain ∷ chains) k place high
     here_over p h e f =
         let a : n ≡ k = cc in
         let b : p ≡ place = cc in
@@ -154,7 +154,7 @@ module _ (image : List ℕ → List ℕ) (climbs : (start top : Item) (links : L
         let passes = subst (λ (q : ℕ). PassesLevels level chain.links place q) c (subst (λ (q : ℕ). PassesLevels level chain.links q h) b ((over (from chain level) chain.links p h).0 e)) in
         (0, omega (arith, a), here_passes level chain chains place high low passes)
 
-    back_over : (p h j : ℕ) → climbed image 0 (from chain level) chain.links ≡ Err (Over p h) → k ≡ n + j → PassesIn level (chain ∷ chains) j place high → bad {A = List Item} (Level n p h) ≡ Err (Level k place high)
+    back_over : (p h j : ℕ) → climbed image 0 (from chain level) chain.links ≡ Err (Over p h) → k ≡ n + j → PassesIn level (chain ∷ chains) j place high → bad {A = List Node} (Level n p h) ≡ Err (Level k place high)
     back_over p h zero e is q =
         let other = (over (from chain level) chain.links place high).1 (passes_here level chain chains place high q) in
         let a : n ≡ k = omega (arith, is) in
@@ -167,7 +167,7 @@ module _ (image : List ℕ → List ℕ) (climbs : (start top : Item) (links : L
         let within = q.low in
         absurd (omega arith)
 
-    back_on : (j : ℕ) (top : Item) → climbed image 0 (from chain level) chain.links ≡ Ok top → top.level ≡ level_after level chain.links
+    back_on : (j : ℕ) (top : Node) → climbed image 0 (from chain level) chain.links ≡ Ok top → top.level ≡ level_after level chain.links
         → ((j : ℕ) → k ≡ n + 1 + j → PassesIn top.level chains j place high → tops image (n + 1) top.level chains ≡ Err (Level k place high))
         → k ≡ n + j → PassesIn level (chain ∷ chains) j place high → tops image (n + 1) top.level chains ≡ Err (Level k place high)
     back_on zero top e reached higher is q = absurd (let other = (over (from chain level) chain.links place high).1 (passes_here level chain chains place high q) in cc)
@@ -177,11 +177,11 @@ module _ (image : List ℕ → List ℕ) (climbs : (start top : Item) (links : L
   tops_over n level [] k place high low = (λ e. absurd cc, λ h. absurd (let there = h.2.there in cc))
   tops_over n level (chain ∷ chains) k place high low = of (λ top. tops_over (n + 1) top.level chains k place high) (climbed image 0 (from chain level) chain.links) refl
     where
-      next : Item → Result (List Item) Refusal
+      next : Node → Result (List Node) Refusal
       next top = tops image (n + 1) top.level chains >>= λ higher. good (top ∷ higher)
 
-      of : ((top : Item) → top.level ≤ 255 → (tops image (n + 1) top.level chains ≡ Err (Level k place high)) ↔ PassesAt (n + 1) top.level chains k place high)
-          → (r : Result Item LevelFault) → climbed image 0 (from chain level) chain.links ≡ r → ((or_level n r >>= next) ≡ Err (Level k place high)) ↔ PassesAt n level (chain ∷ chains) k place high
+      of : ((top : Node) → top.level ≤ 255 → (tops image (n + 1) top.level chains ≡ Err (Level k place high)) ↔ PassesAt (n + 1) top.level chains k place high)
+          → (r : Result Node LevelFault) → climbed image 0 (from chain level) chain.links ≡ r → ((or_level n r >>= next) ≡ Err (Level k place high)) ↔ PassesAt n level (chain ∷ chains) k place high
       of higher (Err (Over p h)) e = (here_over n level chain chains k place high low p h e, λ q. back_over n level chain chains k place high low p h q.0 e q.1 q.2)
       of higher (Ok top) e =
           let reached : top.level ≡ level_after level chain.links = rise (from chain level) top chain.links ((climbs (from chain level) top chain.links).0 e) in
@@ -198,9 +198,9 @@ module _ (image : List ℕ → List ℕ) (climbs : (start top : Item) (links : L
       let both = tops_over 0 0 chains k place high (omega arith) in
       (λ e. (let at = both.0 e in let is : at.0 ≡ k = omega (arith, at.1) in subst (λ (j : ℕ). PassesIn 0 chains j place high) is at.2), λ h. both.1 (k, omega arith, h))
 
-module _ (image : List ℕ → List ℕ) (climbs : (start top : Item) (links : List PlainLink) → (climbed image 0 start links ≡ Ok top) ↔ Climbs image start links top)
-    (together : (start middle top : Item) (links more : List PlainLink) → Climbs image start links middle → Climbs image middle more top → Climbs image start (links ++ more) top) where
-  pub lead_climbs : (chains : List PlainChain) (start top : Item) → ChainsLead image start chains top → Climbs image start (all_links chains) top
-  lead_climbs [] start top is = subst (λ (x : Item). Climbs image start [] x) is ((climbs start start []).0 refl)
+module _ (image : List ℕ → List ℕ) (climbs : (start top : Node) (links : List PlainLink) → (climbed image 0 start links ≡ Ok top) ↔ Climbs image start links top)
+    (together : (start middle top : Node) (links more : List PlainLink) → Climbs image start links middle → Climbs image middle more top → Climbs image start (links ++ more) top) where
+  pub lead_climbs : (chains : List PlainChain) (start top : Node) → ChainsLead image start chains top → Climbs image start (all_links chains) top
+  lead_climbs [] start top is = subst (λ (x : Node). Climbs image start [] x) is ((climbs start start []).0 refl)
   lead_climbs (chain ∷ chains) start top h =
       subst (λ (links : List PlainLink). Climbs image start links top) (sym (flat_map-cons chain_links chain chains)) (together start h.0 top chain.links (all_links chains) h.2 (lead_climbs chains h.0 top h.3))

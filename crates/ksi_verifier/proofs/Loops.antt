@@ -8,7 +8,7 @@ use Rattle.ksi_imprint.specs.Imprints.{zero_imprint}
 use Rattle.ksi_split.specs.declared.side.Side.{Side}
 use Rattle.ksi_aggchain.specs.Links.{PlainLink}
 use Rattle.ksi_aggchain.specs.Owned.{plain_links}
-use Rattle.ksi_aggchain.specs.declared.item.Item.{Item}
+use Rattle.ksi_aggchain.specs.declared.node.Node.{Node}
 use Rattle.ksi_aggchain.specs.declared.link.Link.{Link}
 use Rattle.ksi_verifier.specs.declared.refusal.Refusal.{Refusal}
 use Rattle.ksi_verifier.specs.declared.refusal.Refusal.TheVariants.{ChainBreak}
@@ -39,18 +39,18 @@ order_ends k (a ∷ b ∷ rest) few = absurd (omega arith)
 -- ---- links
 
 -- the refusal found so far, or what is left to do
-abbrev pub settled : Option Refusal → Result Item Refusal → Result Item Refusal
+abbrev pub settled : Option Refusal → Result Node Refusal → Result Node Refusal
 settled None rest = rest
 settled (Some refusal) rest = Err refusal
 
 -- the chains from k on, from the item below them and the break found so far
-abbrev pub links_from : (List ℕ → List ℕ) → ℕ → Option Refusal → Item → List PlainChain → Result Item Refusal
+abbrev pub links_from : (List ℕ → List ℕ) → ℕ → Option Refusal → Node → List PlainChain → Result Node Refusal
 links_from image k broken below chains = tops image k below.level chains >>= λ items. settled broken (unbroken k (below ∷ items) chains >> Ok (last_item below items))
 
 same_bytes : (xs : List ℕ) → bytes_eq xs xs ≡ true
 same_bytes xs = (bytes_eq-Decides xs xs).1 refl
 
-break_settles : (broken : Option Refusal) (k : ℕ) (computed stated : List ℕ) (rest : Result (Unit {0}) Refusal) (all : Result Item Refusal)
+break_settles : (broken : Option Refusal) (k : ℕ) (computed stated : List ℕ) (rest : Result (Unit {0}) Refusal) (all : Result Node Refusal)
     → settled (or_break broken k computed stated) (rest >> all) ≡ settled broken ((need (bytes_eq stated computed) (ChainBreak k computed stated) >> rest) >> all)
 break_settles (Some refusal) k computed stated rest all = refl
 break_settles None k computed stated rest all = of (bytes_eq stated computed)
@@ -63,42 +63,42 @@ module _ (image : List ℕ → List ℕ) where
   pub start_joins : (chain : PlainChain) (rest : List PlainChain) → links_from image 0 None (at_level_zero chain.input) (chain ∷ rest) ≡ joined_chains image (chain ∷ rest)
   start_joins chain rest = of (top_of image 0 0 chain)
     where
-      start : Item
+      start : Node
       start = at_level_zero chain.input
 
-      higher_tops : Item → Result (List Item) Refusal
+      higher_tops : Node → Result (List Node) Refusal
       higher_tops top = tops image 1 top.level rest >>= λ higher. Ok (top ∷ higher)
 
-      of_higher : (top : Item) (r : Result (List Item) Refusal)
+      of_higher : (top : Node) (r : Result (List Node) Refusal)
           → ((r >>= λ higher. Ok (top ∷ higher)) >>= λ items. settled None (unbroken 0 (start ∷ items) (chain ∷ rest) >> Ok (last_item start items)))
           ≡ ((r >>= λ higher. Ok (top ∷ higher)) >>= λ items. unbroken 1 items rest >> Ok (last_item (at_level_zero zero_imprint) items))
       of_higher top (Ok higher) = ap (λ (b : Bool). (need b (ChainBreak 0 chain.input chain.input) >> unbroken 1 (top ∷ higher) rest) >> Ok (last_item top higher)) (same_bytes chain.input)
       of_higher top (Err refusal) = refl
 
-      of : (r : Result Item Refusal)
+      of : (r : Result Node Refusal)
           → ((r >>= higher_tops) >>= λ items. settled None (unbroken 0 (start ∷ items) (chain ∷ rest) >> Ok (last_item start items)))
           ≡ ((r >>= higher_tops) >>= λ items. unbroken 1 items rest >> Ok (last_item (at_level_zero zero_imprint) items))
       of (Ok top) = of_higher top (tops image 1 top.level rest)
       of (Err refusal) = refl
 
   -- the lowest chain is reached with its own input hash
-  pub links_start : (start : Item) (chain : PlainChain) (chains rest : List PlainChain) → chains ≡ chain ∷ rest → start ≡ at_level_zero chain.input
+  pub links_start : (start : Node) (chain : PlainChain) (chains rest : List PlainChain) → chains ≡ chain ∷ rest → start ≡ at_level_zero chain.input
       → links_from image 0 None start chains ≡ joined_chains image chains
   links_start start chain chains rest is starts =
-      ap (λ (below : Item). links_from image 0 None below chains) starts ∙ ap (links_from image 0 None (at_level_zero chain.input)) is
+      ap (λ (below : Node). links_from image 0 None below chains) starts ∙ ap (links_from image 0 None (at_level_zero chain.input)) is
       ∙ start_joins chain rest ∙ ap (joined_chains image) (sym is)
 
   -- one chain further
-  pub links_go : (k : ℕ) (broken broken' : Option Refusal) (below next : Item) (stated : List ℕ) (chain : PlainChain) (chains rest : List PlainChain) (all climbed : Result Item Refusal) → chains ≡ chain ∷ rest
+  pub links_go : (k : ℕ) (broken broken' : Option Refusal) (below next : Node) (stated : List ℕ) (chain : PlainChain) (chains rest : List PlainChain) (all climbed : Result Node Refusal) → chains ≡ chain ∷ rest
       → stated ≡ chain.input → broken' ≡ or_break broken k below.imprint stated → climbed ≡ top_of image k below.level chain → climbed ≡ Ok next → links_from image k broken below chains ≡ all
       → links_from image (k + 1) broken' next rest ≡ all
   links_go k broken broken' below next stated chain chains rest all climbed is input b climbs reached so_far =
       ap (λ (o : Option Refusal). links_from image (k + 1) o next rest) (b ∙ ap (or_break broken k below.imprint) input)
       ∙ of (tops image (k + 1) next.level rest)
-      ∙ ap (λ (r : Result Item Refusal). (r >>= λ top. tops image (k + 1) top.level rest >>= λ higher. Ok (top ∷ higher)) >>= λ items. settled broken (unbroken k (below ∷ items) (chain ∷ rest) >> Ok (last_item below items))) (sym reached ∙ climbs)
+      ∙ ap (λ (r : Result Node Refusal). (r >>= λ top. tops image (k + 1) top.level rest >>= λ higher. Ok (top ∷ higher)) >>= λ items. settled broken (unbroken k (below ∷ items) (chain ∷ rest) >> Ok (last_item below items))) (sym reached ∙ climbs)
       ∙ ap (links_from image k broken below) (sym is) ∙ so_far
     where
-      of : (r : Result (List Item) Refusal)
+      of : (r : Result (List Node) Refusal)
           → (r >>= λ items. settled (or_break broken k below.imprint chain.input) (unbroken (k + 1) (next ∷ items) rest >> Ok (last_item next items)))
           ≡ ((r >>= λ higher. Ok (next ∷ higher)) >>= λ items. settled broken (unbroken k (below ∷ items) (chain ∷ rest) >> Ok (last_item below items)))
       of (Ok higher) = break_settles broken k below.imprint chain.input (unbroken (k + 1) (next ∷ higher) rest) (Ok (last_item next higher))

@@ -11,7 +11,7 @@ use Rattle.ksi_split.specs.Trees.{climb_links}
 use Rattle.ksi_split.specs.Ways.{NamesSecond}
 use Rattle.ksi_aggchain.specs.Links.{PlainLink}
 use Rattle.ksi_aggchain.specs.Climbing.{Climbs, climbed}
-use Rattle.ksi_aggchain.specs.declared.item.Item.{Item}
+use Rattle.ksi_aggchain.specs.declared.node.Node.{Node}
 use Rattle.ksi_calchain.specs.Climbing.{ClimbsCalendar, calendar_join}
 use Rattle.ksi_calchain.specs.Sides.{sides_from_top}
 use Rattle.ksi_publications.specs.Finding.{find}
@@ -66,7 +66,7 @@ refused_both : (r : Result ℕ Refusal) (t : ℕ) → (or_refused r ≡ Accepted
 refused_both (Ok second) t = (λ e. let is : second ≡ t = cc in ap (λ (x : ℕ). Ok x) is, λ e. let is : second ≡ t = cc in ap (λ (x : ℕ). Accepted x) is)
 refused_both (Err refusal) t = (λ e. absurd cc, λ e. absurd cc)
 
-named_both : (item : Item) (calendar : Calendar) (t : ℕ) → (calendar_second item calendar ≡ Ok t) ↔ ((calendar.input ≡ item.imprint) × (calendar.input ≢ zero_imprint) × (second_at calendar.publication (sides_from_top calendar.links) ≡ Ok t))
+named_both : (item : Node) (calendar : Calendar) (t : ℕ) → (calendar_second item calendar ≡ Ok t) ↔ ((calendar.input ≡ item.imprint) × (calendar.input ≢ zero_imprint) × (second_at calendar.publication (sides_from_top calendar.links) ≡ Ok t))
 named_both item calendar t =
     let held = need (not (bytes_eq calendar.input zero_imprint)) MissedSecond in
     let both = then_both (need (bytes_eq calendar.input item.imprint) (CalendarInput item.imprint calendar.input)) (held >> second_named calendar) t in
@@ -126,7 +126,7 @@ module _ (image : List ℕ → List ℕ) (aggregation : Aggregated) (calendar : 
 
 -- ---- V1 to V14
 
-first_is : (image : List ℕ → List ℕ) (chains : List PlainChain) (hash : List ℕ) (time : ℕ) (item : Item) → IsAggregated image chains hash time item → (first_chain chains).input ≡ hash
+first_is : (image : List ℕ → List ℕ) (chains : List PlainChain) (hash : List ℕ) (time : ℕ) (item : Node) → IsAggregated image chains hash time item → (first_chain chains).input ≡ hash
 first_is image [] hash time item h = absurd (let some = h.some in omega arith)
 first_is image (chain ∷ chains) hash time item h = h.lead.1
 
@@ -134,7 +134,7 @@ some_chain : (image : List ℕ → List ℕ) (chains : List PlainChain) (aggrega
 some_chain image [] aggregation e held = absurd (let is : record { time = 0; item = at_level_zero zero_imprint } ≡ aggregation = ok_is _ aggregation e in held (sym (ap (λ (a : Aggregated). a.item.imprint) is)))
 some_chain image (chain ∷ chains) aggregation e held = omega arith
 
-module _ (image : List ℕ → List ℕ) (climbs : (start top : Item) (links : List PlainLink) → (climbed image 0 start links ≡ Ok top) ↔ Climbs image start links top)
+module _ (image : List ℕ → List ℕ) (climbs : (start top : Node) (links : List PlainLink) → (climbed image 0 start links ≡ Ok top) ↔ Climbs image start links top)
     (climbs_calendar : (start top : List ℕ) (links : List (TreeLink (List ℕ))) → ClimbsCalendar image start links top ↔ (top ≡ climb_links (calendar_join image) start links))
     (seconds : (p t : ℕ) (sides : List Side) → (second_at p sides ≡ Ok t) ↔ NamesSecond p sides t) (signature : Signature) (hash : List ℕ) (publications : List (ℕ × List ℕ)) (t : ℕ) where
   abbrev chains : List PlainChain

@@ -4,7 +4,7 @@ use Rattle.std.specs.List.{AllByRecursion}
 use Rattle.ksi_imprint.specs.Imprints.{zero_imprint}
 use Rattle.ksi_split.specs.Ways.{NamesSecond}
 use Rattle.ksi_aggchain.specs.Climbing.{Climbs}
-use Rattle.ksi_aggchain.specs.declared.item.Item.{Item}
+use Rattle.ksi_aggchain.specs.declared.node.Node.{Node}
 use Rattle.ksi_calchain.specs.Climbing.{ClimbsCalendar}
 use Rattle.ksi_calchain.specs.Sides.{sides_from_top}
 use Rattle.ksi_publications.specs.Finding.{find}
@@ -20,12 +20,12 @@ AreNested (below ∷ chain ∷ chains) = (chain.index ≡ without_last below.ind
 
 -- chains lead from an item to an item, one after the other: each states the imprint that it is reached with as its input
 -- hash, and its links lead on from there
-abbrev pub ChainsLead : (List ℕ → List ℕ) → Item → List PlainChain → Item → Type 0
+abbrev pub ChainsLead : (List ℕ → List ℕ) → Node → List PlainChain → Node → Type 0
 ChainsLead image start [] top = start ≡ top
-ChainsLead image start (chain ∷ chains) top = (next : Item) × (chain.input ≡ start.imprint) × Climbs image start chain.links next × ChainsLead image next chains top
+ChainsLead image start (chain ∷ chains) top = (next : Node) × (chain.input ≡ start.imprint) × Climbs image start chain.links next × ChainsLead image next chains top
 
 -- the chains hold together, are of one time, and lead from a hash at level 0 to an item
-pub record IsAggregated (image : List ℕ → List ℕ) (chains : List PlainChain) (hash : List ℕ) (time : ℕ) (item : Item) : Type 0 where
+pub record IsAggregated (image : List ℕ → List ℕ) (chains : List PlainChain) (hash : List ℕ) (time : ℕ) (item : Node) : Type 0 where
   pub some : 0 < length chains
   pub order : AreNested chains
   pub shapes : AllByRecursion (λ chain. last_part chain.index ≡ chain_shape chain) chains
@@ -39,7 +39,7 @@ IsRecord time root published = (published.time ≡ time) × (published.hash ≡ 
 -- The chains lead from the hash to the root of second t, the calendar chain leads from there to the root of the calendar
 -- that was published, its sides name t, and each time that is stated is t.
 pub record IsAccepted (image : List ℕ → List ℕ) (signature : Signature) (hash : List ℕ) (publications : List (ℕ × List ℕ)) (t : ℕ) : Type 0 where
-  pub item : Item
+  pub item : Node
   pub chains : IsAggregated image (plain_chains signature.chains) hash t item
   pub calendar : Calendar
   pub has_calendar : signature.calendar ≡ Some calendar

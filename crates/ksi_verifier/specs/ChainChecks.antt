@@ -4,7 +4,7 @@ use Rattle.std.specs.Prelude.{ℕ, ◌+◌, ◌==◌, List, [], ◌∷◌, Some,
 use Rattle.std.specs.Str.{bytes_eq}
 use Rattle.ksi_imprint.specs.Imprints.{zero_imprint}
 use Rattle.ksi_aggchain.specs.Climbing.{climbed}
-use Rattle.ksi_aggchain.specs.declared.item.Item.{Item}
+use Rattle.ksi_aggchain.specs.declared.node.Node.{Node}
 use Rattle.ksi_aggchain.specs.declared.climbing.LevelFault.{LevelFault}
 use Rattle.ksi_aggchain.specs.declared.climbing.LevelFault.TheVariants.{Over}
 use Rattle.ksi_signature.specs.declared.signature.Signature.{Signature}
@@ -39,17 +39,17 @@ index_shapes k chains = each index_shape k chains
 
 -- ---- V4: no level passes 255
 
-abbrev pub or_level : ℕ → Result Item LevelFault → Result Item Refusal
+abbrev pub or_level : ℕ → Result Node LevelFault → Result Node Refusal
 or_level k (Ok top) = Ok top
 or_level k (Err (Over link level)) = Err (Level k link level)
 
 -- the item that chain k leads to, from its own input hash at a level
-abbrev pub top_of : (List ℕ → List ℕ) → ℕ → ℕ → PlainChain → Result Item Refusal
+abbrev pub top_of : (List ℕ → List ℕ) → ℕ → ℕ → PlainChain → Result Node Refusal
 top_of image k level chain = or_level k (climbed image 0 (record { imprint = chain.input; level = level }) chain.links)
 
 -- the items that the chains from k on lead to, each from its own input hash, and from the level that the chain below it
 -- leads to
-abbrev pub tops : (List ℕ → List ℕ) → ℕ → ℕ → List PlainChain → Result (List Item) Refusal
+abbrev pub tops : (List ℕ → List ℕ) → ℕ → ℕ → List PlainChain → Result (List Node) Refusal
 tops image k level [] = Ok []
 tops image k level (chain ∷ chains) = do
   top ← top_of image k level chain
@@ -59,18 +59,18 @@ tops image k level (chain ∷ chains) = do
 -- ---- V5: the input hash of each next chain is the imprint that the chain below it leads to
 
 -- the items that lie below the chains from k on
-abbrev pub unbroken : ℕ → List Item → List PlainChain → Result (Unit {0}) Refusal
+abbrev pub unbroken : ℕ → List Node → List PlainChain → Result (Unit {0}) Refusal
 unbroken k (below ∷ items) (chain ∷ chains) = need (bytes_eq chain.input below.imprint) (ChainBreak k below.imprint chain.input) >> unbroken (k + 1) items chains
 unbroken k items [] = Ok tt
 unbroken k [] (chain ∷ chains) = Ok tt
 
 -- the uppermost of items, or the one given where there are none
-abbrev pub last_item : Item → List Item → Item
+abbrev pub last_item : Node → List Node → Node
 last_item below [] = below
 last_item below (item ∷ items) = last_item item items
 
 -- V4, then V5: the item that all chains lead to
-abbrev pub joined_chains : (List ℕ → List ℕ) → List PlainChain → Result Item Refusal
+abbrev pub joined_chains : (List ℕ → List ℕ) → List PlainChain → Result Node Refusal
 joined_chains image chains = do
   items ← tops image 0 0 chains
   unbroken 1 items (higher_chains chains)

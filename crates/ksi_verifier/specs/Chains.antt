@@ -4,7 +4,7 @@ use Rattle.ksi_imprint.specs.Imprints.{zero_imprint}
 use Rattle.ksi_aggchain.specs.Links.{PlainLink}
 use Rattle.ksi_aggchain.specs.Owned.{plain_links}
 use Rattle.ksi_aggchain.specs.Shapes.{shape_of}
-use Rattle.ksi_aggchain.specs.declared.item.Item.{Item}
+use Rattle.ksi_aggchain.specs.declared.node.Node.{Node}
 use Rattle.ksi_signature.specs.Values.{Aggregation}
 
 -- a chain's time, index and input hash, and its links, the lowest first
@@ -32,7 +32,7 @@ higher_chains [] = []
 higher_chains (chain ∷ chains) = chains
 
 -- an imprint at the level where the first chain begins
-abbrev pub at_level_zero : List ℕ → Item
+abbrev pub at_level_zero : List ℕ → Node
 at_level_zero imprint = record { imprint = imprint; level = 0 }
 
 -- ---- indexes

@@ -3,7 +3,7 @@ use Rattle.std.specs.Prelude.{◌≡◌, ◌≢◌, ℕ, ◌+◌, ◌<◌, ◌�
 use Rattle.std.specs.List.{flat_map}
 use Rattle.ksi_aggchain.specs.Links.{PlainLink}
 use Rattle.ksi_aggchain.specs.Climbing.{Climbs, PassesLevels, level_after}
-use Rattle.ksi_aggchain.specs.declared.item.Item.{Item}
+use Rattle.ksi_aggchain.specs.declared.node.Node.{Node}
 use Rattle.ksi_verifier.specs.Chains.{PlainChain, without_last}
 
 -- the links of chains, one chain after the other
@@ -14,7 +14,7 @@ abbrev pub all_links : List PlainChain → List PlainLink
 all_links chains = flat_map chain_links chains
 
 -- each chain leads to its item, from its own input hash, and from the level of the item that the chain below it leads to
-abbrev pub HaveTops : (List ℕ → List ℕ) → ℕ → List PlainChain → List Item → Type 0
+abbrev pub HaveTops : (List ℕ → List ℕ) → ℕ → List PlainChain → List Node → Type 0
 HaveTops image level [] [] = Unit {0}
 HaveTops image level [] (top ∷ items) = ⊥
 HaveTops image level (chain ∷ chains) [] = ⊥
@@ -34,18 +34,18 @@ pub record PassesIn (start : ℕ) (chains : List PlainChain) (k place high : ℕ
 -- the input hash of chain k is the first that is not the imprint which the chain below it leads to, where no level passes
 -- 255
 pub record BreaksAt (image : List ℕ → List ℕ) (chains : List PlainChain) (k : ℕ) (computed stated : List ℕ) : Type 0 where
-  pub items : List Item
+  pub items : List Node
   pub tops : HaveTops image 0 chains items
   pub below : ℕ
   pub above : k ≡ below + 1
-  pub item : Item
+  pub item : Node
   pub has_item : slice_get items below ≡ Some item
   pub chain : PlainChain
   pub has_chain : slice_get chains k ≡ Some chain
   pub is_computed : computed ≡ item.imprint
   pub is_stated : stated ≡ chain.input
   pub differ : stated ≢ computed
-  pub first : (j : ℕ) (other : Item) (next : PlainChain) → j < below → slice_get items j ≡ Some other → slice_get chains (j + 1) ≡ Some next → next.input ≡ other.imprint
+  pub first : (j : ℕ) (other : Node) (next : PlainChain) → j < below → slice_get items j ≡ Some other → slice_get chains (j + 1) ≡ Some next → next.input ≡ other.imprint
 
 -- the index of the chain above chain k is the first that is not that of the chain below it without its last part; at this
 -- place they first differ, and there they have these parts: an index that has ended has none

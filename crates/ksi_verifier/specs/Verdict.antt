@@ -5,7 +5,7 @@ use Rattle.ksi_imprint.specs.Imprints.{zero_imprint}
 use Rattle.ksi_split.specs.Parts.{second_at}
 use Rattle.ksi_split.specs.Trees.{climb_links}
 use Rattle.ksi_split.specs.declared.fault.ShapeFault.{ShapeFault}
-use Rattle.ksi_aggchain.specs.declared.item.Item.{Item}
+use Rattle.ksi_aggchain.specs.declared.node.Node.{Node}
 use Rattle.ksi_calchain.specs.Climbing.{calendar_join}
 use Rattle.ksi_calchain.specs.Sides.{sides_from_top}
 use Rattle.ksi_publications.specs.Finding.{find}
@@ -42,7 +42,7 @@ second_named calendar = or_shape (second_at calendar.publication (sides_from_top
 
 -- V8, V9 and V10: the calendar chain goes on from the item of the chains, which is not that of a missed second, and its
 -- sides name a second
-abbrev pub calendar_second : Item → Calendar → Result ℕ Refusal
+abbrev pub calendar_second : Node → Calendar → Result ℕ Refusal
 calendar_second item calendar = do
   need (bytes_eq calendar.input item.imprint) (CalendarInput item.imprint calendar.input)
   need (not (bytes_eq calendar.input zero_imprint)) MissedSecond

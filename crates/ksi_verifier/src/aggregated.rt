@@ -1,4 +1,4 @@
-use ksi_aggchain::Item;
+use ksi_aggchain::Node;
 
 /// What the aggregation chains of a signature come to.
 #[derive(Clone, Copy, PartialEq, Eq)]
@@ -6,5 +6,5 @@ pub struct Aggregated {
     /// The second that each chain states.
     pub time: u64,
     /// The item that the chains lead to, from the first one's input hash at level 0.
-    pub item: Item,
+    pub item: Node,
 }

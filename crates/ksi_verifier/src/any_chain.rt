@@ -5,7 +5,7 @@ ghost use Rattle.ksi_verifier.specs.ChainChecks.{same_parts};
 
 use crate::index::compare_parts;
 use crate::refusal::Refusal;
-use ksi_aggchain::{Item, LevelFault, climb, shape};
+use ksi_aggchain::{LevelFault, Node, climb, shape};
 use ksi_imprint::{Compress, Imprint};
 use ksi_signature::AggregationChain;
 
@@ -30,7 +30,7 @@ pub(crate) trait AnyChain {
         ensures { result ≡ same_parts k 0 (without_last (plain self.now).index) (plain higher.now).index };
 
     /// The item that the links lead to from the input hash.
-    fn climb<C: Compress>(&self, level: u8) -> Result<Item, LevelFault>
+    fn climb<C: Compress>(&self, level: u8) -> Result<Node, LevelFault>
         ensures { result ≡ climbed C.image 0 (record { imprint = (plain self.now).input; level = level }) (plain self.now).links };
 }
 
@@ -59,7 +59,7 @@ impl AnyChain for AggregationChain {
         compare_parts(k, &parts[..parts.len() - 1], higher.index.as_slice())
     }
 
-    fn climb<C: Compress>(&self, level: u8) -> Result<Item, LevelFault> {
+    fn climb<C: Compress>(&self, level: u8) -> Result<Node, LevelFault> {
         climb::<C>(self.input, level, self.links.as_slice())
     }
 }

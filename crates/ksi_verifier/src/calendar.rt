@@ -3,13 +3,13 @@ ghost use Rattle.std.specs.Prelude.{◌≡◌};
 ghost use Rattle.ksi_verifier.specs.Verdict.{calendar_second, same_second, second_named};
 
 use crate::refusal::Refusal;
-use ksi_aggchain::Item;
+use ksi_aggchain::Node;
 use ksi_calchain::second;
 use ksi_imprint::Imprint;
 use ksi_signature::CalendarChain;
 
 /// V8, V9 and V10: the second that the sides name.
-pub(crate) fn check_calendar(item: &Item, calendar: &CalendarChain) -> Result<u64, Refusal>
+pub(crate) fn check_calendar(item: &Node, calendar: &CalendarChain) -> Result<u64, Refusal>
     ensures { result ≡ calendar_second item.now calendar.now }
 {
     if calendar.input != item.imprint {

@@ -8,7 +8,7 @@ ghost use Rattle.ksi_verifier.specs.Folding.{or_break};
 use crate::aggregated::Aggregated;
 use crate::any_chain::AnyChain;
 use crate::refusal::Refusal;
-use ksi_aggchain::{Item, LevelFault};
+use ksi_aggchain::{LevelFault, Node};
 use ksi_imprint::{Compress, Imprint};
 
 /// V2 to V6: the time of the chains and the item that they lead to.
@@ -64,11 +64,11 @@ fn check_shapes<T: AnyChain>(chains: &[T]) -> Result<(), Refusal>
 }
 
 /// Climbs along all chains once. A level that passes 255 in a higher chain counts before a break that was found below it.
-fn check_links<C: Compress, T: AnyChain>(chains: &[T]) -> Result<Item, Refusal>
+fn check_links<C: Compress, T: AnyChain>(chains: &[T]) -> Result<Node, Refusal>
     requires { 0 < length chains.now }
     ensures { result ≡ joined_chains C.image (map T.plain chains.now) }
 {
-    let mut below = Item {
+    let mut below = Node {
         imprint: chains[0].input(),
         level: 0,
     };
@@ -110,7 +110,7 @@ fn first_break(
 }
 
 /// The item that chain `k` leads to, from its own input hash at a level.
-fn climb_one<C: Compress, T: AnyChain>(k: u64, level: u8, chain: &T) -> Result<Item, Refusal>
+fn climb_one<C: Compress, T: AnyChain>(k: u64, level: u8, chain: &T) -> Result<Node, Refusal>
     ensures { result ≡ top_of C.image k level (T.plain chain.now) }
 {
     match chain.climb::<C>(level) {

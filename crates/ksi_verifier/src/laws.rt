@@ -3,7 +3,7 @@ ghost use Rattle.std.specs.Prelude.{◌≡◌, ◌↔◌, ◌<◌, ℕ, List, le
 ghost use Rattle.ksi_split.specs.Ways.{NamesSecond, PassesLeaf, EndsAbove};
 ghost use Rattle.ksi_split.specs.declared.fault.ShapeFault.TheVariants.{TooMany, TooFew};
 ghost use Rattle.ksi_aggchain.specs.Climbing.{Climbs};
-ghost use Rattle.ksi_aggchain.specs.declared.item.Item.{Item};
+ghost use Rattle.ksi_aggchain.specs.declared.node.Node.{Node};
 ghost use Rattle.ksi_calchain.specs.Sides.{sides_from_top};
 ghost use Rattle.ksi_signature.specs.Values.{Calendar};
 ghost use Rattle.ksi_signature.specs.declared.signature.Signature.{Signature};
@@ -49,7 +49,7 @@ pub fn orders()
 
 /// V4 holds exactly where each chain leads to an item, and fails at the first link of all whose level passes 255.
 pub fn levels()
-    ensures items { (image : List ℕ → List ℕ) (chains : List PlainChain) (items : List Item) →
+    ensures items { (image : List ℕ → List ℕ) (chains : List PlainChain) (items : List Node) →
         (tops image 0 0 chains ≡ Ok items) ↔ HaveTops image 0 chains items }
     ensures over { (image : List ℕ → List ℕ) (chains : List PlainChain) (chain link level : ℕ) →
         (tops image 0 0 chains ≡ Err (Level chain link level)) ↔ PassesIn 0 chains chain link level }
@@ -61,13 +61,13 @@ pub fn levels()
 /// V4 and V5 hold exactly where the chains lead to the item, one after the other; all their links then lead there from the
 /// first one's input hash. V5 fails at the first chain that does not state what the chain below it leads to.
 pub fn joined()
-    ensures leads { (image : List ℕ → List ℕ) (chains : List PlainChain) (item : Item) → 0 < length chains →
+    ensures leads { (image : List ℕ → List ℕ) (chains : List PlainChain) (item : Node) → 0 < length chains →
         (joined_chains image chains ≡ Ok item) ↔
         ChainsLead image (at_level_zero (first_chain chains).input) chains item }
     ensures broken { (image : List ℕ → List ℕ) (chains : List PlainChain) (chain : ℕ) (computed stated : List ℕ) →
         (joined_chains image chains ≡ Err (ChainBreak chain computed stated)) ↔
         BreaksAt image chains chain computed stated }
-    ensures links { (image : List ℕ → List ℕ) (chains : List PlainChain) (start item : Item) →
+    ensures links { (image : List ℕ → List ℕ) (chains : List PlainChain) (start item : Node) →
         ChainsLead image start chains item → Climbs image start (all_links chains) item }
 {
     ksi_aggchain::laws::one_climb();

@@ -8,7 +8,7 @@ use Rattle.std.proofs.lemmas.List.Elements.{All-cons, All-replicate}
 use Rattle.ksi_imprint.specs.Imprints.{IsImprint, zero_imprint}
 use Rattle.ksi_tlv.specs.Spelling.{AreBytes}
 use Rattle.ksi_split.specs.declared.tree_link.TreeLink.{TreeLink}
-use Rattle.ksi_aggchain.specs.declared.item.Item.{Item}
+use Rattle.ksi_aggchain.specs.declared.node.Node.{Node}
 use Rattle.ksi_aggchain.specs.declared.link.Link.{Link}
 use Rattle.ksi_aggchain.specs.declared.link.Sibling.{Sibling}
 use Rattle.ksi_aggchain.specs.declared.link.Sibling.TheVariants as siblings
@@ -39,7 +39,7 @@ module _ (P : List ℕ → Type 0) where
   entries_items [] of = tt
   entries_items (entry ∷ entries) of = (of.0, entries_items entries of.1)
 
-  sealed_items : (image : List ℕ → List ℕ) (root : List ℕ) (sealed : Option (List Entry)) (items : List Item) → sealed_as image root sealed ≡ Some items
+  sealed_items : (image : List ℕ → List ℕ) (root : List ℕ) (sealed : Option (List Entry)) (items : List Node) → sealed_as image root sealed ≡ Some items
       → ((entries : List Entry) → sealed ≡ Some entries → OfEntries P entries) → AllByRecursion (OfItem P) items
   sealed_items image root None items at of = absurd (cc at)
   sealed_items image root (Some entries) items at of = by (bytes_eq (candidate_of image entries) root) at
@@ -69,10 +69,10 @@ module _ (P : List ℕ → Type 0) where
     items_are t root =
         cond_both (bytes_eq root zero_imprint) [] (unwrap_or (lowest of_core 0 plan.cores) []) (AllByRecursion (OfItem P)) (λ missed. tt) (λ real. by (lowest of_core 0 plan.cores) refl)
       where
-        of_core : ℕ → Option (List Item)
+        of_core : ℕ → Option (List Node)
         of_core core = sealed_as image root ((after image plan es).seconds core t).sealed
 
-        by : (o : Option (List Item)) → lowest of_core 0 plan.cores ≡ o → AllByRecursion (OfItem P) (unwrap_or o [])
+        by : (o : Option (List Node)) → lowest of_core 0 plan.cores ≡ o → AllByRecursion (OfItem P) (unwrap_or o [])
         by None none = tt
         by (Some items) some =
             let core = lowest_some of_core 0 plan.cores items some in

@@ -4,7 +4,7 @@ use Rattle.ksi_imprint.specs.Imprints.{zero_imprint}
 use Rattle.ksi_calendar.specs.Calendar.{calendar_path}
 use Rattle.ksi_aggchain.specs.Climbing.{Climbs}
 use Rattle.ksi_aggchain.specs.Owned.{plain_links}
-use Rattle.ksi_aggchain.specs.declared.item.Item.{Item}
+use Rattle.ksi_aggchain.specs.declared.node.Node.{Node}
 use Rattle.ksi_aggchain.specs.declared.link.Link.{Link}
 use Rattle.ksi_signature.specs.declared.above.Above.{Above}
 use Rattle.ksi_signature.specs.declared.above.AboveChain.{AboveChain}
@@ -28,10 +28,10 @@ pub record IsRootOf (image : List ℕ → List ℕ) (plan : PlanState) (w : Worl
 
 -- chains climb from an item to an item, one after the other: each has the imprint that it is reached with as its input,
 -- and its links climb on from there, at the level that was reached
-abbrev pub ChainsClimb : (List ℕ → List ℕ) → (start : Item) → List AboveChain → (top : Item) → Type 0
+abbrev pub ChainsClimb : (List ℕ → List ℕ) → (start : Node) → List AboveChain → (top : Node) → Type 0
 ChainsClimb image start [] top = start ≡ top
 ChainsClimb image start (chain ∷ chains) top =
-    (next : Item) × (chain.input ≡ start.imprint) × Climbs image start (plain_links chain.links) next × ChainsClimb image next chains top
+    (next : Node) × (chain.input ≡ start.imprint) × Climbs image start (plain_links chain.links) next × ChainsClimb image next chains top
 
 -- The text is the signature of the request of this number. Its chains climb from the request's imprint at level 0 to the
 -- root that is kept for its second, which is not the zero imprint. All seconds up to it are kept, and its calendar chain
@@ -42,7 +42,7 @@ pub record IsJoined (image : List ℕ → List ℕ) (plan : PlanState) (w : Worl
   pub links : List Link
   pub above : Above
   pub text_is : text ≡ signature_text (issued asked.second asked.imprint links above)
-  pub top : Item
+  pub top : Node
   pub climbs : ChainsClimb image (record { imprint = asked.imprint; level = 0 }) (own_chain asked.imprint links ∷ above.chains) top
   pub root_is : top.imprint ≡ above.root
   pub kept : kept_root plan w asked.second ≡ Some above.root

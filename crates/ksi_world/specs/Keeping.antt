@@ -2,7 +2,7 @@
 use Rattle.std.specs.Prelude.{◌≡◌, ℕ, if◌then◌else◌, List, [], ◌∷◌, Option, None, option_map, unwrap_or}
 use Rattle.std.specs.Str.{bytes_eq}
 use Rattle.ksi_imprint.specs.Imprints.{zero_imprint}
-use Rattle.ksi_aggchain.specs.declared.item.Item.{Item}
+use Rattle.ksi_aggchain.specs.declared.node.Node.{Node}
 use Rattle.ksi_corenode.specs.CoreState.{CoreState, state_of, held_by}
 use Rattle.ksi_world.specs.declared.kept.KeptSecond.{KeptSecond}
 use Rattle.ksi_world.specs.declared.message.Message.{Message}
@@ -25,10 +25,10 @@ kept_listed kept (t ∷ ts) = kept_before (kept t) (kept_listed kept ts)
 
 module _ (image : List ℕ → List ℕ) where
   -- the sealed items of the first core whose candidate the root is
-  abbrev pub sealed_among : List CoreState → (second : ℕ) → (root : List ℕ) → Option (List Item)
+  abbrev pub sealed_among : List CoreState → (second : ℕ) → (root : List ℕ) → Option (List Node)
   sealed_among cores t root = first_of (λ (core : CoreState). sealed_as image root (state_of core t).sealed) cores
 
-  abbrev pub items_among : List CoreState → (second : ℕ) → (root : List ℕ) → List Item
+  abbrev pub items_among : List CoreState → (second : ℕ) → (root : List ℕ) → List Node
   items_among cores t root = if bytes_eq root zero_imprint then [] else unwrap_or (sealed_among cores t root) []
 
   unfoldable pub second_among : List CoreState → (second : ℕ) → Option KeptSecond

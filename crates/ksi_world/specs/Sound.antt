@@ -1,6 +1,6 @@
 -- What always holds of the world of a plan, whatever happens: bounds on ballots, levels, chains and origins.
 use Rattle.std.specs.Prelude.{◌≡◌, ℕ, zero, suc, ◌+◌, ◌*◌, ◌^◌, ◌<◌, ◌≤◌, if◌then◌else◌, List, [], ◌∷◌, length, slice_get, Some}
-use Rattle.ksi_aggchain.specs.declared.item.Item.{Item}
+use Rattle.ksi_aggchain.specs.declared.node.Node.{Node}
 use Rattle.ksi_aggtree.specs.declared.entries.Entry.{Entry}
 use Rattle.ksi_aggtree.specs.declared.entries.Origin.{Origin}
 use Rattle.ksi_aggtree.specs.declared.entries.Origin.TheVariants as origins
@@ -26,7 +26,7 @@ unfoldable pub depth_of : PlanState → Actor → ℕ
 depth_of plan actor = depth_within plan 8 actor
 
 -- the item may go up from an actor: 16 levels are left for each aggregator above it, and for this one
-abbrev pub IsLow : PlanState → Actor → Item → Type 0
+abbrev pub IsLow : PlanState → Actor → Node → Type 0
 IsLow plan sender item = item.level + 16 * depth_of plan sender ≤ 144
 
 -- the core's ballots are ballots
@@ -50,7 +50,7 @@ pub record IsPost (plan : PlanState) (m : Message) : Type 0 where
 -- THE ITEMS OF A ROUND
 
 -- an item at an actor is of a request that was accepted, or of an aggregator whose parent the actor is
-abbrev pub IsOf : PlanState → (here : Actor) (accepted : ℕ) → Origin → Item → Type 0
+abbrev pub IsOf : PlanState → (here : Actor) (accepted : ℕ) → Origin → Node → Type 0
 IsOf plan here accepted (origins.Request number) item = (number < accepted) × (item.level ≡ 0)
 IsOf plan here accepted (origins.Aggregator from) item = (from < length plan.parents) × (here ≡ parent_of plan from) × IsLow plan (actors.Aggregator from) item
 

@@ -2,7 +2,7 @@
 use Rattle.std.specs.Prelude.{◌≡◌, ◌≢◌, ℕ, ◌<◌, ◌≤◌, List, length, slice_get, Some, IsSome}
 use Rattle.std.specs.List.{AllByRecursion}
 use Rattle.ksi_imprint.specs.Imprints.{zero_imprint}
-use Rattle.ksi_aggchain.specs.declared.item.Item.{Item}
+use Rattle.ksi_aggchain.specs.declared.node.Node.{Node}
 use Rattle.ksi_aggtree.specs.declared.entries.Entry.{Entry}
 use Rattle.ksi_aggtree.specs.Rounds.{tree_of}
 use Rattle.ksi_aggtree.specs.Entries.{items_of}
@@ -31,7 +31,7 @@ pub record IsLinked (image : List ℕ → List ℕ) (plan : PlanState) (w : Worl
   pub entries : List Entry
   pub closed : (w.rounds aggregator message.second).closed ≡ Some entries
   -- the aggregation chains climb from this item, at its level, to the root that the message carries
-  pub top : Item
+  pub top : Node
   pub climbs : ChainsClimb image (tree_of image (items_of entries)) above.chains top
   pub root_is : top.imprint ≡ above.root
   -- the root is held for this second by a core of the plan, and by the sender where that is a core

@@ -9,7 +9,7 @@ ghost use Rattle.ksi_world.specs.Nodes.{AreAggregators, EachAggregator, CanTake,
 use crate::message::{Content, Message};
 use crate::outcome::Outcome;
 use crate::posting::post_round;
-use ksi_aggchain::Item;
+use ksi_aggchain::Node;
 use ksi_aggregator::{Aggregator, NoMemory, Step};
 use ksi_imprint::{Compress, Imprint};
 use ksi_schedule::Plan;
@@ -56,7 +56,7 @@ pub(crate) fn submission<C: Compress>(
     from: u32,
     aggregator: u32,
     second: u64,
-    item: Item,
+    item: Node,
 ) -> Result<Outcome, NoMemory>
     requires there { aggregator < length aggregators.old.items }
     requires planned { aggregator < length plan.now.parents }

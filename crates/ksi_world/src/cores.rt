@@ -9,7 +9,7 @@ ghost use Rattle.ksi_world.specs.Nodes.{AreCores, EachCore, CoreStep, CoreRestar
 use crate::message::Message;
 use crate::outcome::Outcome;
 use crate::posting::post_core;
-use ksi_aggchain::Item;
+use ksi_aggchain::Node;
 use ksi_corenode::{Answer, Core, NoMemory};
 use ksi_imprint::Compress;
 use ksi_schedule::Plan;
@@ -108,7 +108,7 @@ pub(crate) fn submission<C: Compress>(
     from: u32,
     core: u8,
     second: u64,
-    item: Item,
+    item: Node,
 ) -> Result<Outcome, NoMemory>
     requires there { core < length cores.old.items }
     requires level { item.level ≤ 239 }

@@ -7,7 +7,7 @@ ghost use Rattle.ksi_world.specs.Deciding.{decides, ListsTold};
 ghost use Rattle.ksi_world.specs.Keeping.{root_among, sealed_among, items_among, second_among, kept_listed, AreListed};
 
 use crate::message::{Content, Message};
-use ksi_aggchain::Item;
+use ksi_aggchain::Node;
 use ksi_aggtree::Items;
 use ksi_corenode::Core;
 use ksi_imprint::{Compress, Imprint, NoMemory};
@@ -191,7 +191,7 @@ fn sealed_items<'a, C: Compress>(
     cores: &'a [Core<C>],
     second: u64,
     root: &Imprint,
-) -> Option<&'a [Item]>
+) -> Option<&'a [Node]>
     ensures { option_copied result ≡ sealed_among C.image cores.now second root.now }
 {
     'asking: for core in cores {
@@ -207,7 +207,7 @@ fn items_of_root<'a, C: Compress>(
     core: &'a Core<C>,
     second: u64,
     root: &Imprint,
-) -> Option<&'a [Item]>
+) -> Option<&'a [Node]>
     ensures { option_copied result ≡ sealed_as C.image root.now (state_of core.now second).sealed }
 {
     match core.candidate(second) {

@@ -1,4 +1,4 @@
-use ksi_aggchain::Item;
+use ksi_aggchain::Node;
 use ksi_schedule::Actor;
 use ksi_signature::Above;
 use ksi_synod::SynodMessage;
@@ -9,7 +9,7 @@ pub enum Content {
     /// A message of the vote on a second.
     Synod(SynodMessage),
     /// The item of an aggregator's round.
-    Submission(Item),
+    Submission(Node),
     /// What stands above the addressee's item.
     Response(Above),
 }

@@ -14,7 +14,7 @@ use crate::message::{Content, Message};
 use crate::outcome::{Asked, Outcome};
 use crate::published::put_answer;
 use crate::{aggregators, cores};
-use ksi_aggchain::Item;
+use ksi_aggchain::Node;
 use ksi_aggregator::Aggregator;
 use ksi_corenode::Core;
 use ksi_imprint::{Compress, Imprint, NoMemory};
@@ -183,7 +183,7 @@ impl<C: Compress> Nodes<C> {
         from: u32,
         to: u8,
         second: u64,
-        item: Item,
+        item: Node,
     ) -> Result<Outcome, NoMemory>
         requires { (plan : PlanState) × IsTaken plan (Actor.Aggregator from) (Actor.Core to) second (Content.Submission item) self.old }
         ensures ok { IfOk result (λ outcome. (plan : PlanState) → WasTaken C.image plan (Actor.Aggregator from) (Actor.Core to) second (Content.Submission item) self.old self.new outcome) }
@@ -199,7 +199,7 @@ impl<C: Compress> Nodes<C> {
         from: u32,
         to: u32,
         second: u64,
-        item: Item,
+        item: Node,
     ) -> Result<Outcome, NoMemory>
         requires { IsTaken plan.now (Actor.Aggregator from) (Actor.Aggregator to) second (Content.Submission item) self.old }
         ensures ok { IfOk result (WasTaken C.image plan.now (Actor.Aggregator from) (Actor.Aggregator to) second (Content.Submission item) self.old self.new) }

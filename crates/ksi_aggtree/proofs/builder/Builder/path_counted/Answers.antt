@@ -1,6 +1,6 @@
 use Rattle.std.proofs.Common.{◌≡◌, ℕ, ◌+◌, ◌-◌, List, length, ◌∙◌, sym, ap, subst, arith}
 use Rattle.std.proofs.lemmas.Result.{IfOk-weaker}
-use Rattle.ksi_aggchain.specs.declared.item.Item.{Item}
+use Rattle.ksi_aggchain.specs.declared.node.Node.{Node}
 use Rattle.ksi_aggchain.specs.declared.link.Link.{Link}
 use Rattle.ksi_aggchain.specs.Climbing.{Climbs}
 use Rattle.ksi_aggchain.specs.Owned.{plain_links}
@@ -13,7 +13,7 @@ use Rattle.ksi_aggtree.proofs.builder.Builder.path_counted.Goals as goal
 pub beside-requires : goal.beside-requires
 beside-requires g c =
     let rows = c.self.inside.rows in
-    let size = ap (λ (items : List Item). length items) c.self.view_is in
+    let size = ap (λ (items : List Node). length items) c.self.view_is in
     let path = round_path g.C.Compress.image rows.start rows.before rows.items c.args.k (c.count-last.result - 1 + 1) c.self.invariant.0 c.self.invariant.1 c.self.invariant.2 (omega (arith, c.count-last.ensures, size, c.requires)) in
     let count = ap length (c.deref.ensures.value ∙ c.in_ok-others.ensures.path ∙ path) in
     let few = c.self.invariant.2.few in
@@ -25,17 +25,17 @@ returns g c =
     let now = c.args.self.now in
     let k = c.args.k in
     let rows = c.self.inside.rows in
-    let size = ap (λ (items : List Item). length items) c.self.view_is in
+    let size = ap (λ (items : List Node). length items) c.self.view_is in
     let round : IsRound now = subst IsRound c.self.view_is c.self.invariant.2 in
     let few = round.few in
     let others : c.deref.result.now ≡ tree_path image now k = c.deref.ensures.value ∙ c.in_ok-others.ensures.path
     ∙ round_path image rows.start rows.before rows.items k (c.count-last.result - 1 + 1) c.self.invariant.0 c.self.invariant.1 c.self.invariant.2 (omega (arith, c.count-last.ensures, size, c.requires))
-    ∙ ap (λ (items : List Item). tree_path image items k) c.self.view_is in
+    ∙ ap (λ (items : List Node). tree_path image items k) c.self.view_is in
     let item : c.leaf_counted-item.result ≡ item_at now k
-    = c.leaf_counted-item.ensures.leaf ∙ ap (λ (leaf : ℕ → Item). leaf k) (leaves_are rows.start rows.before rows.items c.self.invariant.0 c.self.invariant.1)
-    ∙ ap (λ (items : List Item). item_at items k) c.self.view_is in
+    = c.leaf_counted-item.ensures.leaf ∙ ap (λ (leaf : ℕ → Node). leaf k) (leaves_are rows.start rows.before rows.items c.self.invariant.0 c.self.invariant.1)
+    ∙ ap (λ (items : List Node). item_at items k) c.self.view_is in
     let is : links_from c.leaf_counted-item.result.level c.deref.result.now ≡ chain_of image now k
-    = ap (λ (x : Item). links_from x.level c.deref.result.now) item ∙ ap (links_from (item_at now k).level) others in
+    = ap (λ (x : Node). links_from x.level c.deref.result.now) item ∙ ap (links_from (item_at now k).level) others in
     record {
       links = IfOk-weaker c.beside.result _ _ (λ links h. h ∙ is) c.beside.ensures;
       climbs = IfOk-weaker c.beside.result _ _
@@ -52,6 +52,6 @@ returns g c =
 
 pub returns-in_err-others-clause-most : goal.returns-in_err-others-clause-most
 returns-in_err-others-clause-most g c =
-    let size = ap (λ (items : List Item). length items) c.self.view_is in
+    let size = ap (λ (items : List Node). length items) c.self.view_is in
     let few = c.self.invariant.2.few in
     omega (arith, c.path_counted.ensures.cost 16 (omega (arith, c.count-last.ensures, c.requires, size, few)))

@@ -4,8 +4,8 @@ use Rattle.ksi_split.specs.declared.side.Side.{Side}
 use Rattle.ksi_aggchain.specs.Shapes.{IsShape, left_powers, shape_of}
 use Rattle.ksi_aggchain.proofs.ClimbLemmas.{seen_at, seen_within, seen_past}
 use Rattle.ksi_aggchain.proofs.ShapeLemmas.{left_fits, left_goes, right_goes, shape_begins, shape_ends, shape_is}
-use Rattle.ksi_aggchain.proofs.shape.shape_along.Goals as goal
-use Rattle.ksi_aggchain.proofs.shape.shape_along.Goals.{in-Left, in-Right}
+use Rattle.ksi_aggchain.proofs.shapes.shape_along.Goals as goal
+use Rattle.ksi_aggchain.proofs.shapes.shape_along.Goals.{in-Left, in-Right}
 
 pub overflow_add-shape : goal.overflow_add-shape
 overflow_add-shape g c =

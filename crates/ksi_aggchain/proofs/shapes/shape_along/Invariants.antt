@@ -1,6 +1,6 @@
 use Rattle.std.proofs.Common.{◌≡◌, ◌+◌, map, drop}
 use Rattle.ksi_aggchain.specs.Shapes.{left_powers, shape_of}
-use Rattle.ksi_aggchain.proofs.shape.shape_along.Given as goal
+use Rattle.ksi_aggchain.proofs.shapes.shape_along.Given as goal
 
 abbrev pub invariant-loop-place : goal.invariant-loop-place
 invariant-loop-place g l =
