@@ -9,9 +9,9 @@ use Rattle.ksi_split.specs.declared.side.Side.TheVariants.{Left, Right}
 use Rattle.ksi_split.specs.Parts.{Part, half_of, part_at}
 use Rattle.ksi_split.specs.Trees.{tree_within, tree, path_within, path_of, node_in, node_at}
 use Rattle.ksi_split.proofs.Powers.{lt_cases, le_cases, eq_cases, doubled, split_is}
-use Rattle.ksi_split.proofs.Levels.{tree_at}
+use Rattle.ksi_split.proofs.Within.{tree_at}
 use Rattle.ksi_split.proofs.Upward.{path_at}
-use Rattle.ksi_rows.specs.Leaves.{leaf_at}
+use Rattle.ksi_split.specs.Leaves.{leaf_at}
 use Rattle.ksi_aggchain.specs.declared.node.Node.{Node}
 use Rattle.ksi_aggtree.specs.Rounds.{joined_at, aggregation_join, capped_join, item_at, no_item, tree_of, root_from, root_of, node_from, node_of, tree_path, IsRound}
 

@@ -4,7 +4,7 @@ use Rattle.ksi_split.specs.declared.side.Side.{Side}
 use Rattle.ksi_split.specs.declared.tree_link.TreeLink.{TreeLink}
 use Rattle.ksi_split.specs.Trees.{tree_within, tree, path_of, climb_links}
 use Rattle.ksi_split.proofs.Powers.{lt_cases}
-use Rattle.ksi_split.proofs.Levels.{tree_at}
+use Rattle.ksi_split.proofs.Within.{tree_at}
 use Rattle.ksi_aggchain.specs.declared.node.Node.{Node}
 use Rattle.ksi_aggchain.specs.declared.link.Link.{Link}
 use Rattle.ksi_aggchain.specs.declared.climbing.LevelFault.{LevelFault}
