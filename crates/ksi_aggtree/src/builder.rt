@@ -7,11 +7,10 @@ ghost use Rattle.ksi_aggtree.specs.Paths.{chain_of, sides_from_top};
 
 use crate::item_path::ItemPath;
 use crate::join::AggregationJoin;
-use crate::laws::one_chain;
+use crate::laws::{no_cap, one_chain};
 use ksi_aggchain::Node;
 use ksi_imprint::{Compress, Imprint, NoMemory};
-use ksi_rows::{Rows, Steps};
-use ksi_split::Side;
+use ksi_split::{Rows, Side, Steps};
 use std::alloc::Global;
 use std::marker::{Brand, Model};
 use std::sync::ledger::{Blank, Ledger};
@@ -94,6 +93,7 @@ impl<C: Compress> Builder<C> {
         if count == 0 {
             None
         } else {
+            no_cap();
             Some(self.rows.root(count - 1))
         }
     }
@@ -106,6 +106,7 @@ impl<C: Compress> Builder<C> {
         if count == 0 {
             None
         } else {
+            no_cap();
             self.rows.node(count - 1, sides)
         }
     }
@@ -144,6 +145,7 @@ impl<C: Compress> Builder<C> {
         ensures most { steps.new ≤ steps.old + 32 }
         ensures least { IfOk result (λ links. steps.old + length links < steps.new) }
     {
+        no_cap();
         one_chain();
         let last = self.rows.count() - 1;
         let others = self.rows.path_counted(k as u64, last, steps)?;

@@ -6,12 +6,14 @@ ghost use Rattle.ksi_split.specs.declared.side.Side.{Side};
 ghost use Rattle.ksi_aggchain.specs.Climbing.{Climbs};
 ghost use Rattle.ksi_aggchain.specs.Owned.{plain_links};
 ghost use Rattle.ksi_aggchain.specs.declared.node.Node.{Node};
-ghost use Rattle.ksi_aggtree.specs.Rounds.{IsRound, aggregation_join, item_at, tree_from, tree_of, node_of};
+ghost use Rattle.ksi_split.specs.Trees.{tree, path_of, node_at};
+ghost use Rattle.ksi_aggtree.specs.Rounds.{IsRound, aggregation_join, capped_join, item_at, tree_from, tree_of, tree_path, node_of};
 ghost use Rattle.ksi_aggtree.specs.Paths.{chain_of, sides_from_top};
 
 use ksi_aggchain::Node;
 use ksi_aggchain::laws::one_climb;
-use ksi_split::trees::{one_node, one_path, one_tree};
+use ksi_split::laws::one_split;
+use ksi_split::trees::{enough_levels, one_node, one_path, one_tree};
 
 /// The tree of one item is that item. The tree of more is the join of the trees of both parts that they are split into,
 /// one level above the greater of these. In a round its level is at most 16 above the items' levels, so at most 255.
@@ -25,6 +27,7 @@ pub fn one_round()
         ((k : ℕ) → (item_at items k).level ≤ most) → (tree_of image items).level ≤ most + 16 }
 {
     one_tree::<Node>();
+    enough_levels::<Node>();
 }
 
 /// In a round the chain of an item climbs from it to the tree of all items. Its sides from the top are the item's way,
@@ -39,6 +42,7 @@ pub fn one_chain()
 {
     one_path::<Node>();
     one_climb();
+    one_round();
 }
 
 /// The node that sides lead to is the tree of the items of their part. Sides that pass a leaf lead to none.
@@ -50,4 +54,18 @@ pub fn one_part()
         length items ≡ last + 1 → PassesLeaf last sides place → node_of image items sides ≡ None }
 {
     one_node::<Node>();
+}
+
+/// The tree of a round, its nodes and its paths are the same where the level of a join is kept within a byte, since no
+/// level passes 255.
+pub(crate) fn no_cap()
+    ensures root { (image : List ℕ → List ℕ) (items : List Node) → IsRound items →
+        tree (capped_join image) (item_at items) 0 (length items) ≡ tree_of image items }
+    ensures node { (image : List ℕ → List ℕ) (items : List Node) (last : ℕ) (sides : List Side) → IsRound items →
+        length items ≡ last + 1 → node_at (capped_join image) (item_at items) last sides ≡ node_of image items sides }
+    ensures path { (image : List ℕ → List ℕ) (items : List Node) (k : ℕ) → IsRound items →
+        path_of (capped_join image) (item_at items) 0 k (length items) ≡ tree_path image items k }
+{
+    enough_levels::<Node>();
+    one_split();
 }

@@ -31,4 +31,4 @@ pub use builder::{AddRefusal, Builder};
 pub use entries::{Entries, Entry, Origin};
 pub use item_path::ItemPath;
 pub use items::Items;
-pub use ksi_rows::Steps;
+pub use ksi_split::Steps;

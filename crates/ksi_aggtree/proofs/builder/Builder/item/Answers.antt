@@ -1,7 +1,7 @@
 use Rattle.std.proofs.Common.{◌≡◌, ℕ, ◌∙◌, List, ap, subst, arith}
 use Rattle.ksi_aggchain.specs.declared.node.Node.{Node}
 use Rattle.ksi_aggtree.specs.Rounds.{item_at, IsRound}
-use Rattle.ksi_aggtree.proofs.Capped.{leaves_are}
+use Rattle.ksi_aggtree.proofs.Kept.{leaves_are}
 use Rattle.ksi_aggtree.proofs.builder.Builder.item.Goals as goal
 
 pub returns : goal.returns

@@ -6,7 +6,7 @@ use Rattle.ksi_aggchain.specs.Climbing.{Climbs}
 use Rattle.ksi_aggchain.specs.Owned.{plain_links}
 use Rattle.ksi_aggtree.specs.Rounds.{item_at, tree_of, tree_path, IsRound}
 use Rattle.ksi_aggtree.specs.Paths.{links_from, chain_of, sides_from_top}
-use Rattle.ksi_aggtree.proofs.Capped.{leaves_are, round_path}
+use Rattle.ksi_aggtree.proofs.Kept.{leaves_are, round_path}
 use Rattle.ksi_aggtree.proofs.Chains.{links_count}
 use Rattle.ksi_aggtree.proofs.builder.Builder.path_counted.Goals as goal
 
@@ -14,7 +14,7 @@ pub beside-requires : goal.beside-requires
 beside-requires g c =
     let rows = c.self.inside.rows in
     let size = ap (λ (items : List Node). length items) c.self.view_is in
-    let path = round_path g.C.Compress.image rows.start rows.before rows.items c.args.k (c.count-last.result - 1 + 1) c.self.invariant.0 c.self.invariant.1 c.self.invariant.2 (omega (arith, c.count-last.ensures, size, c.requires)) in
+    let path = round_path g.C.Compress.image rows.start rows.before rows.items c.args.k (c.count-last.result - 1 + 1) c.self.invariant.0 c.self.invariant.1 (c.no_cap.ensures.path g.C.Compress.image rows.items c.args.k c.self.invariant.2) (omega (arith, c.count-last.ensures, size, c.requires)) in
     let count = ap length (c.deref.ensures.value ∙ c.in_ok-others.ensures.path ∙ path) in
     let few = c.self.invariant.2.few in
     omega (arith, count, links_count (item_at rows.items c.args.k).level (tree_path g.C.Compress.image rows.items c.args.k), c.one_chain.ensures.few g.C.Compress.image rows.items c.args.k few)
@@ -29,7 +29,7 @@ returns g c =
     let round : IsRound now = subst IsRound c.self.view_is c.self.invariant.2 in
     let few = round.few in
     let others : c.deref.result.now ≡ tree_path image now k = c.deref.ensures.value ∙ c.in_ok-others.ensures.path
-    ∙ round_path image rows.start rows.before rows.items k (c.count-last.result - 1 + 1) c.self.invariant.0 c.self.invariant.1 c.self.invariant.2 (omega (arith, c.count-last.ensures, size, c.requires))
+    ∙ round_path image rows.start rows.before rows.items k (c.count-last.result - 1 + 1) c.self.invariant.0 c.self.invariant.1 (c.no_cap.ensures.path image rows.items k c.self.invariant.2) (omega (arith, c.count-last.ensures, size, c.requires))
     ∙ ap (λ (items : List Node). tree_path image items k) c.self.view_is in
     let item : c.leaf_counted-item.result ≡ item_at now k
     = c.leaf_counted-item.ensures.leaf ∙ ap (λ (leaf : ℕ → Node). leaf k) (leaves_are rows.start rows.before rows.items c.self.invariant.0 c.self.invariant.1)

@@ -1,7 +1,7 @@
 use Rattle.std.proofs.Common.{◌+◌, ◌-◌, ◌∙◌, List, length, Some, ap, arith}
 use Rattle.ksi_aggchain.specs.declared.node.Node.{Node}
 use Rattle.ksi_aggtree.specs.Rounds.{tree_of, root_of}
-use Rattle.ksi_aggtree.proofs.Capped.{round_root, no_root}
+use Rattle.ksi_aggtree.proofs.Kept.{round_root, no_root}
 use Rattle.ksi_aggtree.proofs.builder.Builder.root.Goals as goal
 
 pub returns-then-count-eq0 : goal.returns-then-count-eq0
@@ -13,6 +13,7 @@ pub returns-else-count-eq0 : goal.returns-else-count-eq0
 returns-else-count-eq0 g c =
     let rows = c.self.inside.rows in
     ap (λ (root : Node). Some root) c.root.ensures
-    ∙ round_root g.C.Compress.image rows.start rows.before rows.items (c.count-count.result - 1 + 1) c.self.invariant.0 c.self.invariant.1 c.self.invariant.2
+    ∙ round_root g.C.Compress.image rows.start rows.before rows.items (c.count-count.result - 1 + 1) c.self.invariant.0 c.self.invariant.1
+    (c.no_cap.ensures.root g.C.Compress.image rows.items c.self.invariant.2)
     (omega (arith, c.count-count.ensures, c.if-count-eq0.false)) (omega arith)
     ∙ ap (root_of g.C.Compress.image) c.self.view_is
