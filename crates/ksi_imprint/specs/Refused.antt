@@ -8,3 +8,9 @@ abbrev pub OrNoMemory : {T F : Type 0} → Result T F → Result T (Refused F) �
 OrNoMemory expected (Ok value) = expected ≡ Ok value
 OrNoMemory expected (Err (Fault fault)) = expected ≡ Err fault
 OrNoMemory expected (Err NoMemory) = Unit {0}
+
+-- a fault says this, and memory is wanting only where that holds
+abbrev pub IfRefused : {T F : Type 0} → Result T (Refused F) → (F → Type 0) → Type 0 → Type 0
+IfRefused (Ok value) says wanting = Unit {0}
+IfRefused (Err (Fault fault)) says wanting = says fault
+IfRefused (Err NoMemory) says wanting = wanting
