@@ -240,8 +240,13 @@ impl<N: Copy, J: Joins<N>> Rows<N, J> {
         ensures later { steps.old ≤ steps.new }
         ensures cost { steps.new ≤ steps.old + 1 }
     {
+        let _ = &self.zeros;
         let end = last >> level;
-        if end % 2 == 1 {
+        let above = last >> (level + 1);
+        if above < (last + 1) >> (level + 1) {
+            // the last leaf completes this part, so it is kept
+            self.part(level + 1, above, steps)
+        } else if end % 2 == 1 {
             let left = self.part(level, end - 1, steps);
             J::join(&left, &border)
         } else {
