@@ -12,7 +12,7 @@
 //!
 //! ```text
 //! let mut round = Builder::<Sha>::new(alloc)?;
-//! let first = round.add(Node { imprint, level: 0 })?;
+//! let first = round.add(Item { imprint, level: 0 })?;
 //! round.add(other)?;
 //! let links = round.path(first)?;
 //! assert_eq!(climb::<Sha>(imprint, 0, links.as_slice()).ok(), round.root());
@@ -21,14 +21,21 @@
 
 mod builder;
 mod entries;
+mod item;
 mod item_path;
 mod items;
 mod join;
 pub mod laws;
+mod over;
+mod room;
+mod second;
 mod senders;
 
 pub use builder::{AddRefusal, Builder};
 pub use entries::{Entries, Entry, Origin};
+pub use item::{HIGHEST_ITEM, Item, MOST_ITEMS};
 pub use item_path::ItemPath;
 pub use items::Items;
 pub use ksi_rows::Steps;
+pub use over::{root_over, root_with};
+pub use second::Second;
