@@ -12,12 +12,12 @@ ghost use Rattle.ksi_schedule.specs.declared.fault.Stop.TheVariants as stops;
 
 use crate::actor::Actor;
 use crate::cut::{Words, cut, next_line, one};
+use crate::decimal::read_number;
 use crate::fault::{LineFault, ScheduleFault, Stop};
 use crate::growing::reaches_core;
 use crate::plan::{Parents, Plan};
 use crate::rows::{event, is, parent};
 use crate::schedule::{Events, Schedule};
-use crate::word::value;
 use std::alloc::Global;
 
 const AGGREGATORS: usize = 4096;
@@ -87,7 +87,11 @@ fn number_after(name: &[u8], first: &[u8], words: Words<'_>) -> Option<u64>
     ensures { result ≡ number_behind name.now (first.now ∷ words_left words.entry) }
 {
     let word = one(words)?;
-    if is(first, name) { value(word) } else { None }
+    if is(first, name) {
+        read_number(word)
+    } else {
+        None
+    }
 }
 
 // The plan of no aggregators, and no events.
