@@ -2,7 +2,7 @@ ghost use Rattle.std.specs.Prelude.{◌≡◌, ◌++◌, ◌∷◌, [], ◌<◌,
 ghost use Rattle.ksi_split.specs.Ways.{way_of};
 ghost use Rattle.ksi_calchain.specs.Climbing.{ClimbsCalendar};
 ghost use Rattle.ksi_calchain.specs.Sides.{sides_from_top};
-ghost use Rattle.ksi_calendar.specs.Calendar.{calendar_leaf, calendar_root, calendar_path, root_at, node_of, is_covered};
+ghost use Rattle.ksi_calendar.specs.Calendar.{calendar_leaf, calendar_root, calendar_path, root_to, node_of, is_covered};
 
 use crate::join::CalendarJoin;
 use crate::laws::one_chain;
@@ -54,8 +54,8 @@ impl<C: Compress> Calendar<C> {
     }
 
     /// The root of the seconds from 0 to `p`, none where `p` is before the start or has no root yet.
-    pub fn root_at(&self, p: u64) -> Option<Imprint>
-        ensures { result ≡ root_at C.image self.now p }
+    pub fn root_to(&self, p: u64) -> Option<Imprint>
+        ensures { result ≡ root_to C.image self.now p }
     {
         if self.covers(p) {
             Some(self.rows.root(p))

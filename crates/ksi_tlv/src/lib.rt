@@ -29,12 +29,12 @@ mod walk;
 mod write;
 
 pub use element::{Element, TlvFault, read_one};
+pub use ksi_imprint::{NoMemory, Refused};
 pub use laws::{
     canonical_is_shortest, front_by_spelling, no_spelling_begins_another, numeral_is_read,
     reading_is_elements, walk_by_fronts, written_is_read,
 };
 pub use magic::after_magic;
 pub use numbers::{NumberFault, number};
-pub use std::alloc::AllocError as NoMemory;
 pub use walk::{Elements, Placed};
 pub use write::{PutRefusal, Writer};
