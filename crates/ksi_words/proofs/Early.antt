@@ -1,5 +1,5 @@
 -- A second that a word stands for is below 2^63.
-use Rattle.std.proofs.Common.{◌≡◌, ◌<◌, ◌^◌, ℕ, suc, List, Option, Some, None, IfOk, arith, inl, inr}
+use Rattle.std.proofs.Common.{◌≡◌, ◌<◌, ◌^◌, ℕ, suc, List, Option, Some, None, IfOk, refl, arith, inl, inr}
 use Rattle.std.proofs.lemmas.Bool.Decides.{leb_tells}
 use Rattle.ksi_schedule.specs.Decimal.{number_of}
 use Rattle.ksi_words.specs.Sorts.{if_early, time_of}
