@@ -11,8 +11,8 @@
 //! ```text
 //! match read_schedule(alloc, b"ksi-schedule 1\ncores 3\nstart 1700000000\nseal 0 1700000000\n") {
 //!     Ok(schedule) => run(schedule.plan(), schedule.events()),
-//!     Err(ScheduleFault::Line(fault, line)) => tell(fault, line),
-//!     Err(ScheduleFault::NoMemory) => {}
+//!     Err(Refused::Fault(ScheduleFault::Line(fault, line))) => tell(fault, line),
+//!     Err(Refused::NoMemory) => {}
 //! }
 //! ```
 #![tactic(auto)]
@@ -35,7 +35,7 @@ pub use actor::Actor;
 pub use decimal::read_number;
 pub use event::Event;
 pub use fault::{LineFault, ScheduleFault};
-pub use ksi_imprint::NoMemory;
+pub use ksi_imprint::{NoMemory, Refused};
 pub use laws::{schedule_is_read, schedule_or_fault, spelled_is_schedule};
 pub use plan::{Parents, Plan};
 pub use printing::print;

@@ -14,3 +14,8 @@ leaf_at start before items i = if nat_lt i start then before else slice_index_or
 -- the leaf at a place
 abbrev pub leaf_of : {A : Type 0} → Leaves A → ℕ → A
 leaf_of leaves = leaf_at leaves.start leaves.before leaves.items
+
+-- a tree over the leaves from 0 to a last one
+pub record TreeTo (A : Type 0) : Type 0 where
+  pub leaves : Leaves A
+  pub last : ℕ

@@ -1,6 +1,6 @@
 -- What is kept of a tree: for each level a row of complete parts.
 use Rattle.std.specs.Prelude.{◌≡◌, ℕ, zero, suc, ◌+◌, ◌-◌, ◌%◌, ◌^◌, ◌<◌, ◌≤◌, nat_lt, List, [], ◌∷◌, ◌++◌, length, slice_index_or, if◌then◌else◌, Option, Some, None}
-use Rattle.ksi_split.specs.Upward.{halves, whole}
+use Rattle.ksi_split.specs.Upward.{halves, whole, node}
 use Rattle.ksi_split.specs.declared.tree_link.TreeLink.{TreeLink}
 use Rattle.ksi_split.specs.Leaves.{leaf_at}
 
@@ -50,6 +50,12 @@ pub record EndsAt (n top : ℕ) : Type 0 where
 pub record AreRows {A : Type 0} (join : A → A → A) (start : ℕ) (before : A) (rows : List (Stored A)) : Type 0 where
   pub few : start + length (row_at rows 0) ≤ 2 ^ 63
   pub each : (k : ℕ) → k < 64 → row_at rows k ≡ row_of join (leaf_at start before (row_at rows 0)) start (start + length (row_at rows 0)) k
+
+-- the part that the last leaf is in, of each level below the root's
+pub record AreBorders {A : Type 0} (join : A → A → A) (leaf : ℕ → A) (last : ℕ) (borders : List A) : Type 0 where
+  pub few : length borders ≤ 63
+  pub enough : last < 2 ^ length borders
+  pub each : (k : ℕ) (d : A) → k < length borders → slice_index_or borders k d ≡ node join leaf last k (halves k last)
 
 -- a link or none as a list
 abbrev pub maybe_link : {A : Type 0} → Option (TreeLink A) → List (TreeLink A)

@@ -40,6 +40,7 @@ mod fault;
 mod joins;
 pub mod laws;
 mod levels;
+mod paths;
 mod power;
 mod row;
 mod rows;
@@ -54,6 +55,7 @@ mod zeros;
 
 pub use fault::ShapeFault;
 pub use joins::Joins;
+pub use paths::Paths;
 pub use power::{high_bit, split};
 pub use rows::Rows;
 pub use side::Side;

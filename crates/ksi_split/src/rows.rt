@@ -2,11 +2,12 @@ ghost use Rattle.std.specs.Prelude.{◌≡◌, ◌≢◌, ◌++◌, ◌∷◌, [
 ghost use Rattle.ksi_split.specs.Upward.{halves, whole, node, link_up, links_up};
 ghost use Rattle.ksi_split.specs.Trees.{tree, path_of, node_at};
 ghost use Rattle.ksi_split.specs.Leaves.{leaf_of};
-ghost use Rattle.ksi_split.specs.Stored.{maybe_link};
+ghost use Rattle.ksi_split.specs.Stored.{AreBorders, maybe_link};
 
 use crate::NoMemory;
 use crate::joins::Joins;
 use crate::levels::{add, completed, count, grow, levels, part};
+use crate::paths::{Paths, paths_from};
 use crate::power::split;
 use crate::row::Row;
 use crate::side::Side;
@@ -155,6 +156,17 @@ impl<N: Copy, J: Joins<N>> Rows<N, J> {
         Ok(path)
     }
 
+    /// The paths of the tree over the leaves to `last`, which is a leaf that stands. What they share is computed once.
+    ///
+    /// # Errors
+    /// `NoMemory`: all is as it was.
+    pub fn paths(&self, last: u64) -> Result<Paths<'_, N, J>, NoMemory>
+        requires { last < self.now.start + length self.now.items }
+        ensures { IfOk result (λ paths. paths ≡ record { leaves = self.now; last = last }) }
+    {
+        paths_from::<N, J, Brand>(self, last, Blank::new(1))
+    }
+
     /// Adds a leaf behind all others, of which there are fewer than 2^63 with those before the start.
     ///
     /// # Errors
@@ -240,8 +252,13 @@ impl<N: Copy, J: Joins<N>> Rows<N, J> {
         ensures later { steps.old ≤ steps.new }
         ensures cost { steps.new ≤ steps.old + 1 }
     {
+        let _ = &self.zeros;
         let end = last >> level;
-        if end % 2 == 1 {
+        let above = last >> (level + 1);
+        if above < (last + 1) >> (level + 1) {
+            // the last leaf completes this part, so it is kept
+            self.part(level + 1, above, steps)
+        } else if end % 2 == 1 {
             let left = self.part(level, end - 1, steps);
             J::join(&left, &border)
         } else {
@@ -278,6 +295,26 @@ impl<N: Copy, J: Joins<N>> Rows<N, J> {
         }
     }
 
+    /// The part that the last leaf is in, of each level below the root's.
+    pub(crate) fn borders<L: Ledger>(
+        &self,
+        last: u64,
+        steps: &mut Steps<L>,
+    ) -> Result<Vec<N>, NoMemory>
+        requires { last < self.now.start + length self.now.items }
+        ensures { IfOk result (λ borders. AreBorders J.joined (leaf_of self.now) last borders.items) }
+    {
+        let _ = &self.zeros;
+        let height = levels(last);
+        let mut borders = Vec::with_capacity(self.alloc, height)?;
+        let mut border = self.part(0, last, steps);
+        for level in 0..height {
+            borders.push(border)?;
+            border = self.raise(last, level, border, steps);
+        }
+        Ok(borders)
+    }
+
     /// The part of a level that the last leaf is in.
     fn border<L: Ledger>(&self, last: u64, levels: usize, steps: &mut Steps<L>) -> N
         requires few { levels ≤ 63 }
@@ -306,7 +343,7 @@ impl<N: Copy, J: Joins<N>> Rows<N, J> {
     }
 
     /// The link up from a part of a level, none from a last part that stands alone.
-    fn link_up<L: Ledger>(
+    pub(crate) fn link_up<L: Ledger>(
         &self,
         last: u64,
         level: usize,

@@ -1,6 +1,6 @@
 use Rattle.std.proofs.Common.{arith}
-use Rattle.ksi_journal.proofs.Halves.{left_half}
-use Rattle.ksi_journal.proofs.tree.left_half.Goals as goal
+use Rattle.ksi_aggtree.proofs.Halves.{left_half}
+use Rattle.ksi_aggtree.proofs.over.left_half.Goals as goal
 
 pub returns-clause-left : goal.returns-clause-left
 returns-clause-left c = left_half _ _ _ c.split.ensures.power c.split.ensures.below c.requires.few
