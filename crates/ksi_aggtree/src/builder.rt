@@ -8,7 +8,7 @@ ghost use Rattle.ksi_aggtree.specs.Paths.{chain_of, sides_from_top};
 use crate::item::{Item, MOST_ITEMS};
 use crate::item_path::ItemPath;
 use crate::join::AggregationJoin;
-use crate::laws::one_chain;
+use crate::laws::{no_cap, one_chain};
 use crate::paths::RoundPaths;
 use crate::room::put;
 use ksi_aggchain::Node;
@@ -100,6 +100,7 @@ impl<C: Compress> Builder<C> {
         if count == 0 {
             None
         } else {
+            no_cap();
             Some(self.rows.root(count - 1))
         }
     }
@@ -112,6 +113,7 @@ impl<C: Compress> Builder<C> {
         if count == 0 {
             None
         } else {
+            no_cap();
             self.rows.node(count - 1, sides)
         }
     }
@@ -150,6 +152,7 @@ impl<C: Compress> Builder<C> {
         ensures most { steps.new ≤ steps.old + 32 }
         ensures least { IfOk result (λ links. steps.old + length links < steps.new) }
     {
+        no_cap();
         one_chain();
         let last = self.rows.count() - 1;
         let others = self.rows.path_counted(k as u64, last, steps)?;

@@ -8,7 +8,7 @@ ghost use Rattle.ksi_aggtree.specs.Rounds.{item_at, leaf, tree_of};
 use crate::item::Item;
 use crate::item_path::ItemPath;
 use crate::join::AggregationJoin;
-use crate::laws::one_chain;
+use crate::laws::{no_cap, one_chain};
 use ksi_aggchain::Node;
 use ksi_imprint::{Compress, NoMemory};
 use ksi_split::Paths;
@@ -47,8 +47,10 @@ impl<'a, C: Compress> RoundPaths<'a, C> {
         ensures way { IfOk result (λ links. sides_from_top links ≡ way_of k (length self.now)) }
         ensures few { IfOk result (λ links. length links ≤ 16) }
     {
+        no_cap();
         one_chain();
-        let leaf = self.items[k].leaf();
+        let items = self.items;
+        let leaf = items[k].leaf();
         let others = self.paths.path(k as u64)?;
         ItemPath::beside(self.paths.alloc(), leaf.level, &others)
     }

@@ -12,12 +12,12 @@ ghost use Rattle.ksi_corenode.specs.CoreState.{state_of, held_by, IsTurn};
 
 use crate::node::Core;
 use crate::second::Second;
-use crate::step::{Send, Sends, Step};
+use crate::step::{Send, Step};
 use ksi_aggtree::{Entries, Origin};
 use ksi_calendar::laws::{one_covered, one_first_missing};
 use ksi_calendar::{Calendar, SecondPath};
 use ksi_imprint::{Compress, Imprint, NoMemory};
-use ksi_signature::{Above, AboveChain, AboveChains, AboveLinks, Answer, CalendarLinks};
+use ksi_signature::{Above, AboveChain, AboveChains, AboveLinks, Answer, CalendarLinks, Sends};
 use std::alloc::Global;
 
 impl<C: Compress> Core<C> {

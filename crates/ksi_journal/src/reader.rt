@@ -1,4 +1,4 @@
-ghost use Rattle.std.specs.Prelude.{◌≡◌, ◌⊎◌, ◌++◌, ◌+◌, ◌<◌, ◌^◌, ℕ, List, None, Err, IfOk, IfErr, IfSome, length};
+ghost use Rattle.std.specs.Prelude.{◌≡◌, ◌⊎◌, ◌++◌, ◌+◌, ◌<◌, ◌^◌, ℕ, List, Err, IfOk, IfErr, length};
 ghost use Rattle.ksi_tlv.specs.Walking.{elements};
 ghost use Rattle.ksi_order.specs.Sequence.{IsWhole, IsFirstFault, IsWanting};
 ghost use Rattle.ksi_journal.specs.declared.fault.JournalFault.TheVariants as answers;
@@ -12,6 +12,7 @@ use crate::journal::Journal;
 use crate::loading::{Loading, Parts};
 use ksi_imprint::Compress;
 use ksi_order::{Stop, values_are_bounded, walk};
+use ksi_tlv::after_magic;
 use std::alloc::Global;
 
 /// The bytes that a journal begins with.
@@ -30,7 +31,7 @@ pub fn load<C: Compress>(alloc: Global, bytes: &[u8]) -> Result<Journal<C>, Jour
     ensures memory { result ≡ Err answers.NoMemory → IsWantingInside C.image bytes.now
         ⊎ ((journal : Contents) × IsJournalFile C.image bytes.now journal) }
 {
-    let Some(rest) = after_magic(bytes) else {
+    let Some(rest) = after_magic(bytes, MAGIC) else {
         return Err(JournalFault::Magic);
     };
     let parts = parts_in::<C>(alloc, rest)?;
@@ -42,14 +43,6 @@ pub fn load<C: Compress>(alloc: Global, bytes: &[u8]) -> Result<Journal<C>, Jour
         parts.publications,
     )?;
     Ok(journal)
-}
-
-fn after_magic(bytes: &[u8]) -> Option<&[u8]>
-    ensures some { IfSome result (λ rest. bytes.now ≡ magic ++ rest.now) }
-    ensures short { IfSome result (λ rest. 8 + length rest.now < 2 ^ 64) }
-    ensures none { result ≡ None → (rest : List ℕ) → bytes.now ≡ magic ++ rest → ⊥ }
-{
-    bytes.strip_prefix(MAGIC)
 }
 
 /// What the elements behind the magic say.

@@ -1,4 +1,4 @@
-ghost use Rattle.std.specs.Prelude.{◌≡◌, ◌+◌, ◌^◌, ◌<◌, ◌++◌, ℕ, List, length, None, Ok, Err, IfOk, IfErr, IfSome};
+ghost use Rattle.std.specs.Prelude.{◌≡◌, ◌+◌, ◌^◌, ◌<◌, ◌++◌, ℕ, List, length, Ok, Err, IfOk, IfErr};
 ghost use Rattle.ksi_imprint.specs.Refused.{IfRefused};
 ghost use Rattle.ksi_imprint.specs.declared.refused.Refused.TheVariants.{Fault};
 ghost use Rattle.ksi_tlv.specs.Views.{view_placed};
@@ -20,7 +20,7 @@ use ksi_grammar::{
     ElementFault, check, faults_by_table, inside_is_whole, recorded, whole_or_fault,
 };
 use ksi_imprint::{Imprint, Refused};
-use ksi_tlv::{Elements, Placed};
+use ksi_tlv::{Elements, Placed, after_magic};
 use std::alloc::Global;
 
 /// Reads a publications file. Memory is taken only where the whole file is one.
@@ -46,20 +46,13 @@ fn behind_magic(bytes: &[u8]) -> Result<&[u8], PublicationsFault>
 {
     faults_by_table();
     whole_or_fault();
-    let Some(rest) = after_magic(bytes) else {
+    let Some(rest) = after_magic(bytes, MAGIC) else {
         return Err(PublicationsFault::Magic);
     };
     match check::<FileContent>(0, MAGIC.len(), rest) {
         Ok(()) => Ok(rest),
         Err(fault) => Err(named(fault)),
     }
-}
-
-fn after_magic(bytes: &[u8]) -> Option<&[u8]>
-    ensures some { IfSome result (λ rest. bytes.now ≡ magic ++ rest.now) }
-    ensures none { result ≡ None → (rest : List ℕ) → bytes.now ≡ magic ++ rest → ⊥ }
-{
-    bytes.strip_prefix(MAGIC)
 }
 
 /// The fault of a file by that of its first element with one.

@@ -12,12 +12,12 @@ ghost use Rattle.ksi_schedule.specs.declared.fault.ScheduleFault.TheVariants.{Li
 
 use crate::actor::Actor;
 use crate::cut::{Words, cut, next_line, one};
+use crate::decimal::read_number;
 use crate::fault::{LineFault, ScheduleFault};
 use crate::growing::reaches_core;
 use crate::plan::{Parents, Plan};
 use crate::rows::{event, is, parent};
 use crate::schedule::{Events, Schedule};
-use crate::word::value;
 use ksi_imprint::Refused;
 use std::alloc::Global;
 
@@ -88,7 +88,11 @@ fn number_after(name: &[u8], first: &[u8], words: Words<'_>) -> Option<u64>
     ensures { result ≡ number_behind name.now (first.now ∷ words_left words.entry) }
 {
     let word = one(words)?;
-    if is(first, name) { value(word) } else { None }
+    if is(first, name) {
+        read_number(word)
+    } else {
+        None
+    }
 }
 
 // The plan of no aggregators, and no events.

@@ -44,6 +44,7 @@ mod parts;
 mod reader;
 mod refusal;
 mod signature;
+mod step;
 mod writer;
 
 pub use above::{Above, AboveChain, AboveChains, AboveLinks};
@@ -62,4 +63,5 @@ pub use lists::{Bodies, CalendarLinks, Chains, Index, Links};
 pub use reader::read;
 pub use refusal::WriteRefusal;
 pub use signature::{AggregationChain, CalendarChain, PublicationRecord, Signature};
+pub use step::{Sends, Step};
 pub use writer::write;

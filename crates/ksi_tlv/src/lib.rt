@@ -9,7 +9,7 @@
 //! The layer above may rely on this: no spelling of an element begins another; a reader takes both forms and
 //! nothing else; a walk gives every element with its place, or the first that is cut off; the writer takes the
 //! short form where it can hold the element, and what it wrote is read again as it was put. The readers take no
-//! memory.
+//! memory. Files begin with a magic, and their elements stand behind it ([`after_magic`]).
 //!
 //! ```text
 //! let mut writer = Writer::new(alloc);
@@ -23,6 +23,7 @@
 
 mod element;
 mod laws;
+mod magic;
 mod numbers;
 mod walk;
 mod write;
@@ -33,6 +34,7 @@ pub use laws::{
     canonical_is_shortest, front_by_spelling, no_spelling_begins_another, numeral_is_read,
     reading_is_elements, walk_by_fronts, written_is_read,
 };
+pub use magic::after_magic;
 pub use numbers::{NumberFault, number};
 pub use walk::{Elements, Placed};
 pub use write::{PutRefusal, Writer};

@@ -1,6 +1,7 @@
 // The commands: a row of the table each, and what the words after its name ask for.
 ghost use Rattle.std.specs.Prelude.{◌≡◌, ◌<◌, ◌^◌, ℕ, IfOk, map};
-ghost use Rattle.ksi_words.specs.Sorts.{hash_of, number_of, time_of};
+ghost use Rattle.ksi_schedule.specs.Decimal.{number_of};
+ghost use Rattle.ksi_words.specs.Sorts.{hash_of, time_of};
 ghost use Rattle.ksi_words.specs.Words.{Reads, asked_by, command_named, table, replay_row, sign_row, publish_row, extend_row, verify_row, audit_row, make_row, drill_row, word_at, IsEarly};
 
 use crate::values::{hash, number, time};

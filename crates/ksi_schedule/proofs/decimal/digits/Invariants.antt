@@ -1,6 +1,6 @@
 use Rattle.std.proofs.Common.{◌≡◌, drop}
-use Rattle.ksi_schedule.specs.Words.{digits_after}
-use Rattle.ksi_schedule.proofs.word.digits.Given as goal
+use Rattle.ksi_schedule.specs.Decimal.{digits_after}
+use Rattle.ksi_schedule.proofs.decimal.digits.Given as goal
 
 -- what is left gives what the whole gives
 abbrev pub invariant-loop-byte : goal.invariant-loop-byte
