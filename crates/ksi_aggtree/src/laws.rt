@@ -7,7 +7,7 @@ ghost use Rattle.ksi_aggchain.specs.Climbing.{Climbs};
 ghost use Rattle.ksi_aggchain.specs.Owned.{plain_links};
 ghost use Rattle.ksi_aggchain.specs.declared.node.Node.{Node};
 ghost use Rattle.ksi_aggtree.specs.declared.item.Item.{Item};
-ghost use Rattle.ksi_aggtree.specs.Rounds.{most_items, IsRound, aggregation_join, leaf, item_of, item_at, tree_from, tree_of, node_of};
+ghost use Rattle.ksi_aggtree.specs.Rounds.{most_items, IsRound, aggregation_join, leaf, as_item, item_at, tree_from, tree_of, node_of};
 ghost use Rattle.ksi_aggtree.specs.Paths.{chain_of, sides_from_top};
 
 use ksi_aggchain::Node;
@@ -16,7 +16,7 @@ use ksi_split::trees::{one_node, one_path, one_tree};
 
 /// A node that is submitted to a round stands in its tree as it is.
 pub fn one_leaf()
-    ensures submitted { (node : Node) → leaf (item_of node) ≡ node }
+    ensures submitted { (node : Node) → leaf (as_item node) ≡ node }
 {}
 
 /// The tree of one item is its leaf. The tree of more is the join of the trees of both parts that they are split into,

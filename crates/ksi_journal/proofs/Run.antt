@@ -6,7 +6,7 @@ use Rattle.std.specs.List.{AllByRecursion}
 use Rattle.std.proofs.lemmas.Bool.{leb-true, leb-false, ltb-true, ltb-false, eqb-true, eqb-false, eq-eqb, ne_eqb, lt-ltb, le-leb}
 use Rattle.ksi_imprint.specs.Imprints.{zero_imprint}
 use Rattle.ksi_calendar.specs.Calendar.{is_covered, calendar_leaf}
-use Rattle.ksi_journal.specs.declared.second.Second.{Second}
+use Rattle.ksi_aggtree.specs.declared.second.Second.{Second}
 use Rattle.ksi_journal.specs.Journal.{Contents, RiseFrom, IsSecond, IsJournal, kept_among, root_kept, root_at}
 use Rattle.ksi_journal.specs.Kept.{at_place, place_of, view_kept}
 use Rattle.ksi_journal.specs.Calendar.{leaf_at, IsCovered, IsFirstMissing, roots_from, calendar_of, first_missing}

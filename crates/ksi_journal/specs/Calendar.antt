@@ -2,7 +2,7 @@
 use Rattle.std.specs.Prelude.{◌≡◌, ℕ, ◌+◌, ◌<◌, ◌≤◌, ◌==◌, nat_lt, nat_le, List, [], ◌∷◌, length, Option, None, Some, IsSome, unwrap_or, if◌then◌else◌}
 use Rattle.ksi_imprint.specs.Imprints.{zero_imprint}
 use Rattle.ksi_calendar.specs.Calendar.{Seconds, calendar_root}
-use Rattle.ksi_journal.specs.declared.second.Second.{Second}
+use Rattle.ksi_aggtree.specs.declared.second.Second.{Second}
 use Rattle.ksi_journal.specs.Journal.{Contents, root_at}
 
 -- the leaf of a second: the zero imprint before the start, else its root
