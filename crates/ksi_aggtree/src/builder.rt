@@ -9,7 +9,7 @@ use crate::item_path::ItemPath;
 use crate::join::AggregationJoin;
 use crate::laws::one_chain;
 use ksi_aggchain::Node;
-use ksi_imprint::{Compress, Imprint, NoMemory};
+use ksi_imprint::{Compress, Imprint, NoMemory, Refused};
 use ksi_rows::{Rows, Steps};
 use ksi_split::Side;
 use std::alloc::Global;
@@ -21,18 +21,6 @@ use std::sync::ledger::{Blank, Ledger};
 pub enum AddRefusal {
     /// The round has 65,536 items.
     Full,
-    /// There is no memory for it.
-    NoMemory,
-}
-
-impl From<NoMemory> for AddRefusal {
-    ghost use Rattle.ksi_aggtree.specs.declared.builder.AddRefusal.TheVariants as refusals;
-
-    ghost from_gives = { λ _ refusal. refusal ≡ refusals.NoMemory };
-
-    fn from(_: NoMemory) -> Self {
-        AddRefusal::NoMemory
-    }
 }
 
 /// A round: items of levels to 239, at most 65,536 of them, and their tree. A contract sees their list.
@@ -155,16 +143,16 @@ impl<C: Compress> Builder<C> {
     ///
     /// # Errors
     /// `Full` exactly where there are 65,536 items, or `NoMemory`: all is as it was.
-    pub fn add(&mut self, item: Node) -> Result<usize, AddRefusal>
+    pub fn add(&mut self, item: Node) -> Result<usize, Refused<AddRefusal>>
         requires { item.level ≤ 239 }
         ensures place { IfOk result (λ k. k ≡ length self.old) }
         ensures added { IfOk result (λ k. self.new ≡ self.old ++ item ∷ []) }
-        ensures full { (result ≡ Err AddRefusal.Full) ↔ (length self.old ≡ 65536) }
+        ensures full { (result ≡ Err (Refused.Fault AddRefusal.Full)) ↔ (length self.old ≡ 65536) }
         ensures unchanged { OnErr result (self.new ≡ self.old) }
     {
         let count = self.rows.count();
         if count >= 65536 {
-            return Err(AddRefusal::Full);
+            return Err(Refused::Fault(AddRefusal::Full));
         }
         self.rows.append(item)?;
         Ok(count as usize)

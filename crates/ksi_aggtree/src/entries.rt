@@ -10,7 +10,7 @@ use crate::builder::{AddRefusal, Builder};
 use crate::item_path::ItemPath;
 use crate::senders::{make_room, note};
 use ksi_aggchain::Node;
-use ksi_imprint::{Compress, Imprint, NoMemory};
+use ksi_imprint::{Compress, Imprint, NoMemory, Refused};
 use std::alloc::Global;
 use std::collections::HashSet;
 use std::marker::Model;
@@ -130,16 +130,16 @@ impl<C: Compress> Entries<C> {
     ///
     /// # Errors
     /// `Full` exactly where there are 65,536 items, or `NoMemory`: all is as it was.
-    pub fn add(&mut self, entry: Entry) -> Result<usize, AddRefusal>
+    pub fn add(&mut self, entry: Entry) -> Result<usize, Refused<AddRefusal>>
         requires { entry.item.level ≤ 239 }
         ensures place { IfOk result (λ k. k ≡ length self.old) }
         ensures added { IfOk result (λ k. self.new ≡ self.old ++ entry ∷ []) }
-        ensures full { (result ≡ Err AddRefusal.Full) ↔ (length self.old ≡ 65536) }
+        ensures full { (result ≡ Err (Refused.Fault AddRefusal.Full)) ↔ (length self.old ≡ 65536) }
         ensures unchanged { OnErr result (self.new ≡ self.old) }
     {
         let place = self.count();
         if place == 65536 {
-            return Err(AddRefusal::Full);
+            return Err(Refused::Fault(AddRefusal::Full));
         }
         self.origins.reserve(1)?;
         make_room(&mut self.senders, &entry.origin)?;

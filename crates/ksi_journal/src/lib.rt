@@ -31,7 +31,7 @@ mod writer;
 
 pub use fault::JournalFault;
 pub use journal::Journal;
-pub use ksi_imprint::NoMemory;
+pub use ksi_imprint::{NoMemory, Refused};
 pub use reader::load;
 pub use second::Second;
 pub use writer::write;
