@@ -10,7 +10,7 @@ use crate::responses::responses;
 use crate::step::{Send, Sends, Step};
 use ksi_aggchain::Node;
 use ksi_aggtree::{AddRefusal, Entries, Entry, Origin};
-use ksi_imprint::{Bytes, Compress, Imprint, NoMemory};
+use ksi_imprint::{Bytes, Compress, Imprint, NoMemory, Refused};
 use ksi_signature::{Above, Answer, issue};
 use std::alloc::Global;
 use std::marker::Model;
@@ -91,8 +91,8 @@ impl<C: Compress> Round<C> {
         };
         match self.entries.add(entry) {
             Ok(_) => Ok(Step::still(alloc, Answer::Number(number))),
-            Err(AddRefusal::Full) => Ok(Step::still(alloc, Answer::Full)),
-            Err(AddRefusal::NoMemory) => Err(NoMemory),
+            Err(Refused::Fault(AddRefusal::Full)) => Ok(Step::still(alloc, Answer::Full)),
+            Err(Refused::NoMemory) => Err(NoMemory),
         }
     }
 
@@ -122,8 +122,8 @@ impl<C: Compress> Round<C> {
         };
         match self.entries.add(entry) {
             Ok(_) => Ok(Step::still(alloc, Answer::Done)),
-            Err(AddRefusal::Full) => Ok(Step::still(alloc, Answer::Full)),
-            Err(AddRefusal::NoMemory) => Err(NoMemory),
+            Err(Refused::Fault(AddRefusal::Full)) => Ok(Step::still(alloc, Answer::Full)),
+            Err(Refused::NoMemory) => Err(NoMemory),
         }
     }
 

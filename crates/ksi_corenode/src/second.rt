@@ -10,7 +10,7 @@ ghost use Rattle.ksi_corenode.specs.Rows.{taken, submission_row, seal_row, is_mi
 
 use ksi_aggchain::Node;
 use ksi_aggtree::{AddRefusal, Entries, Entry, Origin};
-use ksi_imprint::{Compress, Imprint, NoMemory};
+use ksi_imprint::{Compress, Imprint, NoMemory, Refused};
 use ksi_signature::Answer;
 use ksi_synod::{Begun, Instance, LastVote, SynodMessage, Took};
 use std::alloc::Global;
@@ -301,8 +301,8 @@ fn take<C: Compress>(
             put(items, item);
             Ok(Answer::Done)
         }
-        Err(AddRefusal::Full) => Ok(Answer::Full),
-        Err(AddRefusal::NoMemory) => Err(NoMemory),
+        Err(Refused::Fault(AddRefusal::Full)) => Ok(Answer::Full),
+        Err(Refused::NoMemory) => Err(NoMemory),
     }
 }
 
