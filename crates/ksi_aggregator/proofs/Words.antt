@@ -3,7 +3,7 @@ use Rattle.std.proofs.Common.{◌≡◌, ◌↔◌, ◌⊎◌, inl, inr, ℕ, Li
 use Rattle.std.specs.Prelude.{is_some, IsSome, if◌then◌else◌, IfOk}
 use Rattle.std.proofs.lemmas.Option.{none-some}
 use Rattle.std.proofs.lemmas.Bool.{false≢true, eqb-true, eq-eqb}
-use Rattle.ksi_aggchain.specs.declared.node.Node.{Node}
+use Rattle.ksi_aggtree.specs.declared.item.Item.{Item}
 use Rattle.ksi_aggtree.specs.declared.entries.Entry.{Entry}
 use Rattle.ksi_aggtree.specs.Entries.{has_from, is_full}
 use Rattle.ksi_signature.specs.declared.above.Above.{Above}
@@ -77,7 +77,7 @@ late_at false true full r entry = (λ e. absurd (omega (arith, ap mark e)), λ h
 late_at false false true r entry = (λ e. absurd (omega (arith, ap mark e)), λ h. absurd (false≢true h))
 late_at false false false r entry = (λ e. absurd (omega (arith, ap mark e)), λ h. absurd (false≢true h))
 
-pub late_submission : (from : ℕ) (item : Node) (r : RoundState) → ((round_submission from item r).answer ≡ answers.Late) ↔ IsSome r.closed
+pub late_submission : (from : ℕ) (item : Item) (r : RoundState) → ((round_submission from item r).answer ≡ answers.Late) ↔ IsSome r.closed
 unfolding round_submission
 late_submission from item r = late_at (is_some r.closed) (has_from from r.open_items) (is_full r.open_items) r (submitted_entry from item)
 
@@ -88,7 +88,7 @@ known_at false true full from r entry c k = (λ e. record { open_yet = none_wher
 known_at false false true from r entry c k = (λ e. absurd (omega (arith, ap mark e)), λ w. absurd (false≢true (sym k ∙ w.there)))
 known_at false false false from r entry c k = (λ e. absurd (omega (arith, ap mark e)), λ w. absurd (false≢true (sym k ∙ w.there)))
 
-pub known_submission : (from : ℕ) (item : Node) (r : RoundState) → ((round_submission from item r).answer ≡ answers.Known) ↔ IsKnown from r
+pub known_submission : (from : ℕ) (item : Item) (r : RoundState) → ((round_submission from item r).answer ≡ answers.Known) ↔ IsKnown from r
 unfolding round_submission
 known_submission from item r = known_at (is_some r.closed) (has_from from r.open_items) (is_full r.open_items) from r (submitted_entry from item) refl refl
 
@@ -99,7 +99,7 @@ full_at false true full from r entry c k f = (λ e. absurd (omega (arith, ap mar
 full_at false false true from r entry c k f = (λ e. record { full = record { open_yet = none_where r.closed c; count = eqb-true _ _ f }; other = k }, λ w. refl)
 full_at false false false from r entry c k f = (λ e. absurd (omega (arith, ap mark e)), λ w. absurd (false≢true (sym f ∙ eq-eqb _ _ w.full.count)))
 
-pub full_submission : (from : ℕ) (item : Node) (r : RoundState) → ((round_submission from item r).answer ≡ answers.Full) ↔ IsFullFor from r
+pub full_submission : (from : ℕ) (item : Item) (r : RoundState) → ((round_submission from item r).answer ≡ answers.Full) ↔ IsFullFor from r
 unfolding round_submission
 full_submission from item r = full_at (is_some r.closed) (has_from from r.open_items) (is_full r.open_items) from r (submitted_entry from item) refl refl refl
 

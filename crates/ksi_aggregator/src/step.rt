@@ -1,6 +1,6 @@
 ghost use Rattle.std.specs.Prelude.{◌≡◌, []};
 
-use ksi_aggchain::Node;
+use ksi_aggtree::Item;
 use ksi_signature::{Above, Answer};
 use std::alloc::Global;
 use std::marker::Model;
@@ -8,8 +8,8 @@ use std::marker::Model;
 /// What an aggregator sends, for the second of the step.
 #[derive(Drop)]
 pub enum Send {
-    /// The item of its round, to its parent.
-    Submission(Node),
+    /// The item that the tree of its round is submitted as, to its parent.
+    Submission(Item),
     /// What stands above an item, to the aggregator of this number, which submitted it.
     Response(u32, Above),
 }

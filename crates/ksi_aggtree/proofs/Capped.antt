@@ -1,19 +1,20 @@
 -- No level of a round's tree passes 255, so that the cap is never met.
-use Rattle.std.proofs.Common.{◌≡◌, ℕ, zero, suc, ◌+◌, ◌-◌, ◌^◌, ◌<◌, ◌≤◌, List, [], ◌∷◌, ◌++◌, length, max, min, Some, None, refl, sym, ap, ◌∙◌, arith, inl, inr, length-append}
+use Rattle.std.proofs.Common.{◌≡◌, ℕ, zero, suc, ◌+◌, ◌-◌, ◌^◌, ◌<◌, ◌≤◌, List, [], ◌∷◌, ◌++◌, length, map, max, min, Some, None, refl, sym, ap, ◌∙◌, arith, inl, inr, length-append}
 use Rattle.std.proofs.Math.Nat.{pow-le-pow_right}
-use Rattle.std.proofs.lemmas.List.{get_or_append_left}
+use Rattle.std.proofs.lemmas.List.{get_or_append_left, length-map, map-append}
 use Rattle.std.proofs.Math.Seq.{get_or-append_seam}
-use Rattle.std.proofs.Math.ListN.{get_or-eq_default}
+use Rattle.std.proofs.Math.ListN.{get_or-eq_default, get_or-map}
 use Rattle.ksi_split.specs.declared.side.Side.{Side}
 use Rattle.ksi_split.specs.declared.side.Side.TheVariants.{Left, Right}
 use Rattle.ksi_split.specs.Parts.{Part, half_of, part_at}
 use Rattle.ksi_split.specs.Trees.{tree_within, tree, path_within, path_of, node_in, node_at}
 use Rattle.ksi_split.proofs.Powers.{lt_cases, le_cases, eq_cases, doubled, split_is}
-use Rattle.ksi_split.proofs.Levels.{tree_at}
+use Rattle.ksi_split.proofs.Within.{tree_at}
 use Rattle.ksi_split.proofs.Upward.{path_at}
-use Rattle.ksi_rows.specs.Leaves.{leaf_at}
+use Rattle.ksi_split.specs.Leaves.{Leaves, leaf_at, leaf_of}
 use Rattle.ksi_aggchain.specs.declared.node.Node.{Node}
-use Rattle.ksi_aggtree.specs.Rounds.{joined_at, aggregation_join, capped_join, item_at, no_item, tree_of, root_from, root_of, node_from, node_of, tree_path, IsRound}
+use Rattle.ksi_aggtree.specs.declared.item.Item.{Item}
+use Rattle.ksi_aggtree.specs.Rounds.{joined_at, aggregation_join, capped_join, item_at, leaf, leaf_of_place, no_item, tree_of, root_from, root_of, node_from, node_of, tree_path, IsRound, AreLeaves}
 
 module _ (image : List ℕ → List ℕ) (leaf : ℕ → Node) (low : (i : ℕ) → (leaf i).level ≤ 239) where
   same_join : (a b : Node) (k : ℕ) → a.level ≤ 239 + k → b.level ≤ 239 + k → k < 16 → (capped_join image a b ≡ aggregation_join image a b) × ((aggregation_join image a b).level ≤ 239 + suc k)
@@ -78,14 +79,21 @@ module _ (image : List ℕ → List ℕ) (leaf : ℕ → Node) (low : (i : ℕ) 
 same_functions : {A B : Type 0} (f g : A → B) → ((x : A) → f x ≡ g x) → f ≡ g
 same_functions f g h = λ j x. h x j
 
-same_items : (items : List Node) (i : ℕ) → leaf_at 0 no_item items i ≡ item_at items i
-same_items items i = elim (lt_cases i 0) [
+same_leaves : (items : List Item) (i : ℕ) → leaf_at 0 (leaf no_item) (map leaf items) i ≡ leaf_of_place items i
+same_leaves items i = elim (lt_cases i 0) [
   | inl t ↦ absurd (omega arith)
-  | inr w ↦ (let e : i - 0 ≡ i = omega arith in rw (w.0, e) refl)
+  | inr w ↦ (let e : i - 0 ≡ i = omega arith in rw (w.0, e) (get_or-map leaf items i no_item))
 ]
 
-pub leaves_are : (start : ℕ) (before : Node) (items : List Node) → start ≡ 0 → before ≡ no_item → leaf_at start before items ≡ item_at items
-leaves_are start before items s b = ap (λ (n : ℕ). leaf_at n before items) s ∙ ap (λ (x : Node). leaf_at 0 x items) b ∙ same_functions (leaf_at 0 no_item items) (item_at items) (same_items items)
+pub leaves_are : (leaves : Leaves Node) (items : List Item) → AreLeaves leaves items → leaf_of leaves ≡ leaf_of_place items
+leaves_are leaves items h =
+    ap (λ (n : ℕ). leaf_at n leaves.before leaves.items) h.start
+    ∙ ap (λ (x : Node). leaf_at 0 x leaves.items) h.before
+    ∙ ap (leaf_at 0 (leaf no_item)) h.nodes
+    ∙ same_functions (leaf_at 0 (leaf no_item) (map leaf items)) (leaf_of_place items) (same_leaves items)
+
+pub leaves_count : (leaves : Leaves Node) (items : List Item) → AreLeaves leaves items → length leaves.items ≡ length items
+leaves_count leaves items h = ap length h.nodes ∙ length-map items leaf
 
 some_root : (count : ℕ) (root : Node) → 0 < count → Some root ≡ root_from count root
 some_root zero root some = absurd (omega arith)
@@ -95,46 +103,51 @@ pub no_root : (count : ℕ) (root : Node) → count ≡ 0 → None ≡ root_from
 no_root zero root none = refl
 no_root (suc n) root none = absurd (omega arith)
 
-pub no_node : (image : List ℕ → List ℕ) (items : List Node) (sides : List Side) (count : ℕ) → count ≡ 0 → None ≡ node_from image items count sides
+pub no_node : (image : List ℕ → List ℕ) (items : List Item) (sides : List Side) (count : ℕ) → count ≡ 0 → None ≡ node_from image items count sides
 no_node image items sides zero none = refl
 no_node image items sides (suc n) none = absurd (omega arith)
 
-pub round_root : (image : List ℕ → List ℕ) (start : ℕ) (before : Node) (items : List Node) (n : ℕ) → start ≡ 0 → before ≡ no_item → IsRound items → n ≡ length items → 0 < n
-    → Some (tree (capped_join image) (leaf_at start before items) 0 n) ≡ root_of image items
-round_root image start before items n s b round count some =
-    ap (λ (f : ℕ → Node). Some (tree (capped_join image) f 0 n)) (leaves_are start before items s b)
-    ∙ ap (λ (x : Node). Some x) (capped_tree image (item_at items) round.low 0 n (let few = round.few in omega arith))
-    ∙ ap (λ (m : ℕ). Some (tree (aggregation_join image) (item_at items) 0 m)) count
-    ∙ some_root (length items) (tree_of image items) (omega arith)
-
-pub last_node : (image : List ℕ → List ℕ) (items : List Node) (sides : List Side) (n last : ℕ) → n ≡ last + 1 → node_at (aggregation_join image) (item_at items) last sides ≡ node_from image items n sides
+pub last_node : (image : List ℕ → List ℕ) (items : List Item) (sides : List Side) (n last : ℕ) → n ≡ last + 1 → node_at (aggregation_join image) (leaf_of_place items) last sides ≡ node_from image items n sides
 last_node image items sides zero last e = absurd (omega arith)
-last_node image items sides (suc n) last e = let same : last ≡ n = omega arith in ap (λ (m : ℕ). node_at (aggregation_join image) (item_at items) m sides) same
+last_node image items sides (suc n) last e = let same : last ≡ n = omega arith in ap (λ (m : ℕ). node_at (aggregation_join image) (leaf_of_place items) m sides) same
 
-pub round_node : (image : List ℕ → List ℕ) (start : ℕ) (before : Node) (items : List Node) (last : ℕ) (sides : List Side) → start ≡ 0 → before ≡ no_item → IsRound items → length items ≡ last + 1
-    → node_at (capped_join image) (leaf_at start before items) last sides ≡ node_of image items sides
-round_node image start before items last sides s b round count =
-    ap (λ (f : ℕ → Node). node_at (capped_join image) f last sides) (leaves_are start before items s b)
-    ∙ capped_node image (item_at items) round.low last sides (let few = round.few in omega arith)
-    ∙ last_node image items sides (length items) last count
+module _ (image : List ℕ → List ℕ) (leaves : Leaves Node) (items : List Item) (kept : AreLeaves leaves items) (round : IsRound items) where
+  pub round_root : (n : ℕ) → n ≡ length items → 0 < n → Some (tree (capped_join image) (leaf_of leaves) 0 n) ≡ root_of image items
+  round_root n count some =
+      ap (λ (f : ℕ → Node). Some (tree (capped_join image) f 0 n)) (leaves_are leaves items kept)
+      ∙ ap (λ (x : Node). Some x) (capped_tree image (leaf_of_place items) round.low 0 n (let few = round.few in omega arith))
+      ∙ ap (λ (m : ℕ). Some (tree (aggregation_join image) (leaf_of_place items) 0 m)) count
+      ∙ some_root (length items) (tree_of image items) (omega arith)
 
-pub round_path : (image : List ℕ → List ℕ) (start : ℕ) (before : Node) (items : List Node) (k n : ℕ) → start ≡ 0 → before ≡ no_item → IsRound items → n ≡ length items
-    → path_of (capped_join image) (leaf_at start before items) 0 k n ≡ tree_path image items k
-round_path image start before items k n s b round count =
-    ap (λ (f : ℕ → Node). path_of (capped_join image) f 0 k n) (leaves_are start before items s b)
-    ∙ capped_path image (item_at items) round.low 0 k n (let few = round.few in omega arith)
-    ∙ ap (path_of (aggregation_join image) (item_at items) 0 k) count
+  pub round_node : (last : ℕ) (sides : List Side) → length items ≡ last + 1 → node_at (capped_join image) (leaf_of leaves) last sides ≡ node_of image items sides
+  round_node last sides count =
+      ap (λ (f : ℕ → Node). node_at (capped_join image) f last sides) (leaves_are leaves items kept)
+      ∙ capped_node image (leaf_of_place items) round.low last sides (let few = round.few in omega arith)
+      ∙ last_node image items sides (length items) last count
+
+  pub round_path : (k n : ℕ) → n ≡ length items → path_of (capped_join image) (leaf_of leaves) 0 k n ≡ tree_path image items k
+  round_path k n count =
+      ap (λ (f : ℕ → Node). path_of (capped_join image) f 0 k n) (leaves_are leaves items kept)
+      ∙ capped_path image (leaf_of_place items) round.low 0 k n (let few = round.few in omega arith)
+      ∙ ap (path_of (aggregation_join image) (leaf_of_place items) 0 k) count
 
 -- one item more
-pub round_more : (items : List Node) (x : Node) → IsRound items → length items < 65536 → x.level ≤ 239 → IsRound (items ++ x ∷ [])
+pub leaves_more : (leaves : Leaves Node) (items : List Item) (item : Item) → AreLeaves leaves items → AreLeaves (record leaves { items = leaves.items ++ leaf item ∷ [] }) (items ++ item ∷ [])
+leaves_more leaves items item h = record {
+  start = h.start;
+  before = h.before;
+  nodes = ap (λ (nodes : List Node). nodes ++ leaf item ∷ []) h.nodes ∙ sym (map-append leaf items (item ∷ []));
+}
+
+pub round_more : (items : List Item) (x : Item) → IsRound items → length items < 65536 → x.level ≤ 239 → IsRound (items ++ x ∷ [])
 round_more items x round room low = record {
   few = omega (arith, length-append items (x ∷ []));
   low = λ k. elim (lt_cases k (length items)) [
-    | inl t ↦ (let e = ap (λ (y : Node). y.level) (get_or_append_left items (x ∷ []) no_item k t.1) in omega (arith, e, round.low k))
+    | inl t ↦ (let e = ap (λ (y : Item). y.level) (get_or_append_left items (x ∷ []) no_item k t.1) in omega (arith, e, round.low k))
     | inr w ↦ elim (le_cases k (length items)) [
       | inl le ↦ (let at : k ≡ length items = omega arith in
-          let e = ap (λ (y : Node). y.level) (ap (item_at (items ++ x ∷ [])) at ∙ get_or-append_seam items x [] no_item) in omega (arith, e))
-      | inr above ↦ (let e = ap (λ (y : Node). y.level) (get_or-eq_default (items ++ x ∷ []) no_item {n = k} (omega (arith, length-append items (x ∷ [])))) in omega (arith, e))
+          let e = ap (λ (y : Item). y.level) (ap (item_at (items ++ x ∷ [])) at ∙ get_or-append_seam items x [] no_item) in omega (arith, e))
+      | inr above ↦ (let e = ap (λ (y : Item). y.level) (get_or-eq_default (items ++ x ∷ []) no_item {n = k} (omega (arith, length-append items (x ∷ [])))) in omega (arith, e))
     ]
   ];
 }

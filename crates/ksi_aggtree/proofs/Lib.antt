@@ -2,3 +2,4 @@ pub mod Capped
 pub mod Climbing
 pub mod Chains
 pub mod Beside
+pub mod Halves

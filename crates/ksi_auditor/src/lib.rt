@@ -24,7 +24,7 @@
 mod answer;
 mod auditing;
 mod calendar;
-mod climbing;
+mod reached;
 mod deep;
 mod items;
 mod kept;

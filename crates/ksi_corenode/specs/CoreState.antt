@@ -5,7 +5,7 @@ use Rattle.std.specs.BTreeMap.{is_at}
 use Rattle.std.specs.Map.{lookup}
 use Rattle.ksi_corenode.specs.declared.step.Step.{Step}
 use Rattle.ksi_corenode.specs.SecondState.{SecondState, fresh_second}
-use Rattle.ksi_corenode.specs.Held.{Held}
+use Rattle.ksi_calendar.specs.Covered.{Roots}
 use Rattle.ksi_corenode.specs.Turns.{Turn}
 
 -- its number, how many cores there are, the first second, and the seconds that something came for
@@ -20,7 +20,7 @@ unfoldable pub state_of : CoreState → (second : ℕ) → SecondState
 state_of core second = unwrap_or (lookup (is_at (nat_cmp second)) core.kept) (fresh_second core.me core.members second)
 
 -- what the core holds for each second
-abbrev pub held_by : CoreState → Held
+abbrev pub held_by : CoreState → Roots
 held_by core second = (state_of core second).vote.held
 
 -- the core is as it was

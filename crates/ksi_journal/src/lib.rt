@@ -11,7 +11,7 @@
 //! ```text
 //! let journal = load::<Sha>(alloc, bytes)?;
 //! if journal.first_missing(p).is_none() {
-//!     let root = journal.calendar().root_at(p);
+//!     let root = journal.calendar().root_to(p);
 //! }
 //! let text = write(alloc, &journal)?;
 //! ```

@@ -1,7 +1,7 @@
 use Rattle.std.proofs.Common.{◌≤◌, ◌∙◌, List, length, sym, subst}
 use Rattle.std.specs.List.{AllByRecursion}
 use Rattle.ksi_aggchain.specs.declared.link.Link.{Link}
-use Rattle.ksi_aggtree.specs.Rounds.{item_at, tree_path}
+use Rattle.ksi_aggtree.specs.Rounds.{leaf_of_place, tree_path}
 use Rattle.ksi_aggtree.specs.Entries.{items_of}
 use Rattle.ksi_signature.specs.Above.{IsNode}
 use Rattle.ksi_aggregator.proofs.Items.{read_item, nodes_from, chain_like}
@@ -13,7 +13,7 @@ from_vec-requires g c =
     record {
       count = subst (λ (links : List Link). length links ≤ 16) (sym c.into_vec.ensures) c.in_ok-links.ensures.few;
       nodes = subst (λ (links : List Link). AllByRecursion (λ (link : Link). IsNode link.sibling) links) (sym (c.into_vec.ensures ∙ c.in_ok-links.ensures.links))
-          (nodes_from (item_at items c.args.k).level (tree_path g.C.Compress.image items c.args.k));
+          (nodes_from (leaf_of_place items c.args.k).level (tree_path g.C.Compress.image items c.args.k));
     }
 
 pub returns : goal.returns
