@@ -11,6 +11,8 @@ use Rattle.ksi_signature.specs.declared.signature.Signature.{Signature}
 use Rattle.ksi_signature.specs.Values.{Calendar, Publishing}
 use Rattle.ksi_signature.specs.Reading.{signature_at}
 use Rattle.ksi_signature.specs.Extended.{extended_content, extended_text, IsTooLong}
+use Rattle.ksi_journal.specs.Journal.{Contents}
+use Rattle.ksi_journal.specs.Calendar.{calendar_of}
 use Rattle.ksi_verifier.specs.declared.aggregated.Aggregated.{Aggregated}
 use Rattle.ksi_verifier.specs.ChainChecks.{aggregated}
 use Rattle.ksi_extender.specs.declared.refusal.ExtendRefusal.{ExtendRefusal}
@@ -44,6 +46,11 @@ wanted bytes fault refusal malformed memory (inl stands) =
 wanted bytes fault refusal malformed memory (inr wanting) = (wanting.1, wanting.2)
 
 -- ---- the new bytes
+
+-- the calendar of a journal starts where the journal does
+pub starts : (journal : Contents) → (calendar_of journal).start ≡ journal.start
+unfolding calendar_of
+starts journal = refl
 
 -- what is climbed from the leaf is the root
 pub hash_is : (image : List ℕ → List ℕ) (seconds kept : Seconds) (t p : ℕ) (input hash : List ℕ) (links given : List (TreeLink (List ℕ)))

@@ -14,8 +14,8 @@ use Rattle.ksi_verifier.specs.declared.aggregated.Aggregated.{Aggregated}
 use Rattle.ksi_verifier.specs.declared.refusal.Refusal.{Refusal}
 use Rattle.ksi_verifier.specs.declared.refusal.Refusal.TheVariants.{MissedSecond}
 use Rattle.ksi_verifier.specs.ChainChecks.{aggregated}
-use Rattle.ksi_journal.specs.Journal.{Contents}
-use Rattle.ksi_journal.specs.Calendar.{leaf_at, first_missing}
+use Rattle.ksi_calendar.specs.Covered.{first_missing, second_leaf}
+use Rattle.ksi_journal.specs.Journal.{Contents, root_at}
 use Rattle.ksi_extender.specs.declared.refusal.ExtendRefusal.{ExtendRefusal}
 use Rattle.ksi_extender.specs.declared.refusal.ExtendRefusal.TheVariants as refusals
 use Rattle.ksi_extender.specs.Checks.{◌>>=◌, ◌>>◌, need}
@@ -83,8 +83,8 @@ by_chains : (image : List ℕ → List ℕ) (journal : Contents) (bytes : List �
 by_chains image journal bytes p (Err refusal) fault e = absurd cc
 by_chains image journal bytes p (Ok chains) fault e =
     let size = length (extended_content bytes (chain_to image journal chains.time p) (record_to image journal p)) in
-    checked (not (bytes_eq chains.item.imprint zero_imprint)) (nat_le journal.start chains.time) (nat_le chains.time p) (bytes_eq (leaf_at journal chains.time) chains.item.imprint) (nat_le size 65535)
-    (first_missing journal p) chains.time p (min size (2 ^ 64 - 1)) (leaf_at journal chains.time) chains.item.imprint (extended_text bytes (chain_to image journal chains.time p) (record_to image journal p)) fault e
+    checked (not (bytes_eq chains.item.imprint zero_imprint)) (nat_le journal.start chains.time) (nat_le chains.time p) (bytes_eq (second_leaf (root_at journal) journal.start chains.time) chains.item.imprint) (nat_le size 65535)
+    (first_missing (root_at journal) journal.start p) chains.time p (min size (2 ^ 64 - 1)) (second_leaf (root_at journal) journal.start chains.time) chains.item.imprint (extended_text bytes (chain_to image journal chains.time p) (record_to image journal p)) fault e
 
 by_reading : (image : List ℕ → List ℕ) (journal : Contents) (bytes : List ℕ) (p : ℕ) (r : Result Signature SignatureFault) (fault : SignatureFault) → ((or_malformed r >>= (λ (s : Signature). or_refused (aggregated image s))) >>= next image journal bytes p) ≡ Err (refusals.Malformed fault) → r ≡ Err fault
 by_reading image journal bytes p (Err other) fault e = let same : other ≡ fault = cc in ap (λ (f : SignatureFault). Err f) same
