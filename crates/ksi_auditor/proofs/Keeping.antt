@@ -7,9 +7,10 @@ use Rattle.ksi_split.specs.Trees.{tree, tree_within}
 use Rattle.ksi_aggchain.specs.declared.node.Node.{Node}
 use Rattle.ksi_aggtree.specs.Rounds.{item_at, tree_of}
 use Rattle.ksi_calendar.specs.Calendar.{calendar_leaf}
+use Rattle.ksi_calendar.specs.Covered.{second_leaf}
 use Rattle.ksi_journal.specs.declared.second.Second.{Second}
 use Rattle.ksi_journal.specs.Journal.{Contents, IsItem, IsRootOf, IsSecond, IsJournal, kept_among, root_at, items_of, items_at}
-use Rattle.ksi_journal.specs.Calendar.{calendar_of, roots_from, leaf_at}
+use Rattle.ksi_journal.specs.Calendar.{calendar_of, roots_from}
 use Rattle.ksi_auditor.proofs.Cases.{lt_cases, eq_cases}
 
 -- what holds of each leaf and of each join holds of a tree
@@ -69,13 +70,13 @@ module _ (image : List ℕ → List ℕ) where
   -- the leaf of a second that is not the zero imprint is the root of its items
   pub record HasItems (j : Contents) (t : ℕ) : Type 0 where
     pub some : 0 < length (items_at j t)
-    pub root : (tree_of image (items_at j t)).imprint ≡ leaf_at j t
+    pub root : (tree_of image (items_at j t)).imprint ≡ second_leaf (root_at j) j.start t
 
   rooted : (items : List Node) (root : List ℕ) → IsRootOf image items root → root ≢ zero_imprint → (0 < length items) × ((tree_of image items).imprint ≡ root)
   rooted [] root is other = absurd (other is)
   rooted (item ∷ items) root is other = (omega arith, is.1)
 
-  pub leaf_has_items : (j : Contents) (t : ℕ) → IsJournal image j → leaf_at j t ≢ zero_imprint → HasItems j t
+  pub leaf_has_items : (j : Contents) (t : ℕ) → IsJournal image j → second_leaf (root_at j) j.start t ≢ zero_imprint → HasItems j t
   unfolding items_at root_at
   leaf_has_items j t journal other = elim (lt_cases t j.start) [
     | inl before ↦ absurd (other (rw before.0 refl))
@@ -85,7 +86,7 @@ module _ (image : List ℕ → List ℕ) where
       of : (found : Option Second) → kept_among j.seconds t ≡ found → nat_lt t j.start ≡ false → HasItems j t
       of None e from = absurd (other (rw (from, e) refl))
       of (Some kept) e from =
-          let leaf : leaf_at j t ≡ kept.root = rw (from, e) refl in
+          let leaf : second_leaf (root_at j) j.start t ≡ kept.root = rw (from, e) refl in
           let is = rooted kept.items kept.root (kept_is j.seconds t kept journal.seconds e).tree (λ zero_root. other (leaf ∙ zero_root)) in
           let items : items_at j t ≡ kept.items = ap items_of e in
           record { some = rw items is.0; root = rw items (is.1 ∙ sym leaf) }

@@ -8,12 +8,12 @@ use Rattle.ksi_aggchain.specs.Climbing.{Climbs}
 use Rattle.ksi_aggchain.specs.declared.node.Node.{Node}
 use Rattle.ksi_aggtree.specs.Rounds.{item_at, node_of}
 use Rattle.ksi_calchain.specs.Sides.{sides_from_top}
+use Rattle.ksi_calendar.specs.Covered.{IsCovered, covered_root}
 use Rattle.ksi_signature.specs.Values.{Calendar}
 use Rattle.ksi_signature.specs.declared.signature.Signature.{Signature}
 use Rattle.ksi_verifier.specs.Chains.{at_level_zero}
 use Rattle.ksi_verifier.specs.Verdict.{chain_root}
-use Rattle.ksi_journal.specs.Journal.{Contents, items_at}
-use Rattle.ksi_journal.specs.Calendar.{IsCovered, kept_root}
+use Rattle.ksi_journal.specs.Journal.{Contents, root_at, items_at}
 use Rattle.ksi_auditor.specs.declared.answer.Audit.{Audit}
 use Rattle.ksi_auditor.specs.declared.answer.Audit.TheVariants.{Inside, Beneath, Clash, NotAccepted, BeforeStart, Undecided, NotDecided}
 use Rattle.ksi_auditor.specs.Audit.{links_of, link_sides}
@@ -49,8 +49,8 @@ pub record IsBeneath (image : List ℕ → List ℕ) (journal : Contents) (signa
 pub record IsDecided (image : List ℕ → List ℕ) (journal : Contents) (signature : Signature) : Type 0 where
   pub calendar : Calendar
   pub has_calendar : signature.calendar ≡ Some calendar
-  pub covered : IsCovered journal calendar.publication
-  pub root : chain_root image calendar ≡ kept_root image journal calendar.publication
+  pub covered : IsCovered (root_at journal) journal.start calendar.publication
+  pub root : chain_root image calendar ≡ covered_root image (root_at journal) journal.start calendar.publication
 
 -- so short strings that a line can show both: each is an imprint, a sibling of at most 4,096 bytes and a level
 abbrev pub AreShort : clashes.Clash → Type 0

@@ -3,8 +3,8 @@ ghost use Rattle.ksi_aggchain.specs.Climbing.{level_after};
 ghost use Rattle.ksi_aggtree.specs.Rounds.{item_at};
 ghost use Rattle.ksi_verifier.specs.Chains.{plain_chains};
 ghost use Rattle.ksi_verifier.specs.Leading.{all_links};
-ghost use Rattle.ksi_journal.specs.Journal.{IsJournal};
-ghost use Rattle.ksi_journal.specs.Calendar.{first_missing, kept_root};
+ghost use Rattle.ksi_calendar.specs.Covered.{first_missing, covered_root};
+ghost use Rattle.ksi_journal.specs.Journal.{IsJournal, root_at};
 ghost use Rattle.ksi_auditor.specs.Audit.{audit, compared, item_named, kept_or_not, laid_beside, links_of};
 ghost use Rattle.ksi_auditor.specs.Shown.{IsShort, Shows, Tells};
 ghost use Rattle.ksi_auditor.specs.declared.answer.Audit.TheVariants as answers;
@@ -18,8 +18,10 @@ use crate::walk::{Walk, along_calendar, along_chains};
 use ksi_aggchain::Node;
 use ksi_aggtree::Builder;
 use ksi_calchain::climb_calendar;
+use ksi_calendar::laws::one_first_missing;
 use ksi_imprint::{Compress, Imprint, NoMemory};
 use ksi_journal::Journal;
+use ksi_journal::laws::calendar_is_covered;
 use ksi_publications::Publications;
 use ksi_signature::{AggregationChain, CalendarChain, Signature};
 use ksi_split::second_of;
@@ -111,10 +113,13 @@ fn decide<C: Compress>(
 /// The kept root of the seconds from 0 to one that is covered.
 fn root_to<C: Compress>(journal: &Journal<C>, last: u64) -> Imprint
     requires from { journal.now.start ≤ last }
-    requires kept { first_missing journal.now last ≡ None }
-    ensures { result ≡ kept_root C.image journal.now last }
+    requires kept { first_missing (root_at journal.now) journal.now.start last ≡ None }
+    requires journal { IsJournal C.image journal.now }
+    ensures { result ≡ covered_root C.image (root_at journal.now) journal.now.start last }
 {
-    match journal.calendar().root_at(last) {
+    calendar_is_covered();
+    one_first_missing();
+    match journal.calendar().root_to(last) {
         Some(root) => root,
         None => Imprint::ZERO,
     }

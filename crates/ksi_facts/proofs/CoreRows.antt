@@ -21,7 +21,7 @@ use Rattle.ksi_synod.specs.Rows.{seal, seal_of, try_ballot, try_ballot_of, great
 use Rattle.ksi_signature.specs.declared.answer.Answer.{Answer}
 use Rattle.ksi_corenode.specs.SecondState.{SecondState}
 use Rattle.ksi_corenode.specs.Turns.{Turn, told, to_each}
-use Rattle.ksi_corenode.specs.Held.{Held, first_missing}
+use Rattle.ksi_calendar.specs.Covered.{Roots, first_missing}
 use Rattle.ksi_corenode.specs.Rows.{submitted, submission_row, item_taken, seal_row, sealed_now, ballot_row, receive_row, news_answer, tell_row, respond_row, respond_where, is_mine, restart_row}
 use Rattle.ksi_schedule.specs.declared.actor.Actor.TheVariants as actors
 use Rattle.ksi_world.specs.declared.message.Content.TheVariants as contents
@@ -143,7 +143,7 @@ module _ (image : List ℕ → List ℕ) (voters : List ℕ) {me : ℕ} (small :
   unfolding tell_row
   tell_so n t i = so
 
-  pub respond_so : (held : Held) (start t : ℕ) → IsSo image voters me ds (respond_row image held start t s).after
+  pub respond_so : (held : Roots) (start t : ℕ) → IsSo image voters me ds (respond_row image held start t s).after
   unfolding respond_row
   respond_so held start t = by s.sealed (first_missing held start t) (held t)
     where

@@ -12,7 +12,7 @@ use Rattle.ksi_signature.specs.declared.answer.Answer.TheVariants as answers
 use Rattle.ksi_corenode.specs.SecondState.{SecondState}
 use Rattle.ksi_corenode.specs.Turns.{Turn}
 use Rattle.ksi_corenode.specs.Rows.{submitted, submission_row, seal_row, ballot_row, receive_row, tell_row, respond_row, respond_where, is_mine}
-use Rattle.ksi_corenode.specs.Held.{Held, first_missing}
+use Rattle.ksi_calendar.specs.Covered.{Roots, first_missing}
 use Rattle.ksi_aggtree.specs.declared.entries.Entry.{Entry}
 use Rattle.ksi_aggregator.specs.Rows.{RoundState, RoundTurn, submitted_entry, round_request, round_submission, round_close, round_response}
 use Rattle.ksi_schedule.specs.declared.actor.Actor.{Actor}
@@ -50,7 +50,7 @@ told_after : (n t j : ℕ) (s : SecondState) → (tell_row n t j s).after ≡ s
 unfolding tell_row
 told_after n t j s = refl
 
-responded_after : (image : List ℕ → List ℕ) (held : Held) (start t : ℕ) (s : SecondState) → (respond_row image held start t s).after ≡ s
+responded_after : (image : List ℕ → List ℕ) (held : Roots) (start t : ℕ) (s : SecondState) → (respond_row image held start t s).after ≡ s
 unfolding respond_row
 responded_after image held start t s = by s.sealed (first_missing held start t) (held t)
   where

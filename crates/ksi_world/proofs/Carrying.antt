@@ -26,7 +26,7 @@ use Rattle.ksi_corenode.specs.declared.step.Send as core_step
 use Rattle.ksi_corenode.specs.declared.step.Send.TheVariants as core_sends
 use Rattle.ksi_corenode.specs.SecondState.{SecondState, fresh_second}
 use Rattle.ksi_corenode.specs.Turns.{Turn, still, to_each, told}
-use Rattle.ksi_corenode.specs.Held.{Held, first_missing, held_seconds}
+use Rattle.ksi_calendar.specs.Covered.{Roots, first_missing, covered_seconds}
 use Rattle.ksi_corenode.specs.Rows.{submission_row, submitted, item_taken, seal_row, sealed_now, ballot_row, receive_row, tell_row, respond_row, respond_where, responded, responses_from, response_to, above_item, is_mine, restart_row}
 use Rattle.ksi_aggregator.specs.declared.step.Send as round_step
 use Rattle.ksi_aggregator.specs.declared.step.Send.TheVariants as round_sends
@@ -237,7 +237,7 @@ module _ (P : List ℕ → Type 0) where
           let old = all.seconds j t in
           core_turned w j t (tell_row plan.cores t j s) (record { open_items = old.open_items; sealed = old.sealed }) (each_told plan.cores t j (held_told s.vote.held)) all
 
-      respond_all : (j t : ℕ) (held : Held) → AllOf (at_core w j t (respond_row image held plan.start t (w.seconds j t))).world
+      respond_all : (j t : ℕ) (held : Roots) → AllOf (at_core w j t (respond_row image held plan.start t (w.seconds j t))).world
       unfolding respond_row
       respond_all j t held = by (w.seconds j t).sealed refl (first_missing held plan.start t) (held t)
         where
@@ -250,7 +250,7 @@ module _ (P : List ℕ → Type 0) where
               let have = (all.seconds j t).sealed entries at in
               cond_both (is_mine image entries root) _ _ (λ turn. AllOf (at_core w j t turn).world)
               (λ _. core_turned w j t (responded image held plan.start t entries root (w.seconds j t)) (all.seconds j t)
-              (core_responses (above_item image (held_seconds held plan.start t) t root (items_of entries)) (length entries) 0 entries (λ k lt. (chain_of_round entries round have k lt, tt)) (omega arith)) all)
+              (core_responses (above_item image (covered_seconds held plan.start t) t root (items_of entries)) (length entries) 0 entries (λ k lt. (chain_of_round entries round have k lt, tt)) (omega arith)) all)
               (λ _. still_all j t answers.NotMine)
 
       -- AN AGGREGATOR'S TURNS

@@ -9,7 +9,7 @@ use Rattle.ksi_synod.specs.declared.messages.SynodMessage.{SynodMessage}
 use Rattle.ksi_signature.specs.declared.above.Above.{Above}
 use Rattle.ksi_corenode.specs.SecondState.{SecondState}
 use Rattle.ksi_corenode.specs.Turns.{Turn}
-use Rattle.ksi_corenode.specs.Held.{Held, first_missing}
+use Rattle.ksi_calendar.specs.Covered.{Roots, first_missing}
 use Rattle.ksi_corenode.specs.Rows.{submission_row, seal_row, ballot_row, receive_row, tell_row, respond_row, respond_where, is_mine, restart_row}
 use Rattle.ksi_aggregator.specs.Rows.{RoundState, RoundTurn, fresh_round, round_request, round_submission, round_close, round_response, response_where, round_restarted}
 use Rattle.ksi_schedule.specs.declared.actor.Actor.{Actor}
@@ -85,7 +85,7 @@ pub tell_holds : (members t j : ℕ) (s : SecondState) → Holds s (tell_row mem
 unfolding tell_row
 tell_holds members t j s d is = is
 
-pub respond_after : (image : List ℕ → List ℕ) (held : Held) (start t : ℕ) (s : SecondState) → (respond_row image held start t s).after ≡ s
+pub respond_after : (image : List ℕ → List ℕ) (held : Roots) (start t : ℕ) (s : SecondState) → (respond_row image held start t s).after ≡ s
 unfolding respond_row
 respond_after image held start t s = by s.sealed (first_missing held start t) (held t)
   where
@@ -95,7 +95,7 @@ respond_after image held start t s = by s.sealed (first_missing held start t) (h
     by (Some entries) None None = refl
     by (Some entries) None (Some root) = cond_both (is_mine image entries root) _ _ (λ (turn : Turn). turn.after ≡ s) (λ _. refl) (λ _. refl)
 
-pub respond_holds : (image : List ℕ → List ℕ) (held : Held) (start t : ℕ) (s : SecondState) → Holds s (respond_row image held start t s).after
+pub respond_holds : (image : List ℕ → List ℕ) (held : Roots) (start t : ℕ) (s : SecondState) → Holds s (respond_row image held start t s).after
 respond_holds image held start t s d is = ap (λ (s : SecondState). s.vote.held) (respond_after image held start t s) ∙ is
 
 -- THE ROWS OF AN AGGREGATOR

@@ -22,7 +22,7 @@ use Rattle.ksi_aggtree.specs.Paths.{links_from, chain_of}
 use Rattle.ksi_aggtree.specs.Entries.{items_of, candidate_of}
 use Rattle.ksi_signature.specs.Above.{IsNode, AreRoundLinks}
 use Rattle.ksi_signature.specs.declared.above.AboveChain.{AboveChain}
-use Rattle.ksi_corenode.specs.Held.{Held, roots_among, held_seconds, held_root}
+use Rattle.ksi_calendar.specs.Covered.{Roots, roots_among, covered_seconds, covered_root}
 use Rattle.ksi_aggregator.specs.Responses.{chain_at}
 use Rattle.ksi_world.proofs.Joining.{ItemClimbs}
 use Rattle.ksi_world.proofs.Sending.{TreeRises}
@@ -152,7 +152,7 @@ module _ (P : List ℕ → Type 0) (zero_too : P zero_imprint) (image : List ℕ
 
   -- CALENDARS
 
-  module _ (held : Held) (are : (t : ℕ) (root : List ℕ) → held t ≡ Some root → P root) where
+  module _ (held : Roots) (are : (t : ℕ) (root : List ℕ) → held t ≡ Some root → P root) where
     one_root : (o : Option (List ℕ)) → ((root : List ℕ) → o ≡ Some root → P root) → P (unwrap_or o zero_imprint)
     one_root None is = zero_too
     one_root (Some root) is = is root refl
@@ -166,13 +166,13 @@ module _ (P : List ℕ → Type 0) (zero_too : P zero_imprint) (image : List ℕ
     place_is (root ∷ roots) zero all = all.0
     place_is (root ∷ roots) (suc place) all = place_is roots place all.1
 
-    leaf_is : (start last t : ℕ) → P (calendar_leaf (held_seconds held start last) t)
-    unfolding held_seconds
+    leaf_is : (start last t : ℕ) → P (calendar_leaf (covered_seconds held start last) t)
+    unfolding covered_seconds
     leaf_is start last t = either P (nat_lt t start) zero_imprint (slice_index_or (roots_among held start (suc last - start)) (t - start) zero_imprint) zero_too (place_is (roots_among held start (suc last - start)) (t - start) (roots_are start (suc last - start)))
 
-    pub calendar_siblings : (start last t p : ℕ) → EachSibling P (calendar_path image (held_seconds held start last) t p)
-    calendar_siblings start last t p = path_is (List ℕ) P (calendar_join image) (λ a b. images (calendar_join_text a b)) (calendar_leaf (held_seconds held start last)) (leaf_is start last) 0 t (p + 1)
+    pub calendar_siblings : (start last t p : ℕ) → EachSibling P (calendar_path image (covered_seconds held start last) t p)
+    calendar_siblings start last t p = path_is (List ℕ) P (calendar_join image) (λ a b. images (calendar_join_text a b)) (calendar_leaf (covered_seconds held start last)) (leaf_is start last) 0 t (p + 1)
 
     -- and the root of the calendar
-    pub root_is : (start p : ℕ) → P (held_root image held start p)
-    root_is start p = tree_is (List ℕ) P (calendar_join image) (λ a b. images (calendar_join_text a b)) (calendar_leaf (held_seconds held start p)) (leaf_is start p) 0 (p + 1)
+    pub root_is : (start p : ℕ) → P (covered_root image held start p)
+    root_is start p = tree_is (List ℕ) P (calendar_join image) (λ a b. images (calendar_join_text a b)) (calendar_leaf (covered_seconds held start p)) (leaf_is start p) 0 (p + 1)

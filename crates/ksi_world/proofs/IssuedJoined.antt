@@ -64,8 +64,7 @@ module _ (image : List ℕ → List ℕ) (plan : PlanState) (is : IsPlan plan) (
       root_is = joins.root_is;
       kept = kept_holds image plan is law es are joins.core t at.above.root joins.there joins.held;
       real = joins.real;
-      from = joins.from;
-      covered = all_too (held_in final joins.core) (kept_root plan final) plan.start t joins.all too;
+      covered = record { from = joins.from; each = all_too (held_in final joins.core) (kept_root plan final) plan.start t joins.all too };
       calendar = joins.calendar ∙ ap (λ (seconds : Seconds). calendar_path image seconds t t) (seconds_same (held_in final joins.core) (kept_root plan final) plan.start t joins.all too);
     }
       where

@@ -17,7 +17,7 @@ use Rattle.ksi_signature.specs.declared.answer.Answer.{Answer}
 use Rattle.ksi_signature.specs.declared.answer.Answer.TheVariants as answers
 use Rattle.ksi_corenode.specs.SecondState.{SecondState}
 use Rattle.ksi_corenode.specs.Turns.{Turn, still}
-use Rattle.ksi_corenode.specs.Held.{first_missing, held_seconds}
+use Rattle.ksi_calendar.specs.Covered.{first_missing, covered_seconds}
 use Rattle.ksi_corenode.specs.Rows.{submission_row, submitted, item_taken, seal_row, sealed_now, ballot_row, receive_row, tell_row, respond_row, respond_where, responded, above_item, is_mine, restart_row}
 use Rattle.ksi_aggregator.specs.Responses.{responses}
 use Rattle.ksi_aggregator.specs.Rows.{RoundState, RoundTurn, round_still, round_added, closed_now, answered_now, request_entry, submitted_entry, round_request, round_submission, round_close, round_response, response_where, round_restarted, submission_of, fresh_round}
@@ -99,7 +99,7 @@ module _ (image : List ℕ → List ℕ) (plan : PlanState) (is : IsPlan plan) (
   responded_joined : (j t : ℕ) → j < plan.cores → plan.start ≤ t → (entries : List Entry) (root : List ℕ) → (w.seconds j t).sealed ≡ Some entries → first_missing (held_in w j) plan.start t ≡ None → held_in w j t ≡ Some root →
       is_mine image entries root ≡ true → AllJoined image plan (at_core w j t (responded image (held_in w j) plan.start t entries root (w.seconds j t))).world
   responded_joined j t lt from entries root sealed none held mine = core_joined image plan w j t turn (λ d is. is) (joined.seconds j t)
-      (core_so image plan w' j t turn.sends (core_answers image plan w' j t (above_item image (held_seconds (held_in w j) plan.start t) t root (items_of entries)) (λ k. (core_grew w j t turn (λ d is. is)).held j t root held) 0 entries
+      (core_so image plan w' j t turn.sends (core_answers image plan w' j t (above_item image (covered_seconds (held_in w j) plan.start t) t root (items_of entries)) (λ k. (core_grew w j t turn (λ d is. is)).held j t root held) 0 entries
       (all_answered image plan climb w w' (core_grew w j t turn (λ d is. is)) t above entries round ((joined.seconds j t).sealed entries sealed) joins))) joined
     where
       turn : Turn
@@ -109,7 +109,7 @@ module _ (image : List ℕ → List ℕ) (plan : PlanState) (is : IsPlan plan) (
       w' = (at_core w j t (responded image (held_in w j) plan.start t entries root (w.seconds j t))).world
 
       above : Above
-      above = record { root = root; chains = []; calendar = calendar_path image (held_seconds (held_in w j) plan.start t) t t }
+      above = record { root = root; chains = []; calendar = calendar_path image (covered_seconds (held_in w j) plan.start t) t t }
 
       tests : (bytes_eq (candidate_of image entries) root ≡ true) × (not (bytes_eq root zero_imprint) ≡ true)
       tests = and_parts _ _ mine
@@ -125,7 +125,7 @@ module _ (image : List ℕ → List ℕ) (plan : PlanState) (is : IsPlan plan) (
           let low = rises (items_of entries) (144 - 16 * suc (depth_of plan (actors.Core j))) round.few (are_low plan is (actors.Core j) (length w.requests) entries (sound.sealed j t entries sealed)) in
           omega (arith, low)
 
-      joins : Joins image plan w t (tree_of image (items_of entries)) (record { root = root; chains = []; calendar = calendar_path image (held_seconds (held_in w j) plan.start t) t t })
+      joins : Joins image plan w t (tree_of image (items_of entries)) (record { root = root; chains = []; calendar = calendar_path image (covered_seconds (held_in w j) plan.start t) t t })
       joins = record {
         top = tree_of image (items_of entries);
         climbs = refl;

@@ -14,7 +14,7 @@ use Rattle.ksi_aggtree.specs.Rounds.{IsRound, item_at, tree_of}
 use Rattle.ksi_aggtree.specs.Paths.{chain_of}
 use Rattle.ksi_aggtree.specs.Entries.{items_of}
 use Rattle.ksi_signature.specs.declared.above.Above.{Above}
-use Rattle.ksi_corenode.specs.Held.{held_seconds}
+use Rattle.ksi_calendar.specs.Covered.{covered_seconds}
 use Rattle.ksi_aggregator.specs.Responses.{below}
 use Rattle.ksi_aggregator.specs.Rows.{submitted_entry}
 use Rattle.ksi_schedule.specs.declared.actor.Actor.{Actor}
@@ -53,7 +53,7 @@ module _ (image : List ℕ → List ℕ) (plan : PlanState) where
     pub from : plan.start ≤ t
     pub held : held_in w core t ≡ Some above.root
     pub all : AllHeld (held_in w core) plan.start t
-    pub calendar : above.calendar ≡ calendar_path image (held_seconds (held_in w core) plan.start t) t t
+    pub calendar : above.calendar ≡ calendar_path image (covered_seconds (held_in w core) plan.start t) t t
     pub real : above.root ≢ zero_imprint
     pub low : top.level ≤ 144
 

@@ -1,5 +1,5 @@
 -- What holds of the zero imprint, of each hash and of what each request asks for holds of all that is kept and published.
-use Rattle.std.proofs.Common.{◌≡◌, ℕ, suc, ◌^◌, ◌<◌, arith, replicate, Bool, true, false, cond, List, [], ◌∷◌, refl, sym, subst, Option, Some, None}
+use Rattle.std.proofs.Common.{◌≡◌, ℕ, suc, ◌^◌, ◌<◌, ◌≤◌, length, arith, replicate, Bool, true, false, cond, List, [], ◌∷◌, refl, sym, subst, Option, Some, None}
 use Rattle.std.specs.Prelude.{slice_get, option_map, unwrap_or}
 use Rattle.std.specs.List.{AllByRecursion}
 use Rattle.std.specs.Str.{bytes_eq}
@@ -9,6 +9,9 @@ use Rattle.ksi_imprint.specs.Imprints.{IsImprint, zero_imprint}
 use Rattle.ksi_tlv.specs.Spelling.{AreBytes}
 use Rattle.ksi_split.specs.declared.tree_link.TreeLink.{TreeLink}
 use Rattle.ksi_aggchain.specs.declared.node.Node.{Node}
+use Rattle.ksi_aggchain.specs.Climbing.{Climbs, level_after}
+use Rattle.ksi_aggchain.specs.Links.{PlainLink}
+use Rattle.ksi_aggtree.specs.Paths.{chain_of}
 use Rattle.ksi_aggchain.specs.declared.link.Link.{Link}
 use Rattle.ksi_aggchain.specs.declared.link.Sibling.{Sibling}
 use Rattle.ksi_aggchain.specs.declared.link.Sibling.TheVariants as siblings
@@ -28,7 +31,9 @@ use Rattle.ksi_world.specs.Records.{lowest, kept_root, kept_with, kept_items, ke
 use Rattle.ksi_world.specs.Validity.{EachKept}
 use Rattle.ksi_world.proofs.Carrying.{RoundLaws, AsksFor, AskFor, AllOf, after_all}
 use Rattle.ksi_world.proofs.Deciding.{StepsAgree, StepsValid}
-use Rattle.ksi_world.proofs.Imprinted.{OfItem, OfEntries, OfSibling, OfLink, OfChain, EachSibling, root_is}
+use Rattle.ksi_world.proofs.Sending.{TreeRises}
+use Rattle.ksi_world.proofs.Joining.{ItemClimbs}
+use Rattle.ksi_world.proofs.Imprinted.{zero_is, OfItem, OfEntries, OfSibling, OfLink, OfChain, EachSibling, root_is}
 use Rattle.ksi_world.proofs.IssuedCarried.{CalendarShort, IsIssuedOf, kept_is}
 use Rattle.ksi_world.proofs.Lowest.{lowest_some}
 use Rattle.ksi_world.proofs.Rooted.{root_kept, after_roots}
@@ -97,6 +102,12 @@ module _ (P : List ℕ → Type 0) where
         subst P (sym r.root_is) (root_is P laws.zero_too image laws.images (kept_root plan (after image plan es)) (kept_is P image plan is laws agree valid short es are ask) plan.start p))
 
 -- IMPRINTS
+
+-- the laws of rounds, where what is hashed are imprints
+pub imprint_laws : (image : List ℕ → List ℕ) → ((bytes : List ℕ) → IsImprint (image bytes)) → TreeRises image → ItemClimbs image
+    → ((items : List Node) (k : ℕ) → length items ≤ 65536 → length (chain_of image items k) ≤ 16)
+    → ((start top : Node) (links : List PlainLink) → Climbs image start links top → top.level ≡ level_after start.level links) → RoundLaws IsImprint image
+imprint_laws image images rises climb few sum = record { zero_too = zero_is; images = images; rises = rises; climb = climb; few = few; sum = sum }
 
 links_imprinted : (links : List Link) → AllByRecursion (OfLink IsImprint) links → AllByRecursion IsLink links
 links_imprinted [] of = tt

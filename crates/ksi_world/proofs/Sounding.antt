@@ -13,7 +13,7 @@ use Rattle.ksi_signature.specs.declared.answer.Answer.{Answer}
 use Rattle.ksi_signature.specs.declared.answer.Answer.TheVariants as answers
 use Rattle.ksi_corenode.specs.SecondState.{SecondState, fresh_second}
 use Rattle.ksi_corenode.specs.Turns.{Turn, still}
-use Rattle.ksi_corenode.specs.Held.{Held, first_missing, held_seconds}
+use Rattle.ksi_calendar.specs.Covered.{Roots, first_missing, covered_seconds}
 use Rattle.ksi_corenode.specs.Rows.{submission_row, submitted, item_taken, seal_row, sealed_now, ballot_row, receive_row, tell_row, respond_row, respond_where, responded, above_item, is_mine, restart_row}
 use Rattle.ksi_aggregator.specs.Responses.{responses}
 use Rattle.ksi_aggregator.specs.Rows.{RoundState, RoundTurn, fresh_round, round_still, round_added, closed_now, answered_now, request_entry, submitted_entry, round_request, round_submission, round_close, round_response, response_where, round_restarted, submission_of}
@@ -113,7 +113,7 @@ module _ (image : List ℕ → List ℕ) (plan : PlanState) (is : IsPlan plan) (
       let old = second_of w j t lt sound in
       core_sound w j t (tell_row plan.cores t j s) lt range (record { small = old.small; open_items = old.open_items; sealed = old.sealed }) (fine_told plan j t j (held_told s.vote.held) lt (fine_held s.vote.held)) sound
 
-  respond_sound : (w : WorldState) (j t : ℕ) (held : Held) → j < plan.cores → InRange plan t → IsSound plan w → IsSound plan (at_core w j t (respond_row image held plan.start t (w.seconds j t))).world
+  respond_sound : (w : WorldState) (j t : ℕ) (held : Roots) → j < plan.cores → InRange plan t → IsSound plan w → IsSound plan (at_core w j t (respond_row image held plan.start t (w.seconds j t))).world
   unfolding respond_row
   respond_sound w j t held lt range sound = by s.sealed refl (first_missing held plan.start t) (held t)
     where
@@ -128,7 +128,7 @@ module _ (image : List ℕ → List ℕ) (plan : PlanState) (is : IsPlan plan) (
       by (Some entries) at (Some missing) root = still_sound w j t (answers.Undecided missing) lt range sound
       by (Some entries) at None None = still_sound w j t (answers.Undecided t) lt range sound
       by (Some entries) at None (Some root) = cond_both (is_mine image entries root) _ _ (λ turn. IsSound plan (at_core w j t turn).world)
-          (λ _. core_sound w j t (responded image held plan.start t entries root s) lt range old (core_responses plan is j (length w.requests) 0 (above_item image (held_seconds held plan.start t) t root (items_of entries)) entries (λ i. omega arith) (old.sealed entries at)) sound)
+          (λ _. core_sound w j t (responded image held plan.start t entries root s) lt range old (core_responses plan is j (length w.requests) 0 (above_item image (covered_seconds held plan.start t) t root (items_of entries)) entries (λ i. omega arith) (old.sealed entries at)) sound)
           (λ _. still_sound w j t answers.NotMine lt range sound)
 
   -- A TURN OF AN AGGREGATOR

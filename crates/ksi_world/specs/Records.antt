@@ -7,7 +7,7 @@ use Rattle.ksi_aggtree.specs.declared.entries.Entry.{Entry}
 use Rattle.ksi_aggtree.specs.declared.entries.Origin.{Origin}
 use Rattle.ksi_aggtree.specs.declared.entries.Origin.TheVariants as origins
 use Rattle.ksi_aggtree.specs.Entries.{items_of, candidate_of}
-use Rattle.ksi_corenode.specs.Held.{Held}
+use Rattle.ksi_calendar.specs.Covered.{Roots}
 use Rattle.ksi_signature.specs.declared.above.Above.{Above}
 use Rattle.ksi_aggregator.specs.Issuing.{IsIssued, NotIssued, issued_text}
 use Rattle.ksi_schedule.specs.Plans.{PlanState}
@@ -27,7 +27,7 @@ lowest of_core core (suc n) = or_else (of_core core) (lowest of_core (suc core) 
 -- DECIDED SECONDS
 
 -- the root that the lowest core holds that holds one
-abbrev pub kept_root : PlanState → WorldState → Held
+abbrev pub kept_root : PlanState → WorldState → Roots
 kept_root plan w t = lowest (λ core. held_in w core t) 0 plan.cores
 
 abbrev pub kept_before : Option KeptSecond → List KeptSecond → List KeptSecond
