@@ -14,7 +14,7 @@ use Rattle.ksi_signature.specs.declared.answer.Answer.{Answer}
 use Rattle.ksi_signature.specs.declared.answer.Answer.TheVariants as answers
 use Rattle.ksi_corenode.specs.SecondState.{SecondState, fresh_second}
 use Rattle.ksi_corenode.specs.Turns.{Turn, still}
-use Rattle.ksi_corenode.specs.Held.{Held, first_missing, held_seconds}
+use Rattle.ksi_calendar.specs.Covered.{Roots, first_missing, covered_seconds}
 use Rattle.ksi_corenode.specs.declared.step.Send as core_step
 use Rattle.ksi_corenode.specs.declared.step.Send.TheVariants as core_sends
 use Rattle.ksi_corenode.specs.Rows.{submission_row, submitted, item_taken, seal_row, sealed_now, ballot_row, receive_row, tell_row, respond_row, respond_where, responded, above_item, is_mine, restart_row}
@@ -147,7 +147,7 @@ tell_goes w j t thin =
     let old = thin.seconds j t in
     core_goes 3 w j t (tell_row 3 t j s) (record { open_items = old.open_items; sealed = old.sealed }) (omega (arith, heavy_told j t j (held_told s.vote.held), led_by_tell s.vote.held)) thin
 
-respond_goes : (image : List ℕ → List ℕ) (w : WorldState) (j t start : ℕ) (held : Held) → IsThinWorld w → Goes 7 w (at_core w j t (respond_row image held start t (w.seconds j t))).world
+respond_goes : (image : List ℕ → List ℕ) (w : WorldState) (j t start : ℕ) (held : Roots) → IsThinWorld w → Goes 7 w (at_core w j t (respond_row image held start t (w.seconds j t))).world
 unfolding respond_row
 respond_goes image w j t start held thin = by s.sealed refl (first_missing held start t) (held t)
   where
@@ -165,7 +165,7 @@ respond_goes image w j t start held thin = by s.sealed refl (first_missing held 
     by (Some entries) at (Some missing) root = none (answers.Undecided missing)
     by (Some entries) at None None = none (answers.Undecided t)
     by (Some entries) at None (Some root) = cond_both (is_mine image entries root) _ _ (λ (turn : Turn). Goes 7 w (at_core w j t turn).world)
-        (λ _. core_goes 7 w j t (responded image held start t entries root s) old (omega (arith, heavy_core j t 0 (above_item image (held_seconds held start t) t root (items_of entries)) entries, (old.sealed entries at).few)) thin)
+        (λ _. core_goes 7 w j t (responded image held start t entries root s) old (omega (arith, heavy_core j t 0 (above_item image (covered_seconds held start t) t root (items_of entries)) entries, (old.sealed entries at).few)) thin)
         (λ _. none answers.NotMine)
 
 -- ---- a turn of an aggregator
