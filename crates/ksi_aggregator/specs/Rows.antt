@@ -3,7 +3,7 @@ use Rattle.std.specs.Prelude.{ℕ, if◌then◌else◌, List, [], ◌∷◌, ◌
 use Rattle.ksi_aggtree.specs.declared.item.Item.{Item}
 use Rattle.ksi_aggtree.specs.declared.entries.Origin.TheVariants as origins
 use Rattle.ksi_aggtree.specs.declared.entries.Entry.{Entry}
-use Rattle.ksi_aggtree.specs.Rounds.{item_of, tree_of}
+use Rattle.ksi_aggtree.specs.Rounds.{as_item, tree_of}
 use Rattle.ksi_aggtree.specs.Entries.{items_of, has_from, is_full}
 use Rattle.ksi_signature.specs.declared.above.Above.{Above}
 use Rattle.ksi_signature.specs.declared.answer.Answer.{Answer}
@@ -77,7 +77,7 @@ module _ (image : List ℕ → List ℕ) where
   -- the item that the round's tree is submitted as, where it has items
   abbrev pub submission_of : List Entry → List Send
   submission_of [] = []
-  submission_of (entry ∷ entries) = sends.Submission (item_of (tree_of image (items_of (entry ∷ entries)))) ∷ []
+  submission_of (entry ∷ entries) = sends.Submission (as_item (tree_of image (items_of (entry ∷ entries)))) ∷ []
 
   -- the round from then on
   abbrev pub closed_now : RoundState → RoundTurn

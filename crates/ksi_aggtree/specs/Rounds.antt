@@ -30,8 +30,8 @@ abbrev pub leaf : Item → Node
 leaf item = record { imprint = item.imprint; level = item.level }
 
 -- the item that a node is submitted as: for now the same imprint and level
-abbrev pub item_of : Node → Item
-item_of node = record { imprint = node.imprint; level = node.level }
+abbrev pub as_item : Node → Item
+as_item node = record { imprint = node.imprint; level = node.level }
 
 -- the leaf of the tree at a place: that of the item there
 abbrev pub leaf_of_place : List Item → ℕ → Node

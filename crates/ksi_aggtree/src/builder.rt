@@ -9,6 +9,7 @@ use crate::item::{Item, MOST_ITEMS};
 use crate::item_path::ItemPath;
 use crate::join::AggregationJoin;
 use crate::laws::{no_cap, one_chain};
+use crate::paths::RoundPaths;
 use crate::room::put;
 use ksi_aggchain::Node;
 use ksi_imprint::{Compress, Imprint, NoMemory};
@@ -157,6 +158,21 @@ impl<C: Compress> Builder<C> {
         let others = self.rows.path_counted(k as u64, last, steps)?;
         let leaf = self.rows.leaf_counted(k as u64, steps);
         ItemPath::beside(self.rows.alloc(), leaf.level, &others)
+    }
+
+    /// The paths of all items, of which there is one at least.
+    ///
+    /// # Errors
+    /// `NoMemory`: all is as it was.
+    pub fn paths(&self) -> Result<RoundPaths<'_, C>, NoMemory>
+        requires { 0 < length self.now }
+        ensures { IfOk result (λ paths. paths ≡ self.now) }
+    {
+        let paths = self.rows.paths(self.rows.count() - 1)?;
+        Ok(RoundPaths {
+            items: self.items.as_slice(),
+            paths,
+        })
     }
 
     /// Adds an item of a level to 239 behind the others, and says which it is, the first one being item 0.

@@ -9,6 +9,7 @@ ghost use Rattle.ksi_aggtree.specs.Entries.{items_of, has_from, candidate_of};
 use crate::builder::{AddRefusal, Builder};
 use crate::item::{Item, MOST_ITEMS};
 use crate::item_path::ItemPath;
+use crate::paths::RoundPaths;
 use crate::room::put;
 use crate::senders::{make_room, note};
 use ksi_aggchain::Node;
@@ -126,6 +127,17 @@ impl<C: Compress> Entries<C> {
         ensures few { IfOk result (λ links. length links ≤ 16) }
     {
         self.round.path(k)
+    }
+
+    /// The paths of all items, of which there is one at least. A contract sees the items without their origins.
+    ///
+    /// # Errors
+    /// `NoMemory`: all is as it was.
+    pub fn paths(&self) -> Result<RoundPaths<'_, C>, NoMemory>
+        requires { 0 < length self.now }
+        ensures { IfOk result (λ paths. paths ≡ items_of self.now) }
+    {
+        self.round.paths()
     }
 
     /// Adds an item of a level to 239 behind the others, and says which it is, the first one being item 0.

@@ -1,5 +1,5 @@
 ghost use Rattle.std.specs.Prelude.{◌≡◌};
-ghost use Rattle.ksi_aggtree.specs.Rounds.{leaf, item_of};
+ghost use Rattle.ksi_aggtree.specs.Rounds.{leaf, as_item};
 
 use ksi_aggchain::Node;
 use ksi_imprint::Imprint;
@@ -20,7 +20,7 @@ pub struct Item {
 impl Item {
     /// The item that a node is submitted as.
     pub fn of(node: Node) -> Item
-        ensures { result ≡ item_of node }
+        ensures { result ≡ as_item node }
     {
         Item {
             imprint: node.imprint,

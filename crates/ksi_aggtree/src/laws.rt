@@ -8,7 +8,7 @@ ghost use Rattle.ksi_aggchain.specs.Owned.{plain_links};
 ghost use Rattle.ksi_aggchain.specs.declared.node.Node.{Node};
 ghost use Rattle.ksi_aggtree.specs.declared.item.Item.{Item};
 ghost use Rattle.ksi_split.specs.Trees.{tree, path_of, node_at};
-ghost use Rattle.ksi_aggtree.specs.Rounds.{most_items, IsRound, aggregation_join, capped_join, leaf, leaf_of_place, item_of, item_at, tree_from, tree_of, tree_path, node_of};
+ghost use Rattle.ksi_aggtree.specs.Rounds.{most_items, IsRound, aggregation_join, capped_join, leaf, leaf_of_place, as_item, item_at, tree_from, tree_of, tree_path, node_of};
 ghost use Rattle.ksi_aggtree.specs.Paths.{chain_of, sides_from_top};
 
 use ksi_aggchain::Node;
@@ -18,7 +18,7 @@ use ksi_split::trees::{enough_levels, one_node, one_path, one_tree};
 
 /// A node that is submitted to a round stands in its tree as it is.
 pub fn one_leaf()
-    ensures submitted { (node : Node) → leaf (item_of node) ≡ node }
+    ensures submitted { (node : Node) → leaf (as_item node) ≡ node }
 {}
 
 /// The tree of one item is its leaf. The tree of more is the join of the trees of both parts that they are split into,

@@ -8,9 +8,9 @@
 //! from. The layer above may rely on this: `root` is the tree of the items; the links of `path` climb from an item's leaf
 //! to it along the item's way; `node` is the tree of the part that sides lead to. Only `add` and the paths take memory,
 //! and after a refused `add` all is as it was. `root_over`, `node_over` and `root_with` are the same over a slice of
-//! items; they take no memory, and compute each node from its leaves. A path takes at most 32 steps, each the read of one stored node, and one step
-//! at least for the item and for each link. [`Entries`] is a round that also keeps where each item came from, a request
-//! or an aggregator. What holds of the definitions is in `laws`.
+//! items; they take no memory, and compute each node from its leaves. A path takes at most 32 steps, each the read of
+//! one stored node, and one step at least for the item and for each link. [`Entries`] is a round that also keeps where
+//! each item came from, a request or an aggregator. What holds of the definitions is in `laws`.
 //!
 //! ```text
 //! let mut round = Builder::<Sha>::new(alloc)?;
@@ -29,6 +29,7 @@ mod items;
 mod join;
 pub mod laws;
 mod over;
+mod paths;
 mod room;
 mod second;
 mod senders;
@@ -40,4 +41,5 @@ pub use item_path::ItemPath;
 pub use items::Items;
 pub use ksi_split::Steps;
 pub use over::{node_over, root_over, root_with};
+pub use paths::RoundPaths;
 pub use second::Second;

@@ -6,8 +6,7 @@
 
 ghost use Rattle.std.specs.Prelude.{◌≡◌, ◌≤◌, ◌+◌, ◌^◌, length, IfOk};
 
-use ksi_aggchain::Node;
-use ksi_aggtree::Builder;
+use ksi_aggtree::{Builder, Item};
 use ksi_calendar::Calendar;
 use ksi_imprint::{Compress, Imprint, NoMemory, Sha};
 use std::alloc::Global;
@@ -65,7 +64,7 @@ fn joined(times: u32) -> Imprint {
 fn round(alloc: Global, paths: bool) -> Result<u8, NoMemory> {
     let mut round = Builder::<Sha>::new(alloc)?;
     for n in 0..ITEMS {
-        let item = Node {
+        let item = Item {
             imprint: Sha::of(&n.to_be_bytes()),
             level: 0,
         };

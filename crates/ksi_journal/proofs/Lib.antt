@@ -1,4 +1,3 @@
-pub mod Halves
 pub mod Sound
 pub mod Run
 pub mod Files

@@ -8,7 +8,7 @@ use Rattle.ksi_order.specs.declared.fault.OrderFault.TheVariants as orders
 use Rattle.ksi_order.specs.Order.{◌>>=◌, one_more, may_stand}
 use Rattle.ksi_order.specs.Sequence.{IsFirstFault, StandsAt}
 use Rattle.ksi_order.specs.Values.{time_at}
-use Rattle.ksi_journal.specs.declared.second.Second.{Second}
+use Rattle.ksi_aggtree.specs.declared.second.Second.{Second}
 use Rattle.ksi_journal.specs.declared.fault.JournalFault.{JournalFault}
 use Rattle.ksi_journal.specs.declared.fault.JournalFault.TheVariants as faults
 use Rattle.ksi_journal.specs.Elements.{Loaded, named, or_named, kinds_next, is_end, started, start_at, counts, opened, counted, said_at, read_second, item_in, with_item, closed, finished, added, item_at, signature_at, with_issued, issued_at, published_at, with_publication, publication_at, end_at, element_read, journal_order}

@@ -1,23 +1,20 @@
 ghost use Rattle.std.specs.Prelude.{◌≡◌};
 ghost use Rattle.std.specs.Str.{bytes_eq};
 ghost use Rattle.ksi_tlv.specs.Views.{view_placed};
+ghost use Rattle.ksi_aggtree.specs.Rounds.{highest_item};
 ghost use Rattle.ksi_journal.specs.Elements.{named, counts};
 
 use crate::fault::JournalFault;
 use crate::fields::{read_item, read_publication, read_second, read_signature};
 use crate::laws::are_bytes;
-use crate::second::{Second, Stage};
-use crate::tree::tree;
-use ksi_aggchain::Node;
-use ksi_aggtree::Items;
+use crate::stage::Stage;
+use ksi_aggtree::{Item, Items, MOST_ITEMS, Second, root_with};
 use ksi_imprint::{Bytes, Compress, Imprint};
 use ksi_order::{OrderFault, Ordered, Stop, time};
 use ksi_tlv::Placed;
 use std::alloc::Global;
 use std::marker::{Model, PhantomData};
 use std::mem;
-
-const MOST_ITEMS: u64 = 65_536;
 
 pub(crate) const START: u16 = 0x01;
 
@@ -55,7 +52,7 @@ pub(crate) struct Loading<C: Compress> {
     least_time: u64,
     second: u64,
     root: Imprint,
-    items: Vec<Node>,
+    items: Vec<Item>,
     left: usize,
     alloc: Global,
     compress: PhantomData<C>,
@@ -199,7 +196,7 @@ impl<C: Compress> Loading<C> {
         &mut self,
         second: u64,
         root: Imprint,
-        items: Vec<Node>,
+        items: Vec<Item>,
     ) -> Result<(), Stop<JournalFault>>
         requires { second < 2 ^ 63 }
         ensures { Steps (Ok (closed self.old (record { second = second; root = root; items = items.items }))) self.new result }
@@ -242,13 +239,13 @@ impl<C: Compress> Loading<C> {
     }
 
     /// The last item of a second: memory is taken for it only where the tree has the root.
-    fn finish(&mut self, item: Node) -> Result<(), Stop<JournalFault>>
+    fn finish(&mut self, item: Item) -> Result<(), Stop<JournalFault>>
         requires left { self.old.left ≤ 1 }
-        requires low { item.level ≤ 239 }
+        requires low { item.level ≤ highest_item }
         ensures read { Steps (finished C.image self.old (with_item self.old.current item)) self.new result }
         ensures wanting { result ≡ Err stops.NoMemory → IsOk (finished C.image self.old (with_item self.old.current item)) }
     {
-        let computed = tree::<C>(&self.items, &item).imprint;
+        let computed = root_with::<C>(&self.items, &item).imprint;
         if !is_same(&computed, &self.root) {
             return Err(Stop::Fault(JournalFault::TreeRoot(self.second, self.root, computed)));
         }
@@ -368,7 +365,7 @@ fn counts(root: &Imprint, count: u64) -> bool
     if is_same(root, &Imprint::ZERO) {
         count == 0
     } else {
-        1 <= count && count <= MOST_ITEMS
+        1 <= count && count <= MOST_ITEMS as u64
     }
 }
 

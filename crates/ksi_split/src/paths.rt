@@ -8,6 +8,7 @@ use crate::joins::Joins;
 use crate::rows::Rows;
 use crate::steps::Steps;
 use crate::tree_link::TreeLink;
+use std::alloc::Global;
 use std::marker::{Brand, Model};
 use std::sync::ledger::{Blank, Ledger};
 
@@ -34,6 +35,11 @@ impl<'a, N: Copy, J: Joins<N>> Model for Paths<'a, N, J> {
 }
 
 impl<'a, N: Copy, J: Joins<N>> Paths<'a, N, J> {
+    /// What the memory is taken from.
+    pub fn alloc(&self) -> Global {
+        self.rows.alloc()
+    }
+
     /// The links from leaf `t`, which is at most the last, up to the root, the lowest first.
     ///
     /// # Errors
