@@ -18,9 +18,9 @@ pub struct HostFiles<'a, R: rt::Files> {
 }
 
 impl<'a, R: rt::Files> Model for HostFiles<'a, R> {
-    ghost use Rattle.ksi_ports.specs.declared.counts.Counts as counts;
+    ghost use Rattle.ksi_ports.specs.declared.counts.Counts as counted;
 
-    ghost Value = { counts.Counts };
+    ghost Value = { counted.Counts };
 
     ghost view = { λ files. files.counts };
 }
