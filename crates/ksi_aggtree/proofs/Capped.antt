@@ -1,5 +1,5 @@
 -- No level of a round's tree passes 255, so that the cap is never met.
-use Rattle.std.proofs.Common.{◌≡◌, ℕ, zero, suc, ◌+◌, ◌-◌, ◌^◌, ◌<◌, ◌≤◌, List, [], ◌∷◌, ◌++◌, length, map, max, min, Some, None, refl, sym, ap, ◌∙◌, arith, inl, inr, length-append}
+use Rattle.std.proofs.Common.{◌≡◌, ℕ, zero, suc, ◌+◌, ◌-◌, ◌^◌, ◌<◌, ◌≤◌, List, [], ◌∷◌, ◌++◌, length, map, max, min, Some, None, refl, sym, ap, subst, ◌∙◌, arith, inl, inr, length-append}
 use Rattle.std.proofs.Math.Nat.{pow-le-pow_right}
 use Rattle.std.proofs.lemmas.List.{get_or_append_left, length-map, map-append}
 use Rattle.std.proofs.Math.Seq.{get_or-append_seam}
@@ -74,6 +74,22 @@ module _ (image : List ℕ → List ℕ) (leaf : ℕ → Node) (low : (i : ℕ) 
   pub capped_node : (last : ℕ) (sides : List Side) → last < 65536 → node_at (capped_join image) leaf last sides ≡ node_at (aggregation_join image) leaf last sides
   capped_node last sides few = capped_part 0 (record { first = 0; count = last + 1 }) sides (omega arith) (omega arith)
 
+  part_low : (place : ℕ) (part : Part) (sides : List Side) (node : Node) → 0 < part.count → part.count ≤ 65536
+      → node_in (aggregation_join image) leaf (part_at place part sides) ≡ Some node → node.level ≤ 255
+  part_low place part [] node some few is =
+      let same : tree (aggregation_join image) leaf part.first part.count ≡ node = cc is in
+      subst (λ (x : Node). x.level ≤ 255) same (level_within part.first part.count few)
+  part_low place part (side ∷ sides) node some few is = elim (eq_cases part.count 1) [
+    | inl t ↦ (let none = rw t.0 at is in absurd (cc none))
+    | inr f ↦ (let more : 1 < part.count = (let ne = f.1 in omega arith) in
+        let h = half_some part side more in
+        let rest = rw f.0 at is in
+        part_low (place + 1) (half_of part side) sides node h.0 (omega (arith, h.1)) rest)
+  ]
+
+  pub node_low : (last : ℕ) (sides : List Side) (node : Node) → last < 65536 → node_at (aggregation_join image) leaf last sides ≡ Some node → node.level ≤ 255
+  node_low last sides node few is = part_low 0 (record { first = 0; count = last + 1 }) sides node (omega arith) (omega arith) is
+
 -- ---- as the rows keep a round
 
 same_functions : {A B : Type 0} (f g : A → B) → ((x : A) → f x ≡ g x) → f ≡ g
@@ -110,6 +126,13 @@ no_node image items sides (suc n) none = absurd (omega arith)
 pub last_node : (image : List ℕ → List ℕ) (items : List Item) (sides : List Side) (n last : ℕ) → n ≡ last + 1 → node_at (aggregation_join image) (leaf_of_place items) last sides ≡ node_from image items n sides
 last_node image items sides zero last e = absurd (omega arith)
 last_node image items sides (suc n) last e = let same : last ≡ n = omega arith in ap (λ (m : ℕ). node_at (aggregation_join image) (leaf_of_place items) m sides) same
+
+pub node_level : (image : List ℕ → List ℕ) (items : List Item) (sides : List Side) (node : Node) → IsRound items → node_of image items sides ≡ Some node → node.level ≤ 255
+node_level image items sides node round is = of (length items) round.few is
+  where
+    of : (n : ℕ) → n ≤ 65536 → node_from image items n sides ≡ Some node → node.level ≤ 255
+    of zero few is = absurd (cc is)
+    of (suc last) few is = node_low image (leaf_of_place items) round.low last sides node (omega (arith, few)) is
 
 module _ (image : List ℕ → List ℕ) (leaves : Leaves Node) (items : List Item) (kept : AreLeaves leaves items) (round : IsRound items) where
   pub round_root : (n : ℕ) → n ≡ length items → 0 < n → Some (tree (capped_join image) (leaf_of leaves) 0 n) ≡ root_of image items

@@ -3,6 +3,7 @@ ghost use Rattle.std.specs.Prelude.{◌≡◌, ◌<◌, ◌≤◌, ◌+◌, ◌-
 ghost use Rattle.ksi_split.specs.Powers.{IsSplit};
 ghost use Rattle.ksi_split.specs.Ways.{way_of, LeadsTo, PassesLeaf};
 ghost use Rattle.ksi_split.specs.declared.side.Side.{Side};
+ghost use Rattle.ksi_aggchain.specs.Links.{highest_level};
 ghost use Rattle.ksi_aggchain.specs.Climbing.{Climbs};
 ghost use Rattle.ksi_aggchain.specs.Owned.{plain_links};
 ghost use Rattle.ksi_aggchain.specs.declared.node.Node.{Node};
@@ -47,13 +48,16 @@ pub fn one_chain()
     one_climb();
 }
 
-/// The node that sides lead to is the tree of the items of their part. Sides that pass a leaf lead to none.
+/// The node that sides lead to is the tree of the items of their part. Sides that pass a leaf lead to none. In a round no
+/// node's level passes the highest.
 pub fn one_part()
     ensures some { (image : List ℕ → List ℕ) (items : List Item) (last first count : ℕ) (sides : List Side) →
         length items ≡ last + 1 → LeadsTo (last + 1) sides first count →
         node_of image items sides ≡ Some (tree_from image items first count) }
     ensures none { (image : List ℕ → List ℕ) (items : List Item) (last place : ℕ) (sides : List Side) →
         length items ≡ last + 1 → PassesLeaf last sides place → node_of image items sides ≡ None }
+    ensures level { (image : List ℕ → List ℕ) (items : List Item) (sides : List Side) (node : Node) → IsRound items →
+        node_of image items sides ≡ Some node → node.level ≤ highest_level }
 {
     one_node::<Node>();
 }
