@@ -9,7 +9,7 @@ use Rattle.ksi_split.specs.declared.tree_link.TreeLink.{TreeLink}
 use Rattle.ksi_split.specs.Trees.{tree_within, tree, path_within, path_of}
 use Rattle.ksi_calchain.specs.Climbing.{calendar_join, calendar_join_text}
 use Rattle.ksi_calendar.specs.Calendar.{calendar_leaf, calendar_root, calendar_path}
-use Rattle.ksi_journal.specs.declared.second.Second.{Second}
+use Rattle.ksi_aggtree.specs.declared.second.Second.{Second}
 use Rattle.ksi_journal.specs.Journal.{Contents, IsSecond}
 use Rattle.ksi_journal.specs.Calendar.{calendar_of, roots_from}
 
