@@ -7,7 +7,8 @@ use Rattle.ksi_aggtree.specs.declared.item.Item.{Item}
 use Rattle.ksi_aggtree.specs.declared.entries.Entry.{Entry}
 use Rattle.ksi_aggtree.specs.declared.entries.Origin.TheVariants as origins
 use Rattle.ksi_signature.specs.declared.above.Above.{Above}
-use Rattle.ksi_aggregator.specs.declared.step.Step.{Step}
+use Rattle.ksi_signature.specs.declared.step.Step.{Step}
+use Rattle.ksi_aggregator.specs.declared.step.Send.{Send}
 use Rattle.ksi_aggregator.specs.Responses.{has_lower}
 use Rattle.ksi_aggregator.specs.Rows.{RoundState, RoundTurn, fresh_round}
 
@@ -49,7 +50,7 @@ abbrev pub ChangesOnly : (ℕ → RoundState) → (ℕ → RoundState) → ℕ �
 ChangesOnly old new second round = (t : ℕ) → new t ≡ (if t == second then round else old t)
 
 -- the step is this turn of the second, and no other second changed
-pub record IsTurn (old new : ℕ → RoundState) (second : ℕ) (turn : RoundTurn) (step : Step) : Type 0 where
+pub record IsTurn (old new : ℕ → RoundState) (second : ℕ) (turn : RoundTurn) (step : Step Send) : Type 0 where
   pub after : ChangesOnly old new second turn.after
   pub answer : step.answer ≡ turn.answer
   pub sends : step.sends ≡ turn.sends

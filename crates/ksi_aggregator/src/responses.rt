@@ -4,10 +4,10 @@ ghost use Rattle.ksi_aggtree.specs.Entries.{items_of};
 ghost use Rattle.ksi_aggregator.specs.Responses.{is_lower, has_lower, told_to, below, chain_at, responses};
 
 use crate::copies::copy_with;
-use crate::step::{Send, Sends};
+use crate::step::Send;
 use ksi_aggtree::{Entries, Entry, Origin};
 use ksi_imprint::{Compress, NoMemory};
-use ksi_signature::{Above, AboveChain, AboveLinks};
+use ksi_signature::{Above, AboveChain, AboveLinks, Sends};
 use std::alloc::Global;
 
 /// A response to each item of a lower aggregator, in their order.
@@ -16,7 +16,7 @@ pub(crate) fn responses<C: Compress>(
     alloc: Global,
     entries: &Entries<C>,
     above: &Above,
-) -> Result<Sends, NoMemory>
+) -> Result<Sends<Send>, NoMemory>
     requires { has_lower entries.now ≡ true → length above.now.chains ≤ 7 }
     ensures { IfOk result (λ sends. sends ≡ responses C.image above.now entries.now) }
 {

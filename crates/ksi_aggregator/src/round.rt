@@ -8,10 +8,10 @@ ghost use Rattle.ksi_aggregator.specs.Issuing.{IsIssuedAt, NotIssuedAt, from_req
 
 use crate::copies::copy_above;
 use crate::responses::responses;
-use crate::step::{Send, Sends, Step};
+use crate::step::{Send, Step};
 use ksi_aggtree::{AddRefusal, Entries, Entry, Item, Origin};
-use ksi_imprint::{Bytes, Compress, Imprint, NoMemory};
-use ksi_signature::{Above, Answer, issue};
+use ksi_imprint::{Bytes, Compress, Imprint, NoMemory, Refused};
+use ksi_signature::{Above, Answer, Sends, issue};
 use std::alloc::Global;
 use std::marker::Model;
 
@@ -83,16 +83,16 @@ impl<C: Compress> Round<C> {
         ensures unchanged { OnErr result (self.new ≡ self.old) }
     {
         if self.is_closed {
-            return Ok(Step::still(alloc, Answer::Late));
+            return Ok(Step::without_sends(alloc, Answer::Late));
         }
         let entry = Entry {
             origin: Origin::Request(number),
             item: Item { imprint, level: 0 },
         };
         match self.entries.add(entry) {
-            Ok(_) => Ok(Step::still(alloc, Answer::Number(number))),
-            Err(AddRefusal::Full) => Ok(Step::still(alloc, Answer::Full)),
-            Err(AddRefusal::NoMemory) => Err(NoMemory),
+            Ok(_) => Ok(Step::without_sends(alloc, Answer::Number(number))),
+            Err(Refused::Fault(AddRefusal::Full)) => Ok(Step::without_sends(alloc, Answer::Full)),
+            Err(Refused::NoMemory) => Err(NoMemory),
         }
     }
 
@@ -111,19 +111,19 @@ impl<C: Compress> Round<C> {
         ensures unchanged { OnErr result (self.new ≡ self.old) }
     {
         if self.is_closed {
-            return Ok(Step::still(alloc, Answer::Late));
+            return Ok(Step::without_sends(alloc, Answer::Late));
         }
         if self.entries.has_from(from) {
-            return Ok(Step::still(alloc, Answer::Known));
+            return Ok(Step::without_sends(alloc, Answer::Known));
         }
         let entry = Entry {
             origin: Origin::Aggregator(from),
             item,
         };
         match self.entries.add(entry) {
-            Ok(_) => Ok(Step::still(alloc, Answer::Done)),
-            Err(AddRefusal::Full) => Ok(Step::still(alloc, Answer::Full)),
-            Err(AddRefusal::NoMemory) => Err(NoMemory),
+            Ok(_) => Ok(Step::without_sends(alloc, Answer::Done)),
+            Err(Refused::Fault(AddRefusal::Full)) => Ok(Step::without_sends(alloc, Answer::Full)),
+            Err(Refused::NoMemory) => Err(NoMemory),
         }
     }
 
@@ -136,7 +136,7 @@ impl<C: Compress> Round<C> {
         ensures unchanged { OnErr result (self.new ≡ self.old) }
     {
         if self.is_closed {
-            return Ok(Step::still(alloc, Answer::Closed));
+            return Ok(Step::without_sends(alloc, Answer::Closed));
         }
         let mut sends = Vec::new(alloc);
         if let Some(root) = self.entries.root() {
@@ -160,7 +160,7 @@ impl<C: Compress> Round<C> {
         ensures unchanged { OnErr result (self.new ≡ self.old) }
     {
         if !self.is_closed || self.entries.count() == 0 || self.response.is_some() {
-            return Ok(Step::still(alloc, Answer::Nothing));
+            return Ok(Step::without_sends(alloc, Answer::Nothing));
         }
         let sends = responses(alloc, &self.entries, above)?;
         let first = copy_above(alloc, above)?;

@@ -118,7 +118,7 @@ impl<C: Compress> Rounds<C> {
     {
         match self.map.get_mut(&second) {
             Some(round) => round.response(self.alloc, above),
-            None => Ok(Step::still(self.alloc, Answer::Nothing)),
+            None => Ok(Step::without_sends(self.alloc, Answer::Nothing)),
         }
     }
 

@@ -1,4 +1,5 @@
 pub mod Capped
+pub mod Kept
 pub mod Climbing
 pub mod Chains
 pub mod Beside

@@ -8,12 +8,12 @@ ghost use Rattle.ksi_aggtree.specs.Paths.{chain_of, sides_from_top};
 use crate::item::{Item, MOST_ITEMS};
 use crate::item_path::ItemPath;
 use crate::join::AggregationJoin;
-use crate::laws::one_chain;
+use crate::laws::{no_cap, one_chain};
+use crate::paths::RoundPaths;
 use crate::room::put;
 use ksi_aggchain::Node;
-use ksi_imprint::{Compress, Imprint, NoMemory};
-use ksi_rows::{Rows, Steps};
-use ksi_split::Side;
+use ksi_imprint::{Compress, Imprint, NoMemory, Refused};
+use ksi_split::{Rows, Side, Steps};
 use std::alloc::Global;
 use std::marker::{Brand, Model};
 use std::sync::ledger::{Blank, Ledger};
@@ -23,18 +23,6 @@ use std::sync::ledger::{Blank, Ledger};
 pub enum AddRefusal {
     /// The round has 65,536 items.
     Full,
-    /// There is no memory for it.
-    NoMemory,
-}
-
-impl From<NoMemory> for AddRefusal {
-    ghost use Rattle.ksi_aggtree.specs.declared.builder.AddRefusal.TheVariants as refusals;
-
-    ghost from_gives = { λ _ refusal. refusal ≡ refusals.NoMemory };
-
-    fn from(_: NoMemory) -> Self {
-        AddRefusal::NoMemory
-    }
 }
 
 /// A round: items of levels to 239, at most 65,536 of them, and their tree. A contract sees their list.
@@ -100,6 +88,7 @@ impl<C: Compress> Builder<C> {
         if count == 0 {
             None
         } else {
+            no_cap();
             Some(self.rows.root(count - 1))
         }
     }
@@ -112,6 +101,7 @@ impl<C: Compress> Builder<C> {
         if count == 0 {
             None
         } else {
+            no_cap();
             self.rows.node(count - 1, sides)
         }
     }
@@ -150,6 +140,7 @@ impl<C: Compress> Builder<C> {
         ensures most { steps.new ≤ steps.old + 32 }
         ensures least { IfOk result (λ links. steps.old + length links < steps.new) }
     {
+        no_cap();
         one_chain();
         let last = self.rows.count() - 1;
         let others = self.rows.path_counted(k as u64, last, steps)?;
@@ -157,20 +148,35 @@ impl<C: Compress> Builder<C> {
         ItemPath::beside(self.rows.alloc(), leaf.level, &others)
     }
 
+    /// The paths of all items, of which there is one at least.
+    ///
+    /// # Errors
+    /// `NoMemory`: all is as it was.
+    pub fn paths(&self) -> Result<RoundPaths<'_, C>, NoMemory>
+        requires { 0 < length self.now }
+        ensures { IfOk result (λ paths. paths ≡ self.now) }
+    {
+        let paths = self.rows.paths(self.rows.count() - 1)?;
+        Ok(RoundPaths {
+            items: self.items.as_slice(),
+            paths,
+        })
+    }
+
     /// Adds an item of a level to 239 behind the others, and says which it is, the first one being item 0.
     ///
     /// # Errors
     /// `Full` exactly where there are 65,536 items, or `NoMemory`: all is as it was.
-    pub fn add(&mut self, item: Item) -> Result<usize, AddRefusal>
+    pub fn add(&mut self, item: Item) -> Result<usize, Refused<AddRefusal>>
         requires { item.level ≤ highest_item }
         ensures place { IfOk result (λ k. k ≡ length self.old) }
         ensures added { IfOk result (λ k. self.new ≡ self.old ++ item ∷ []) }
-        ensures full { (result ≡ Err AddRefusal.Full) ↔ (length self.old ≡ most_items) }
+        ensures full { (result ≡ Err (Refused.Fault AddRefusal.Full)) ↔ (length self.old ≡ most_items) }
         ensures unchanged { OnErr result (self.new ≡ self.old) }
     {
         let place = self.items.len();
         if place >= MOST_ITEMS {
-            return Err(AddRefusal::Full);
+            return Err(Refused::Fault(AddRefusal::Full));
         }
         self.items.reserve(1)?;
         self.rows.append(item.leaf())?;

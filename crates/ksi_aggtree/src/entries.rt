@@ -9,10 +9,11 @@ ghost use Rattle.ksi_aggtree.specs.Entries.{items_of, has_from, candidate_of};
 use crate::builder::{AddRefusal, Builder};
 use crate::item::{Item, MOST_ITEMS};
 use crate::item_path::ItemPath;
+use crate::paths::RoundPaths;
 use crate::room::put;
 use crate::senders::{make_room, note};
 use ksi_aggchain::Node;
-use ksi_imprint::{Compress, Imprint, NoMemory};
+use ksi_imprint::{Compress, Imprint, NoMemory, Refused};
 use std::alloc::Global;
 use std::collections::HashSet;
 use std::marker::Model;
@@ -128,20 +129,31 @@ impl<C: Compress> Entries<C> {
         self.round.path(k)
     }
 
+    /// The paths of all items, of which there is one at least. A contract sees the items without their origins.
+    ///
+    /// # Errors
+    /// `NoMemory`: all is as it was.
+    pub fn paths(&self) -> Result<RoundPaths<'_, C>, NoMemory>
+        requires { 0 < length self.now }
+        ensures { IfOk result (λ paths. paths ≡ items_of self.now) }
+    {
+        self.round.paths()
+    }
+
     /// Adds an item of a level to 239 behind the others, and says which it is, the first one being item 0.
     ///
     /// # Errors
     /// `Full` exactly where there are 65,536 items, or `NoMemory`: all is as it was.
-    pub fn add(&mut self, entry: Entry) -> Result<usize, AddRefusal>
+    pub fn add(&mut self, entry: Entry) -> Result<usize, Refused<AddRefusal>>
         requires { entry.item.level ≤ highest_item }
         ensures place { IfOk result (λ k. k ≡ length self.old) }
         ensures added { IfOk result (λ k. self.new ≡ self.old ++ entry ∷ []) }
-        ensures full { (result ≡ Err AddRefusal.Full) ↔ (length self.old ≡ most_items) }
+        ensures full { (result ≡ Err (Refused.Fault AddRefusal.Full)) ↔ (length self.old ≡ most_items) }
         ensures unchanged { OnErr result (self.new ≡ self.old) }
     {
         let place = self.count();
         if place == MOST_ITEMS {
-            return Err(AddRefusal::Full);
+            return Err(Refused::Fault(AddRefusal::Full));
         }
         self.origins.reserve(1)?;
         make_room(&mut self.senders, &entry.origin)?;

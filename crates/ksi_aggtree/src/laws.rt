@@ -8,12 +8,14 @@ ghost use Rattle.ksi_aggchain.specs.Climbing.{Climbs};
 ghost use Rattle.ksi_aggchain.specs.Owned.{plain_links};
 ghost use Rattle.ksi_aggchain.specs.declared.node.Node.{Node};
 ghost use Rattle.ksi_aggtree.specs.declared.item.Item.{Item};
-ghost use Rattle.ksi_aggtree.specs.Rounds.{most_items, IsRound, aggregation_join, leaf, as_item, item_at, tree_from, tree_of, node_of};
+ghost use Rattle.ksi_split.specs.Trees.{tree, path_of, node_at};
+ghost use Rattle.ksi_aggtree.specs.Rounds.{most_items, IsRound, aggregation_join, capped_join, leaf, leaf_of_place, as_item, item_at, tree_from, tree_of, tree_path, node_of};
 ghost use Rattle.ksi_aggtree.specs.Paths.{chain_of, sides_from_top};
 
 use ksi_aggchain::Node;
 use ksi_aggchain::laws::one_climb;
-use ksi_split::trees::{one_node, one_path, one_tree};
+use ksi_split::laws::one_split;
+use ksi_split::trees::{enough_levels, one_node, one_path, one_tree};
 
 /// A node that is submitted to a round stands in its tree as it is.
 pub fn one_leaf()
@@ -32,10 +34,11 @@ pub fn one_round()
         ((k : ℕ) → (item_at items k).level ≤ most) → (tree_of image items).level ≤ most + 16 }
 {
     one_tree::<Node>();
+    enough_levels::<Node>();
 }
 
-/// In a round the chain of an item climbs from its leaf to the tree of all items. Its sides from the top are the item's way,
-/// and it has at most 16 links.
+/// In a round the chain of an item climbs from its leaf to the tree of all items. Its sides from the top are the item's
+/// way, and it has at most 16 links.
 pub fn one_chain()
     ensures climbs { (image : List ℕ → List ℕ) (items : List Item) (k : ℕ) → IsRound items → k < length items →
         Climbs image (leaf (item_at items k)) (plain_links (chain_of image items k)) (tree_of image items) }
@@ -46,6 +49,7 @@ pub fn one_chain()
 {
     one_path::<Node>();
     one_climb();
+    one_round();
 }
 
 /// The node that sides lead to is the tree of the items of their part. Sides that pass a leaf lead to none. In a round no
@@ -60,4 +64,21 @@ pub fn one_part()
         node_of image items sides ≡ Some node → node.level ≤ highest_level }
 {
     one_node::<Node>();
+    enough_levels::<Node>();
+    one_split();
+}
+
+/// The tree of a round, its nodes and its paths are the same where the level of a join is kept within a byte, since no
+/// level passes 255.
+pub(crate) fn no_cap()
+    ensures root { (image : List ℕ → List ℕ) (items : List Item) → IsRound items →
+        tree (capped_join image) (leaf_of_place items) 0 (length items) ≡ tree_of image items }
+    ensures node { (image : List ℕ → List ℕ) (items : List Item) (last : ℕ) (sides : List Side) → IsRound items →
+        length items ≡ last + 1 →
+        node_at (capped_join image) (leaf_of_place items) last sides ≡ node_of image items sides }
+    ensures path { (image : List ℕ → List ℕ) (items : List Item) (k : ℕ) → IsRound items →
+        path_of (capped_join image) (leaf_of_place items) 0 k (length items) ≡ tree_path image items k }
+{
+    enough_levels::<Node>();
+    one_split();
 }

@@ -13,7 +13,7 @@ ghost use Rattle.ksi_auditor.specs.Walks.{IsShortWalk, clash_in, go, step, laid,
 ghost use Rattle.ksi_auditor.specs.declared.walk.Walk.TheVariants as walks;
 ghost use Rattle.ksi_auditor.specs.Shown.{AreShort};
 
-use crate::climbing::top_of;
+use crate::reached::top_of;
 use crate::kept::KeptTree;
 use crate::place::Place;
 use crate::rung::{Rung, is_joined_of, join_of, text_of};

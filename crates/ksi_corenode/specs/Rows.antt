@@ -25,7 +25,7 @@ use Rattle.ksi_signature.specs.declared.answer.Answer.TheVariants.{Done, Publish
 use Rattle.ksi_corenode.specs.declared.step.Send.{Send}
 use Rattle.ksi_corenode.specs.declared.step.Send.TheVariants as sends
 use Rattle.ksi_corenode.specs.SecondState.{SecondState}
-use Rattle.ksi_corenode.specs.Held.{Held, first_missing, held_seconds, held_root}
+use Rattle.ksi_calendar.specs.Covered.{Roots, IsCovered, first_missing, covered_seconds, covered_root}
 use Rattle.ksi_corenode.specs.Turns.{Turn, still, voted_with}
 
 -- SUBMISSION of an item by an aggregator: it is one of the open items, where none of that aggregator is there
@@ -127,26 +127,26 @@ responses_from above k [] = []
 responses_from above k (entry ∷ entries) = response_to entry.origin (above k) ++ responses_from above (suc k) entries
 
 -- all responses are sent
-abbrev pub responded : (List ℕ → List ℕ) → Held → (start second : ℕ) → List Entry → (root : List ℕ) → SecondState → Turn
-responded image held start second entries root s = record { after = s; answer = Done; sends = responses_from (above_item image (held_seconds held start second) second root (items_of entries)) 0 entries }
+abbrev pub responded : (List ℕ → List ℕ) → Roots → (start second : ℕ) → List Entry → (root : List ℕ) → SecondState → Turn
+responded image held start second entries root s = record { after = s; answer = Done; sends = responses_from (above_item image (covered_seconds held start second) second root (items_of entries)) 0 entries }
 
 -- Unsealed; Undecided with the first second from the start on that is not held; NotMine; else Done. (The third case does
 -- not come: where none is missing, something is held for the second.)
-abbrev pub respond_where : (List ℕ → List ℕ) → Held → (start second : ℕ) → (sealed : Option (List Entry)) → (missing : Option ℕ) → (root : Option (List ℕ)) → SecondState → Turn
+abbrev pub respond_where : (List ℕ → List ℕ) → Roots → (start second : ℕ) → (sealed : Option (List Entry)) → (missing : Option ℕ) → (root : Option (List ℕ)) → SecondState → Turn
 respond_where image held start second None missing root s = still s Unsealed
 respond_where image held start second (Some entries) (Some missing) root s = still s (Undecided missing)
 respond_where image held start second (Some entries) None None s = still s (Undecided second)
 respond_where image held start second (Some entries) None (Some root) s = if is_mine image entries root then responded image held start second entries root s else still s NotMine
 
-unfoldable pub respond_row : (List ℕ → List ℕ) → Held → (start second : ℕ) → SecondState → Turn
+unfoldable pub respond_row : (List ℕ → List ℕ) → Roots → (start second : ℕ) → SecondState → Turn
 respond_row image held start second s = respond_where image held start second s.sealed (first_missing held start second) (held second) s
 
 -- the answer NotMine in words: the second is sealed and all is held to it, and its root is not the candidate or is the
 -- zero imprint
-pub record IsNotMine (image : List ℕ → List ℕ) (held : Held) (start second : ℕ) (s : SecondState) : Type 0 where
+pub record IsNotMine (image : List ℕ → List ℕ) (held : Roots) (start second : ℕ) (s : SecondState) : Type 0 where
   pub entries : List Entry
   pub sealed : s.sealed ≡ Some entries
-  pub covered : (t : ℕ) → start ≤ t → t ≤ second → IsSome (held t)
+  pub covered : IsCovered held start second
   pub root : List ℕ
   pub holds : held second ≡ Some root
   pub other : (root ≢ candidate_of image entries) ⊎ (root ≡ zero_imprint)
@@ -154,11 +154,11 @@ pub record IsNotMine (image : List ℕ → List ℕ) (held : Held) (start second
 -- PUBLISH: the root of the calendar to the second is the answer
 
 -- Undecided with the first second from the start on that is not held, else Published
-abbrev pub publish_where : (List ℕ → List ℕ) → Held → (start p : ℕ) → (missing : Option ℕ) → Answer
+abbrev pub publish_where : (List ℕ → List ℕ) → Roots → (start p : ℕ) → (missing : Option ℕ) → Answer
 publish_where image held start p (Some missing) = Undecided missing
-publish_where image held start p None = Published (held_root image held start p)
+publish_where image held start p None = Published (covered_root image held start p)
 
-unfoldable pub publish_answer : (List ℕ → List ℕ) → Held → (start p : ℕ) → Answer
+unfoldable pub publish_answer : (List ℕ → List ℕ) → Roots → (start p : ℕ) → Answer
 publish_answer image held start p = publish_where image held start p (first_missing held start p)
 
 -- RESTART: the ballot in hand and the open items are forgotten

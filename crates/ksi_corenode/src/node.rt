@@ -15,11 +15,11 @@ ghost use Rattle.ksi_corenode.specs.Kept.{IsCalendarOf};
 
 use crate::second::Second;
 use crate::sending::{push_each, push_told};
-use crate::step::{Sends, Step};
+use crate::step::Step;
 use ksi_aggtree::Item;
 use ksi_calendar::Calendar;
 use ksi_imprint::{Compress, Imprint, NoMemory};
-use ksi_signature::Answer;
+use ksi_signature::{Answer, Sends};
 use ksi_synod::{Begun, SynodMessage};
 use std::alloc::Global;
 use std::collections::BTreeMap;

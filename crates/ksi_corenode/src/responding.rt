@@ -5,19 +5,19 @@ ghost use Rattle.ksi_aggtree.specs.Entries.{items_of};
 ghost use Rattle.ksi_aggtree.specs.Paths.{chain_of};
 ghost use Rattle.ksi_calendar.specs.Calendar.{Seconds, calendar_path};
 ghost use Rattle.ksi_signature.specs.declared.answer.Answer.TheVariants.{Unsealed, Undecided, NotMine};
-ghost use Rattle.ksi_corenode.specs.Held.{IsFirstMissing, held_seconds};
+ghost use Rattle.ksi_calendar.specs.Covered.{IsFirstMissing, covered_seconds};
 ghost use Rattle.ksi_corenode.specs.Kept.{IsCalendarOf};
 ghost use Rattle.ksi_corenode.specs.Rows.{respond_row, IsNotMine, responses_from, response_to, above_item};
 ghost use Rattle.ksi_corenode.specs.CoreState.{state_of, held_by, IsTurn};
 
 use crate::node::Core;
 use crate::second::Second;
-use crate::step::{Send, Sends, Step};
+use crate::step::{Send, Step};
 use ksi_aggtree::{Entries, Origin};
+use ksi_calendar::laws::{one_covered, one_first_missing};
 use ksi_calendar::{Calendar, SecondPath};
 use ksi_imprint::{Compress, Imprint, NoMemory};
-use ksi_signature::{Above, AboveChain, AboveChains, AboveLinks, Answer, CalendarLinks};
-use ksi_split::trees::one_path;
+use ksi_signature::{Above, AboveChain, AboveChains, AboveLinks, Answer, CalendarLinks, Sends};
 use std::alloc::Global;
 
 impl<C: Compress> Core<C> {
@@ -41,6 +41,7 @@ impl<C: Compress> Core<C> {
             IsNotMine C.image (held_by self.old) self.old.start second (state_of self.old second)) }
         ensures same { self.new ≡ self.old }
     {
+        one_first_missing();
         let mut calendar = self.take_calendar()?;
         let outcome = self.responded(&mut calendar, second);
         self.keep(calendar);
@@ -94,9 +95,9 @@ impl<C: Compress> Core<C> {
         requires kept { IsCalendarOf (held_by self.now) self.now.start calendar.now }
         requires covered { second < calendar.now.start + length calendar.now.roots }
         ensures { IfOk result (λ sends. IfSome kept.now.sealed (λ entries. sends.items ≡ responses_from
-            (above_item C.image (held_seconds (held_by self.now) self.now.start second) second root.now (items_of entries)) 0 entries)) }
+            (above_item C.image (covered_seconds (held_by self.now) self.now.start second) second root.now (items_of entries)) 0 entries)) }
     {
-        one_path::<Imprint>();
+        one_covered();
         let links = calendar.chain_to(second, second)?;
         match kept.entries() {
             Some(entries) => {

@@ -1,10 +1,12 @@
-ghost use Rattle.std.specs.Prelude.{◌≡◌, ◌↔◌, ℕ, ◌<◌, ◌≤◌, ◌+◌, ◌^◌, None, Some, IfOk, IfSome, IsSome, length};
+ghost use Rattle.std.specs.Prelude.{◌≡◌, ◌↔◌, ℕ, ◌<◌, ◌≤◌, ◌+◌, ◌^◌, None, Some, IfOk, IfSome, IsSome, IsNone, length};
 ghost use Rattle.ksi_journal.specs.Journal.{contents, IsJournal, root_at, items_at, kept_among};
-ghost use Rattle.ksi_journal.specs.Calendar.{calendar_of, first_missing, IsFirstMissing};
+ghost use Rattle.ksi_calendar.specs.Covered.{IsFirstMissing, first_missing};
+ghost use Rattle.ksi_journal.specs.Calendar.{calendar_of};
 
 use crate::calendar::calendar;
 use crate::finding::find;
 use ksi_aggtree::{Item, Second};
+use ksi_calendar::laws::one_first_missing;
 use ksi_calendar::{Calendar, Steps};
 use ksi_imprint::{Bytes, Compress, Imprint, NoMemory};
 use std::alloc::Global;
@@ -140,21 +142,25 @@ impl<C: Compress> Journal<C> {
 
     /// The first second from the start to `p` that is not kept, none where all are.
     pub fn first_missing(&self, p: u64) -> Option<u64>
-        ensures value { result ≡ first_missing self.now p }
-        ensures some { (second : ℕ) → (result ≡ Some second) ↔ IsFirstMissing self.now p second }
+        ensures value { result ≡ first_missing (root_at self.now) self.now.start p }
+        ensures some { (second : ℕ) → (result ≡ Some second) ↔ IsFirstMissing (root_at self.now) self.now.start p second }
         ensures none { (result ≡ None) ↔
             ((t : ℕ) → self.now.start ≤ t → t ≤ p → IsSome (root_at self.now t)) }
     {
-        self.missing(p)
+        one_first_missing();
+        self.behind(p)
     }
 
-    #[tactic(auto, unfolding(crate::specs::Calendar::first_missing, crate::specs::Calendar::calendar_of))]
-    fn missing(&self, p: u64) -> Option<u64>
-        ensures value { result ≡ first_missing self.now p }
+    /// The second behind the calendar, where it is at most `p`.
+    #[tactic(auto, unfolding(crate::specs::Calendar::calendar_of))]
+    fn behind(&self, p: u64) -> Option<u64>
+        ensures some { IfSome result (λ second.
+            (second ≡ self.now.start + length (calendar_of self.now).roots) × (second ≤ p)) }
+        ensures none { IsNone result → p < self.now.start + length (calendar_of self.now).roots }
         ensures journal { IsJournal C.image self.now }
     {
-        let missing = self.start + self.calendar.count();
-        if missing <= p { Some(missing) } else { None }
+        let behind = self.start + self.calendar.count();
+        if behind <= p { Some(behind) } else { None }
     }
 }
 

@@ -10,7 +10,7 @@ use Rattle.ksi_aggtree.proofs.laws.one_chain.Goals as goal
 pub returns-clause-climbs : goal.returns-clause-climbs
 returns-clause-climbs c = λ image items k round there.
     (c.one_climb.ensures.climbs image (leaf_of_place items k) (tree_of image items) (plain_links (chain_of image items k))).0
-    (item_climbs image items k round there (c.one_path.ensures.climbs (aggregation_join image) (leaf_of_place items)))
+    (item_climbs image items k (c.one_round.ensures.level image items 239 round.few round.low) there (c.one_path.ensures.climbs (aggregation_join image) (leaf_of_place items)))
 
 pub returns-clause-way : goal.returns-clause-way
 returns-clause-way c = λ image items k.

@@ -7,7 +7,7 @@ use Rattle.ksi_aggchain.specs.Climbing.{Climbs}
 use Rattle.ksi_aggchain.specs.Owned.{plain_links}
 use Rattle.ksi_aggtree.specs.Rounds.{leaf_of_place, tree_of, tree_path, IsRound}
 use Rattle.ksi_aggtree.specs.Paths.{links_from, chain_of, sides_from_top}
-use Rattle.ksi_aggtree.proofs.Capped.{leaves_are, leaves_count, round_path}
+use Rattle.ksi_aggtree.proofs.Kept.{leaves_are, leaves_count, round_path}
 use Rattle.ksi_aggtree.proofs.Chains.{links_count}
 use Rattle.ksi_aggtree.proofs.builder.Builder.path_counted.Goals as goal
 
@@ -17,7 +17,7 @@ beside-requires g c =
     let items = c.self.inside.items.items in
     let size = ap (λ (items : List Item). length items) c.self.view_is in
     let all = leaves_count rows items c.self.invariant.0 in
-    let path = round_path g.C.Compress.image rows items c.self.invariant.0 c.self.invariant.1 c.args.k (c.count-last.result - 1 + 1) (omega (arith, all, c.count-last.ensures, size, c.requires)) in
+    let path = round_path g.C.Compress.image rows items c.self.invariant.0 c.args.k (c.count-last.result - 1 + 1) (c.no_cap.ensures.path g.C.Compress.image items c.args.k c.self.invariant.1) (omega (arith, all, c.count-last.ensures, size, c.requires)) in
     let count = ap length (c.deref.ensures.value ∙ c.in_ok-others.ensures.path ∙ path) in
     let few = c.self.invariant.1.few in
     omega (arith, count, links_count (leaf_of_place items c.args.k).level (tree_path g.C.Compress.image items c.args.k), c.one_chain.ensures.few g.C.Compress.image items c.args.k few)
@@ -34,7 +34,7 @@ returns g c =
     let round : IsRound now = subst IsRound c.self.view_is c.self.invariant.1 in
     let few = round.few in
     let others : c.deref.result.now ≡ tree_path image now k = c.deref.ensures.value ∙ c.in_ok-others.ensures.path
-    ∙ round_path image rows items c.self.invariant.0 c.self.invariant.1 k (c.count-last.result - 1 + 1) (omega (arith, all, c.count-last.ensures, size, c.requires))
+    ∙ round_path image rows items c.self.invariant.0 k (c.count-last.result - 1 + 1) (c.no_cap.ensures.path image items k c.self.invariant.1) (omega (arith, all, c.count-last.ensures, size, c.requires))
     ∙ ap (λ (items : List Item). tree_path image items k) c.self.view_is in
     let leaf : c.leaf_counted-leaf.result ≡ leaf_of_place now k
     = c.leaf_counted-leaf.ensures.leaf ∙ ap (λ (leaf : ℕ → Node). leaf k) (leaves_are rows items c.self.invariant.0)
