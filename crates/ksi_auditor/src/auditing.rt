@@ -17,7 +17,7 @@ use crate::laws::{audit_shows, low_levels};
 use crate::place::Place;
 use crate::walk::{Walk, along_calendar, along_chains};
 use ksi_aggchain::Node;
-use ksi_aggtree::{Builder, Item};
+use ksi_aggtree::Item;
 use ksi_calchain::climb_calendar;
 use ksi_calendar::laws::one_first_missing;
 use ksi_imprint::{Compress, Imprint, NoMemory};
@@ -27,14 +27,15 @@ use ksi_publications::Publications;
 use ksi_signature::{AggregationChain, CalendarChain, Signature};
 use ksi_split::second_of;
 use ksi_verifier::{Refusal, Verdict, verify};
-use std::alloc::{AllocError, Global};
+use std::alloc::Global;
+use std::marker::PhantomData;
 
 /// Where the hash of a signature stands in a journal.
 ///
 /// First come the checks of the signature, then whether its publication time is before the start, whether all seconds from
 /// the start to it are kept, and whether the root that the signature leads to is the kept one. Then each link's string,
 /// from the top, is compared with the one of the kept tree: the first that differs is a clash. Where none does, the hash is
-/// a node of the tree of its second, or leads to one of its items. Only the tree of the second and a clash take memory.
+/// a node of the tree of its second, or leads to one of its items. Only a clash takes memory.
 pub fn audit<C: Compress>(
     alloc: Global,
     journal: &Journal<C>,
@@ -175,8 +176,10 @@ fn lay_below<C: Compress>(
         compared C.image items.now (all_links (plain_chains chains.now)) hash.now second []) }
     ensures short { IfOk result IsShort }
 {
-    let round = round_of::<C>(alloc, items)?;
-    let tree = ItemsOf { round: &round };
+    let tree = ItemsOf::<C> {
+        items,
+        hash: PhantomData,
+    };
     let start = Node {
         imprint: *hash,
         level: 0,
@@ -213,21 +216,4 @@ fn count_of(chains: &[AggregationChain]) -> u64
         count += chain.links.as_slice().len() as u64;
     }
     count
-}
-
-/// The tree of items.
-fn round_of<C: Compress>(alloc: Global, items: &[Item]) -> Result<Builder<C>, NoMemory>
-    requires few { length items.now ≤ most_items }
-    requires low { (k : ℕ) → (item_at items.now k).level ≤ highest_item }
-    ensures { IfOk result (λ round. round ≡ items.now) }
-{
-    let mut round = Builder::new(alloc)?;
-    'items: for item in items {
-        // so few items never fill it
-        match round.add(*item) {
-            Ok(_) => (),
-            Err(_) => return Err(AllocError),
-        }
-    }
-    Ok(round)
 }
