@@ -10,7 +10,7 @@ use crate::copies::copy_above;
 use crate::responses::responses;
 use crate::step::{Send, Step};
 use ksi_aggtree::{AddRefusal, Entries, Entry, Item, Origin};
-use ksi_imprint::{Bytes, Compress, Imprint, NoMemory};
+use ksi_imprint::{Bytes, Compress, Imprint, NoMemory, Refused};
 use ksi_signature::{Above, Answer, Sends, issue};
 use std::alloc::Global;
 use std::marker::Model;
@@ -91,8 +91,8 @@ impl<C: Compress> Round<C> {
         };
         match self.entries.add(entry) {
             Ok(_) => Ok(Step::without_sends(alloc, Answer::Number(number))),
-            Err(AddRefusal::Full) => Ok(Step::without_sends(alloc, Answer::Full)),
-            Err(AddRefusal::NoMemory) => Err(NoMemory),
+            Err(Refused::Fault(AddRefusal::Full)) => Ok(Step::without_sends(alloc, Answer::Full)),
+            Err(Refused::NoMemory) => Err(NoMemory),
         }
     }
 
@@ -122,8 +122,8 @@ impl<C: Compress> Round<C> {
         };
         match self.entries.add(entry) {
             Ok(_) => Ok(Step::without_sends(alloc, Answer::Done)),
-            Err(AddRefusal::Full) => Ok(Step::without_sends(alloc, Answer::Full)),
-            Err(AddRefusal::NoMemory) => Err(NoMemory),
+            Err(Refused::Fault(AddRefusal::Full)) => Ok(Step::without_sends(alloc, Answer::Full)),
+            Err(Refused::NoMemory) => Err(NoMemory),
         }
     }
 

@@ -12,7 +12,7 @@ use crate::laws::{no_cap, one_chain};
 use crate::paths::RoundPaths;
 use crate::room::put;
 use ksi_aggchain::Node;
-use ksi_imprint::{Compress, Imprint, NoMemory};
+use ksi_imprint::{Compress, Imprint, NoMemory, Refused};
 use ksi_split::{Rows, Side, Steps};
 use std::alloc::Global;
 use std::marker::{Brand, Model};
@@ -23,18 +23,6 @@ use std::sync::ledger::{Blank, Ledger};
 pub enum AddRefusal {
     /// The round has 65,536 items.
     Full,
-    /// There is no memory for it.
-    NoMemory,
-}
-
-impl From<NoMemory> for AddRefusal {
-    ghost use Rattle.ksi_aggtree.specs.declared.builder.AddRefusal.TheVariants as refusals;
-
-    ghost from_gives = { λ _ refusal. refusal ≡ refusals.NoMemory };
-
-    fn from(_: NoMemory) -> Self {
-        AddRefusal::NoMemory
-    }
 }
 
 /// A round: items of levels to 239, at most 65,536 of them, and their tree. A contract sees their list.
@@ -179,16 +167,16 @@ impl<C: Compress> Builder<C> {
     ///
     /// # Errors
     /// `Full` exactly where there are 65,536 items, or `NoMemory`: all is as it was.
-    pub fn add(&mut self, item: Item) -> Result<usize, AddRefusal>
+    pub fn add(&mut self, item: Item) -> Result<usize, Refused<AddRefusal>>
         requires { item.level ≤ highest_item }
         ensures place { IfOk result (λ k. k ≡ length self.old) }
         ensures added { IfOk result (λ k. self.new ≡ self.old ++ item ∷ []) }
-        ensures full { (result ≡ Err AddRefusal.Full) ↔ (length self.old ≡ most_items) }
+        ensures full { (result ≡ Err (Refused.Fault AddRefusal.Full)) ↔ (length self.old ≡ most_items) }
         ensures unchanged { OnErr result (self.new ≡ self.old) }
     {
         let place = self.items.len();
         if place >= MOST_ITEMS {
-            return Err(AddRefusal::Full);
+            return Err(Refused::Fault(AddRefusal::Full));
         }
         self.items.reserve(1)?;
         self.rows.append(item.leaf())?;

@@ -13,7 +13,7 @@ use crate::paths::RoundPaths;
 use crate::room::put;
 use crate::senders::{make_room, note};
 use ksi_aggchain::Node;
-use ksi_imprint::{Compress, Imprint, NoMemory};
+use ksi_imprint::{Compress, Imprint, NoMemory, Refused};
 use std::alloc::Global;
 use std::collections::HashSet;
 use std::marker::Model;
@@ -144,16 +144,16 @@ impl<C: Compress> Entries<C> {
     ///
     /// # Errors
     /// `Full` exactly where there are 65,536 items, or `NoMemory`: all is as it was.
-    pub fn add(&mut self, entry: Entry) -> Result<usize, AddRefusal>
+    pub fn add(&mut self, entry: Entry) -> Result<usize, Refused<AddRefusal>>
         requires { entry.item.level ≤ highest_item }
         ensures place { IfOk result (λ k. k ≡ length self.old) }
         ensures added { IfOk result (λ k. self.new ≡ self.old ++ entry ∷ []) }
-        ensures full { (result ≡ Err AddRefusal.Full) ↔ (length self.old ≡ most_items) }
+        ensures full { (result ≡ Err (Refused.Fault AddRefusal.Full)) ↔ (length self.old ≡ most_items) }
         ensures unchanged { OnErr result (self.new ≡ self.old) }
     {
         let place = self.count();
         if place == MOST_ITEMS {
-            return Err(AddRefusal::Full);
+            return Err(Refused::Fault(AddRefusal::Full));
         }
         self.origins.reserve(1)?;
         make_room(&mut self.senders, &entry.origin)?;

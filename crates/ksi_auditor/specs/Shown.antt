@@ -15,7 +15,7 @@ use Rattle.ksi_verifier.specs.Verdict.{chain_root}
 use Rattle.ksi_journal.specs.Journal.{Contents, items_at}
 use Rattle.ksi_journal.specs.Calendar.{IsCovered, kept_root}
 use Rattle.ksi_auditor.specs.declared.answer.Audit.{Audit}
-use Rattle.ksi_auditor.specs.declared.answer.Audit.TheVariants.{Inside, Beneath, Clash, NotAccepted, BeforeStart, Undecided, NotDecided, NoMemory}
+use Rattle.ksi_auditor.specs.declared.answer.Audit.TheVariants.{Inside, Beneath, Clash, NotAccepted, BeforeStart, Undecided, NotDecided}
 use Rattle.ksi_auditor.specs.Audit.{links_of, link_sides}
 
 -- the sides of the signature's calendar links name second t
@@ -69,7 +69,6 @@ Shows image journal signature hash (NotAccepted refusal) = Unit {0}
 Shows image journal signature hash (BeforeStart p) = Unit {0}
 Shows image journal signature hash (Undecided second) = Unit {0}
 Shows image journal signature hash (NotDecided p given kept) = Unit {0}
-Shows image journal signature hash NoMemory = Unit {0}
 
 -- the answer says where the hash stands, or has a clash
 abbrev pub Tells : Audit → Type 0
@@ -80,4 +79,3 @@ Tells (NotAccepted refusal) = ⊥
 Tells (BeforeStart p) = ⊥
 Tells (Undecided second) = ⊥
 Tells (NotDecided p given kept) = ⊥
-Tells NoMemory = ⊥

@@ -1,4 +1,4 @@
-ghost use Rattle.std.specs.Prelude.{◌≡◌, ◌≢◌, ◌<◌, ◌≤◌, ◌-◌, ◌^◌, ℕ, [], Some, None, IfOk, OnErr, length};
+ghost use Rattle.std.specs.Prelude.{◌≡◌, ◌<◌, ◌≤◌, ◌-◌, ◌^◌, ℕ, [], Some, None, IfOk, OnErr, length};
 ghost use Rattle.ksi_aggchain.specs.Climbing.{level_after};
 ghost use Rattle.ksi_aggtree.specs.Rounds.{item_at};
 ghost use Rattle.ksi_verifier.specs.Chains.{plain_chains};
@@ -32,28 +32,24 @@ use std::alloc::{AllocError, Global};
 /// the start to it are kept, and whether the root that the signature leads to is the kept one. Then each link's string,
 /// from the top, is compared with the one of the kept tree: the first that differs is a clash. Where none does, the hash is
 /// a node of the tree of its second, or leads to one of its items. Only the tree of the second and a clash take memory.
-#[tactic(auto, using(crate::proofs::Telling::never_memory))]
 pub fn audit<C: Compress>(
     alloc: Global,
     journal: &Journal<C>,
     signature: &Signature,
     hash: &Imprint,
     publications: &Publications,
-) -> Audit
-    ensures answer { result ≢ answers.NoMemory →
-        result ≡ audit C.image journal.now signature.now hash.now publications.now }
-    ensures shown { Shows C.image journal.now signature.now hash.now result }
-    // Memory is wanting only where the answer says where the hash stands, or has a clash.
-    ensures memory { result ≡ answers.NoMemory → Tells (audit C.image journal.now signature.now hash.now publications.now) }
-    ensures short { IsShort result }
+) -> Result<Audit, NoMemory>
+    ensures answer { IfOk result (λ answer. answer ≡
+        audit C.image journal.now signature.now hash.now publications.now) }
+    ensures shown { IfOk result (Shows C.image journal.now signature.now hash.now) }
+    // Memory is wanting only where the answer would say where the hash stands, or have a clash.
+    ensures memory { OnErr result (Tells (audit C.image journal.now signature.now hash.now publications.now)) }
+    ensures short { IfOk result IsShort }
 {
     audit_shows();
     let _start = journal.start();
     let _bytes = hash.bytes();
-    match answer::<C>(alloc, journal, signature, hash, publications) {
-        Ok(answer) => answer,
-        Err(_) => Audit::NoMemory,
-    }
+    answer::<C>(alloc, journal, signature, hash, publications)
 }
 
 #[tactic(auto, unfolding(crate::specs::Audit::audit))]

@@ -10,7 +10,7 @@ ghost use Rattle.ksi_corenode.specs.Kept.{StillHolds};
 ghost use Rattle.ksi_corenode.specs.Rows.{taken, submission_row, seal_row, is_mine, restart_row, counts, is_news, news_answer};
 
 use ksi_aggtree::{AddRefusal, Entries, Entry, Item, Origin};
-use ksi_imprint::{Compress, Imprint, NoMemory};
+use ksi_imprint::{Compress, Imprint, NoMemory, Refused};
 use ksi_signature::Answer;
 use ksi_synod::{Begun, Instance, LastVote, SynodMessage, Took};
 use std::alloc::Global;
@@ -301,8 +301,8 @@ fn take<C: Compress>(
             put(items, item);
             Ok(Answer::Done)
         }
-        Err(AddRefusal::Full) => Ok(Answer::Full),
-        Err(AddRefusal::NoMemory) => Err(NoMemory),
+        Err(Refused::Fault(AddRefusal::Full)) => Ok(Answer::Full),
+        Err(Refused::NoMemory) => Err(NoMemory),
     }
 }
 

@@ -4,4 +4,3 @@ pub mod Files
 pub mod Texts
 pub mod Again
 pub mod Read
-pub mod Wanting

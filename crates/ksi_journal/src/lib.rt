@@ -31,6 +31,6 @@ mod writer;
 pub use fault::JournalFault;
 pub use journal::Journal;
 pub use ksi_aggtree::Second;
-pub use ksi_imprint::NoMemory;
+pub use ksi_imprint::{NoMemory, Refused};
 pub use reader::load;
 pub use writer::write;

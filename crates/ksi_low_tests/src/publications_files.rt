@@ -1,6 +1,6 @@
 use crate::same::same;
 use ksi_imprint::{Bytes, Compress, Imprint, NoMemory, Sha};
-use ksi_publications::{Publications, PublicationsFault, read, write};
+use ksi_publications::{Publications, PublicationsFault, Refused, read, write};
 use std::alloc::Global;
 use std::process::Abort;
 use std::test::Fail;
@@ -15,13 +15,13 @@ fn file(alloc: Global, behind: &[&[u8]]) -> Result<Bytes, NoMemory> {
 }
 
 /// The only pair of a file, nothing where it has not one.
-fn listed(alloc: Global, bytes: &[u8]) -> Result<Option<(u64, Imprint)>, PublicationsFault> {
+fn listed(alloc: Global, bytes: &[u8]) -> Result<Option<(u64, Imprint)>, Refused<PublicationsFault>> {
     match read(alloc, bytes) {
         Ok(publications) => match publications.pairs() {
             [pair] => Ok(Some(*pair)),
             _ => Ok(None),
         },
-        Err(fault) => Err(fault),
+        Err(refused) => Err(refused),
     }
 }
 
@@ -29,7 +29,7 @@ fn lists(
     rt: &impl Abort,
     alloc: Global,
     behind: &[&[u8]],
-    want: Result<Option<(u64, Imprint)>, PublicationsFault>,
+    want: Result<Option<(u64, Imprint)>, Refused<PublicationsFault>>,
 ) -> Result<(), NoMemory> {
     let text = file(alloc, behind)?;
     same(rt, behind.len(), listed(alloc, text.as_slice()), want);

@@ -3,7 +3,7 @@ ghost use Rattle.std.specs.Prelude.{◌≡◌, ◌<◌, ◌≤◌, length};
 use crate::same::same;
 use ksi_aggchain::{Link, Node, shape};
 use ksi_aggtree::{AddRefusal, Builder, ItemPath, Steps};
-use ksi_imprint::{Compress, Imprint, NoMemory, Sha, Tiny};
+use ksi_imprint::{Compress, Imprint, NoMemory, Refused, Sha, Tiny};
 use ksi_split::Side;
 use ksi_split::Side::{Left, Right};
 use std::alloc::Global;
@@ -160,7 +160,7 @@ fn the_links_of_three_items(rt: HostRuntime) {
 }
 
 /// A round of five items of level 0.
-fn five(alloc: Global) -> Result<Builder<Sha>, AddRefusal> {
+fn five(alloc: Global) -> Result<Builder<Sha>, Refused<AddRefusal>> {
     let mut round = Builder::new(alloc)?;
     for _ in 0..5usize {
         round.add(item(0, b""))?;
@@ -188,7 +188,7 @@ fn the_ways_of_five_items(rt: HostRuntime) {
 }
 
 /// A round of as many items as there may be.
-fn full(alloc: Global) -> Result<Builder<Tiny>, AddRefusal> {
+fn full(alloc: Global) -> Result<Builder<Tiny>, Refused<AddRefusal>> {
     let mut round = Builder::new(alloc)?;
     for _ in 0..65536usize {
         round.add(item(239, b""))?;
@@ -209,7 +209,7 @@ fn a_full_round_refuses_the_next_item(rt: HostRuntime) {
     same(&rt, "made", made.is_ok(), true);
     if let Ok(mut round) = made {
         let refused = round.add(item(239, b""));
-        same(&rt, "add", refused, Err(AddRefusal::Full));
+        same(&rt, "add", refused, Err(Refused::Fault(AddRefusal::Full)));
         same(&rt, "count", round.count(), 65536);
         same(&rt, "level", level_of(round.root()), Some(255));
     }
