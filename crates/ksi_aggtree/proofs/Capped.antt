@@ -1,5 +1,5 @@
 -- No level of a round's tree passes 255, so that the cap is never met.
-use Rattle.std.proofs.Common.{◌≡◌, ℕ, zero, suc, ◌+◌, ◌-◌, ◌^◌, ◌<◌, ◌≤◌, List, [], ◌∷◌, max, min, Some, refl, sym, ap, ◌∙◌, arith, inl, inr}
+use Rattle.std.proofs.Common.{◌≡◌, ℕ, zero, suc, ◌+◌, ◌-◌, ◌^◌, ◌<◌, ◌≤◌, List, [], ◌∷◌, length, max, min, Some, refl, sym, ap, subst, ◌∙◌, arith, inl, inr}
 use Rattle.std.proofs.Math.Nat.{pow-suc, pow-le-pow_right}
 use Rattle.std.proofs.lemmas.Bool.Decides.{eqb_tells, leb_tells}
 use Rattle.ksi_split.specs.declared.side.Side.{Side}
@@ -9,7 +9,7 @@ use Rattle.ksi_split.specs.Parts.{Part, half_of, part_at}
 use Rattle.ksi_split.specs.Trees.{tree_within, tree, path_within, path_of, node_in, node_at}
 use Rattle.ksi_aggchain.specs.declared.node.Node.{Node}
 use Rattle.ksi_aggtree.specs.declared.item.Item.{Item}
-use Rattle.ksi_aggtree.specs.Rounds.{joined_at, aggregation_join, capped_join, leaf_of_place, node_from}
+use Rattle.ksi_aggtree.specs.Rounds.{IsRound, joined_at, aggregation_join, capped_join, leaf_of_place, node_from, node_of}
 
 -- what laws of trees and of splits say, as these proofs take it
 abbrev pub TreesFit : Type 0
@@ -78,6 +78,33 @@ module _ (image : List ℕ → List ℕ) (fits : TreesFit) (leaf : ℕ → Node)
   pub capped_node : SplitsFit → (last : ℕ) (sides : List Side) → last < 65536 → node_at (capped_join image) leaf last sides ≡ node_at (aggregation_join image) leaf last sides
   capped_node splits last sides few = capped_part splits 0 (record { first = 0; count = last + 1 }) sides (omega arith) (omega arith)
 
+  level_within : (lo n : ℕ) → n ≤ 65536 → (tree (aggregation_join image) leaf lo n).level ≤ 255
+  level_within lo n few = let e = ap (λ (x : Node). x.level) (fits (aggregation_join image) leaf 16 lo n few) in omega (arith, e, (capped_within 16 lo n (omega arith)).1)
+
+  part_low : SplitsFit → (place : ℕ) (part : Part) (sides : List Side) (node : Node) → 0 < part.count → part.count ≤ 65536
+      → node_in (aggregation_join image) leaf (part_at place part sides) ≡ Some node → node.level ≤ 255
+  part_low splits place part [] node some few is =
+      let same : tree (aggregation_join image) leaf part.first part.count ≡ node = cc is in
+      subst (λ (x : Node). x.level ≤ 255) same (level_within part.first part.count few)
+  part_low splits place part (side ∷ sides) node some few is = elim (eqb_tells part.count 1) [
+    | inl t ↦ (let none = rw t.0 at is in absurd (cc none))
+    | inr f ↦ (let more : 1 < part.count = (let ne = f.1 in omega arith) in
+        let h = half_some splits part side more in
+        let rest = rw f.0 at is in
+        part_low splits (place + 1) (half_of part side) sides node h.0 (omega (arith, h.1)) rest)
+  ]
+
+  -- a node of a round's tree stands at a level that does not pass the highest
+  pub node_low : SplitsFit → (last : ℕ) (sides : List Side) (node : Node) → last < 65536 → node_at (aggregation_join image) leaf last sides ≡ Some node → node.level ≤ 255
+  node_low splits last sides node few is = part_low splits 0 (record { first = 0; count = last + 1 }) sides node (omega arith) (omega arith) is
+
 pub last_node : (image : List ℕ → List ℕ) (items : List Item) (sides : List Side) (n last : ℕ) → n ≡ last + 1 → node_at (aggregation_join image) (leaf_of_place items) last sides ≡ node_from image items n sides
 last_node image items sides zero last e = absurd (omega arith)
 last_node image items sides (suc n) last e = let same : last ≡ n = omega arith in ap (λ (m : ℕ). node_at (aggregation_join image) (leaf_of_place items) m sides) same
+
+pub node_level : TreesFit → SplitsFit → (image : List ℕ → List ℕ) (items : List Item) (sides : List Side) (node : Node) → IsRound items → node_of image items sides ≡ Some node → node.level ≤ 255
+node_level fits splits image items sides node round is = of (length items) round.few is
+  where
+    of : (n : ℕ) → n ≤ 65536 → node_from image items n sides ≡ Some node → node.level ≤ 255
+    of zero few is = absurd (cc is)
+    of (suc last) few is = node_low image fits (leaf_of_place items) round.low splits last sides node (omega (arith, few)) is

@@ -3,6 +3,7 @@ ghost use Rattle.std.specs.Prelude.{◌≡◌, ◌<◌, ◌≤◌, ◌+◌, ◌-
 ghost use Rattle.ksi_split.specs.Powers.{IsSplit};
 ghost use Rattle.ksi_split.specs.Ways.{way_of, LeadsTo, PassesLeaf};
 ghost use Rattle.ksi_split.specs.declared.side.Side.{Side};
+ghost use Rattle.ksi_aggchain.specs.Links.{highest_level};
 ghost use Rattle.ksi_aggchain.specs.Climbing.{Climbs};
 ghost use Rattle.ksi_aggchain.specs.Owned.{plain_links};
 ghost use Rattle.ksi_aggchain.specs.declared.node.Node.{Node};
@@ -36,8 +37,8 @@ pub fn one_round()
     enough_levels::<Node>();
 }
 
-/// In a round the chain of an item climbs from its leaf to the tree of all items. Its sides from the top are the item's way,
-/// and it has at most 16 links.
+/// In a round the chain of an item climbs from its leaf to the tree of all items. Its sides from the top are the item's
+/// way, and it has at most 16 links.
 pub fn one_chain()
     ensures climbs { (image : List ℕ → List ℕ) (items : List Item) (k : ℕ) → IsRound items → k < length items →
         Climbs image (leaf (item_at items k)) (plain_links (chain_of image items k)) (tree_of image items) }
@@ -51,15 +52,20 @@ pub fn one_chain()
     one_round();
 }
 
-/// The node that sides lead to is the tree of the items of their part. Sides that pass a leaf lead to none.
+/// The node that sides lead to is the tree of the items of their part. Sides that pass a leaf lead to none. In a round no
+/// node's level passes the highest.
 pub fn one_part()
     ensures some { (image : List ℕ → List ℕ) (items : List Item) (last first count : ℕ) (sides : List Side) →
         length items ≡ last + 1 → LeadsTo (last + 1) sides first count →
         node_of image items sides ≡ Some (tree_from image items first count) }
     ensures none { (image : List ℕ → List ℕ) (items : List Item) (last place : ℕ) (sides : List Side) →
         length items ≡ last + 1 → PassesLeaf last sides place → node_of image items sides ≡ None }
+    ensures level { (image : List ℕ → List ℕ) (items : List Item) (sides : List Side) (node : Node) → IsRound items →
+        node_of image items sides ≡ Some node → node.level ≤ highest_level }
 {
     one_node::<Node>();
+    enough_levels::<Node>();
+    one_split();
 }
 
 /// The tree of a round, its nodes and its paths are the same where the level of a join is kept within a byte, since no

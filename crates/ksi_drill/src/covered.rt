@@ -54,7 +54,7 @@ fn root_to(journal: &Journal<Sha>, p: u64) -> Imprint
     requires { greatest_covered journal.now ≡ Some p }
     ensures { result ≡ kept_root imprint_of journal.now p }
 {
-    match journal.calendar().root_at(p) {
+    match journal.calendar().root_to(p) {
         Some(root) => root,
         None => Imprint::ZERO,
     }

@@ -1,7 +1,6 @@
 pub mod Passing
 pub mod Steps
 pub mod Kept
-pub mod Leaves
 pub mod Whole
 pub mod Told
 pub mod Imprints

@@ -14,6 +14,8 @@ use Rattle.ksi_signature.specs.declared.signature.Signature.{Signature}
 use Rattle.ksi_signature.specs.Values.{Calendar, Publishing}
 use Rattle.ksi_signature.specs.Reading.{signature_at}
 use Rattle.ksi_signature.specs.Extended.{extended_content, extended_text, IsTooLong}
+use Rattle.ksi_journal.specs.Journal.{Contents}
+use Rattle.ksi_journal.specs.Calendar.{calendar_of}
 use Rattle.ksi_verifier.specs.ChainChecks.{aggregated}
 use Rattle.ksi_extender.specs.declared.refusal.ExtendRefusal.TheVariants as refusals
 use Rattle.ksi_extender.specs.Checks.{◌>>=◌, ◌>>◌, need}
@@ -29,6 +31,11 @@ pub read_fault : (image : List ℕ → List ℕ) (bytes : List ℕ) (fault : Sig
 read_fault image bytes fault e = sym (ap (λ (r : Result Signature SignatureFault). or_malformed r >>= (λ (s : Signature). or_refused (aggregated image s))) e)
 
 -- ---- the new bytes
+
+-- the calendar of a journal starts where the journal does
+pub starts : (journal : Contents) → (calendar_of journal).start ≡ journal.start
+unfolding calendar_of
+starts journal = refl
 
 -- what is climbed from the leaf is the root
 pub hash_is : (image : List ℕ → List ℕ) (seconds kept : Seconds) (t p : ℕ) (input hash : List ℕ) (links given : List (TreeLink (List ℕ)))

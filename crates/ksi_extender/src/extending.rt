@@ -2,8 +2,8 @@ ghost use Rattle.std.specs.Prelude.{◌≡◌, [], ◌<◌, ◌≤◌, ◌+◌, 
 ghost use Rattle.ksi_imprint.specs.Refused.{OrNoMemory};
 ghost use Rattle.ksi_imprint.specs.declared.refused.Refused.TheVariants as refused;
 ghost use Rattle.ksi_tlv.specs.Spelling.{AreBytes};
-ghost use Rattle.ksi_calendar.specs.Calendar.{calendar_leaf};
-ghost use Rattle.ksi_journal.specs.Calendar.{calendar_of, leaf_at};
+ghost use Rattle.ksi_calendar.specs.Covered.{IsCovered, second_leaf};
+ghost use Rattle.ksi_journal.specs.Journal.{IsJournal, root_at};
 ghost use Rattle.ksi_signature.specs.declared.signature.Signature.{Signature};
 ghost use Rattle.ksi_signature.specs.File.{IsSignature};
 ghost use Rattle.ksi_signature.specs.Extended.{renewed};
@@ -15,9 +15,10 @@ use crate::refusal::ExtendRefusal;
 use ksi_calchain::climb_calendar;
 use ksi_calchain::laws::one_climb;
 use ksi_calendar::Steps;
+use ksi_calendar::laws::one_first_missing;
 use ksi_imprint::{Bytes, Compress, Imprint, NoMemory, Refused};
 use ksi_journal::Journal;
-use ksi_journal::laws::are_bytes;
+use ksi_journal::laws::{are_bytes, calendar_is_covered};
 use ksi_signature::{
     Bodies, CalendarChain, CalendarLinks, PublicationRecord, WithRefusal, read,
     signature_is_read, signature_or_fault, with_calendar,
@@ -141,7 +142,9 @@ fn over_journal<C: Compress, L: Ledger>(
     ensures least { IfOk result (λ _. steps.old < steps.new) }
 {
     aggregation();
+    one_first_missing();
     signature_is_read();
+    let _start = journal.start();
     if let Err(refusal) = check_kept(journal, chains, p, steps) {
         return Err(Refused::Fault(refusal));
     }
@@ -218,14 +221,15 @@ fn proof_to<C: Compress, L: Ledger>(
 ) -> Result<(CalendarChain, PublicationRecord), NoMemory>
     requires below { p < 2 ^ 63 }
     requires to { chains.now.time ≤ p }
-    requires covered { p < (calendar_of journal.now).start + length (calendar_of journal.now).roots }
-    requires root { calendar_leaf (calendar_of journal.now) chains.now.time ≡ chains.now.item.imprint }
-    requires leaf { leaf_at journal.now chains.now.time ≡ chains.now.item.imprint }
+    requires journal { IsJournal C.image journal.now }
+    requires covered { IsCovered (root_at journal.now) journal.now.start p }
+    requires root { second_leaf (root_at journal.now) journal.now.start chains.now.time ≡ chains.now.item.imprint }
     ensures chain { IfOk result (λ proof. proof.0 ≡ chain_to C.image journal.now chains.now.time p) }
     ensures published { IfOk result (λ proof. proof.1 ≡ record_to C.image journal.now p) }
     ensures most { steps.new ≤ steps.old + 126 }
     ensures least { IfOk result (λ _. steps.old ≤ steps.new) }
 {
+    calendar_is_covered();
     one_climb();
     let input = chains.item.imprint;
     let links = journal.calendar().chain_to_counted(chains.time, p, steps)?;

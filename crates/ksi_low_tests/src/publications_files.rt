@@ -61,9 +61,9 @@ fn reads_one_record_and_nothing_behind_it(rt: HostRuntime) -> Result<(), Fail> {
         &[&FRONT, hash.bytes()],
         Ok(Some((0, hash))),
     )?;
-    let refused = PublicationsFault::RefusedElement(1796, 60);
+    let fault = PublicationsFault::RefusedElement(1796, 60);
     let behind: [&[u8]; 3] = [&FRONT, hash.bytes(), &[0x87, 0x04, 0x00, 0x00]];
-    lists(&rt, rt.alloc(), &behind, Err(refused))?;
+    lists(&rt, rt.alloc(), &behind, Err(Refused::Fault(fault)))?;
     Ok(())
 }
 
@@ -73,7 +73,7 @@ fn the_magic_comes_first(rt: HostRuntime) {
         &rt,
         "magic",
         listed(rt.alloc(), b"KSIPUBL"),
-        Err(PublicationsFault::Magic),
+        Err(Refused::Fault(PublicationsFault::Magic)),
     );
 }
 
@@ -130,8 +130,8 @@ fn answers_the_first_fault(rt: HostRuntime) -> Result<(), Fail> {
             PublicationsFault::Imprint(16),
         ),
     ];
-    for (behind, want) in ROWS {
-        lists(&rt, rt.alloc(), &[behind], Err(want))?;
+    for (behind, fault) in ROWS {
+        lists(&rt, rt.alloc(), &[behind], Err(Refused::Fault(fault)))?;
     }
     Ok(())
 }

@@ -2,7 +2,7 @@
 use Rattle.std.proofs.Common.{◌≡◌, ℕ, ◌≤◌, cond, eqb, List, [], ◌∷◌, ◌++◌, length, refl, sym, ap, subst, ◌∙◌, arith, inl, inr, is_some, Some, set, length-set}
 use Rattle.std.specs.Prelude.{slice_get, map}
 use Rattle.std.proofs.lemmas.Bool.{cond_both}
-use Rattle.ksi_aggchain.specs.declared.node.Node.{Node}
+use Rattle.ksi_aggtree.specs.declared.item.Item.{Item}
 use Rattle.ksi_aggtree.specs.declared.entries.Entry.{Entry}
 use Rattle.ksi_aggtree.specs.Entries.{has_from, is_full}
 use Rattle.ksi_signature.specs.declared.step.Step.{Step}
@@ -50,7 +50,7 @@ unfolding round_request
 none_requested number imprint r = cond_both (is_some r.closed) _ _ (λ (turn : RoundTurn). turn.sends ≡ []) (λ _. refl)
     (λ _. cond_both (is_full r.open_items) _ _ (λ (turn : RoundTurn). turn.sends ≡ []) (λ _. refl) (λ _. refl))
 
-pub none_submitted : (from : ℕ) (item : Node) (r : RoundState) → (round_submission from item r).sends ≡ []
+pub none_submitted : (from : ℕ) (item : Item) (r : RoundState) → (round_submission from item r).sends ≡ []
 unfolding round_submission
 none_submitted from item r = cond_both (is_some r.closed) _ _ (λ (turn : RoundTurn). turn.sends ≡ []) (λ _. refl)
     (λ _. cond_both (has_from from r.open_items) _ _ (λ (turn : RoundTurn). turn.sends ≡ []) (λ _. refl)

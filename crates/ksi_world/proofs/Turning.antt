@@ -12,7 +12,7 @@ use Rattle.ksi_signature.specs.declared.step.Step.{Step}
 use Rattle.ksi_corenode.specs.SecondState.{SecondState}
 use Rattle.ksi_corenode.specs.Turns.{Turn, told, to_each}
 use Rattle.ksi_corenode.specs.Rows.{ballot_row, receive_row, tell_row, seal_row, submission_row}
-use Rattle.ksi_aggchain.specs.declared.node.Node.{Node}
+use Rattle.ksi_aggtree.specs.declared.item.Item.{Item}
 use Rattle.ksi_corenode.specs.CoreState.{CoreState, state_of, IsSame, IsTurn}
 use Rattle.ksi_world.specs.declared.outcome.Outcome.{Outcome}
 use Rattle.ksi_world.specs.declared.message.Message.{Message}
@@ -114,7 +114,7 @@ pub none_sealed : (image : List ℕ → List ℕ) (s : SecondState) → (seal_ro
 unfolding seal_row
 none_sealed image s = cond_both (is_some s.sealed) _ _ (λ (turn : Turn). turn.sends ≡ []) (λ _. refl) (λ _. refl)
 
-pub none_submitted : (from : ℕ) (item : Node) (s : SecondState) → (submission_row from item s).sends ≡ []
+pub none_submitted : (from : ℕ) (item : Item) (s : SecondState) → (submission_row from item s).sends ≡ []
 unfolding submission_row
 none_submitted from item s = cond_both (is_some s.sealed) _ _ (λ (turn : Turn). turn.sends ≡ []) (λ _. refl) (λ _. refl)
 

@@ -2,7 +2,7 @@ use Rattle.std.proofs.Common.{length, reverse, ◌∙◌, ap, arith}
 use Rattle.std.proofs.lemmas.List.{reverse-reverse}
 use Rattle.ksi_split.specs.Ways.{way_of}
 use Rattle.ksi_aggchain.specs.Owned.{plain_links}
-use Rattle.ksi_aggtree.specs.Rounds.{aggregation_join, item_at, leaf_of_place, tree_of, tree_path}
+use Rattle.ksi_aggtree.specs.Rounds.{aggregation_join, leaf_of_place, tree_of, tree_path}
 use Rattle.ksi_aggtree.specs.Paths.{chain_of}
 use Rattle.ksi_aggtree.proofs.Chains.{item_climbs, links_count, links_sides}
 use Rattle.ksi_aggtree.proofs.laws.one_chain.Goals as goal

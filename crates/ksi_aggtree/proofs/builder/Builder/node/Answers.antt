@@ -1,4 +1,4 @@
-use Rattle.std.proofs.Common.{◌-◌, ◌∙◌, List, length, ap, sym, arith}
+use Rattle.std.proofs.Common.{◌-◌, ◌∙◌, List, length, ap, arith}
 use Rattle.ksi_aggtree.specs.declared.item.Item.{Item}
 use Rattle.ksi_aggtree.specs.Rounds.{node_of}
 use Rattle.ksi_aggtree.proofs.Kept.{leaves_count, round_node, no_node}

@@ -7,7 +7,7 @@ use Rattle.ksi_aggtree.specs.Entries.{items_of}
 use Rattle.ksi_corenode.specs.declared.step.Send.{Send}
 use Rattle.ksi_corenode.specs.Rows.{responses_from, above_item}
 use Rattle.ksi_corenode.proofs.Responses.{responses_later}
-use Rattle.ksi_corenode.proofs.responding.responses.Goals as goal
+use Rattle.ksi_corenode.proofs.responding.responses_along.Goals as goal
 
 no_entry : Entry
 no_entry = record { origin = origins.Request 0; item = no_item }
