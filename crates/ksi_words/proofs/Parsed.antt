@@ -3,7 +3,7 @@ use Rattle.std.proofs.Common.{◌≡◌, List, [], ◌∷◌, map, codes, Option
 use Rattle.std.specs.Prelude.{Box}
 use Rattle.std.specs.Box.{box_value}
 use Rattle.std.specs.declared.alloc.Global.{Global}
-use Rattle.clap.specs.Walk.{CommandForm, Text, all_of}
+use Rattle.clap.specs.Walk.{Row, Text, all_of}
 use Rattle.clap.specs.Words.{App, HasMatchesOf, fault_of, is_simple, is_simple_and_free, subcommand_of, found_of, matched_of, raw_values, rows_of, subcommand_name_of, subcommand_rows, subcommand_rows_of}
 use Rattle.clap.specs.declared.parser.matches.ArgMatches.{ArgMatches}
 use Rattle.clap.specs.declared.parser.matches.ArgMatches.TheViews.{out-ArgMatches, out-SubCommand}
@@ -27,14 +27,14 @@ name_of_rows m = name_of_entered (out-ArgMatches m).subcommand
 same_text : (a b : Text) → Some a ≡ Some b → a ≡ b
 same_text a b e = cc (e)
 
-same_rows : (a b : List CommandForm) → Some a ≡ Some b → a ≡ b
+same_rows : (a b : List Row) → Some a ≡ Some b → a ≡ b
 same_rows a b e = cc (e)
 
-name_found : (m : ArgMatches) (found : Option (Bor Text × Bor ArgMatches)) (name : Bor Text) (matches : Bor ArgMatches) (n : Text) (rows : List CommandForm) → subcommand_rows_of m ≡ Some (n, rows) → option_map (λ p. p.0.now) found ≡ subcommand_name_of m → found ≡ Some (name, matches) → name.now ≡ n
+name_found : (m : ArgMatches) (found : Option (Bor Text × Bor ArgMatches)) (name : Bor Text) (matches : Bor ArgMatches) (n : Text) (rows : List Row) → subcommand_rows_of m ≡ Some (n, rows) → option_map (λ p. p.0.now) found ≡ subcommand_name_of m → found ≡ Some (name, matches) → name.now ≡ n
 name_found m found name matches n rows is names e =
     same_text name.now n (ap (option_map (λ p. p.0.now)) (sym e) ∙ names ∙ name_of_rows m ∙ ap (option_map (λ p. p.0)) is)
 
-rows_found : (m : ArgMatches) (found : Option (Bor Text × Bor ArgMatches)) (name : Bor Text) (matches : Bor ArgMatches) (n : Text) (rows : List CommandForm) → subcommand_rows_of m ≡ Some (n, rows) → option_map (λ p. rows_of (found_of p.1.now)) found ≡ option_map (λ p. p.1) (subcommand_rows_of m) → found ≡ Some (name, matches) → rows_of (found_of matches.now) ≡ rows
+rows_found : (m : ArgMatches) (found : Option (Bor Text × Bor ArgMatches)) (name : Bor Text) (matches : Bor ArgMatches) (n : Text) (rows : List Row) → subcommand_rows_of m ≡ Some (n, rows) → option_map (λ p. rows_of (found_of p.1.now)) found ≡ option_map (λ p. p.1) (subcommand_rows_of m) → found ≡ Some (name, matches) → rows_of (found_of matches.now) ≡ rows
 rows_found m found name matches n rows is told e =
     same_rows (rows_of (found_of matches.now)) rows (ap (option_map (λ p. rows_of (found_of p.1.now))) (sym e) ∙ told ∙ ap (option_map (λ p. p.1)) is)
 
