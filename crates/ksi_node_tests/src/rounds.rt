@@ -1,9 +1,8 @@
 ghost use Rattle.std.specs.Prelude.{◌≡◌, ◌<◌, ◌≤◌, length};
-ghost use Rattle.ksi_aggtree.specs.Rounds.{IsRound};
 
 use crate::same::same;
 use ksi_aggchain::{Link, Node, shape};
-use ksi_aggtree::{AddRefusal, Builder, Item, ItemPath, Steps, node_over, root_over, root_with};
+use ksi_aggtree::{AddRefusal, Builder, Item, ItemPath, Steps};
 use ksi_imprint::{Compress, Imprint, NoMemory, Refused, Sha, Tiny};
 use ksi_split::Side;
 use ksi_split::Side::{Left, Right};
@@ -186,30 +185,6 @@ fn the_ways_of_five_items(rt: HostRuntime) {
             same(&rt, k, way_of(&round, k), Some(bits));
         }
     }
-}
-
-/// The tree of the items of the empty string and of `abc` over a slice, and its nodes.
-fn has_tree(rt: &impl Abort, items: &[Item])
-    requires { IsRound items.now }
-{
-    let root = joined(Sha::of(b""), Sha::of(b"abc"), 1);
-    same(rt, "root", root_over::<Sha>(items), Some(root));
-    same(rt, "top", node_over::<Sha>(items, &[]), Some(root));
-    let right = Some(item(0, b"abc").leaf());
-    same(rt, "right", node_over::<Sha>(items, &[Right]), right);
-    same(rt, "past", node_over::<Sha>(items, &[Right, Left]), None);
-}
-
-#[test]
-fn a_slice_has_the_tree_of_its_items(rt: HostRuntime) {
-    let items = [item(0, b""), item(0, b"abc")];
-    has_tree(&rt, &items);
-}
-
-#[test]
-fn a_last_item_stands_behind_the_others(rt: HostRuntime) {
-    let tree = root_with::<Sha>(&[item(0, b"")], &item(0, b"abc"));
-    same(&rt, "tree", tree, joined(Sha::of(b""), Sha::of(b"abc"), 1));
 }
 
 /// A round of as many items as there may be.
