@@ -17,7 +17,7 @@ use Rattle.ksi_auditor.specs.Beside.{Rung, rung_text, rung_from, rungs_from, cal
 use Rattle.ksi_auditor.specs.Climbed.{climbed_to}
 use Rattle.ksi_auditor.specs.Walks.{step, go}
 use Rattle.ksi_auditor.specs.declared.walk.Walk.{Walk}
-use Rattle.ksi_auditor.proofs.Climbing.{rise}
+use Rattle.ksi_auditor.proofs.Climbs.{rise}
 
 pub ok_goes_on : {A E : Type 0} (r : Result A E) (x y : A) → IfOk r (λ z. z ≡ x) → x ≡ y → IfOk r (λ z. z ≡ y)
 ok_goes_on (Ok z) x y is e = is ∙ e

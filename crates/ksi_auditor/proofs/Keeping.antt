@@ -4,12 +4,13 @@ use Rattle.std.specs.Prelude.{slice_index_or, nat_lt, false}
 use Rattle.std.specs.List.{AllByRecursion}
 use Rattle.ksi_imprint.specs.Imprints.{zero_imprint}
 use Rattle.ksi_split.specs.Trees.{tree, tree_within}
-use Rattle.ksi_aggchain.specs.declared.node.Node.{Node}
+use Rattle.ksi_aggtree.specs.declared.item.Item.{Item}
 use Rattle.ksi_aggtree.specs.Rounds.{item_at, tree_of}
 use Rattle.ksi_calendar.specs.Calendar.{calendar_leaf}
-use Rattle.ksi_journal.specs.declared.second.Second.{Second}
+use Rattle.ksi_calendar.specs.Covered.{second_leaf}
+use Rattle.ksi_aggtree.specs.declared.second.Second.{Second}
 use Rattle.ksi_journal.specs.Journal.{Contents, IsItem, IsRootOf, IsSecond, IsJournal, kept_among, root_at, items_of, items_at}
-use Rattle.ksi_journal.specs.Calendar.{calendar_of, roots_from, leaf_at}
+use Rattle.ksi_journal.specs.Calendar.{calendar_of, roots_from}
 use Rattle.ksi_auditor.proofs.Cases.{lt_cases, eq_cases}
 
 -- what holds of each leaf and of each join holds of a tree
@@ -25,12 +26,12 @@ module _ {A : Type 0} (P : A → Type 0) (join : A → A → A) (leaf : ℕ → 
 
 -- ---- sizes
 
-pub item_size : (items : List Node) (k : ℕ) → AllByRecursion IsItem items → length (item_at items k).imprint ≡ 33
+pub item_size : (items : List Item) (k : ℕ) → AllByRecursion IsItem items → length (item_at items k).imprint ≡ 33
 item_size [] k all = refl
 item_size (item ∷ items) zero all = all.0.imprint.size
 item_size (item ∷ items) (suc k) all = item_size items k all.1
 
-pub item_level : (items : List Node) (k : ℕ) → AllByRecursion IsItem items → (item_at items k).level ≤ 239
+pub item_level : (items : List Item) (k : ℕ) → AllByRecursion IsItem items → (item_at items k).level ≤ 239
 item_level [] k all = omega arith
 item_level (item ∷ items) zero all = all.0.level
 item_level (item ∷ items) (suc k) all = item_level items k all.1
@@ -54,7 +55,7 @@ module _ (image : List ℕ → List ℕ) where
     | inr other ↦ (let found = rw other.0 at e in kept_is others t kept all.1 found)
   ]
 
-  pub record KeptItems (items : List Node) : Type 0 where
+  pub record KeptItems (items : List Item) : Type 0 where
     pub few : length items ≤ 65536
     pub each : AllByRecursion IsItem items
 
@@ -69,13 +70,13 @@ module _ (image : List ℕ → List ℕ) where
   -- the leaf of a second that is not the zero imprint is the root of its items
   pub record HasItems (j : Contents) (t : ℕ) : Type 0 where
     pub some : 0 < length (items_at j t)
-    pub root : (tree_of image (items_at j t)).imprint ≡ leaf_at j t
+    pub root : (tree_of image (items_at j t)).imprint ≡ second_leaf (root_at j) j.start t
 
-  rooted : (items : List Node) (root : List ℕ) → IsRootOf image items root → root ≢ zero_imprint → (0 < length items) × ((tree_of image items).imprint ≡ root)
+  rooted : (items : List Item) (root : List ℕ) → IsRootOf image items root → root ≢ zero_imprint → (0 < length items) × ((tree_of image items).imprint ≡ root)
   rooted [] root is other = absurd (other is)
   rooted (item ∷ items) root is other = (omega arith, is.1)
 
-  pub leaf_has_items : (j : Contents) (t : ℕ) → IsJournal image j → leaf_at j t ≢ zero_imprint → HasItems j t
+  pub leaf_has_items : (j : Contents) (t : ℕ) → IsJournal image j → second_leaf (root_at j) j.start t ≢ zero_imprint → HasItems j t
   unfolding items_at root_at
   leaf_has_items j t journal other = elim (lt_cases t j.start) [
     | inl before ↦ absurd (other (rw before.0 refl))
@@ -85,7 +86,7 @@ module _ (image : List ℕ → List ℕ) where
       of : (found : Option Second) → kept_among j.seconds t ≡ found → nat_lt t j.start ≡ false → HasItems j t
       of None e from = absurd (other (rw (from, e) refl))
       of (Some kept) e from =
-          let leaf : leaf_at j t ≡ kept.root = rw (from, e) refl in
+          let leaf : second_leaf (root_at j) j.start t ≡ kept.root = rw (from, e) refl in
           let is = rooted kept.items kept.root (kept_is j.seconds t kept journal.seconds e).tree (λ zero_root. other (leaf ∙ zero_root)) in
           let items : items_at j t ≡ kept.items = ap items_of e in
           record { some = rw items is.0; root = rw items (is.1 ∙ sym leaf) }

@@ -1,7 +1,7 @@
 pub mod Cases
 pub mod Strings
 pub mod Bits
-pub mod Climbing
+pub mod Climbs
 pub mod Going
 pub mod Parts
 pub mod Rounds

@@ -15,7 +15,7 @@ use Rattle.ksi_auditor.specs.Beside.{Rung, rung_side, rung_text, rung_from, rung
 use Rattle.ksi_auditor.specs.Climbed.{climbed_to}
 use Rattle.ksi_auditor.proofs.Cases.{lt_cases}
 use Rattle.ksi_auditor.proofs.Strings.{back_same}
-use Rattle.ksi_auditor.proofs.Climbing.{level_more}
+use Rattle.ksi_auditor.proofs.Climbs.{level_more}
 use Rattle.ksi_auditor.proofs.Going.{calendar_text_is, rungs_append}
 use Rattle.ksi_auditor.proofs.Walking.{Holds}
 

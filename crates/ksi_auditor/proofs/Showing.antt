@@ -1,11 +1,10 @@
 -- An answer shows what it says.
 use Rattle.std.proofs.Common.{◌≡◌, ℕ, suc, ◌+◌, ◌-◌, ◌<◌, ◌≤◌, Bool, true, false, List, [], ◌∷◌, ◌++◌, map, take, length, Result, Ok, Err, Option, Some, None, option_map, refl, sym, ap, subst, ◌∙◌, arith, inl, inr, ◌⊎◌, length-append, append-nil}
-use Rattle.std.specs.Prelude.{max, nat_le, nat_lt, ◌&&◌, ◌↔◌}
+use Rattle.std.specs.Prelude.{max, nat_lt, ◌↔◌}
 use Rattle.std.specs.Result.{result_unwrap_or}
 use Rattle.std.proofs.Math.Seq.{take-append_seam}
 use Rattle.std.proofs.lemmas.List.{length-map, map-append}
 use Rattle.std.proofs.lemmas.List.Sums.{sum_by-take-le}
-use Rattle.std.proofs.lemmas.Bool.{leb-false, leb-true, le-leb}
 use Rattle.ksi_imprint.specs.Imprints.{IsImprint, IsClash, join_text, zero_imprint}
 use Rattle.ksi_imprint.specs.declared.clash.Clash.{Clash}
 use Rattle.ksi_split.specs.declared.side.Side.{Side}
@@ -17,10 +16,12 @@ use Rattle.ksi_split.specs.Ways.{IsWay, NamesSecond}
 use Rattle.ksi_aggchain.specs.Links.{PlainLink}
 use Rattle.ksi_aggchain.specs.Climbing.{Climbs, climbed, level_after}
 use Rattle.ksi_aggchain.specs.declared.node.Node.{Node}
+use Rattle.ksi_aggtree.specs.declared.item.Item.{Item}
 use Rattle.ksi_aggtree.specs.Rounds as rounds
 use Rattle.ksi_calchain.specs.Climbing.{calendar_join, calendar_join_text}
 use Rattle.ksi_calchain.specs.Sides.{sides_from_top}
 use Rattle.ksi_calendar.specs.Calendar as calendars
+use Rattle.ksi_calendar.specs.Covered.{IsCovered, first_missing, covered_root, second_leaf}
 use Rattle.ksi_signature.specs.Values.{Calendar}
 use Rattle.ksi_signature.specs.declared.signature.Signature.{Signature}
 use Rattle.ksi_verifier.specs.Accepted.{ChainsLead, IsAccepted}
@@ -29,8 +30,8 @@ use Rattle.ksi_verifier.specs.Leading.{all_links}
 use Rattle.ksi_verifier.specs.Verdict.{chain_root, verdict}
 use Rattle.ksi_verifier.specs.declared.verdict.Verdict.{Verdict}
 use Rattle.ksi_verifier.specs.declared.verdict.Verdict.TheVariants.{Accepted, Refused}
-use Rattle.ksi_journal.specs.Journal.{Contents, IsJournal, items_at}
-use Rattle.ksi_journal.specs.Calendar.{IsCovered, calendar_of, roots_from, first_missing, kept_root, leaf_at}
+use Rattle.ksi_journal.specs.Journal.{Contents, IsJournal, root_at, items_at}
+use Rattle.ksi_journal.specs.Calendar.{calendar_of}
 use Rattle.ksi_auditor.specs.declared.answer.Audit.TheVariants as answers
 use Rattle.ksi_auditor.specs.Beside.{Rung, rung_side, rungs_from, calendar_rungs_from, Pair, differing}
 use Rattle.ksi_auditor.specs.Climbed.{climbed_to}
@@ -42,7 +43,7 @@ use Rattle.ksi_auditor.proofs.Strings.{same_cases}
 use Rattle.ksi_auditor.proofs.Parts.{whole, part_goes_on, node_past, node_below}
 use Rattle.ksi_auditor.proofs.Walking.{Holds, first_is_clash, none_differs}
 use Rattle.ksi_auditor.proofs.Rungs.{calendar_sides, aggregation_sides, rungs_count, climbed_ends, calendar_holds, aggregation_holds, climbed_size, left_climbs}
-use Rattle.ksi_auditor.proofs.Climbing.{rise, climbed_is}
+use Rattle.ksi_auditor.proofs.Climbs.{rise, climbed_is}
 use Rattle.ksi_auditor.proofs.Keeping.{all_of_tree, item_size, leaf_size, items_kept, HasItems, leaf_has_items}
 use Rattle.ksi_auditor.proofs.Outcomes.{first_above, none_above}
 use Rattle.ksi_auditor.proofs.Cited.{Laws}
@@ -85,54 +86,22 @@ none_left n part last passed (rung ∷ left) reached stops e = elim stops [
       elim (eq_cases part.count 1) [ inl t ↦ (let over = rw t.0 at all in absurd cc) | inr f ↦ absurd (f.1 one) ])
 ]
 
--- ---- covered seconds
-
-lt_true : (a b : ℕ) → a < b → nat_lt a b ≡ true
-lt_true a b h = elim (lt_cases a b) [ inl t ↦ t.0 | inr f ↦ absurd (omega (arith, h, f.1)) ]
-
-pub covered_is : (j : Contents) (p : ℕ) → j.start ≤ p → first_missing j p ≡ None → (calendars.is_covered (calendar_of j) p ≡ true) × (p < j.start + length (calendar_of j).roots)
-unfolding calendar_of first_missing
-covered_is j p from none = of (nat_le (j.start + length (roots_from j.start j.seconds)) p) refl
-  where
-    of : (b : Bool) → nat_le (j.start + length (roots_from j.start j.seconds)) p ≡ b → (calendars.is_covered (calendar_of j) p ≡ true) × (p < j.start + length (calendar_of j).roots)
-    of true e = let some = rw e at none in absurd cc
-    of false e =
-        let below = leb-false (j.start + length (roots_from j.start j.seconds)) p e in
-        (rw (le-leb j.start p from, lt_true p (j.start + length (roots_from j.start j.seconds)) below) refl, below)
-
-le_false : (a b : ℕ) → b < a → nat_le a b ≡ false
-le_false a b h = of (nat_le a b) refl
-  where
-    of : (t : Bool) → nat_le a b ≡ t → nat_le a b ≡ false
-    of true e = let le = leb-true a b e in absurd (omega (arith, h, le))
-    of false e = e
-
-not_both : (b : Bool) → (b && false) ≡ true → ⊥
-not_both true e = cc
-not_both false e = cc
-
-pub missing_none : (j : Contents) (p : ℕ) → calendars.is_covered (calendar_of j) p ≡ true → first_missing j p ≡ None
-unfolding calendar_of first_missing
-missing_none j p e = elim (lt_cases p (j.start + length (roots_from j.start j.seconds))) [
-  | inl below ↦ rw (le_false (j.start + length (roots_from j.start j.seconds)) p below.1) refl
-  | inr above ↦ (let both = rw above.0 at e in absurd (not_both (nat_le j.start p) both))
-]
+-- ---- decided publications
 
 -- the kept root as the code reads it
-pub root_is : (image : List ℕ → List ℕ) (j : Contents) (p : ℕ) (seconds : calendars.Seconds) (found : Option (List ℕ)) → seconds ≡ calendar_of j → found ≡ calendars.root_at image seconds p → j.start ≤ p → first_missing j p ≡ None → found ≡ Some (kept_root image j p)
-root_is image j p seconds found same e from none =
-    let covered = (covered_is j p from none).0 in
-    e ∙ ap (λ (s : calendars.Seconds). calendars.root_at image s p) same ∙ rw covered refl
+pub root_is : (image : List ℕ → List ℕ) (j : Contents) (p : ℕ) (seconds : calendars.Seconds) (found : Option (List ℕ)) → seconds ≡ calendar_of j → found ≡ calendars.root_to image seconds p → calendars.is_covered (calendar_of j) p ≡ true
+    → found ≡ Some (calendars.calendar_root image (calendar_of j) p)
+root_is image j p seconds found same e covered = e ∙ ap (λ (s : calendars.Seconds). calendars.root_to image s p) same ∙ rw covered refl
 
 -- an audit of an accepted signature, whose publication is decided
 pub audit_laid : (image : List ℕ → List ℕ) (j : Contents) (signature : Signature) (hash : List ℕ) (publications : List (ℕ × List ℕ)) (t : ℕ) (calendar : Calendar) → verdict image signature hash publications ≡ Accepted t → signature.calendar ≡ Some calendar
-    → j.start ≤ calendar.publication → first_missing j calendar.publication ≡ None → chain_root image calendar ≡ kept_root image j calendar.publication → audit image j signature hash publications ≡ laid_beside image j signature hash t calendar
+    → j.start ≤ calendar.publication → first_missing (root_at j) j.start calendar.publication ≡ None → chain_root image calendar ≡ covered_root image (root_at j) j.start calendar.publication → audit image j signature hash publications ≡ laid_beside image j signature hash t calendar
 unfolding audit
 audit_laid image j signature hash publications t calendar passes has from none root =
     ap (accepted_or_not image j signature hash) passes ∙ ap (kept_or_not image j signature hash t) has
-    ∙ (elim (lt_cases calendar.publication j.start) as (λ z. kept_or_not image j signature hash t (Some calendar) ≡ decided image j signature hash t calendar (first_missing j calendar.publication)) [ inl early ↦ absurd (omega (arith, early.1, from)) | inr late ↦ rw late.0 refl ])
+    ∙ (elim (lt_cases calendar.publication j.start) as (λ z. kept_or_not image j signature hash t (Some calendar) ≡ decided image j signature hash t calendar (first_missing (root_at j) j.start calendar.publication)) [ inl early ↦ absurd (omega (arith, early.1, from)) | inr late ↦ rw late.0 refl ])
     ∙ ap (decided image j signature hash t calendar) none
-    ∙ (elim (same_cases (chain_root image calendar) (kept_root image j calendar.publication)) as (λ z. decided image j signature hash t calendar None ≡ laid_beside image j signature hash t calendar) [ inl same ↦ rw same.0 refl | inr other ↦ absurd (other.1 root) ])
+    ∙ (elim (same_cases (chain_root image calendar) (covered_root image (root_at j) j.start calendar.publication)) as (λ z. decided image j signature hash t calendar None ≡ laid_beside image j signature hash t calendar) [ inl same ↦ rw same.0 refl | inr other ↦ absurd (other.1 root) ])
 
 -- no level of an accepted signature passes 255
 pub low : (climbs : (image : List ℕ → List ℕ) (start top : Node) (links : List PlainLink) → (climbed image 0 start links ≡ Ok top) ↔ Climbs image start links top)
@@ -182,7 +151,7 @@ module _ (laws : Laws) (image : List ℕ → List ℕ) (lawful : (bytes : List �
 
   -- ---- the items of a second
 
-  module _ (items : List Node) (each : (k : ℕ) → length (rounds.item_at items k).imprint ≡ 33) (last : ℕ) (len : length items ≡ suc last) where
+  module _ (items : List Item) (each : (k : ℕ) → length (rounds.item_at items k).imprint ≡ 33) (last : ℕ) (len : length items ≡ suc last) where
     abbrev aggregation_at : Part → Node
     aggregation_at q = rounds.tree_from image items q.first q.count
 
@@ -199,26 +168,26 @@ module _ (laws : Laws) (image : List ℕ → List ℕ) (lawful : (bytes : List �
     aggregation_hashes q more = ap (λ (x : Node). x.imprint) (laws.aggregation_cut image items q.first q.count (split_of q.count) ((laws.split q.count (split_of q.count) more).1 refl))
 
     aggregation_sizes : (q : Part) → length (aggregation_imprint q) ≡ 33
-    aggregation_sizes q = all_of_tree (λ (x : Node). length x.imprint ≡ 33) (rounds.aggregation_join image) (rounds.item_at items) (λ a b. sizes _) each q.first q.count
+    aggregation_sizes q = all_of_tree (λ (x : Node). length x.imprint ≡ 33) (rounds.aggregation_join image) (rounds.leaf_of_place items) (λ a b. sizes _) each q.first q.count
 
-    aggregation_open : (sides : List Side) → rounds.node_of image items sides ≡ node_at (rounds.aggregation_join image) (rounds.item_at items) last sides
+    aggregation_open : (sides : List Side) → rounds.node_of image items sides ≡ node_at (rounds.aggregation_join image) (rounds.leaf_of_place items) last sides
     aggregation_open sides = ap (λ (n : ℕ). rounds.node_from image items n sides) len
 
     aggregation_one : (sides : List Side) (q : Part) → part_at 0 (whole (last + 1)) sides ≡ Ok q → q.count ≡ 1 → items_text image items sides ≡ None
     aggregation_one sides q e one = ap (λ (o : Option Node). joined_items o (rounds.node_of image items (sides ++ Right ∷ [])))
-        (aggregation_open (sides ++ Left ∷ []) ∙ node_past (rounds.aggregation_join image) (rounds.item_at items) last laws.parts laws.split (laws.aggregation_cut image items) sides Left q e one)
+        (aggregation_open (sides ++ Left ∷ []) ∙ node_past (rounds.aggregation_join image) (rounds.leaf_of_place items) last laws.parts laws.split (laws.aggregation_cut image items) sides Left q e one)
 
     aggregation_more : (sides : List Side) (q : Part) → part_at 0 (whole (last + 1)) sides ≡ Ok q → 1 < q.count → items_text image items sides ≡ Some (aggregation_string q)
     aggregation_more sides q e more =
         ap (λ (o : Option Node). joined_items o (rounds.node_of image items (sides ++ Right ∷ [])))
-        (aggregation_open (sides ++ Left ∷ []) ∙ node_below (rounds.aggregation_join image) (rounds.item_at items) last laws.parts laws.split (laws.aggregation_cut image items) sides Left q e more)
+        (aggregation_open (sides ++ Left ∷ []) ∙ node_below (rounds.aggregation_join image) (rounds.leaf_of_place items) last laws.parts laws.split (laws.aggregation_cut image items) sides Left q e more)
         ∙ ap (λ (o : Option Node). joined_items (Some (aggregation_at (half_of q Left))) o)
-        (aggregation_open (sides ++ Right ∷ []) ∙ node_below (rounds.aggregation_join image) (rounds.item_at items) last laws.parts laws.split (laws.aggregation_cut image items) sides Right q e more)
+        (aggregation_open (sides ++ Right ∷ []) ∙ node_below (rounds.aggregation_join image) (rounds.leaf_of_place items) last laws.parts laws.split (laws.aggregation_cut image items) sides Right q e more)
 
   -- ---- an accepted signature whose publication is decided
 
   module _ (signature : Signature) (hash : List ℕ) (publications : List (ℕ × List ℕ)) (t : ℕ) (size : length hash ≡ 33) (a : IsAccepted image signature hash publications t)
-      (from : j.start ≤ a.calendar.publication) (none : first_missing j a.calendar.publication ≡ None) (root : chain_root image a.calendar ≡ kept_root image j a.calendar.publication) where
+      (from : j.start ≤ a.calendar.publication) (none : first_missing (root_at j) j.start a.calendar.publication ≡ None) (root : chain_root image a.calendar ≡ covered_root image (root_at j) j.start a.calendar.publication) where
     abbrev p : ℕ
     p = a.calendar.publication
 
@@ -228,8 +197,14 @@ module _ (laws : Laws) (image : List ℕ → List ℕ) (lawful : (bytes : List �
     abbrev start : Node
     start = at_level_zero hash
 
+    all_kept : IsCovered (root_at j) j.start p
+    all_kept = record { from = from; each = (laws.none (root_at j) j.start p).0 none }
+
+    leads : chain_root image a.calendar ≡ calendars.calendar_root image (calendar_of j) p
+    leads = root ∙ sym (laws.root image j p journal all_kept)
+
     covered : (calendars.is_covered (calendar_of j) p ≡ true) × (p < j.start + length (calendar_of j).roots)
-    covered = covered_is j p from none
+    covered = ((laws.covered image j p journal).1 all_kept, ((laws.within image j p journal).1 all_kept).1)
 
     top : (climbed_to image start links ≡ a.item) × (level_after 0 links ≤ 255)
     top = climbed_ends image 0 start a.item links ((laws.climbs image start a.item links).1 (laws.lead image (plain_chains signature.chains) start a.item a.chains.lead)) (omega arith)
@@ -245,12 +220,12 @@ module _ (laws : Laws) (image : List ℕ → List ℕ) (lawful : (bytes : List �
 
     calendar_clash : (pair : Pair) → differing (calendar_pairs image j a.calendar) ≡ Some pair → IsClash image (record { one = pair.0; two = pair.1 })
     calendar_clash pair e = first_is_clash image (calendar_text image seconds p) (p + 1) calendar_chain_at calendar_string (λ q. 255) laws.split (calendar_one p covered.0) (calendar_more p covered.0) calendar_hashes (λ q. refl) calendar_sizes
-        (calendar_rungs_from image a.calendar.input a.calendar.links) [] (whole (p + 1)) a.calendar.input (chain_root image a.calendar) pair refl (omega arith) (calendar_holds image sizes a.calendar.input a.calendar.links input_size) root e
+        (calendar_rungs_from image a.calendar.input a.calendar.links) [] (whole (p + 1)) a.calendar.input (chain_root image a.calendar) pair refl (omega arith) (calendar_holds image sizes a.calendar.input a.calendar.links input_size) leads e
 
-    at_leaf : differing (calendar_pairs image j a.calendar) ≡ None → a.calendar.input ≡ leaf_at j t
+    at_leaf : differing (calendar_pairs image j a.calendar) ≡ None → a.calendar.input ≡ second_leaf (root_at j) j.start t
     at_leaf e =
         let w = none_differs image (calendar_text image seconds p) (p + 1) calendar_chain_at calendar_string (λ q. 255) laws.split (calendar_one p covered.0) (calendar_more p covered.0) calendar_hashes (λ q. refl) calendar_sizes
-        (calendar_rungs_from image a.calendar.input a.calendar.links) [] (whole (p + 1)) a.calendar.input (chain_root image a.calendar) refl (omega arith) (calendar_holds image sizes a.calendar.input a.calendar.links input_size) root e in
+        (calendar_rungs_from image a.calendar.input a.calendar.links) [] (whole (p + 1)) a.calendar.input (chain_root image a.calendar) refl (omega arith) (calendar_holds image sizes a.calendar.input a.calendar.links input_size) leads e in
         let named = leaf_named p t (sides_from_top a.calendar.links) ((laws.second p t (sides_from_top a.calendar.links)).1 a.second) in
         let reach : List Rung → Result Part ℕ = λ r. part_at 0 (whole (p + 1)) (map rung_side r) in
         let all : reach (w.passed ++ w.left) ≡ Ok named.0 = ap reach (sym w.split) ∙ ap (part_at 0 (whole (p + 1))) (calendar_sides image a.calendar.input a.calendar.links) ∙ named.1 in
@@ -263,8 +238,8 @@ module _ (laws : Laws) (image : List ℕ → List ℕ) (lawful : (bytes : List �
         let last = covered.1 in
         rest ∙ ap calendar_chain_at same ∙ leaf ∙ laws.leaves image j t journal (omega (arith, early, last))
 
-    module _ (h : HasItems image j t) (leaf : a.calendar.input ≡ leaf_at j t) where
-      abbrev items : List Node
+    module _ (h : HasItems image j t) (leaf : a.calendar.input ≡ second_leaf (root_at j) j.start t) where
+      abbrev items : List Item
       items = items_at j t
 
       abbrev last : ℕ
@@ -296,7 +271,7 @@ module _ (laws : Laws) (image : List ℕ → List ℕ) (lawful : (bytes : List �
             second = names;
             all = refl;
             node = ap (imprint_at image items) sides
-                ∙ ap (option_map (λ (x : Node). x.imprint)) (aggregation_open items each last len (map rung_side passed) ∙ ap (node_in (rounds.aggregation_join image) (rounds.item_at items)) reached)
+                ∙ ap (option_map (λ (x : Node). x.imprint)) (aggregation_open items each last len (map rung_side passed) ∙ ap (node_in (rounds.aggregation_join image) (rounds.leaf_of_place items)) reached)
                 ∙ ap (λ (x : List ℕ). Some x) (sym rest);
           }
 
@@ -379,7 +354,7 @@ module _ (laws : Laws) (image : List ℕ → List ℕ) (lawful : (bytes : List �
     ]
 
     -- of a second before the start, or a missed one, only with a clash
-    pub missed_is_clash : leaf_at j t ≡ zero_imprint → (clash : Clash) × (laid_beside image j signature hash t a.calendar ≡ answers.Clash clash) × IsClash image clash
+    pub missed_is_clash : second_leaf (root_at j) j.start t ≡ zero_imprint → (clash : Clash) × (laid_beside image j signature hash t a.calendar ≡ answers.Clash clash) × IsClash image clash
     missed_is_clash missed = elim (on_calendar (differing (calendar_pairs image j a.calendar)) refl) [
       | inl d ↦ (record { one = d.0.0; two = d.0.1 }, sym (clash_above d.0 d.1), calendar_clash d.0 d.1)
       | inr e ↦ absurd (a.not_missed (at_leaf e ∙ missed))
@@ -388,9 +363,9 @@ module _ (laws : Laws) (image : List ℕ → List ℕ) (lawful : (bytes : List �
   -- ---- whatever an audit answers, it shows what it says
 
   module _ (signature : Signature) (hash : List ℕ) (publications : List (ℕ × List ℕ)) (size : length hash ≡ 33) where
-    when_whole : (t : ℕ) (a : IsAccepted image signature hash publications t) → j.start ≤ a.calendar.publication → (missing : Option ℕ) → first_missing j a.calendar.publication ≡ missing → Shows image j signature hash (decided image j signature hash t a.calendar missing)
+    when_whole : (t : ℕ) (a : IsAccepted image signature hash publications t) → j.start ≤ a.calendar.publication → (missing : Option ℕ) → first_missing (root_at j) j.start a.calendar.publication ≡ missing → Shows image j signature hash (decided image j signature hash t a.calendar missing)
     when_whole t a from (Some second) e = tt
-    when_whole t a from None e = elim (same_cases (chain_root image a.calendar) (kept_root image j a.calendar.publication)) [
+    when_whole t a from None e = elim (same_cases (chain_root image a.calendar) (covered_root image (root_at j) j.start a.calendar.publication)) [
       | inl root ↦ rw root.0 (laid_shows signature hash publications t size a from e root.1)
       | inr other ↦ rw other.0 tt
     ]
@@ -399,7 +374,7 @@ module _ (laws : Laws) (image : List ℕ → List ℕ) (lawful : (bytes : List �
     when_accepted t a = subst (λ (c : Option Calendar). Shows image j signature hash (kept_or_not image j signature hash t c)) (sym a.has_calendar)
         (elim (lt_cases a.calendar.publication j.start) [
           | inl early ↦ rw early.0 tt
-          | inr late ↦ rw late.0 (when_whole t a late.1 (first_missing j a.calendar.publication) refl)
+          | inr late ↦ rw late.0 (when_whole t a late.1 (first_missing (root_at j) j.start a.calendar.publication) refl)
         ])
 
     of_verdict : (v : Verdict) → verdict image signature hash publications ≡ v → Shows image j signature hash (accepted_or_not image j signature hash v)
@@ -410,12 +385,12 @@ module _ (laws : Laws) (image : List ℕ → List ℕ) (lawful : (bytes : List �
     unfolding audit
     audit_shows = of_verdict (verdict image signature hash publications) refl
 
-    pub missed_shows : (t : ℕ) → verdict image signature hash publications ≡ Accepted t → IsDecided image j signature → leaf_at j t ≡ zero_imprint → (clash : Clash) × (audit image j signature hash publications ≡ answers.Clash clash) × IsClash image clash
+    pub missed_shows : (t : ℕ) → verdict image signature hash publications ≡ Accepted t → IsDecided image j signature → second_leaf (root_at j) j.start t ≡ zero_imprint → (clash : Clash) × (audit image j signature hash publications ≡ answers.Clash clash) × IsClash image clash
     missed_shows t passes d missed =
         let a = (laws.accepted image signature hash publications t).0 passes in
         let same : a.calendar ≡ d.calendar = some_is (sym a.has_calendar ∙ d.has_calendar) in
-        let covered : IsCovered j a.calendar.publication = subst (λ (c : Calendar). IsCovered j c.publication) (sym same) d.covered in
-        let root : chain_root image a.calendar ≡ kept_root image j a.calendar.publication = subst (λ (c : Calendar). chain_root image c ≡ kept_root image j c.publication) (sym same) d.root in
-        let none = missing_none j a.calendar.publication ((laws.covered image j a.calendar.publication journal).1 covered) in
+        let covered : IsCovered (root_at j) j.start a.calendar.publication = subst (λ (c : Calendar). IsCovered (root_at j) j.start c.publication) (sym same) d.covered in
+        let root : chain_root image a.calendar ≡ covered_root image (root_at j) j.start a.calendar.publication = subst (λ (c : Calendar). chain_root image c ≡ covered_root image (root_at j) j.start c.publication) (sym same) d.root in
+        let none = (laws.none (root_at j) j.start a.calendar.publication).1 covered.each in
         let m = missed_is_clash signature hash publications t size a covered.from none root missed in
         (m.0, audit_laid image j signature hash publications t a.calendar passes a.has_calendar covered.from none root ∙ m.1, m.2)

@@ -4,8 +4,9 @@ use Rattle.std.specs.Result.{result_unwrap_or}
 use Rattle.std.specs.Str.{bytes_eq}
 use Rattle.ksi_split.specs.declared.side.Side.{Side}
 use Rattle.ksi_split.specs.Parts.{second_at}
-use Rattle.ksi_aggchain.specs.declared.node.Node.{Node}
+use Rattle.ksi_aggtree.specs.declared.item.Item.{Item}
 use Rattle.ksi_aggchain.specs.Links.{PlainLink}
+use Rattle.ksi_calendar.specs.Covered.{first_missing, covered_root}
 use Rattle.ksi_signature.specs.Values.{Calendar}
 use Rattle.ksi_signature.specs.declared.signature.Signature.{Signature}
 use Rattle.ksi_verifier.specs.Chains.{plain_chains, at_level_zero}
@@ -14,8 +15,8 @@ use Rattle.ksi_verifier.specs.Verdict.{chain_root, verdict}
 use Rattle.ksi_verifier.specs.declared.refusal.Refusal.TheVariants.{NoCalendar}
 use Rattle.ksi_verifier.specs.declared.verdict.Verdict.{Verdict}
 use Rattle.ksi_verifier.specs.declared.verdict.Verdict.TheVariants.{Accepted, Refused}
-use Rattle.ksi_journal.specs.Journal.{Contents, items_at}
-use Rattle.ksi_journal.specs.Calendar.{calendar_of, first_missing, kept_root}
+use Rattle.ksi_journal.specs.Journal.{Contents, root_at, items_at}
+use Rattle.ksi_journal.specs.Calendar.{calendar_of}
 use Rattle.ksi_auditor.specs.declared.answer.Audit.{Audit}
 use Rattle.ksi_auditor.specs.declared.answer.Audit.TheVariants.{Inside, Beneath, Clash, NotAccepted, BeforeStart, Undecided, NotDecided}
 use Rattle.ksi_auditor.specs.Beside.{Pair, rungs_from, calendar_rungs_from, pairs_below, differing}
@@ -39,7 +40,7 @@ abbrev pub calendar_pairs : (List ℕ → List ℕ) → Contents → Calendar �
 calendar_pairs image journal calendar = pairs_below (calendar_text image (calendar_of journal) calendar.publication) [] (calendar_rungs_from image calendar.input calendar.links)
 
 -- each aggregation link's string and that of the tree of the items, as far as an item
-abbrev pub item_pairs : (List ℕ → List ℕ) → List Node → List PlainLink → List ℕ → List Pair
+abbrev pub item_pairs : (List ℕ → List ℕ) → List Item → List PlainLink → List ℕ → List Pair
 item_pairs image items links hash = pairs_below (items_text image items) [] (rungs_from image (at_level_zero hash) links)
 
 -- ---- where the links end
@@ -62,7 +63,7 @@ found t count sides passed None = ends t count sides passed
 -- ---- the audit
 
 -- of links that lead up from a hash, beside the tree of items, where strings above were compared before
-abbrev pub compared : (List ℕ → List ℕ) → List Node → List PlainLink → List ℕ → ℕ → List Pair → Audit
+abbrev pub compared : (List ℕ → List ℕ) → List Item → List PlainLink → List ℕ → ℕ → List Pair → Audit
 compared image items links hash t above =
     found t (length items) (sides_of links) (length (item_pairs image items links hash)) (differing (above ++ item_pairs image items links hash))
 
@@ -73,9 +74,9 @@ laid_beside image journal signature hash t calendar = compared image (items_at j
 abbrev pub decided : (List ℕ → List ℕ) → Contents → Signature → List ℕ → ℕ → Calendar → Option ℕ → Audit
 decided image journal signature hash t calendar (Some second) = Undecided second
 decided image journal signature hash t calendar None =
-    if bytes_eq (chain_root image calendar) (kept_root image journal calendar.publication)
+    if bytes_eq (chain_root image calendar) (covered_root image (root_at journal) journal.start calendar.publication)
     then laid_beside image journal signature hash t calendar
-    else NotDecided calendar.publication (chain_root image calendar) (kept_root image journal calendar.publication)
+    else NotDecided calendar.publication (chain_root image calendar) (covered_root image (root_at journal) journal.start calendar.publication)
 
 -- of an accepted signature; it has a calendar chain
 abbrev pub kept_or_not : (List ℕ → List ℕ) → Contents → Signature → List ℕ → ℕ → Option Calendar → Audit
@@ -83,7 +84,7 @@ kept_or_not image journal signature hash t None = NotAccepted NoCalendar
 kept_or_not image journal signature hash t (Some calendar) =
     if nat_lt calendar.publication journal.start
     then BeforeStart calendar.publication
-    else decided image journal signature hash t calendar (first_missing journal calendar.publication)
+    else decided image journal signature hash t calendar (first_missing (root_at journal) journal.start calendar.publication)
 
 abbrev pub accepted_or_not : (List ℕ → List ℕ) → Contents → Signature → List ℕ → Verdict → Audit
 accepted_or_not image journal signature hash (Refused refusal) = NotAccepted refusal

@@ -2,19 +2,20 @@
 ghost use Rattle.std.specs.Prelude.{◌≡◌, ◌≤◌, ℕ, List};
 ghost use Rattle.ksi_imprint.specs.Imprints.{IsClash, IsImprint, zero_imprint};
 ghost use Rattle.ksi_imprint.specs.declared.clash.Clash as clashes;
+ghost use Rattle.ksi_aggchain.specs.Links.{highest_level};
 ghost use Rattle.ksi_aggchain.specs.Climbing.{level_after};
+ghost use Rattle.ksi_calendar.specs.Covered.{second_leaf};
 ghost use Rattle.ksi_signature.specs.declared.signature.Signature.{Signature};
 ghost use Rattle.ksi_verifier.specs.Accepted.{IsAccepted};
 ghost use Rattle.ksi_verifier.specs.Verdict.{verdict};
 ghost use Rattle.ksi_verifier.specs.declared.verdict.Verdict.TheVariants as verdicts;
-ghost use Rattle.ksi_journal.specs.Journal.{Contents, IsJournal};
-ghost use Rattle.ksi_journal.specs.Calendar.{leaf_at};
+ghost use Rattle.ksi_journal.specs.Journal.{Contents, IsJournal, root_at};
 ghost use Rattle.ksi_auditor.specs.declared.answer.Audit.TheVariants as answers;
 ghost use Rattle.ksi_auditor.specs.Audit.{audit, links_of};
 ghost use Rattle.ksi_auditor.specs.Shown.{IsDecided, Shows, Tells};
 
 use ksi_aggtree::laws::one_round;
-use ksi_calendar::laws::one_calendar;
+use ksi_calendar::laws::{one_calendar, one_first_missing};
 use ksi_journal::laws::calendar_is_covered;
 use ksi_split::laws::{one_answer, one_split, parts};
 use ksi_verifier::laws::{accepted, joined};
@@ -29,6 +30,7 @@ pub fn audit_shows()
     one_split();
     one_answer();
     one_calendar();
+    one_first_missing();
     one_round();
     ksi_aggchain::laws::one_climb();
     ksi_calchain::laws::one_climb();
@@ -44,7 +46,7 @@ pub fn decided_tells()
         verdict image signature hash publications ≡ verdicts.Accepted t → IsDecided image journal signature →
         Tells (audit image journal signature hash publications) }
 {
-    calendar_is_covered();
+    one_first_missing();
 }
 
 /// A signature for a second before the start, or for one whose kept root is the zero imprint, is accepted against a decided
@@ -53,13 +55,14 @@ pub fn missed_seconds()
     ensures { (image : List ℕ → List ℕ) (journal : Contents) (signature : Signature) (hash : List ℕ)
         (publications : List (ℕ × List ℕ)) (t : ℕ) → ((bytes : List ℕ) → IsImprint (image bytes)) → IsJournal image journal →
         IsImprint hash → verdict image signature hash publications ≡ verdicts.Accepted t →
-        IsDecided image journal signature → leaf_at journal t ≡ zero_imprint →
+        IsDecided image journal signature → second_leaf (root_at journal) journal.start t ≡ zero_imprint →
         (clash : clashes.Clash) × (audit image journal signature hash publications ≡ answers.Clash clash) × IsClash image clash }
 {
     parts();
     one_split();
     one_answer();
     one_calendar();
+    one_first_missing();
     one_round();
     ksi_aggchain::laws::one_climb();
     ksi_calchain::laws::one_climb();
@@ -71,7 +74,7 @@ pub fn missed_seconds()
 /// No level of an accepted signature passes 255.
 pub(crate) fn low_levels()
     ensures { (image : List ℕ → List ℕ) (signature : Signature) (hash : List ℕ) (publications : List (ℕ × List ℕ)) (t : ℕ) →
-        IsAccepted image signature hash publications t → level_after 0 (links_of signature) ≤ 255 }
+        IsAccepted image signature hash publications t → level_after 0 (links_of signature) ≤ highest_level }
 {
     ksi_aggchain::laws::one_climb();
     joined();

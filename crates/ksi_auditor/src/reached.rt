@@ -1,4 +1,5 @@
 ghost use Rattle.std.specs.Prelude.{◌≡◌, ◌≤◌};
+ghost use Rattle.ksi_aggchain.specs.Links.{highest_level};
 ghost use Rattle.ksi_aggchain.specs.Owned.{plain_links};
 ghost use Rattle.ksi_aggchain.specs.Climbing.{level_after};
 ghost use Rattle.ksi_auditor.specs.Climbed.{climbed_to};
@@ -8,7 +9,7 @@ use ksi_imprint::Compress;
 
 /// The item that links lead to, where no level passes 255.
 pub(crate) fn top_of<C: Compress>(below: &Node, links: &[Link]) -> Node
-    requires { level_after below.now.level (plain_links links.now) ≤ 255 }
+    requires { level_after below.now.level (plain_links links.now) ≤ highest_level }
     ensures { result ≡ climbed_to C.image below.now (plain_links links.now) }
 {
     match climb::<C>(below.imprint, below.level, links) {

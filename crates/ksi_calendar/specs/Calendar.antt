@@ -32,8 +32,8 @@ abbrev pub is_covered : Seconds → ℕ → Bool
 is_covered seconds p = nat_le seconds.start p && nat_lt p (seconds.start + length seconds.roots)
 
 -- the root of the seconds from 0 to p, where p is covered
-abbrev pub root_at : (List ℕ → List ℕ) → Seconds → ℕ → Option (List ℕ)
-root_at image seconds p = if is_covered seconds p then Some (calendar_root image seconds p) else None
+abbrev pub root_to : (List ℕ → List ℕ) → Seconds → ℕ → Option (List ℕ)
+root_to image seconds p = if is_covered seconds p then Some (calendar_root image seconds p) else None
 
 -- the node of the tree over the seconds from 0 to p that sides from the top lead to, where p is covered and they pass no leaf
 abbrev pub node_of : (List ℕ → List ℕ) → Seconds → ℕ → List Side → Option (List ℕ)

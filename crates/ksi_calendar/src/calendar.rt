@@ -2,15 +2,14 @@ ghost use Rattle.std.specs.Prelude.{◌≡◌, ◌++◌, ◌∷◌, [], ◌<◌,
 ghost use Rattle.ksi_split.specs.Ways.{way_of};
 ghost use Rattle.ksi_calchain.specs.Climbing.{ClimbsCalendar};
 ghost use Rattle.ksi_calchain.specs.Sides.{sides_from_top};
-ghost use Rattle.ksi_calendar.specs.Calendar.{calendar_leaf, calendar_root, calendar_path, root_at, node_of, is_covered};
+ghost use Rattle.ksi_calendar.specs.Calendar.{calendar_leaf, calendar_root, calendar_path, root_to, node_of, is_covered};
 
 use crate::join::CalendarJoin;
 use crate::laws::one_chain;
 use crate::second_path::SecondPath;
 use ksi_imprint::{Compress, Imprint, NoMemory};
-use ksi_rows::{Rows, Steps};
-use ksi_split::Side;
 use ksi_split::laws::{one_way, short_ways};
+use ksi_split::{Rows, Side, Steps};
 use std::alloc::Global;
 use std::marker::{Brand, Model};
 use std::sync::ledger::{Blank, Ledger};
@@ -55,8 +54,8 @@ impl<C: Compress> Calendar<C> {
     }
 
     /// The root of the seconds from 0 to `p`, none where `p` is before the start or has no root yet.
-    pub fn root_at(&self, p: u64) -> Option<Imprint>
-        ensures { result ≡ root_at C.image self.now p }
+    pub fn root_to(&self, p: u64) -> Option<Imprint>
+        ensures { result ≡ root_to C.image self.now p }
     {
         if self.covers(p) {
             Some(self.rows.root(p))

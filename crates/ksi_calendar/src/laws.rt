@@ -1,5 +1,5 @@
 //! What holds of the calendar's definitions, for the layers above to cite. None of these functions does anything.
-ghost use Rattle.std.specs.Prelude.{◌≡◌, ◌<◌, ◌≤◌, ◌+◌, ◌-◌, ◌^◌, ℕ, zero, suc, List, Some, None, IsTrue};
+ghost use Rattle.std.specs.Prelude.{◌≡◌, ◌↔◌, ◌<◌, ◌≤◌, ◌+◌, ◌-◌, ◌^◌, ℕ, zero, suc, List, length, Some, None, IsSome, IsTrue};
 ghost use Rattle.ksi_imprint.specs.Imprints.{zero_imprint};
 ghost use Rattle.ksi_split.specs.Powers.{IsSplit};
 ghost use Rattle.ksi_split.specs.Ways.{way_of, LeadsTo, PassesLeaf};
@@ -7,6 +7,7 @@ ghost use Rattle.ksi_split.specs.declared.side.Side.{Side};
 ghost use Rattle.ksi_calchain.specs.Climbing.{ClimbsCalendar, calendar_join};
 ghost use Rattle.ksi_calchain.specs.Sides.{sides_from_top};
 ghost use Rattle.ksi_calendar.specs.Calendar.{Seconds, calendar_leaf, calendar_tree, calendar_root, calendar_path, is_covered, node_of};
+ghost use Rattle.ksi_calendar.specs.Covered.{Roots, IsCovered, IsFirstMissing, first_missing, covered_seconds, covered_root, covered_path, second_leaf};
 
 use ksi_calchain::laws::one_climb;
 use ksi_imprint::Imprint;
@@ -49,3 +50,39 @@ pub fn one_part()
 {
     one_node::<Imprint>();
 }
+
+/// The first missing second is the one that `IsFirstMissing` tells. There is none exactly where each second has a root.
+pub fn one_first_missing()
+    ensures some { (roots : Roots) (start last second : ℕ) →
+        (first_missing roots start last ≡ Some second) ↔ IsFirstMissing roots start last second }
+    ensures none { (roots : Roots) (start last : ℕ) →
+        (first_missing roots start last ≡ None) ↔ ((t : ℕ) → start ≤ t → t ≤ last → IsSome (roots t)) }
+{}
+
+/// The leaves of the calendar of covered seconds are those of the seconds. A calendar with these leaves to p has its root
+/// and its chains; and one whose roots are those that are known is the calendar of covered seconds.
+pub fn one_covered()
+    ensures leaves { (roots : Roots) (start last t : ℕ) → t ≤ last →
+        calendar_leaf (covered_seconds roots start last) t ≡ second_leaf roots start t }
+    ensures root { (image : List ℕ → List ℕ) (seconds : Seconds) (roots : Roots) (start p : ℕ) →
+        ((t : ℕ) → t ≤ p → calendar_leaf seconds t ≡ second_leaf roots start t) →
+        calendar_root image seconds p ≡ covered_root image roots start p }
+    ensures path { (image : List ℕ → List ℕ) (seconds : Seconds) (roots : Roots) (start t p : ℕ) →
+        ((u : ℕ) → u ≤ p → calendar_leaf seconds u ≡ second_leaf roots start u) →
+        calendar_path image seconds t p ≡ covered_path image roots start t p }
+    ensures seconds { (seconds : Seconds) (roots : Roots) (last : ℕ) → suc last ≡ seconds.start + length seconds.roots →
+        ((t : ℕ) → seconds.start ≤ t → t ≤ last → roots t ≡ Some (calendar_leaf seconds t)) →
+        seconds ≡ covered_seconds roots seconds.start last }
+{
+    one_calendar();
+    one_path::<Imprint>();
+}
+
+/// Where more is known, what was covered is covered, and by the same calendar.
+pub fn more_is_known()
+    ensures covered { (roots more : Roots) (start p : ℕ) → IsCovered roots start p →
+        ((t : ℕ) → start ≤ t → t ≤ p → (root : List ℕ) → roots t ≡ Some root → more t ≡ Some root) → IsCovered more start p }
+    ensures seconds { (roots more : Roots) (start p : ℕ) → IsCovered roots start p →
+        ((t : ℕ) → start ≤ t → t ≤ p → (root : List ℕ) → roots t ≡ Some root → more t ≡ Some root) →
+        covered_seconds roots start p ≡ covered_seconds more start p }
+{}

@@ -4,7 +4,7 @@
 //! appended for it. The tree over the seconds from 0 to `p` is cut as `ksi_split` says, and its joins have the level
 //! byte 0xff (Buldas, Kroonmaa, Laanoja, "Keyless Signatures' Infrastructure", 2013).
 //!
-//! The layer above may rely on this: `root_at` is the root of that tree; the links of `chain_to` climb from a second's
+//! The layer above may rely on this: `root_to` is the root of that tree; the links of `chain_to` climb from a second's
 //! leaf to it along the second's way; `node` is the tree of the part that sides lead to. Only `new`, `append` and the
 //! chains take memory, and after a refused `append` all is as it was. A chain takes at most 126 steps, each the read of
 //! one stored node, and one step at least for each link. What holds of the definitions is in `laws`.
@@ -13,8 +13,8 @@
 //! let mut calendar = Calendar::<Sha>::new(alloc, 2)?;
 //! calendar.append(root)?;
 //! let links = calendar.chain_to(2, 2)?;
-//! assert_eq!(calendar.root_at(2), Some(climb_calendar::<Sha>(root, links.as_slice())));
-//! assert_eq!(calendar.root_at(1), None);
+//! assert_eq!(calendar.root_to(2), Some(climb_calendar::<Sha>(root, links.as_slice())));
+//! assert_eq!(calendar.root_to(1), None);
 //! ```
 #![tactic(auto)]
 
@@ -24,5 +24,5 @@ pub mod laws;
 mod second_path;
 
 pub use calendar::Calendar;
-pub use ksi_rows::Steps;
+pub use ksi_split::Steps;
 pub use second_path::SecondPath;

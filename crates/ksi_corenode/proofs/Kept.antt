@@ -4,24 +4,23 @@ use Rattle.std.proofs.Common.{◌≡◌, ◌∙◌, ℕ, zero, suc, ◌+◌, ◌
 use Rattle.std.specs.Prelude.{if◌then◌else◌, is_some, IfSome, IsSome, unwrap_or}
 use Rattle.std.proofs.lemmas.Bool.{le-ltb, ltb-true, cond-true, cond-false, cases_lt}
 use Rattle.ksi_imprint.specs.Imprints.{zero_imprint}
-use Rattle.ksi_calendar.specs.Calendar.{Seconds, calendar_leaf, calendar_root, root_at}
+use Rattle.ksi_calendar.specs.Calendar.{Seconds, calendar_leaf, calendar_root, root_to}
 use Rattle.std.specs.Ordering.{nat_cmp}
 use Rattle.std.specs.BTreeMap.{is_at}
 use Rattle.std.specs.Map.{lookup, set_value}
 use Rattle.ksi_corenode.specs.SecondState.{SecondState, fresh_second}
-use Rattle.ksi_corenode.specs.Held.{Held, roots_among, held_seconds, first_missing}
+use Rattle.ksi_calendar.specs.Covered.{Roots, IsFirstMissing, covered_root, first_missing, second_leaf}
 use Rattle.ksi_corenode.specs.Kept.{IsCalendarOf, StillHolds}
 use Rattle.ksi_corenode.specs.CoreState.{state_of, held_by}
 use Rattle.ksi_signature.specs.declared.answer.Answer.TheVariants.{Published}
 use Rattle.ksi_corenode.specs.Rows.{publish_answer, publish_where}
-use Rattle.ksi_corenode.proofs.Missing.{first_words, all_held}
 
 -- NOTHING IS LOST
 
-abbrev pub Lasts : (old new : Held) → Type 0
+abbrev pub Lasts : (old new : Roots) → Type 0
 Lasts old new = (t : ℕ) (root : List ℕ) → old t ≡ Some root → new t ≡ Some root
 
-pub kept_lasts : (old new : Held) (start : ℕ) (calendar : Option Seconds) → Lasts old new → IfSome calendar (IsCalendarOf old start) → IfSome calendar (IsCalendarOf new start)
+pub kept_lasts : (old new : Roots) (start : ℕ) (calendar : Option Seconds) → Lasts old new → IfSome calendar (IsCalendarOf old start) → IfSome calendar (IsCalendarOf new start)
 kept_lasts old new start None lasts kept = kept
 kept_lasts old new start (Some calendar) lasts kept = record {
   begins = kept.begins;
@@ -31,57 +30,41 @@ kept_lasts old new start (Some calendar) lasts kept = record {
 
 -- THE CALENDAR IS LENGTHENED
 
--- the leaf of a second from the start on
-leaf_from : (seconds : Seconds) (t : ℕ) → seconds.start ≤ t → calendar_leaf seconds t ≡ get_or seconds.roots (t - seconds.start) zero_imprint
-leaf_from seconds t from = cond-false (ltb t seconds.start) zero_imprint (get_or seconds.roots (t - seconds.start) zero_imprint) (le-ltb t seconds.start from)
-
 -- the leaf of a second before the start
 leaf_before : (seconds : Seconds) (t : ℕ) → t < seconds.start → calendar_leaf seconds t ≡ zero_imprint
 leaf_before seconds t before = cond-true (ltb t seconds.start) zero_imprint (get_or seconds.roots (t - seconds.start) zero_imprint) (lt-ltb t seconds.start before)
 
-is_held : (held : Held) (t : ℕ) (root : List ℕ) → held t ≡ Some root → IsSome (held t)
+is_held : (held : Roots) (t : ℕ) (root : List ℕ) → held t ≡ Some root → IsSome (held t)
 is_held held t root is = ap (λ (o : Option (List ℕ)). is_some o) is
 
 -- the first second behind the calendar is the first missing one
-pub kept_missing : (held : Held) (start last t : ℕ) (calendar : Seconds) → IsCalendarOf held start calendar → start + length calendar.roots ≡ t → t < last + 1 → held t ≡ None →
-    first_missing held start last ≡ Some t
-kept_missing held start last t calendar kept here within none = (first_words held start last t).1 (record {
+pub kept_first : (held : Roots) (start last t : ℕ) (calendar : Seconds) → IsCalendarOf held start calendar → start + length calendar.roots ≡ t → t < last + 1 → held t ≡ None →
+    IsFirstMissing held start last t
+kept_first held start last t calendar kept here within none = record {
   from = omega (arith, here);
   to = omega (arith, within);
   missing = none;
   before = λ u from before. is_held held u (calendar_leaf calendar u) (kept.roots u from (omega (arith, here, before)));
-})
+}
 
 -- none is missing in the calendar
-pub kept_none : (held : Held) (start last : ℕ) (calendar : Seconds) → IsCalendarOf held start calendar → last < start + length calendar.roots → first_missing held start last ≡ None
-kept_none held start last calendar kept covered =
-    all_held held start last (λ t from to. is_held held t (calendar_leaf calendar t) (kept.roots t from (omega (arith, to, covered))))
+pub kept_all : (held : Roots) (start last : ℕ) (calendar : Seconds) → IsCalendarOf held start calendar → last < start + length calendar.roots →
+    (t : ℕ) → start ≤ t → t ≤ last → IsSome (held t)
+kept_all held start last calendar kept covered t from to = is_held held t (calendar_leaf calendar t) (kept.roots t from (omega (arith, to, covered)))
 
 -- ITS LEAVES
 
--- what is held for a second among n
-among_at : (held : Held) (n t k : ℕ) → k < n → get_or (roots_among held t n) k zero_imprint ≡ unwrap_or (held (t + k)) zero_imprint
-among_at held zero t k below = absurd (omega (arith, below))
-among_at held (suc n) t zero below = ap (λ (u : ℕ). unwrap_or (held u) zero_imprint) (omega arith)
-among_at held (suc n) t (suc k) below =
-    among_at held n (suc t) k (omega (arith, below)) ∙ ap (λ (u : ℕ). unwrap_or (held u) zero_imprint) (omega arith)
-
-pub kept_leaves : (held : Held) (start last : ℕ) (calendar : Seconds) → IsCalendarOf held start calendar → last < start + length calendar.roots →
-    (i : ℕ) → 0 ≤ i → i < 0 + (last + 1) → calendar_leaf calendar i ≡ calendar_leaf (held_seconds held start last) i
-unfolding held_seconds
-kept_leaves held start last calendar kept covered i above below = elim (cases_lt i start) [
-  | inl before ↦ leaf_before calendar i (omega (arith, before, kept.begins)) ∙ sym (leaf_before all i before)
-  | inr from ↦ ap (λ (o : Option (List ℕ)). unwrap_or o zero_imprint) (sym (kept.roots i from (omega (arith, below, covered))))
-      ∙ ap (λ (u : ℕ). unwrap_or (held u) zero_imprint) (omega (arith, from))
-      ∙ sym (among_at held (suc last - start) start (i - start) (omega (arith, from, below)))
-      ∙ sym (leaf_from all i from)
+pub kept_leaves : (held : Roots) (start last : ℕ) (calendar : Seconds) → IsCalendarOf held start calendar → last < start + length calendar.roots →
+    (t : ℕ) → t ≤ last → calendar_leaf calendar t ≡ second_leaf held start t
+kept_leaves held start last calendar kept covered t to = elim (cases_lt t start) [
+  | inl before ↦ leaf_before calendar t (omega (arith, before, kept.begins))
+      ∙ sym (cond-true (ltb t start) zero_imprint (unwrap_or (held t) zero_imprint) (lt-ltb t start before))
+  | inr from ↦ ap (λ (o : Option (List ℕ)). unwrap_or o zero_imprint) (sym (kept.roots t from (omega (arith, to, covered))))
+      ∙ sym (cond-false (ltb t start) zero_imprint (unwrap_or (held t) zero_imprint) (le-ltb t start from))
 ]
-  where
-    all : Seconds
-    all = record { start = start; roots = roots_among held start (suc last - start) }
 
 -- a second that the calendar covers has a root
-pub rooted : (image : List ℕ → List ℕ) (start p : ℕ) (seconds : Seconds) → seconds.start ≡ start → start ≤ p → p < start + length seconds.roots → root_at image seconds p ≡ Some (calendar_root image seconds p)
+pub rooted : (image : List ℕ → List ℕ) (start p : ℕ) (seconds : Seconds) → seconds.start ≡ start → start ≤ p → p < start + length seconds.roots → root_to image seconds p ≡ Some (calendar_root image seconds p)
 rooted image start p seconds begins from covered =
     let after : leb seconds.start p ≡ true = le-leb seconds.start p (omega (arith, begins, from)) in
     let before : ltb p (seconds.start + length seconds.roots) ≡ true = lt-ltb p (seconds.start + length seconds.roots) (omega (arith, begins, covered)) in
@@ -124,7 +107,7 @@ kept_write me members start second old new calendar before after there written s
 
 -- WHAT IS PUBLISHED
 
-covered_of : (image : List ℕ → List ℕ) (calendar : Seconds) (p : ℕ) (root : List ℕ) → root_at image calendar p ≡ Some root → p < calendar.start + length calendar.roots
+covered_of : (image : List ℕ → List ℕ) (calendar : Seconds) (p : ℕ) (root : List ℕ) → root_to image calendar p ≡ Some root → p < calendar.start + length calendar.roots
 covered_of image calendar p root is = by (leb calendar.start p) (ltb p (calendar.start + length calendar.roots)) refl is
   where
     by : (from before : Bool) → ltb p (calendar.start + length calendar.roots) ≡ before →
@@ -134,13 +117,14 @@ covered_of image calendar p root is = by (leb calendar.start p) (ltb p (calendar
     by false false test found = absurd (cc found)
 
 -- the root of the calendar that is kept is that of all that is held
-pub published_root : (image : List ℕ → List ℕ) (held : Held) (start p : ℕ) (calendar : Seconds) (root : List ℕ) → IsCalendarOf held start calendar → start ≤ p →
-    (((i : ℕ) → 0 ≤ i → i < 0 + (p + 1) → calendar_leaf calendar i ≡ calendar_leaf (held_seconds held start p) i) → calendar_root image calendar p ≡ calendar_root image (held_seconds held start p) p) →
-    root_at image calendar p ≡ Some root → Published root ≡ publish_answer image held start p
+pub published_root : (image : List ℕ → List ℕ) (held : Roots) (start p : ℕ) (calendar : Seconds) (root : List ℕ) → IsCalendarOf held start calendar → start ≤ p →
+    (((t : ℕ) → start ≤ t → t ≤ p → IsSome (held t)) → first_missing held start p ≡ None) →
+    (((t : ℕ) → t ≤ p → calendar_leaf calendar t ≡ second_leaf held start t) → calendar_root image calendar p ≡ covered_root image held start p) →
+    root_to image calendar p ≡ Some root → Published root ≡ publish_answer image held start p
 unfolding publish_answer
-published_root image held start p calendar root kept from own is =
+published_root image held start p calendar root kept from none own is =
     let inside = covered_of image calendar p root is in
     let covered : p < start + length calendar.roots = omega (arith, inside, kept.begins) in
     let same : root ≡ calendar_root image calendar p = cc (sym is ∙ rooted image start p calendar kept.begins from covered) in
     ap Published (same ∙ own (kept_leaves held start p calendar kept covered))
-    ∙ ap (λ (missing : Option ℕ). publish_where image held start p missing) (sym (kept_none held start p calendar kept covered))
+    ∙ ap (λ (missing : Option ℕ). publish_where image held start p missing) (sym (none (kept_all held start p calendar kept covered)))

@@ -12,10 +12,9 @@ use Rattle.ksi_signature.specs.declared.answer.Answer.{Answer}
 use Rattle.ksi_signature.specs.declared.answer.Answer.TheVariants.{Unsealed, Undecided, NotMine}
 use Rattle.ksi_corenode.specs.SecondState.{SecondState}
 use Rattle.ksi_corenode.specs.Turns.{Turn}
-use Rattle.ksi_corenode.specs.Held.{Held, first_missing, IsFirstMissing}
+use Rattle.ksi_calendar.specs.Covered.{Roots, IsCovered, IsFirstMissing, first_missing}
 use Rattle.ksi_corenode.specs.Rows.{is_mine, respond_row, respond_where, IsNotMine, publish_answer, publish_where}
 use Rattle.ksi_corenode.specs.CoreState.{CoreState, state_of}
-use Rattle.ksi_corenode.proofs.Missing.{first_words, none_words, all_held}
 
 -- what holds of a second answer holds of an equal one
 pub same_answer : (a b answer : Answer) {P : Type 0} → a ≡ b → (b ≡ answer) ↔ P → (a ≡ answer) ↔ P
@@ -26,15 +25,20 @@ pub stays : (core : CoreState) (second : ℕ) (after : SecondState) → after �
 stays core second after is t = cond_both (t == second) after (state_of core t) (λ (s : SecondState). state_of core t ≡ s)
     (λ same. ap (state_of core) (eqb-true t second same) ∙ sym is) (λ _. refl)
 
-module _ (image : List ℕ → List ℕ) (held : Held) where
-  pub publish_undecided : (start p s : ℕ) → (publish_answer image held start p ≡ Undecided s) ↔ IsFirstMissing held start p s
+-- the law of the first missing second
+pub record FirstMissing : Type 0 where
+  pub some : (roots : Roots) (start last second : ℕ) → (first_missing roots start last ≡ Some second) ↔ IsFirstMissing roots start last second
+  pub none : (roots : Roots) (start last : ℕ) → (first_missing roots start last ≡ None) ↔ ((t : ℕ) → start ≤ t → t ≤ last → IsSome (roots t))
+
+module _ (image : List ℕ → List ℕ) (held : Roots) where
+  pub publish_undecided : (law : FirstMissing) (start p s : ℕ) → (publish_answer image held start p ≡ Undecided s) ↔ IsFirstMissing held start p s
   unfolding publish_answer
-  publish_undecided start p s = by (first_missing held start p) refl
+  publish_undecided law start p s = by (first_missing held start p) refl
     where
       by : (missing : Option ℕ) → first_missing held start p ≡ missing → (publish_where image held start p missing ≡ Undecided s) ↔ IsFirstMissing held start p s
       by (Some m) is =
-          (λ e. (first_words held start p s).0 (is ∙ ap Some (cc e)), λ r. let same : m ≡ s = cc (sym is ∙ (first_words held start p s).1 r) in ap Undecided same)
-      by None is = (λ e. absurd (cc e), λ r. absurd (cc (sym is ∙ (first_words held start p s).1 r)))
+          (λ e. (law.some held start p s).0 (is ∙ ap Some (cc e)), λ r. let same : m ≡ s = cc (sym is ∙ (law.some held start p s).1 r) in ap Undecided same)
+      by None is = (λ e. absurd (cc e), λ r. absurd (cc (sym is ∙ (law.some held start p s).1 r)))
 
   module _ (start second : ℕ) (s : SecondState) where
     -- nothing changes
@@ -59,19 +63,19 @@ module _ (image : List ℕ → List ℕ) (held : Held) where
         by (Some entries) None (Some root) = cond_both (is_mine image entries root) _ _ (λ (turn : Turn). (turn.answer ≡ Unsealed) ↔ IsNone (Some entries))
             (λ _. (λ e. absurd (cc e), λ n. absurd (cc n))) (λ _. (λ e. absurd (cc e), λ n. absurd (cc n)))
 
-    pub respond_undecided : start ≤ second → (t : ℕ) → ((respond_row image held start second s).answer ≡ Undecided t) ↔ (IsSome s.sealed × IsFirstMissing held start second t)
+    pub respond_undecided : (law : FirstMissing) → start ≤ second → (t : ℕ) → ((respond_row image held start second s).answer ≡ Undecided t) ↔ (IsSome s.sealed × IsFirstMissing held start second t)
     unfolding respond_row
-    respond_undecided from t = by s.sealed (first_missing held start second) (held second) refl refl
+    respond_undecided law from t = by s.sealed (first_missing held start second) (held second) refl refl
       where
         by : (sealed : Option (List Entry)) (missing : Option ℕ) (root : Option (List ℕ)) → first_missing held start second ≡ missing → held second ≡ root →
             ((respond_where image held start second sealed missing root s).answer ≡ Undecided t) ↔ (IsSome sealed × IsFirstMissing held start second t)
         by None missing root is holds = (λ e. absurd (cc e), λ r. absurd (cc r.0))
         by (Some entries) (Some m) root is holds =
-            (λ e. (refl, (first_words held start second t).0 (is ∙ ap Some (cc e))), λ r. let same : m ≡ t = cc (sym is ∙ (first_words held start second t).1 r.1) in ap Undecided same)
-        by (Some entries) None None is holds = absurd (cc (none_words held start second is second from (omega arith), holds))
+            (λ e. (refl, (law.some held start second t).0 (is ∙ ap Some (cc e))), λ r. let same : m ≡ t = cc (sym is ∙ (law.some held start second t).1 r.1) in ap Undecided same)
+        by (Some entries) None None is holds = absurd (cc ((law.none held start second).0 is second from (omega arith), holds))
         by (Some entries) None (Some root) is holds = cond_both (is_mine image entries root) _ _ (λ (turn : Turn). (turn.answer ≡ Undecided t) ↔ (IsSome (Some entries) × IsFirstMissing held start second t))
-            (λ _. (λ e. absurd (cc e), λ r. absurd (cc (sym is ∙ (first_words held start second t).1 r.1))))
-            (λ _. (λ e. absurd (cc e), λ r. absurd (cc (sym is ∙ (first_words held start second t).1 r.1))))
+            (λ _. (λ e. absurd (cc e), λ r. absurd (cc (sym is ∙ (law.some held start second t).1 r.1))))
+            (λ _. (λ e. absurd (cc e), λ r. absurd (cc (sym is ∙ (law.some held start second t).1 r.1))))
 
     -- when a root is not the core's own candidate, or a missed second's
     mine_not : (entries : List Entry) (root : List ℕ) → (is_mine image entries root ≡ false) ↔ ((root ≢ candidate_of image entries) ⊎ (root ≡ zero_imprint))
@@ -95,19 +99,19 @@ module _ (image : List ℕ → List ℕ) (held : Held) where
           ],
         )
 
-    pub respond_not_mine : start ≤ second → ((respond_row image held start second s).answer ≡ NotMine) ↔ IsNotMine image held start second s
+    pub respond_not_mine : (law : FirstMissing) → start ≤ second → ((respond_row image held start second s).answer ≡ NotMine) ↔ IsNotMine image held start second s
     unfolding respond_row
-    respond_not_mine from = by s.sealed (first_missing held start second) (held second) refl refl refl
+    respond_not_mine law from = by s.sealed (first_missing held start second) (held second) refl refl refl
       where
         by : (sealed : Option (List Entry)) (missing : Option ℕ) (root : Option (List ℕ)) → s.sealed ≡ sealed → first_missing held start second ≡ missing → held second ≡ root →
             ((respond_where image held start second sealed missing root s).answer ≡ NotMine) ↔ IsNotMine image held start second s
         by None missing root seals is holds = (λ e. absurd (cc e), λ r. absurd (cc (sym seals ∙ r.sealed)))
-        by (Some entries) (Some m) root seals is holds = (λ e. absurd (cc e), λ r. absurd (cc (sym is ∙ all_held held start second r.covered)))
+        by (Some entries) (Some m) root seals is holds = (λ e. absurd (cc e), λ r. absurd (cc (sym is ∙ (law.none held start second).1 r.covered.each)))
         by (Some entries) None None seals is holds = (λ e. absurd (cc e), λ r. absurd (cc (sym holds ∙ r.holds)))
         by (Some entries) None (Some root) seals is holds =
             cond_both (is_mine image entries root) _ _ (λ (turn : Turn). (turn.answer ≡ NotMine) ↔ IsNotMine image held start second s)
             (λ mine. (λ e. absurd (cc e), λ r. absurd (cc (sym mine ∙ not_own r))))
-            (λ other. (λ _. record { entries = entries; sealed = seals; covered = none_words held start second is; root = root; holds = holds; other = (mine_not entries root).0 other }, λ _. refl))
+            (λ other. (λ _. record { entries = entries; sealed = seals; covered = record { from = from; each = (law.none held start second).0 is }; root = root; holds = holds; other = (mine_not entries root).0 other }, λ _. refl))
           where
             not_own : IsNotMine image held start second s → is_mine image entries root ≡ false
             not_own r =

@@ -2,10 +2,10 @@
 use Rattle.std.specs.Prelude.{◌≡◌, ℕ, ◌+◌, ◌^◌, ◌<◌, ◌≤◌, List, length, Some}
 use Rattle.ksi_calendar.specs.Calendar.{Seconds, calendar_leaf}
 use Rattle.ksi_corenode.specs.SecondState.{SecondState}
-use Rattle.ksi_corenode.specs.Held.{Held}
+use Rattle.ksi_calendar.specs.Covered.{Roots}
 
 -- it begins at the start, and each of its roots is what is held for its second
-pub record IsCalendarOf (held : Held) (start : ℕ) (calendar : Seconds) : Type 0 where
+pub record IsCalendarOf (held : Roots) (start : ℕ) (calendar : Seconds) : Type 0 where
   pub begins : calendar.start ≡ start
   pub most : start + length calendar.roots ≤ 2 ^ 63
   pub roots : (t : ℕ) → start ≤ t → t < start + length calendar.roots → held t ≡ Some (calendar_leaf calendar t)

@@ -1,5 +1,4 @@
 pub mod SecondState
-pub mod Held
 pub mod Kept
 pub mod Turns
 pub mod Rows

@@ -3,7 +3,7 @@
 use Rattle.std.specs.Prelude.{◌≡◌, ◌≢◌, ◌≤◌, ◌⊎◌, ℕ, suc, Bool, true, false, not, ◌&&◌, if◌then◌else◌, List, [], ◌∷◌, ◌++◌, is_some, IsSome, Option, Some, None}
 use Rattle.std.specs.Str.{bytes_eq}
 use Rattle.ksi_imprint.specs.Imprints.{zero_imprint}
-use Rattle.ksi_aggchain.specs.declared.node.Node.{Node}
+use Rattle.ksi_aggtree.specs.declared.item.Item.{Item}
 use Rattle.ksi_aggtree.specs.declared.entries.Entry.{Entry}
 use Rattle.ksi_aggtree.specs.declared.entries.Origin.{Origin}
 use Rattle.ksi_aggtree.specs.declared.entries.Origin.TheVariants as origins
@@ -25,17 +25,17 @@ use Rattle.ksi_signature.specs.declared.answer.Answer.TheVariants.{Done, Publish
 use Rattle.ksi_corenode.specs.declared.step.Send.{Send}
 use Rattle.ksi_corenode.specs.declared.step.Send.TheVariants as sends
 use Rattle.ksi_corenode.specs.SecondState.{SecondState}
-use Rattle.ksi_corenode.specs.Held.{Held, first_missing, held_seconds, held_root}
+use Rattle.ksi_calendar.specs.Covered.{Roots, IsCovered, first_missing, covered_seconds, covered_root}
 use Rattle.ksi_corenode.specs.Turns.{Turn, still, voted_with}
 
 -- SUBMISSION of an item by an aggregator: it is one of the open items, where none of that aggregator is there
 
 -- the entry of an item that an aggregator submits
-abbrev pub submitted : (from : ℕ) → Node → Entry
+abbrev pub submitted : (from : ℕ) → Item → Entry
 submitted from item = record { origin = origins.Aggregator from; item = item }
 
 -- the open items behind it, and the answer
-abbrev pub taken : (from : ℕ) → Node → List Entry → List Entry × Answer
+abbrev pub taken : (from : ℕ) → Item → List Entry → List Entry × Answer
 taken from item entries =
     if has_from from entries then (entries, Known)
     else if is_full entries then (entries, Full)
@@ -45,7 +45,7 @@ abbrev pub item_taken : SecondState → List Entry × Answer → Turn
 item_taken s row = record { after = record s { open_items = row.0 }; answer = row.1; sends = [] }
 
 -- Late where the second is sealed; Known where an item of the aggregator is there; Full at 65,536 items; else Done
-unfoldable pub submission_row : (from : ℕ) → Node → SecondState → Turn
+unfoldable pub submission_row : (from : ℕ) → Item → SecondState → Turn
 submission_row from item s = if is_some s.sealed then still s Late else item_taken s (taken from item s.open_items)
 
 -- SEAL: the open items are the sealed ones, and the imprint of their tree is the core's candidate
@@ -110,7 +110,7 @@ abbrev pub is_mine : (List ℕ → List ℕ) → List Entry → (root : List ℕ
 is_mine image entries root = bytes_eq (candidate_of image entries) root && not (bytes_eq root zero_imprint)
 
 -- what stands above item k of the round in this calendar
-abbrev pub above_item : (List ℕ → List ℕ) → Seconds → (second : ℕ) → (root : List ℕ) → List Node → ℕ → Above
+abbrev pub above_item : (List ℕ → List ℕ) → Seconds → (second : ℕ) → (root : List ℕ) → List Item → ℕ → Above
 above_item image seconds second root items k = record {
   root = root;
   chains = record { input = (item_at items k).imprint; links = chain_of image items k } ∷ [];
@@ -127,26 +127,26 @@ responses_from above k [] = []
 responses_from above k (entry ∷ entries) = response_to entry.origin (above k) ++ responses_from above (suc k) entries
 
 -- all responses are sent
-abbrev pub responded : (List ℕ → List ℕ) → Held → (start second : ℕ) → List Entry → (root : List ℕ) → SecondState → Turn
-responded image held start second entries root s = record { after = s; answer = Done; sends = responses_from (above_item image (held_seconds held start second) second root (items_of entries)) 0 entries }
+abbrev pub responded : (List ℕ → List ℕ) → Roots → (start second : ℕ) → List Entry → (root : List ℕ) → SecondState → Turn
+responded image held start second entries root s = record { after = s; answer = Done; sends = responses_from (above_item image (covered_seconds held start second) second root (items_of entries)) 0 entries }
 
 -- Unsealed; Undecided with the first second from the start on that is not held; NotMine; else Done. (The third case does
 -- not come: where none is missing, something is held for the second.)
-abbrev pub respond_where : (List ℕ → List ℕ) → Held → (start second : ℕ) → (sealed : Option (List Entry)) → (missing : Option ℕ) → (root : Option (List ℕ)) → SecondState → Turn
+abbrev pub respond_where : (List ℕ → List ℕ) → Roots → (start second : ℕ) → (sealed : Option (List Entry)) → (missing : Option ℕ) → (root : Option (List ℕ)) → SecondState → Turn
 respond_where image held start second None missing root s = still s Unsealed
 respond_where image held start second (Some entries) (Some missing) root s = still s (Undecided missing)
 respond_where image held start second (Some entries) None None s = still s (Undecided second)
 respond_where image held start second (Some entries) None (Some root) s = if is_mine image entries root then responded image held start second entries root s else still s NotMine
 
-unfoldable pub respond_row : (List ℕ → List ℕ) → Held → (start second : ℕ) → SecondState → Turn
+unfoldable pub respond_row : (List ℕ → List ℕ) → Roots → (start second : ℕ) → SecondState → Turn
 respond_row image held start second s = respond_where image held start second s.sealed (first_missing held start second) (held second) s
 
 -- the answer NotMine in words: the second is sealed and all is held to it, and its root is not the candidate or is the
 -- zero imprint
-pub record IsNotMine (image : List ℕ → List ℕ) (held : Held) (start second : ℕ) (s : SecondState) : Type 0 where
+pub record IsNotMine (image : List ℕ → List ℕ) (held : Roots) (start second : ℕ) (s : SecondState) : Type 0 where
   pub entries : List Entry
   pub sealed : s.sealed ≡ Some entries
-  pub covered : (t : ℕ) → start ≤ t → t ≤ second → IsSome (held t)
+  pub covered : IsCovered held start second
   pub root : List ℕ
   pub holds : held second ≡ Some root
   pub other : (root ≢ candidate_of image entries) ⊎ (root ≡ zero_imprint)
@@ -154,11 +154,11 @@ pub record IsNotMine (image : List ℕ → List ℕ) (held : Held) (start second
 -- PUBLISH: the root of the calendar to the second is the answer
 
 -- Undecided with the first second from the start on that is not held, else Published
-abbrev pub publish_where : (List ℕ → List ℕ) → Held → (start p : ℕ) → (missing : Option ℕ) → Answer
+abbrev pub publish_where : (List ℕ → List ℕ) → Roots → (start p : ℕ) → (missing : Option ℕ) → Answer
 publish_where image held start p (Some missing) = Undecided missing
-publish_where image held start p None = Published (held_root image held start p)
+publish_where image held start p None = Published (covered_root image held start p)
 
-unfoldable pub publish_answer : (List ℕ → List ℕ) → Held → (start p : ℕ) → Answer
+unfoldable pub publish_answer : (List ℕ → List ℕ) → Roots → (start p : ℕ) → Answer
 publish_answer image held start p = publish_where image held start p (first_missing held start p)
 
 -- RESTART: the ballot in hand and the open items are forgotten

@@ -1,6 +1,6 @@
 //! The calendar of what a core holds.
 ghost use Rattle.std.specs.Prelude.{◌≡◌, ◌↔◌, ℕ, ◌<◌, ◌≤◌, ◌+◌, ◌^◌, [], length, IfOk, IsNone};
-ghost use Rattle.ksi_corenode.specs.Held.{first_missing, IsFirstMissing};
+ghost use Rattle.ksi_calendar.specs.Covered.{first_missing, IsFirstMissing};
 ghost use Rattle.ksi_corenode.specs.Kept.{IsCalendarOf};
 ghost use Rattle.ksi_signature.specs.declared.answer.Answer.TheVariants.{Undecided};
 ghost use Rattle.ksi_corenode.specs.Rows.{publish_answer};
@@ -9,7 +9,7 @@ ghost use Rattle.ksi_corenode.specs.CoreState.{held_by};
 use crate::node::Core;
 use crate::step::Step;
 use ksi_calendar::Calendar;
-use ksi_calendar::laws::one_calendar;
+use ksi_calendar::laws::{one_covered, one_first_missing};
 use ksi_imprint::{Compress, NoMemory};
 use ksi_signature::Answer;
 
@@ -30,6 +30,7 @@ impl<C: Compress> Core<C> {
         ensures sends { IfOk result (λ step. step.sends ≡ []) }
         ensures same { self.new ≡ self.old }
     {
+        one_first_missing();
         let mut calendar = self.take_calendar()?;
         let answer = self.published(&mut calendar, p);
         self.keep(calendar);
@@ -44,11 +45,12 @@ impl<C: Compress> Core<C> {
         ensures kept { IsCalendarOf (held_by self.now) self.now.start calendar.new }
         ensures answer { IfOk result (λ answer. answer ≡ publish_answer C.image (held_by self.now) self.now.start p) }
     {
-        one_calendar();
+        one_covered();
+        one_first_missing();
         if let Some(missing) = self.take_on(calendar, p)? {
             return Ok(Answer::Undecided(missing));
         }
-        match calendar.root_at(p) {
+        match calendar.root_to(p) {
             Some(root) => Ok(Answer::Published(root)),
             // the calendar covers all seconds to p
             None => unreachable!(),
@@ -69,6 +71,7 @@ impl<C: Compress> Core<C> {
         ensures missing { IfOk result (λ missing. missing ≡ first_missing (held_by self.now) self.now.start last) }
         ensures covered { IfOk result (λ missing. IsNone missing → last < calendar.new.start + length calendar.new.roots) }
     {
+        one_first_missing();
         let next = self.start() + calendar.count();
         'adding: for t in next..last + 1 {
             match self.held(t) {

@@ -5,19 +5,19 @@ ghost use Rattle.ksi_aggtree.specs.Entries.{items_of};
 ghost use Rattle.ksi_aggtree.specs.Paths.{chain_of};
 ghost use Rattle.ksi_calendar.specs.Calendar.{Seconds, calendar_path};
 ghost use Rattle.ksi_signature.specs.declared.answer.Answer.TheVariants.{Unsealed, Undecided, NotMine};
-ghost use Rattle.ksi_corenode.specs.Held.{IsFirstMissing, held_seconds};
+ghost use Rattle.ksi_calendar.specs.Covered.{IsFirstMissing, covered_seconds};
 ghost use Rattle.ksi_corenode.specs.Kept.{IsCalendarOf};
 ghost use Rattle.ksi_corenode.specs.Rows.{respond_row, IsNotMine, responses_from, response_to, above_item};
 ghost use Rattle.ksi_corenode.specs.CoreState.{state_of, held_by, IsTurn};
 
 use crate::node::Core;
 use crate::second::Second;
-use crate::step::{Send, Sends, Step};
-use ksi_aggtree::{Entries, Origin};
+use crate::step::{Send, Step};
+use ksi_aggtree::{Entries, Origin, RoundPaths};
+use ksi_calendar::laws::{one_covered, one_first_missing};
 use ksi_calendar::{Calendar, SecondPath};
 use ksi_imprint::{Compress, Imprint, NoMemory};
-use ksi_signature::{Above, AboveChain, AboveChains, AboveLinks, Answer, CalendarLinks};
-use ksi_split::trees::one_path;
+use ksi_signature::{Above, AboveChain, AboveChains, AboveLinks, Answer, CalendarLinks, Sends};
 use std::alloc::Global;
 
 impl<C: Compress> Core<C> {
@@ -41,6 +41,7 @@ impl<C: Compress> Core<C> {
             IsNotMine C.image (held_by self.old) self.old.start second (state_of self.old second)) }
         ensures same { self.new ≡ self.old }
     {
+        one_first_missing();
         let mut calendar = self.take_calendar()?;
         let outcome = self.responded(&mut calendar, second);
         self.keep(calendar);
@@ -94,9 +95,9 @@ impl<C: Compress> Core<C> {
         requires kept { IsCalendarOf (held_by self.now) self.now.start calendar.now }
         requires covered { second < calendar.now.start + length calendar.now.roots }
         ensures { IfOk result (λ sends. IfSome kept.now.sealed (λ entries. sends.items ≡ responses_from
-            (above_item C.image (held_seconds (held_by self.now) self.now.start second) second root.now (items_of entries)) 0 entries)) }
+            (above_item C.image (covered_seconds (held_by self.now) self.now.start second) second root.now (items_of entries)) 0 entries)) }
     {
-        one_path::<Imprint>();
+        one_covered();
         let links = calendar.chain_to(second, second)?;
         match kept.entries() {
             Some(entries) => {
@@ -120,9 +121,30 @@ fn responses<C: Compress>(
         links.now ≡ calendar_path C.image seconds second second →
         sends.items ≡ responses_from (above_item C.image seconds second root.now (items_of entries.now)) 0 entries.now) }
 {
+    if entries.count() == 0 {
+        return Ok(Vec::new(alloc));
+    }
+    let paths = entries.paths()?;
+    responses_along(alloc, entries, &paths, root, links)
+}
+
+/// The same, with the paths of the items.
+fn responses_along<C: Compress>(
+    alloc: Global,
+    entries: &Entries<C>,
+    paths: &RoundPaths<'_, C>,
+    root: &Imprint,
+    links: &SecondPath,
+) -> Result<Vec<Send>, NoMemory>
+    requires paths { paths.now ≡ items_of entries.now }
+    requires few { length links.now ≤ 63 }
+    ensures { IfOk result (λ sends. (seconds : Seconds) (second : ℕ) →
+        links.now ≡ calendar_path C.image seconds second second →
+        sends.items ≡ responses_from (above_item C.image seconds second root.now (items_of entries.now)) 0 entries.now) }
+{
     let mut sends = Vec::new(alloc);
     'answering: for k in 0..entries.count() {
-        put_response(alloc, entries, k, root, links, &mut sends)?;
+        put_response(alloc, entries, paths, k, root, links, &mut sends)?;
     }
     Ok(sends)
 }
@@ -131,11 +153,13 @@ fn responses<C: Compress>(
 fn put_response<C: Compress>(
     alloc: Global,
     entries: &Entries<C>,
+    paths: &RoundPaths<'_, C>,
     k: usize,
     root: &Imprint,
     links: &SecondPath,
     sends: &mut Vec<Send>,
 ) -> Result<(), NoMemory>
+    requires paths { paths.now ≡ items_of entries.now }
     requires there { k < length entries.now }
     requires few { length links.now ≤ 63 }
     ensures { OnOk result ((entry : Entry) (seconds : Seconds) (second : ℕ) → slice_get entries.now k ≡ Some entry →
@@ -145,7 +169,7 @@ fn put_response<C: Compress>(
     match entries.entry(k).origin {
         Origin::Request(_) => Ok(()),
         Origin::Aggregator(from) => {
-            let above = above(alloc, entries, k, root, links)?;
+            let above = above(alloc, entries, paths, k, root, links)?;
             sends.push(Send::Response(from, above))?;
             Ok(())
         }
@@ -156,10 +180,12 @@ fn put_response<C: Compress>(
 fn above<C: Compress>(
     alloc: Global,
     entries: &Entries<C>,
+    paths: &RoundPaths<'_, C>,
     k: usize,
     root: &Imprint,
     links: &SecondPath,
 ) -> Result<Above, NoMemory>
+    requires paths { paths.now ≡ items_of entries.now }
     requires there { k < length entries.now }
     requires few { length links.now ≤ 63 }
     ensures { IfOk result (λ above. (seconds : Seconds) (second : ℕ) →
@@ -168,7 +194,7 @@ fn above<C: Compress>(
 {
     let chain = AboveChain {
         input: entries.entry(k).item.imprint,
-        links: round_links(entries, k)?,
+        links: round_links(paths, k)?,
     };
     let mut chains = Vec::with_capacity(alloc, 1)?;
     chains.push(chain)?;
@@ -180,10 +206,10 @@ fn above<C: Compress>(
 }
 
 /// The links from item `k` up to the root of the items.
-fn round_links<C: Compress>(entries: &Entries<C>, k: usize) -> Result<AboveLinks, NoMemory>
-    requires { k < length entries.now }
-    ensures { IfOk result (λ links. links ≡ chain_of C.image (items_of entries.now) k) }
+fn round_links<C: Compress>(paths: &RoundPaths<'_, C>, k: usize) -> Result<AboveLinks, NoMemory>
+    requires { k < length paths.now }
+    ensures { IfOk result (λ links. links ≡ chain_of C.image paths.now k) }
 {
-    let links = entries.path(k)?;
+    let links = paths.path(k)?;
     Ok(AboveLinks::from_vec(links.into_vec()))
 }

@@ -1,11 +1,12 @@
 -- As many signatures are accepted as were issued.
-use Rattle.std.proofs.Common.{◌≡◌, ℕ, zero, suc, ◌+◌, ◌<◌, ◌≤◌, Bool, true, false, List, [], ◌∷◌, length, map, refl, sym, ap, ◌∙◌, arith, Option, Some, None, Ok, nat_lt, nat_le, ◌==◌}
-use Rattle.std.specs.Prelude.{◌↔◌, ◌&&◌, IsTrue, slice_get}
+use Rattle.std.proofs.Common.{◌≡◌, ℕ, zero, suc, ◌+◌, ◌<◌, ◌≤◌, Bool, true, false, List, [], ◌∷◌, length, map, refl, sym, ap, ◌∙◌, arith, Option, Some, None, Ok, ◌==◌}
+use Rattle.std.specs.Prelude.{◌↔◌, slice_get}
 use Rattle.std.specs.List.{filter}
-use Rattle.std.proofs.lemmas.Bool.{cond-true, eq-eqb, le-leb, leb-true, lt-ltb, ltb-true}
+use Rattle.std.proofs.lemmas.Bool.{cond-true, eq-eqb}
 use Rattle.ksi_imprint.specs.Imprints.{imprint_of}
 use Rattle.ksi_tlv.specs.Spelling.{AreBytes}
-use Rattle.ksi_calendar.specs.Calendar.{is_covered}
+use Rattle.ksi_calendar.specs.Calendar.{Seconds, calendar_root, is_covered, root_to}
+use Rattle.ksi_calendar.specs.Covered.{IsCovered, covered_root}
 use Rattle.ksi_signature.specs.declared.signature.Signature.{Signature}
 use Rattle.ksi_signature.specs.File.{IsSignature}
 use Rattle.ksi_signature.specs.Reading.{signature_at}
@@ -16,8 +17,8 @@ use Rattle.ksi_schedule.specs.Events.{History}
 use Rattle.ksi_world.specs.declared.outcome.Asked.{Asked}
 use Rattle.ksi_world.specs.Histories.{world_of}
 use Rattle.ksi_world.specs.Records.{issued_of}
-use Rattle.ksi_journal.specs.Journal.{Contents}
-use Rattle.ksi_journal.specs.Calendar.{IsCovered, calendar_of, kept_root, roots_from}
+use Rattle.ksi_journal.specs.Journal.{Contents, root_at}
+use Rattle.ksi_journal.specs.Calendar.{calendar_of}
 use Rattle.ksi_history.specs.Joined.{Joined, Lasts}
 use Rattle.ksi_history.specs.Lasting.{LastsTo}
 use Rattle.ksi_drill.specs.declared.trial.Trial.{Trial}
@@ -49,34 +50,21 @@ last_none : (start n : ℕ) → last_from start n ≡ None → n ≡ 0
 last_none start zero e = refl
 last_none start (suc n) e = absurd (cc e)
 
-both_true : (b c : Bool) → (b && c) ≡ true → (b ≡ true) × (c ≡ true)
-both_true true c e = (refl, e)
-both_true false c e = absurd (cc e)
-
-true_both : (b c : Bool) → b ≡ true → c ≡ true → (b && c) ≡ true
-true_both true c b_is c_is = c_is
-true_both false c b_is c_is = absurd (cc b_is)
-
 abbrev covered_count : Contents → ℕ
-covered_count journal = length (roots_from journal.start journal.seconds)
+covered_count journal = length (calendar_of journal).roots
 
-covered_before : (journal : Contents) (p : ℕ) → IsTrue (is_covered (calendar_of journal) p) → (journal.start ≤ p) × (p < journal.start + covered_count journal)
-unfolding calendar_of
-covered_before journal p covered =
-    let both = both_true (nat_le journal.start p) (nat_lt p (journal.start + covered_count journal)) covered in
-    (leb-true _ _ both.0, ltb-true _ _ both.1)
-
-before_covered : (journal : Contents) (p : ℕ) → journal.start ≤ p → p < journal.start + covered_count journal → IsTrue (is_covered (calendar_of journal) p)
-unfolding calendar_of
-before_covered journal p from before = true_both _ _ (le-leb journal.start p from) (lt-ltb p (journal.start + covered_count journal) before)
-
-greatest_is : (journal : Contents) (p : ℕ) → greatest_covered journal ≡ Some p → (journal.start ≤ p) × (suc p ≡ journal.start + covered_count journal)
+pub greatest_is : (journal : Contents) (p : ℕ) → greatest_covered journal ≡ Some p → (journal.start ≤ p) × (suc p ≡ journal.start + covered_count journal)
 unfolding greatest_covered
 greatest_is journal p e = last_is journal.start (covered_count journal) p e
 
 greatest_none : (journal : Contents) → greatest_covered journal ≡ None → covered_count journal ≡ 0
 unfolding greatest_covered
 greatest_none journal e = last_none journal.start (covered_count journal) e
+
+-- the kept root as the code reads it
+pub root_is : (image : List ℕ → List ℕ) (journal : Contents) (p : ℕ) (seconds : Seconds) (found : Option (List ℕ)) → seconds ≡ calendar_of journal → found ≡ root_to image seconds p → is_covered (calendar_of journal) p ≡ true
+    → found ≡ Some (calendar_root image (calendar_of journal) p)
+root_is image journal p seconds found same e covered = e ∙ ap (λ (s : Seconds). root_to image s p) same ∙ rw covered refl
 
 -- the one publication is found
 found_here : (p : ℕ) (root : List ℕ) → find p ((p, root) ∷ []) ≡ Some root
@@ -89,7 +77,7 @@ pub record Facts (h : History) (journal : Contents) : Type 0 where
   pub joined : Joined imprint_of h journal
   pub listed : (k : ℕ) (x : ℕ × List ℕ) → slice_get journal.issued k ≡ Some x → issued_of imprint_of (world_of imprint_of h) x.0 ≡ Some x.1
   pub extends : (number : ℕ) (text : List ℕ) → issued_of imprint_of (world_of imprint_of h) number ≡ Some text → (p : ℕ) (bytes : List ℕ) → extended imprint_of journal text p ≡ Ok bytes → AreBytes bytes
-  pub covered : (p : ℕ) → IsTrue (is_covered (calendar_of journal) p) ↔ IsCovered journal p
+  pub within : (p : ℕ) → ((journal.start ≤ p) × (p < journal.start + covered_count journal)) ↔ IsCovered (root_at journal) journal.start p
   pub read : (bytes : List ℕ) (signature : Signature) → AreBytes bytes → (signature_at bytes ≡ Ok signature) ↔ IsSignature bytes signature
 
 module _ (h : History) (journal : Contents) (facts : Facts h journal) where
@@ -98,13 +86,13 @@ module _ (h : History) (journal : Contents) (facts : Facts h journal) where
 
   -- the second of each is at most the greatest one
   covered_until : (k : ℕ) (x : ℕ × List ℕ) (at : slice_get journal.issued k ≡ Some x) → (lasts k x at).asked.second < journal.start + covered_count journal
-  covered_until k x at = (covered_before journal (lasts k x at).asked.second ((facts.covered (lasts k x at).asked.second).1 (lasts k x at).covered)).1
+  covered_until k x at = ((facts.within (lasts k x at).asked.second).1 (lasts k x at).covered).1
 
   lasts_to : (p : ℕ) → greatest_covered journal ≡ Some p → (k : ℕ) (x : ℕ × List ℕ) (at : slice_get journal.issued k ≡ Some x) → LastsTo imprint_of journal (lasts k x at).asked x.1 p
   lasts_to p greatest k x at =
       let is = greatest_is journal p greatest in
       (lasts k x at).later p (omega (arith, is.1, covered_until k x at))
-      ((facts.covered p).0 (before_covered journal p is.0 (omega (arith, is.1))))
+      ((facts.within p).0 (is.0, omega (arith, is.1)))
 
   -- what lasts is accepted
   accepted_for : (p : ℕ) (x : ℕ × List ℕ) (asked : Asked) → slice_get (world_of imprint_of h).requests x.0 ≡ Some asked → issued_of imprint_of (world_of imprint_of h) x.0 ≡ Some x.1
@@ -116,7 +104,7 @@ module _ (h : History) (journal : Contents) (facts : Facts h journal) where
       let read : extension imprint_of journal x.1 p ≡ Some signature = ap if_extended l.extension ∙ ap if_signature ((facts.read l.bytes signature are).1 l.after) in
       ap (λ (a : Option Asked). (trial_for imprint_of journal p a (extension imprint_of journal x.1 p)).accepted) there
       ∙ ap (λ (e : Option Signature). (trial_for imprint_of journal p (Some asked) e).accepted) read
-      ∙ ap is_accepted (l.accepted (published imprint_of journal p) (found_here p (kept_root imprint_of journal p)))
+      ∙ ap is_accepted (l.accepted (published imprint_of journal p) (found_here p (covered_root imprint_of (root_at journal) journal.start p)))
 
   all_trials : (greatest : Option ℕ) → greatest_covered journal ≡ greatest
       → count (λ (t : Trial). t.accepted) (trials imprint_of (world_of imprint_of h).requests journal greatest) ≡ length journal.issued

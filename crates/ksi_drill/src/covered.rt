@@ -1,7 +1,8 @@
 // The greatest covered second, and its root.
 ghost use Rattle.std.specs.Prelude.{◌≡◌, ◌<◌, ◌≤◌, ◌+◌, ◌^◌, Some, IfOk, IfSome};
 ghost use Rattle.ksi_imprint.specs.Imprints.{imprint_of};
-ghost use Rattle.ksi_journal.specs.Calendar.{kept_root};
+ghost use Rattle.ksi_calendar.specs.Covered.{covered_root};
+ghost use Rattle.ksi_journal.specs.Journal.{root_at};
 ghost use Rattle.ksi_drill.specs.Covered.{greatest_covered, last_from, published};
 
 use ksi_imprint::{Imprint, NoMemory, Sha};
@@ -49,12 +50,13 @@ pub(crate) fn published(
 }
 
 /// The root of the seconds from 0 to the greatest covered one.
-#[tactic(auto, unfolding(crate::specs::Covered::greatest_covered, ksi_journal::specs::Calendar::calendar_of))]
 fn root_to(journal: &Journal<Sha>, p: u64) -> Imprint
     requires { greatest_covered journal.now ≡ Some p }
-    ensures { result ≡ kept_root imprint_of journal.now p }
+    ensures { result ≡ covered_root imprint_of (root_at journal.now) journal.now.start p }
 {
-    match journal.calendar().root_at(p) {
+    calendar_is_covered();
+    let _start = journal.start();
+    match journal.calendar().root_to(p) {
         Some(root) => root,
         None => Imprint::ZERO,
     }

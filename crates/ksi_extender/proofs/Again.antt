@@ -13,17 +13,15 @@ use Rattle.ksi_verifier.specs.declared.aggregated.Aggregated.{Aggregated}
 use Rattle.ksi_verifier.specs.Chains.{plain_chains}
 use Rattle.ksi_verifier.specs.ChainChecks.{aggregated}
 use Rattle.ksi_verifier.specs.Accepted.{IsAggregated}
-use Rattle.ksi_calendar.specs.Calendar.{calendar_path}
-use Rattle.ksi_journal.specs.Journal.{Contents, IsJournal}
-use Rattle.ksi_journal.specs.Calendar.{calendar_of}
+use Rattle.ksi_calendar.specs.Covered.{covered_path}
+use Rattle.ksi_journal.specs.Journal.{Contents, IsJournal, root_at}
 use Rattle.ksi_extender.specs.declared.refusal.ExtendRefusal.{ExtendRefusal}
 use Rattle.ksi_extender.specs.declared.refusal.ExtendRefusal.TheVariants as refusals
 use Rattle.ksi_extender.specs.Checks.{need}
 use Rattle.ksi_extender.specs.Extended.{chain_to, record_to, fitting, extended}
 use Rattle.ksi_extender.specs.Accepted.{first_input, extended_signature}
 use Rattle.ksi_extender.proofs.Passing.{then_ok, need_le}
-use Rattle.ksi_extender.proofs.Leaves.{leaves}
-use Rattle.ksi_extender.proofs.Imprints.{zero_is, imprint_roots, leaf_is, root_is, links_are}
+use Rattle.ksi_extender.proofs.Imprints.{zero_is, imprint_roots, second_is, root_is, links_are}
 use Rattle.ksi_extender.proofs.Whole.{passed, is_time}
 
 -- the bytes that fit
@@ -38,7 +36,7 @@ fits bytes text chain published e =
 module _ (image : List ℕ → List ℕ)
     (aggregation : (signature : Signature) (chains : Aggregated) → 0 < length signature.chains → (aggregated image signature ≡ Ok chains) ↔ IsAggregated image (plain_chains signature.chains) (first_input signature) chains.time chains.item)
     (images : (x : List ℕ) → IsImprint (image x)) (journal : Contents) (is : IsJournal image journal)
-    (lengths : (t p : ℕ) → p + 1 ≤ 2 ^ 63 → length (calendar_path image (calendar_of journal) t p) ≤ 63) where
+    (lengths : (t p : ℕ) → p + 1 ≤ 2 ^ 63 → length (covered_path image (root_at journal) journal.start t p) ≤ 63) where
   pub again : (renews : (bytes : List ℕ) (signature : Signature) (chain : Calendar) (published : Publishing) → AreBytes bytes → IsSignature bytes signature → IsCalendar chain → IsPublishing published → length (extended_content bytes chain published) ≤ 65535 → IsSignature (extended_text bytes chain published) (renewed signature chain published))
       → (bytes text : List ℕ) (p : ℕ) (signature : Signature) → p < 2 ^ 63 → AreBytes bytes → IsSignature bytes signature → signature_at bytes ≡ Ok signature → extended image journal bytes p ≡ Ok text → IsSignature text (extended_signature image journal signature p)
   again renews bytes text p signature early are whole read e =
@@ -46,13 +44,11 @@ module _ (image : List ℕ → List ℕ)
       let t = h.chains.time in
       let time = is_time image aggregation signature h.chains h.aggregation h.kept.some in
       let to = h.kept.to in
-      let covered = h.kept.covered in
-      let leaf = leaves journal t (omega arith) in
       let roots = imprint_roots image journal.seconds is.seconds in
       let chain : IsCalendar (chain_to image journal t p) = record {
         publication = early;
         time = omega arith;
-        input = subst IsImprint leaf (leaf_is IsImprint zero_is journal roots t);
+        input = second_is IsImprint zero_is journal roots t;
         count = lengths t p (omega arith);
         links = links_are IsImprint zero_is journal roots image images t p;
       } in

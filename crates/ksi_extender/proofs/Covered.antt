@@ -1,12 +1,12 @@
 -- What is not refused.
 use Rattle.std.proofs.Common.{◌≡◌, ◌≢◌, ℕ, ◌+◌, ◌-◌, ◌^◌, ◌<◌, ◌≤◌, min, Bool, true, false, not, List, [], length, Option, Some, None, Result, Ok, refl, sym, ap, subst, ◌∙◌, arith, nat_lt, nat_le, if◌then◌else◌}
-use Rattle.std.specs.Prelude.{◌↔◌, ◌&&◌, IsTrue, unwrap_or}
+use Rattle.std.specs.Prelude.{◌↔◌, IsSome, unwrap_or}
 use Rattle.std.specs.Str.{bytes_eq}
-use Rattle.std.proofs.lemmas.Bool.{le-ltb, le-leb, lt-leb, ltb-true}
+use Rattle.std.proofs.lemmas.Bool.{le-ltb, le-leb}
 use Rattle.std.proofs.lemmas.Slice.Eq.{bytes_eq-Decides}
 use Rattle.ksi_imprint.specs.Imprints.{IsImprint, zero_imprint}
 use Rattle.ksi_tlv.specs.Spelling.{AreBytes}
-use Rattle.ksi_calendar.specs.Calendar.{calendar_path, is_covered}
+use Rattle.ksi_calendar.specs.Covered.{IsCovered, first_missing, covered_root, covered_path, second_leaf}
 use Rattle.ksi_signature.specs.declared.signature.Signature.{Signature}
 use Rattle.ksi_signature.specs.File.{IsSignature}
 use Rattle.ksi_signature.specs.Kept.{IsCalendar}
@@ -16,19 +16,13 @@ use Rattle.ksi_signature.specs.Extended.{extended_content, extended_text}
 use Rattle.ksi_verifier.specs.declared.aggregated.Aggregated.{Aggregated}
 use Rattle.ksi_verifier.specs.declared.refusal.Refusal.TheVariants.{MissedSecond}
 use Rattle.ksi_journal.specs.Journal.{Contents, IsJournal, root_at}
-use Rattle.ksi_journal.specs.Calendar.{leaf_at, calendar_of, kept_root, roots_from, first_missing, IsCovered}
 use Rattle.ksi_extender.specs.declared.refusal.ExtendRefusal.{ExtendRefusal}
 use Rattle.ksi_extender.specs.declared.refusal.ExtendRefusal.TheVariants as refusals
 use Rattle.ksi_extender.specs.Checks.{◌>>=◌, ◌>>◌, need}
 use Rattle.ksi_extender.specs.Extended.{or_refused, all_kept, chains_in, kept_to, chain_to, record_to, fitting, extended}
 use Rattle.ksi_extender.specs.Accepted.{LeadsToKept}
-use Rattle.ksi_extender.proofs.Imprints.{zero_is, imprint_roots, leaf_is, root_is, links_are}
-use Rattle.ksi_extender.proofs.Leaves.{leaves}
+use Rattle.ksi_extender.proofs.Imprints.{zero_is, imprint_roots, second_is, root_is, links_are}
 use Rattle.ksi_extender.proofs.Steps.{read_then}
-
-both_true : (b c : Bool) → (b && c) ≡ true → (b ≡ true) × (c ≡ true)
-both_true true c e = (refl, e)
-both_true false c e = absurd cc
 
 differs : (a b : List ℕ) → a ≢ b → not (bytes_eq a b) ≡ true
 differs a b ne = by (bytes_eq a b) refl
@@ -43,38 +37,25 @@ passes : (a b c e : Bool) (missing : Option ℕ) (r1 r2 r3 r5 : ExtendRefusal) �
 passes a b c e missing r1 r2 r3 r5 one two three four five = rw (one, two, three, four, five) refl
 
 module _ (image : List ℕ → List ℕ) (images : (x : List ℕ) → IsImprint (image x)) (journal : Contents) (is : IsJournal image journal)
-    (covers : (p : ℕ) → IsTrue (is_covered (calendar_of journal) p) ↔ IsCovered journal p) where
-  before_end : (p : ℕ) → IsCovered journal p → p < (calendar_of journal).start + length (calendar_of journal).roots
-  before_end p covered =
-      let both = both_true (nat_le (calendar_of journal).start p) (nat_lt p ((calendar_of journal).start + length (calendar_of journal).roots)) ((covers p).1 covered) in
-      ltb-true _ _ both.1
-
-  starts : (calendar_of journal).start ≡ journal.start
-  unfolding calendar_of
-  starts = refl
-
-  none_missing : (p : ℕ) → IsCovered journal p → first_missing journal p ≡ None
-  unfolding first_missing calendar_of
-  none_missing p covered = ap (λ (t : Bool). if t then Some (journal.start + length (roots_from journal.start journal.seconds)) else None) (lt-leb (journal.start + length (roots_from journal.start journal.seconds)) p (before_end p covered))
-
-  leaf_kept : (t : ℕ) (root : List ℕ) → journal.start ≤ t → root_at journal t ≡ Some root → leaf_at journal t ≡ root
+    (none : (p : ℕ) → (first_missing (root_at journal) journal.start p ≡ None) ↔ ((t : ℕ) → journal.start ≤ t → t ≤ p → IsSome (root_at journal t))) where
+  leaf_kept : (t : ℕ) (root : List ℕ) → journal.start ≤ t → root_at journal t ≡ Some root → second_leaf (root_at journal) journal.start t ≡ root
   leaf_kept t root from kept =
       ap (λ (b : Bool). if b then zero_imprint else unwrap_or (root_at journal t) zero_imprint) (le-ltb t journal.start from)
       ∙ ap (λ (o : Option (List ℕ)). unwrap_or o zero_imprint) kept
 
-  module _ (early : journal.start + length (calendar_of journal).roots ≤ 2 ^ 63)
-      (lengths : (t p : ℕ) → p + 1 ≤ 2 ^ 63 → length (calendar_path image (calendar_of journal) t p) ≤ 63)
+  module _ (early : (p : ℕ) → IsCovered (root_at journal) journal.start p → p < 2 ^ 63)
+      (lengths : (t p : ℕ) → p + 1 ≤ 2 ^ 63 → length (covered_path image (root_at journal) journal.start t p) ≤ 63)
       (small : (bytes : List ℕ) (signature : Signature) (chain : Calendar) (time : ℕ) (hash : List ℕ) → AreBytes bytes → IsSignature bytes signature → IsCalendar chain → IsImprint hash
       → length (extended_content bytes chain (record { time = time; hash = hash; references = []; repositories = [] })) ≤ length bytes + 2453)
       (reads : (bytes : List ℕ) (signature : Signature) → AreBytes bytes → (signature_at bytes ≡ Ok signature) ↔ IsSignature bytes signature) where
-    chain_kept : (t p : ℕ) → t ≤ p → IsCovered journal p → IsCalendar (chain_to image journal t p)
+    chain_kept : (t p : ℕ) → t ≤ p → IsCovered (root_at journal) journal.start p → IsCalendar (chain_to image journal t p)
     chain_kept t p to covered =
-        let last = before_end p covered in
+        let last = early p covered in
         record {
-          publication = omega (arith, last, early, starts);
-          time = omega (arith, last, early, to, starts);
-          input = subst IsImprint (leaves journal t (omega (arith, last, to))) (leaf_is IsImprint zero_is journal (imprint_roots image journal.seconds is.seconds) t);
-          count = lengths t p (omega (arith, last, early, starts));
+          publication = last;
+          time = omega (arith, last, to);
+          input = second_is IsImprint zero_is journal (imprint_roots image journal.seconds is.seconds) t;
+          count = lengths t p (omega (arith, last));
           links = links_are IsImprint zero_is journal (imprint_roots image journal.seconds is.seconds) image images t p;
         }
 
@@ -87,11 +68,11 @@ module _ (image : List ℕ → List ℕ) (images : (x : List ℕ) → IsImprint 
         let published = record_to image journal p in
         let read : chains_in image bytes ≡ Ok chains = sym (read_then image bytes signature ((reads bytes signature are).1 h.whole)) ∙ ap or_refused h.aggregation in
         let kept : kept_to journal chains p ≡ Ok tt =
-        passes (not (bytes_eq chains.item.imprint zero_imprint)) (nat_le journal.start t) (nat_le t p) (bytes_eq (leaf_at journal t) chains.item.imprint) (first_missing journal p)
-        (refusals.Refused MissedSecond) (refusals.BeforeStart t) (refusals.TooEarly t p) (refusals.RootDiffers t (leaf_at journal t) chains.item.imprint)
-        (differs chains.item.imprint zero_imprint h.real) (le-leb journal.start t h.from) (le-leb t p h.to) (none_missing p h.covered)
-        ((bytes_eq-Decides (leaf_at journal t) chains.item.imprint).1 (leaf_kept t chains.item.imprint h.from h.root)) in
-        let size = small bytes signature chain p (kept_root image journal p) are h.whole (chain_kept t p h.to h.covered) (root_is IsImprint zero_is journal (imprint_roots image journal.seconds is.seconds) image images p) in
+        passes (not (bytes_eq chains.item.imprint zero_imprint)) (nat_le journal.start t) (nat_le t p) (bytes_eq (second_leaf (root_at journal) journal.start t) chains.item.imprint) (first_missing (root_at journal) journal.start p)
+        (refusals.Refused MissedSecond) (refusals.BeforeStart t) (refusals.TooEarly t p) (refusals.RootDiffers t (second_leaf (root_at journal) journal.start t) chains.item.imprint)
+        (differs chains.item.imprint zero_imprint h.real) (le-leb journal.start t h.from) (le-leb t p h.to) ((none p).1 h.covered.each)
+        ((bytes_eq-Decides (second_leaf (root_at journal) journal.start t) chains.item.imprint).1 (leaf_kept t chains.item.imprint h.from h.root)) in
+        let size = small bytes signature chain p (covered_root image (root_at journal) journal.start p) are h.whole (chain_kept t p h.to h.covered) (root_is IsImprint zero_is journal (imprint_roots image journal.seconds is.seconds) image images p) in
         let fits : nat_le (length (extended_content bytes chain published)) 65535 ≡ true = le-leb (length (extended_content bytes chain published)) 65535 (omega (arith, size, h.short)) in
         ap (λ (r : Result Aggregated ExtendRefusal). r >>= λ chains. kept_to journal chains p >> fitting bytes (chain_to image journal chains.time p) (record_to image journal p)) read
         ∙ ap (λ (r : Result (Unit {0}) ExtendRefusal). r >> fitting bytes chain published) kept

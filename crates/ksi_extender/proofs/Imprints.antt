@@ -1,17 +1,17 @@
 -- What holds of the zero imprint, of each hash and of each root of a journal holds of a calendar chain over it and of the
 -- record above it.
 use Rattle.std.proofs.Common.{ℕ, zero, suc, ◌+◌, ◌-◌, ◌^◌, Bool, true, false, List, [], ◌∷◌, ◌++◌, nat_lt, if◌then◌else◌, refl}
-use Rattle.std.specs.Prelude.{◌==◌, slice_index_or}
+use Rattle.std.specs.Prelude.{◌==◌, slice_index_or, unwrap_or, Some}
 use Rattle.std.specs.List.{AllByRecursion}
 use Rattle.ksi_imprint.specs.Imprints.{IsImprint, zero_imprint}
 use Rattle.ksi_split.specs.declared.side.Side.TheVariants.{Left, Right}
 use Rattle.ksi_split.specs.declared.tree_link.TreeLink.{TreeLink}
 use Rattle.ksi_split.specs.Trees.{tree_within, tree, path_within, path_of}
 use Rattle.ksi_calchain.specs.Climbing.{calendar_join, calendar_join_text}
-use Rattle.ksi_calendar.specs.Calendar.{calendar_leaf, calendar_root, calendar_path}
-use Rattle.ksi_journal.specs.declared.second.Second.{Second}
-use Rattle.ksi_journal.specs.Journal.{Contents, IsSecond}
-use Rattle.ksi_journal.specs.Calendar.{calendar_of, roots_from}
+use Rattle.ksi_calendar.specs.Calendar.{calendar_leaf}
+use Rattle.ksi_calendar.specs.Covered.{roots_among, covered_seconds, covered_root, covered_path, second_leaf}
+use Rattle.ksi_aggtree.specs.declared.second.Second.{Second}
+use Rattle.ksi_journal.specs.Journal.{Contents, IsSecond, kept_among, root_kept, root_at}
 
 either : {A : Type 0} (P : A → Type 0) (b : Bool) (x y : A) → P x → P y → P (if b then x else y)
 either P true x y one other = one
@@ -70,23 +70,36 @@ module _ (P : List ℕ → Type 0) (zero_too : P zero_imprint) where
   place_is (root ∷ roots) zero all = all.0
   place_is (root ∷ roots) (suc place) all = place_is roots place all.1
 
-  roots_are : (start : ℕ) (ks : List Second) → AllByRecursion (λ kept. P kept.root) ks → AllByRecursion P (roots_from start ks)
-  roots_are start [] all = tt
-  roots_are start (kept ∷ others) all =
-      either (AllByRecursion P) (kept.second == start) (kept.root ∷ roots_from (start + 1) others) []
-      (all.0, roots_are (start + 1) others all.1) tt
+  kept_is : (ks : List Second) → AllByRecursion (λ kept. P kept.root) ks → (t : ℕ) → P (unwrap_or (root_kept (kept_among ks t)) zero_imprint)
+  kept_is [] all t = zero_too
+  kept_is (kept ∷ others) all t = by (kept.second == t) (kept_is others all.1 t)
+    where
+      by : (here : Bool) → P (unwrap_or (root_kept (kept_among others t)) zero_imprint) → P (unwrap_or (root_kept (if here then Some kept else kept_among others t)) zero_imprint)
+      by true later = all.0
+      by false later = later
 
   leaf_of : (roots : List (List ℕ)) (start t : ℕ) → AllByRecursion P roots → P (if nat_lt t start then zero_imprint else slice_index_or roots (t - start) zero_imprint)
   leaf_of roots start t all = either P (nat_lt t start) zero_imprint (slice_index_or roots (t - start) zero_imprint) zero_too (place_is roots (t - start) all)
 
   module _ (journal : Contents) (are : AllByRecursion (λ kept. P kept.root) journal.seconds) where
-    pub leaf_is : (t : ℕ) → P (calendar_leaf (calendar_of journal) t)
-    unfolding calendar_of
-    leaf_is t = leaf_of (roots_from journal.start journal.seconds) journal.start t (roots_are journal.start journal.seconds are)
+    known_is : (t : ℕ) → P (unwrap_or (root_at journal t) zero_imprint)
+    unfolding root_at
+    known_is t = kept_is journal.seconds are t
+
+    roots_are : (s n : ℕ) → AllByRecursion P (roots_among (root_at journal) s n)
+    roots_are s zero = tt
+    roots_are s (suc n) = (known_is s, roots_are (suc s) n)
+
+    pub second_is : (t : ℕ) → P (second_leaf (root_at journal) journal.start t)
+    second_is t = either P (nat_lt t journal.start) zero_imprint (unwrap_or (root_at journal t) zero_imprint) zero_too (known_is t)
+
+    leaf_is : (p t : ℕ) → P (calendar_leaf (covered_seconds (root_at journal) journal.start p) t)
+    unfolding covered_seconds
+    leaf_is p t = leaf_of (roots_among (root_at journal) journal.start (suc p - journal.start)) journal.start t (roots_are journal.start (suc p - journal.start))
 
     module _ (image : List ℕ → List ℕ) (images : (x : List ℕ) → P (image x)) where
-      pub root_is : (p : ℕ) → P (calendar_root image (calendar_of journal) p)
-      root_is p = tree_is P (calendar_join image) (λ a b. images (calendar_join_text a b)) (calendar_leaf (calendar_of journal)) leaf_is 0 (p + 1)
+      pub root_is : (p : ℕ) → P (covered_root image (root_at journal) journal.start p)
+      root_is p = tree_is P (calendar_join image) (λ a b. images (calendar_join_text a b)) (calendar_leaf (covered_seconds (root_at journal) journal.start p)) (leaf_is p) 0 (p + 1)
 
-      pub links_are : (t p : ℕ) → AllSiblings P (calendar_path image (calendar_of journal) t p)
-      links_are t p = path_is P (calendar_join image) (λ a b. images (calendar_join_text a b)) (calendar_leaf (calendar_of journal)) leaf_is 0 t (p + 1)
+      pub links_are : (t p : ℕ) → AllSiblings P (covered_path image (root_at journal) journal.start t p)
+      links_are t p = path_is P (calendar_join image) (λ a b. images (calendar_join_text a b)) (calendar_leaf (covered_seconds (root_at journal) journal.start p)) (leaf_is p) 0 t (p + 1)

@@ -9,14 +9,12 @@ use Rattle.ksi_signature.specs.Carried.{CalendarOfBytes}
 use Rattle.ksi_signature.specs.Values.{Calendar}
 use Rattle.ksi_signature.specs.Extended.{extended_content, extended_text}
 use Rattle.ksi_verifier.specs.declared.aggregated.Aggregated.{Aggregated}
-use Rattle.ksi_journal.specs.Journal.{Contents}
-use Rattle.ksi_journal.specs.Calendar.{kept_root}
+use Rattle.ksi_calendar.specs.Covered.{covered_root}
+use Rattle.ksi_journal.specs.Journal.{Contents, root_at}
 use Rattle.ksi_extender.specs.Checks.{◌>>◌}
 use Rattle.ksi_extender.specs.Extended.{chains_in, kept_to, chain_to, record_to, fitting, extended}
 use Rattle.ksi_extender.proofs.Again.{fits}
-use Rattle.ksi_extender.proofs.Imprints.{leaf_is, root_is, links_are}
-use Rattle.ksi_extender.proofs.Kept.{is_kept}
-use Rattle.ksi_extender.proofs.Leaves.{leaves}
+use Rattle.ksi_extender.proofs.Imprints.{second_is, root_is, links_are}
 use Rattle.ksi_extender.proofs.Passing.{bind_ok, then_ok}
 
 zero_bytes : AreBytes zero_imprint
@@ -35,10 +33,6 @@ extension_bytes law image journal images roots bytes text p are e =
     let first = bind_ok (chains_in image bytes) (λ (chains : Aggregated). kept_to journal chains p >> fitting bytes (chain_to image journal chains.time p) (record_to image journal p)) text e in
     let t = first.0.time in
     let rest = then_ok (kept_to journal first.0 p) (fitting bytes (chain_to image journal t p) (record_to image journal p)) text first.2 in
-    let kept = is_kept journal first.0 p rest.0 in
-    let to = kept.to in
-    let covered = kept.covered in
-    let leaf = leaves journal t (omega arith) in
     let new = fits bytes text (chain_to image journal t p) (record_to image journal p) rest.1 in
-    subst AreBytes new.1 (law bytes (chain_to image journal t p) p (kept_root image journal p) are (subst AreBytes leaf (leaf_is AreBytes zero_bytes journal roots t))
+    subst AreBytes new.1 (law bytes (chain_to image journal t p) p (covered_root image (root_at journal) journal.start p) are (second_is AreBytes zero_bytes journal roots t)
     (links_are AreBytes zero_bytes journal roots image images t p) (root_is AreBytes zero_bytes journal roots image images p) new.0)

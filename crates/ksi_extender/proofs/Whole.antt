@@ -21,8 +21,8 @@ use Rattle.ksi_verifier.specs.Chains.{PlainChain, plain_chains, first_chain, at_
 use Rattle.ksi_verifier.specs.ChainChecks.{aggregated, chains_checked}
 use Rattle.ksi_verifier.specs.Verdict.{verdict}
 use Rattle.ksi_verifier.specs.Accepted.{IsAggregated, IsAccepted}
-use Rattle.ksi_journal.specs.Journal.{Contents}
-use Rattle.ksi_journal.specs.Calendar.{leaf_at, calendar_of, kept_root}
+use Rattle.ksi_calendar.specs.Covered.{Roots, covered_seconds, covered_root, covered_path, second_leaf}
+use Rattle.ksi_journal.specs.Journal.{Contents, root_at}
 use Rattle.ksi_extender.specs.Checks.{◌>>◌}
 use Rattle.ksi_extender.specs.Extended.{or_refused, chains_in, kept_to, chain_to, record_to, fitting, extended}
 use Rattle.ksi_extender.specs.Accepted.{first_time, first_input, extended_signature, AcceptedBy}
@@ -90,16 +90,16 @@ module _ (image : List ℕ → List ℕ)
       (climbs : (seconds : Seconds) (t p : ℕ) → t ≤ p → ClimbsCalendar image (calendar_leaf seconds t) (calendar_path image seconds t p) (calendar_root image seconds p))
       (sides : (seconds : Seconds) (t p : ℕ) → sides_from_top (calendar_path image seconds t p) ≡ way_of t (p + 1))
       (ways : (t n : ℕ) (sides : List Side) → IsWay t n sides ↔ ((t < n) × (sides ≡ way_of t n)))
-      (journal : Contents)
-      (leaves : (t : ℕ) → t < (calendar_of journal).start + length (calendar_of journal).roots → calendar_leaf (calendar_of journal) t ≡ leaf_at journal t) where
+      (leaves : (roots : Roots) (start last t : ℕ) → t ≤ last → calendar_leaf (covered_seconds roots start last) t ≡ second_leaf roots start t)
+      (journal : Contents) where
     is_accepted : (bytes : List ℕ) (p : ℕ) (text : List ℕ) (signature : Signature) (publications : List (ℕ × List ℕ)) → Passed image journal bytes p text signature
-        → find p publications ≡ Some (kept_root image journal p) → IsAccepted image (extended_signature image journal signature p) (first_input signature) publications (first_time signature)
+        → find p publications ≡ Some (covered_root image (root_at journal) journal.start p) → IsAccepted image (extended_signature image journal signature p) (first_input signature) publications (first_time signature)
     is_accepted bytes p text signature publications h found =
         let t = first_time signature in
         let time = is_time signature h.chains h.aggregation h.kept.some in
         let to : t ≤ p = subst (λ (t : ℕ). t ≤ p) (sym time) h.kept.to in
-        let early : t < (calendar_of journal).start + length (calendar_of journal).roots = (let covered = h.kept.covered in omega arith) in
-        let input : leaf_at journal t ≡ h.chains.item.imprint = ap (leaf_at journal) time ∙ h.kept.root in
+        let seconds = covered_seconds (root_at journal) journal.start p in
+        let input : second_leaf (root_at journal) journal.start t ≡ h.chains.item.imprint = ap (second_leaf (root_at journal) journal.start) time ∙ h.kept.root in
         record {
           item = h.chains.item;
           chains = subst (λ (time : ℕ). IsAggregated image (plain_chains signature.chains) (first_input signature) time h.chains.item) (sym time) (is_aggregated signature h.chains h.aggregation h.kept.some);
@@ -107,10 +107,10 @@ module _ (image : List ℕ → List ℕ)
           has_calendar = refl;
           input = input;
           not_missed = λ zero. h.kept.some (sym input ∙ zero);
-          second = record { within = to; way = (ways t (p + 1) (sides_from_top (calendar_path image (calendar_of journal) t p))).1 (omega (arith, to), sides (calendar_of journal) t p) };
+          second = record { within = to; way = (ways t (p + 1) (sides_from_top (covered_path image (root_at journal) journal.start t p))).1 (omega (arith, to), sides seconds t p) };
           time = refl;
-          root = kept_root image journal p;
-          climbs = subst (λ (leaf : List ℕ). ClimbsCalendar image leaf (calendar_path image (calendar_of journal) t p) (kept_root image journal p)) (leaves t early) (climbs (calendar_of journal) t p to);
+          root = covered_root image (root_at journal) journal.start p;
+          climbs = subst (λ (leaf : List ℕ). ClimbsCalendar image leaf (covered_path image (root_at journal) journal.start t p) (covered_root image (root_at journal) journal.start p)) (leaves (root_at journal) journal.start p t to) (climbs seconds t p to);
           stated = (refl, refl);
           published = found;
         }

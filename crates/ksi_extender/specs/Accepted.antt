@@ -1,6 +1,7 @@
 -- What a signature is that was extended to a later second.
 use Rattle.std.specs.Prelude.{◌≡◌, ◌≢◌, ◌≤◌, ℕ, List, length, Some, Ok}
 use Rattle.ksi_imprint.specs.Imprints.{zero_imprint}
+use Rattle.ksi_calendar.specs.Covered.{IsCovered, covered_root}
 use Rattle.ksi_publications.specs.Finding.{find}
 use Rattle.ksi_signature.specs.declared.signature.Signature.{Signature}
 use Rattle.ksi_signature.specs.File.{IsSignature}
@@ -11,7 +12,6 @@ use Rattle.ksi_verifier.specs.Chains.{plain_chains, first_chain}
 use Rattle.ksi_verifier.specs.ChainChecks.{aggregated}
 use Rattle.ksi_verifier.specs.Verdict.{verdict}
 use Rattle.ksi_journal.specs.Journal.{Contents, root_at}
-use Rattle.ksi_journal.specs.Calendar.{kept_root, IsCovered}
 use Rattle.ksi_extender.specs.Extended.{chain_to, record_to}
 
 -- the time and the input hash of the first chain
@@ -29,7 +29,7 @@ extended_signature image journal signature p = renewed signature (chain_to image
 -- the time that it stated
 abbrev pub AcceptedBy : (List ℕ → List ℕ) → Contents → Signature → ℕ → List (ℕ × List ℕ) → Type 0
 AcceptedBy image journal signature p publications =
-    find p publications ≡ Some (kept_root image journal p)
+    find p publications ≡ Some (covered_root image (root_at journal) journal.start p)
     → verdict image (extended_signature image journal signature p) (first_input signature) publications ≡ Accepted (first_time signature)
 
 -- The text is the signature of the bytes extended to p, and is accepted.
@@ -49,4 +49,4 @@ pub record LeadsToKept (image : List ℕ → List ℕ) (journal : Contents) (byt
   pub from : journal.start ≤ chains.time
   pub root : root_at journal chains.time ≡ Some chains.item.imprint
   pub to : chains.time ≤ p
-  pub covered : IsCovered journal p
+  pub covered : IsCovered (root_at journal) journal.start p

@@ -2,8 +2,10 @@
 use Rattle.std.specs.Prelude.{ℕ, ◌-◌, ◌^◌, min, nat_le, not, List, [], length, Option, Some, None, Result, Ok, Err}
 use Rattle.std.specs.Str.{bytes_eq}
 use Rattle.ksi_imprint.specs.Imprints.{zero_imprint}
-use Rattle.ksi_calendar.specs.Calendar.{calendar_path}
+use Rattle.ksi_calendar.specs.Covered.{first_missing, covered_root, covered_path, second_leaf}
 use Rattle.ksi_signature.specs.declared.fault.SignatureFault.{SignatureFault}
+use Rattle.ksi_signature.specs.declared.extension.WithRefusal.{WithRefusal}
+use Rattle.ksi_signature.specs.declared.extension.WithRefusal.TheVariants as unmade
 use Rattle.ksi_signature.specs.declared.signature.Signature.{Signature}
 use Rattle.ksi_signature.specs.Values.{Calendar, Publishing}
 use Rattle.ksi_signature.specs.Reading.{signature_at}
@@ -12,8 +14,7 @@ use Rattle.ksi_verifier.specs.declared.aggregated.Aggregated.{Aggregated}
 use Rattle.ksi_verifier.specs.declared.refusal.Refusal.{Refusal}
 use Rattle.ksi_verifier.specs.declared.refusal.Refusal.TheVariants.{MissedSecond}
 use Rattle.ksi_verifier.specs.ChainChecks.{aggregated}
-use Rattle.ksi_journal.specs.Journal.{Contents}
-use Rattle.ksi_journal.specs.Calendar.{leaf_at, calendar_of, kept_root, first_missing}
+use Rattle.ksi_journal.specs.Journal.{Contents, root_at}
 use Rattle.ksi_extender.specs.declared.refusal.ExtendRefusal.{ExtendRefusal}
 use Rattle.ksi_extender.specs.declared.refusal.ExtendRefusal.TheVariants as refusals
 use Rattle.ksi_extender.specs.Checks.{◌>>=◌, ◌>>◌, need}
@@ -47,18 +48,18 @@ kept_to journal chains p = do
   need (not (bytes_eq chains.item.imprint zero_imprint)) (refusals.Refused MissedSecond)
   need (nat_le journal.start chains.time) (refusals.BeforeStart chains.time)
   need (nat_le chains.time p) (refusals.TooEarly chains.time p)
-  all_kept (first_missing journal p)
-  need (bytes_eq (leaf_at journal chains.time) chains.item.imprint) (refusals.RootDiffers chains.time (leaf_at journal chains.time) chains.item.imprint)
+  all_kept (first_missing (root_at journal) journal.start p)
+  need (bytes_eq (second_leaf (root_at journal) journal.start chains.time) chains.item.imprint) (refusals.RootDiffers chains.time (second_leaf (root_at journal) journal.start chains.time) chains.item.imprint)
 
 -- ---- the new bytes
 
 -- the calendar chain from second t to the root of the seconds from 0 to p
 abbrev pub chain_to : (List ℕ → List ℕ) → Contents → ℕ → ℕ → Calendar
-chain_to image journal t p = record { publication = p; time = t; input = leaf_at journal t; links = calendar_path image (calendar_of journal) t p }
+chain_to image journal t p = record { publication = p; time = t; input = second_leaf (root_at journal) journal.start t; links = covered_path image (root_at journal) journal.start t p }
 
 -- the publication record of that root
 abbrev pub record_to : (List ℕ → List ℕ) → Contents → ℕ → Publishing
-record_to image journal p = record { time = p; hash = kept_root image journal p; references = []; repositories = [] }
+record_to image journal p = record { time = p; hash = covered_root image (root_at journal) journal.start p; references = []; repositories = [] }
 
 -- E5: the bytes with this chain and this record in place of what they had of both, where their content fits an element;
 -- a size above 2^64 - 1 is told as 2^64 - 1
@@ -73,3 +74,10 @@ extended image journal bytes p = do
   chains ← chains_in image bytes
   kept_to journal chains p
   fitting bytes (chain_to image journal chains.time p) (record_to image journal p)
+
+-- ---- in the code
+
+-- the refusal where the new bytes were not made
+abbrev pub not_renewed : WithRefusal → ExtendRefusal
+not_renewed (unmade.Malformed fault) = refusals.Malformed fault
+not_renewed (unmade.TooLong size) = refusals.TooLarge size

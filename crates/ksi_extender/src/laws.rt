@@ -12,7 +12,7 @@ ghost use Rattle.ksi_journal.specs.Journal.{Contents, IsJournal};
 ghost use Rattle.ksi_extender.specs.Extended.{chain_to, extended, record_to};
 ghost use Rattle.ksi_extender.specs.Accepted.{AcceptedBy, LeadsToKept, extended_signature};
 
-use ksi_calendar::laws::one_chain;
+use ksi_calendar::laws::{one_chain, one_covered, one_first_missing};
 use ksi_imprint::Imprint;
 use ksi_journal::laws::calendar_is_covered;
 use ksi_signature::{
@@ -36,6 +36,7 @@ pub fn extended_is_accepted()
         IsSignature text (extended_signature image journal signature p) }
 {
     one_chain();
+    one_covered();
     one_way();
     one_path::<Imprint>();
     signature_is_read();
@@ -56,6 +57,7 @@ pub fn covered_is_extended()
     signature_is_read();
     extended_is_short();
     calendar_is_covered();
+    one_first_missing();
 }
 
 /// Bytes that are extended to a second are bytes again, where what is hashed and the roots of the journal are bytes.

@@ -4,7 +4,7 @@ use Rattle.std.specs.Prelude.{option_map, unwrap_or}
 use Rattle.std.proofs.Math.Nat.{max-eq_left}
 use Rattle.std.proofs.lemmas.Bool.{cond_both, cases_lt, cond-true, and_parts, ltb-true}
 use Rattle.std.proofs.lemmas.List.{get_or-replicate, get_or_past, length-replicate}
-use Rattle.ksi_aggchain.specs.declared.node.Node.{Node}
+use Rattle.ksi_aggtree.specs.declared.item.Item.{Item}
 use Rattle.ksi_aggtree.specs.declared.entries.Entry.{Entry}
 use Rattle.ksi_aggtree.specs.Entries.{candidate_of, has_from, is_full}
 use Rattle.ksi_synod.specs.declared.messages.Vote.{Vote}
@@ -21,7 +21,7 @@ use Rattle.ksi_synod.specs.Rows.{seal, seal_of, try_ballot, try_ballot_of, great
 use Rattle.ksi_signature.specs.declared.answer.Answer.{Answer}
 use Rattle.ksi_corenode.specs.SecondState.{SecondState}
 use Rattle.ksi_corenode.specs.Turns.{Turn, told, to_each}
-use Rattle.ksi_corenode.specs.Held.{Held, first_missing}
+use Rattle.ksi_calendar.specs.Covered.{Roots, first_missing}
 use Rattle.ksi_corenode.specs.Rows.{submitted, submission_row, item_taken, seal_row, sealed_now, ballot_row, receive_row, news_answer, tell_row, respond_row, respond_where, is_mine, restart_row}
 use Rattle.ksi_schedule.specs.declared.actor.Actor.TheVariants as actors
 use Rattle.ksi_world.specs.declared.message.Content.TheVariants as contents
@@ -85,7 +85,7 @@ module _ (image : List ℕ → List ℕ) (voters : List ℕ) {me : ℕ} (small :
 
   -- SUBMISSION
 
-  pub submission_so : (from : ℕ) (item : Node) → After (where_done (submission_row from item s).answer (Accepted (submitted from item))) (submission_row from item s).after
+  pub submission_so : (from : ℕ) (item : Item) → After (where_done (submission_row from item s).answer (Accepted (submitted from item))) (submission_row from item s).after
   unfolding submission_row
   submission_so from item =
       cond_both (is_some s.sealed) _ _ P (λ _. so)
@@ -143,7 +143,7 @@ module _ (image : List ℕ → List ℕ) (voters : List ℕ) {me : ℕ} (small :
   unfolding tell_row
   tell_so n t i = so
 
-  pub respond_so : (held : Held) (start t : ℕ) → IsSo image voters me ds (respond_row image held start t s).after
+  pub respond_so : (held : Roots) (start t : ℕ) → IsSo image voters me ds (respond_row image held start t s).after
   unfolding respond_row
   respond_so held start t = by s.sealed (first_missing held start t) (held t)
     where

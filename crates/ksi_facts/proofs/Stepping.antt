@@ -4,7 +4,7 @@ use Rattle.std.specs.Prelude.{slice_get}
 use Rattle.std.proofs.Math.Seq.{drop-append_seam}
 use Rattle.std.proofs.lemmas.Bool.{cond_both}
 use Rattle.std.proofs.lemmas.List.{append-nil, length-map}
-use Rattle.ksi_aggchain.specs.declared.node.Node.{Node}
+use Rattle.ksi_aggtree.specs.declared.item.Item.{Item}
 use Rattle.ksi_synod.specs.declared.messages.SynodMessage.{SynodMessage}
 use Rattle.ksi_synod.specs.declared.messages.SynodMessage.TheVariants as votes
 use Rattle.ksi_signature.specs.declared.above.Above.{Above}
@@ -12,7 +12,7 @@ use Rattle.ksi_signature.specs.declared.answer.Answer.TheVariants as answers
 use Rattle.ksi_corenode.specs.SecondState.{SecondState}
 use Rattle.ksi_corenode.specs.Turns.{Turn}
 use Rattle.ksi_corenode.specs.Rows.{submitted, submission_row, seal_row, ballot_row, receive_row, tell_row, respond_row, respond_where, is_mine}
-use Rattle.ksi_corenode.specs.Held.{Held, first_missing}
+use Rattle.ksi_calendar.specs.Covered.{Roots, first_missing}
 use Rattle.ksi_aggtree.specs.declared.entries.Entry.{Entry}
 use Rattle.ksi_aggregator.specs.Rows.{RoundState, RoundTurn, submitted_entry, round_request, round_submission, round_close, round_response}
 use Rattle.ksi_schedule.specs.declared.actor.Actor.{Actor}
@@ -50,7 +50,7 @@ told_after : (n t j : ℕ) (s : SecondState) → (tell_row n t j s).after ≡ s
 unfolding tell_row
 told_after n t j s = refl
 
-responded_after : (image : List ℕ → List ℕ) (held : Held) (start t : ℕ) (s : SecondState) → (respond_row image held start t s).after ≡ s
+responded_after : (image : List ℕ → List ℕ) (held : Roots) (start t : ℕ) (s : SecondState) → (respond_row image held start t s).after ≡ s
 unfolding respond_row
 responded_after image held start t s = by s.sealed (first_missing held start t) (held t)
   where
@@ -133,12 +133,12 @@ module _ (image : List ℕ → List ℕ) (plan : PlanState) (is : IsPlan plan) w
           own_adds b (actors.Core j) t (λ b. takes (actors.Core from) (contents.Synod m) turn.answer sent (Old b t)) (new_facts (At j t) turn.after)
           (subst (λ (o : Option (List ℕ)). facts_of (did t (takes (actors.Core from) (contents.Synod m) turn.answer sent o)) ≡ did t (new_facts (At j t) turn.after)) (old_is j t) (receive_adds t (At j t) plan.cores j is.some from m))
 
-      item_added : (from j t : ℕ) (item : Node) → Takes (actors.Aggregator from) (actors.Core j) t (contents.Submission item) (by_core image plan past j t (submission_row from item))
+      item_added : (from j t : ℕ) (item : Item) → Takes (actors.Aggregator from) (actors.Core j) t (contents.Submission item) (by_core image plan past j t (submission_row from item))
       item_added from j t item =
           let turn = submission_row from item (At j t) in
           own_adds b (actors.Core j) t (λ b. where_done turn.answer (Accepted (submitted from item))) (new_facts (At j t) turn.after) (submission_adds t (At j t) from item)
 
-      lower_item_added : (from k t : ℕ) (item : Node) → Takes (actors.Aggregator from) (actors.Aggregator k) t (contents.Submission item) (by_round image plan past k t (round_submission from item))
+      lower_item_added : (from k t : ℕ) (item : Item) → Takes (actors.Aggregator from) (actors.Aggregator k) t (contents.Submission item) (by_round image plan past k t (round_submission from item))
       lower_item_added from k t item =
           let turn = round_submission from item (round_seen past k t) in
           own_adds b (actors.Aggregator k) t (λ b. where_done turn.answer (Accepted (submitted_entry from item))) (new_round_facts (round_seen past k t) turn.after) (item_adds t (round_seen past k t) from item)

@@ -5,7 +5,7 @@ use Rattle.ksi_synod.specs.Voters.{cores_below, is_voter}
 use Rattle.ksi_synod.specs.VoteState.{Hand}
 use Rattle.ksi_signature.specs.declared.answer.Answer.{Answer}
 use Rattle.ksi_corenode.specs.SecondState.{SecondState, voters_of}
-use Rattle.ksi_corenode.specs.Held.{Held}
+use Rattle.ksi_calendar.specs.Covered.{Roots}
 use Rattle.ksi_aggregator.specs.Rows.{RoundState}
 use Rattle.ksi_schedule.specs.declared.actor.Actor.TheVariants as actors
 use Rattle.ksi_schedule.specs.declared.event.Event.{Event}
@@ -60,7 +60,7 @@ second_seen image plan past core second = second_by image plan.cores core second
     (of_second second (facts (actors.Core core) past)) (of_second second (deeds (actors.Core core) past))
 
 -- what a core holds for each second
-abbrev pub held_seen : List Seen → (core : ℕ) → Held
+abbrev pub held_seen : List Seen → (core : ℕ) → Roots
 held_seen past core second = held_root (of_second second (facts (actors.Core core) past))
 
 -- AN AGGREGATOR'S ROUND

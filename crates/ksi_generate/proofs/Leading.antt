@@ -1,7 +1,7 @@
 -- What one event leads to, in a world of this plan.
 use Rattle.std.proofs.Common.{◌≡◌, ℕ, zero, suc, ◌<◌, ◌≤◌, ◌&&◌, eqb, List, [], ◌∷◌, ◌++◌, map, Option, Some, None, refl, sym, subst, arith, is_some, slice_get, append-nil, length}
 use Rattle.std.proofs.lemmas.Bool.{cond_both, eqb-true, and_parts}
-use Rattle.ksi_aggchain.specs.declared.node.Node.{Node}
+use Rattle.ksi_aggtree.specs.declared.item.Item.{Item}
 use Rattle.ksi_aggtree.specs.declared.entries.Entry.{Entry}
 use Rattle.ksi_aggtree.specs.declared.entries.Origin.{Origin}
 use Rattle.ksi_aggtree.specs.declared.entries.Origin.TheVariants as origins
@@ -14,7 +14,7 @@ use Rattle.ksi_signature.specs.declared.answer.Answer.{Answer}
 use Rattle.ksi_signature.specs.declared.answer.Answer.TheVariants as answers
 use Rattle.ksi_corenode.specs.SecondState.{SecondState, fresh_second}
 use Rattle.ksi_corenode.specs.Turns.{Turn, still}
-use Rattle.ksi_corenode.specs.Held.{Held, first_missing, held_seconds}
+use Rattle.ksi_calendar.specs.Covered.{Roots, first_missing, covered_seconds}
 use Rattle.ksi_corenode.specs.declared.step.Send as core_step
 use Rattle.ksi_corenode.specs.declared.step.Send.TheVariants as core_sends
 use Rattle.ksi_corenode.specs.Rows.{submission_row, submitted, item_taken, seal_row, sealed_now, ballot_row, receive_row, tell_row, respond_row, respond_where, responded, above_item, is_mine, restart_row}
@@ -106,7 +106,7 @@ core_goes most w j t turn second light thin = record {
 still_goes : (w : WorldState) (j t : ℕ) (answer : Answer) → IsThinWorld w → Goes 0 w (at_core w j t (still (w.seconds j t) answer)).world
 still_goes w j t answer thin = core_goes 0 w j t (still (w.seconds j t) answer) (thin.seconds j t) (omega arith) thin
 
-submission_goes : (w : WorldState) (j t from : ℕ) (item : Node) → from < 6 → actors.Core j ≡ parent_of header from → IsThinWorld w → Goes 0 w (at_core w j t (submission_row from item (w.seconds j t))).world
+submission_goes : (w : WorldState) (j t from : ℕ) (item : Item) → from < 6 → actors.Core j ≡ parent_of header from → IsThinWorld w → Goes 0 w (at_core w j t (submission_row from item (w.seconds j t))).world
 unfolding submission_row
 submission_goes w j t from item lt parent thin =
     let s = w.seconds j t in
@@ -147,7 +147,7 @@ tell_goes w j t thin =
     let old = thin.seconds j t in
     core_goes 3 w j t (tell_row 3 t j s) (record { open_items = old.open_items; sealed = old.sealed }) (omega (arith, heavy_told j t j (held_told s.vote.held), led_by_tell s.vote.held)) thin
 
-respond_goes : (image : List ℕ → List ℕ) (w : WorldState) (j t start : ℕ) (held : Held) → IsThinWorld w → Goes 7 w (at_core w j t (respond_row image held start t (w.seconds j t))).world
+respond_goes : (image : List ℕ → List ℕ) (w : WorldState) (j t start : ℕ) (held : Roots) → IsThinWorld w → Goes 7 w (at_core w j t (respond_row image held start t (w.seconds j t))).world
 unfolding respond_row
 respond_goes image w j t start held thin = by s.sealed refl (first_missing held start t) (held t)
   where
@@ -165,7 +165,7 @@ respond_goes image w j t start held thin = by s.sealed refl (first_missing held 
     by (Some entries) at (Some missing) root = none (answers.Undecided missing)
     by (Some entries) at None None = none (answers.Undecided t)
     by (Some entries) at None (Some root) = cond_both (is_mine image entries root) _ _ (λ (turn : Turn). Goes 7 w (at_core w j t turn).world)
-        (λ _. core_goes 7 w j t (responded image held start t entries root s) old (omega (arith, heavy_core j t 0 (above_item image (held_seconds held start t) t root (items_of entries)) entries, (old.sealed entries at).few)) thin)
+        (λ _. core_goes 7 w j t (responded image held start t entries root s) old (omega (arith, heavy_core j t 0 (above_item image (covered_seconds held start t) t root (items_of entries)) entries, (old.sealed entries at).few)) thin)
         (λ _. none answers.NotMine)
 
 -- ---- a turn of an aggregator
@@ -198,7 +198,7 @@ request_goes w k t imprint thin =
     (λ _. round_goes 0 w (w.requests ++ asked ∷ []) k t (round_added r (request_entry (length w.requests) imprint) (answers.Number (length w.requests)))
     (record { open_items = thin_request (actors.Aggregator k) r.open_items (length w.requests) imprint old.open_items; closed = old.closed }) tt (omega arith) thin))
 
-take_goes : (w : WorldState) (k t from : ℕ) (item : Node) → from < 6 → actors.Aggregator k ≡ parent_of header from → IsThinWorld w → Goes 0 w (at_round header w k t (round_submission from item (w.rounds k t))).world
+take_goes : (w : WorldState) (k t from : ℕ) (item : Item) → from < 6 → actors.Aggregator k ≡ parent_of header from → IsThinWorld w → Goes 0 w (at_round header w k t (round_submission from item (w.rounds k t))).world
 unfolding round_submission
 take_goes w k t from item lt parent thin =
     let r = w.rounds k t in
@@ -291,7 +291,7 @@ module _ (image : List ℕ → List ℕ) where
       (record { open_items = thin_none (actors.Aggregator k); closed = λ entries at. let same : r.open_items ≡ entries = cc at in subst (λ es. IsThin (actors.Aggregator k) es) same old.open_items })
       (close_posted k t r.open_items lt) (close_light k t r.open_items) thin)
 
-  response_posted : (j t k : ℕ) (above : Above) (items : List Node) (es : List Entry) → ArePosted (map (round_message header j t) (responses_from image k above items es))
+  response_posted : (j t k : ℕ) (above : Above) (items : List Item) (es : List Entry) → ArePosted (map (round_message header j t) (responses_from image k above items es))
   response_posted j t k above items [] = tt
   response_posted j t k above items (e ∷ es) = by e.origin (response_posted j t (suc k) above items es)
     where

@@ -1,7 +1,7 @@
 -- What a history issued and published, beside what a journal keeps.
 use Rattle.std.specs.Prelude.{◌≡◌, ℕ, ◌<◌, ◌≤◌, List, ◌++◌, slice_get, Some}
-use Rattle.ksi_journal.specs.Journal.{Contents}
-use Rattle.ksi_journal.specs.Calendar.{IsCovered, kept_root}
+use Rattle.ksi_calendar.specs.Covered.{IsCovered, covered_root}
+use Rattle.ksi_journal.specs.Journal.{Contents, root_at}
 use Rattle.ksi_signature.specs.declared.answer.Answer.TheVariants.{Published}
 use Rattle.ksi_corenode.specs.Rows.{publish_answer}
 use Rattle.ksi_schedule.specs.declared.event.Event.{Event}
@@ -15,13 +15,13 @@ use Rattle.ksi_history.specs.Lasting.{LastsTo}
 pub record Lasts (image : List ℕ → List ℕ) (history : History) (journal : Contents) (number : ℕ) (text : List ℕ) : Type 0 where
   pub asked : Asked
   pub accepted : slice_get (world_of image history).requests number ≡ Some asked
-  pub covered : IsCovered journal asked.second
-  pub later : (p : ℕ) → asked.second ≤ p → IsCovered journal p → LastsTo image journal asked text p
+  pub covered : IsCovered (root_at journal) journal.start asked.second
+  pub later : (p : ℕ) → asked.second ≤ p → IsCovered (root_at journal) journal.start p → LastsTo image journal asked text p
 
 -- a published second is covered, and its root is that of the journal's calendar to it
 pub record IsPublished (image : List ℕ → List ℕ) (journal : Contents) (p : ℕ) (root : List ℕ) : Type 0 where
-  pub covered : IsCovered journal p
-  pub root_is : root ≡ kept_root image journal p
+  pub covered : IsCovered (root_at journal) journal.start p
+  pub root_is : root ≡ covered_root image (root_at journal) journal.start p
 
 -- whatever was issued lasts, and whatever was published, or a core answers to `publish`, at any moment, is the journal's
 pub record Joined (image : List ℕ → List ℕ) (history : History) (journal : Contents) : Type 0 where

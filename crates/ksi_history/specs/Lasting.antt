@@ -1,12 +1,12 @@
 -- What becomes of issued signatures.
 use Rattle.std.specs.Prelude.{◌≡◌, ℕ, List, Ok, Some}
+use Rattle.ksi_calendar.specs.Covered.{covered_root}
 use Rattle.ksi_publications.specs.Finding.{find}
 use Rattle.ksi_signature.specs.declared.signature.Signature.{Signature}
 use Rattle.ksi_signature.specs.File.{IsSignature}
 use Rattle.ksi_verifier.specs.declared.verdict.Verdict.TheVariants.{Accepted}
 use Rattle.ksi_verifier.specs.Verdict.{verdict}
 use Rattle.ksi_journal.specs.Journal.{Contents, root_at}
-use Rattle.ksi_journal.specs.Calendar as calendars
 use Rattle.ksi_extender.specs.Extended.{extended}
 use Rattle.ksi_extender.specs.Accepted.{extended_signature}
 use Rattle.ksi_auditor.specs.Audit.{audit}
@@ -23,7 +23,7 @@ pub record KeepsRoots (plan : PlanState) (w : WorldState) (journal : Contents) :
 
 -- their first record of p is the root of the journal's calendar to p
 abbrev pub Publish : (List ℕ → List ℕ) → Contents → (p : ℕ) → List (ℕ × List ℕ) → Type 0
-Publish image journal p publications = find p publications ≡ Some (calendars.kept_root image journal p)
+Publish image journal p publications = find p publications ≡ Some (covered_root image (root_at journal) journal.start p)
 
 -- The text is a signature and is extended to p. Against all publications that publish p so, it is then accepted, at the
 -- second of the request and for its imprint, and an audit says where that imprint stands, or has a clash.

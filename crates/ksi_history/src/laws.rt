@@ -4,13 +4,13 @@ ghost use Rattle.ksi_imprint.specs.Imprints.{IsImprint, imprint_of};
 ghost use Rattle.ksi_tlv.specs.Spelling.{AreBytes};
 ghost use Rattle.ksi_aggchain.specs.declared.node.Node.{Node};
 ghost use Rattle.ksi_aggchain.specs.declared.link.Link.{Link};
+ghost use Rattle.ksi_calendar.specs.Covered.{IsCovered, covered_root};
 ghost use Rattle.ksi_signature.specs.declared.above.Above.{Above};
 ghost use Rattle.ksi_signature.specs.Issued.{issued, own_chain};
 ghost use Rattle.ksi_signature.specs.declared.answer.Answer.TheVariants.{Published};
 ghost use Rattle.ksi_corenode.specs.Rows.{publish_answer};
 ghost use Rattle.ksi_verifier.specs.ChainChecks.{aggregated};
-ghost use Rattle.ksi_journal.specs.Journal.{Contents, IsJournal};
-ghost use Rattle.ksi_journal.specs.Calendar as calendars;
+ghost use Rattle.ksi_journal.specs.Journal.{Contents, IsJournal, root_at};
 ghost use Rattle.ksi_schedule.specs.declared.event.Event.{Event};
 ghost use Rattle.ksi_schedule.specs.Plans.{PlanState, IsPlan};
 ghost use Rattle.ksi_schedule.specs.Events.{History, AreEvents, AskForImprints};
@@ -19,15 +19,15 @@ ghost use Rattle.ksi_schedule.specs.Spelled.{IsScheduleText};
 ghost use Rattle.ksi_extender.specs.Extended.{extended};
 ghost use Rattle.ksi_world.specs.declared.outcome.Asked.{Asked};
 ghost use Rattle.ksi_world.specs.Histories.{after, held_in, world_of};
-ghost use Rattle.ksi_world.specs.Joined.{ChainsClimb, IsCovered};
-ghost use Rattle.ksi_world.specs.Records.{issued_of};
+ghost use Rattle.ksi_world.specs.Joined.{ChainsClimb};
+ghost use Rattle.ksi_world.specs.Records.{issued_of, kept_root};
 ghost use Rattle.ksi_replay.specs.Journals.{journal_of};
 ghost use Rattle.ksi_history.specs.Joined.{IsPublished, Joined};
 ghost use Rattle.ksi_history.specs.Lasting.{KeepsRoots, LastsTo, Publish};
 
 use ksi_auditor::laws::{audit_shows, decided_tells};
 use ksi_calchain::laws::one_climb;
-use ksi_calendar::laws::{one_calendar, one_chain};
+use ksi_calendar::laws::{more_is_known, one_chain, one_covered};
 use ksi_extender::{covered_is_extended, extended_is_accepted, extension_is_bytes};
 use ksi_journal::laws::calendar_is_covered;
 use ksi_replay::laws::{hashes_are_bytes, history_has_a_journal, journal_is_of_bytes};
@@ -35,7 +35,7 @@ use ksi_schedule::spelled_is_schedule;
 use ksi_signature::issued_is_signature;
 use ksi_verifier::laws::aggregation;
 use ksi_world::laws::{
-    agreement, history_is_of_bytes, issued_is_carried, issued_is_joined, published_roots, validity,
+    answered_roots, history_is_of_bytes, issued_is_carried, issued_is_joined, published_roots, validity,
 };
 
 /// Chains that climb from an imprint at level 0 to an item pass the checks of aggregation chains, as they are issued: they
@@ -57,13 +57,13 @@ pub fn issued_lasts()
         IsJournal image journal → KeepsRoots history.plan (world_of image history) journal →
         (number : ℕ) (asked : Asked) (text : List ℕ) → slice_get (world_of image history).requests number ≡ Some asked →
         issued_of image (world_of image history) number ≡ Some text → AreBytes text →
-        (p : ℕ) → asked.second ≤ p → IsCovered history.plan (world_of image history) p →
+        (p : ℕ) → asked.second ≤ p → IsCovered (kept_root history.plan (world_of image history)) history.plan.start p →
         LastsTo image journal asked text p }
     ensures own { (image : List ℕ → List ℕ) (history : History) →
         ((bytes : List ℕ) → IsImprint (image bytes)) → ((bytes : List ℕ) → AreBytes (image bytes)) → IsHistory history →
         (number : ℕ) (asked : Asked) (text : List ℕ) → slice_get (world_of image history).requests number ≡ Some asked →
         issued_of image (world_of image history) number ≡ Some text →
-        (p : ℕ) → asked.second ≤ p → IsCovered history.plan (world_of image history) p →
+        (p : ℕ) → asked.second ≤ p → IsCovered (kept_root history.plan (world_of image history)) history.plan.start p →
         LastsTo image (journal_of image history) asked text p }
 {
     history_has_a_journal();
@@ -73,20 +73,15 @@ pub fn issued_lasts()
     issued_is_signature();
     issued_is_carried();
     calendar_is_covered();
+    more_is_known();
     one_chain();
     one_climb();
+    one_covered();
     covered_is_extended();
     extended_is_accepted();
     decided_tells();
     audit_shows();
 }
-
-/// What a core holds at some moment, it holds ever after.
-pub fn held_stays()
-    ensures { (image : List ℕ → List ℕ) (plan : PlanState) (before later : List Event) (core second : ℕ) (root : List ℕ) →
-        held_in (after image plan before) core second ≡ Some root →
-        held_in (after image plan (before ++ later)) core second ≡ Some root }
-{}
 
 /// What any core answers to `publish` with a root, at any moment, is a second that is covered at the end, with the root of
 /// the journal's calendar to it. So two such answers for one second are the same.
@@ -98,9 +93,8 @@ pub fn answered_is_kept()
         publish_answer image (held_in (after image plan before) core) plan.start p ≡ Published root →
         IsPublished image journal p root }
 {
-    agreement();
-    calendar_is_covered();
-    one_calendar();
+    answered_roots();
+    more_is_known();
 }
 
 /// Each pair that was published, at any moment, is a second that is covered at the end, with the root of the journal's
@@ -108,20 +102,19 @@ pub fn answered_is_kept()
 pub fn published_is_kept()
     ensures covered { (image : List ℕ → List ℕ) (plan : PlanState) (before later : List Event) (journal : Contents) →
         IsPlan plan → AreEvents plan (before ++ later) → KeepsRoots plan (after image plan (before ++ later)) journal →
-        (k p : ℕ) (root : List ℕ) → slice_get (after image plan before).published k ≡ Some (p, root) → calendars.IsCovered journal p }
+        (k p : ℕ) (root : List ℕ) → slice_get (after image plan before).published k ≡ Some (p, root) → IsCovered (root_at journal) journal.start p }
     ensures root { (image : List ℕ → List ℕ) (plan : PlanState) (before later : List Event) (journal : Contents) →
         IsPlan plan → AreEvents plan (before ++ later) → IsJournal image journal →
         KeepsRoots plan (after image plan (before ++ later)) journal →
         (k p : ℕ) (root : List ℕ) → slice_get (after image plan before).published k ≡ Some (p, root) →
-        root ≡ calendars.kept_root image journal p }
+        root ≡ covered_root image (root_at journal) journal.start p }
     ensures publish { (image : List ℕ → List ℕ) (plan : PlanState) (before later : List Event) (journal : Contents) →
         IsPlan plan → AreEvents plan (before ++ later) → IsJournal image journal →
         KeepsRoots plan (after image plan (before ++ later)) journal →
         (k p : ℕ) (root : List ℕ) → slice_get (after image plan before).published k ≡ Some (p, root) →
         Publish image journal p (after image plan before).published }
 {
-    calendar_is_covered();
-    one_calendar();
+    more_is_known();
     published_roots();
 }
 
@@ -143,6 +136,7 @@ pub fn history_is_joined()
     history_has_a_journal();
     history_is_of_bytes();
     journal_keeps_roots();
+    more_is_known();
     issued_is_joined();
     issued_lasts();
     answered_is_kept();

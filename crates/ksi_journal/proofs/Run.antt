@@ -1,15 +1,16 @@
 -- The seconds that follow the start without a gap are those that are covered.
 use Rattle.std.proofs.Common.{◌≡◌, ℕ, zero, suc, ◌+◌, ◌-◌, ◌^◌, ◌<◌, ◌≤◌, Bool, true, false, cond, ◌&&◌, leb, ltb, eqb, List, [], ◌∷◌, length, map, get_or, Option, Some, None, refl, sym, ap, subst, ◌∙◌, arith}
 use Rattle.std.specs.Borrow.{Bor}
-use Rattle.std.specs.Prelude.{IsSome, is_some, IfSome, IsTrue, ◌↔◌, unwrap_or}
+use Rattle.std.specs.Prelude.{IsSome, IsNone, is_some, IfSome, IsTrue, ◌↔◌, unwrap_or}
 use Rattle.std.specs.List.{AllByRecursion}
-use Rattle.std.proofs.lemmas.Bool.{leb-true, leb-false, ltb-true, ltb-false, eqb-true, eqb-false, eq-eqb, ne_eqb, lt-ltb, le-leb}
+use Rattle.std.proofs.lemmas.Bool.{cond-false, leb-true, ltb-true, ltb-false, eqb-true, eqb-false, eq-eqb, ne_eqb, le-ltb, lt-ltb, le-leb}
 use Rattle.ksi_imprint.specs.Imprints.{zero_imprint}
-use Rattle.ksi_calendar.specs.Calendar.{is_covered, calendar_leaf}
-use Rattle.ksi_journal.specs.declared.second.Second.{Second}
+use Rattle.ksi_calendar.specs.Calendar.{Seconds, is_covered, calendar_leaf}
+use Rattle.ksi_calendar.specs.Covered.{Roots, IsCovered, IsFirstMissing, first_missing, covered_seconds, second_leaf}
+use Rattle.ksi_aggtree.specs.declared.second.Second.{Second}
 use Rattle.ksi_journal.specs.Journal.{Contents, RiseFrom, IsSecond, IsJournal, kept_among, root_kept, root_at}
 use Rattle.ksi_journal.specs.Kept.{at_place, place_of, view_kept}
-use Rattle.ksi_journal.specs.Calendar.{leaf_at, IsCovered, IsFirstMissing, roots_from, calendar_of, first_missing}
+use Rattle.ksi_journal.specs.Calendar.{roots_from, calendar_of}
 
 abbrev times : List Second → List ℕ
 times seconds = map (λ (kept : Second). kept.second) seconds
@@ -120,45 +121,19 @@ module _ (image : List ℕ → List ℕ) (journal : Contents) (is : IsJournal im
 
   -- ---- the first second that is not kept
 
-  abbrev some_second : ℕ → Option ℕ
-  some_second s = Some s
-
-  abbrev no_second : Option ℕ
-  no_second = None
-
-  one_end : (p s : ℕ) → IsFirstMissing journal p s → journal.start + length run ≡ s
-  one_end p s first = by (ltb s (journal.start + length run)) refl (ltb (journal.start + length run) s) refl
-    where
-      by : (below : Bool) → ltb s (journal.start + length run) ≡ below → (above : Bool) → ltb (journal.start + length run) s ≡ above → journal.start + length run ≡ s
-      by true b above a = absurd (missing_not s first.from (ltb-true s (journal.start + length run) b) first.missing)
-      by false b true a = absurd (none_here (first.before (journal.start + length run) (omega arith) (ltb-true (journal.start + length run) s a)))
-      by false b false a = let low = ltb-false s (journal.start + length run) b in let high = ltb-false (journal.start + length run) s a in omega arith
-
-  first_by : (p s : ℕ) (more : Bool) → leb (journal.start + length run) p ≡ more → (cond more (some_second (journal.start + length run)) None ≡ some_second s) ↔ IsFirstMissing journal p s
-  first_by p s true le = (
-    λ e. (let same : journal.start + length run ≡ s = cc in
-        subst (IsFirstMissing journal p) same (record {
-          from = omega arith;
-          to = leb-true (journal.start + length run) p le;
-          missing = not_kept;
-          before = λ t from lt. some_root t from lt;
-        })),
-    λ first. ap some_second (one_end p s first),
-  )
-  first_by p s false le = (λ e. absurd cc, λ first. absurd (let to = first.to in missing_not s first.from (let more = leb-false (journal.start + length run) p le in omega arith) first.missing))
-
-  pub first_words : (p s : ℕ) → (first_missing journal p ≡ Some s) ↔ IsFirstMissing journal p s
-  unfolding first_missing
-  first_words p s = first_by p s (leb (journal.start + length run) p) refl
-
-  none_by : (p : ℕ) (more : Bool) → leb (journal.start + length run) p ≡ more
-      → (cond more (some_second (journal.start + length run)) None ≡ no_second) ↔ ((t : ℕ) → journal.start ≤ t → t ≤ p → IsSome (root_at journal t))
-  none_by p true le = (λ e. absurd cc, λ all. absurd (none_here (all (journal.start + length run) (omega arith) (leb-true (journal.start + length run) p le))))
-  none_by p false le = (λ e t from to. some_root t from (let more = leb-false (journal.start + length run) p le in omega arith), λ all. refl)
-
-  pub none_words : (p : ℕ) → (first_missing journal p ≡ None) ↔ ((t : ℕ) → journal.start ≤ t → t ≤ p → IsSome (root_at journal t))
-  unfolding first_missing
-  none_words p = none_by p (leb (journal.start + length run) p) refl
+  -- what is missing is the second behind the run, where that is at most p
+  pub missing_is : ((roots : Roots) (start last second : ℕ) → (first_missing roots start last ≡ Some second) ↔ IsFirstMissing roots start last second)
+      → ((roots : Roots) (start last : ℕ) → (first_missing roots start last ≡ None) ↔ ((t : ℕ) → start ≤ t → t ≤ last → IsSome (roots t)))
+      → (p : ℕ) (result : Option ℕ) → IfSome result (λ second. (second ≡ journal.start + length (calendar_of journal).roots) × (second ≤ p)) → (IsNone result → p < journal.start + length (calendar_of journal).roots)
+      → result ≡ first_missing (root_at journal) journal.start p
+  unfolding calendar_of
+  missing_is some none p (Some second) is past = sym ((some (root_at journal) journal.start p second).1 (record {
+    from = omega (arith, is.0);
+    to = is.1;
+    missing = subst (λ (t : ℕ). root_at journal t ≡ no_root) (sym is.0) not_kept;
+    before = λ t from lt. some_root t from (omega (arith, lt, is.0));
+  }))
+  missing_is some none p None is past = sym ((none (root_at journal) journal.start p).1 (λ t from to. some_root t from (omega (arith, to, past refl))))
 
   -- ---- the calendar
 
@@ -166,13 +141,21 @@ module _ (image : List ℕ → List ℕ) (journal : Contents) (is : IsJournal im
   both_true true c e = (refl, e)
   both_true false c e = absurd cc
 
-  pub covered_words : (p : ℕ) → IsTrue (is_covered (calendar_of journal) p) ↔ IsCovered journal p
+  pub before_end : (p : ℕ) → IsCovered (root_at journal) journal.start p → p < journal.start + length (calendar_of journal).roots
+  unfolding calendar_of
+  before_end p covered = kept_to p covered.each
+
+  pub end_before : (p : ℕ) → journal.start ≤ p → p < journal.start + length (calendar_of journal).roots → IsCovered (root_at journal) journal.start p
+  unfolding calendar_of
+  end_before p from lt = record { from = from; each = λ t from to. some_root t from (omega (arith, to, lt)) }
+
+  pub covered_words : (p : ℕ) → IsTrue (is_covered (calendar_of journal) p) ↔ IsCovered (root_at journal) journal.start p
   unfolding calendar_of
   covered_words p = (
     λ e. (let b = both_true (leb journal.start p) (ltb p (journal.start + length run)) e in
         let early = ltb-true p (journal.start + length run) b.1 in
-        record { from = leb-true journal.start p b.0; kept = λ t from to. some_root t from (omega arith) }),
-    λ covered. rw (le-leb journal.start p covered.from, lt-ltb p (journal.start + length run) (kept_to p covered.kept)) refl,
+        record { from = leb-true journal.start p b.0; each = λ t from to. some_root t from (omega arith) }),
+    λ covered. rw (le-leb journal.start p covered.from, lt-ltb p (journal.start + length run) (kept_to p covered.each)) refl,
   )
 
   leaf_by : (t : ℕ) (early : Bool) → ltb t journal.start ≡ early → t < journal.start + length run
@@ -180,9 +163,19 @@ module _ (image : List ℕ → List ℕ) (journal : Contents) (is : IsJournal im
   leaf_by t true is lt = refl
   leaf_by t false is lt = let le = ltb-false t journal.start is in let kept = kept_in t (omega arith) lt in rw kept refl
 
-  pub leaves_words : (t : ℕ) → t < journal.start + length (calendar_of journal).roots → calendar_leaf (calendar_of journal) t ≡ leaf_at journal t
+  pub leaves_words : (t : ℕ) → t < journal.start + length (calendar_of journal).roots → calendar_leaf (calendar_of journal) t ≡ second_leaf (root_at journal) journal.start t
   unfolding calendar_of
   leaves_words t lt = leaf_by t (ltb t journal.start) refl lt
+
+  leaf_kept : (t : ℕ) → journal.start ≤ t → t < journal.start + length run → root_at journal t ≡ Some (calendar_leaf (calendar_of journal) t)
+  unfolding calendar_of
+  leaf_kept t from lt = kept_in t from lt ∙ ap (λ (root : List ℕ). Some root) (sym (cond-false (ltb t journal.start) zero_imprint (get_or run (t - journal.start) zero_imprint) (le-ltb t journal.start from)))
+
+  pub seconds_words : ((seconds : Seconds) (roots : Roots) (last : ℕ) → suc last ≡ seconds.start + length seconds.roots → ((t : ℕ) → seconds.start ≤ t → t ≤ last → roots t ≡ Some (calendar_leaf seconds t)) → seconds ≡ covered_seconds roots seconds.start last)
+      → (last : ℕ) → suc last ≡ journal.start + length (calendar_of journal).roots → calendar_of journal ≡ covered_seconds (root_at journal) journal.start last
+  unfolding calendar_of
+  seconds_words known last end = known (calendar_of journal) (root_at journal) last end (λ t from to. leaf_kept t from (omega (arith, to, end)))
+
   -- ---- finding a second
 
 pub found : (least t n : ℕ) (seconds : List Second) → RiseFrom least (times seconds) → ((j : ℕ) (d : Second) → j < n → (get_or seconds j d).second < t) → ((j : ℕ) (d : Second) → n ≤ j → j < length seconds → t ≤ (get_or seconds j d).second)

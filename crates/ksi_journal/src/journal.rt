@@ -1,11 +1,12 @@
-ghost use Rattle.std.specs.Prelude.{◌≡◌, ◌↔◌, ℕ, ◌<◌, ◌≤◌, ◌+◌, ◌^◌, None, Some, IfOk, IfSome, IsSome, length};
+ghost use Rattle.std.specs.Prelude.{◌≡◌, ◌↔◌, ℕ, ◌<◌, ◌≤◌, ◌+◌, ◌^◌, None, Some, IfOk, IfSome, IsSome, IsNone, length};
 ghost use Rattle.ksi_journal.specs.Journal.{contents, IsJournal, root_at, items_at, kept_among};
-ghost use Rattle.ksi_journal.specs.Calendar.{calendar_of, first_missing, IsFirstMissing};
+ghost use Rattle.ksi_calendar.specs.Covered.{IsFirstMissing, first_missing};
+ghost use Rattle.ksi_journal.specs.Calendar.{calendar_of};
 
 use crate::calendar::calendar;
 use crate::finding::find;
-use crate::second::Second;
-use ksi_aggchain::Node;
+use ksi_aggtree::{Item, Second};
+use ksi_calendar::laws::one_first_missing;
 use ksi_calendar::{Calendar, Steps};
 use ksi_imprint::{Bytes, Compress, Imprint, NoMemory};
 use std::alloc::Global;
@@ -121,7 +122,7 @@ impl<C: Compress> Journal<C> {
     }
 
     /// The items of a second, in order, none where it is not kept or its root is the zero imprint.
-    pub fn items(&self, second: u64) -> &[Node]
+    pub fn items(&self, second: u64) -> &[Item]
         ensures { result.now ≡ items_at self.now second }
     {
         items_from::<C, Brand>(self, second, Blank::new(1))
@@ -129,7 +130,7 @@ impl<C: Compress> Journal<C> {
 
     /// The same, with its step: one search among the kept seconds.
     #[tactic(auto, unfolding(crate::specs::Journal::items_at))]
-    pub fn items_counted<L: Ledger>(&self, second: u64, steps: &mut Steps<L>) -> &[Node]
+    pub fn items_counted<L: Ledger>(&self, second: u64, steps: &mut Steps<L>) -> &[Item]
         ensures items { result.now ≡ items_at self.now second }
         ensures step { steps.new ≡ steps.old + 1 }
     {
@@ -141,21 +142,25 @@ impl<C: Compress> Journal<C> {
 
     /// The first second from the start to `p` that is not kept, none where all are.
     pub fn first_missing(&self, p: u64) -> Option<u64>
-        ensures value { result ≡ first_missing self.now p }
-        ensures some { (second : ℕ) → (result ≡ Some second) ↔ IsFirstMissing self.now p second }
+        ensures value { result ≡ first_missing (root_at self.now) self.now.start p }
+        ensures some { (second : ℕ) → (result ≡ Some second) ↔ IsFirstMissing (root_at self.now) self.now.start p second }
         ensures none { (result ≡ None) ↔
             ((t : ℕ) → self.now.start ≤ t → t ≤ p → IsSome (root_at self.now t)) }
     {
-        self.missing(p)
+        one_first_missing();
+        self.behind(p)
     }
 
-    #[tactic(auto, unfolding(crate::specs::Calendar::first_missing, crate::specs::Calendar::calendar_of))]
-    fn missing(&self, p: u64) -> Option<u64>
-        ensures value { result ≡ first_missing self.now p }
+    /// The second behind the calendar, where it is at most `p`.
+    #[tactic(auto, unfolding(crate::specs::Calendar::calendar_of))]
+    fn behind(&self, p: u64) -> Option<u64>
+        ensures some { IfSome result (λ second.
+            (second ≡ self.now.start + length (calendar_of self.now).roots) × (second ≤ p)) }
+        ensures none { IsNone result → p < self.now.start + length (calendar_of self.now).roots }
         ensures journal { IsJournal C.image self.now }
     {
-        let missing = self.start + self.calendar.count();
-        if missing <= p { Some(missing) } else { None }
+        let behind = self.start + self.calendar.count();
+        if behind <= p { Some(behind) } else { None }
     }
 }
 
@@ -175,7 +180,7 @@ fn root_from<C: Compress, L: Ledger>(
     journal.root_counted(second, &mut steps)
 }
 
-fn items_from<C: Compress, L: Ledger>(journal: &Journal<C>, second: u64, blank: Blank) -> &[Node]
+fn items_from<C: Compress, L: Ledger>(journal: &Journal<C>, second: u64, blank: Blank) -> &[Item]
     requires name { blank.name ≡ L.name }
     requires parts { blank.parts ≡ L.parts }
     requires one { blank.parts ≡ 1 }

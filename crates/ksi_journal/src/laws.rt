@@ -1,29 +1,45 @@
 //! What holds of journals, for the layers above to cite. None of these functions does anything.
-ghost use Rattle.std.specs.Prelude.{◌≡◌, ◌↔◌, ◌⊎◌, ◌<◌, ◌≤◌, ◌+◌, ◌^◌, ℕ, List, IsTrue, length, Ok, Err};
+ghost use Rattle.std.specs.Prelude.{◌≡◌, ◌↔◌, ◌⊎◌, ◌<◌, ◌≤◌, ◌+◌, ◌^◌, ℕ, suc, List, IsTrue, length, Ok, Err};
 ghost use Rattle.ksi_tlv.specs.Spelling.{AreBytes};
-ghost use Rattle.ksi_calendar.specs.Calendar.{calendar_leaf, is_covered};
+ghost use Rattle.ksi_calendar.specs.Calendar.{calendar_leaf, calendar_root, calendar_path, is_covered};
+ghost use Rattle.ksi_calendar.specs.Covered.{IsCovered, covered_seconds, covered_root, covered_path, second_leaf};
 ghost use Rattle.ksi_journal.specs.declared.fault.JournalFault.{JournalFault};
-ghost use Rattle.ksi_journal.specs.Journal.{Contents, IsJournal};
-ghost use Rattle.ksi_journal.specs.Calendar.{IsCovered, calendar_of, leaf_at};
+ghost use Rattle.ksi_journal.specs.Journal.{Contents, IsJournal, root_at};
+ghost use Rattle.ksi_journal.specs.Calendar.{calendar_of};
 ghost use Rattle.ksi_journal.specs.File.{IsJournalFile, IsJournalFault};
 ghost use Rattle.ksi_journal.specs.Written.{journal_text};
 ghost use Rattle.ksi_journal.specs.Reading.{journal_at};
 
 use crate::fault::JournalFault;
 use crate::loading::Loading;
+use ksi_calendar::laws::one_covered;
 use ksi_imprint::Sha;
 use ksi_order::{walked_says, whole_or_fault};
 use ksi_tlv::{numeral_is_read, written_is_read};
 
-/// The seconds of a journal's calendar are those that are covered, and its leaves are those of the journal.
+/// The seconds of a journal's calendar are those that are covered, and it is the calendar of these by the roots that the
+/// journal keeps: so to each covered second it has their root, and their chains.
 pub fn calendar_is_covered()
     ensures covered { (image : List ℕ → List ℕ) (journal : Contents) (p : ℕ) → IsJournal image journal →
-        IsTrue (is_covered (calendar_of journal) p) ↔ IsCovered journal p }
+        IsTrue (is_covered (calendar_of journal) p) ↔ IsCovered (root_at journal) journal.start p }
+    ensures within { (image : List ℕ → List ℕ) (journal : Contents) (p : ℕ) → IsJournal image journal →
+        ((journal.start ≤ p) × (p < journal.start + length (calendar_of journal).roots)) ↔ IsCovered (root_at journal) journal.start p }
+    ensures seconds { (image : List ℕ → List ℕ) (journal : Contents) (last : ℕ) → IsJournal image journal →
+        suc last ≡ journal.start + length (calendar_of journal).roots →
+        calendar_of journal ≡ covered_seconds (root_at journal) journal.start last }
     ensures leaves { (image : List ℕ → List ℕ) (journal : Contents) (t : ℕ) → IsJournal image journal →
-        t < journal.start + length (calendar_of journal).roots → calendar_leaf (calendar_of journal) t ≡ leaf_at journal t }
+        t < journal.start + length (calendar_of journal).roots → calendar_leaf (calendar_of journal) t ≡ second_leaf (root_at journal) journal.start t }
+    ensures root { (image : List ℕ → List ℕ) (journal : Contents) (p : ℕ) → IsJournal image journal →
+        IsCovered (root_at journal) journal.start p →
+        calendar_root image (calendar_of journal) p ≡ covered_root image (root_at journal) journal.start p }
+    ensures path { (image : List ℕ → List ℕ) (journal : Contents) (t p : ℕ) → IsJournal image journal →
+        IsCovered (root_at journal) journal.start p →
+        calendar_path image (calendar_of journal) t p ≡ covered_path image (root_at journal) journal.start t p }
     ensures early { (image : List ℕ → List ℕ) (journal : Contents) → IsJournal image journal →
         journal.start + length (calendar_of journal).roots ≤ 2 ^ 63 }
-{}
+{
+    one_covered();
+}
 
 /// Bytes are a journal or have a first fault, and not both; and they are one journal and have one first fault.
 pub fn file_or_fault()

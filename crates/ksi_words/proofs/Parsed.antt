@@ -10,6 +10,7 @@ use Rattle.clap.specs.declared.parser.matches.ArgMatches.TheViews.{out-ArgMatche
 use Rattle.clap.specs.declared.parser.matches.SubCommand.{SubCommand}
 use Rattle.clap.specs.declared.parser.matches.Found.{Found}
 use Rattle.clap.proofs.WalkLemmas.{raw_values-rows}
+use Rattle.ksi_imprint.specs.declared.refused.Refused.{Refused}
 use Rattle.ksi_words.specs.Words.{Reads, command_form, command_named, command_of, table}
 use Rattle.ksi_words.specs.declared.asked.Command.{Command}
 use Rattle.ksi_words.specs.declared.asked.WordsRefusal.{WordsRefusal}
@@ -56,7 +57,7 @@ module _ (words : List Text) (app : App) (is : app ≡ app_with forms) (plain : 
       let rows_are = rows_found m found name matches entered.0 _ (subcommand_is ∙ entered.3) rows e in
       (entered.1, entered.2 ∙ ap (λ (n : Text). n ∷ entered.1) (sym name_is), words_found (found_of matches.now) entered.1 rows_are)
 
-pub named_reads : (words : List Text) (name : Text) (rest read : List Text) (result : Result Command WordsRefusal) → AllPlain words → words ≡ name ∷ rest → read ≡ rest → Reads (command_named table name read) result → Reads (command_of words) result
+pub named_reads : (words : List Text) (name : Text) (rest read : List Text) (result : Result Command (Refused WordsRefusal)) → AllPlain words → words ≡ name ∷ rest → read ≡ rest → Reads (command_named table name read) result → Reads (command_of words) result
 named_reads words name rest read result plain is same reads =
     subst (λ expected. Reads expected result) (sym (plain_form words plain ∙ ap command_form is)) (subst (λ rest. Reads (command_named table name rest) result) same reads)
 

@@ -4,21 +4,21 @@ use Rattle.std.specs.Prelude.{IsSome, unwrap_or}
 use Rattle.std.proofs.lemmas.Bool.{cases_eq}
 use Rattle.ksi_imprint.specs.Imprints.{zero_imprint}
 use Rattle.ksi_calendar.specs.Calendar.{Seconds}
-use Rattle.ksi_corenode.specs.Held.{Held, earlier_of, missing_among, first_missing, roots_among, held_seconds}
+use Rattle.ksi_calendar.specs.Covered.{Roots, earlier_of, missing_among, first_missing, roots_among, covered_seconds}
 
 -- all seconds from the start to the last are held
-abbrev pub AllHeld : Held → (start last : ℕ) → Type 0
+abbrev pub AllHeld : Roots → (start last : ℕ) → Type 0
 AllHeld held start last = (t : ℕ) → start ≤ t → t ≤ last → IsSome (held t)
 
 -- what is held from the start to the last second, the other holds too
-abbrev pub HeldToo : Held → Held → (start last : ℕ) → Type 0
+abbrev pub HeldToo : Roots → Roots → (start last : ℕ) → Type 0
 HeldToo held more start last = (t : ℕ) → start ≤ t → t ≤ last → (root : List ℕ) → held t ≡ Some root → more t ≡ Some root
 
 pub value_of : {A : Type 0} (o : Option A) → IsSome o → (x : A) × (o ≡ Some x)
 value_of None some = absurd (cc some)
 value_of (Some x) some = (x, refl)
 
-none_among : (held : Held) (n t : ℕ) → missing_among held t n ≡ None → (u : ℕ) → t ≤ u → u < t + n → IsSome (held u)
+none_among : (held : Roots) (n t : ℕ) → missing_among held t n ≡ None → (u : ℕ) → t ≤ u → u < t + n → IsSome (held u)
 none_among held zero t none u le lt = absurd (omega (arith, le, lt))
 none_among held (suc n) t none u le lt = by (held t) refl none (λ later after. none_among held n (suc t) later u after (omega (arith, lt)))
   where
@@ -29,11 +29,11 @@ none_among held (suc n) t none u le lt = by (held t) refl none (λ later after. 
       | inr ne ↦ next later (omega (arith, le, ne))
     ]
 
-pub none_missing : (held : Held) (start last : ℕ) → first_missing held start last ≡ None → AllHeld held start last
+pub none_missing : (held : Roots) (start last : ℕ) → first_missing held start last ≡ None → AllHeld held start last
 unfolding first_missing
 none_missing held start last none t from to = none_among held (suc last - start) start none t from (omega (arith, from, to))
 
-module _ (held more : Held) where
+module _ (held more : Roots) where
   roots_same : (n s : ℕ) → ((t : ℕ) → s ≤ t → t < s + n → held t ≡ more t) → roots_among held s n ≡ roots_among more s n
   roots_same zero s same = refl
   roots_same (suc n) s same =
@@ -47,8 +47,8 @@ module _ (held more : Held) where
     same_at : (t : ℕ) → start ≤ t → t ≤ last → held t ≡ more t
     same_at t from to = let is = value_of (held t) (all t from to) in is.1 ∙ sym (too t from to is.0 is.1)
 
-    pub seconds_same : held_seconds held start last ≡ held_seconds more start last
-    unfolding held_seconds
+    pub seconds_same : covered_seconds held start last ≡ covered_seconds more start last
+    unfolding covered_seconds
     seconds_same =
         let starts_at : List (List ℕ) → Seconds = λ roots. record { start = start; roots = roots } in
         ap starts_at (roots_same (suc last - start) start (λ t le lt. same_at t le (omega (arith, le, lt))))

@@ -4,7 +4,7 @@ use Rattle.std.specs.Prelude.{slice_get, map, OnErr, Result, Ok, Err}
 use Rattle.std.proofs.lemmas.Bool.{cond-true, cond-false, eq-eqb, ne_eqb}
 use Rattle.ksi_corenode.specs.SecondState.{SecondState}
 use Rattle.ksi_corenode.specs.Turns.{Turn}
-use Rattle.ksi_corenode.specs.Held.{Held}
+use Rattle.ksi_calendar.specs.Covered.{Roots}
 use Rattle.ksi_corenode.specs.Rows.{ballot_row, tell_row, receive_row, respond_row, publish_answer}
 use Rattle.ksi_corenode.specs.CoreState.{CoreState, state_of, held_by}
 use Rattle.ksi_aggregator.specs.Rows.{RoundState, RoundTurn, round_request}
@@ -165,7 +165,7 @@ module _ (plan : PlanState) (w : WorldState) (j : ℕ) (core : CoreState) (is : 
   held_same = same_function (held_by core) (held_in w j) (λ u. ap (λ (s : SecondState). s.vote.held) (is.keeps u))
 
   pub respond_same : (image : List ℕ → List ℕ) → respond_row image (held_by core) core.start t (state_of core t) ≡ respond_row image (held_in w j) plan.start t (w.seconds j t)
-  respond_same image = ap (λ (held : Held). respond_row image held core.start t (state_of core t)) held_same ∙ ap (λ start. respond_row image (held_in w j) start t (state_of core t)) is.start ∙ ap (λ s. respond_row image (held_in w j) plan.start t s) (is.keeps t)
+  respond_same image = ap (λ (held : Roots). respond_row image held core.start t (state_of core t)) held_same ∙ ap (λ start. respond_row image (held_in w j) start t (state_of core t)) is.start ∙ ap (λ s. respond_row image (held_in w j) plan.start t s) (is.keeps t)
 
   pub publish_same : (image : List ℕ → List ℕ) → publish_answer image (held_by core) core.start t ≡ publish_answer image (held_in w j) plan.start t
-  publish_same image = ap (λ (held : Held). publish_answer image held core.start t) held_same ∙ ap (λ start. publish_answer image (held_in w j) start t) is.start
+  publish_same image = ap (λ (held : Roots). publish_answer image held core.start t) held_same ∙ ap (λ start. publish_answer image (held_in w j) start t) is.start

@@ -2,14 +2,14 @@
 use Rattle.std.proofs.Common.{◌≡◌, ℕ, ◌&&◌, eqb, List, [], ◌∷◌, ◌++◌, length, refl, sym, ap, subst, ◌∙◌, is_some, Option, Some, None}
 use Rattle.std.specs.Prelude.{slice_get}
 use Rattle.std.proofs.lemmas.Bool.{cond_both, eqb-true, and_parts}
-use Rattle.ksi_aggchain.specs.declared.node.Node.{Node}
+use Rattle.ksi_aggtree.specs.declared.item.Item.{Item}
 use Rattle.ksi_aggtree.specs.declared.entries.Entry.{Entry}
 use Rattle.ksi_aggtree.specs.Entries.{has_from, is_full, candidate_of}
 use Rattle.ksi_synod.specs.declared.messages.SynodMessage.{SynodMessage}
 use Rattle.ksi_signature.specs.declared.above.Above.{Above}
 use Rattle.ksi_corenode.specs.SecondState.{SecondState}
 use Rattle.ksi_corenode.specs.Turns.{Turn}
-use Rattle.ksi_corenode.specs.Held.{Held, first_missing}
+use Rattle.ksi_calendar.specs.Covered.{Roots, first_missing}
 use Rattle.ksi_corenode.specs.Rows.{submission_row, seal_row, ballot_row, receive_row, tell_row, respond_row, respond_where, is_mine, restart_row}
 use Rattle.ksi_aggregator.specs.Rows.{RoundState, RoundTurn, fresh_round, round_request, round_submission, round_close, round_response, response_where, round_restarted}
 use Rattle.ksi_schedule.specs.declared.actor.Actor.{Actor}
@@ -63,7 +63,7 @@ round_grew plan w k t turn keeps = record {
 
 -- THE ROWS OF A CORE
 
-pub submission_holds : (from : ℕ) (item : Node) (s : SecondState) → Holds s (submission_row from item s).after
+pub submission_holds : (from : ℕ) (item : Item) (s : SecondState) → Holds s (submission_row from item s).after
 unfolding submission_row
 submission_holds from item s d is =
     cond_both (is_some s.sealed) _ _ (λ (turn : Turn). turn.after.vote.held ≡ Some d) (λ _. is)
@@ -85,7 +85,7 @@ pub tell_holds : (members t j : ℕ) (s : SecondState) → Holds s (tell_row mem
 unfolding tell_row
 tell_holds members t j s d is = is
 
-pub respond_after : (image : List ℕ → List ℕ) (held : Held) (start t : ℕ) (s : SecondState) → (respond_row image held start t s).after ≡ s
+pub respond_after : (image : List ℕ → List ℕ) (held : Roots) (start t : ℕ) (s : SecondState) → (respond_row image held start t s).after ≡ s
 unfolding respond_row
 respond_after image held start t s = by s.sealed (first_missing held start t) (held t)
   where
@@ -95,7 +95,7 @@ respond_after image held start t s = by s.sealed (first_missing held start t) (h
     by (Some entries) None None = refl
     by (Some entries) None (Some root) = cond_both (is_mine image entries root) _ _ (λ (turn : Turn). turn.after ≡ s) (λ _. refl) (λ _. refl)
 
-pub respond_holds : (image : List ℕ → List ℕ) (held : Held) (start t : ℕ) (s : SecondState) → Holds s (respond_row image held start t s).after
+pub respond_holds : (image : List ℕ → List ℕ) (held : Roots) (start t : ℕ) (s : SecondState) → Holds s (respond_row image held start t s).after
 respond_holds image held start t s d is = ap (λ (s : SecondState). s.vote.held) (respond_after image held start t s) ∙ is
 
 -- THE ROWS OF AN AGGREGATOR
@@ -106,7 +106,7 @@ request_keeps number imprint r entries is =
     cond_both (is_some r.closed) _ _ (λ (turn : RoundTurn). turn.after.closed ≡ Some entries) (λ _. is)
     (λ _. cond_both (is_full r.open_items) _ _ (λ (turn : RoundTurn). turn.after.closed ≡ Some entries) (λ _. is) (λ _. is))
 
-pub take_keeps : (from : ℕ) (item : Node) (r : RoundState) → Keeps r (round_submission from item r).after
+pub take_keeps : (from : ℕ) (item : Item) (r : RoundState) → Keeps r (round_submission from item r).after
 unfolding round_submission
 take_keeps from item r entries is =
     cond_both (is_some r.closed) _ _ (λ (turn : RoundTurn). turn.after.closed ≡ Some entries) (λ _. is)

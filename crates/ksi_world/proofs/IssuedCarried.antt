@@ -15,7 +15,7 @@ use Rattle.ksi_signature.specs.Above.{AreRoundLinks}
 use Rattle.ksi_signature.specs.declared.above.Above.{Above}
 use Rattle.ksi_aggregator.specs.Issuing.{from_request, IsIssuedAt}
 use Rattle.ksi_aggregator.specs.Responses.{chain_at}
-use Rattle.ksi_corenode.specs.Held.{held_seconds}
+use Rattle.ksi_calendar.specs.Covered.{covered_seconds}
 use Rattle.ksi_schedule.specs.declared.actor.Actor.TheVariants as actors
 use Rattle.ksi_schedule.specs.declared.event.Event.{Event}
 use Rattle.ksi_schedule.specs.Plans.{PlanState, IsPlan, InRange}
@@ -106,7 +106,7 @@ module _ (P : List ℕ → Type 0) (image : List ℕ → List ℕ) (plan : PlanS
       root = kept_is t at.above.root joined.kept;
       count = down.few;
       chains = down.chains;
-      few = subst (λ (links : List (TreeLink (List ℕ))). length links ≤ 63) (sym joined.calendar) (short (held_seconds (kept_root plan (after image plan es)) plan.start t) t t (omega (arith, range.1, is.early)));
+      few = subst (λ (links : List (TreeLink (List ℕ))). length links ≤ 63) (sym joined.calendar) (short (covered_seconds (kept_root plan (after image plan es)) plan.start t) t t (omega (arith, range.1, is.early)));
       calendar = subst (EachSibling P) (sym joined.calendar) (calendar_siblings P laws.zero_too image laws.images (kept_root plan (after image plan es)) kept_is plan.start t t t);
     },
   )

@@ -3,7 +3,8 @@ use Rattle.std.proofs.Common.{◌≡◌, ℕ, zero, suc, ◌<◌, ◌≤◌, eqb
 use Rattle.std.specs.Prelude.{slice_get}
 use Rattle.std.proofs.lemmas.Bool.{cond_both}
 use Rattle.ksi_calendar.specs.Calendar.{Seconds, calendar_root}
-use Rattle.ksi_corenode.specs.Held.{first_missing, held_root}
+use Rattle.ksi_calendar.specs.Covered.{first_missing, covered_root}
+use Rattle.ksi_signature.specs.declared.answer.Answer.TheVariants as answers
 use Rattle.ksi_corenode.specs.Rows.{publish_answer, publish_where}
 use Rattle.ksi_schedule.specs.declared.event.Event.{Event}
 use Rattle.ksi_schedule.specs.declared.event.Event.TheVariants as events
@@ -11,7 +12,7 @@ use Rattle.ksi_schedule.specs.Plans.{PlanState, IsPlan}
 use Rattle.ksi_schedule.specs.Events.{IsEvent, AreEvents}
 use Rattle.ksi_world.specs.Histories.{WorldState, put_rising, published_with, happens, held_in, first_world, run, after}
 use Rattle.ksi_world.specs.Records.{kept_root}
-use Rattle.ksi_world.specs.Joined.{IsRootOf}
+use Rattle.ksi_world.specs.Joined.{IsKeptRoot}
 use Rattle.ksi_world.proofs.Asking.{delivered_leaves}
 use Rattle.ksi_world.proofs.Covering.{AllHeld, HeldToo, none_missing, all_too, seconds_same}
 use Rattle.ksi_world.proofs.Deciding.{StepsAgree, after_agrees}
@@ -24,7 +25,7 @@ pub record IsRootBy (image : List ℕ → List ℕ) (plan : PlanState) (w : Worl
   pub there : core < plan.cores
   pub from : plan.start ≤ p
   pub all : AllHeld (held_in w core) plan.start p
-  pub root_is : root ≡ held_root image (held_in w core) plan.start p
+  pub root_is : root ≡ covered_root image (held_in w core) plan.start p
 
 -- a pair after one was put is that one or was there
 put_either : (p : ℕ) (root : List ℕ) (pairs : List (ℕ × List ℕ)) (k : ℕ) (x : ℕ × List ℕ) → slice_get (put_rising p root pairs) k ≡ Some x → ((p, root) ≡ x) ⊎ ((i : ℕ) × (slice_get pairs i ≡ Some x))
@@ -72,12 +73,21 @@ module _ (image : List ℕ → List ℕ) (plan : PlanState) where
       by : (o : Option ℕ) → first_missing (held_in w j) plan.start p ≡ o → (k q : ℕ) (root : List ℕ) → slice_get (published_with w.published p (publish_where image (held_in w j) plan.start p o)) k ≡ Some (q, root) →
           IsRootBy image plan (record w { published = published_with w.published p (publish_where image (held_in w j) plan.start p o) }) q root
       by (Some missing) is k q root at = let old = are k q root at in record { core = old.core; there = old.there; from = old.from; all = old.all; root_is = old.root_is }
-      by None none k q root at = elim (put_either p (held_root image (held_in w j) plan.start p) w.published k (q, root) at) [
+      by None none k q root at = elim (put_either p (covered_root image (held_in w j) plan.start p) w.published k (q, root) at) [
         | inl new ↦
             let w' : WorldState = record w { published = published_with w.published p (publish_where image (held_in w j) plan.start p None) } in
             subst (λ (x : ℕ × List ℕ). IsRootBy image plan w' x.0 x.1) new (record { core = j; there = lt; from = from; all = none_missing (held_in w j) plan.start p none; root_is = refl })
         | inr old ↦ let is = are old.0 q root old.1 in record { core = is.core; there = is.there; from = is.from; all = is.all; root_is = is.root_is }
       ]
+
+  -- what a core answers to `publish` with a root
+  answered_by : (w : WorldState) (j p : ℕ) (root : List ℕ) → j < plan.cores → plan.start ≤ p → publish_answer image (held_in w j) plan.start p ≡ answers.Published root → IsRootBy image plan w p root
+  unfolding publish_answer
+  answered_by w j p root lt from is = by (first_missing (held_in w j) plan.start p) refl is
+    where
+      by : (o : Option ℕ) → first_missing (held_in w j) plan.start p ≡ o → publish_where image (held_in w j) plan.start p o ≡ answers.Published root → IsRootBy image plan w p root
+      by (Some missing) some is = absurd (cc is)
+      by None none is = record { core = j; there = lt; from = from; all = none_missing (held_in w j) plan.start p none; root_is = sym (cc is) }
 
   -- the event publishes nothing
   abbrev Silent : Event → Type 0
@@ -132,23 +142,34 @@ module _ (image : List ℕ → List ℕ) (plan : PlanState) where
     pub kept_too : (es : List Event) → AreEvents plan es → (core last : ℕ) → core < plan.cores → HeldToo (held_in (after image plan es) core) (kept_root plan (after image plan es)) plan.start last
     kept_too es are core last lt t from to root holds = kept_holds es are core t root lt holds
 
-    pub root_kept : (es : List Event) → AreEvents plan es → (p : ℕ) (root : List ℕ) → IsRootBy image plan (after image plan es) p root → IsRootOf image plan (after image plan es) p root
+    pub root_kept : (es : List Event) → AreEvents plan es → (p : ℕ) (root : List ℕ) → IsRootBy image plan (after image plan es) p root → IsKeptRoot image plan (after image plan es) p root
     root_kept es are p root by =
         let held = held_in (after image plan es) by.core in
         let kept = kept_root plan (after image plan es) in
         let too = kept_too es are by.core p by.there in
         record {
-          from = by.from;
-          covered = all_too held kept plan.start p by.all too;
+          covered = record { from = by.from; each = all_too held kept plan.start p by.all too };
           root_is = by.root_is ∙ ap (λ (seconds : Seconds). calendar_root image seconds p) (seconds_same held kept plan.start p by.all too);
         }
 
     -- whatever was published before
     pub published_kept : (before later : List Event) → AreEvents plan before → AreEvents plan (before ++ later) → (k p : ℕ) (root : List ℕ) → slice_get (after image plan before).published k ≡ Some (p, root) →
-        IsRootOf image plan (after image plan (before ++ later)) p root
+        IsKeptRoot image plan (after image plan (before ++ later)) p root
     published_kept before later are all k p root at =
         root_kept (before ++ later) all p root
         (root_later (after image plan before) (after image plan (before ++ later)) (after_grew image plan before later) p root (after_roots before are k p root at))
+
+    -- whatever was answered before
+    pub answered_kept : (before later : List Event) → AreEvents plan (before ++ later) → (core p : ℕ) (root : List ℕ) → core < plan.cores → plan.start ≤ p →
+        publish_answer image (held_in (after image plan before) core) plan.start p ≡ answers.Published root → IsKeptRoot image plan (after image plan (before ++ later)) p root
+    answered_kept before later all core p root lt from is =
+        root_kept (before ++ later) all p root
+        (root_later (after image plan before) (after image plan (before ++ later)) (after_grew image plan before later) p root (answered_by (after image plan before) core p root lt from is))
+
+-- what is held stays held
+pub still_held : (image : List ℕ → List ℕ) (plan : PlanState) (before later : List Event) (core second : ℕ) (root : List ℕ) →
+    held_in (after image plan before) core second ≡ Some root → held_in (after image plan (before ++ later)) core second ≡ Some root
+still_held image plan before later core second root at = (after_grew image plan before later).held core second root at
 
 -- the first events of a plan are events of it
 pub are_before : (plan : PlanState) (before later : List Event) → AreEvents plan (before ++ later) → AreEvents plan before

@@ -2,7 +2,7 @@
 use Rattle.std.proofs.Common.{◌≡◌, ℕ, suc, ◌<◌, ◌≤◌, true, ◌&&◌, eqb, List, [], ◌∷◌, ◌++◌, length, refl, sym, subst, arith, is_some, Option, Some, None, length-append, lit<}
 use Rattle.std.specs.Prelude.{slice_get, map}
 use Rattle.std.proofs.lemmas.Bool.{cond_both, eqb-true, and_parts}
-use Rattle.ksi_aggchain.specs.declared.node.Node.{Node}
+use Rattle.ksi_aggtree.specs.declared.item.Item.{Item}
 use Rattle.ksi_aggtree.specs.declared.entries.Entry.{Entry}
 use Rattle.ksi_aggtree.specs.Entries.{items_of, has_from, is_full, candidate_of}
 use Rattle.ksi_synod.specs.declared.messages.SynodMessage.{SynodMessage}
@@ -13,7 +13,7 @@ use Rattle.ksi_signature.specs.declared.answer.Answer.{Answer}
 use Rattle.ksi_signature.specs.declared.answer.Answer.TheVariants as answers
 use Rattle.ksi_corenode.specs.SecondState.{SecondState, fresh_second}
 use Rattle.ksi_corenode.specs.Turns.{Turn, still}
-use Rattle.ksi_corenode.specs.Held.{Held, first_missing, held_seconds}
+use Rattle.ksi_calendar.specs.Covered.{Roots, first_missing, covered_seconds}
 use Rattle.ksi_corenode.specs.Rows.{submission_row, submitted, item_taken, seal_row, sealed_now, ballot_row, receive_row, tell_row, respond_row, respond_where, responded, above_item, is_mine, restart_row}
 use Rattle.ksi_aggregator.specs.Responses.{responses}
 use Rattle.ksi_aggregator.specs.Rows.{RoundState, RoundTurn, fresh_round, round_still, round_added, closed_now, answered_now, request_entry, submitted_entry, round_request, round_submission, round_close, round_response, response_where, round_restarted, submission_of}
@@ -64,7 +64,7 @@ module _ (image : List ℕ → List ℕ) (plan : PlanState) (is : IsPlan plan) (
   still_sound : (w : WorldState) (j t : ℕ) (answer : Answer) → j < plan.cores → InRange plan t → IsSound plan w → IsSound plan (at_core w j t (still (w.seconds j t) answer)).world
   still_sound w j t answer lt range sound = core_sound w j t (still (w.seconds j t) answer) lt range (second_of w j t lt sound) tt sound
 
-  submission_sound : (w : WorldState) (j t from : ℕ) (item : Node) → j < plan.cores → InRange plan t → IsSent plan (actors.Aggregator from) (actors.Core j) (contents.Submission item) → IsSound plan w → IsSound plan (at_core w j t (submission_row from item (w.seconds j t))).world
+  submission_sound : (w : WorldState) (j t from : ℕ) (item : Item) → j < plan.cores → InRange plan t → IsSent plan (actors.Aggregator from) (actors.Core j) (contents.Submission item) → IsSound plan w → IsSound plan (at_core w j t (submission_row from item (w.seconds j t))).world
   unfolding submission_row
   submission_sound w j t from item lt range sent sound =
       let s = w.seconds j t in
@@ -113,7 +113,7 @@ module _ (image : List ℕ → List ℕ) (plan : PlanState) (is : IsPlan plan) (
       let old = second_of w j t lt sound in
       core_sound w j t (tell_row plan.cores t j s) lt range (record { small = old.small; open_items = old.open_items; sealed = old.sealed }) (fine_told plan j t j (held_told s.vote.held) lt (fine_held s.vote.held)) sound
 
-  respond_sound : (w : WorldState) (j t : ℕ) (held : Held) → j < plan.cores → InRange plan t → IsSound plan w → IsSound plan (at_core w j t (respond_row image held plan.start t (w.seconds j t))).world
+  respond_sound : (w : WorldState) (j t : ℕ) (held : Roots) → j < plan.cores → InRange plan t → IsSound plan w → IsSound plan (at_core w j t (respond_row image held plan.start t (w.seconds j t))).world
   unfolding respond_row
   respond_sound w j t held lt range sound = by s.sealed refl (first_missing held plan.start t) (held t)
     where
@@ -128,7 +128,7 @@ module _ (image : List ℕ → List ℕ) (plan : PlanState) (is : IsPlan plan) (
       by (Some entries) at (Some missing) root = still_sound w j t (answers.Undecided missing) lt range sound
       by (Some entries) at None None = still_sound w j t (answers.Undecided t) lt range sound
       by (Some entries) at None (Some root) = cond_both (is_mine image entries root) _ _ (λ turn. IsSound plan (at_core w j t turn).world)
-          (λ _. core_sound w j t (responded image held plan.start t entries root s) lt range old (core_responses plan is j (length w.requests) 0 (above_item image (held_seconds held plan.start t) t root (items_of entries)) entries (λ i. omega arith) (old.sealed entries at)) sound)
+          (λ _. core_sound w j t (responded image held plan.start t entries root s) lt range old (core_responses plan is j (length w.requests) 0 (above_item image (covered_seconds held plan.start t) t root (items_of entries)) entries (λ i. omega arith) (old.sealed entries at)) sound)
           (λ _. still_sound w j t answers.NotMine lt range sound)
 
   -- A TURN OF AN AGGREGATOR
@@ -182,7 +182,7 @@ module _ (image : List ℕ → List ℕ) (plan : PlanState) (is : IsPlan plan) (
       Goes : RoundTurn → Type 0
       Goes turn = IsSound plan (accepted_where asked (at_round plan w k t turn)).world
 
-  take_sound : (w : WorldState) (k t from : ℕ) (item : Node) → k < length plan.parents → InRange plan t → IsSent plan (actors.Aggregator from) (actors.Aggregator k) (contents.Submission item) → IsSound plan w → IsSound plan (at_round plan w k t (round_submission from item (w.rounds k t))).world
+  take_sound : (w : WorldState) (k t from : ℕ) (item : Item) → k < length plan.parents → InRange plan t → IsSent plan (actors.Aggregator from) (actors.Aggregator k) (contents.Submission item) → IsSound plan w → IsSound plan (at_round plan w k t (round_submission from item (w.rounds k t))).world
   unfolding round_submission
   take_sound w k t from item lt range sent sound =
       let r = w.rounds k t in

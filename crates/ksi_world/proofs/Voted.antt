@@ -2,7 +2,7 @@
 use Rattle.std.proofs.Common.{◌≡◌, ℕ, ◌<◌, ◌≤◌, false, cond, eqb, is_some, List, [], ◌∷◌, ◌++◌, length, refl, sym, ap, subst, ◌∙◌, arith, inl, inr, Option, Some, None, length-append}
 use Rattle.std.specs.Prelude.{slice_get, option_map}
 use Rattle.std.proofs.lemmas.Bool.{cond_both, cond-true, cond-false, eq-eqb, eqb-false, ne_eqb}
-use Rattle.ksi_aggchain.specs.declared.node.Node.{Node}
+use Rattle.ksi_aggtree.specs.declared.item.Item.{Item}
 use Rattle.ksi_aggtree.specs.declared.entries.Entry.{Entry}
 use Rattle.ksi_aggtree.specs.Entries.{items_of, has_from, is_full, candidate_of}
 use Rattle.ksi_synod.specs.declared.messages.SynodMessage.{SynodMessage}
@@ -11,7 +11,7 @@ use Rattle.ksi_synod.specs.Rows.{seal, try_ballot, ballot_told, receive, held_to
 use Rattle.ksi_synod.specs.Reached.{seals, tries, tells, takes, restarts, start, step}
 use Rattle.ksi_signature.specs.declared.answer.Answer.TheVariants as answers
 use Rattle.ksi_corenode.specs.SecondState.{SecondState, fresh_second}
-use Rattle.ksi_corenode.specs.Held.{Held, first_missing, held_seconds}
+use Rattle.ksi_calendar.specs.Covered.{Roots, first_missing, covered_seconds}
 use Rattle.ksi_corenode.specs.Rows.{submission_row, submitted, item_taken, seal_row, sealed_now, ballot_row, receive_row, tell_row, respond_row, respond_where, responded, above_item, is_mine, restart_row}
 use Rattle.ksi_aggregator.specs.Rows.{round_request, round_submission, round_close, round_response}
 use Rattle.ksi_schedule.specs.declared.actor.Actor.{Actor}
@@ -40,7 +40,7 @@ module _ (image : List ℕ → List ℕ) (plan : PlanState) where
   module _ (w : WorldState) (voted : Voted w) where
     -- A TURN OF A CORE
 
-    submission_voted : (j u from : ℕ) (item : Node) → Voted (at_core w j u (submission_row from item (w.seconds j u))).world
+    submission_voted : (j u from : ℕ) (item : Item) → Voted (at_core w j u (submission_row from item (w.seconds j u))).world
     unfolding submission_row
     submission_voted j u from item =
         let s = w.seconds j u in
@@ -98,7 +98,7 @@ module _ (image : List ℕ → List ℕ) (plan : PlanState) where
           told = λ d is. inl is;
         })
 
-    respond_voted : (j u : ℕ) (held : Held) → Voted (at_core w j u (respond_row image held plan.start u (w.seconds j u))).world
+    respond_voted : (j u : ℕ) (held : Roots) → Voted (at_core w j u (respond_row image held plan.start u (w.seconds j u))).world
     unfolding respond_row
     respond_voted j u held = by s.sealed (first_missing held plan.start u) (held u)
       where
@@ -111,7 +111,7 @@ module _ (image : List ℕ → List ℕ) (plan : PlanState) where
         by (Some entries) None None = still_voted image plan w.seconds w.wire voted j u (answers.Undecided u)
         by (Some entries) None (Some root) = cond_both (is_mine image entries root) _ _ (λ turn. Voted (at_core w j u turn).world)
             (λ _. quiet_voted image plan w.seconds w.wire voted j u (responded image held plan.start u entries root s) refl refl (voted.sealed j u).open_few
-            (only_responses (above_item image (held_seconds held plan.start u) u root (items_of entries)) 0 entries None))
+            (only_responses (above_item image (covered_seconds held plan.start u) u root (items_of entries)) 0 entries None))
             (λ _. still_voted image plan w.seconds w.wire voted j u answers.NotMine)
 
     -- a message of the vote that is in the wire

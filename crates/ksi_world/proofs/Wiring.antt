@@ -8,9 +8,10 @@ use Rattle.ksi_split.specs.declared.tree_link.TreeLink.{TreeLink}
 use Rattle.ksi_calchain.specs.Climbing.{ClimbsCalendar}
 use Rattle.ksi_calendar.specs.Calendar.{Seconds, calendar_leaf, calendar_path, calendar_root}
 use Rattle.ksi_aggchain.specs.declared.node.Node.{Node}
+use Rattle.ksi_aggtree.specs.Rounds.{leaf}
 use Rattle.ksi_signature.specs.declared.above.Above.{Above}
 use Rattle.ksi_signature.specs.declared.above.AboveChain.{AboveChain}
-use Rattle.ksi_corenode.specs.Held.{Held, roots_among, held_seconds, held_root}
+use Rattle.ksi_calendar.specs.Covered.{Roots, roots_among, covered_seconds, covered_root}
 use Rattle.ksi_schedule.specs.declared.actor.Actor.{Actor}
 use Rattle.ksi_schedule.specs.declared.actor.Actor.TheVariants as actors
 use Rattle.ksi_schedule.specs.declared.event.Event.{Event}
@@ -36,22 +37,22 @@ PathClimbs image = (seconds : Seconds) (t p : ℕ) → t ≤ p → ClimbsCalenda
 
 -- THE LEAF OF A HELD SECOND
 
-among : (held : Held) (s n k : ℕ) (root : List ℕ) → k < n → held (s + k) ≡ Some root → slice_index_or (roots_among held s n) k zero_imprint ≡ root
+among : (held : Roots) (s n k : ℕ) (root : List ℕ) → k < n → held (s + k) ≡ Some root → slice_index_or (roots_among held s n) k zero_imprint ≡ root
 among held s zero k root lt is = absurd (omega (arith, lt))
 among held s (suc n) zero root lt is =
     let same : s ≡ s + 0 = omega arith in ap (λ (t : ℕ). unwrap_or (held t) zero_imprint) same ∙ ap (λ o. unwrap_or o zero_imprint) is
 among held s (suc n) (suc k) root lt is =
     let same : suc s + k ≡ s + suc k = omega arith in among held (suc s) n k root (omega (arith, lt)) (ap held same ∙ is)
 
-leaf_by : (held : Held) (start t : ℕ) (root : List ℕ) → start ≤ t → held t ≡ Some root → (b : Bool) → nat_lt t start ≡ b
+leaf_by : (held : Roots) (start t : ℕ) (root : List ℕ) → start ≤ t → held t ≡ Some root → (b : Bool) → nat_lt t start ≡ b
     → (if b then zero_imprint else slice_index_or (roots_among held start (suc t - start)) (t - start) zero_imprint) ≡ root
 leaf_by held start t root from is true early = let lt = ltb-true t start early in absurd (omega (arith, from, lt))
 leaf_by held start t root from is false late =
     let same : start + (t - start) ≡ t = omega (arith, from) in
     among held start (suc t - start) (t - start) root (omega (arith, from)) (ap held same ∙ is)
 
-leaf_held : (held : Held) (start t : ℕ) (root : List ℕ) → start ≤ t → held t ≡ Some root → calendar_leaf (held_seconds held start t) t ≡ root
-unfolding held_seconds
+leaf_held : (held : Roots) (start t : ℕ) (root : List ℕ) → start ≤ t → held t ≡ Some root → calendar_leaf (covered_seconds held start t) t ≡ root
+unfolding covered_seconds
 leaf_held held start t root from is = leaf_by held start t root from is (nat_lt t start) refl
 
 -- WHAT A RESPONSE IS
@@ -90,23 +91,22 @@ module _ (image : List ℕ → List ℕ) (plan : PlanState) (is : IsPlan plan) (
         entries = response.1.closed.entries;
         closed = response.1.closed.closed;
         top = joins.top;
-        climbs = subst (λ (item : Node). ChainsClimb image item above.chains joins.top) (sym response.1.closed.item_is) joins.climbs;
+        climbs = subst (λ (node : Node). ChainsClimb image node above.chains joins.top) (sym (ap leaf response.1.closed.item_is)) joins.climbs;
         root_is = joins.root_is;
         core = joins.core;
         there = joins.there;
         held = joins.held;
         sender = held_by_sender image plan w message.sender t above response.0;
-        leads_on = subst (λ links. ClimbsCalendar image above.root links (held_root image (held_in w joins.core) plan.start t)) (sym joins.calendar)
-            (subst (λ leaf. ClimbsCalendar image leaf (calendar_path image (held_seconds (held_in w joins.core) plan.start t) t t) (held_root image (held_in w joins.core) plan.start t))
+        leads_on = subst (λ links. ClimbsCalendar image above.root links (covered_root image (held_in w joins.core) plan.start t)) (sym joins.calendar)
+            (subst (λ leaf. ClimbsCalendar image leaf (calendar_path image (covered_seconds (held_in w joins.core) plan.start t) t t) (covered_root image (held_in w joins.core) plan.start t))
             (leaf_held (held_in w joins.core) plan.start t above.root joins.from joins.held)
-            (climbs (held_seconds (held_in w joins.core) plan.start t) t t (omega arith)));
-        from = joins.from;
-        covered = joins.all;
+            (climbs (covered_seconds (held_in w joins.core) plan.start t) t t (omega arith)));
+        covered = record { from = joins.from; each = joins.all };
         real = joins.real;
         few = omega (arith, to.3, depth_most plan (actors.Aggregator to.0));
         short = short_chains above.chains carried;
         low = joins.low;
-        brief = subst (λ (links : List (TreeLink (List ℕ))). length links ≤ 63) (sym joins.calendar) (brief (held_seconds (held_in w joins.core) plan.start t) t t (omega (arith, range.1, is.early)));
+        brief = subst (λ (links : List (TreeLink (List ℕ))). length links ≤ 63) (sym joins.calendar) (brief (covered_seconds (held_in w joins.core) plan.start t) t t (omega (arith, range.1, is.early)));
       }
 
   pub all_linked : ResponsesClimb image plan (after image plan es)

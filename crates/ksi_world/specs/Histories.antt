@@ -6,7 +6,7 @@ use Rattle.ksi_corenode.specs.declared.step.Send as core_step
 use Rattle.ksi_corenode.specs.declared.step.Send.TheVariants as core_sends
 use Rattle.ksi_corenode.specs.SecondState.{SecondState, fresh_second}
 use Rattle.ksi_corenode.specs.Turns.{Turn}
-use Rattle.ksi_corenode.specs.Held.{Held}
+use Rattle.ksi_calendar.specs.Covered.{Roots}
 use Rattle.ksi_corenode.specs.Rows.{submission_row, seal_row, ballot_row, receive_row, tell_row, respond_row, publish_answer, restart_row}
 use Rattle.ksi_aggregator.specs.declared.step.Send as round_step
 use Rattle.ksi_aggregator.specs.declared.step.Send.TheVariants as round_sends
@@ -33,7 +33,7 @@ pub record WorldState : Type 0 where
   pub published : List (ℕ × List ℕ)
 
 -- what a core holds for each second
-abbrev pub held_in : WorldState → (core : ℕ) → Held
+abbrev pub held_in : WorldState → (core : ℕ) → Roots
 held_in w core second = (w.seconds core second).vote.held
 
 -- the function with one value changed

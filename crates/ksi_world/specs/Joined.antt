@@ -1,7 +1,7 @@
 -- How what is issued and published stands to what is kept.
-use Rattle.std.specs.Prelude.{◌≡◌, ◌≢◌, ℕ, ◌≤◌, List, [], ◌∷◌, slice_get, Some, IsSome}
+use Rattle.std.specs.Prelude.{◌≡◌, ◌≢◌, ℕ, List, [], ◌∷◌, slice_get, Some}
 use Rattle.ksi_imprint.specs.Imprints.{zero_imprint}
-use Rattle.ksi_calendar.specs.Calendar.{calendar_path}
+use Rattle.ksi_calendar.specs.Covered.{IsCovered, covered_root, covered_path}
 use Rattle.ksi_aggchain.specs.Climbing.{Climbs}
 use Rattle.ksi_aggchain.specs.Owned.{plain_links}
 use Rattle.ksi_aggchain.specs.declared.node.Node.{Node}
@@ -10,21 +10,15 @@ use Rattle.ksi_signature.specs.declared.above.Above.{Above}
 use Rattle.ksi_signature.specs.declared.above.AboveChain.{AboveChain}
 use Rattle.ksi_signature.specs.Issued.{issued, own_chain}
 use Rattle.ksi_signature.specs.Written.{signature_text}
-use Rattle.ksi_corenode.specs.Held.{held_root, held_seconds}
 use Rattle.ksi_schedule.specs.Plans.{PlanState}
 use Rattle.ksi_world.specs.declared.outcome.Asked.{Asked}
 use Rattle.ksi_world.specs.Histories.{WorldState}
 use Rattle.ksi_world.specs.Records.{kept_root}
 
--- each second from the start to the last is kept
-abbrev pub IsCovered : PlanState → WorldState → (last : ℕ) → Type 0
-IsCovered plan w last = (t : ℕ) → plan.start ≤ t → t ≤ last → IsSome (kept_root plan w t)
-
--- all seconds up to p are kept, and the root is that of the calendar of what is kept, from second 0 to p
-pub record IsRootOf (image : List ℕ → List ℕ) (plan : PlanState) (w : WorldState) (p : ℕ) (root : List ℕ) : Type 0 where
-  pub from : plan.start ≤ p
-  pub covered : IsCovered plan w p
-  pub root_is : root ≡ held_root image (kept_root plan w) plan.start p
+-- the second is covered by what is kept, and the root is that of the calendar of it, from second 0 to p
+pub record IsKeptRoot (image : List ℕ → List ℕ) (plan : PlanState) (w : WorldState) (p : ℕ) (root : List ℕ) : Type 0 where
+  pub covered : IsCovered (kept_root plan w) plan.start p
+  pub root_is : root ≡ covered_root image (kept_root plan w) plan.start p
 
 -- chains climb from an item to an item, one after the other: each has the imprint that it is reached with as its input,
 -- and its links climb on from there, at the level that was reached
@@ -47,6 +41,5 @@ pub record IsJoined (image : List ℕ → List ℕ) (plan : PlanState) (w : Worl
   pub root_is : top.imprint ≡ above.root
   pub kept : kept_root plan w asked.second ≡ Some above.root
   pub real : above.root ≢ zero_imprint
-  pub from : plan.start ≤ asked.second
-  pub covered : IsCovered plan w asked.second
-  pub calendar : above.calendar ≡ calendar_path image (held_seconds (kept_root plan w) plan.start asked.second) asked.second asked.second
+  pub covered : IsCovered (kept_root plan w) plan.start asked.second
+  pub calendar : above.calendar ≡ covered_path image (kept_root plan w) plan.start asked.second asked.second

@@ -1,5 +1,5 @@
 -- What stands above a round: how each Response that was ever sent leads from the item of a round to a root that is held.
-use Rattle.std.specs.Prelude.{◌≡◌, ◌≢◌, ℕ, ◌<◌, ◌≤◌, List, length, slice_get, Some, IsSome}
+use Rattle.std.specs.Prelude.{◌≡◌, ◌≢◌, ℕ, ◌<◌, ◌≤◌, List, length, slice_get, Some}
 use Rattle.std.specs.List.{AllByRecursion}
 use Rattle.ksi_imprint.specs.Imprints.{zero_imprint}
 use Rattle.ksi_aggchain.specs.declared.node.Node.{Node}
@@ -8,7 +8,7 @@ use Rattle.ksi_aggtree.specs.Rounds.{tree_of}
 use Rattle.ksi_aggtree.specs.Entries.{items_of}
 use Rattle.ksi_calchain.specs.Climbing.{ClimbsCalendar}
 use Rattle.ksi_signature.specs.declared.above.Above.{Above}
-use Rattle.ksi_corenode.specs.Held.{held_root}
+use Rattle.ksi_calendar.specs.Covered.{IsCovered, covered_root}
 use Rattle.ksi_schedule.specs.declared.actor.Actor.{Actor}
 use Rattle.ksi_schedule.specs.declared.actor.Actor.TheVariants as actors
 use Rattle.ksi_schedule.specs.Plans.{PlanState}
@@ -24,13 +24,13 @@ IsHeldBySender w (actors.Aggregator k) second root = Unit {0}
 
 -- The message tells an aggregator what stands above its round.
 pub record IsLinked (image : List ℕ → List ℕ) (plan : PlanState) (w : WorldState) (message : Message) (above : Above) : Type 0 where
-  -- the aggregator is of the plan, and has closed its round of this second: what is answered is the item of the round's tree
+  -- the aggregator is of the plan, and has closed its round of this second: what is answered is the round's tree
   pub aggregator : ℕ
   pub to : message.addressee ≡ actors.Aggregator aggregator
   pub planned : aggregator < length plan.parents
   pub entries : List Entry
   pub closed : (w.rounds aggregator message.second).closed ≡ Some entries
-  -- the aggregation chains climb from this item, at its level, to the root that the message carries
+  -- the aggregation chains climb from this tree, at its level, to the root that the message carries
   pub top : Node
   pub climbs : ChainsClimb image (tree_of image (items_of entries)) above.chains top
   pub root_is : top.imprint ≡ above.root
@@ -40,9 +40,8 @@ pub record IsLinked (image : List ℕ → List ℕ) (plan : PlanState) (w : Worl
   pub held : held_in w core message.second ≡ Some above.root
   pub sender : IsHeldBySender w message.sender message.second above.root
   -- the calendar chain leads on from the root to the root of the calendar to this second, of which the core holds each second
-  pub leads_on : ClimbsCalendar image above.root above.calendar (held_root image (held_in w core) plan.start message.second)
-  pub from : plan.start ≤ message.second
-  pub covered : (t : ℕ) → plan.start ≤ t → t ≤ message.second → IsSome (held_in w core t)
+  pub leads_on : ClimbsCalendar image above.root above.calendar (covered_root image (held_in w core) plan.start message.second)
+  pub covered : IsCovered (held_in w core) plan.start message.second
   -- the root is not the zero imprint, which would say that the second was missed
   pub real : above.root ≢ zero_imprint
   -- there are at most 8 chains, of at most 16 links each

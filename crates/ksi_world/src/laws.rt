@@ -10,7 +10,9 @@ ghost use Rattle.ksi_schedule.specs.Events.{History, AreEvents, AskForImprints};
 ghost use Rattle.ksi_schedule.specs.Schedules.{IsHistory};
 ghost use Rattle.ksi_world.specs.Histories.{WorldState, held_in, after, world_of};
 ghost use Rattle.ksi_signature.specs.Carried.{MayBeIssued};
-ghost use Rattle.ksi_world.specs.Joined.{IsRootOf, IsJoined};
+ghost use Rattle.ksi_signature.specs.declared.answer.Answer.TheVariants.{Published};
+ghost use Rattle.ksi_corenode.specs.Rows.{publish_answer};
+ghost use Rattle.ksi_world.specs.Joined.{IsKeptRoot, IsJoined};
 ghost use Rattle.ksi_world.specs.Records.{issued_of, issued_all, kept_root, kept_seconds};
 ghost use Rattle.ksi_world.specs.Validity.{IsProposed, IsKept, HasImprints, EachKept, AreRising, AreTimes};
 ghost use Rattle.ksi_world.specs.Wire.{ResponsesClimb};
@@ -62,7 +64,25 @@ pub fn all_issued()
 pub fn published_roots()
     ensures { (image : List ℕ → List ℕ) (plan : PlanState) (before later : List Event) → IsPlan plan → AreEvents plan (before ++ later) →
         (k p : ℕ) (root : List ℕ) → slice_get (after image plan before).published k ≡ Some (p, root) →
-        IsRootOf image plan (after image plan (before ++ later)) p root }
+        IsKeptRoot image plan (after image plan (before ++ later)) p root }
+{
+    steps_agree();
+}
+
+/// What a core holds at some moment, it holds ever after.
+pub fn held_stays()
+    ensures { (image : List ℕ → List ℕ) (plan : PlanState) (before later : List Event) (core second : ℕ) (root : List ℕ) →
+        held_in (after image plan before) core second ≡ Some root →
+        held_in (after image plan (before ++ later)) core second ≡ Some root }
+{}
+
+/// What any core answers to `publish` with a root, at any moment, is a second that is covered by what is kept at the end,
+/// with the root of the calendar to it.
+pub fn answered_roots()
+    ensures { (image : List ℕ → List ℕ) (plan : PlanState) (before later : List Event) → IsPlan plan → AreEvents plan (before ++ later) →
+        (core p : ℕ) (root : List ℕ) → core < plan.cores → plan.start ≤ p →
+        publish_answer image (held_in (after image plan before) core) plan.start p ≡ Published root →
+        IsKeptRoot image plan (after image plan (before ++ later)) p root }
 {
     steps_agree();
 }

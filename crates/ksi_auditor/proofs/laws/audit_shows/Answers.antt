@@ -18,5 +18,8 @@ returns c =
       accepted = c.accepted.ensures;
       leaves = c.calendar_is_covered.ensures.leaves;
       covered = c.calendar_is_covered.ensures.covered;
+      within = c.calendar_is_covered.ensures.within;
+      root = c.calendar_is_covered.ensures.root;
+      none = c.one_first_missing.ensures.none;
     } in
     λ image journal signature hash publications lawful is_journal imprint. audit_shows laws image lawful journal is_journal signature hash publications imprint.size

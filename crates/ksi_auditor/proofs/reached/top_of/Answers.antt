@@ -1,6 +1,6 @@
 use Rattle.std.proofs.Common.{sym, ◌∙◌}
 use Rattle.ksi_aggchain.specs.Owned.{plain_links}
-use Rattle.ksi_auditor.proofs.Climbing.{climbed_is}
+use Rattle.ksi_auditor.proofs.Climbs.{climbed_is}
 use Rattle.ksi_auditor.proofs.reached.top_of.Goals as goal
 
 pub returns-in-Ok : goal.returns-in-Ok

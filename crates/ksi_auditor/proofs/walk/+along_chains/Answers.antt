@@ -5,7 +5,7 @@ use Rattle.ksi_aggchain.specs.Climbing.{level_after}
 use Rattle.ksi_verifier.specs.Chains.{plain_chain, plain_chains}
 use Rattle.ksi_verifier.specs.Leading.{all_links}
 use Rattle.ksi_auditor.specs.declared.walk.Walk.TheVariants.{At}
-use Rattle.ksi_auditor.proofs.Climbing.{climbed_level}
+use Rattle.ksi_auditor.proofs.Climbs.{climbed_level}
 use Rattle.ksi_auditor.proofs.Going.{ok_goes_on, chain_down, chain_level}
 use Rattle.ksi_auditor.proofs.walk.+along_chains.Goals as goal
 

@@ -23,6 +23,6 @@ returns c = λ h is.
       listed = subst (λ (xs : List (ℕ × List ℕ)). (k : ℕ) (x : ℕ × List ℕ) → slice_get xs k ≡ Some x → issued_of imprint_of (world_of imprint_of h) x.0 ≡ Some x.1) (issued_listed h)
           (c.all_issued.ensures.are imprint_of (world_of imprint_of h));
       extends = c.extensions_are_bytes.ensures.own imprint_of h imprints bytes is;
-      covered = λ p. c.calendar_is_covered.ensures.covered imprint_of journal p lawful;
+      within = λ p. c.calendar_is_covered.ensures.within imprint_of journal p lawful;
       read = λ bytes signature are. c.signature_is_read.ensures.signature bytes signature are;
     })

@@ -1,8 +1,8 @@
-use Rattle.std.proofs.Common.{◌<◌, ◌∙◌, sym, arith, inl}
+use Rattle.std.proofs.Common.{◌<◌, ◌∙◌, sym, arith}
 use Rattle.std.proofs.lemmas.List.Elements.{All-from_get_or}
 use Rattle.std.proofs.lemmas.Result.{IfOk-weaker}
+use Rattle.ksi_journal.specs.Journal.{root_at}
 use Rattle.ksi_extender.proofs.Kept.{is_kept}
-use Rattle.ksi_extender.proofs.Leaves.{leaves}
 use Rattle.ksi_extender.proofs.Told.{some_signature, not_kept, all_passed}
 use Rattle.ksi_extender.proofs.Whole.{read_again}
 use Rattle.ksi_extender.proofs.extending.over_journal.Goals as goal
@@ -10,17 +10,16 @@ use Rattle.ksi_extender.proofs.extending.over_journal.Goals as goal
 pub returns-in-Err-clause-answer : goal.returns-in-Err-clause-answer
 returns-in-Err-clause-answer g c =
     let are = c.requires.chains in
-    inl (not_kept g.C.Compress.image c.args.journal.now c.args.bytes.now c.args.p c.args.chains.now c.in-Err.refusal are c.in-Err.ensures.kept)
+    sym (not_kept g.C.Compress.image c.args.journal.now c.args.bytes.now c.args.p c.args.chains.now c.in-Err.refusal are c.in-Err.ensures.kept)
 
 pub proof_to-requires-clause-covered : goal.proof_to-requires-clause-covered
-proof_to-requires-clause-covered g c = (is_kept c.args.journal.now c.args.chains.now c.args.p (sym c.in_default.ensures.kept)).covered
+proof_to-requires-clause-covered g c =
+    let journal = c.args.journal.now in
+    let kept = is_kept journal c.args.chains.now c.args.p (sym c.in_default.ensures.kept) in
+    record { from = omega (arith, kept.from, kept.to); each = (c.one_first_missing.ensures.none (root_at journal) journal.start c.args.p).0 kept.missing }
 
 pub proof_to-requires-clause-root : goal.proof_to-requires-clause-root
-proof_to-requires-clause-root g c =
-    let kept = is_kept c.args.journal.now c.args.chains.now c.args.p (sym c.in_default.ensures.kept) in
-    let to = kept.to in
-    let covered = kept.covered in
-    leaves c.args.journal.now c.args.chains.now.time (omega arith) ∙ kept.root
+proof_to-requires-clause-root g c = (is_kept c.args.journal.now c.args.chains.now c.args.p (sym c.in_default.ensures.kept)).root
 
 pub returns-clause-answer : goal.returns-clause-answer
 returns-clause-answer g c =
@@ -41,6 +40,3 @@ returns-clause-again g c =
       read_again g.C.Compress.image (λ signature chains some. c.aggregation.ensures g.C.Compress.image signature chains some) c.args.journal.now c.args.bytes.now text c.args.p c.args.chains.now _ _ h.0
           ((c.signature_is_read.ensures.signature c.args.bytes.now h.0 fits).1 h.1) are kept.some c.in_ok-chain.ensures.chain c.in_ok-chain.ensures.published h.2,
     )) c.renewed_with.ensures.again
-
-pub proof_to-requires-clause-leaf : goal.proof_to-requires-clause-leaf
-proof_to-requires-clause-leaf g c = (is_kept c.args.journal.now c.args.chains.now c.args.p (sym c.in_default.ensures.kept)).root

@@ -18,11 +18,11 @@ returns-clause-over c = λ image h journal images bytes follows is_journal keeps
           record {
             asked = joined.asked;
             accepted = joined.accepted;
-            covered = covered_too h.plan (world_of image h) journal keeps joined.asked.second joined.from joined.covered;
+            covered = covered_too h.plan (world_of image h) journal keeps c.more_is_known.ensures.covered joined.asked.second joined.covered;
             later = λ p to covered.
                 c.issued_lasts.ensures.over image h journal images is are follows.imprints is_journal keeps number joined.asked text joined.accepted is_issued
                 (c.history_is_of_bytes.ensures.issued image h images bytes follows number text is_issued) p to
-                (covered_back h.plan (world_of image h) journal keeps p covered);
+                (covered_back h.plan (world_of image h) journal keeps c.more_is_known.ensures.covered p covered);
           };
       answered = λ before later same core p root lt from answer.
           let events = subst (λ (es : List Event). AreEvents h.plan es) same are in

@@ -1,8 +1,8 @@
-use Rattle.ksi_journal.specs.Calendar.{calendar_of}
+use Rattle.std.proofs.Common.{arith}
 use Rattle.ksi_world.specs.Histories.{world_of}
 use Rattle.ksi_replay.specs.Journals.{journal_of}
 use Rattle.ksi_history.proofs.Chaining.{issued_aggregated}
-use Rattle.ksi_history.proofs.Reaching.{Laws, covered_before, lasts_for}
+use Rattle.ksi_history.proofs.Reaching.{Laws, lasts_for}
 use Rattle.ksi_history.proofs.laws.issued_lasts.Goals as goal
 
 pub returns-clause-over : goal.returns-clause-over
@@ -12,10 +12,10 @@ returns-clause-over c = λ image h journal images plan events ask is keeps numbe
       aggregates = issued_aggregated image (c.aggregation.ensures image);
       whole = c.issued_is_signature.ensures.signature;
       short = c.issued_is_signature.ensures.short;
-      before = λ p covered. covered_before journal p ((c.calendar_is_covered.ensures.covered image journal p is).1 covered);
-      early = c.calendar_is_covered.ensures.early image journal is;
-      leaves = λ t lt. c.calendar_is_covered.ensures.leaves image journal t is lt;
-      climbs = λ t p to. c.one_chain.ensures.climbs image (calendar_of journal) t p to;
+      early = λ p covered. omega (arith, ((c.calendar_is_covered.ensures.within image journal p is).1 covered).1, c.calendar_is_covered.ensures.early image journal is);
+      known = c.more_is_known.ensures.covered;
+      leaves = c.one_covered.ensures.leaves;
+      climbs = c.one_chain.ensures.climbs image;
       value = c.one_climb.ensures.value image;
       extends = λ bytes signature chains p are leads. c.covered_is_extended.ensures image journal bytes signature chains p images is are leads;
       accepts = λ bytes text signature p are whole e publications. c.extended_is_accepted.ensures.accepted image journal bytes text signature p are whole e publications;
