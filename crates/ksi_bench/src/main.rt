@@ -88,7 +88,7 @@ fn round(alloc: Global, paths: bool) -> Result<u8, NoMemory> {
 fn calendar(alloc: Global) -> Result<u8, NoMemory> {
     let roots = vec![in alloc; Sha::of(b""); SECONDS]?;
     let calendar = calendar_of(alloc, roots.as_slice())?;
-    match calendar.root_at(SECONDS as u64 - 1) {
+    match calendar.root_to(SECONDS as u64 - 1) {
         Some(root) => Ok(last_byte(&root)),
         None => Ok(0),
     }

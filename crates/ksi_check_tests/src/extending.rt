@@ -100,7 +100,7 @@ fn extended_counted(
 /// The journal's root of `p`, if it has one, as the only publication.
 fn published(alloc: Global, journal: &Journal<Sha>, p: u64) -> Result<Publications, Fail> {
     let mut pairs = Vec::new(alloc);
-    if let Some(root) = journal.calendar().root_at(p) {
+    if let Some(root) = journal.calendar().root_to(p) {
         pairs.push((p, root))?;
     }
     Ok(Publications::from_vec(pairs))

@@ -39,7 +39,7 @@ fn calendar_of(alloc: Global, start: u64, roots: &[Imprint]) -> Result<Calendar<
 
 fn roots(rt: &impl Abort, calendar: &Calendar<Tiny>, rows: &[(u64, Option<u8>)]) {
     for (p, first) in rows {
-        same(rt, "root", calendar.root_at(*p), first.map(named));
+        same(rt, "root", calendar.root_to(*p), first.map(named));
     }
 }
 
