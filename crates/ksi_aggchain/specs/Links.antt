@@ -19,6 +19,10 @@ side_text Right node sibling level = join_text sibling node level
 abbrev pub link_text : List ℕ → PlainLink → ℕ → List ℕ
 link_text imprint link level = side_text link.side imprint link.sibling level
 
+-- no level passes it
+abbrev pub highest_level : ℕ
+highest_level = 255
+
 -- the level that a link leads to
 abbrev pub level_above : ℕ → PlainLink → ℕ
 level_above level link = level + link.correction + 1

@@ -7,7 +7,7 @@ ghost use Rattle.ksi_aggchain.specs.declared.node.Node.{Node};
 
 use crate::any_link::AnyLink;
 use crate::link::Link;
-use crate::node::Node;
+use crate::node::{HIGHEST_LEVEL, Node};
 use ksi_imprint::{Compress, Imprint};
 use ksi_split::Side;
 
@@ -50,7 +50,7 @@ pub(crate) fn climb_along<C: Compress, L: AnyLink>(
     let mut level = level;
     for (place, link) in links.iter().enumerate() {
         let above = level as u16 + link.correction() as u16 + 1;
-        if above > 255 {
+        if above > HIGHEST_LEVEL as u16 {
             return Err(LevelFault::Over {
                 link: place,
                 level: above,

@@ -25,5 +25,5 @@ mod shapes;
 
 pub use climbing::{LevelFault, climb};
 pub use link::{Link, Sibling};
-pub use node::Node;
+pub use node::{HIGHEST_LEVEL, Node};
 pub use shapes::shape;

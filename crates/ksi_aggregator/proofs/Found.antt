@@ -8,7 +8,7 @@ use Rattle.std.specs.declared.cmp.Ordering.TheVariants.{Less, Greater}
 use Rattle.std.proofs.lemmas.Option.{none-some}
 use Rattle.std.proofs.lemmas.Bool.{false≢true, eqb-true}
 use Rattle.std.proofs.lemmas.Bool.Decides.{eqb_tells, leb_tells}
-use Rattle.ksi_aggchain.specs.declared.node.Node.{Node}
+use Rattle.ksi_aggtree.specs.declared.item.Item.{Item}
 use Rattle.ksi_aggtree.specs.declared.entries.Origin.{Origin}
 use Rattle.ksi_aggtree.specs.declared.entries.Origin.TheVariants as origins
 use Rattle.ksi_aggtree.specs.declared.entries.Entry.{Entry}
@@ -19,7 +19,8 @@ use Rattle.ksi_signature.specs.declared.answer.Answer.TheVariants as answers
 use Rattle.ksi_aggregator.specs.declared.place.Place.{Place}
 use Rattle.ksi_aggregator.specs.Rows.{RoundState, RoundTurn, round_still, round_added, request_entry, submitted_entry, round_request, round_submission, round_close, round_response, fresh_round, round_restarted, response_where, closed_now}
 use Rattle.ksi_aggregator.specs.Rounds.{items_in, StandsAt, IsNew, SameRounds, ChangesOnly, IsTurn}
-use Rattle.ksi_aggregator.specs.declared.step.Step.{Step}
+use Rattle.ksi_signature.specs.declared.step.Step.{Step}
+use Rattle.ksi_aggregator.specs.declared.step.Send.{Send}
 use Rattle.ksi_aggregator.specs.Issuing.{from_request, IsAnswered, NotIssuedAt, NotIssued, AreFound, AreEarly}
 use Rattle.ksi_aggregator.proofs.Items.{read_more}
 
@@ -50,7 +51,7 @@ submission_may false true full r entry e = inl refl
 submission_may false false true r entry e = inl refl
 submission_may false false false r entry e = inr (added_items r.closed r.open_items entry e)
 
-pub after_submission : (from : ℕ) (item : Node) (r : RoundState) → MayAdd (submitted_entry from item) r (round_submission from item r).after
+pub after_submission : (from : ℕ) (item : Item) (r : RoundState) → MayAdd (submitted_entry from item) r (round_submission from item r).after
 unfolding round_submission
 after_submission from item r = submission_may (is_some r.closed) (has_from from r.open_items) (is_full r.open_items) r (submitted_entry from item) refl
 
@@ -89,12 +90,12 @@ found_new rounds number old new found is_new keeps = λ t k n item at.
 
 -- one round changes, to items that are found
 pub found_turn : (old new : ℕ → RoundState) (second : ℕ) (after : RoundState) (places : ℕ → Option Place) → AreFound old places → ChangesOnly old new second after
-    → ((k n : ℕ) (item : Node) → slice_get (items_in after) k ≡ Some (from_request n item) → places n ≡ Some (record { second = second; place = k }))
+    → ((k n : ℕ) (item : Item) → slice_get (items_in after) k ≡ Some (from_request n item) → places n ≡ Some (record { second = second; place = k }))
     → AreFound new places
 found_turn old new second after places found changes there = λ t k n item at.
     by t k n item (t == second) refl (subst (λ (r : RoundState). slice_get (items_in r) k ≡ Some (from_request n item)) (changes t) at)
   where
-    by : (t k n : ℕ) (item : Node) (b : Bool) → eqb t second ≡ b → slice_get (items_in (if b then after else old t)) k ≡ Some (from_request n item) → places n ≡ Some (record { second = t; place = k })
+    by : (t k n : ℕ) (item : Item) (b : Bool) → eqb t second ≡ b → slice_get (items_in (if b then after else old t)) k ≡ Some (from_request n item) → places n ≡ Some (record { second = t; place = k })
     by t k n item true same at = there k n item at ∙ ap (λ (s : ℕ). Some (record { second = s; place = k })) (sym (eqb-true t second same))
     by t k n item false other at = found t k n item at
 
@@ -133,7 +134,7 @@ found_request number imprint old new second places found changes is =
     entry_number (Some entry) = number_of entry.origin number
 
 -- an item of an aggregator is no request's
-pub found_submission : (from : ℕ) (item : Node) (old new : ℕ → RoundState) (second : ℕ) (places : ℕ → Option Place) → AreFound old places
+pub found_submission : (from : ℕ) (item : Item) (old new : ℕ → RoundState) (second : ℕ) (places : ℕ → Option Place) → AreFound old places
     → ChangesOnly old new second (round_submission from item (old second)).after → AreFound new places
 found_submission from item old new second places found changes =
     elim (after_submission from item (old second)) [
@@ -163,7 +164,7 @@ found_restarted old new places found restarted = λ t k n item at.
     closed_only false r k entry e = absurd (none-some entry e)
 
 -- whatever the step, what is found stays found
-pub found_step : {E : Type 0} (result : Result Step E) (old new : ℕ → RoundState) (second : ℕ) (turn : RoundTurn) (places : ℕ → Option Place) → AreFound old places
+pub found_step : {E : Type 0} (result : Result (Step Send) E) (old new : ℕ → RoundState) (second : ℕ) (turn : RoundTurn) (places : ℕ → Option Place) → AreFound old places
     → (ChangesOnly old new second turn.after → AreFound new places) → IfOk result (IsTurn old new second turn) → OnErr result (SameRounds old new) → AreFound new places
 found_step (Ok step) old new second turn places found after is same = after is.after
 found_step (Err e) old new second turn places found after is same = found_same old new places found same

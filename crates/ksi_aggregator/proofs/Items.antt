@@ -6,6 +6,7 @@ use Rattle.std.proofs.lemmas.Option.{none-some}
 use Rattle.std.proofs.lemmas.Bool.{false≢true}
 use Rattle.ksi_split.specs.declared.tree_link.TreeLink.{TreeLink}
 use Rattle.ksi_aggchain.specs.declared.node.Node.{Node}
+use Rattle.ksi_aggtree.specs.declared.item.Item.{Item}
 use Rattle.ksi_aggchain.specs.declared.link.Link.{Link}
 use Rattle.ksi_aggtree.specs.declared.entries.Entry.{Entry}
 use Rattle.ksi_aggtree.specs.Rounds.{item_at}
@@ -22,7 +23,7 @@ pub read_item : (entries : List Entry) (k : ℕ) (entry : Entry) → slice_get e
 read_item [] k entry e = absurd (none-some entry e)
 read_item (x ∷ xs) zero entry e = ap (λ (o : Option Entry). item_or o) e
   where
-    item_or : Option Entry → Node
+    item_or : Option Entry → Item
     item_or None = entry.item
     item_or (Some y) = y.item
 read_item (x ∷ xs) (suc k) entry e = read_item xs k entry e
@@ -82,6 +83,6 @@ next_response image above entries k entry sends more whole at put before =
     ∙ before)
 
 -- an item and links that are item k and its chain
-pub chain_like : (image : List ℕ → List ℕ) (items : List Node) (k : ℕ) (item : Node) (links : List Link) → item ≡ item_at items k → links ≡ chain_of image items k → own_chain item.imprint links ≡ chain_at image items k
+pub chain_like : (image : List ℕ → List ℕ) (items : List Item) (k : ℕ) (item : Item) (links : List Link) → item ≡ item_at items k → links ≡ chain_of image items k → own_chain item.imprint links ≡ chain_at image items k
 chain_like image items k item links same is =
-    ap (λ (x : Node). own_chain x.imprint links) same ∙ ap (λ (ls : List Link). own_chain (item_at items k).imprint ls) is
+    ap (λ (x : Item). own_chain x.imprint links) same ∙ ap (λ (ls : List Link). own_chain (item_at items k).imprint ls) is

@@ -3,13 +3,14 @@ use Rattle.std.proofs.Common.{◌≡◌, ◌↔◌, ◌⊎◌, inl, inr, ℕ, Li
 use Rattle.std.specs.Prelude.{is_some, IsSome, if◌then◌else◌, IfOk}
 use Rattle.std.proofs.lemmas.Option.{none-some}
 use Rattle.std.proofs.lemmas.Bool.{false≢true, eqb-true, eq-eqb}
-use Rattle.ksi_aggchain.specs.declared.node.Node.{Node}
+use Rattle.ksi_aggtree.specs.declared.item.Item.{Item}
 use Rattle.ksi_aggtree.specs.declared.entries.Entry.{Entry}
 use Rattle.ksi_aggtree.specs.Entries.{has_from, is_full}
 use Rattle.ksi_signature.specs.declared.above.Above.{Above}
 use Rattle.ksi_signature.specs.declared.answer.Answer.{Answer}
 use Rattle.ksi_signature.specs.declared.answer.Answer.TheVariants as answers
-use Rattle.ksi_aggregator.specs.declared.step.Step.{Step}
+use Rattle.ksi_signature.specs.declared.step.Step.{Step}
+use Rattle.ksi_aggregator.specs.declared.step.Send.{Send}
 use Rattle.ksi_aggregator.specs.Rows.{RoundState, RoundTurn, round_still, round_added, request_entry, submitted_entry, round_request, round_submission, round_close, round_response, response_where, closed_now}
 use Rattle.ksi_aggregator.specs.Rounds.{IsTurn}
 use Rattle.ksi_aggregator.specs.Refusals.{IsFull, IsKnown, IsFullFor, AwaitsResponse}
@@ -31,8 +32,8 @@ mark answers.Nothing = 11
 mark answers.Last = 12
 
 -- what holds of a row's answer holds of the step's
-pub by_row : {E : Type 0} (result : Result Step E) (old new : ℕ → RoundState) (second : ℕ) (turn : RoundTurn) (r now : RoundState) (P : RoundState → Answer → Type 0)
-    → r ≡ now → IfOk result (IsTurn old new second turn) → P r turn.answer → IfOk result (λ (step : Step). P now step.answer)
+pub by_row : {E : Type 0} (result : Result (Step Send) E) (old new : ℕ → RoundState) (second : ℕ) (turn : RoundTurn) (r now : RoundState) (P : RoundState → Answer → Type 0)
+    → r ≡ now → IfOk result (IsTurn old new second turn) → P r turn.answer → IfOk result (λ (step : Step Send). P now step.answer)
 by_row (Ok step) old new second turn r now P same is p = subst (λ (answer : Answer). P now answer) (sym is.answer) (subst (λ (r : RoundState). P r turn.answer) same p)
 by_row (Err e) old new second turn r now P same is p = tt
 
@@ -77,7 +78,7 @@ late_at false true full r entry = (λ e. absurd (omega (arith, ap mark e)), λ h
 late_at false false true r entry = (λ e. absurd (omega (arith, ap mark e)), λ h. absurd (false≢true h))
 late_at false false false r entry = (λ e. absurd (omega (arith, ap mark e)), λ h. absurd (false≢true h))
 
-pub late_submission : (from : ℕ) (item : Node) (r : RoundState) → ((round_submission from item r).answer ≡ answers.Late) ↔ IsSome r.closed
+pub late_submission : (from : ℕ) (item : Item) (r : RoundState) → ((round_submission from item r).answer ≡ answers.Late) ↔ IsSome r.closed
 unfolding round_submission
 late_submission from item r = late_at (is_some r.closed) (has_from from r.open_items) (is_full r.open_items) r (submitted_entry from item)
 
@@ -88,7 +89,7 @@ known_at false true full from r entry c k = (λ e. record { open_yet = none_wher
 known_at false false true from r entry c k = (λ e. absurd (omega (arith, ap mark e)), λ w. absurd (false≢true (sym k ∙ w.there)))
 known_at false false false from r entry c k = (λ e. absurd (omega (arith, ap mark e)), λ w. absurd (false≢true (sym k ∙ w.there)))
 
-pub known_submission : (from : ℕ) (item : Node) (r : RoundState) → ((round_submission from item r).answer ≡ answers.Known) ↔ IsKnown from r
+pub known_submission : (from : ℕ) (item : Item) (r : RoundState) → ((round_submission from item r).answer ≡ answers.Known) ↔ IsKnown from r
 unfolding round_submission
 known_submission from item r = known_at (is_some r.closed) (has_from from r.open_items) (is_full r.open_items) from r (submitted_entry from item) refl refl
 
@@ -99,7 +100,7 @@ full_at false true full from r entry c k f = (λ e. absurd (omega (arith, ap mar
 full_at false false true from r entry c k f = (λ e. record { full = record { open_yet = none_where r.closed c; count = eqb-true _ _ f }; other = k }, λ w. refl)
 full_at false false false from r entry c k f = (λ e. absurd (omega (arith, ap mark e)), λ w. absurd (false≢true (sym f ∙ eq-eqb _ _ w.full.count)))
 
-pub full_submission : (from : ℕ) (item : Node) (r : RoundState) → ((round_submission from item r).answer ≡ answers.Full) ↔ IsFullFor from r
+pub full_submission : (from : ℕ) (item : Item) (r : RoundState) → ((round_submission from item r).answer ≡ answers.Full) ↔ IsFullFor from r
 unfolding round_submission
 full_submission from item r = full_at (is_some r.closed) (has_from from r.open_items) (is_full r.open_items) from r (submitted_entry from item) refl refl refl
 

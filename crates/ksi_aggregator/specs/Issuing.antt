@@ -1,6 +1,6 @@
 -- The signatures that an aggregator issues.
 use Rattle.std.specs.Prelude.{◌≡◌, ◌<◌, ◌^◌, ℕ, List, slice_get, Option, Some}
-use Rattle.ksi_aggchain.specs.declared.node.Node.{Node}
+use Rattle.ksi_aggtree.specs.declared.item.Item.{Item}
 use Rattle.ksi_aggtree.specs.declared.entries.Entry.{Entry}
 use Rattle.ksi_aggtree.specs.declared.entries.Origin.TheVariants as origins
 use Rattle.ksi_aggtree.specs.Paths.{chain_of}
@@ -12,7 +12,7 @@ use Rattle.ksi_aggregator.specs.declared.place.Place.{Place}
 use Rattle.ksi_aggregator.specs.Rows.{RoundState}
 use Rattle.ksi_aggregator.specs.Rounds.{items_in}
 
-abbrev pub from_request : ℕ → Node → Entry
+abbrev pub from_request : ℕ → Item → Entry
 from_request number item = record { origin = origins.Request number; item = item }
 
 -- the round is closed with these items and has this response
@@ -21,7 +21,7 @@ pub record IsAnswered (round : RoundState) (entries : List Entry) (above : Above
   pub answered : round.answered ≡ Some above
 
 -- what is issued of item k of a round, by its response
-abbrev pub issued_text : (List ℕ → List ℕ) → (second : ℕ) → List Entry → (k : ℕ) → Node → Above → List ℕ
+abbrev pub issued_text : (List ℕ → List ℕ) → (second : ℕ) → List Entry → (k : ℕ) → Item → Above → List ℕ
 issued_text image second entries k item above = signature_text (issued second item.imprint (chain_of image (items_of entries) k) above)
 
 -- The bytes are the signature of the request whose item is item k of the round of a second, which is closed and has a
@@ -30,7 +30,7 @@ issued_text image second entries k item above = signature_text (issued second it
 pub record IsIssuedAt (image : List ℕ → List ℕ) (round : RoundState) (number second k : ℕ) (bytes : List ℕ) : Type 0 where
   pub entries : List Entry
   pub above : Above
-  pub item : Node
+  pub item : Item
   pub answered : IsAnswered round entries above
   pub request : slice_get entries k ≡ Some (from_request number item)
   pub text : bytes ≡ issued_text image second entries k item above
@@ -41,7 +41,7 @@ IsIssued image rounds number bytes = (second : ℕ) × (k : ℕ) × IsIssuedAt i
 
 -- the request's item is not item k of a closed round that has a response
 abbrev pub NotIssuedAt : RoundState → (number k : ℕ) → Type 0
-NotIssuedAt round number k = (entries : List Entry) (above : Above) (item : Node) → IsAnswered round entries above → slice_get entries k ≡ Some (from_request number item) → ⊥
+NotIssuedAt round number k = (entries : List Entry) (above : Above) (item : Item) → IsAnswered round entries above → slice_get entries k ≡ Some (from_request number item) → ⊥
 
 -- no item of the request stands in a closed round that has a response
 abbrev pub NotIssued : (ℕ → RoundState) → ℕ → Type 0
@@ -51,7 +51,7 @@ NotIssued rounds number = (second k : ℕ) → NotIssuedAt (rounds second) numbe
 
 -- each item of a request is found by its number
 abbrev pub AreFound : (ℕ → RoundState) → (ℕ → Option Place) → Type 0
-AreFound rounds found = (t k number : ℕ) (item : Node) → slice_get (items_in (rounds t)) k ≡ Some (from_request number item)
+AreFound rounds found = (t k number : ℕ) (item : Item) → slice_get (items_in (rounds t)) k ≡ Some (from_request number item)
     → found number ≡ Some (record { second = t; place = k })
 
 -- what is found stands in a second before 2^63

@@ -1,13 +1,14 @@
 -- Which rounds refuse what, in words.
 use Rattle.std.specs.Prelude.{◌≡◌, ◌<◌, ℕ, true, false, List, length, Some, None}
 use Rattle.ksi_aggtree.specs.declared.entries.Entry.{Entry}
+use Rattle.ksi_aggtree.specs.Rounds.{most_items}
 use Rattle.ksi_aggtree.specs.Entries.{has_from}
 use Rattle.ksi_aggregator.specs.Rows.{RoundState}
 
 -- the round is open and has 65,536 items
 pub record IsFull (r : RoundState) : Type 0 where
   pub open_yet : r.closed ≡ None
-  pub count : length r.open_items ≡ 65536
+  pub count : length r.open_items ≡ most_items
 
 -- the round is open and has an item of the aggregator
 pub record IsKnown (from : ℕ) (r : RoundState) : Type 0 where

@@ -1,7 +1,7 @@
 -- What goes down from a round that has a response.
 use Rattle.std.specs.Prelude.{ℕ, suc, Bool, true, false, List, [], ◌∷◌, ◌++◌}
 use Rattle.std.specs.List.{list_any}
-use Rattle.ksi_aggchain.specs.declared.node.Node.{Node}
+use Rattle.ksi_aggtree.specs.declared.item.Item.{Item}
 use Rattle.ksi_aggtree.specs.declared.entries.Origin.{Origin}
 use Rattle.ksi_aggtree.specs.declared.entries.Origin.TheVariants as origins
 use Rattle.ksi_aggtree.specs.declared.entries.Entry.{Entry}
@@ -28,15 +28,15 @@ told_to origin above = to_sender (λ from. sends.Response from above) origin
 
 module _ (image : List ℕ → List ℕ) where
   -- the links of item k of a round, from the item's imprint on
-  abbrev pub chain_at : List Node → ℕ → AboveChain
+  abbrev pub chain_at : List Item → ℕ → AboveChain
   chain_at items k = record { input = (item_at items k).imprint; links = chain_of image items k }
 
   -- what the sender of item k is told, where this stands above the round
-  abbrev pub below : Above → List Node → ℕ → Above
+  abbrev pub below : Above → List Item → ℕ → Above
   below above items k = record { root = above.root; chains = chain_at items k ∷ above.chains; calendar = above.calendar }
 
   -- a response for each item from k on that an aggregator sent, in their order
-  abbrev pub responses_from : ℕ → Above → List Node → List Entry → List Send
+  abbrev pub responses_from : ℕ → Above → List Item → List Entry → List Send
   responses_from k above items [] = []
   responses_from k above items (entry ∷ entries) = told_to entry.origin (below above items k) ++ responses_from (suc k) above items entries
 

@@ -3,11 +3,12 @@ use Rattle.std.specs.Prelude.{◌≡◌, ◌≤◌, ℕ, true, ◌==◌, if◌th
 use Rattle.std.specs.Ordering.{nat_cmp}
 use Rattle.std.specs.BTreeMap.{is_at}
 use Rattle.std.specs.Map.{lookup}
-use Rattle.ksi_aggchain.specs.declared.node.Node.{Node}
+use Rattle.ksi_aggtree.specs.declared.item.Item.{Item}
 use Rattle.ksi_aggtree.specs.declared.entries.Entry.{Entry}
 use Rattle.ksi_aggtree.specs.declared.entries.Origin.TheVariants as origins
 use Rattle.ksi_signature.specs.declared.above.Above.{Above}
-use Rattle.ksi_aggregator.specs.declared.step.Step.{Step}
+use Rattle.ksi_signature.specs.declared.step.Step.{Step}
+use Rattle.ksi_aggregator.specs.declared.step.Send.{Send}
 use Rattle.ksi_aggregator.specs.Responses.{has_lower}
 use Rattle.ksi_aggregator.specs.Rows.{RoundState, RoundTurn, fresh_round}
 
@@ -21,11 +22,11 @@ items_in r = unwrap_or r.closed r.open_items
 
 -- item k is one of the request
 abbrev pub StandsAt : ℕ → List Entry → ℕ → Type 0
-StandsAt number entries k = (item : Node) × (slice_get entries k ≡ Some (record { origin = origins.Request number; item = item }))
+StandsAt number entries k = (item : Item) × (slice_get entries k ≡ Some (record { origin = origins.Request number; item = item }))
 
 -- no item of the request stands in a round
 abbrev pub IsNew : ℕ → (ℕ → RoundState) → Type 0
-IsNew number rounds = (t k : ℕ) (item : Node) → slice_get (items_in (rounds t)) k ≡ Some (record { origin = origins.Request number; item = item }) → ⊥
+IsNew number rounds = (t k : ℕ) (item : Item) → slice_get (items_in (rounds t)) k ≡ Some (record { origin = origins.Request number; item = item }) → ⊥
 
 -- the chains above a round leave place for its own, where it has an item of a lower aggregator
 abbrev pub HasPlace : RoundState → Above → Type 0
@@ -49,7 +50,7 @@ abbrev pub ChangesOnly : (ℕ → RoundState) → (ℕ → RoundState) → ℕ �
 ChangesOnly old new second round = (t : ℕ) → new t ≡ (if t == second then round else old t)
 
 -- the step is this turn of the second, and no other second changed
-pub record IsTurn (old new : ℕ → RoundState) (second : ℕ) (turn : RoundTurn) (step : Step) : Type 0 where
+pub record IsTurn (old new : ℕ → RoundState) (second : ℕ) (turn : RoundTurn) (step : Step Send) : Type 0 where
   pub after : ChangesOnly old new second turn.after
   pub answer : step.answer ≡ turn.answer
   pub sends : step.sends ≡ turn.sends

@@ -1,9 +1,9 @@
 -- An aggregator's round of one second, and each row of the step table as a function of it.
 use Rattle.std.specs.Prelude.{ℕ, if◌then◌else◌, List, [], ◌∷◌, ◌++◌, is_some, Option, Some, None}
-use Rattle.ksi_aggchain.specs.declared.node.Node.{Node}
+use Rattle.ksi_aggtree.specs.declared.item.Item.{Item}
 use Rattle.ksi_aggtree.specs.declared.entries.Origin.TheVariants as origins
 use Rattle.ksi_aggtree.specs.declared.entries.Entry.{Entry}
-use Rattle.ksi_aggtree.specs.Rounds.{tree_of}
+use Rattle.ksi_aggtree.specs.Rounds.{as_item, tree_of}
 use Rattle.ksi_aggtree.specs.Entries.{items_of, has_from, is_full}
 use Rattle.ksi_signature.specs.declared.above.Above.{Above}
 use Rattle.ksi_signature.specs.declared.answer.Answer.{Answer}
@@ -54,11 +54,11 @@ round_request number imprint r =
 
 -- SUBMISSION of an item by a lower aggregator
 
-abbrev pub submitted_entry : ℕ → Node → Entry
+abbrev pub submitted_entry : ℕ → Item → Entry
 submitted_entry from item = record { origin = origins.Aggregator from; item = item }
 
 -- Late where the round is closed; Known where an item of that aggregator is there; Full at 65,536 items; else Done
-unfoldable pub round_submission : (from : ℕ) → Node → RoundState → RoundTurn
+unfoldable pub round_submission : (from : ℕ) → Item → RoundState → RoundTurn
 round_submission from item r =
     if is_some r.closed then round_still r answers.Late
     else if has_from from r.open_items then round_still r answers.Known
@@ -72,12 +72,12 @@ abbrev pub round_restarted : RoundState → RoundState
 round_restarted r = if is_some r.closed then r else fresh_round
 
 module _ (image : List ℕ → List ℕ) where
-  -- CLOSE: the open items are the closed ones, and the item of their tree goes to the parent
+  -- CLOSE: the open items are the closed ones, and their tree is submitted to the parent
 
-  -- the item of the round's tree, where it has items
+  -- the item that the round's tree is submitted as, where it has items
   abbrev pub submission_of : List Entry → List Send
   submission_of [] = []
-  submission_of (entry ∷ entries) = sends.Submission (tree_of image (items_of (entry ∷ entries))) ∷ []
+  submission_of (entry ∷ entries) = sends.Submission (as_item (tree_of image (items_of (entry ∷ entries)))) ∷ []
 
   -- the round from then on
   abbrev pub closed_now : RoundState → RoundTurn

@@ -1,4 +1,5 @@
 ghost use Rattle.std.specs.Prelude.{◌≡◌, ◌≤◌, ◌<◌, ◌^◌, ◌↔◌, ◌⊎◌, ℕ, length, IsSome, IsTrue, IfOk, IfSome, IfNone, OnErr};
+ghost use Rattle.ksi_aggtree.specs.Rounds.{highest_item};
 ghost use Rattle.ksi_aggregator.specs.Rows.{fresh_round, round_request, round_submission, round_close, round_response, round_restarted};
 ghost use Rattle.ksi_aggregator.specs.Rounds.{rounds_of, IsNew, HasPlace, SameRounds, IsTurn};
 ghost use Rattle.ksi_aggregator.specs.Refusals.{IsFull, IsKnown, IsFullFor, AwaitsResponse};
@@ -7,7 +8,7 @@ ghost use Rattle.ksi_aggregator.specs.Issuing.{IsIssued, NotIssued};
 use crate::place::Place;
 use crate::rounds::Rounds;
 use crate::step::Step;
-use ksi_aggchain::Node;
+use ksi_aggtree::Item;
 use ksi_imprint::{Bytes, Compress, Imprint, NoMemory};
 use ksi_signature::{Above, Answer};
 use std::alloc::Global;
@@ -91,9 +92,9 @@ impl<C: Compress> Aggregator<C> {
     ///
     /// # Errors
     /// `NoMemory`: all is as it was.
-    pub fn submission(&mut self, aggregator: u32, second: u64, item: Node) -> Result<Step, NoMemory>
+    pub fn submission(&mut self, aggregator: u32, second: u64, item: Item) -> Result<Step, NoMemory>
         requires early { second < 2 ^ 63 }
-        requires level { item.level ≤ 239 }
+        requires level { item.level ≤ highest_item }
         ensures me { self.new.me ≡ self.old.me }
         ensures step { IfOk result (IsTurn (rounds_of self.old) (rounds_of self.new) second (round_submission aggregator item (rounds_of self.old second))) }
         ensures late { IfOk result (λ step. (step.answer ≡ Answer.Late) ↔ IsSome (rounds_of self.old second).closed) }

@@ -25,4 +25,4 @@ mod step;
 
 pub use aggregator::Aggregator;
 pub use ksi_imprint::NoMemory;
-pub use step::{Send, Sends, Step};
+pub use step::{Send, Step};

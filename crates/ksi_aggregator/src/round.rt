@@ -1,17 +1,17 @@
 //! The round of one second.
 ghost use Rattle.std.specs.Prelude.{◌≡◌, ◌≤◌, ◌<◌, ◌^◌, ◌↔◌, length, slice_get, is_some, Some, IsTrue, IfOk, IfSome, IfNone, OnErr};
-ghost use Rattle.ksi_aggchain.specs.declared.node.Node.{Node};
+ghost use Rattle.ksi_aggtree.specs.declared.item.Item.{Item};
+ghost use Rattle.ksi_aggtree.specs.Rounds.{highest_item};
 ghost use Rattle.ksi_aggregator.specs.Rows.{fresh_round, round_request, round_submission, round_close, round_response};
 ghost use Rattle.ksi_aggregator.specs.Rounds.{items_in, StandsAt, HasPlace};
 ghost use Rattle.ksi_aggregator.specs.Issuing.{IsIssuedAt, NotIssuedAt, from_request, issued_text};
 
 use crate::copies::copy_above;
 use crate::responses::responses;
-use crate::step::{Send, Sends, Step};
-use ksi_aggchain::Node;
-use ksi_aggtree::{AddRefusal, Entries, Entry, Origin};
-use ksi_imprint::{Bytes, Compress, Imprint, NoMemory};
-use ksi_signature::{Above, Answer, issue};
+use crate::step::{Send, Step};
+use ksi_aggtree::{AddRefusal, Entries, Entry, Item, Origin};
+use ksi_imprint::{Bytes, Compress, Imprint, NoMemory, Refused};
+use ksi_signature::{Above, Answer, Sends, issue};
 use std::alloc::Global;
 use std::marker::Model;
 
@@ -83,16 +83,16 @@ impl<C: Compress> Round<C> {
         ensures unchanged { OnErr result (self.new ≡ self.old) }
     {
         if self.is_closed {
-            return Ok(Step::still(alloc, Answer::Late));
+            return Ok(Step::without_sends(alloc, Answer::Late));
         }
         let entry = Entry {
             origin: Origin::Request(number),
-            item: Node { imprint, level: 0 },
+            item: Item { imprint, level: 0 },
         };
         match self.entries.add(entry) {
-            Ok(_) => Ok(Step::still(alloc, Answer::Number(number))),
-            Err(AddRefusal::Full) => Ok(Step::still(alloc, Answer::Full)),
-            Err(AddRefusal::NoMemory) => Err(NoMemory),
+            Ok(_) => Ok(Step::without_sends(alloc, Answer::Number(number))),
+            Err(Refused::Fault(AddRefusal::Full)) => Ok(Step::without_sends(alloc, Answer::Full)),
+            Err(Refused::NoMemory) => Err(NoMemory),
         }
     }
 
@@ -102,28 +102,28 @@ impl<C: Compress> Round<C> {
         &mut self,
         alloc: Global,
         from: u32,
-        item: Node,
+        item: Item,
     ) -> Result<Step, NoMemory>
-        requires { item.level ≤ 239 }
+        requires { item.level ≤ highest_item }
         ensures after { IfOk result (λ step. self.new ≡ (round_submission from item self.old).after) }
         ensures answer { IfOk result (λ step. step.answer ≡ (round_submission from item self.old).answer) }
         ensures sends { IfOk result (λ step. step.sends ≡ (round_submission from item self.old).sends) }
         ensures unchanged { OnErr result (self.new ≡ self.old) }
     {
         if self.is_closed {
-            return Ok(Step::still(alloc, Answer::Late));
+            return Ok(Step::without_sends(alloc, Answer::Late));
         }
         if self.entries.has_from(from) {
-            return Ok(Step::still(alloc, Answer::Known));
+            return Ok(Step::without_sends(alloc, Answer::Known));
         }
         let entry = Entry {
             origin: Origin::Aggregator(from),
             item,
         };
         match self.entries.add(entry) {
-            Ok(_) => Ok(Step::still(alloc, Answer::Done)),
-            Err(AddRefusal::Full) => Ok(Step::still(alloc, Answer::Full)),
-            Err(AddRefusal::NoMemory) => Err(NoMemory),
+            Ok(_) => Ok(Step::without_sends(alloc, Answer::Done)),
+            Err(Refused::Fault(AddRefusal::Full)) => Ok(Step::without_sends(alloc, Answer::Full)),
+            Err(Refused::NoMemory) => Err(NoMemory),
         }
     }
 
@@ -136,11 +136,11 @@ impl<C: Compress> Round<C> {
         ensures unchanged { OnErr result (self.new ≡ self.old) }
     {
         if self.is_closed {
-            return Ok(Step::still(alloc, Answer::Closed));
+            return Ok(Step::without_sends(alloc, Answer::Closed));
         }
         let mut sends = Vec::new(alloc);
         if let Some(root) = self.entries.root() {
-            sends.push(Send::Submission(root))?;
+            sends.push(Send::Submission(Item::of(root)))?;
         }
         self.response = None;
         self.is_closed = true;
@@ -160,7 +160,7 @@ impl<C: Compress> Round<C> {
         ensures unchanged { OnErr result (self.new ≡ self.old) }
     {
         if !self.is_closed || self.entries.count() == 0 || self.response.is_some() {
-            return Ok(Step::still(alloc, Answer::Nothing));
+            return Ok(Step::without_sends(alloc, Answer::Nothing));
         }
         let sends = responses(alloc, &self.entries, above)?;
         let first = copy_above(alloc, above)?;
@@ -206,11 +206,11 @@ fn issued_by<C: Compress>(
 ) -> Result<Option<Bytes>, NoMemory>
     requires { second < 2 ^ 63 }
     ensures some { IfOk result (λ found. IfSome found (λ bytes.
-        (item : Node) × (slice_get entries.now place ≡ Some (from_request number item))
+        (item : Item) × (slice_get entries.now place ≡ Some (from_request number item))
         × (bytes ≡ issued_text C.image second entries.now place item above.now))) }
     ensures short { IfOk result (λ found. IfSome found (λ bytes. length bytes ≤ 10000)) }
     ensures none { IfOk result (λ found. IfNone found (
-        (item : Node) → slice_get entries.now place ≡ Some (from_request number item) → ⊥)) }
+        (item : Item) → slice_get entries.now place ≡ Some (from_request number item) → ⊥)) }
 {
     if place >= entries.count() {
         return Ok(None);

@@ -2,13 +2,14 @@
 ghost use Rattle.std.specs.Prelude.{◌≡◌, ◌≤◌, ◌<◌, ◌^◌, ℕ, length, Some, IsTrue, ◌↔◌, IfOk, IfSome, IfNone, OnOk, OnErr};
 ghost use Rattle.std.specs.Ordering.{nat_cmp};
 ghost use Rattle.std.specs.BTreeMap.{get};
+ghost use Rattle.ksi_aggtree.specs.Rounds.{highest_item};
 ghost use Rattle.ksi_aggregator.specs.Rows.{fresh_round, round_request, round_submission, round_close, round_response, round_restarted};
 ghost use Rattle.ksi_aggregator.specs.Rounds.{round_at, items_in, HasPlace, SameRounds, IsTurn, ChangesOnly, StandsAt};
 ghost use Rattle.ksi_aggregator.specs.Issuing.{IsIssuedAt, NotIssuedAt};
 
 use crate::round::Round;
 use crate::step::Step;
-use ksi_aggchain::Node;
+use ksi_aggtree::Item;
 use ksi_imprint::{Bytes, Compress, Imprint, NoMemory};
 use ksi_signature::{Above, Answer};
 use std::alloc::Global;
@@ -83,9 +84,9 @@ impl<C: Compress> Rounds<C> {
         &mut self,
         aggregator: u32,
         second: u64,
-        item: Node,
+        item: Item,
     ) -> Result<Step, NoMemory>
-        requires { item.level ≤ 239 }
+        requires { item.level ≤ highest_item }
         ensures step { IfOk result (IsTurn (round_at self.old) (round_at self.new) second (round_submission aggregator item (round_at self.old second))) }
         ensures unchanged { OnErr result (SameRounds (round_at self.old) (round_at self.new)) }
     {
@@ -117,7 +118,7 @@ impl<C: Compress> Rounds<C> {
     {
         match self.map.get_mut(&second) {
             Some(round) => round.response(self.alloc, above),
-            None => Ok(Step::still(self.alloc, Answer::Nothing)),
+            None => Ok(Step::without_sends(self.alloc, Answer::Nothing)),
         }
     }
 

@@ -1,21 +1,27 @@
 -- No level of a round's tree passes 255, so that the cap is never met.
-use Rattle.std.proofs.Common.{◌≡◌, ℕ, zero, suc, ◌+◌, ◌-◌, ◌^◌, ◌<◌, ◌≤◌, List, [], ◌∷◌, ◌++◌, length, max, min, Some, None, refl, sym, ap, ◌∙◌, arith, inl, inr, length-append}
-use Rattle.std.proofs.Math.Nat.{pow-le-pow_right}
-use Rattle.std.proofs.lemmas.List.{get_or_append_left}
-use Rattle.std.proofs.Math.Seq.{get_or-append_seam}
-use Rattle.std.proofs.Math.ListN.{get_or-eq_default}
+use Rattle.std.proofs.Common.{◌≡◌, ℕ, zero, suc, ◌+◌, ◌-◌, ◌^◌, ◌<◌, ◌≤◌, List, [], ◌∷◌, length, max, min, Some, refl, sym, ap, subst, ◌∙◌, arith, inl, inr}
+use Rattle.std.proofs.Math.Nat.{pow-suc, pow-le-pow_right}
+use Rattle.std.proofs.lemmas.Bool.Decides.{eqb_tells, leb_tells}
 use Rattle.ksi_split.specs.declared.side.Side.{Side}
 use Rattle.ksi_split.specs.declared.side.Side.TheVariants.{Left, Right}
+use Rattle.ksi_split.specs.Powers.{IsSplit, split_of}
 use Rattle.ksi_split.specs.Parts.{Part, half_of, part_at}
 use Rattle.ksi_split.specs.Trees.{tree_within, tree, path_within, path_of, node_in, node_at}
-use Rattle.ksi_split.proofs.Powers.{lt_cases, le_cases, eq_cases, doubled, split_is}
-use Rattle.ksi_split.proofs.Levels.{tree_at}
-use Rattle.ksi_split.proofs.Upward.{path_at}
-use Rattle.ksi_rows.specs.Leaves.{leaf_at}
 use Rattle.ksi_aggchain.specs.declared.node.Node.{Node}
-use Rattle.ksi_aggtree.specs.Rounds.{joined_at, aggregation_join, capped_join, item_at, no_item, tree_of, root_from, root_of, node_from, node_of, tree_path, IsRound}
+use Rattle.ksi_aggtree.specs.declared.item.Item.{Item}
+use Rattle.ksi_aggtree.specs.Rounds.{IsRound, joined_at, aggregation_join, capped_join, leaf_of_place, node_from, node_of}
 
-module _ (image : List ℕ → List ℕ) (leaf : ℕ → Node) (low : (i : ℕ) → (leaf i).level ≤ 239) where
+-- what laws of trees and of splits say, as these proofs take it
+abbrev pub TreesFit : Type 0
+TreesFit = (join : Node → Node → Node) (leaf : ℕ → Node) (k lo n : ℕ) → n ≤ 2 ^ k → tree join leaf lo n ≡ tree_within join leaf k lo n
+
+abbrev pub PathsFit : Type 0
+PathsFit = (join : Node → Node → Node) (leaf : ℕ → Node) (k lo t n : ℕ) → n ≤ 2 ^ k → path_of join leaf lo t n ≡ path_within join leaf k lo t n
+
+abbrev pub SplitsFit : Type 0
+SplitsFit = (n : ℕ) → 1 < n → IsSplit n (split_of n)
+
+module _ (image : List ℕ → List ℕ) (fits : TreesFit) (leaf : ℕ → Node) (low : (i : ℕ) → (leaf i).level ≤ 239) where
   same_join : (a b : Node) (k : ℕ) → a.level ≤ 239 + k → b.level ≤ 239 + k → k < 16 → (capped_join image a b ≡ aggregation_join image a b) × ((aggregation_join image a b).level ≤ 239 + suc k)
   same_join a b k la lb few =
       let e : min (max a.level b.level + 1) 255 ≡ max a.level b.level + 1 = omega arith in
@@ -24,7 +30,7 @@ module _ (image : List ℕ → List ℕ) (leaf : ℕ → Node) (low : (i : ℕ) 
   capped_within : (k lo n : ℕ) → k ≤ 16 → (tree_within (capped_join image) leaf k lo n ≡ tree_within (aggregation_join image) leaf k lo n) × ((tree_within (aggregation_join image) leaf k lo n).level ≤ 239 + k)
   unfolding tree_within
   capped_within zero lo n few = (refl, omega (arith, low lo))
-  capped_within (suc k) lo n few = elim (lt_cases (2 ^ k) n) [
+  capped_within (suc k) lo n few = elim (leb_tells (suc (2 ^ k)) n) [
     | inl t ↦ (let left = capped_within k lo (2 ^ k) (omega arith) in
         let right = capped_within k (lo + 2 ^ k) (n - 2 ^ k) (omega arith) in
         let both = same_join (tree_within (aggregation_join image) leaf k lo (2 ^ k)) (tree_within (aggregation_join image) leaf k (lo + 2 ^ k) (n - 2 ^ k)) k left.1 right.1 (omega arith) in
@@ -34,110 +40,71 @@ module _ (image : List ℕ → List ℕ) (leaf : ℕ → Node) (low : (i : ℕ) 
 
   -- the tree of a round, as it is kept
   pub capped_tree : (lo n : ℕ) → n ≤ 65536 → tree (capped_join image) leaf lo n ≡ tree (aggregation_join image) leaf lo n
-  capped_tree lo n few = tree_at (capped_join image) leaf 16 lo n few ∙ (capped_within 16 lo n (omega arith)).0 ∙ sym (tree_at (aggregation_join image) leaf 16 lo n few)
-
-  pub level_within : (lo n : ℕ) → n ≤ 65536 → (tree (aggregation_join image) leaf lo n).level ≤ 255
-  level_within lo n few = let e = ap (λ (x : Node). x.level) (tree_at (aggregation_join image) leaf 16 lo n few) in omega (arith, e, (capped_within 16 lo n (omega arith)).1)
+  capped_tree lo n few = fits (capped_join image) leaf 16 lo n few ∙ (capped_within 16 lo n (omega arith)).0 ∙ sym (fits (aggregation_join image) leaf 16 lo n few)
 
   capped_path_within : (k lo t n : ℕ) → k ≤ 16 → n ≤ 2 ^ k → path_within (capped_join image) leaf k lo t n ≡ path_within (aggregation_join image) leaf k lo t n
   unfolding path_within
   capped_path_within zero lo t n few le = refl
   capped_path_within (suc k) lo t n few le =
       let half : 2 ^ k ≤ 2 ^ 15 = (let few : k ≤ 15 = omega arith in pow-le-pow_right {n = 2} (omega arith) few) in
-      let d = doubled k in
-      elim (lt_cases (2 ^ k) n) [
-        | inl u ↦ elim (lt_cases t (2 ^ k)) [
+      let d = pow-suc 2 k in
+      elim (leb_tells (suc (2 ^ k)) n) [
+        | inl u ↦ elim (leb_tells (suc t) (2 ^ k)) [
           | inl v ↦ rw (u.0, v.0) (cc (capped_path_within k lo t (2 ^ k) (omega arith) (omega arith), capped_tree (lo + 2 ^ k) (n - 2 ^ k) (omega arith)))
           | inr w ↦ rw (u.0, w.0) (cc (capped_path_within k (lo + 2 ^ k) (t - 2 ^ k) (n - 2 ^ k) (omega arith) (omega arith), capped_tree lo (2 ^ k) (omega arith)))
         ]
-        | inr f ↦ rw f.0 (capped_path_within k lo t n (omega arith) f.1)
+        | inr f ↦ rw f.0 (capped_path_within k lo t n (omega arith) (let less = f.1 in omega arith))
       ]
 
-  pub capped_path : (lo t n : ℕ) → n ≤ 65536 → path_of (capped_join image) leaf lo t n ≡ path_of (aggregation_join image) leaf lo t n
-  capped_path lo t n few = path_at (capped_join image) leaf 16 lo t n few ∙ capped_path_within 16 lo t n (omega arith) few ∙ sym (path_at (aggregation_join image) leaf 16 lo t n few)
+  -- a path of a round's tree, as it is kept
+  pub capped_path : PathsFit → (lo t n : ℕ) → n ≤ 65536 → path_of (capped_join image) leaf lo t n ≡ path_of (aggregation_join image) leaf lo t n
+  capped_path paths lo t n few = paths (capped_join image) leaf 16 lo t n few ∙ capped_path_within 16 lo t n (omega arith) few ∙ sym (paths (aggregation_join image) leaf 16 lo t n few)
 
-  half_some : (part : Part) (side : Side) → 1 < part.count → (0 < (half_of part side).count) × ((half_of part side).count ≤ part.count)
-  half_some part Left some = let s = split_is part.count some in (let g = s.greatest in omega arith, let b = s.below in omega arith)
-  half_some part Right some = let s = split_is part.count some in (let b = s.below in omega arith, omega arith)
+  half_some : SplitsFit → (part : Part) (side : Side) → 1 < part.count → (0 < (half_of part side).count) × ((half_of part side).count ≤ part.count)
+  half_some splits part Left some = let s = splits part.count some in (let g = s.greatest in omega arith, let b = s.below in omega arith)
+  half_some splits part Right some = let s = splits part.count some in (let b = s.below in omega arith, omega arith)
 
-  capped_part : (place : ℕ) (part : Part) (sides : List Side) → 0 < part.count → part.count ≤ 65536
+  capped_part : SplitsFit → (place : ℕ) (part : Part) (sides : List Side) → 0 < part.count → part.count ≤ 65536
       → node_in (capped_join image) leaf (part_at place part sides) ≡ node_in (aggregation_join image) leaf (part_at place part sides)
-  capped_part place part [] some few = ap (λ (x : Node). Some x) (capped_tree part.first part.count few)
-  capped_part place part (side ∷ sides) some few = elim (eq_cases part.count 1) [
+  capped_part splits place part [] some few = ap (λ (x : Node). Some x) (capped_tree part.first part.count few)
+  capped_part splits place part (side ∷ sides) some few = elim (eqb_tells part.count 1) [
     | inl t ↦ rw t.0 refl
     | inr f ↦ (let more : 1 < part.count = (let ne = f.1 in omega arith) in
-        let h = half_some part side more in
-        rw f.0 (capped_part (place + 1) (half_of part side) sides h.0 (omega (arith, h.1))))
+        let h = half_some splits part side more in
+        rw f.0 (capped_part splits (place + 1) (half_of part side) sides h.0 (omega (arith, h.1))))
   ]
 
-  pub capped_node : (last : ℕ) (sides : List Side) → last < 65536 → node_at (capped_join image) leaf last sides ≡ node_at (aggregation_join image) leaf last sides
-  capped_node last sides few = capped_part 0 (record { first = 0; count = last + 1 }) sides (omega arith) (omega arith)
+  -- a node of a round's tree, as it is kept
+  pub capped_node : SplitsFit → (last : ℕ) (sides : List Side) → last < 65536 → node_at (capped_join image) leaf last sides ≡ node_at (aggregation_join image) leaf last sides
+  capped_node splits last sides few = capped_part splits 0 (record { first = 0; count = last + 1 }) sides (omega arith) (omega arith)
 
--- ---- as the rows keep a round
+  level_within : (lo n : ℕ) → n ≤ 65536 → (tree (aggregation_join image) leaf lo n).level ≤ 255
+  level_within lo n few = let e = ap (λ (x : Node). x.level) (fits (aggregation_join image) leaf 16 lo n few) in omega (arith, e, (capped_within 16 lo n (omega arith)).1)
 
-same_functions : {A B : Type 0} (f g : A → B) → ((x : A) → f x ≡ g x) → f ≡ g
-same_functions f g h = λ j x. h x j
+  part_low : SplitsFit → (place : ℕ) (part : Part) (sides : List Side) (node : Node) → 0 < part.count → part.count ≤ 65536
+      → node_in (aggregation_join image) leaf (part_at place part sides) ≡ Some node → node.level ≤ 255
+  part_low splits place part [] node some few is =
+      let same : tree (aggregation_join image) leaf part.first part.count ≡ node = cc is in
+      subst (λ (x : Node). x.level ≤ 255) same (level_within part.first part.count few)
+  part_low splits place part (side ∷ sides) node some few is = elim (eqb_tells part.count 1) [
+    | inl t ↦ (let none = rw t.0 at is in absurd (cc none))
+    | inr f ↦ (let more : 1 < part.count = (let ne = f.1 in omega arith) in
+        let h = half_some splits part side more in
+        let rest = rw f.0 at is in
+        part_low splits (place + 1) (half_of part side) sides node h.0 (omega (arith, h.1)) rest)
+  ]
 
-same_items : (items : List Node) (i : ℕ) → leaf_at 0 no_item items i ≡ item_at items i
-same_items items i = elim (lt_cases i 0) [
-  | inl t ↦ absurd (omega arith)
-  | inr w ↦ (let e : i - 0 ≡ i = omega arith in rw (w.0, e) refl)
-]
+  -- a node of a round's tree stands at a level that does not pass the highest
+  pub node_low : SplitsFit → (last : ℕ) (sides : List Side) (node : Node) → last < 65536 → node_at (aggregation_join image) leaf last sides ≡ Some node → node.level ≤ 255
+  node_low splits last sides node few is = part_low splits 0 (record { first = 0; count = last + 1 }) sides node (omega arith) (omega arith) is
 
-pub leaves_are : (start : ℕ) (before : Node) (items : List Node) → start ≡ 0 → before ≡ no_item → leaf_at start before items ≡ item_at items
-leaves_are start before items s b = ap (λ (n : ℕ). leaf_at n before items) s ∙ ap (λ (x : Node). leaf_at 0 x items) b ∙ same_functions (leaf_at 0 no_item items) (item_at items) (same_items items)
-
-some_root : (count : ℕ) (root : Node) → 0 < count → Some root ≡ root_from count root
-some_root zero root some = absurd (omega arith)
-some_root (suc n) root some = refl
-
-pub no_root : (count : ℕ) (root : Node) → count ≡ 0 → None ≡ root_from count root
-no_root zero root none = refl
-no_root (suc n) root none = absurd (omega arith)
-
-pub no_node : (image : List ℕ → List ℕ) (items : List Node) (sides : List Side) (count : ℕ) → count ≡ 0 → None ≡ node_from image items count sides
-no_node image items sides zero none = refl
-no_node image items sides (suc n) none = absurd (omega arith)
-
-pub round_root : (image : List ℕ → List ℕ) (start : ℕ) (before : Node) (items : List Node) (n : ℕ) → start ≡ 0 → before ≡ no_item → IsRound items → n ≡ length items → 0 < n
-    → Some (tree (capped_join image) (leaf_at start before items) 0 n) ≡ root_of image items
-round_root image start before items n s b round count some =
-    ap (λ (f : ℕ → Node). Some (tree (capped_join image) f 0 n)) (leaves_are start before items s b)
-    ∙ ap (λ (x : Node). Some x) (capped_tree image (item_at items) round.low 0 n (let few = round.few in omega arith))
-    ∙ ap (λ (m : ℕ). Some (tree (aggregation_join image) (item_at items) 0 m)) count
-    ∙ some_root (length items) (tree_of image items) (omega arith)
-
-pub last_node : (image : List ℕ → List ℕ) (items : List Node) (sides : List Side) (n last : ℕ) → n ≡ last + 1 → node_at (aggregation_join image) (item_at items) last sides ≡ node_from image items n sides
+pub last_node : (image : List ℕ → List ℕ) (items : List Item) (sides : List Side) (n last : ℕ) → n ≡ last + 1 → node_at (aggregation_join image) (leaf_of_place items) last sides ≡ node_from image items n sides
 last_node image items sides zero last e = absurd (omega arith)
-last_node image items sides (suc n) last e = let same : last ≡ n = omega arith in ap (λ (m : ℕ). node_at (aggregation_join image) (item_at items) m sides) same
+last_node image items sides (suc n) last e = let same : last ≡ n = omega arith in ap (λ (m : ℕ). node_at (aggregation_join image) (leaf_of_place items) m sides) same
 
-pub round_node : (image : List ℕ → List ℕ) (start : ℕ) (before : Node) (items : List Node) (last : ℕ) (sides : List Side) → start ≡ 0 → before ≡ no_item → IsRound items → length items ≡ last + 1
-    → node_at (capped_join image) (leaf_at start before items) last sides ≡ node_of image items sides
-round_node image start before items last sides s b round count =
-    ap (λ (f : ℕ → Node). node_at (capped_join image) f last sides) (leaves_are start before items s b)
-    ∙ capped_node image (item_at items) round.low last sides (let few = round.few in omega arith)
-    ∙ last_node image items sides (length items) last count
-
-pub round_path : (image : List ℕ → List ℕ) (start : ℕ) (before : Node) (items : List Node) (k n : ℕ) → start ≡ 0 → before ≡ no_item → IsRound items → n ≡ length items
-    → path_of (capped_join image) (leaf_at start before items) 0 k n ≡ tree_path image items k
-round_path image start before items k n s b round count =
-    ap (λ (f : ℕ → Node). path_of (capped_join image) f 0 k n) (leaves_are start before items s b)
-    ∙ capped_path image (item_at items) round.low 0 k n (let few = round.few in omega arith)
-    ∙ ap (path_of (aggregation_join image) (item_at items) 0 k) count
-
--- one item more
-pub round_more : (items : List Node) (x : Node) → IsRound items → length items < 65536 → x.level ≤ 239 → IsRound (items ++ x ∷ [])
-round_more items x round room low = record {
-  few = omega (arith, length-append items (x ∷ []));
-  low = λ k. elim (lt_cases k (length items)) [
-    | inl t ↦ (let e = ap (λ (y : Node). y.level) (get_or_append_left items (x ∷ []) no_item k t.1) in omega (arith, e, round.low k))
-    | inr w ↦ elim (le_cases k (length items)) [
-      | inl le ↦ (let at : k ≡ length items = omega arith in
-          let e = ap (λ (y : Node). y.level) (ap (item_at (items ++ x ∷ [])) at ∙ get_or-append_seam items x [] no_item) in omega (arith, e))
-      | inr above ↦ (let e = ap (λ (y : Node). y.level) (get_or-eq_default (items ++ x ∷ []) no_item {n = k} (omega (arith, length-append items (x ∷ [])))) in omega (arith, e))
-    ]
-  ];
-}
-
-pub no_round : IsRound []
-no_round = record { few = omega arith; low = λ k. omega arith }
+pub node_level : TreesFit → SplitsFit → (image : List ℕ → List ℕ) (items : List Item) (sides : List Side) (node : Node) → IsRound items → node_of image items sides ≡ Some node → node.level ≤ 255
+node_level fits splits image items sides node round is = of (length items) round.few is
+  where
+    of : (n : ℕ) → n ≤ 65536 → node_from image items n sides ≡ Some node → node.level ≤ 255
+    of zero few is = absurd (cc is)
+    of (suc last) few is = node_low image fits (leaf_of_place items) round.low splits last sides node (omega (arith, few)) is

@@ -1,10 +1,10 @@
 -- The links of a path climb to what the path leads to.
 use Rattle.std.proofs.Common.{◌≡◌, ℕ, ◌+◌, ◌≤◌, List, [], ◌∷◌, max, Ok, refl, sym, ap, ◌∙◌, arith, inl, inr}
+use Rattle.std.proofs.lemmas.Bool.Decides.{leb_tells}
 use Rattle.ksi_split.specs.declared.side.Side.{Side}
 use Rattle.ksi_split.specs.declared.side.Side.TheVariants.{Left, Right}
 use Rattle.ksi_split.specs.declared.tree_link.TreeLink.{TreeLink}
 use Rattle.ksi_split.specs.Trees.{link_from, climb_links}
-use Rattle.ksi_split.proofs.Powers.{lt_cases}
 use Rattle.ksi_aggchain.specs.declared.node.Node.{Node}
 use Rattle.ksi_aggchain.specs.Links.{side_text, level_above}
 use Rattle.ksi_aggchain.specs.Owned.{plain_link, plain_links}
@@ -38,7 +38,7 @@ module _ (image : List ℕ → List ℕ) where
   links_climb place x (s ∷ path) low =
       let up = rises (link_from (aggregation_join image) x s s.side) path in
       let level : new_level x s ≤ 255 = omega (arith, up, join_level x s s.side) in
-      elim (lt_cases 255 (new_level x s)) [
+      elim (leb_tells 256 (new_level x s)) [
         | inl t ↦ absurd (omega arith)
         | inr f ↦ rw f.0 (ap (λ (y : Node). climbed image (place + 1) y (plain_links (links_from (max x.level s.sibling.level + 1) path))) (same_join x s s.side)
             ∙ ap (λ (l : ℕ). climbed image (place + 1) (link_from (aggregation_join image) x s s.side) (plain_links (links_from l path))) (sym (join_level x s s.side))

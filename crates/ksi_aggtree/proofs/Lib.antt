@@ -1,4 +1,6 @@
 pub mod Capped
+pub mod Kept
 pub mod Climbing
 pub mod Chains
 pub mod Beside
+pub mod Halves

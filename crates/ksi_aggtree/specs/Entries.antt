@@ -2,14 +2,14 @@
 use Rattle.std.specs.Prelude.{◌≡◌, ℕ, Bool, false, ◌==◌, List, [], ◌∷◌, length, map}
 use Rattle.std.specs.List.{list_any}
 use Rattle.ksi_imprint.specs.Imprints.{zero_imprint}
-use Rattle.ksi_aggchain.specs.declared.node.Node.{Node}
+use Rattle.ksi_aggtree.specs.declared.item.Item.{Item}
 use Rattle.ksi_aggtree.specs.declared.entries.Origin.{Origin}
 use Rattle.ksi_aggtree.specs.declared.entries.Origin.TheVariants as origins
 use Rattle.ksi_aggtree.specs.declared.entries.Entry.{Entry}
-use Rattle.ksi_aggtree.specs.Rounds.{tree_of}
+use Rattle.ksi_aggtree.specs.Rounds.{most_items, tree_of}
 
--- the items as they stand in the tree
-abbrev pub items_of : List Entry → List Node
+-- the items alone
+abbrev pub items_of : List Entry → List Item
 items_of entries = map (λ (entry : Entry). entry.item) entries
 
 -- the origin is this aggregator
@@ -28,7 +28,7 @@ to_sender send (origins.Aggregator from) = send from ∷ []
 
 -- a round takes no more
 abbrev pub is_full : List Entry → Bool
-is_full entries = length entries == 65536
+is_full entries = length entries == most_items
 
 -- what a round stands for: the imprint of its tree, the zero imprint where there are no items
 abbrev pub candidate_of : (List ℕ → List ℕ) → List Entry → List ℕ
@@ -36,12 +36,12 @@ candidate_of image [] = zero_imprint
 candidate_of image (entry ∷ entries) = (tree_of image (items_of (entry ∷ entries))).imprint
 
 -- each origin beside its item
-abbrev pub entries_of : List Origin → List Node → List Entry
+abbrev pub entries_of : List Origin → List Item → List Entry
 entries_of [] items = []
 entries_of (origin ∷ others) [] = []
 entries_of (origin ∷ others) (item ∷ items) = record { origin = origin; item = item } ∷ entries_of others items
 
 -- what is kept beside the items: an origin for each, and the aggregators among the origins
-pub record AreKept (origins : List Origin) (items : List Node) (has_sender : ℕ → Bool) : Type 0 where
+pub record AreKept (origins : List Origin) (items : List Item) (has_sender : ℕ → Bool) : Type 0 where
   pub count : length origins ≡ length items
   pub senders : (aggregator : ℕ) → has_sender aggregator ≡ list_any (is_from aggregator) origins

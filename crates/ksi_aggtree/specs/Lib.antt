@@ -1,3 +1,4 @@
 pub mod Rounds
 pub mod Paths
 pub mod Entries
+pub mod Reached

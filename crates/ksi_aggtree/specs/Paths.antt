@@ -4,8 +4,9 @@ use Rattle.ksi_split.specs.declared.side.Side.{Side}
 use Rattle.ksi_split.specs.declared.tree_link.TreeLink.{TreeLink}
 use Rattle.ksi_aggchain.specs.declared.node.Node.{Node}
 use Rattle.ksi_aggchain.specs.declared.link.Link.{Link}
+use Rattle.ksi_aggtree.specs.declared.item.Item.{Item}
 use Rattle.ksi_aggchain.specs.declared.link.Sibling.TheVariants.{Imprint}
-use Rattle.ksi_aggtree.specs.Rounds.{item_at, tree_path}
+use Rattle.ksi_aggtree.specs.Rounds.{leaf_of_place, tree_path}
 
 -- the link that leads from a level to the join with the other part: it makes up for what the level is below that part's
 abbrev pub link_beside : ℕ → TreeLink Node → Link
@@ -17,8 +18,8 @@ links_from level [] = []
 links_from level (other ∷ others) = link_beside level other ∷ links_from (max level other.sibling.level + 1) others
 
 -- the chain of item k
-abbrev pub chain_of : (List ℕ → List ℕ) → List Node → ℕ → List Link
-chain_of image items k = links_from (item_at items k).level (tree_path image items k)
+abbrev pub chain_of : (List ℕ → List ℕ) → List Item → ℕ → List Link
+chain_of image items k = links_from (leaf_of_place items k).level (tree_path image items k)
 
 -- the sides of links that stand from the bottom, from the top down
 abbrev pub sides_from_top : List Link → List Side

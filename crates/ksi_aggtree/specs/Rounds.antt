@@ -1,10 +1,13 @@
--- The aggregation tree of a round's items.
-use Rattle.std.specs.Prelude.{ℕ, zero, suc, ◌+◌, ◌≤◌, List, length, max, min, slice_index_or, Option, None, Some}
+-- The items of a round, the leaves that they make, and the tree over these.
+use Rattle.std.specs.Prelude.{◌≡◌, ℕ, zero, suc, ◌+◌, ◌≤◌, List, length, map, max, min, slice_index_or, Option, None, Some}
 use Rattle.ksi_imprint.specs.Imprints.{join_text, zero_imprint}
 use Rattle.ksi_split.specs.Trees.{tree, path_of, node_at}
 use Rattle.ksi_split.specs.declared.side.Side.{Side}
 use Rattle.ksi_split.specs.declared.tree_link.TreeLink.{TreeLink}
+use Rattle.ksi_split.specs.Leaves.{Leaves}
+use Rattle.ksi_aggchain.specs.Links.{highest_level}
 use Rattle.ksi_aggchain.specs.declared.node.Node.{Node}
+use Rattle.ksi_aggtree.specs.declared.item.Item.{Item}
 
 -- both imprints joined at a level
 abbrev pub joined_at : (List ℕ → List ℕ) → Node → Node → ℕ → Node
@@ -15,19 +18,31 @@ abbrev pub aggregation_join : (List ℕ → List ℕ) → Node → Node → Node
 aggregation_join image left right = joined_at image left right (max left.level right.level + 1)
 
 -- what stands for an item where there is none
-abbrev pub no_item : Node
+abbrev pub no_item : Item
 no_item = record { imprint = zero_imprint; level = 0 }
 
--- the leaf of the tree at a place: the item that was added there
-abbrev pub item_at : List Node → ℕ → Node
+-- the item at a place
+abbrev pub item_at : List Item → ℕ → Item
 item_at items k = slice_index_or items k no_item
 
+-- the leaf of an item: for now the same imprint and level
+abbrev pub leaf : Item → Node
+leaf item = record { imprint = item.imprint; level = item.level }
+
+-- the item that a node is submitted as: for now the same imprint and level
+abbrev pub as_item : Node → Item
+as_item node = record { imprint = node.imprint; level = node.level }
+
+-- the leaf of the tree at a place: that of the item there
+abbrev pub leaf_of_place : List Item → ℕ → Node
+leaf_of_place items k = leaf (item_at items k)
+
 -- the tree over the n items from lo
-abbrev pub tree_from : (List ℕ → List ℕ) → List Node → ℕ → ℕ → Node
-tree_from image items lo n = tree (aggregation_join image) (item_at items) lo n
+abbrev pub tree_from : (List ℕ → List ℕ) → List Item → ℕ → ℕ → Node
+tree_from image items lo n = tree (aggregation_join image) (leaf_of_place items) lo n
 
 -- the tree of all items
-abbrev pub tree_of : (List ℕ → List ℕ) → List Node → Node
+abbrev pub tree_of : (List ℕ → List ℕ) → List Item → Node
 tree_of image items = tree_from image items 0 (length items)
 
 -- the root of the tree, where there is an item
@@ -35,27 +50,43 @@ abbrev pub root_from : ℕ → Node → Option Node
 root_from zero root = None
 root_from (suc n) root = Some root
 
-abbrev pub root_of : (List ℕ → List ℕ) → List Node → Option Node
+abbrev pub root_of : (List ℕ → List ℕ) → List Item → Option Node
 root_of image items = root_from (length items) (tree_of image items)
 
 -- the node that sides from the top lead to in the tree of the items up to the last, where there is one
-abbrev pub node_from : (List ℕ → List ℕ) → List Node → ℕ → List Side → Option Node
+abbrev pub node_from : (List ℕ → List ℕ) → List Item → ℕ → List Side → Option Node
 node_from image items zero sides = None
-node_from image items (suc last) sides = node_at (aggregation_join image) (item_at items) last sides
+node_from image items (suc last) sides = node_at (aggregation_join image) (leaf_of_place items) last sides
 
 -- the node of the tree that sides from the top lead to, where there is an item and they pass no leaf
-abbrev pub node_of : (List ℕ → List ℕ) → List Node → List Side → Option Node
+abbrev pub node_of : (List ℕ → List ℕ) → List Item → List Side → Option Node
 node_of image items sides = node_from image items (length items) sides
 
 -- from item k up to the root, each other part with its level
-abbrev pub tree_path : (List ℕ → List ℕ) → List Node → ℕ → List (TreeLink Node)
-tree_path image items k = path_of (aggregation_join image) (item_at items) 0 k (length items)
+abbrev pub tree_path : (List ℕ → List ℕ) → List Item → ℕ → List (TreeLink Node)
+tree_path image items k = path_of (aggregation_join image) (leaf_of_place items) 0 k (length items)
 
--- a round: at most 65,536 items, of levels to 239
-pub record IsRound (items : List Node) : Type 0 where
-  pub few : length items ≤ 65536
-  pub low : (k : ℕ) → (item_at items k).level ≤ 239
+-- how many items a round may have
+abbrev pub most_items : ℕ
+most_items = 65536
 
--- the join as it is computed, its level kept within a byte; in a round no level passes 255
+-- the highest level that an item may have
+abbrev pub highest_item : ℕ
+highest_item = 239
+
+-- a round: so many items at most, each of such a level at most
+pub record IsRound (items : List Item) : Type 0 where
+  pub few : length items ≤ most_items
+  pub low : (k : ℕ) → (item_at items k).level ≤ highest_item
+
+-- ---- in the code
+
+-- the join as it is computed, its level kept within a byte; in a round no level passes the highest
 abbrev pub capped_join : (List ℕ → List ℕ) → Node → Node → Node
-capped_join image left right = joined_at image left right (min (max left.level right.level + 1) 255)
+capped_join image left right = joined_at image left right (min (max left.level right.level + 1) highest_level)
+
+-- what is kept beside the items: their leaves, before which no others stand
+pub record AreLeaves (leaves : Leaves Node) (items : List Item) : Type 0 where
+  pub start : leaves.start ≡ 0
+  pub before : leaves.before ≡ leaf no_item
+  pub nodes : leaves.items ≡ map leaf items

@@ -2,16 +2,18 @@ ghost use Rattle.std.specs.Prelude.{◌≡◌, ◌++◌, ◌∷◌, [], ◌<◌,
 ghost use Rattle.ksi_split.specs.Ways.{way_of};
 ghost use Rattle.ksi_aggchain.specs.Climbing.{Climbs};
 ghost use Rattle.ksi_aggchain.specs.Owned.{plain_links};
-ghost use Rattle.ksi_aggtree.specs.Rounds.{item_at, tree_of, root_of, node_of};
+ghost use Rattle.ksi_aggtree.specs.Rounds.{most_items, highest_item, leaf, item_at, tree_of, root_of, node_of};
 ghost use Rattle.ksi_aggtree.specs.Paths.{chain_of, sides_from_top};
 
+use crate::item::{Item, MOST_ITEMS};
 use crate::item_path::ItemPath;
 use crate::join::AggregationJoin;
-use crate::laws::one_chain;
+use crate::laws::{no_cap, one_chain};
+use crate::paths::RoundPaths;
+use crate::room::put;
 use ksi_aggchain::Node;
-use ksi_imprint::{Compress, Imprint, NoMemory};
-use ksi_rows::{Rows, Steps};
-use ksi_split::Side;
+use ksi_imprint::{Compress, Imprint, NoMemory, Refused};
+use ksi_split::{Rows, Side, Steps};
 use std::alloc::Global;
 use std::marker::{Brand, Model};
 use std::sync::ledger::{Blank, Ledger};
@@ -21,36 +23,25 @@ use std::sync::ledger::{Blank, Ledger};
 pub enum AddRefusal {
     /// The round has 65,536 items.
     Full,
-    /// There is no memory for it.
-    NoMemory,
-}
-
-impl From<NoMemory> for AddRefusal {
-    ghost use Rattle.ksi_aggtree.specs.declared.builder.AddRefusal.TheVariants as refusals;
-
-    ghost from_gives = { λ _ refusal. refusal ≡ refusals.NoMemory };
-
-    fn from(_: NoMemory) -> Self {
-        AddRefusal::NoMemory
-    }
 }
 
 /// A round: items of levels to 239, at most 65,536 of them, and their tree. A contract sees their list.
 #[derive(Drop)]
 pub struct Builder<C: Compress> {
+    items: Vec<Item>,
     rows: Rows<Node, AggregationJoin<C>>,
 }
 
 impl<C: Compress> Model for Builder<C> {
     ghost use Rattle.std.specs.Prelude.{List, ◌≡◌};
-    ghost use Rattle.ksi_aggchain.specs.declared.node.Node as nodes;
-    ghost use Rattle.ksi_aggtree.specs.Rounds.{IsRound, no_item};
+    ghost use Rattle.ksi_aggtree.specs.declared.item.Item as item;
+    ghost use Rattle.ksi_aggtree.specs.Rounds.{IsRound, AreLeaves};
 
-    ghost Value = { List nodes.Node };
+    ghost Value = { List item.Item };
 
-    ghost view = { λ b. b.rows.items };
+    ghost view = { λ b. b.items.items };
 
-    ghost invariant = { λ b. (b.rows.start ≡ 0) × (b.rows.before ≡ no_item) × IsRound b.rows.items };
+    ghost invariant = { λ b. AreLeaves b.rows b.items.items × IsRound b.items.items };
 }
 
 impl<C: Compress> Builder<C> {
@@ -61,29 +52,32 @@ impl<C: Compress> Builder<C> {
     pub fn new(alloc: Global) -> Result<Self, NoMemory>
         ensures { IfOk result (λ round. round ≡ []) }
     {
-        let none = Node {
+        let none = Item {
             imprint: Imprint::ZERO,
             level: 0,
         };
-        let rows = Rows::new(alloc, 0, none)?;
-        Ok(Builder { rows })
+        let rows = Rows::new(alloc, 0, none.leaf())?;
+        Ok(Builder {
+            items: Vec::new(alloc),
+            rows,
+        })
     }
 
     /// How many items the round has.
     pub fn count(&self) -> usize
         ensures count { result ≡ length self.now }
-        ensures few { length self.now ≤ 65536 }
+        ensures few { length self.now ≤ most_items }
     {
-        self.rows.count() as usize
+        self.items.len()
     }
 
-    /// Node `k`, which is below the count.
-    pub fn item(&self, k: usize) -> Node
+    /// Item `k`, which is below the count.
+    pub fn item(&self, k: usize) -> Item
         requires { k < length self.now }
         ensures item { result ≡ item_at self.now k }
-        ensures low { result.level ≤ 239 }
+        ensures low { result.level ≤ highest_item }
     {
-        self.rows.leaf(k as u64)
+        self.items[k]
     }
 
     /// The tree of the items, none where there is no item.
@@ -94,6 +88,7 @@ impl<C: Compress> Builder<C> {
         if count == 0 {
             None
         } else {
+            no_cap();
             Some(self.rows.root(count - 1))
         }
     }
@@ -106,11 +101,12 @@ impl<C: Compress> Builder<C> {
         if count == 0 {
             None
         } else {
+            no_cap();
             self.rows.node(count - 1, sides)
         }
     }
 
-    /// The links from item `k`, which is below the count, up to the root, the lowest first, with the corrections that
+    /// The links from the leaf of item `k`, which is below the count, up to the root, the lowest first, with the corrections that
     /// meet the tree's levels.
     ///
     /// # Errors
@@ -119,7 +115,7 @@ impl<C: Compress> Builder<C> {
         requires { k < length self.now }
         ensures links { IfOk result (λ links. links ≡ chain_of C.image self.now k) }
         ensures climbs { IfOk result (λ links.
-            Climbs C.image (item_at self.now k) (plain_links links) (tree_of C.image self.now)) }
+            Climbs C.image (leaf (item_at self.now k)) (plain_links links) (tree_of C.image self.now)) }
         ensures way { IfOk result (λ links. sides_from_top links ≡ way_of k (length self.now)) }
         ensures few { IfOk result (λ links. length links ≤ 16) }
     {
@@ -138,36 +134,54 @@ impl<C: Compress> Builder<C> {
         requires { k < length self.now }
         ensures links { IfOk result (λ links. links ≡ chain_of C.image self.now k) }
         ensures climbs { IfOk result (λ links.
-            Climbs C.image (item_at self.now k) (plain_links links) (tree_of C.image self.now)) }
+            Climbs C.image (leaf (item_at self.now k)) (plain_links links) (tree_of C.image self.now)) }
         ensures way { IfOk result (λ links. sides_from_top links ≡ way_of k (length self.now)) }
         ensures few { IfOk result (λ links. length links ≤ 16) }
         ensures most { steps.new ≤ steps.old + 32 }
         ensures least { IfOk result (λ links. steps.old + length links < steps.new) }
     {
+        no_cap();
         one_chain();
         let last = self.rows.count() - 1;
         let others = self.rows.path_counted(k as u64, last, steps)?;
-        let item = self.rows.leaf_counted(k as u64, steps);
-        ItemPath::beside(self.rows.alloc(), item.level, &others)
+        let leaf = self.rows.leaf_counted(k as u64, steps);
+        ItemPath::beside(self.rows.alloc(), leaf.level, &others)
+    }
+
+    /// The paths of all items, of which there is one at least.
+    ///
+    /// # Errors
+    /// `NoMemory`: all is as it was.
+    pub fn paths(&self) -> Result<RoundPaths<'_, C>, NoMemory>
+        requires { 0 < length self.now }
+        ensures { IfOk result (λ paths. paths ≡ self.now) }
+    {
+        let paths = self.rows.paths(self.rows.count() - 1)?;
+        Ok(RoundPaths {
+            items: self.items.as_slice(),
+            paths,
+        })
     }
 
     /// Adds an item of a level to 239 behind the others, and says which it is, the first one being item 0.
     ///
     /// # Errors
     /// `Full` exactly where there are 65,536 items, or `NoMemory`: all is as it was.
-    pub fn add(&mut self, item: Node) -> Result<usize, AddRefusal>
-        requires { item.level ≤ 239 }
+    pub fn add(&mut self, item: Item) -> Result<usize, Refused<AddRefusal>>
+        requires { item.level ≤ highest_item }
         ensures place { IfOk result (λ k. k ≡ length self.old) }
         ensures added { IfOk result (λ k. self.new ≡ self.old ++ item ∷ []) }
-        ensures full { (result ≡ Err AddRefusal.Full) ↔ (length self.old ≡ 65536) }
+        ensures full { (result ≡ Err (Refused.Fault AddRefusal.Full)) ↔ (length self.old ≡ most_items) }
         ensures unchanged { OnErr result (self.new ≡ self.old) }
     {
-        let count = self.rows.count();
-        if count >= 65536 {
-            return Err(AddRefusal::Full);
+        let place = self.items.len();
+        if place >= MOST_ITEMS {
+            return Err(Refused::Fault(AddRefusal::Full));
         }
-        self.rows.append(item)?;
-        Ok(count as usize)
+        self.items.reserve(1)?;
+        self.rows.append(item.leaf())?;
+        put(&mut self.items, item);
+        Ok(place)
     }
 }
 
@@ -182,7 +196,7 @@ fn path_from<C: Compress, L: Ledger>(
     requires there { k < length round.now }
     ensures links { IfOk result (λ links. links ≡ chain_of C.image round.now k) }
     ensures climbs { IfOk result (λ links.
-        Climbs C.image (item_at round.now k) (plain_links links) (tree_of C.image round.now)) }
+        Climbs C.image (leaf (item_at round.now k)) (plain_links links) (tree_of C.image round.now)) }
     ensures way { IfOk result (λ links. sides_from_top links ≡ way_of k (length round.now)) }
     ensures few { IfOk result (λ links. length links ≤ 16) }
 {

@@ -1,16 +1,19 @@
-ghost use Rattle.std.specs.Prelude.{◌≡◌, ◌++◌, ◌∷◌, [], ◌<◌, ◌≤◌, ◌↔◌, length, slice_get, vec_len, vec_capacity, Some, OnErr, IfOk};
+ghost use Rattle.std.specs.Prelude.{◌≡◌, ◌++◌, ◌∷◌, [], ◌<◌, ◌≤◌, ◌↔◌, length, slice_get, Some, OnErr, IfOk};
 ghost use Rattle.ksi_split.specs.Ways.{way_of};
 ghost use Rattle.ksi_aggchain.specs.Climbing.{Climbs};
 ghost use Rattle.ksi_aggchain.specs.Owned.{plain_links};
-ghost use Rattle.ksi_aggtree.specs.Rounds.{item_at, tree_of, root_of};
+ghost use Rattle.ksi_aggtree.specs.Rounds.{most_items, highest_item, leaf, item_at, tree_of, root_of};
 ghost use Rattle.ksi_aggtree.specs.Paths.{chain_of, sides_from_top};
 ghost use Rattle.ksi_aggtree.specs.Entries.{items_of, has_from, candidate_of};
 
 use crate::builder::{AddRefusal, Builder};
+use crate::item::{Item, MOST_ITEMS};
 use crate::item_path::ItemPath;
+use crate::paths::RoundPaths;
+use crate::room::put;
 use crate::senders::{make_room, note};
 use ksi_aggchain::Node;
-use ksi_imprint::{Compress, Imprint, NoMemory};
+use ksi_imprint::{Compress, Imprint, NoMemory, Refused};
 use std::alloc::Global;
 use std::collections::HashSet;
 use std::marker::Model;
@@ -28,7 +31,7 @@ pub enum Origin {
 #[derive(Clone, Copy, PartialEq, Eq, Debug)]
 pub struct Entry {
     pub origin: Origin,
-    pub item: Node,
+    pub item: Item,
 }
 
 /// A round with where its items came from. A contract sees their list.
@@ -75,7 +78,7 @@ impl<C: Compress> Entries<C> {
         self.round.count()
     }
 
-    /// Node `k`, which is below the count, and where it came from.
+    /// Item `k`, which is below the count, and where it came from.
     pub fn entry(&self, k: usize) -> Entry
         requires { k < length self.now }
         ensures { slice_get self.now k ≡ Some result }
@@ -110,7 +113,7 @@ impl<C: Compress> Entries<C> {
         }
     }
 
-    /// The links from item `k`, which is below the count, up to the root, the lowest first, with the corrections that
+    /// The links from the leaf of item `k`, which is below the count, up to the root, the lowest first, with the corrections that
     /// meet the tree's levels.
     ///
     /// # Errors
@@ -119,27 +122,38 @@ impl<C: Compress> Entries<C> {
         requires { k < length self.now }
         ensures links { IfOk result (λ links. links ≡ chain_of C.image (items_of self.now) k) }
         ensures climbs { IfOk result (λ links.
-            Climbs C.image (item_at (items_of self.now) k) (plain_links links) (tree_of C.image (items_of self.now))) }
+            Climbs C.image (leaf (item_at (items_of self.now) k)) (plain_links links) (tree_of C.image (items_of self.now))) }
         ensures way { IfOk result (λ links. sides_from_top links ≡ way_of k (length self.now)) }
         ensures few { IfOk result (λ links. length links ≤ 16) }
     {
         self.round.path(k)
     }
 
+    /// The paths of all items, of which there is one at least. A contract sees the items without their origins.
+    ///
+    /// # Errors
+    /// `NoMemory`: all is as it was.
+    pub fn paths(&self) -> Result<RoundPaths<'_, C>, NoMemory>
+        requires { 0 < length self.now }
+        ensures { IfOk result (λ paths. paths ≡ items_of self.now) }
+    {
+        self.round.paths()
+    }
+
     /// Adds an item of a level to 239 behind the others, and says which it is, the first one being item 0.
     ///
     /// # Errors
     /// `Full` exactly where there are 65,536 items, or `NoMemory`: all is as it was.
-    pub fn add(&mut self, entry: Entry) -> Result<usize, AddRefusal>
-        requires { entry.item.level ≤ 239 }
+    pub fn add(&mut self, entry: Entry) -> Result<usize, Refused<AddRefusal>>
+        requires { entry.item.level ≤ highest_item }
         ensures place { IfOk result (λ k. k ≡ length self.old) }
         ensures added { IfOk result (λ k. self.new ≡ self.old ++ entry ∷ []) }
-        ensures full { (result ≡ Err AddRefusal.Full) ↔ (length self.old ≡ 65536) }
+        ensures full { (result ≡ Err (Refused.Fault AddRefusal.Full)) ↔ (length self.old ≡ most_items) }
         ensures unchanged { OnErr result (self.new ≡ self.old) }
     {
         let place = self.count();
-        if place == 65536 {
-            return Err(AddRefusal::Full);
+        if place == MOST_ITEMS {
+            return Err(Refused::Fault(AddRefusal::Full));
         }
         self.origins.reserve(1)?;
         make_room(&mut self.senders, &entry.origin)?;
@@ -151,16 +165,5 @@ impl<C: Compress> Entries<C> {
             }
             Err(refusal) => Err(refusal),
         }
-    }
-}
-
-/// Puts an origin behind the others, where there is room.
-fn put(origins: &mut Vec<Origin>, origin: Origin)
-    requires { vec_len origins.old < vec_capacity origins.old }
-    ensures { origins.new.items ≡ origins.old.items ++ origin ∷ [] }
-{
-    match origins.push(origin) {
-        Ok(()) => {}
-        Err(_) => unreachable!(),
     }
 }

@@ -1,40 +1,40 @@
 ghost use Rattle.std.specs.Prelude.{◌≡◌};
 
-use ksi_aggchain::Node;
+use crate::item::Item;
 use std::marker::Model;
 
-/// The items of a tree, in order. A contract sees their list.
+/// Items in order. A contract sees their list.
 #[derive(Drop)]
 pub struct Items {
-    vec: Vec<Node>,
+    vec: Vec<Item>,
 }
 
 impl Model for Items {
     ghost use Rattle.std.specs.Prelude.{List};
-    ghost use Rattle.ksi_aggchain.specs.declared.node.Node as nodes;
+    ghost use Rattle.ksi_aggtree.specs.declared.item.Item as item;
 
-    ghost Value = { List nodes.Node };
+    ghost Value = { List item.Item };
 
     ghost view = { λ items. items.vec.items };
 }
 
 impl Items {
     /// The items of a `Vec`, which is not copied.
-    pub fn from_vec(vec: Vec<Node>) -> Self
+    pub fn from_vec(vec: Vec<Item>) -> Self
         ensures { result ≡ vec.items }
     {
         Items { vec }
     }
 
     /// The items, which are not copied.
-    pub fn as_slice(&self) -> &[Node]
+    pub fn as_slice(&self) -> &[Item]
         ensures { result.now ≡ self.now }
     {
         &self.vec
     }
 
     /// The `Vec` of the items, which are not copied.
-    pub fn into_vec(self) -> Vec<Node>
+    pub fn into_vec(self) -> Vec<Item>
         ensures { result.items ≡ self }
     {
         let Items { vec } = self;

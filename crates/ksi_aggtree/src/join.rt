@@ -2,7 +2,7 @@ ghost use Rattle.ksi_aggtree.specs.Rounds.{capped_join};
 
 use ksi_aggchain::Node;
 use ksi_imprint::Compress;
-use ksi_rows::Joins;
+use ksi_split::Joins;
 use std::marker::PhantomData;
 
 /// How two parts of a round are joined: one level above the greater of their levels.

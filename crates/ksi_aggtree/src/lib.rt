@@ -1,18 +1,20 @@
-//! Rounds of an aggregation: their items, the tree over these, its root and the chains of the items.
+//! Rounds of an aggregation: their items, the tree over the leaves of these, its root and the chains of the items.
 //!
 //! The tree of more than one item is cut as `ksi_split` says. Its level is one above the greater level of both parts,
 //! and its imprint is the join of both at that level (Buldas, Kroonmaa, Laanoja, "Keyless Signatures' Infrastructure",
 //! 2013). A round has at most 65,536 items, of levels to 239, so that no level passes 255.
 //!
-//! The layer above may rely on this: `root` is the tree of the items; the links of `path` climb from an item to it along
-//! the item's way; `node` is the tree of the part that sides lead to. Only `add` and the paths take memory, and
-//! after a refused `add` all is as it was. A path takes at most 32 steps, each the read of one stored node, and one step
-//! at least for the item and for each link. [`Entries`] is a round that also keeps where each item came from, a request
-//! or an aggregator. What holds of the definitions is in `laws`.
+//! An [`Item`] is what is submitted and kept; its leaf is the node that stands for it in a tree, and what chains climb
+//! from. The layer above may rely on this: `root` is the tree of the items; the links of `path` climb from an item's leaf
+//! to it along the item's way; `node` is the tree of the part that sides lead to. Only `add` and the paths take memory,
+//! and after a refused `add` all is as it was. `root_over`, `node_over` and `root_with` are the same over a slice of
+//! items; they take no memory, and compute each node from its leaves. A path takes at most 32 steps, each the read of
+//! one stored node, and one step at least for the item and for each link. [`Entries`] is a round that also keeps where
+//! each item came from, a request or an aggregator. What holds of the definitions is in `laws`.
 //!
 //! ```text
 //! let mut round = Builder::<Sha>::new(alloc)?;
-//! let first = round.add(Node { imprint, level: 0 })?;
+//! let first = round.add(Item { imprint, level: 0 })?;
 //! round.add(other)?;
 //! let links = round.path(first)?;
 //! assert_eq!(climb::<Sha>(imprint, 0, links.as_slice()).ok(), round.root());
@@ -21,14 +23,23 @@
 
 mod builder;
 mod entries;
+mod item;
 mod item_path;
 mod items;
 mod join;
 pub mod laws;
+mod over;
+mod paths;
+mod room;
+mod second;
 mod senders;
 
 pub use builder::{AddRefusal, Builder};
 pub use entries::{Entries, Entry, Origin};
+pub use item::{HIGHEST_ITEM, Item, MOST_ITEMS};
 pub use item_path::ItemPath;
 pub use items::Items;
-pub use ksi_rows::Steps;
+pub use ksi_split::Steps;
+pub use over::{node_over, root_over, root_with};
+pub use paths::RoundPaths;
+pub use second::Second;

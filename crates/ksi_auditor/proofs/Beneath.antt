@@ -2,7 +2,7 @@
 use Rattle.std.proofs.Common.{◌≡◌, ℕ, List, [], Option, Some, None, ap, ◌∙◌}
 use Rattle.ksi_imprint.specs.declared.clash.Clash.{Clash}
 use Rattle.ksi_split.specs.declared.tree_link.TreeLink.{TreeLink}
-use Rattle.ksi_aggchain.specs.declared.node.Node.{Node}
+use Rattle.ksi_aggtree.specs.declared.item.Item.{Item}
 use Rattle.ksi_aggchain.specs.Links.{PlainLink}
 use Rattle.ksi_calendar.specs.Calendar.{Seconds}
 use Rattle.ksi_signature.specs.Values.{Calendar}
@@ -28,8 +28,8 @@ module _ (image : List ℕ → List ℕ) (j : Contents) (signature : Signature) 
   above_clash clash some = first_above image (items_at j t) (links_of signature) hash t (calendar_pairs image j calendar) clash
       (a_clash (calendar_text image (calendar_of j) calendar.publication) [] (calendar_rungs_from image calendar.input calendar.links) walk found clash went is some)
 
-  pub above_none : (items : List Node) (all : List PlainLink) → items ≡ items_at j t → all ≡ links_of signature → found ≡ None → compared image items all hash t [] ≡ laid_beside image j signature hash t calendar
+  pub above_none : (items : List Item) (all : List PlainLink) → items ≡ items_at j t → all ≡ links_of signature → found ≡ None → compared image items all hash t [] ≡ laid_beside image j signature hash t calendar
   above_none items all there here none =
-      ap (λ (x : List Node). compared image x all hash t []) there ∙ ap (λ (l : List PlainLink). compared image (items_at j t) l hash t []) here
+      ap (λ (x : List Item). compared image x all hash t []) there ∙ ap (λ (l : List PlainLink). compared image (items_at j t) l hash t []) here
       ∙ none_above image (items_at j t) (links_of signature) hash t (calendar_pairs image j calendar)
       (no_clash (calendar_text image (calendar_of j) calendar.publication) [] (calendar_rungs_from image calendar.input calendar.links) walk found went is none)

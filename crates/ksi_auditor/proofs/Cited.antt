@@ -10,7 +10,8 @@ use Rattle.ksi_split.specs.Ways.{LeadsTo, NamesSecond}
 use Rattle.ksi_aggchain.specs.Links.{PlainLink}
 use Rattle.ksi_aggchain.specs.Climbing.{Climbs, climbed}
 use Rattle.ksi_aggchain.specs.declared.node.Node.{Node}
-use Rattle.ksi_aggtree.specs.Rounds.{aggregation_join, item_at, tree_from}
+use Rattle.ksi_aggtree.specs.declared.item.Item.{Item}
+use Rattle.ksi_aggtree.specs.Rounds.{aggregation_join, leaf, item_at, tree_from}
 use Rattle.ksi_calchain.specs.Climbing.{ClimbsCalendar, calendar_join}
 use Rattle.ksi_calendar.specs.Calendar.{Seconds, calendar_leaf, calendar_tree, calendar_root, is_covered}
 use Rattle.ksi_calendar.specs.Covered.{Roots, IsCovered, first_missing, covered_root, second_leaf}
@@ -29,8 +30,8 @@ pub record Laws : Type 0 where
   pub second : (p t : ℕ) (sides : List Side) → (second_at p sides ≡ Ok t) ↔ NamesSecond p sides t
   pub calendar_one : (image : List ℕ → List ℕ) (seconds : Seconds) (lo : ℕ) → calendar_tree image seconds lo 1 ≡ calendar_leaf seconds lo
   pub calendar_cut : (image : List ℕ → List ℕ) (seconds : Seconds) (lo n k : ℕ) → IsSplit n k → calendar_tree image seconds lo n ≡ calendar_join image (calendar_tree image seconds lo k) (calendar_tree image seconds (lo + k) (n - k))
-  pub aggregation_one : (image : List ℕ → List ℕ) (items : List Node) (lo : ℕ) → tree_from image items lo 1 ≡ item_at items lo
-  pub aggregation_cut : (image : List ℕ → List ℕ) (items : List Node) (lo n k : ℕ) → IsSplit n k → tree_from image items lo n ≡ aggregation_join image (tree_from image items lo k) (tree_from image items (lo + k) (n - k))
+  pub aggregation_one : (image : List ℕ → List ℕ) (items : List Item) (lo : ℕ) → tree_from image items lo 1 ≡ leaf (item_at items lo)
+  pub aggregation_cut : (image : List ℕ → List ℕ) (items : List Item) (lo n k : ℕ) → IsSplit n k → tree_from image items lo n ≡ aggregation_join image (tree_from image items lo k) (tree_from image items (lo + k) (n - k))
   pub climbs : (image : List ℕ → List ℕ) (start top : Node) (links : List PlainLink) → (climbed image 0 start links ≡ Ok top) ↔ Climbs image start links top
   pub calendar_climbs : (image : List ℕ → List ℕ) (start top : List ℕ) (links : List (TreeLink (List ℕ))) → ClimbsCalendar image start links top ↔ (top ≡ climb_links (calendar_join image) start links)
   pub lead : (image : List ℕ → List ℕ) (chains : List PlainChain) (start item : Node) → ChainsLead image start chains item → Climbs image start (all_links chains) item

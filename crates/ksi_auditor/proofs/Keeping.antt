@@ -4,11 +4,11 @@ use Rattle.std.specs.Prelude.{slice_index_or, nat_lt, false}
 use Rattle.std.specs.List.{AllByRecursion}
 use Rattle.ksi_imprint.specs.Imprints.{zero_imprint}
 use Rattle.ksi_split.specs.Trees.{tree, tree_within}
-use Rattle.ksi_aggchain.specs.declared.node.Node.{Node}
+use Rattle.ksi_aggtree.specs.declared.item.Item.{Item}
 use Rattle.ksi_aggtree.specs.Rounds.{item_at, tree_of}
 use Rattle.ksi_calendar.specs.Calendar.{calendar_leaf}
 use Rattle.ksi_calendar.specs.Covered.{second_leaf}
-use Rattle.ksi_journal.specs.declared.second.Second.{Second}
+use Rattle.ksi_aggtree.specs.declared.second.Second.{Second}
 use Rattle.ksi_journal.specs.Journal.{Contents, IsItem, IsRootOf, IsSecond, IsJournal, kept_among, root_at, items_of, items_at}
 use Rattle.ksi_journal.specs.Calendar.{calendar_of, roots_from}
 use Rattle.ksi_auditor.proofs.Cases.{lt_cases, eq_cases}
@@ -26,12 +26,12 @@ module _ {A : Type 0} (P : A → Type 0) (join : A → A → A) (leaf : ℕ → 
 
 -- ---- sizes
 
-pub item_size : (items : List Node) (k : ℕ) → AllByRecursion IsItem items → length (item_at items k).imprint ≡ 33
+pub item_size : (items : List Item) (k : ℕ) → AllByRecursion IsItem items → length (item_at items k).imprint ≡ 33
 item_size [] k all = refl
 item_size (item ∷ items) zero all = all.0.imprint.size
 item_size (item ∷ items) (suc k) all = item_size items k all.1
 
-pub item_level : (items : List Node) (k : ℕ) → AllByRecursion IsItem items → (item_at items k).level ≤ 239
+pub item_level : (items : List Item) (k : ℕ) → AllByRecursion IsItem items → (item_at items k).level ≤ 239
 item_level [] k all = omega arith
 item_level (item ∷ items) zero all = all.0.level
 item_level (item ∷ items) (suc k) all = item_level items k all.1
@@ -55,7 +55,7 @@ module _ (image : List ℕ → List ℕ) where
     | inr other ↦ (let found = rw other.0 at e in kept_is others t kept all.1 found)
   ]
 
-  pub record KeptItems (items : List Node) : Type 0 where
+  pub record KeptItems (items : List Item) : Type 0 where
     pub few : length items ≤ 65536
     pub each : AllByRecursion IsItem items
 
@@ -72,7 +72,7 @@ module _ (image : List ℕ → List ℕ) where
     pub some : 0 < length (items_at j t)
     pub root : (tree_of image (items_at j t)).imprint ≡ second_leaf (root_at j) j.start t
 
-  rooted : (items : List Node) (root : List ℕ) → IsRootOf image items root → root ≢ zero_imprint → (0 < length items) × ((tree_of image items).imprint ≡ root)
+  rooted : (items : List Item) (root : List ℕ) → IsRootOf image items root → root ≢ zero_imprint → (0 < length items) × ((tree_of image items).imprint ≡ root)
   rooted [] root is other = absurd (other is)
   rooted (item ∷ items) root is other = (omega arith, is.1)
 

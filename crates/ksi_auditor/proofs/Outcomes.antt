@@ -4,7 +4,7 @@ use Rattle.std.proofs.lemmas.List.{length-take-le, length-map}
 use Rattle.ksi_imprint.specs.declared.clash.Clash.{Clash}
 use Rattle.ksi_split.specs.declared.side.Side.{Side}
 use Rattle.ksi_aggchain.specs.Links.{PlainLink}
-use Rattle.ksi_aggchain.specs.declared.node.Node.{Node}
+use Rattle.ksi_aggtree.specs.declared.item.Item.{Item}
 use Rattle.ksi_verifier.specs.Chains.{at_level_zero}
 use Rattle.ksi_auditor.specs.Beside.{Rung, rung_side, rung_text, rungs_from, Pair, pairs_below, differing}
 use Rattle.ksi_auditor.specs.Kept.{items_text}
@@ -121,7 +121,7 @@ differing_then (here ∷ pairs) more e = elim (same_cases here.0 here.1) [
 
 -- ---- the answers of the code
 
-module _ (image : List ℕ → List ℕ) (items : List Node) (links : List PlainLink) (hash : List ℕ) (t : ℕ) where
+module _ (image : List ℕ → List ℕ) (items : List Item) (links : List PlainLink) (hash : List ℕ) (t : ℕ) where
   abbrev rungs : List Rung
   rungs = rungs_from image (at_level_zero hash) links
 
@@ -177,9 +177,9 @@ module _ (image : List ℕ → List ℕ) (items : List Node) (links : List Plain
 
 -- ---- the same with the walk of the code, beside a round that is these items
 
-module _ (image : List ℕ → List ℕ) (round items : List Node) (links : List PlainLink) (hash : List ℕ) (t : ℕ) (walk : Walk) (same : round ≡ items) (e : walk ≡ go (items_text image round) (At []) (rungs_from image (at_level_zero hash) links)) where
+module _ (image : List ℕ → List ℕ) (round items : List Item) (links : List PlainLink) (hash : List ℕ) (t : ℕ) (walk : Walk) (same : round ≡ items) (e : walk ≡ go (items_text image round) (At []) (rungs_from image (at_level_zero hash) links)) where
   went : walk ≡ go (items_text image items) (At []) (rungs_from image (at_level_zero hash) links)
-  went = e ∙ ap (λ (x : List Node). go (items_text image x) (At []) (rungs_from image (at_level_zero hash) links)) same
+  went = e ∙ ap (λ (x : List Item). go (items_text image x) (At []) (rungs_from image (at_level_zero hash) links)) same
 
   pub code_clash : (clash : Clash) → walk ≡ Apart clash → answers.Clash clash ≡ compared image items links hash t []
   code_clash clash is = clash_below image items links hash t clash (sym is ∙ went)

@@ -7,7 +7,7 @@ use Rattle.ksi_split.specs.Powers.{IsSplit, split_of}
 use Rattle.ksi_split.specs.Parts.{Part, half_of, part_at}
 use Rattle.ksi_split.specs.Trees.{tree, node_in, node_at}
 use Rattle.ksi_split.specs.Ways.{IsWay, LeadsTo}
-use Rattle.ksi_aggchain.specs.declared.node.Node.{Node}
+use Rattle.ksi_aggtree.specs.declared.item.Item.{Item}
 use Rattle.ksi_aggtree.specs.Rounds as rounds
 use Rattle.ksi_calchain.specs.Climbing.{calendar_join}
 use Rattle.ksi_calendar.specs.Calendar as calendars
@@ -111,9 +111,9 @@ module _ (leaves : (n : ℕ) (sides : List Side) (part : Part) → 0 < n → par
       of true = deep (calendar_join image) (calendars.calendar_leaf seconds) p 63 sides early long
       of false = refl
 
-  pub deep_items : (image : List ℕ → List ℕ) (items : List Node) (sides : List Side) → length items ≤ 65536 → 63 < length sides → rounds.node_of image items sides ≡ None
+  pub deep_items : (image : List ℕ → List ℕ) (items : List Item) (sides : List Side) → length items ≤ 65536 → 63 < length sides → rounds.node_of image items sides ≡ None
   deep_items image items sides few long = of (length items) few
     where
       of : (n : ℕ) → n ≤ 65536 → rounds.node_from image items n sides ≡ None
       of zero few = refl
-      of (suc last) few = deep (rounds.aggregation_join image) (rounds.item_at items) last 63 sides (omega (arith, few)) long
+      of (suc last) few = deep (rounds.aggregation_join image) (rounds.leaf_of_place items) last 63 sides (omega (arith, few)) long

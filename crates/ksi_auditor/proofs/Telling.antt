@@ -1,20 +1,16 @@
 -- An audit of an accepted signature, whose publication is decided, tells where its hash stands, or has a clash.
 use Rattle.std.proofs.Common.{◌≡◌, ◌≤◌, ℕ, List, ◌++◌, length, sym, subst, Option, Some, None}
-use Rattle.std.specs.Prelude.{◌==◌, nat_lt, IsSome, ◌↔◌}
-use Rattle.std.specs.Str.{bytes_eq}
+use Rattle.std.specs.Prelude.{◌==◌, IsSome, ◌↔◌}
 use Rattle.ksi_split.specs.declared.side.Side.{Side}
-use Rattle.ksi_calendar.specs.Covered.{first_missing, covered_root}
+use Rattle.ksi_calendar.specs.Covered.{first_missing}
 use Rattle.ksi_signature.specs.Values.{Calendar}
 use Rattle.ksi_signature.specs.declared.signature.Signature.{Signature}
-use Rattle.ksi_verifier.specs.Verdict.{chain_root, verdict}
-use Rattle.ksi_verifier.specs.declared.verdict.Verdict.{Verdict}
-use Rattle.ksi_verifier.specs.declared.verdict.Verdict.TheVariants.{Accepted, Refused}
+use Rattle.ksi_verifier.specs.Verdict.{verdict}
+use Rattle.ksi_verifier.specs.declared.verdict.Verdict.TheVariants.{Accepted}
 use Rattle.ksi_journal.specs.Journal.{Contents, root_at, items_at}
 use Rattle.ksi_auditor.specs.Beside.{Pair, differing}
-use Rattle.ksi_auditor.specs.Audit.{links_of, sides_of, calendar_pairs, item_pairs, ends, found, laid_beside, decided, kept_or_not, accepted_or_not, audit}
+use Rattle.ksi_auditor.specs.Audit.{links_of, sides_of, calendar_pairs, item_pairs, ends, found, laid_beside, audit}
 use Rattle.ksi_auditor.specs.Shown.{IsDecided, Tells}
-use Rattle.ksi_auditor.specs.declared.answer.Audit.{Audit}
-use Rattle.ksi_auditor.specs.declared.answer.Audit.TheVariants.{NoMemory}
 use Rattle.ksi_auditor.proofs.Showing.{audit_laid}
 use Rattle.std.proofs.lemmas.Bool.{cond_both}
 
@@ -40,47 +36,3 @@ decided_tells image journal none signature hash publications t passes decided =
     let c = decided.calendar in
     subst Tells (sym (audit_laid image journal signature hash publications t c passes decided.has_calendar decided.covered.from ((none c.publication).1 decided.covered.each) decided.root))
     (laid_tells image journal signature hash t c)
-
--- ---- an audit never answers that memory is wanting
-
-abbrev Comes : Audit → Type 0
-Comes NoMemory = ⊥
-Comes _ = Unit {0}
-
-ends_come : (t count : ℕ) (sides : List Side) (passed : ℕ) → Comes (ends t count sides passed)
-ends_come t count sides passed = cond_both (passed == length sides) _ _ Comes (λ _. tt) (λ _. tt)
-
-found_comes : (t count : ℕ) (sides : List Side) (passed : ℕ) (pair : Option Pair) → Comes (found t count sides passed pair)
-found_comes t count sides passed (Some pair) = tt
-found_comes t count sides passed None = ends_come t count sides passed
-
-laid_comes : (image : List ℕ → List ℕ) (journal : Contents) (signature : Signature) (hash : List ℕ) (t : ℕ) (calendar : Calendar)
-    → Comes (laid_beside image journal signature hash t calendar)
-laid_comes image journal signature hash t calendar =
-    let items = items_at journal t in
-    let links = links_of signature in
-    let pairs = item_pairs image items links hash in
-    found_comes t (length items) (sides_of links) (length pairs) (differing (calendar_pairs image journal calendar ++ pairs))
-
-decided_comes : (image : List ℕ → List ℕ) (journal : Contents) (signature : Signature) (hash : List ℕ) (t : ℕ) (calendar : Calendar) (missing : Option ℕ)
-    → Comes (decided image journal signature hash t calendar missing)
-decided_comes image journal signature hash t calendar (Some second) = tt
-decided_comes image journal signature hash t calendar None =
-    cond_both (bytes_eq (chain_root image calendar) (covered_root image (root_at journal) journal.start calendar.publication)) _ _ Comes (λ _. laid_comes image journal signature hash t calendar) (λ _. tt)
-
-kept_comes : (image : List ℕ → List ℕ) (journal : Contents) (signature : Signature) (hash : List ℕ) (t : ℕ) (calendar : Option Calendar)
-    → Comes (kept_or_not image journal signature hash t calendar)
-kept_comes image journal signature hash t None = tt
-kept_comes image journal signature hash t (Some calendar) =
-    cond_both (nat_lt calendar.publication journal.start) _ _ Comes (λ _. tt) (λ _. decided_comes image journal signature hash t calendar (first_missing (root_at journal) journal.start calendar.publication))
-
-accepted_comes : (image : List ℕ → List ℕ) (journal : Contents) (signature : Signature) (hash : List ℕ) (answer : Verdict)
-    → Comes (accepted_or_not image journal signature hash answer)
-accepted_comes image journal signature hash (Refused refusal) = tt
-accepted_comes image journal signature hash (Accepted t) = kept_comes image journal signature hash t signature.calendar
-
-pub never_memory : (image : List ℕ → List ℕ) (journal : Contents) (signature : Signature) (hash : List ℕ) (publications : List (ℕ × List ℕ))
-    → audit image journal signature hash publications ≡ NoMemory → ⊥
-unfolding audit
-never_memory image journal signature hash publications is =
-    subst Comes is (accepted_comes image journal signature hash (verdict image signature hash publications))

@@ -4,7 +4,7 @@ use Rattle.std.specs.Result.{result_unwrap_or}
 use Rattle.std.specs.Str.{bytes_eq}
 use Rattle.ksi_split.specs.declared.side.Side.{Side}
 use Rattle.ksi_split.specs.Parts.{second_at}
-use Rattle.ksi_aggchain.specs.declared.node.Node.{Node}
+use Rattle.ksi_aggtree.specs.declared.item.Item.{Item}
 use Rattle.ksi_aggchain.specs.Links.{PlainLink}
 use Rattle.ksi_calendar.specs.Covered.{first_missing, covered_root}
 use Rattle.ksi_signature.specs.Values.{Calendar}
@@ -40,7 +40,7 @@ abbrev pub calendar_pairs : (List ℕ → List ℕ) → Contents → Calendar �
 calendar_pairs image journal calendar = pairs_below (calendar_text image (calendar_of journal) calendar.publication) [] (calendar_rungs_from image calendar.input calendar.links)
 
 -- each aggregation link's string and that of the tree of the items, as far as an item
-abbrev pub item_pairs : (List ℕ → List ℕ) → List Node → List PlainLink → List ℕ → List Pair
+abbrev pub item_pairs : (List ℕ → List ℕ) → List Item → List PlainLink → List ℕ → List Pair
 item_pairs image items links hash = pairs_below (items_text image items) [] (rungs_from image (at_level_zero hash) links)
 
 -- ---- where the links end
@@ -63,7 +63,7 @@ found t count sides passed None = ends t count sides passed
 -- ---- the audit
 
 -- of links that lead up from a hash, beside the tree of items, where strings above were compared before
-abbrev pub compared : (List ℕ → List ℕ) → List Node → List PlainLink → List ℕ → ℕ → List Pair → Audit
+abbrev pub compared : (List ℕ → List ℕ) → List Item → List PlainLink → List ℕ → ℕ → List Pair → Audit
 compared image items links hash t above =
     found t (length items) (sides_of links) (length (item_pairs image items links hash)) (differing (above ++ item_pairs image items links hash))
 

@@ -4,6 +4,7 @@ use Rattle.ksi_imprint.specs.Imprints.{join_text}
 use Rattle.ksi_split.specs.declared.side.Side.{Side}
 use Rattle.ksi_split.specs.declared.side.Side.TheVariants.{Left, Right}
 use Rattle.ksi_aggchain.specs.declared.node.Node.{Node}
+use Rattle.ksi_aggtree.specs.declared.item.Item.{Item}
 use Rattle.ksi_aggtree.specs.Rounds as rounds
 use Rattle.ksi_calchain.specs.Climbing.{calendar_join_text}
 use Rattle.ksi_calendar.specs.Calendar as calendars
@@ -25,5 +26,5 @@ joined_items (Some left) (Some right) = Some (join_text left.imprint right.impri
 
 -- the string that the node at the sides is made of, in the tree of the items; none where there is no such node, or where it
 -- is an item
-abbrev pub items_text : (List ℕ → List ℕ) → List Node → List Side → Option (List ℕ)
+abbrev pub items_text : (List ℕ → List ℕ) → List Item → List Side → Option (List ℕ)
 items_text image items sides = joined_items (rounds.node_of image items (sides ++ Left ∷ [])) (rounds.node_of image items (sides ++ Right ∷ []))

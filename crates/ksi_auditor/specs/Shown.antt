@@ -6,7 +6,8 @@ use Rattle.ksi_split.specs.declared.side.Side.{Side}
 use Rattle.ksi_split.specs.Ways.{IsWay, NamesSecond}
 use Rattle.ksi_aggchain.specs.Climbing.{Climbs}
 use Rattle.ksi_aggchain.specs.declared.node.Node.{Node}
-use Rattle.ksi_aggtree.specs.Rounds.{item_at, node_of}
+use Rattle.ksi_aggtree.specs.declared.item.Item.{Item}
+use Rattle.ksi_aggtree.specs.Rounds.{leaf_of_place, node_of}
 use Rattle.ksi_calchain.specs.Sides.{sides_from_top}
 use Rattle.ksi_calendar.specs.Covered.{IsCovered, covered_root}
 use Rattle.ksi_signature.specs.Values.{Calendar}
@@ -15,7 +16,7 @@ use Rattle.ksi_verifier.specs.Chains.{at_level_zero}
 use Rattle.ksi_verifier.specs.Verdict.{chain_root}
 use Rattle.ksi_journal.specs.Journal.{Contents, root_at, items_at}
 use Rattle.ksi_auditor.specs.declared.answer.Audit.{Audit}
-use Rattle.ksi_auditor.specs.declared.answer.Audit.TheVariants.{Inside, Beneath, Clash, NotAccepted, BeforeStart, Undecided, NotDecided, NoMemory}
+use Rattle.ksi_auditor.specs.declared.answer.Audit.TheVariants.{Inside, Beneath, Clash, NotAccepted, BeforeStart, Undecided, NotDecided}
 use Rattle.ksi_auditor.specs.Audit.{links_of, link_sides}
 
 -- the sides of the signature's calendar links name second t
@@ -24,7 +25,7 @@ pub record Names (signature : Signature) (t : ℕ) : Type 0 where
   pub has_calendar : signature.calendar ≡ Some calendar
   pub second : NamesSecond calendar.publication (sides_from_top calendar.links) t
 
-abbrev pub imprint_at : (List ℕ → List ℕ) → List Node → List Side → Option (List ℕ)
+abbrev pub imprint_at : (List ℕ → List ℕ) → List Item → List Side → Option (List ℕ)
 imprint_at image items sides = option_map (λ node. node.imprint) (node_of image items sides)
 
 -- the hash is a node of the tree that is kept for the second: the one that the sides of all aggregation links lead to
@@ -33,7 +34,7 @@ pub record IsInside (image : List ℕ → List ℕ) (journal : Contents) (signat
   pub all : way ≡ link_sides signature
   pub node : imprint_at image (items_at journal t) way ≡ Some hash
 
--- the lowest `links` links lead from the hash, at level 0, to an item that is kept for the second, and the sides of the
+-- the lowest `links` links lead from the hash, at level 0, to the leaf of an item that is kept for the second, and the sides of the
 -- other ones are that item's way
 pub record IsBeneath (image : List ℕ → List ℕ) (journal : Contents) (signature : Signature) (hash : List ℕ) (t item links : ℕ) : Type 0 where
   pub second : Names signature t
@@ -42,7 +43,7 @@ pub record IsBeneath (image : List ℕ → List ℕ) (journal : Contents) (signa
   pub within : links ≤ length (links_of signature)
   pub top : Node
   pub climbs : Climbs image (at_level_zero hash) (take links (links_of signature)) top
-  pub imprint : top.imprint ≡ (item_at (items_at journal t) item).imprint
+  pub imprint : top.imprint ≡ (leaf_of_place (items_at journal t) item).imprint
   pub way : IsWay item (length (items_at journal t)) (take (length (links_of signature) - links) (link_sides signature))
 
 -- the signature's publication is decided: all seconds from the start to its time are kept, and its links lead to their root
@@ -69,7 +70,6 @@ Shows image journal signature hash (NotAccepted refusal) = Unit {0}
 Shows image journal signature hash (BeforeStart p) = Unit {0}
 Shows image journal signature hash (Undecided second) = Unit {0}
 Shows image journal signature hash (NotDecided p given kept) = Unit {0}
-Shows image journal signature hash NoMemory = Unit {0}
 
 -- the answer says where the hash stands, or has a clash
 abbrev pub Tells : Audit → Type 0
@@ -80,4 +80,3 @@ Tells (NotAccepted refusal) = ⊥
 Tells (BeforeStart p) = ⊥
 Tells (Undecided second) = ⊥
 Tells (NotDecided p given kept) = ⊥
-Tells NoMemory = ⊥

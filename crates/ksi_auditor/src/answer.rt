@@ -19,6 +19,4 @@ pub enum Audit {
     Undecided(u64),
     /// At the publication time, the root that the signature leads to is not the kept one.
     NotDecided(u64, Imprint, Imprint),
-    /// There is no memory for the tree of the second, or for the strings of a clash.
-    NoMemory,
 }

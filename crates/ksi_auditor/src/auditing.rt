@@ -1,6 +1,7 @@
-ghost use Rattle.std.specs.Prelude.{◌≡◌, ◌≢◌, ◌<◌, ◌≤◌, ◌-◌, ◌^◌, ℕ, [], Some, None, IfOk, OnErr, length};
+ghost use Rattle.std.specs.Prelude.{◌≡◌, ◌<◌, ◌≤◌, ◌-◌, ◌^◌, ℕ, [], Some, None, IfOk, OnErr, length};
 ghost use Rattle.ksi_aggchain.specs.Climbing.{level_after};
-ghost use Rattle.ksi_aggtree.specs.Rounds.{item_at};
+ghost use Rattle.ksi_aggchain.specs.Links.{highest_level};
+ghost use Rattle.ksi_aggtree.specs.Rounds.{most_items, highest_item, item_at};
 ghost use Rattle.ksi_verifier.specs.Chains.{plain_chains};
 ghost use Rattle.ksi_verifier.specs.Leading.{all_links};
 ghost use Rattle.ksi_calendar.specs.Covered.{first_missing, covered_root};
@@ -16,7 +17,7 @@ use crate::laws::{audit_shows, low_levels};
 use crate::place::Place;
 use crate::walk::{Walk, along_calendar, along_chains};
 use ksi_aggchain::Node;
-use ksi_aggtree::Builder;
+use ksi_aggtree::Item;
 use ksi_calchain::climb_calendar;
 use ksi_calendar::laws::one_first_missing;
 use ksi_imprint::{Compress, Imprint, NoMemory};
@@ -26,36 +27,33 @@ use ksi_publications::Publications;
 use ksi_signature::{AggregationChain, CalendarChain, Signature};
 use ksi_split::second_of;
 use ksi_verifier::{Refusal, Verdict, verify};
-use std::alloc::{AllocError, Global};
+use std::alloc::Global;
+use std::marker::PhantomData;
 
 /// Where the hash of a signature stands in a journal.
 ///
 /// First come the checks of the signature, then whether its publication time is before the start, whether all seconds from
 /// the start to it are kept, and whether the root that the signature leads to is the kept one. Then each link's string,
 /// from the top, is compared with the one of the kept tree: the first that differs is a clash. Where none does, the hash is
-/// a node of the tree of its second, or leads to one of its items. Only the tree of the second and a clash take memory.
-#[tactic(auto, using(crate::proofs::Telling::never_memory))]
+/// a node of the tree of its second, or leads to one of its items. Only a clash takes memory.
 pub fn audit<C: Compress>(
     alloc: Global,
     journal: &Journal<C>,
     signature: &Signature,
     hash: &Imprint,
     publications: &Publications,
-) -> Audit
-    ensures answer { result ≢ answers.NoMemory →
-        result ≡ audit C.image journal.now signature.now hash.now publications.now }
-    ensures shown { Shows C.image journal.now signature.now hash.now result }
-    // Memory is wanting only where the answer says where the hash stands, or has a clash.
-    ensures memory { result ≡ answers.NoMemory → Tells (audit C.image journal.now signature.now hash.now publications.now) }
-    ensures short { IsShort result }
+) -> Result<Audit, NoMemory>
+    ensures answer { IfOk result (λ answer. answer ≡
+        audit C.image journal.now signature.now hash.now publications.now) }
+    ensures shown { IfOk result (Shows C.image journal.now signature.now hash.now) }
+    // Memory is wanting only where the answer would say where the hash stands, or have a clash.
+    ensures memory { OnErr result (Tells (audit C.image journal.now signature.now hash.now publications.now)) }
+    ensures short { IfOk result IsShort }
 {
     audit_shows();
     let _start = journal.start();
     let _bytes = hash.bytes();
-    match answer::<C>(alloc, journal, signature, hash, publications) {
-        Ok(answer) => answer,
-        Err(_) => Audit::NoMemory,
-    }
+    answer::<C>(alloc, journal, signature, hash, publications)
 }
 
 #[tactic(auto, unfolding(crate::specs::Audit::audit))]
@@ -90,7 +88,7 @@ fn decide<C: Compress>(
     second: u64,
     calendar: &CalendarChain,
 ) -> Result<Audit, NoMemory>
-    requires levels { level_after 0 (links_of signature.now) ≤ 255 }
+    requires levels { level_after 0 (links_of signature.now) ≤ highest_level }
     ensures answer { IfOk result (λ answer. answer ≡
         kept_or_not C.image journal.now signature.now hash.now second (Some calendar.now)) }
     ensures memory { OnErr result (Tells (kept_or_not C.image journal.now signature.now hash.now second (Some calendar.now))) }
@@ -139,7 +137,7 @@ fn lay_beside<C: Compress>(
     second: u64,
     calendar: &CalendarChain,
 ) -> Result<Audit, NoMemory>
-    requires levels { level_after 0 (links_of signature.now) ≤ 255 }
+    requires levels { level_after 0 (links_of signature.now) ≤ highest_level }
     requires journal { IsJournal C.image journal.now }
     ensures audit { IfOk result (λ audit. audit ≡
         laid_beside C.image journal.now signature.now hash.now second calendar.now) }
@@ -165,21 +163,23 @@ fn lay_beside<C: Compress>(
 /// Lays the links of aggregation chains beside the tree of items.
 fn lay_below<C: Compress>(
     alloc: Global,
-    items: &[Node],
+    items: &[Item],
     chains: &[AggregationChain],
     hash: &Imprint,
     second: u64,
 ) -> Result<Audit, NoMemory>
-    requires few { length items.now ≤ 65536 }
-    requires low { (k : ℕ) → (item_at items.now k).level ≤ 239 }
+    requires few { length items.now ≤ most_items }
+    requires low { (k : ℕ) → (item_at items.now k).level ≤ highest_item }
     requires count { length chains.now ≤ 16 }
-    requires levels { level_after 0 (all_links (plain_chains chains.now)) ≤ 255 }
+    requires levels { level_after 0 (all_links (plain_chains chains.now)) ≤ highest_level }
     ensures audit { IfOk result (λ audit. audit ≡
         compared C.image items.now (all_links (plain_chains chains.now)) hash.now second []) }
     ensures short { IfOk result IsShort }
 {
-    let round = round_of::<C>(alloc, items)?;
-    let tree = ItemsOf { round: &round };
+    let tree = ItemsOf::<C> {
+        items,
+        hash: PhantomData,
+    };
     let start = Node {
         imprint: *hash,
         level: 0,
@@ -197,7 +197,7 @@ fn lay_below<C: Compress>(
 
 /// The item whose way leads to a place, and the links that are left there.
 fn beneath(second: u64, items: u64, place: &Place, links: u64) -> Audit
-    requires few { items ≤ 65536 }
+    requires few { items ≤ most_items }
     requires some { length place.now ≤ links }
     ensures { result ≡ answers.Beneath second (item_named items place.now) (links - length place.now) }
 {
@@ -216,21 +216,4 @@ fn count_of(chains: &[AggregationChain]) -> u64
         count += chain.links.as_slice().len() as u64;
     }
     count
-}
-
-/// The tree of items.
-fn round_of<C: Compress>(alloc: Global, items: &[Node]) -> Result<Builder<C>, NoMemory>
-    requires few { length items.now ≤ 65536 }
-    requires low { (k : ℕ) → (item_at items.now k).level ≤ 239 }
-    ensures { IfOk result (λ round. round ≡ items.now) }
-{
-    let mut round = Builder::new(alloc)?;
-    'items: for item in items {
-        // so few items never fill it
-        match round.add(*item) {
-            Ok(_) => (),
-            Err(_) => return Err(AllocError),
-        }
-    }
-    Ok(round)
 }

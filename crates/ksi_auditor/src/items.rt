@@ -1,37 +1,39 @@
+ghost use Rattle.ksi_aggtree.specs.Rounds.{IsRound};
+
 use crate::deep::deep_places;
 use crate::kept::{KeptTree, Parts};
-use crate::nodes::joined_nodes;
+use crate::nodes::low_nodes;
 use crate::place::Place;
-use ksi_aggtree::Builder;
+use ksi_aggtree::{Item, node_over};
 use ksi_imprint::Compress;
 use ksi_split::Side;
+use std::marker::PhantomData;
 
-/// The kept items of a second.
+/// The kept items of a second, which make a round.
 #[derive(Drop)]
 pub(crate) struct ItemsOf<'a, C: Compress> {
-    pub(crate) round: &'a Builder<C>,
+    pub(crate) items: &'a [Item],
+    pub(crate) hash: PhantomData<C>,
+    ghost round: { IsRound items.now },
 }
 
 impl<C: Compress> KeptTree for ItemsOf<'_, C> {
     ghost use Rattle.ksi_auditor.specs.Kept.{items_text};
 
-    ghost text = { λ tree. items_text C.image tree.round.now };
+    ghost text = { λ tree. items_text C.image tree.items.now };
 
     fn parts(&self, place: &Place) -> Option<Parts> {
         deep_places();
-        joined_nodes();
-        let _count = self.round.count();
+        low_nodes();
         if place.depth() >= 63 {
             return None;
         }
-        let left = self.round.node(place.below(Side::Left).way().as_slice())?;
-        let right = self.round.node(place.below(Side::Right).way().as_slice())?;
-        // the level of their join
-        let node = self.round.node(place.way().as_slice())?;
+        let left = node_over::<C>(self.items, place.below(Side::Left).way().as_slice())?;
+        let right = node_over::<C>(self.items, place.below(Side::Right).way().as_slice())?;
         Some(Parts {
             left: left.imprint,
             right: right.imprint,
-            level: node.level,
+            level: left.level.max(right.level) + 1,
         })
     }
 }

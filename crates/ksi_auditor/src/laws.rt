@@ -2,6 +2,7 @@
 ghost use Rattle.std.specs.Prelude.{◌≡◌, ◌≤◌, ℕ, List};
 ghost use Rattle.ksi_imprint.specs.Imprints.{IsClash, IsImprint, zero_imprint};
 ghost use Rattle.ksi_imprint.specs.declared.clash.Clash as clashes;
+ghost use Rattle.ksi_aggchain.specs.Links.{highest_level};
 ghost use Rattle.ksi_aggchain.specs.Climbing.{level_after};
 ghost use Rattle.ksi_calendar.specs.Covered.{second_leaf};
 ghost use Rattle.ksi_signature.specs.declared.signature.Signature.{Signature};
@@ -73,7 +74,7 @@ pub fn missed_seconds()
 /// No level of an accepted signature passes 255.
 pub(crate) fn low_levels()
     ensures { (image : List ℕ → List ℕ) (signature : Signature) (hash : List ℕ) (publications : List (ℕ × List ℕ)) (t : ℕ) →
-        IsAccepted image signature hash publications t → level_after 0 (links_of signature) ≤ 255 }
+        IsAccepted image signature hash publications t → level_after 0 (links_of signature) ≤ highest_level }
 {
     ksi_aggchain::laws::one_climb();
     joined();

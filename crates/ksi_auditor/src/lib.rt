@@ -7,12 +7,12 @@
 //!
 //! The layer above may rely on this: [`audit`] gives exactly the answer that its definition computes, and what each answer
 //! says holds, whatever the hash function is; the proof needs no premise about it but that its images are imprints. Memory
-//! is taken for the rows of one round and for the two strings of a clash; where there is none, the answer is `NoMemory`,
-//! which comes in place of no refusal.
+//! is taken for the rows of one round and for the two strings of a clash; where there is none, no answer comes, and
+//! this is in place of no refusal.
 //! The walk goes down by recursion, at most 63 links and 16 chains deep. In [`laws`] stands what holds of the definition.
 //!
 //! ```text
-//! match audit::<Sha>(alloc, &journal, &signature, &hash, &publications) {
+//! match audit::<Sha>(alloc, &journal, &signature, &hash, &publications)? {
 //!     Audit::Inside(second, way) => ..,
 //!     Audit::Beneath(second, item, links) => ..,
 //!     Audit::Clash(clash) => ..,
@@ -24,7 +24,7 @@
 mod answer;
 mod auditing;
 mod calendar;
-mod climbing;
+mod reached;
 mod deep;
 mod items;
 mod kept;

@@ -1,6 +1,7 @@
 ghost use Rattle.std.specs.Prelude.{◌≡◌, ◌≤◌, [], length, IfOk, IfSome, map};
 ghost use Rattle.std.specs.List.{AllByRecursion};
 ghost use Rattle.ksi_split.specs.declared.side.Side.{Side};
+ghost use Rattle.ksi_aggchain.specs.Links.{highest_level};
 ghost use Rattle.ksi_aggchain.specs.Owned.{plain_links, sibling_bytes};
 ghost use Rattle.ksi_aggchain.specs.Climbing.{level_after};
 ghost use Rattle.ksi_signature.specs.Values.{HasSize};
@@ -12,7 +13,7 @@ ghost use Rattle.ksi_auditor.specs.Walks.{IsShortWalk, clash_in, go, step, laid,
 ghost use Rattle.ksi_auditor.specs.declared.walk.Walk.TheVariants as walks;
 ghost use Rattle.ksi_auditor.specs.Shown.{AreShort};
 
-use crate::climbing::top_of;
+use crate::reached::top_of;
 use crate::kept::KeptTree;
 use crate::place::Place;
 use crate::rung::{Rung, is_joined_of, join_of, text_of};
@@ -81,7 +82,7 @@ pub(crate) fn along_chains<C: Compress, K: KeptTree>(
     below: &Node,
     chains: &[AggregationChain],
 ) -> Result<Walk, NoMemory>
-    requires { level_after below.now.level (all_links (plain_chains chains.now)) ≤ 255 }
+    requires { level_after below.now.level (all_links (plain_chains chains.now)) ≤ highest_level }
     ensures walk { IfOk result (λ walk. walk ≡
         go (K.text tree.now) (walks.At []) (rungs_from C.image below.now (all_links (plain_chains chains.now)))) }
     ensures short { IfOk result IsShortWalk }
@@ -104,7 +105,7 @@ fn along_links<C: Compress, K: KeptTree>(
     below: &Node,
     links: &[Link],
 ) -> Result<Walk, NoMemory>
-    requires levels { level_after below.now.level (plain_links links.now) ≤ 255 }
+    requires levels { level_after below.now.level (plain_links links.now) ≤ highest_level }
     requires sizes { AllByRecursion (λ link. HasSize link.sibling) links.now }
     requires start { IsShortWalk start }
     ensures walk { IfOk result (λ walk. walk ≡

@@ -6,8 +6,7 @@
 
 ghost use Rattle.std.specs.Prelude.{◌≡◌, ◌≤◌, ◌+◌, ◌^◌, length, IfOk};
 
-use ksi_aggchain::Node;
-use ksi_aggtree::Builder;
+use ksi_aggtree::{Builder, Item};
 use ksi_calendar::Calendar;
 use ksi_imprint::{Compress, Imprint, NoMemory, Sha};
 use std::alloc::Global;
@@ -65,7 +64,7 @@ fn joined(times: u32) -> Imprint {
 fn round(alloc: Global, paths: bool) -> Result<u8, NoMemory> {
     let mut round = Builder::<Sha>::new(alloc)?;
     for n in 0..ITEMS {
-        let item = Node {
+        let item = Item {
             imprint: Sha::of(&n.to_be_bytes()),
             level: 0,
         };
@@ -78,8 +77,18 @@ fn round(alloc: Global, paths: bool) -> Result<u8, NoMemory> {
         None => 0,
     };
     if paths {
+        byte ^= all_paths(&round)?;
+    }
+    Ok(byte)
+}
+
+/// The lengths of all paths of a round, by one bit each.
+fn all_paths(round: &Builder<Sha>) -> Result<u8, NoMemory> {
+    let mut byte = 0;
+    if round.count() > 0 {
+        let paths = round.paths()?;
         for k in 0..round.count() {
-            byte ^= round.path(k)?.as_slice().len() as u8;
+            byte ^= paths.path(k)?.as_slice().len() as u8;
         }
     }
     Ok(byte)

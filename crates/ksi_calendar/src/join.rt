@@ -1,7 +1,7 @@
 ghost use Rattle.ksi_calchain.specs.Climbing.{calendar_join};
 
 use ksi_imprint::{Compress, Imprint};
-use ksi_rows::Joins;
+use ksi_split::Joins;
 use std::marker::PhantomData;
 
 /// How two parts of the calendar are joined: at the level byte 0xff.

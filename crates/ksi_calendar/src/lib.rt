@@ -24,5 +24,5 @@ pub mod laws;
 mod second_path;
 
 pub use calendar::Calendar;
-pub use ksi_rows::Steps;
+pub use ksi_split::Steps;
 pub use second_path::SecondPath;

@@ -43,7 +43,7 @@ fn signature_of(alloc: Global, chains: &[ChainRow<'_>], root: u8) -> Result<Byte
     bytes_of(alloc, &row)
 }
 
-/// The answer over both files, nothing where one is malformed.
+/// The answer over both files, nothing where one is malformed or memory is wanting.
 fn answer_of(
     alloc: Global,
     journal: &Bytes,
@@ -53,7 +53,7 @@ fn answer_of(
 ) -> Option<Audit> {
     let journal: Journal<Tiny> = load(alloc, journal.as_slice()).ok()?;
     let signature = read(alloc, signature.as_slice()).ok()?;
-    Some(audit(alloc, &journal, &signature, hash, publications))
+    audit(alloc, &journal, &signature, hash, publications).ok()
 }
 
 /// The answer for a hash and chains that lead to a root.

@@ -3,7 +3,7 @@ ghost use Rattle.std.specs.Prelude.{◌≡◌, ◌<◌};
 use crate::same::same;
 use ksi_calendar::Steps;
 use ksi_extender::{ExtendRefusal, extend, extend_counted};
-use ksi_imprint::{Bytes, Compress, Imprint, Sha};
+use ksi_imprint::{Bytes, Compress, Imprint, Refused, Sha};
 use ksi_journal::{Journal, load};
 use ksi_publications::Publications;
 use ksi_signature::{CalendarChain, SignatureFault, read};
@@ -66,11 +66,11 @@ fn extended_to(
     journal: &Journal<Sha>,
     bytes: &[u8],
     p: u64,
-) -> Result<Bytes, ExtendRefusal> {
+) -> Result<Bytes, Refused<ExtendRefusal>> {
     if p < 9_223_372_036_854_775_808 {
         extend(alloc, journal, bytes, p)
     } else {
-        Err(ExtendRefusal::Undecided(p))
+        Err(Refused::Fault(ExtendRefusal::Undecided(p)))
     }
 }
 
@@ -79,7 +79,7 @@ fn counted<L: Ledger>(
     journal: &Journal<Sha>,
     bytes: &[u8],
     blank: Blank,
-) -> Result<Bytes, ExtendRefusal>
+) -> Result<Bytes, Refused<ExtendRefusal>>
     requires name { blank.name ≡ L.name }
     requires parts { blank.parts ≡ L.parts }
     requires one { blank.parts ≡ 1 }
@@ -93,7 +93,7 @@ fn extended_counted(
     alloc: Global,
     journal: &Journal<Sha>,
     bytes: &[u8],
-) -> Result<Bytes, ExtendRefusal> {
+) -> Result<Bytes, Refused<ExtendRefusal>> {
     counted::<Brand>(alloc, journal, bytes, Blank::new(1))
 }
 
@@ -200,7 +200,7 @@ fn are_above_9(calendar: &CalendarChain) -> bool {
 }
 
 /// Whether the calendar chain of a signature has such links.
-fn is_above_9(alloc: Global, bytes: &[u8]) -> Result<bool, SignatureFault> {
+fn is_above_9(alloc: Global, bytes: &[u8]) -> Result<bool, Refused<SignatureFault>> {
     let signature = read(alloc, bytes)?;
     Ok(signature.calendar.as_ref().is_some_and(are_above_9))
 }
@@ -227,7 +227,7 @@ fn is_refused(
 ) -> Result<(), Fail> {
     let bytes = bytes(alloc, SIGNATURE)?;
     let answer = extended_to(alloc, journal, bytes.as_slice(), p);
-    same(rt, "refusal", answer.err(), Some(want));
+    same(rt, "refusal", answer.err(), Some(Refused::Fault(want)));
     Ok(())
 }
 

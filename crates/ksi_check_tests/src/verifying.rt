@@ -3,7 +3,7 @@ use crate::signatures::{
     CALENDAR, CalendarRow, ChainRow, HIGH, LOW, SignatureRow, bytes_of, listed, named, row,
 };
 use ksi_aggchain::Node;
-use ksi_imprint::{NoMemory, Tiny};
+use ksi_imprint::{NoMemory, Refused, Tiny};
 use ksi_signature::{Signature, SignatureFault, read};
 use ksi_split::{ShapeFault, Side};
 use ksi_verifier::{Aggregated, RecordDifference, Refusal, Verdict, aggregate, verify};
@@ -26,7 +26,7 @@ fn judged(
     row: &SignatureRow<'_>,
     hash: u8,
     published: &[(u8, u8)],
-) -> Result<Verdict, SignatureFault> {
+) -> Result<Verdict, Refused<SignatureFault>> {
     let bytes = bytes_of(alloc, row)?;
     let signature = read(alloc, bytes.as_slice())?;
     Ok(verdict(alloc, &signature, hash, published)?)
@@ -37,7 +37,7 @@ fn judged_both(
     alloc: Global,
     record: Option<(u8, u8)>,
     published: &[(u8, u8)],
-) -> Result<Verdict, SignatureFault> {
+) -> Result<Verdict, Refused<SignatureFault>> {
     let chains = [LOW, HIGH];
     let whole = SignatureRow {
         record,
@@ -47,7 +47,7 @@ fn judged_both(
 }
 
 /// Whether the chains of a signature lead to this item in this second.
-fn leads_to(alloc: Global, row: &SignatureRow<'_>, to: Aggregated) -> Result<bool, SignatureFault> {
+fn leads_to(alloc: Global, row: &SignatureRow<'_>, to: Aggregated) -> Result<bool, Refused<SignatureFault>> {
     let bytes = bytes_of(alloc, row)?;
     let signature = read(alloc, bytes.as_slice())?;
     Ok(aggregate::<Tiny>(&signature) == Ok(to))
@@ -77,7 +77,7 @@ fn the_chains_lead_to_an_item(rt: HostRuntime) {
 }
 
 /// The first check that fails where the given hash is 06 and 26 is published for second 5.
-fn refused(alloc: Global, row: &SignatureRow<'_>) -> Result<Option<Refusal>, SignatureFault> {
+fn refused(alloc: Global, row: &SignatureRow<'_>) -> Result<Option<Refusal>, Refused<SignatureFault>> {
     match judged(alloc, row, 6, &[(5, 0x26)])? {
         Verdict::Accepted(_) => Ok(None),
         Verdict::Refused(refusal) => Ok(Some(refusal)),
@@ -136,7 +136,7 @@ fn the_chains_are_of_one_time(rt: HostRuntime) {
 }
 
 /// What a calendar chain of these links above the two chains is refused for.
-fn refused_links(alloc: Global, links: &[(Side, u8)]) -> Result<Option<Refusal>, SignatureFault> {
+fn refused_links(alloc: Global, links: &[(Side, u8)]) -> Result<Option<Refusal>, Refused<SignatureFault>> {
     let calendar = CalendarRow { links, ..CALENDAR };
     let chains = [LOW, HIGH];
     let whole = SignatureRow {

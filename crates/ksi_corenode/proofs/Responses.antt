@@ -6,9 +6,10 @@ use Rattle.std.proofs.lemmas.Option.{slice_get_within, get_or_from_slice_get}
 use Rattle.std.proofs.Math.Seq.{drop-cons}
 use Rattle.ksi_split.specs.declared.tree_link.TreeLink.{TreeLink}
 use Rattle.ksi_aggchain.specs.declared.node.Node.{Node}
+use Rattle.ksi_aggtree.specs.declared.item.Item.{Item}
 use Rattle.ksi_aggchain.specs.declared.link.Link.{Link}
 use Rattle.ksi_aggtree.specs.declared.entries.Entry.{Entry}
-use Rattle.ksi_aggtree.specs.Rounds.{item_at, no_item, tree_path}
+use Rattle.ksi_aggtree.specs.Rounds.{item_at, leaf_of_place, no_item, tree_path}
 use Rattle.ksi_aggtree.specs.Paths.{links_from, chain_of}
 use Rattle.ksi_aggtree.specs.Entries.{items_of}
 use Rattle.ksi_signature.specs.declared.above.Above.{Above}
@@ -21,10 +22,10 @@ links_nodes : (others : List (TreeLink Node)) (level : ℕ) → AllByRecursion (
 links_nodes [] level = tt
 links_nodes (other ∷ others) level = (tt, links_nodes others _)
 
-pub round_links : (image : List ℕ → List ℕ) (items : List Node) (k : ℕ) (links : List Link) → links ≡ chain_of image items k → length links ≤ 16 → AreRoundLinks links
+pub round_links : (image : List ℕ → List ℕ) (items : List Item) (k : ℕ) (links : List Link) → links ≡ chain_of image items k → length links ≤ 16 → AreRoundLinks links
 round_links image items k links is few = record {
   count = few;
-  nodes = subst (λ (links : List Link). AllByRecursion (λ (link : Link). IsNode link.sibling) links) (sym is) (links_nodes (tree_path image items k) (item_at items k).level);
+  nodes = subst (λ (links : List Link). AllByRecursion (λ (link : Link). IsNode link.sibling) links) (sym is) (links_nodes (tree_path image items k) (leaf_of_place items k).level);
 }
 
 -- links and the sides of them are as many
@@ -32,7 +33,7 @@ pub entry_item : (entries : List Entry) (k : ℕ) (entry : Entry) → slice_get 
 entry_item [] k entry is = absurd (cc is)
 entry_item (e ∷ es) zero entry is = ap (λ (o : Option Entry). item_or o) is
   where
-    item_or : Option Entry → Node
+    item_or : Option Entry → Item
     item_or None = no_item
     item_or (Some entry) = entry.item
 entry_item (e ∷ es) (suc k) entry is = entry_item es k entry is

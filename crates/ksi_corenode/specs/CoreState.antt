@@ -3,7 +3,8 @@ use Rattle.std.specs.Prelude.{◌≡◌, ℕ, ◌==◌, if◌then◌else◌, Lis
 use Rattle.std.specs.Ordering.{nat_cmp}
 use Rattle.std.specs.BTreeMap.{is_at}
 use Rattle.std.specs.Map.{lookup}
-use Rattle.ksi_corenode.specs.declared.step.Step.{Step}
+use Rattle.ksi_signature.specs.declared.step.Step.{Step}
+use Rattle.ksi_corenode.specs.declared.step.Send.{Send}
 use Rattle.ksi_corenode.specs.SecondState.{SecondState, fresh_second}
 use Rattle.ksi_calendar.specs.Covered.{Roots}
 use Rattle.ksi_corenode.specs.Turns.{Turn}
@@ -31,7 +32,7 @@ pub record IsSame (old new : CoreState) : Type 0 where
   pub seconds : (t : ℕ) → state_of new t ≡ state_of old t
 
 -- the step is this turn of the second, and all else is as it was
-pub record IsTurn (old new : CoreState) (second : ℕ) (turn : Turn) (step : Step) : Type 0 where
+pub record IsTurn (old new : CoreState) (second : ℕ) (turn : Turn) (step : Step Send) : Type 0 where
   pub me : new.me ≡ old.me
   pub members : new.members ≡ old.members
   pub start : new.start ≡ old.start

@@ -3,7 +3,7 @@
 use Rattle.std.specs.Prelude.{◌≡◌, ◌≢◌, ◌≤◌, ◌⊎◌, ℕ, suc, Bool, true, false, not, ◌&&◌, if◌then◌else◌, List, [], ◌∷◌, ◌++◌, is_some, IsSome, Option, Some, None}
 use Rattle.std.specs.Str.{bytes_eq}
 use Rattle.ksi_imprint.specs.Imprints.{zero_imprint}
-use Rattle.ksi_aggchain.specs.declared.node.Node.{Node}
+use Rattle.ksi_aggtree.specs.declared.item.Item.{Item}
 use Rattle.ksi_aggtree.specs.declared.entries.Entry.{Entry}
 use Rattle.ksi_aggtree.specs.declared.entries.Origin.{Origin}
 use Rattle.ksi_aggtree.specs.declared.entries.Origin.TheVariants as origins
@@ -31,11 +31,11 @@ use Rattle.ksi_corenode.specs.Turns.{Turn, still, voted_with}
 -- SUBMISSION of an item by an aggregator: it is one of the open items, where none of that aggregator is there
 
 -- the entry of an item that an aggregator submits
-abbrev pub submitted : (from : ℕ) → Node → Entry
+abbrev pub submitted : (from : ℕ) → Item → Entry
 submitted from item = record { origin = origins.Aggregator from; item = item }
 
 -- the open items behind it, and the answer
-abbrev pub taken : (from : ℕ) → Node → List Entry → List Entry × Answer
+abbrev pub taken : (from : ℕ) → Item → List Entry → List Entry × Answer
 taken from item entries =
     if has_from from entries then (entries, Known)
     else if is_full entries then (entries, Full)
@@ -45,7 +45,7 @@ abbrev pub item_taken : SecondState → List Entry × Answer → Turn
 item_taken s row = record { after = record s { open_items = row.0 }; answer = row.1; sends = [] }
 
 -- Late where the second is sealed; Known where an item of the aggregator is there; Full at 65,536 items; else Done
-unfoldable pub submission_row : (from : ℕ) → Node → SecondState → Turn
+unfoldable pub submission_row : (from : ℕ) → Item → SecondState → Turn
 submission_row from item s = if is_some s.sealed then still s Late else item_taken s (taken from item s.open_items)
 
 -- SEAL: the open items are the sealed ones, and the imprint of their tree is the core's candidate
@@ -110,7 +110,7 @@ abbrev pub is_mine : (List ℕ → List ℕ) → List Entry → (root : List ℕ
 is_mine image entries root = bytes_eq (candidate_of image entries) root && not (bytes_eq root zero_imprint)
 
 -- what stands above item k of the round in this calendar
-abbrev pub above_item : (List ℕ → List ℕ) → Seconds → (second : ℕ) → (root : List ℕ) → List Node → ℕ → Above
+abbrev pub above_item : (List ℕ → List ℕ) → Seconds → (second : ℕ) → (root : List ℕ) → List Item → ℕ → Above
 above_item image seconds second root items k = record {
   root = root;
   chains = record { input = (item_at items k).imprint; links = chain_of image items k } ∷ [];

@@ -26,4 +26,4 @@ mod step;
 pub use ksi_imprint::NoMemory;
 pub use ksi_signature::Answer;
 pub use node::Core;
-pub use step::{Send, Sends, Step};
+pub use step::{Send, Step};

@@ -4,6 +4,7 @@ ghost use Rattle.std.specs.Ordering.{nat_cmp};
 ghost use Rattle.std.specs.BTreeMap.{is_at};
 ghost use Rattle.std.specs.Map.{lookup};
 ghost use Rattle.ksi_corenode.specs.SecondState.{fresh_second};
+ghost use Rattle.ksi_aggtree.specs.Rounds.{most_items, highest_item};
 ghost use Rattle.ksi_aggtree.specs.Entries.{items_of, has_from, candidate_of};
 ghost use Rattle.ksi_signature.specs.declared.answer.Answer.TheVariants.{Late, Known, Full, Unsealed, Sealed, Undecided, Nothing, Last};
 ghost use Rattle.ksi_synod.specs.Ballots.{last_round};
@@ -14,11 +15,11 @@ ghost use Rattle.ksi_corenode.specs.Kept.{IsCalendarOf};
 
 use crate::second::Second;
 use crate::sending::{push_each, push_told};
-use crate::step::{Sends, Step};
-use ksi_aggchain::Node;
+use crate::step::Step;
+use ksi_aggtree::Item;
 use ksi_calendar::Calendar;
 use ksi_imprint::{Compress, Imprint, NoMemory};
-use ksi_signature::Answer;
+use ksi_signature::{Answer, Sends};
 use ksi_synod::{Begun, SynodMessage};
 use std::alloc::Global;
 use std::collections::BTreeMap;
@@ -95,7 +96,7 @@ impl<C: Compress> Core<C> {
 
     /// The sealed items of a second, in order; none where the second is not sealed.
     #[tactic(auto, unfolding(crate::specs::CoreState::state_of, crate::specs::SecondState::fresh_second))]
-    pub fn items(&self, second: u64) -> Option<&[Node]>
+    pub fn items(&self, second: u64) -> Option<&[Item]>
         ensures { option_copied result ≡ option_map items_of (state_of self.now second).sealed }
     {
         match self.seconds.get(&second) {
@@ -151,8 +152,8 @@ impl<C: Compress> Core<C> {
     /// # Errors
     /// `NoMemory`: all is as it was.
     #[tactic(auto, unfolding(crate::specs::CoreState::state_of, crate::specs::Rows::submission_row))]
-    pub fn submission(&mut self, aggregator: u32, second: u64, item: Node) -> Result<Step, NoMemory>
-        requires level { item.level ≤ 239 }
+    pub fn submission(&mut self, aggregator: u32, second: u64, item: Item) -> Result<Step, NoMemory>
+        requires level { item.level ≤ highest_item }
         ensures turn { IfOk result (λ step.
             IsTurn self.old self.new second (submission_row aggregator item (state_of self.old second)) step) }
         ensures late { IfOk result (λ step. (step.answer ≡ Late) ↔ IsSome (state_of self.old second).sealed) }
@@ -160,7 +161,7 @@ impl<C: Compress> Core<C> {
             IsTrue (has_from aggregator (state_of self.old second).open_items))) }
         ensures full { IfOk result (λ step. (step.answer ≡ Full) ↔ (IsNone (state_of self.old second).sealed ×
             (has_from aggregator (state_of self.old second).open_items ≡ false) ×
-            (length (state_of self.old second).open_items ≡ 65536))) }
+            (length (state_of self.old second).open_items ≡ most_items))) }
         ensures unchanged { OnErr result (IsSame self.old self.new) }
     {
         let alloc = self.alloc;

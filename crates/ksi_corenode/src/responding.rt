@@ -12,12 +12,12 @@ ghost use Rattle.ksi_corenode.specs.CoreState.{state_of, held_by, IsTurn};
 
 use crate::node::Core;
 use crate::second::Second;
-use crate::step::{Send, Sends, Step};
-use ksi_aggtree::{Entries, Origin};
+use crate::step::{Send, Step};
+use ksi_aggtree::{Entries, Origin, RoundPaths};
 use ksi_calendar::laws::{one_covered, one_first_missing};
 use ksi_calendar::{Calendar, SecondPath};
 use ksi_imprint::{Compress, Imprint, NoMemory};
-use ksi_signature::{Above, AboveChain, AboveChains, AboveLinks, Answer, CalendarLinks};
+use ksi_signature::{Above, AboveChain, AboveChains, AboveLinks, Answer, CalendarLinks, Sends};
 use std::alloc::Global;
 
 impl<C: Compress> Core<C> {
@@ -121,9 +121,30 @@ fn responses<C: Compress>(
         links.now ≡ calendar_path C.image seconds second second →
         sends.items ≡ responses_from (above_item C.image seconds second root.now (items_of entries.now)) 0 entries.now) }
 {
+    if entries.count() == 0 {
+        return Ok(Vec::new(alloc));
+    }
+    let paths = entries.paths()?;
+    responses_along(alloc, entries, &paths, root, links)
+}
+
+/// The same, with the paths of the items.
+fn responses_along<C: Compress>(
+    alloc: Global,
+    entries: &Entries<C>,
+    paths: &RoundPaths<'_, C>,
+    root: &Imprint,
+    links: &SecondPath,
+) -> Result<Vec<Send>, NoMemory>
+    requires paths { paths.now ≡ items_of entries.now }
+    requires few { length links.now ≤ 63 }
+    ensures { IfOk result (λ sends. (seconds : Seconds) (second : ℕ) →
+        links.now ≡ calendar_path C.image seconds second second →
+        sends.items ≡ responses_from (above_item C.image seconds second root.now (items_of entries.now)) 0 entries.now) }
+{
     let mut sends = Vec::new(alloc);
     'answering: for k in 0..entries.count() {
-        put_response(alloc, entries, k, root, links, &mut sends)?;
+        put_response(alloc, entries, paths, k, root, links, &mut sends)?;
     }
     Ok(sends)
 }
@@ -132,11 +153,13 @@ fn responses<C: Compress>(
 fn put_response<C: Compress>(
     alloc: Global,
     entries: &Entries<C>,
+    paths: &RoundPaths<'_, C>,
     k: usize,
     root: &Imprint,
     links: &SecondPath,
     sends: &mut Vec<Send>,
 ) -> Result<(), NoMemory>
+    requires paths { paths.now ≡ items_of entries.now }
     requires there { k < length entries.now }
     requires few { length links.now ≤ 63 }
     ensures { OnOk result ((entry : Entry) (seconds : Seconds) (second : ℕ) → slice_get entries.now k ≡ Some entry →
@@ -146,7 +169,7 @@ fn put_response<C: Compress>(
     match entries.entry(k).origin {
         Origin::Request(_) => Ok(()),
         Origin::Aggregator(from) => {
-            let above = above(alloc, entries, k, root, links)?;
+            let above = above(alloc, entries, paths, k, root, links)?;
             sends.push(Send::Response(from, above))?;
             Ok(())
         }
@@ -157,10 +180,12 @@ fn put_response<C: Compress>(
 fn above<C: Compress>(
     alloc: Global,
     entries: &Entries<C>,
+    paths: &RoundPaths<'_, C>,
     k: usize,
     root: &Imprint,
     links: &SecondPath,
 ) -> Result<Above, NoMemory>
+    requires paths { paths.now ≡ items_of entries.now }
     requires there { k < length entries.now }
     requires few { length links.now ≤ 63 }
     ensures { IfOk result (λ above. (seconds : Seconds) (second : ℕ) →
@@ -169,7 +194,7 @@ fn above<C: Compress>(
 {
     let chain = AboveChain {
         input: entries.entry(k).item.imprint,
-        links: round_links(entries, k)?,
+        links: round_links(paths, k)?,
     };
     let mut chains = Vec::with_capacity(alloc, 1)?;
     chains.push(chain)?;
@@ -181,10 +206,10 @@ fn above<C: Compress>(
 }
 
 /// The links from item `k` up to the root of the items.
-fn round_links<C: Compress>(entries: &Entries<C>, k: usize) -> Result<AboveLinks, NoMemory>
-    requires { k < length entries.now }
-    ensures { IfOk result (λ links. links ≡ chain_of C.image (items_of entries.now) k) }
+fn round_links<C: Compress>(paths: &RoundPaths<'_, C>, k: usize) -> Result<AboveLinks, NoMemory>
+    requires { k < length paths.now }
+    ensures { IfOk result (λ links. links ≡ chain_of C.image paths.now k) }
 {
-    let links = entries.path(k)?;
+    let links = paths.path(k)?;
     Ok(AboveLinks::from_vec(links.into_vec()))
 }

@@ -1,5 +1,6 @@
 ghost use Rattle.std.specs.Prelude.{◌≡◌, ◌<◌, ◌≤◌, ◌↔◌, ◌++◌, ◌∷◌, [], IfOk, IfSome, OnErr, vec_len, vec_capacity, option_map, is_some, unwrap_or, IsSome, IsNone, Some};
 ghost use Rattle.std.specs.Option.{option_copied};
+ghost use Rattle.ksi_aggtree.specs.Rounds.{highest_item};
 ghost use Rattle.ksi_aggtree.specs.Entries.{items_of, candidate_of};
 ghost use Rattle.ksi_signature.specs.declared.answer.Answer.TheVariants.{Sealed};
 ghost use Rattle.ksi_synod.specs.Ballots.{last_round};
@@ -8,9 +9,8 @@ ghost use Rattle.ksi_corenode.specs.SecondState.{fresh_second};
 ghost use Rattle.ksi_corenode.specs.Kept.{StillHolds};
 ghost use Rattle.ksi_corenode.specs.Rows.{taken, submission_row, seal_row, is_mine, restart_row, counts, is_news, news_answer};
 
-use ksi_aggchain::Node;
-use ksi_aggtree::{AddRefusal, Entries, Entry, Origin};
-use ksi_imprint::{Compress, Imprint, NoMemory};
+use ksi_aggtree::{AddRefusal, Entries, Entry, Item, Origin};
+use ksi_imprint::{Compress, Imprint, NoMemory, Refused};
 use ksi_signature::Answer;
 use ksi_synod::{Begun, Instance, LastVote, SynodMessage, Took};
 use std::alloc::Global;
@@ -22,7 +22,7 @@ pub(crate) struct Second<C: Compress> {
     vote: Instance,
     is_sealed: bool,
     entries: Option<Entries<C>>,
-    items: Vec<Node>,
+    items: Vec<Item>,
 }
 
 impl<C: Compress> Model for Second<C> {
@@ -81,7 +81,7 @@ impl<C: Compress> Second<C> {
     }
 
     /// The sealed items, none where they are not sealed.
-    pub fn items(&self) -> Option<&[Node]>
+    pub fn items(&self) -> Option<&[Item]>
         ensures { option_copied result ≡ option_map items_of self.now.sealed }
     {
         if self.is_sealed {
@@ -118,9 +118,9 @@ impl<C: Compress> Second<C> {
         &mut self,
         alloc: Global,
         aggregator: u32,
-        item: &Node,
+        item: &Item,
     ) -> Result<Answer, NoMemory>
-        requires { item.now.level ≤ 239 }
+        requires { item.now.level ≤ highest_item }
         ensures after { IfOk result (λ answer. self.new ≡ (submission_row aggregator item.now self.old).after) }
         ensures answer { IfOk result (λ answer. answer ≡ (submission_row aggregator item.now self.old).answer) }
         ensures held { StillHolds self.old self.new }
@@ -277,11 +277,11 @@ fn decided(took: Took) -> (Answer, Option<SynodMessage>)
 /// Takes an item of an aggregator among the open ones.
 fn take<C: Compress>(
     entries: &mut Entries<C>,
-    items: &mut Vec<Node>,
+    items: &mut Vec<Item>,
     aggregator: u32,
-    item: &Node,
+    item: &Item,
 ) -> Result<Answer, NoMemory>
-    requires level { item.now.level ≤ 239 }
+    requires level { item.now.level ≤ highest_item }
     requires same { items.old.items ≡ items_of entries.old }
     ensures after { IfOk result (λ answer. entries.new ≡ (taken aggregator item.now entries.old).0) }
     ensures answer { IfOk result (λ answer. answer ≡ (taken aggregator item.now entries.old).1) }
@@ -301,13 +301,13 @@ fn take<C: Compress>(
             put(items, item);
             Ok(Answer::Done)
         }
-        Err(AddRefusal::Full) => Ok(Answer::Full),
-        Err(AddRefusal::NoMemory) => Err(NoMemory),
+        Err(Refused::Fault(AddRefusal::Full)) => Ok(Answer::Full),
+        Err(Refused::NoMemory) => Err(NoMemory),
     }
 }
 
 /// Puts an item behind the others, where there is room.
-fn put(items: &mut Vec<Node>, item: &Node)
+fn put(items: &mut Vec<Item>, item: &Item)
     requires { vec_len items.old < vec_capacity items.old }
     ensures { items.new.items ≡ items.old.items ++ item.now ∷ [] }
 {

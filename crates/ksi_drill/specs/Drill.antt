@@ -4,7 +4,7 @@ use Rattle.std.specs.List.{filter}
 use Rattle.std.specs.Str.{bytes_eq}
 use Rattle.ksi_imprint.specs.Imprints.{imprint_of, zero_imprint}
 use Rattle.ksi_generate.specs.Generate.{generated}
-use Rattle.ksi_journal.specs.declared.second.Second.{Second}
+use Rattle.ksi_aggtree.specs.declared.second.Second.{Second}
 use Rattle.ksi_journal.specs.Journal.{Contents}
 use Rattle.ksi_replay.specs.Journals.{journal_of}
 use Rattle.ksi_schedule.specs.Events.{History}

@@ -1,22 +1,20 @@
 // One issued signature is put to the test.
-ghost use Rattle.std.specs.Prelude.{◌≡◌, ◌≢◌, ◌<◌, ◌^◌, None, Some, IfOk};
+ghost use Rattle.std.specs.Prelude.{◌≡◌, ◌<◌, ◌^◌, None, Some, IfOk};
 ghost use Rattle.ksi_imprint.specs.Imprints.{imprint_of};
-ghost use Rattle.ksi_auditor.specs.Audit as audits;
-ghost use Rattle.ksi_signature.specs.declared.fault.SignatureFault.TheVariants as faults;
 ghost use Rattle.ksi_signature.specs.Reading.{signature_at};
 ghost use Rattle.ksi_drill.specs.Covered.{published};
 ghost use Rattle.ksi_drill.specs.Trials.{extension, if_signature, is_accepted, is_beneath, is_inside, judged, trial};
 
 use crate::trial::Trial;
 use ksi_auditor::{Audit, audit};
-use ksi_extender::{ExtendRefusal, extend};
-use ksi_imprint::{Bytes, Imprint, NoMemory, Sha};
+use ksi_extender::extend;
+use ksi_imprint::{Bytes, Imprint, NoMemory, Refused, Sha};
 use ksi_journal::Journal;
 use ksi_publications::Publications;
-use ksi_signature::{Signature, SignatureFault, read, signature_is_read};
+use ksi_signature::{Signature, read, signature_is_read};
 use ksi_verifier::{Verdict, verify};
 use ksi_world::Asked;
-use std::alloc::{AllocError, Global};
+use std::alloc::Global;
 
 /// What becomes of an issued signature, which stands behind the number of its request, extended to `p` and tried against
 /// the root of `p`.
@@ -52,8 +50,8 @@ fn extension(
 {
     match extend::<Sha>(alloc, journal, bytes.as_slice(), p) {
         Ok(text) => if_signature(alloc, text.as_slice()),
-        Err(ExtendRefusal::NoMemory) => Err(AllocError),
-        Err(_) => Ok(None),
+        Err(Refused::Fault(_)) => Ok(None),
+        Err(Refused::NoMemory) => Err(NoMemory),
     }
 }
 
@@ -64,17 +62,8 @@ fn if_signature(alloc: Global, bytes: &[u8]) -> Result<Option<Signature>, NoMemo
     signature_is_read();
     match read(alloc, bytes) {
         Ok(signature) => Ok(Some(signature)),
-        Err(fault) => none_at(fault),
-    }
-}
-
-/// No signature is read, but where memory is wanting.
-fn none_at(fault: SignatureFault) -> Result<Option<Signature>, NoMemory>
-    ensures { IfOk result (λ found. (fault ≢ faults.NoMemory) × (found ≡ None)) }
-{
-    match fault {
-        SignatureFault::NoMemory => Err(AllocError),
-        _ => Ok(None),
+        Err(Refused::Fault(_)) => Ok(None),
+        Err(Refused::NoMemory) => Err(NoMemory),
     }
 }
 
@@ -95,28 +84,12 @@ fn judged(
         None => return Ok(Trial::SILENT),
     };
     let accepted = is_accepted(&verify::<Sha>(signature, hash, publications));
-    let audit = audited(alloc, journal, publications, hash, signature)?;
+    let answer = audit::<Sha>(alloc, journal, signature, hash, publications)?;
     Ok(Trial {
         accepted,
-        inside: is_inside(&audit),
-        beneath: is_beneath(&audit),
+        inside: is_inside(&answer),
+        beneath: is_beneath(&answer),
     })
-}
-
-/// The audit, where memory is not wanting.
-fn audited(
-    alloc: Global,
-    journal: &Journal<Sha>,
-    publications: &Publications,
-    hash: &Imprint,
-    signature: &Signature,
-) -> Result<Audit, NoMemory>
-    ensures { IfOk result (λ answer. answer ≡ audits.audit imprint_of journal.now signature.now hash.now publications.now) }
-{
-    match audit::<Sha>(alloc, journal, signature, hash, publications) {
-        Audit::NoMemory => Err(AllocError),
-        answer => Ok(answer),
-    }
 }
 
 fn is_accepted(verdict: &Verdict) -> bool

@@ -10,7 +10,7 @@ use Rattle.ksi_split.specs.Trees.{tree_within, tree, path_within, path_of}
 use Rattle.ksi_calchain.specs.Climbing.{calendar_join, calendar_join_text}
 use Rattle.ksi_calendar.specs.Calendar.{calendar_leaf}
 use Rattle.ksi_calendar.specs.Covered.{roots_among, covered_seconds, covered_root, covered_path, second_leaf}
-use Rattle.ksi_journal.specs.declared.second.Second.{Second}
+use Rattle.ksi_aggtree.specs.declared.second.Second.{Second}
 use Rattle.ksi_journal.specs.Journal.{Contents, IsSecond, kept_among, root_kept, root_at}
 
 either : {A : Type 0} (P : A → Type 0) (b : Bool) (x y : A) → P x → P y → P (if b then x else y)

@@ -1,5 +1,4 @@
 pub mod Passing
-pub mod Faults
 pub mod Steps
 pub mod Kept
 pub mod Whole

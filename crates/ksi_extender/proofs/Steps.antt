@@ -1,26 +1,26 @@
 -- The steps of an extension, one by one.
-use Rattle.std.proofs.Common.{◌≡◌, ◌≢◌, ℕ, ◌-◌, ◌^◌, min, Bool, true, false, List, length, Result, Ok, Err, refl, sym, ap, subst, ◌∙◌, ◌⊎◌, inl, inr, arith, nat_le}
+use Rattle.std.proofs.Common.{◌≡◌, ℕ, ◌-◌, ◌^◌, min, Bool, true, false, List, length, Result, Ok, Err, refl, sym, ap, ◌∙◌, inl, inr, arith, nat_le}
+use Rattle.std.specs.Prelude.{◌↔◌}
+use Rattle.ksi_imprint.specs.declared.refused.Refused.{Refused}
+use Rattle.ksi_imprint.specs.declared.refused.Refused.TheVariants.{Fault}
 use Rattle.ksi_split.specs.declared.tree_link.TreeLink.{TreeLink}
 use Rattle.ksi_split.specs.Trees.{climb_links}
 use Rattle.ksi_calchain.specs.Climbing.{ClimbsCalendar, calendar_join}
 use Rattle.ksi_calendar.specs.Calendar.{Seconds, calendar_leaf, calendar_root}
 use Rattle.ksi_signature.specs.declared.fault.SignatureFault.{SignatureFault}
-use Rattle.ksi_signature.specs.declared.fault.SignatureFault.TheVariants as answers
-use Rattle.ksi_signature.specs.File.{IsSignature, IsSignatureFault}
+use Rattle.ksi_signature.specs.declared.extension.WithRefusal.{WithRefusal}
+use Rattle.ksi_signature.specs.declared.extension.WithRefusal.TheVariants as unmade
 use Rattle.ksi_signature.specs.declared.signature.Signature.{Signature}
 use Rattle.ksi_signature.specs.Values.{Calendar, Publishing}
 use Rattle.ksi_signature.specs.Reading.{signature_at}
 use Rattle.ksi_signature.specs.Extended.{extended_content, extended_text, IsTooLong}
 use Rattle.ksi_journal.specs.Journal.{Contents}
 use Rattle.ksi_journal.specs.Calendar.{calendar_of}
-use Rattle.ksi_verifier.specs.declared.aggregated.Aggregated.{Aggregated}
 use Rattle.ksi_verifier.specs.ChainChecks.{aggregated}
-use Rattle.ksi_extender.specs.declared.refusal.ExtendRefusal.{ExtendRefusal}
 use Rattle.ksi_extender.specs.declared.refusal.ExtendRefusal.TheVariants as refusals
 use Rattle.ksi_extender.specs.Checks.{◌>>=◌, ◌>>◌, need}
-use Rattle.ksi_extender.specs.Extended.{or_malformed, or_refused, chains_in, fitting}
+use Rattle.ksi_extender.specs.Extended.{or_malformed, or_refused, chains_in, fitting, not_renewed}
 use Rattle.ksi_extender.proofs.Passing.{le_cases}
-use Rattle.ksi_extender.proofs.Faults.{no_memory}
 
 -- ---- the chains
 
@@ -29,21 +29,6 @@ read_then image bytes signature e = sym (ap (λ (r : Result Signature SignatureF
 
 pub read_fault : (image : List ℕ → List ℕ) (bytes : List ℕ) (fault : SignatureFault) → signature_at bytes ≡ Err fault → Err (refusals.Malformed fault) ≡ chains_in image bytes
 read_fault image bytes fault e = sym (ap (λ (r : Result Signature SignatureFault). or_malformed r >>= (λ (s : Signature). or_refused (aggregated image s))) e)
-
--- what is answered where nothing was read
-pub unread : (image : List ℕ → List ℕ) (bytes : List ℕ) (fault : SignatureFault) (refusal : ExtendRefusal) → ((fault ≢ answers.NoMemory) → refusal ≡ refusals.Malformed fault) → (fault ≡ answers.NoMemory → refusal ≡ refusals.NoMemory)
-    → (IsSignatureFault bytes fault → signature_at bytes ≡ Err fault) → IsSignatureFault bytes fault ⊎ ((fault ≡ answers.NoMemory) × (signature : Signature) × IsSignature bytes signature) → (let r : Result Aggregated ExtendRefusal = Err refusal in (r ≡ chains_in image bytes) ⊎ (r ≡ Err refusals.NoMemory))
-unread image bytes fault refusal malformed memory read (inl stands) =
-    let other : fault ≢ answers.NoMemory = λ is. no_memory bytes (subst (IsSignatureFault bytes) is stands) in
-    inl (ap (λ (r : ExtendRefusal). Err r) (malformed other) ∙ read_fault image bytes fault (read stands))
-unread image bytes fault refusal malformed memory read (inr wanting) = inr (ap (λ (r : ExtendRefusal). Err r) (memory wanting.0))
-
--- memory is wanting for a signature alone
-pub wanted : (bytes : List ℕ) (fault : SignatureFault) (refusal : ExtendRefusal) → ((fault ≢ answers.NoMemory) → refusal ≡ refusals.Malformed fault) → refusal ≡ refusals.NoMemory
-    → IsSignatureFault bytes fault ⊎ ((fault ≡ answers.NoMemory) × (signature : Signature) × IsSignature bytes signature) → (signature : Signature) × IsSignature bytes signature
-wanted bytes fault refusal malformed memory (inl stands) =
-    let is = malformed (λ is. no_memory bytes (subst (IsSignatureFault bytes) is stands)) in absurd cc
-wanted bytes fault refusal malformed memory (inr wanting) = (wanting.1, wanting.2)
 
 -- ---- the new bytes
 
@@ -84,3 +69,10 @@ too_large bytes chain published n long = elim (le_cases (length (extended_conten
   | inl holds ↦ absurd (let high = long.long in let low = holds.1 in omega arith)
   | inr fails ↦ ap (λ (size : ℕ). Err (refusals.TooLarge size)) long.number ∙ sym (fits_false bytes chain published fails.0)
 ]
+
+-- what is answered where the new bytes were not made
+pub no_bytes : {A S : Type 0} (bytes : List ℕ) (chain : Calendar) (published : Publishing) (refusal : WithRefusal) (r : Result A (Refused WithRefusal)) → r ≡ Err (Fault refusal)
+    → ((n : ℕ) → (r ≡ Err (Fault (unmade.TooLong n))) ↔ (S × IsTooLong (length (extended_content bytes chain published)) n))
+    → ((fault : SignatureFault) → r ≡ Err (Fault (unmade.Malformed fault)) → ⊥) → fitting bytes chain published ≡ Err (not_renewed refusal)
+no_bytes bytes chain published (unmade.TooLong n) r is long malformed = sym (too_large bytes chain published n ((long n).0 is).1)
+no_bytes bytes chain published (unmade.Malformed fault) r is long malformed = absurd (malformed fault is)

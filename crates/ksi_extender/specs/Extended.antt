@@ -4,6 +4,8 @@ use Rattle.std.specs.Str.{bytes_eq}
 use Rattle.ksi_imprint.specs.Imprints.{zero_imprint}
 use Rattle.ksi_calendar.specs.Covered.{first_missing, covered_root, covered_path, second_leaf}
 use Rattle.ksi_signature.specs.declared.fault.SignatureFault.{SignatureFault}
+use Rattle.ksi_signature.specs.declared.extension.WithRefusal.{WithRefusal}
+use Rattle.ksi_signature.specs.declared.extension.WithRefusal.TheVariants as unmade
 use Rattle.ksi_signature.specs.declared.signature.Signature.{Signature}
 use Rattle.ksi_signature.specs.Values.{Calendar, Publishing}
 use Rattle.ksi_signature.specs.Reading.{signature_at}
@@ -72,3 +74,10 @@ extended image journal bytes p = do
   chains ← chains_in image bytes
   kept_to journal chains p
   fitting bytes (chain_to image journal chains.time p) (record_to image journal p)
+
+-- ---- in the code
+
+-- the refusal where the new bytes were not made
+abbrev pub not_renewed : WithRefusal → ExtendRefusal
+not_renewed (unmade.Malformed fault) = refusals.Malformed fault
+not_renewed (unmade.TooLong size) = refusals.TooLarge size

@@ -1,13 +1,13 @@
-ghost use Rattle.std.specs.Prelude.{◌≡◌, ◌≢◌, [], ◌⊎◌, ◌<◌, ◌≤◌, ◌+◌, ◌^◌, length, Ok, Err, IfOk};
+ghost use Rattle.std.specs.Prelude.{◌≡◌, [], ◌<◌, ◌≤◌, ◌+◌, ◌^◌, length, Ok, Err, IfOk};
+ghost use Rattle.ksi_imprint.specs.Refused.{OrNoMemory};
+ghost use Rattle.ksi_imprint.specs.declared.refused.Refused.TheVariants as refused;
 ghost use Rattle.ksi_tlv.specs.Spelling.{AreBytes};
 ghost use Rattle.ksi_calendar.specs.Covered.{IsCovered, second_leaf};
 ghost use Rattle.ksi_journal.specs.Journal.{IsJournal, root_at};
-ghost use Rattle.ksi_signature.specs.declared.fault.SignatureFault.TheVariants as answers;
 ghost use Rattle.ksi_signature.specs.declared.signature.Signature.{Signature};
 ghost use Rattle.ksi_signature.specs.File.{IsSignature};
 ghost use Rattle.ksi_signature.specs.Extended.{renewed};
-ghost use Rattle.ksi_extender.specs.declared.refusal.ExtendRefusal.TheVariants as refusals;
-ghost use Rattle.ksi_extender.specs.Extended.{chains_in, kept_to, chain_to, record_to, fitting, extended};
+ghost use Rattle.ksi_extender.specs.Extended.{chains_in, kept_to, chain_to, record_to, fitting, extended, not_renewed};
 ghost use Rattle.ksi_extender.specs.Accepted.{IsExtended, extended_signature};
 
 use crate::laws::extended_is_accepted;
@@ -16,11 +16,11 @@ use ksi_calchain::climb_calendar;
 use ksi_calchain::laws::one_climb;
 use ksi_calendar::Steps;
 use ksi_calendar::laws::one_first_missing;
-use ksi_imprint::{Bytes, Compress, Imprint, NoMemory};
+use ksi_imprint::{Bytes, Compress, Imprint, NoMemory, Refused};
 use ksi_journal::Journal;
 use ksi_journal::laws::{are_bytes, calendar_is_covered};
 use ksi_signature::{
-    Bodies, CalendarChain, CalendarLinks, PublicationRecord, SignatureFault, WithRefusal, read,
+    Bodies, CalendarChain, CalendarLinks, PublicationRecord, WithRefusal, read,
     signature_is_read, signature_or_fault, with_calendar,
 };
 use ksi_verifier::laws::aggregation;
@@ -43,13 +43,12 @@ pub fn extend<C: Compress>(
     journal: &Journal<C>,
     bytes: &[u8],
     p: u64,
-) -> Result<Bytes, ExtendRefusal>
+) -> Result<Bytes, Refused<ExtendRefusal>>
     requires { p < 2 ^ 63 }
-    ensures answer { (result ≡ extended C.image journal.now bytes.now p) ⊎ (result ≡ Err refusals.NoMemory) }
+    ensures answer { OrNoMemory (extended C.image journal.now bytes.now p) result }
     ensures accepted { IfOk result (IsExtended C.image journal.now bytes.now p) }
     ensures bytes { IfOk result AreBytes }
-    ensures memory { result ≢ Err (refusals.Malformed answers.NoMemory) }
-    ensures wanting { result ≡ Err refusals.NoMemory → (signature : Signature) × IsSignature bytes.now signature }
+    ensures wanting { result ≡ Err refused.NoMemory → (signature : Signature) × IsSignature bytes.now signature }
 {
     extend_from::<C, Brand>(alloc, journal, bytes, p, Blank::new(1))
 }
@@ -60,16 +59,15 @@ fn extend_from<C: Compress, L: Ledger>(
     bytes: &[u8],
     p: u64,
     blank: Blank,
-) -> Result<Bytes, ExtendRefusal>
+) -> Result<Bytes, Refused<ExtendRefusal>>
     requires name { blank.name ≡ L.name }
     requires parts { blank.parts ≡ L.parts }
     requires one { blank.parts ≡ 1 }
     requires early { p < 2 ^ 63 }
-    ensures answer { (result ≡ extended C.image journal.now bytes.now p) ⊎ (result ≡ Err refusals.NoMemory) }
+    ensures answer { OrNoMemory (extended C.image journal.now bytes.now p) result }
     ensures accepted { IfOk result (IsExtended C.image journal.now bytes.now p) }
     ensures bytes { IfOk result AreBytes }
-    ensures memory { result ≢ Err (refusals.Malformed answers.NoMemory) }
-    ensures wanting { result ≡ Err refusals.NoMemory → (signature : Signature) × IsSignature bytes.now signature }
+    ensures wanting { result ≡ Err refused.NoMemory → (signature : Signature) × IsSignature bytes.now signature }
 {
     let mut steps = Steps::<L>::open(blank);
     extend_counted(alloc, journal, bytes, p, &mut steps)
@@ -86,13 +84,12 @@ pub fn extend_counted<C: Compress, L: Ledger>(
     bytes: &[u8],
     p: u64,
     steps: &mut Steps<L>,
-) -> Result<Bytes, ExtendRefusal>
+) -> Result<Bytes, Refused<ExtendRefusal>>
     requires { p < 2 ^ 63 }
-    ensures answer { (result ≡ extended C.image journal.now bytes.now p) ⊎ (result ≡ Err refusals.NoMemory) }
+    ensures answer { OrNoMemory (extended C.image journal.now bytes.now p) result }
     ensures accepted { IfOk result (IsExtended C.image journal.now bytes.now p) }
     ensures bytes { IfOk result AreBytes }
-    ensures memory { result ≢ Err (refusals.Malformed answers.NoMemory) }
-    ensures wanting { result ≡ Err refusals.NoMemory → (signature : Signature) × IsSignature bytes.now signature }
+    ensures wanting { result ≡ Err refused.NoMemory → (signature : Signature) × IsSignature bytes.now signature }
     ensures most { steps.new ≤ steps.old + 127 }
     ensures least { IfOk result (λ _. steps.old < steps.new) }
 {
@@ -108,20 +105,20 @@ fn extended_bytes<C: Compress, L: Ledger>(
     bytes: &[u8],
     p: u64,
     steps: &mut Steps<L>,
-) -> Result<Bytes, ExtendRefusal>
+) -> Result<Bytes, Refused<ExtendRefusal>>
     requires { p < 2 ^ 63 }
-    ensures answer { (result ≡ extended C.image journal.now bytes.now p) ⊎ (result ≡ Err refusals.NoMemory) }
+    ensures answer { OrNoMemory (extended C.image journal.now bytes.now p) result }
     ensures again { IfOk result (λ text. (signature : Signature) × IsSignature bytes.now signature
         × IsSignature text (extended_signature C.image journal.now signature p)) }
     ensures bytes { IfOk result AreBytes }
-    ensures wanting { result ≡ Err refusals.NoMemory → (signature : Signature) × IsSignature bytes.now signature }
+    ensures wanting { result ≡ Err refused.NoMemory → (signature : Signature) × IsSignature bytes.now signature }
     ensures most { steps.new ≤ steps.old + 127 }
     ensures least { IfOk result (λ _. steps.old < steps.new) }
 {
     signature_is_read();
     match chains_in::<C>(alloc, bytes) {
         Ok(chains) => over_journal(alloc, journal, bytes, &chains, p, steps),
-        Err(refusal) => Err(refusal),
+        Err(refused) => Err(refused),
     }
 }
 
@@ -133,14 +130,14 @@ fn over_journal<C: Compress, L: Ledger>(
     chains: &Aggregated,
     p: u64,
     steps: &mut Steps<L>,
-) -> Result<Bytes, ExtendRefusal>
+) -> Result<Bytes, Refused<ExtendRefusal>>
     requires early { p < 2 ^ 63 }
     requires chains { chains_in C.image bytes.now ≡ Ok chains.now }
-    ensures answer { (result ≡ extended C.image journal.now bytes.now p) ⊎ (result ≡ Err refusals.NoMemory) }
+    ensures answer { OrNoMemory (extended C.image journal.now bytes.now p) result }
     ensures again { IfOk result (λ text. (signature : Signature) × IsSignature bytes.now signature
         × IsSignature text (extended_signature C.image journal.now signature p)) }
     ensures bytes { IfOk result AreBytes }
-    ensures wanting { result ≡ Err refusals.NoMemory → kept_to journal.now chains.now p ≡ Ok tt }
+    ensures wanting { result ≡ Err refused.NoMemory → kept_to journal.now chains.now p ≡ Ok tt }
     ensures most { steps.new ≤ steps.old + 127 }
     ensures least { IfOk result (λ _. steps.old < steps.new) }
 {
@@ -149,35 +146,25 @@ fn over_journal<C: Compress, L: Ledger>(
     signature_is_read();
     let _start = journal.start();
     if let Err(refusal) = check_kept(journal, chains, p, steps) {
-        return Err(refusal);
+        return Err(Refused::Fault(refusal));
     }
     let (chain, published) = proof_to(alloc, journal, chains, p, steps)?;
     renewed_with(alloc, bytes, &chain, &published)
 }
 
 /// What the aggregation chains of a signature come to.
-fn chains_in<C: Compress>(alloc: Global, bytes: &[u8]) -> Result<Aggregated, ExtendRefusal>
-    ensures answer { (result ≡ chains_in C.image bytes.now) ⊎ (result ≡ Err refusals.NoMemory) }
-    ensures wanting { result ≡ Err refusals.NoMemory → (signature : Signature) × IsSignature bytes.now signature }
+fn chains_in<C: Compress>(alloc: Global, bytes: &[u8]) -> Result<Aggregated, Refused<ExtendRefusal>>
+    ensures answer { OrNoMemory (chains_in C.image bytes.now) result }
+    ensures wanting { result ≡ Err refused.NoMemory → (signature : Signature) × IsSignature bytes.now signature }
 {
     signature_is_read();
     match read(alloc, bytes) {
         Ok(signature) => match aggregate::<C>(&signature) {
             Ok(chains) => Ok(chains),
-            Err(refusal) => Err(ExtendRefusal::Refused(refusal)),
+            Err(refusal) => Err(Refused::Fault(ExtendRefusal::Refused(refusal))),
         },
-        Err(fault) => Err(named(fault)),
-    }
-}
-
-/// The refusal where a signature was not read.
-fn named(fault: SignatureFault) -> ExtendRefusal
-    ensures fault { fault ≢ answers.NoMemory → result ≡ refusals.Malformed fault }
-    ensures memory { fault ≡ answers.NoMemory → result ≡ refusals.NoMemory }
-{
-    match fault {
-        SignatureFault::NoMemory => ExtendRefusal::NoMemory,
-        _ => ExtendRefusal::Malformed(fault),
+        Err(Refused::Fault(fault)) => Err(Refused::Fault(ExtendRefusal::Malformed(fault))),
+        Err(Refused::NoMemory) => Err(Refused::NoMemory),
     }
 }
 
@@ -275,9 +262,9 @@ fn renewed_with(
     bytes: &[u8],
     chain: &CalendarChain,
     published: &PublicationRecord,
-) -> Result<Bytes, ExtendRefusal>
+) -> Result<Bytes, Refused<ExtendRefusal>>
     ensures answer { (signature : Signature) → IsSignature bytes.now signature →
-        (result ≡ fitting bytes.now chain.now published.now) ⊎ (result ≡ Err refusals.NoMemory) }
+        OrNoMemory (fitting bytes.now chain.now published.now) result }
     ensures again { IfOk result (λ text. (signature : Signature) × IsSignature bytes.now signature
         × IsSignature text (renewed signature chain.now published.now)) }
     ensures bytes { IfOk result AreBytes }
@@ -288,8 +275,17 @@ fn renewed_with(
             are_bytes(text.as_slice());
             Ok(text)
         }
-        Err(WithRefusal::TooLong(size)) => Err(ExtendRefusal::TooLarge(size)),
-        Err(WithRefusal::Malformed(fault)) => Err(ExtendRefusal::Malformed(fault)),
-        Err(WithRefusal::NoMemory) => Err(ExtendRefusal::NoMemory),
+        Err(Refused::Fault(refusal)) => Err(Refused::Fault(not_renewed(refusal))),
+        Err(Refused::NoMemory) => Err(Refused::NoMemory),
+    }
+}
+
+/// The refusal where the new bytes were not made.
+fn not_renewed(refusal: WithRefusal) -> ExtendRefusal
+    ensures { result ≡ not_renewed refusal }
+{
+    match refusal {
+        WithRefusal::TooLong(size) => ExtendRefusal::TooLarge(size),
+        WithRefusal::Malformed(fault) => ExtendRefusal::Malformed(fault),
     }
 }

@@ -12,8 +12,8 @@
 //! let journal = load::<Sha>(alloc, file)?;
 //! match extend(alloc, &journal, bytes, p) {
 //!     Ok(text) => .., // to be verified against a publications file with the root of p
-//!     Err(ExtendRefusal::Undecided(second)) => .., // p is not covered yet
-//!     Err(refusal) => ..,
+//!     Err(Refused::Fault(ExtendRefusal::Undecided(second))) => .., // p is not covered yet
+//!     Err(refused) => ..,
 //! }
 //! ```
 #![tactic(auto)]
@@ -23,6 +23,6 @@ mod laws;
 mod refusal;
 
 pub use extending::{extend, extend_counted};
-pub use ksi_imprint::NoMemory;
+pub use ksi_imprint::{NoMemory, Refused};
 pub use laws::{covered_is_extended, extended_is_accepted, extension_is_bytes};
 pub use refusal::ExtendRefusal;

@@ -1,4 +1,4 @@
-use ksi_imprint::{Imprint, NoMemory};
+use ksi_imprint::Imprint;
 use ksi_signature::SignatureFault;
 use ksi_verifier::Refusal;
 
@@ -26,17 +26,4 @@ pub enum ExtendRefusal {
     },
     /// E5: the new content has so many bytes, above 65,535.
     TooLarge(u64),
-    /// Memory was wanting.
-    NoMemory,
-}
-
-impl From<NoMemory> for ExtendRefusal {
-    ghost use Rattle.std.specs.Prelude.{◌≡◌};
-    ghost use Rattle.ksi_extender.specs.declared.refusal.ExtendRefusal.TheVariants as refusals;
-
-    ghost from_gives = { λ _ refusal. refusal ≡ refusals.NoMemory };
-
-    fn from(_: NoMemory) -> Self {
-        ExtendRefusal::NoMemory
-    }
 }

@@ -4,7 +4,7 @@ use Rattle.std.specs.Prelude.{option_map, unwrap_or}
 use Rattle.std.proofs.Math.Nat.{max-eq_left}
 use Rattle.std.proofs.lemmas.Bool.{cond_both, cases_lt, cond-true, and_parts, ltb-true}
 use Rattle.std.proofs.lemmas.List.{get_or-replicate, get_or_past, length-replicate}
-use Rattle.ksi_aggchain.specs.declared.node.Node.{Node}
+use Rattle.ksi_aggtree.specs.declared.item.Item.{Item}
 use Rattle.ksi_aggtree.specs.declared.entries.Entry.{Entry}
 use Rattle.ksi_aggtree.specs.Entries.{candidate_of, has_from, is_full}
 use Rattle.ksi_synod.specs.declared.messages.Vote.{Vote}
@@ -85,7 +85,7 @@ module _ (image : List ℕ → List ℕ) (voters : List ℕ) {me : ℕ} (small :
 
   -- SUBMISSION
 
-  pub submission_so : (from : ℕ) (item : Node) → After (where_done (submission_row from item s).answer (Accepted (submitted from item))) (submission_row from item s).after
+  pub submission_so : (from : ℕ) (item : Item) → After (where_done (submission_row from item s).answer (Accepted (submitted from item))) (submission_row from item s).after
   unfolding submission_row
   submission_so from item =
       cond_both (is_some s.sealed) _ _ P (λ _. so)

@@ -2,7 +2,7 @@
 use Rattle.std.proofs.Common.{◌≡◌, ℕ, ◌+◌, ◌*◌, ◌/◌, ◌≤◌, Bool, true, false, cond, is_some, ◌&&◌, eqb, ltb, max, List, [], ◌∷◌, ◌++◌, map, refl, sym, ap, ◌∙◌, arith, Option, Some, None}
 use Rattle.std.specs.Prelude.{unwrap_or}
 use Rattle.std.proofs.lemmas.Bool.{cond_both, and_parts, le-ltb, lt-ltb, eqb-true, false≢true}
-use Rattle.ksi_aggchain.specs.declared.node.Node.{Node}
+use Rattle.ksi_aggtree.specs.declared.item.Item.{Item}
 use Rattle.ksi_aggtree.specs.declared.entries.Entry.{Entry}
 use Rattle.ksi_aggtree.specs.Entries.{candidate_of, has_from, is_full}
 use Rattle.ksi_synod.specs.declared.messages.Vote.{Vote}
@@ -90,7 +90,7 @@ module _ (t : ℕ) (s : SecondState) where
   still_adds : Adds [] s
   still_adds = added [] s [] (all_stays s s refl refl refl refl refl) refl
 
-  pub submission_adds : (from : ℕ) (item : Node) → Adds (where_done (submission_row from item s).answer (Accepted (submitted from item))) (submission_row from item s).after
+  pub submission_adds : (from : ℕ) (item : Item) → Adds (where_done (submission_row from item s).answer (Accepted (submitted from item))) (submission_row from item s).after
   unfolding submission_row
   submission_adds from item =
       cond_both (is_some s.sealed) _ _ P (λ _. still_adds)
@@ -266,7 +266,7 @@ module _ (t : ℕ) (r : RoundState) where
       P : RoundTurn → Type 0
       P turn = RoundAdds (numbered imprint turn.answer) turn.after
 
-  pub item_adds : (from : ℕ) (item : Node) → RoundAdds (where_done (round_submission from item r).answer (Accepted (submitted_entry from item))) (round_submission from item r).after
+  pub item_adds : (from : ℕ) (item : Item) → RoundAdds (where_done (round_submission from item r).answer (Accepted (submitted_entry from item))) (round_submission from item r).after
   unfolding round_submission
   item_adds from item =
       cond_both (is_some r.closed) _ _ P (λ _. still_round [] refl)

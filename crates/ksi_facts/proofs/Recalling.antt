@@ -5,7 +5,7 @@ use Rattle.std.proofs.Math.Seq.{drop-append_seam}
 use Rattle.std.proofs.lemmas.Bool.{eqb-true, and_parts, false≢true, or_cases}
 use Rattle.std.proofs.lemmas.List.{append-nil}
 use Rattle.std.proofs.lemmas.List.Folds.{list_any-append}
-use Rattle.ksi_aggchain.specs.declared.node.Node.{Node}
+use Rattle.ksi_aggtree.specs.declared.item.Item.{Item}
 use Rattle.ksi_synod.specs.declared.messages.SynodMessage.{SynodMessage}
 use Rattle.ksi_synod.specs.declared.messages.SynodMessage.TheVariants as votes
 use Rattle.ksi_synod.specs.Voters.{cores_below, is_voter}
@@ -191,14 +191,14 @@ module _ (image : List ℕ → List ℕ) (plan : PlanState) (is : IsPlan plan) w
           (core_turned (post number (actors.Core from) (actors.Core i) t (contents.Synod m) turn.answer sent) i t (λ b. takes (actors.Core from) (contents.Synod m) turn.answer sent (Old b t)) (λ b. refl) turn
           row)
 
-      item_step : (from i t : ℕ) (item : Node) → Posts (actors.Aggregator from) (actors.Core i) t (contents.Submission item) (at_core w i t (submission_row from item (w.seconds i t)))
+      item_step : (from i t : ℕ) (item : Item) → Posts (actors.Aggregator from) (actors.Core i) t (contents.Submission item) (at_core w i t (submission_row from item (w.seconds i t)))
       item_step from i t item =
           let turn = submission_row from item (w.seconds i t) in
           let sent : List Message = behind (w.wire ++ map (core_message i t) turn.sends) in
           core_turned (post number (actors.Aggregator from) (actors.Core i) t (contents.Submission item) turn.answer sent) i t (λ b. where_done turn.answer (Accepted (submitted from item))) (λ b. refl) turn
           (submission_so image (cores_below plan.cores) small t (Ds past (actors.Core i) t) (w.seconds i t) (all.seconds i t) from item)
 
-      lower_item_step : (from k t : ℕ) (item : Node) → Posts (actors.Aggregator from) (actors.Aggregator k) t (contents.Submission item) (at_round plan w k t (round_submission from item (w.rounds k t)))
+      lower_item_step : (from k t : ℕ) (item : Item) → Posts (actors.Aggregator from) (actors.Aggregator k) t (contents.Submission item) (at_round plan w k t (round_submission from item (w.rounds k t)))
       lower_item_step from k t item =
           let turn = round_submission from item (w.rounds k t) in
           let sent : List Message = behind (w.wire ++ map (round_message plan k t) turn.sends) in

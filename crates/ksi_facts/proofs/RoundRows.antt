@@ -1,7 +1,7 @@
 -- Each step of a round is what is seen of it.
 use Rattle.std.proofs.Common.{◌≡◌, ℕ, true, false, is_some, List, [], ◌∷◌, ◌++◌, refl, sym, ap, ◌∙◌, Option, Some, None}
 use Rattle.std.proofs.lemmas.Bool.{cond_both}
-use Rattle.ksi_aggchain.specs.declared.node.Node.{Node}
+use Rattle.ksi_aggtree.specs.declared.item.Item.{Item}
 use Rattle.ksi_aggtree.specs.declared.entries.Entry.{Entry}
 use Rattle.ksi_aggtree.specs.Entries.{has_from, is_full}
 use Rattle.ksi_signature.specs.declared.above.Above.{Above}
@@ -41,7 +41,7 @@ module _ (t : ℕ) (ds : List Deed) (r : RoundState) (so : IsRoundSo ds r) where
       P : RoundTurn → Type 0
       P turn = After (numbered imprint turn.answer) turn.after
 
-  pub submission_so : (from : ℕ) (item : Node) → After (where_done (round_submission from item r).answer (Accepted (submitted_entry from item))) (round_submission from item r).after
+  pub submission_so : (from : ℕ) (item : Item) → After (where_done (round_submission from item r).answer (Accepted (submitted_entry from item))) (round_submission from item r).after
   unfolding round_submission
   submission_so from item =
       cond_both (is_some r.closed) _ _ P (λ _. so)

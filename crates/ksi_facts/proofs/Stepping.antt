@@ -4,7 +4,7 @@ use Rattle.std.specs.Prelude.{slice_get}
 use Rattle.std.proofs.Math.Seq.{drop-append_seam}
 use Rattle.std.proofs.lemmas.Bool.{cond_both}
 use Rattle.std.proofs.lemmas.List.{append-nil, length-map}
-use Rattle.ksi_aggchain.specs.declared.node.Node.{Node}
+use Rattle.ksi_aggtree.specs.declared.item.Item.{Item}
 use Rattle.ksi_synod.specs.declared.messages.SynodMessage.{SynodMessage}
 use Rattle.ksi_synod.specs.declared.messages.SynodMessage.TheVariants as votes
 use Rattle.ksi_signature.specs.declared.above.Above.{Above}
@@ -133,12 +133,12 @@ module _ (image : List ℕ → List ℕ) (plan : PlanState) (is : IsPlan plan) w
           own_adds b (actors.Core j) t (λ b. takes (actors.Core from) (contents.Synod m) turn.answer sent (Old b t)) (new_facts (At j t) turn.after)
           (subst (λ (o : Option (List ℕ)). facts_of (did t (takes (actors.Core from) (contents.Synod m) turn.answer sent o)) ≡ did t (new_facts (At j t) turn.after)) (old_is j t) (receive_adds t (At j t) plan.cores j is.some from m))
 
-      item_added : (from j t : ℕ) (item : Node) → Takes (actors.Aggregator from) (actors.Core j) t (contents.Submission item) (by_core image plan past j t (submission_row from item))
+      item_added : (from j t : ℕ) (item : Item) → Takes (actors.Aggregator from) (actors.Core j) t (contents.Submission item) (by_core image plan past j t (submission_row from item))
       item_added from j t item =
           let turn = submission_row from item (At j t) in
           own_adds b (actors.Core j) t (λ b. where_done turn.answer (Accepted (submitted from item))) (new_facts (At j t) turn.after) (submission_adds t (At j t) from item)
 
-      lower_item_added : (from k t : ℕ) (item : Node) → Takes (actors.Aggregator from) (actors.Aggregator k) t (contents.Submission item) (by_round image plan past k t (round_submission from item))
+      lower_item_added : (from k t : ℕ) (item : Item) → Takes (actors.Aggregator from) (actors.Aggregator k) t (contents.Submission item) (by_round image plan past k t (round_submission from item))
       lower_item_added from k t item =
           let turn = round_submission from item (round_seen past k t) in
           own_adds b (actors.Aggregator k) t (λ b. where_done turn.answer (Accepted (submitted_entry from item))) (new_round_facts (round_seen past k t) turn.after) (item_adds t (round_seen past k t) from item)

@@ -1,7 +1,8 @@
+use crate::journals::fault_of;
 use crate::same::same;
 use ksi_imprint::Tiny;
-use ksi_journal::{JournalFault, load};
-use ksi_schedule::{LineFault, ScheduleFault, read_schedule};
+use ksi_journal::JournalFault;
+use ksi_schedule::{LineFault, Refused, ScheduleFault, read_schedule};
 use std::process::Abort;
 use std::test::Fail;
 
@@ -24,7 +25,7 @@ fn a_count_is_tested_before_room_is_made(rt: HostRuntime) -> Result<(), Fail> {
     ];
     for (text, fault) in CASES {
         let bytes = hex::decode(rt.alloc(), text)?;
-        let told = load::<Tiny>(rt.alloc(), bytes.as_slice()).err();
+        let told = fault_of(rt.alloc(), bytes.as_slice());
         same(&rt, text, told, Some(fault));
     }
     Ok(())
@@ -39,6 +40,6 @@ fn the_event_behind_a_million_is_one_too_many(rt: HostRuntime) -> Result<(), Fai
     }
     let told = read_schedule(rt.alloc(), text.as_slice()).err();
     let fault = ScheduleFault::Line(LineFault::TooManyEvents, 1_000_004);
-    same(&rt, "fault", told, Some(fault));
+    same(&rt, "fault", told, Some(Refused::Fault(fault)));
     Ok(())
 }

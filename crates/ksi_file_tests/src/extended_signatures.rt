@@ -1,6 +1,6 @@
 use crate::same::same;
 use crate::signatures::{S0, joined};
-use ksi_imprint::{Bytes, Imprint, NoMemory};
+use ksi_imprint::{Bytes, Imprint, NoMemory, Refused};
 use ksi_signature::{
     Bodies, CalendarChain, CalendarLinks, PublicationRecord, SignatureFault, WithRefusal, check,
     with_calendar,
@@ -44,7 +44,7 @@ fn record(alloc: Global, size: usize) -> Result<PublicationRecord, NoMemory> {
 }
 
 /// The new bytes, or the refusal.
-fn extended(alloc: Global, bytes: &[u8], size: usize) -> Result<Bytes, WithRefusal> {
+fn extended(alloc: Global, bytes: &[u8], size: usize) -> Result<Bytes, Refused<WithRefusal>> {
     let published = record(alloc, size)?;
     with_calendar(alloc, bytes, &calendar(alloc), &published)
 }
@@ -77,7 +77,7 @@ const FLAGGED: [u8; 8] = [0xe8, 0x01, 0x00, 0x2d, 0xc0, 0x02, 0x00, 0x00];
 const LONG: [u8; 5] = [0xe0, 0x1e, 0x00, 0x01, 0xff];
 
 /// Whether a signature of these parts is extended to one of those, the calendar chain and the record.
-fn extends_to(alloc: Global, inside: &[&[u8]], wanted: &[&[u8]]) -> Result<bool, WithRefusal> {
+fn extends_to(alloc: Global, inside: &[&[u8]], wanted: &[&[u8]]) -> Result<bool, Refused<WithRefusal>> {
     let bytes = signature(alloc, inside)?;
     let retained = joined(alloc, wanted)?;
     let other = [retained.as_slice(), &S0[51..], &RECORD, &S0[15..48]];
@@ -119,10 +119,10 @@ fn signature(alloc: Global, inside: &[&[u8]]) -> Result<Bytes, NoMemory> {
     joined(alloc, &[&header, body.as_slice()])
 }
 
-fn refusal(answer: &Result<Bytes, WithRefusal>) -> Option<WithRefusal> {
+fn refusal(answer: &Result<Bytes, Refused<WithRefusal>>) -> Option<WithRefusal> {
     match answer {
-        Ok(_) => None,
-        Err(refusal) => Some(*refusal),
+        Err(Refused::Fault(refusal)) => Some(*refusal),
+        Ok(_) | Err(Refused::NoMemory) => None,
     }
 }
 

@@ -1,6 +1,6 @@
 use crate::same::same;
 use ksi_imprint::{Compress, Imprint, Tiny};
-use ksi_journal::{Journal, JournalFault, load, write};
+use ksi_journal::{Journal, JournalFault, Refused, load, write};
 use std::alloc::Global;
 use std::process::Abort;
 use std::test::Fail;
@@ -43,11 +43,19 @@ fn bytes(alloc: Global, words: &str) -> Result<Vec<u8>, Fail> {
 
 const MAGIC: &str = "4b53494a524e4c31";
 
+/// The fault of bytes, if they have one.
+pub(crate) fn fault_of(alloc: Global, bytes: &[u8]) -> Option<JournalFault> {
+    match load::<Tiny>(alloc, bytes) {
+        Err(Refused::Fault(fault)) => Some(fault),
+        Ok(_) | Err(Refused::NoMemory) => None,
+    }
+}
+
 /// The fault of the magic and what these words stand for behind it.
 fn fault_behind(alloc: Global, words: &str) -> Result<Option<JournalFault>, Fail> {
     let mut text = bytes(alloc, MAGIC)?;
     text.extend_from_slice(&bytes(alloc, words)?)?;
-    Ok(load::<Tiny>(alloc, text.as_slice()).err())
+    Ok(fault_of(alloc, text.as_slice()))
 }
 
 fn journal_of(alloc: Global, text: &[u8]) -> Result<Journal<Tiny>, Fail> {
@@ -214,7 +222,7 @@ fn answers_the_first_fault(rt: HostRuntime) -> Result<(), Fail> {
 #[test]
 fn the_magic_comes_first(rt: HostRuntime) {
     for text in ["KSIJRNL", "KSIJRNL2"] {
-        let fault = load::<Tiny>(rt.alloc(), text.as_bytes()).err();
+        let fault = fault_of(rt.alloc(), text.as_bytes());
         same(&rt, text, fault, Some(JournalFault::Magic));
     }
 }

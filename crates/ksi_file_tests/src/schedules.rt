@@ -1,7 +1,7 @@
 use crate::same::same;
 use ksi_imprint::Imprint;
 use ksi_schedule::{
-    Actor, Event, Events, LineFault, NoMemory, Parents, Plan, Schedule, ScheduleFault, print,
+    Actor, Event, Events, LineFault, NoMemory, Parents, Plan, Refused, Schedule, ScheduleFault, print,
     read_schedule,
 };
 use std::alloc::Global;
@@ -131,7 +131,11 @@ fn each_text_is_printed_in_one_way(rt: HostRuntime) -> Result<(), Fail> {
 fn fault_of(alloc: Global, header: &str, lines: &str) -> Result<Option<ScheduleFault>, NoMemory> {
     let mut text = expanded(alloc, header)?;
     spell(&mut text, lines)?;
-    Ok(read_schedule(alloc, text.as_slice()).err())
+    match read_schedule(alloc, text.as_slice()) {
+        Ok(_) => Ok(None),
+        Err(Refused::Fault(fault)) => Ok(Some(fault)),
+        Err(Refused::NoMemory) => Err(NoMemory),
+    }
 }
 
 fn has_fault(
@@ -259,7 +263,7 @@ fn bytes_that_are_no_text_are_no_digest(rt: HostRuntime) -> Result<(), Fail> {
     text.push(0xff)?;
     let fault = read_schedule(rt.alloc(), text.as_slice()).err();
     let want = ScheduleFault::Line(LineFault::Hash, 5);
-    same(&rt, "byte", fault, Some(want));
+    same(&rt, "byte", fault, Some(Refused::Fault(want)));
     Ok(())
 }
 

@@ -1,6 +1,6 @@
 use crate::same::same;
 use crate::signatures::{S0, joined, two_chains, with_link};
-use ksi_imprint::{Bytes, Imprint, NoMemory};
+use ksi_imprint::{Bytes, Imprint, NoMemory, Refused};
 use ksi_signature::{AggregationChain, Chains, Index, Links, Signature, WriteRefusal, read, write};
 use std::alloc::Global;
 use std::process::Abort;
@@ -114,7 +114,7 @@ fn with_input(alloc: Global, size: usize) -> Result<Signature, NoMemory> {
     })
 }
 
-fn written_size(alloc: Global, size: usize) -> Result<Result<usize, WriteRefusal>, NoMemory> {
+fn written_size(alloc: Global, size: usize) -> Result<Result<usize, Refused<WriteRefusal>>, NoMemory> {
     let signature = with_input(alloc, size)?;
     Ok(write(alloc, &signature).map(|bytes| bytes.as_slice().len()))
 }
@@ -122,11 +122,11 @@ fn written_size(alloc: Global, size: usize) -> Result<Result<usize, WriteRefusal
 /// The chain has 47 bytes beside the input data, and the signature 4 beside the chain.
 #[test]
 fn the_first_body_above_the_limit_is_too_long(rt: HostRuntime) -> Result<(), Fail> {
-    const ROWS: [(usize, Result<usize, WriteRefusal>); 4] = [
+    const ROWS: [(usize, Result<usize, Refused<WriteRefusal>>); 4] = [
         (65_484, Ok(65_539)),
-        (65_485, Err(WriteRefusal::TooLong(65_536))),
-        (65_489, Err(WriteRefusal::TooLong(65_536))),
-        (70_000, Err(WriteRefusal::TooLong(70_000))),
+        (65_485, Err(Refused::Fault(WriteRefusal::TooLong(65_536)))),
+        (65_489, Err(Refused::Fault(WriteRefusal::TooLong(65_536)))),
+        (70_000, Err(Refused::Fault(WriteRefusal::TooLong(70_000)))),
     ];
     for (size, wanted) in ROWS {
         same(&rt, size, written_size(rt.alloc(), size)?, wanted);

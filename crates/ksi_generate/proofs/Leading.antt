@@ -1,7 +1,7 @@
 -- What one event leads to, in a world of this plan.
 use Rattle.std.proofs.Common.{◌≡◌, ℕ, zero, suc, ◌<◌, ◌≤◌, ◌&&◌, eqb, List, [], ◌∷◌, ◌++◌, map, Option, Some, None, refl, sym, subst, arith, is_some, slice_get, append-nil, length}
 use Rattle.std.proofs.lemmas.Bool.{cond_both, eqb-true, and_parts}
-use Rattle.ksi_aggchain.specs.declared.node.Node.{Node}
+use Rattle.ksi_aggtree.specs.declared.item.Item.{Item}
 use Rattle.ksi_aggtree.specs.declared.entries.Entry.{Entry}
 use Rattle.ksi_aggtree.specs.declared.entries.Origin.{Origin}
 use Rattle.ksi_aggtree.specs.declared.entries.Origin.TheVariants as origins
@@ -106,7 +106,7 @@ core_goes most w j t turn second light thin = record {
 still_goes : (w : WorldState) (j t : ℕ) (answer : Answer) → IsThinWorld w → Goes 0 w (at_core w j t (still (w.seconds j t) answer)).world
 still_goes w j t answer thin = core_goes 0 w j t (still (w.seconds j t) answer) (thin.seconds j t) (omega arith) thin
 
-submission_goes : (w : WorldState) (j t from : ℕ) (item : Node) → from < 6 → actors.Core j ≡ parent_of header from → IsThinWorld w → Goes 0 w (at_core w j t (submission_row from item (w.seconds j t))).world
+submission_goes : (w : WorldState) (j t from : ℕ) (item : Item) → from < 6 → actors.Core j ≡ parent_of header from → IsThinWorld w → Goes 0 w (at_core w j t (submission_row from item (w.seconds j t))).world
 unfolding submission_row
 submission_goes w j t from item lt parent thin =
     let s = w.seconds j t in
@@ -198,7 +198,7 @@ request_goes w k t imprint thin =
     (λ _. round_goes 0 w (w.requests ++ asked ∷ []) k t (round_added r (request_entry (length w.requests) imprint) (answers.Number (length w.requests)))
     (record { open_items = thin_request (actors.Aggregator k) r.open_items (length w.requests) imprint old.open_items; closed = old.closed }) tt (omega arith) thin))
 
-take_goes : (w : WorldState) (k t from : ℕ) (item : Node) → from < 6 → actors.Aggregator k ≡ parent_of header from → IsThinWorld w → Goes 0 w (at_round header w k t (round_submission from item (w.rounds k t))).world
+take_goes : (w : WorldState) (k t from : ℕ) (item : Item) → from < 6 → actors.Aggregator k ≡ parent_of header from → IsThinWorld w → Goes 0 w (at_round header w k t (round_submission from item (w.rounds k t))).world
 unfolding round_submission
 take_goes w k t from item lt parent thin =
     let r = w.rounds k t in
@@ -291,7 +291,7 @@ module _ (image : List ℕ → List ℕ) where
       (record { open_items = thin_none (actors.Aggregator k); closed = λ entries at. let same : r.open_items ≡ entries = cc at in subst (λ es. IsThin (actors.Aggregator k) es) same old.open_items })
       (close_posted k t r.open_items lt) (close_light k t r.open_items) thin)
 
-  response_posted : (j t k : ℕ) (above : Above) (items : List Node) (es : List Entry) → ArePosted (map (round_message header j t) (responses_from image k above items es))
+  response_posted : (j t k : ℕ) (above : Above) (items : List Item) (es : List Entry) → ArePosted (map (round_message header j t) (responses_from image k above items es))
   response_posted j t k above items [] = tt
   response_posted j t k above items (e ∷ es) = by e.origin (response_posted j t (suc k) above items es)
     where

@@ -1,6 +1,6 @@
 -- The rounds of this plan: each actor has at most one aggregator below it, and at most one item of it in a round.
 use Rattle.std.proofs.Common.{◌≡◌, ℕ, zero, suc, ◌+◌, ◌<◌, ◌≤◌, ◌||◌, false, List, [], ◌∷◌, ◌++◌, refl, sym, ap, subst, ◌∙◌, arith, true≢false, eq-eqb}
-use Rattle.ksi_aggchain.specs.declared.node.Node.{Node}
+use Rattle.ksi_aggtree.specs.declared.item.Item.{Item}
 use Rattle.ksi_aggtree.specs.declared.entries.Entry.{Entry}
 use Rattle.ksi_aggtree.specs.declared.entries.Origin.{Origin}
 use Rattle.ksi_aggtree.specs.declared.entries.Origin.TheVariants as origins
@@ -81,7 +81,7 @@ thin_request here es number imprint thin = record {
   few = omega (arith, down_more es (request_entry number imprint), thin.few);
 }
 
-pub thin_item : (here : Actor) (es : List Entry) (from : ℕ) (item : Node) → from < 6 → here ≡ parent_of header from → has_from from es ≡ false → IsThin here es →
+pub thin_item : (here : Actor) (es : List Entry) (from : ℕ) (item : Item) → from < 6 → here ≡ parent_of header from → has_from from es ≡ false → IsThin here es →
     IsThin here (es ++ submitted_entry from item ∷ [])
 thin_item here es from item lt parent none thin =
     let is : from ≡ child here = child_of from lt ∙ ap child (sym parent) in

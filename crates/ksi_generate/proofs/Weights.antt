@@ -9,7 +9,7 @@ use Rattle.ksi_synod.specs.declared.messages.Took.{Took}
 use Rattle.ksi_synod.specs.declared.messages.Took.TheVariants as took
 use Rattle.ksi_synod.specs.VoteState.{VoteState}
 use Rattle.ksi_synod.specs.Rows.{ballot_told, held_told, on_next, on_last, on_begin, on_voted, promise_told, decree_begun, vote_told, decree_told, receive}
-use Rattle.ksi_aggchain.specs.declared.node.Node.{Node}
+use Rattle.ksi_aggtree.specs.declared.item.Item.{Item}
 use Rattle.ksi_aggtree.specs.declared.entries.Entry.{Entry}
 use Rattle.ksi_aggtree.specs.declared.entries.Origin.{Origin}
 use Rattle.ksi_aggtree.specs.declared.entries.Origin.TheVariants as origins
@@ -143,7 +143,7 @@ heavy_core j t k above (e ∷ es) = by e.origin (heavy_core j t (suc k) above es
     by (origins.Request number) rest = omega (arith, rest)
     by (origins.Aggregator from) rest = omega (arith, rest)
 
-module _ (image : List ℕ → List ℕ) (plan : PlanState) (j t : ℕ) (above : Above) (items : List Node) where
+module _ (image : List ℕ → List ℕ) (plan : PlanState) (j t : ℕ) (above : Above) (items : List Item) where
   pub heavy_round : (k : ℕ) (es : List Entry) → heavy (map (round_message plan j t) (answers.responses_from image k above items es)) ≡ down es
   heavy_round k [] = refl
   heavy_round k (e ∷ es) = by e.origin (heavy_round (suc k) es)

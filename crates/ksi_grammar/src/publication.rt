@@ -13,8 +13,8 @@ use crate::fault::ElementFault;
 use crate::finder::first_inside;
 use crate::grammar::{Grammar, missing};
 use crate::rule::{Rule, Seen};
-use ksi_imprint::{Bytes, Imprint};
-use ksi_tlv::{Placed, PutRefusal, Writer, numeral_is_read};
+use ksi_imprint::{Bytes, Imprint, Refused};
+use ksi_tlv::{Placed, Writer, numeral_is_read};
 use std::alloc::Global;
 
 const TIME: u16 = 0x02;
@@ -122,7 +122,7 @@ pub fn put_short(writer: &mut Writer, kind: u16, body: &[u8]) -> Result<(), NoMe
 {
     match writer.put(kind, false, false, body) {
         Ok(()) => Ok(()),
-        Err(PutRefusal::NoMemory) => Err(NoMemory),
-        Err(PutRefusal::TooLong(_)) => unreachable!(),
+        Err(Refused::NoMemory) => Err(NoMemory),
+        Err(Refused::Fault(_)) => unreachable!(),
     }
 }

@@ -2,13 +2,12 @@
 use Rattle.std.proofs.Common.{◌≡◌, ◌≢◌, ℕ, zero, suc, ◌+◌, ◌^◌, ◌<◌, ◌≤◌, Bool, true, false, leb, cond, List, map, refl, sym, ap, ◌∙◌, arith, inl, inr, ◌⊎◌, Option, Some, None}
 use Rattle.std.specs.Prelude.{option_map}
 use Rattle.std.proofs.lemmas.Bool.{cases_eq, eq-eqb, ne_eqb, leb-true, leb-false}
-use Rattle.ksi_journal.specs.declared.second.Second.{Second}
+use Rattle.ksi_aggtree.specs.declared.second.Second.{Second}
 use Rattle.ksi_journal.specs.Journal.{contents, kept_among, root_kept, root_at}
 use Rattle.ksi_schedule.specs.Plans.{PlanState, InRange}
 use Rattle.ksi_world.specs.Histories.{WorldState}
 use Rattle.ksi_world.specs.Records as records
 use Rattle.ksi_world.specs.Records.{kept_root, kept_with, kept_items, kept_at, kept_seconds}
-use Rattle.ksi_replay.specs.Journals.{second_of}
 use Rattle.ksi_history.specs.Lasting.{KeepsRoots}
 
 le_cases : (a b : ℕ) → (a ≤ b) ⊎ (b < a)
@@ -19,21 +18,21 @@ le_cases a b = by (leb a b) refl
     by false is = inr (leb-false a b is)
 
 module _ (image : List ℕ → List ℕ) (plan : PlanState) (w : WorldState) where
-  -- n seconds from s on, as the journal has them
+  -- what is kept of n seconds from s on
   abbrev from : (s n : ℕ) → List Second
-  from s n = map second_of (records.kept_among (kept_at image plan w) s n)
+  from s n = records.kept_among (kept_at image plan w) s n
 
   abbrev Is : (o : Option (List ℕ)) → (s n t : ℕ) → Type 0
-  Is o s n t = root_kept (kept_among (map second_of (records.kept_before (option_map (λ root. kept_with s root (kept_items image plan w s root)) o) (records.kept_among (kept_at image plan w) (suc s) n))) t) ≡ kept_root plan w t
+  Is o s n t = root_kept (kept_among (records.kept_before (option_map (λ root. kept_with s root (kept_items image plan w s root)) o) (records.kept_among (kept_at image plan w) (suc s) n)) t) ≡ kept_root plan w t
 
   before : (s n t : ℕ) → t < s → root_kept (kept_among (from s n) t) ≡ None
   before s zero t lt = refl
   before s (suc n) t lt = by (kept_root plan w s) (before (suc s) n t (omega (arith, lt)))
     where
       by : (o : Option (List ℕ)) → root_kept (kept_among (from (suc s) n) t) ≡ None
-          → root_kept (kept_among (map second_of (records.kept_before (option_map (λ root. kept_with s root (kept_items image plan w s root)) o) (records.kept_among (kept_at image plan w) (suc s) n))) t) ≡ None
+          → root_kept (kept_among (records.kept_before (option_map (λ root. kept_with s root (kept_items image plan w s root)) o) (records.kept_among (kept_at image plan w) (suc s) n)) t) ≡ None
       by None rest = rest
-      by (Some root) rest = ap (λ (b : Bool). root_kept (cond b (Some (second_of (kept_with s root (kept_items image plan w s root)))) (kept_among (from (suc s) n) t))) (ne_eqb s t (λ same. absurd (omega (arith, same, lt)))) ∙ rest
+      by (Some root) rest = ap (λ (b : Bool). root_kept (cond b (Some (kept_with s root (kept_items image plan w s root))) (kept_among (from (suc s) n) t))) (ne_eqb s t (λ same. absurd (omega (arith, same, lt)))) ∙ rest
 
   within : (s n t : ℕ) → s ≤ t → t < s + n → root_kept (kept_among (from s n) t) ≡ kept_root plan w t
   within s zero t le lt = absurd (omega (arith, le, lt))
@@ -45,21 +44,21 @@ module _ (image : List ℕ → List ℕ) (plan : PlanState) (w : WorldState) whe
       here : (o : Option (List ℕ)) → s ≡ t → o ≡ kept_root plan w t → Is o s n t
       here None same is = before (suc s) n t (omega (arith, same)) ∙ is
       here (Some root) same is =
-          ap (λ (b : Bool). root_kept (cond b (Some (second_of (kept_with s root (kept_items image plan w s root)))) (kept_among (from (suc s) n) t))) (eq-eqb s t same) ∙ is
+          ap (λ (b : Bool). root_kept (cond b (Some (kept_with s root (kept_items image plan w s root))) (kept_among (from (suc s) n) t))) (eq-eqb s t same) ∙ is
 
       there : (o : Option (List ℕ)) → s ≢ t → root_kept (kept_among (from (suc s) n) t) ≡ kept_root plan w t → Is o s n t
       there None ne rest = rest
       there (Some root) ne rest =
-          ap (λ (b : Bool). root_kept (cond b (Some (second_of (kept_with s root (kept_items image plan w s root)))) (kept_among (from (suc s) n) t))) (ne_eqb s t ne) ∙ rest
+          ap (λ (b : Bool). root_kept (cond b (Some (kept_with s root (kept_items image plan w s root))) (kept_among (from (suc s) n) t))) (ne_eqb s t ne) ∙ rest
 
   behind : (s n t : ℕ) → s + n ≤ t → root_kept (kept_among (from s n) t) ≡ None
   behind s zero t le = refl
   behind s (suc n) t le = by (kept_root plan w s) (behind (suc s) n t (omega (arith, le)))
     where
       by : (o : Option (List ℕ)) → root_kept (kept_among (from (suc s) n) t) ≡ None
-          → root_kept (kept_among (map second_of (records.kept_before (option_map (λ root. kept_with s root (kept_items image plan w s root)) o) (records.kept_among (kept_at image plan w) (suc s) n))) t) ≡ None
+          → root_kept (kept_among (records.kept_before (option_map (λ root. kept_with s root (kept_items image plan w s root)) o) (records.kept_among (kept_at image plan w) (suc s) n)) t) ≡ None
       by None rest = rest
-      by (Some root) rest = ap (λ (b : Bool). root_kept (cond b (Some (second_of (kept_with s root (kept_items image plan w s root)))) (kept_among (from (suc s) n) t))) (ne_eqb s t (λ same. absurd (omega (arith, same, le)))) ∙ rest
+      by (Some root) rest = ap (λ (b : Bool). root_kept (cond b (Some (kept_with s root (kept_items image plan w s root))) (kept_among (from (suc s) n) t))) (ne_eqb s t (λ same. absurd (omega (arith, same, le)))) ∙ rest
 
   module _ (range : (t : ℕ) (root : List ℕ) → kept_root plan w t ≡ Some root → InRange plan t) where
     outside : (t : ℕ) → (InRange plan t → ⊥) → kept_root plan w t ≡ None
@@ -78,6 +77,6 @@ module _ (image : List ℕ → List ℕ) (plan : PlanState) (w : WorldState) whe
       ]
     ]
 
-    pub journal_keeps : (issued publications : List (ℕ × List ℕ)) → KeepsRoots plan w (contents plan.start (map second_of (kept_seconds image plan w)) issued publications)
+    pub journal_keeps : (issued publications : List (ℕ × List ℕ)) → KeepsRoots plan w (contents plan.start (kept_seconds image plan w) issued publications)
     unfolding root_at kept_seconds
     journal_keeps issued publications = record { start = refl; roots = λ t. all_roots (2 ^ 24) t (λ r. r) (λ r. r) }

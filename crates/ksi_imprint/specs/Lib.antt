@@ -1,2 +1,3 @@
 pub mod Imprints
 pub mod Reading
+pub mod Refused

@@ -18,10 +18,12 @@ mod clash;
 mod compress;
 mod fault;
 mod imprint;
+mod refused;
 
 pub use bytes::Bytes;
 pub use clash::Clash;
 pub use compress::{Compress, Sha, Tiny};
 pub use fault::{HexFault, ImprintFault};
 pub use imprint::Imprint;
+pub use refused::Refused;
 pub use std::alloc::AllocError as NoMemory;

@@ -12,14 +12,14 @@ use Rattle.ksi_tlv.specs.Walking.{PlacedTlv, placed_at, elements, items_of}
 use Rattle.ksi_tlv.specs.Numerals.{number_of, numeral}
 use Rattle.ksi_tlv.specs.Writing.{texts, placed}
 use Rattle.ksi_grammar.specs.Contents.{time_in, imprint_in}
-use Rattle.ksi_aggchain.specs.declared.node.Node.{Node}
+use Rattle.ksi_aggtree.specs.declared.item.Item.{Item}
 use Rattle.ksi_aggtree.specs.Rounds.{tree_of}
 use Rattle.ksi_order.specs.Order.{may_stand}
 use Rattle.ksi_order.specs.Sequence.{Leads}
 use Rattle.ksi_order.specs.Fields.{field, done}
 use Rattle.ksi_order.specs.Values.{number_at, time_at, imprint_at}
-use Rattle.ksi_journal.specs.declared.second.Second.{Second}
-use Rattle.ksi_journal.specs.declared.second.Stage.TheVariants as stages
+use Rattle.ksi_aggtree.specs.declared.second.Second.{Second}
+use Rattle.ksi_journal.specs.declared.stage.Stage.TheVariants as stages
 use Rattle.ksi_journal.specs.Journal.{Contents, RiseFrom, IsItem, IsRootOf, IsSecond, IsIssued, IsPublication, IsJournal}
 use Rattle.ksi_journal.specs.Elements.{Loaded, started, start_at, counts, closed, opened, said_at, read_second, item_in, with_item, item_at, signature_at, with_issued, issued_at, published_at, with_publication, publication_at, end_at, element_read, journal_order, nothing_yet, is_end, kinds_next}
 use Rattle.ksi_journal.specs.File.{IsJournalFile}
@@ -176,7 +176,7 @@ module _ (laws : Written) where
   at_last : (x : List ℕ) (y : ℕ) (n : ℕ) → length x ≡ n → get_or (x ++ y ∷ []) n 0 ≡ y
   at_last x y n is = subst (λ (n : ℕ). get_or (x ++ y ∷ []) n 0 ≡ y) is (get_or-append_seam x y [] 0)
 
-  item_again : (item : Node) (place n : ℕ) → IsItem item → item_in (placed_at place (item_element item) n) ≡ Ok item
+  item_again : (item : Item) (place n : ℕ) → IsItem item → item_in (placed_at place (item_element item) n) ≡ Ok item
   unfolding item_in
   item_again item place n is =
       let size : length item.imprint ≡ 33 = is.imprint.size in
@@ -219,7 +219,7 @@ module _ (laws : Written) where
     bare : Second → Second
     bare kept = record kept { items = [] }
 
-    counts_again : (items : List Node) (root : List ℕ) → IsRootOf image items root → length items ≤ 65536 → counts root (length items) ≡ true
+    counts_again : (items : List Item) (root : List ℕ) → IsRootOf image items root → length items ≤ 65536 → counts root (length items) ≡ true
     counts_again [] root is few = rw ((bytes_eq-Decides root zero_imprint).1 is) refl
     counts_again (item ∷ items) root is few = by (bytes_eq root zero_imprint) refl
       where
@@ -238,10 +238,10 @@ module _ (laws : Written) where
 
     -- ---- the items of a second
 
-    abbrev filled : Second → List Node → Second
+    abbrev filled : Second → List Item → Second
     filled kept items = record kept { items = kept.items ++ items }
 
-    item_more : (s : Loaded) (item : Node) → s.stage ≡ stages.Items → IsItem item → eqb (s.left - 1) 0 ≡ false
+    item_more : (s : Loaded) (item : Item) → s.stage ≡ stages.Items → IsItem item → eqb (s.left - 1) 0 ≡ false
         → Step s (item_element item) (record s { current = with_item s.current item; left = s.left - 1 })
     unfolding element_read item_at
     item_more s item at is left = record {
@@ -250,7 +250,7 @@ module _ (laws : Written) where
       read = λ place n. rw (item_again item place n is, left) refl;
     }
 
-    item_last : (s : Loaded) (item : Node) → s.stage ≡ stages.Items → IsItem item → eqb (s.left - 1) 0 ≡ true → bytes_eq (tree_of image (s.current.items ++ item ∷ [])).imprint s.current.root ≡ true
+    item_last : (s : Loaded) (item : Item) → s.stage ≡ stages.Items → IsItem item → eqb (s.left - 1) 0 ≡ true → bytes_eq (tree_of image (s.current.items ++ item ∷ [])).imprint s.current.root ≡ true
         → Step s (item_element item) (closed s (with_item s.current item))
     unfolding element_read item_at
     item_last s item at is left root = record {
@@ -259,7 +259,7 @@ module _ (laws : Written) where
       read = λ place n. rw (item_again item place n is, left, root) refl;
     }
 
-    items_again : (s : Loaded) (item : Node) (items : List Node) (more : List Tlv) → s.stage ≡ stages.Items → s.left ≡ suc (length items) → AllByRecursion IsItem (item ∷ items)
+    items_again : (s : Loaded) (item : Item) (items : List Item) (more : List Tlv) → s.stage ≡ stages.Items → s.left ≡ suc (length items) → AllByRecursion IsItem (item ∷ items)
         → (tree_of image (s.current.items ++ item ∷ items)).imprint ≡ s.current.root
         → Goes (closed s (filled s.current (item ∷ items))) more → Goes s (map item_element (item ∷ items) ++ more)
     items_again s item [] more at left all root rest =
@@ -271,27 +271,27 @@ module _ (laws : Written) where
         goes_on s (record s { current = with_item s.current item; left = s.left - 1 }) (item_element item) (map item_element (next ∷ items) ++ more)
         (item_more s item at all.0 (ne_eqb (s.left - 1) 0 (λ e. absurd (omega arith))))
         (items_again (record s { current = with_item s.current item; left = s.left - 1 }) next items more at (omega arith) all.1
-        (ap (λ (xs : List Node). (tree_of image xs).imprint) joined ∙ root)
-        (subst (λ (xs : List Node). Goes (closed s (record s.current { items = xs })) more) (sym joined) rest))
+        (ap (λ (xs : List Item). (tree_of image xs).imprint) joined ∙ root)
+        (subst (λ (xs : List Item). Goes (closed s (record s.current { items = xs })) more) (sym joined) rest))
 
     -- ---- the seconds
 
     opened_more : (s : Loaded) (kept : Second) (n : ℕ) → eqb n 0 ≡ false → opened s kept n ≡ record s { stage = stages.Items; current = kept; left = n }
     opened_more s kept n some = rw some refl
 
-    second_again : (s : Loaded) (kept : Second) (items : List Node) (more : List Tlv) → kept.items ≡ items → s.stage ≡ stages.Seconds → IsSecond image kept → s.least_second ≤ kept.second
+    second_again : (s : Loaded) (kept : Second) (items : List Item) (more : List Tlv) → kept.items ≡ items → s.stage ≡ stages.Seconds → IsSecond image kept → s.least_second ≤ kept.second
         → Goes (closed s kept) more → Goes s (kept_elements kept ++ more)
     second_again s kept [] more is at kept_is rises rest =
         goes_on s (opened s (record kept { items = [] }) (length kept.items)) (second_element kept) (map item_element kept.items ++ more) (second_step s kept at kept_is rises)
-        (subst (λ (xs : List Node). Goes (opened s (record kept { items = [] }) (length xs)) (map item_element xs ++ more)) (sym is) (subst (λ (xs : List Node). Goes (closed s (record kept { items = xs })) more) is rest))
+        (subst (λ (xs : List Item). Goes (opened s (record kept { items = [] }) (length xs)) (map item_element xs ++ more)) (sym is) (subst (λ (xs : List Item). Goes (closed s (record kept { items = xs })) more) is rest))
     second_again s kept (item ∷ items) more is at kept_is rises rest =
-        let all = subst (λ (xs : List Node). AllByRecursion IsItem xs) is kept_is.items in
-        let tree = subst (λ (xs : List Node). IsRootOf image xs kept.root) is kept_is.tree in
+        let all = subst (λ (xs : List Item). AllByRecursion IsItem xs) is kept_is.items in
+        let tree = subst (λ (xs : List Item). IsRootOf image xs kept.root) is kept_is.tree in
         goes_on s (opened s (record kept { items = [] }) (length kept.items)) (second_element kept) (map item_element kept.items ++ more) (second_step s kept at kept_is rises)
-        (subst (λ (xs : List Node). Goes (opened s (record kept { items = [] }) (length xs)) (map item_element xs ++ more)) (sym is)
+        (subst (λ (xs : List Item). Goes (opened s (record kept { items = [] }) (length xs)) (map item_element xs ++ more)) (sym is)
         (subst (λ (u : Loaded). Goes u (map item_element (item ∷ items) ++ more)) (sym (opened_more s (record kept { items = [] }) (suc (length items)) (ne_eqb (suc (length items)) 0 (λ e. absurd (omega arith)))))
         (items_again (record s { stage = stages.Items; current = record kept { items = [] }; left = suc (length items) }) item items more refl refl all tree.1
-        (subst (λ (xs : List Node). Goes (closed s (record kept { items = xs })) more) is rest))))
+        (subst (λ (xs : List Item). Goes (closed s (record kept { items = xs })) more) is rest))))
 
     seconds_again : (s : Loaded) (seconds : List Second) (more : List Tlv) → s.stage ≡ stages.Seconds → AllByRecursion (IsSecond image) seconds → RiseFrom s.least_second (map (λ (kept : Second). kept.second) seconds)
         → Goes (after_seconds s seconds) more → Goes s (seconds_elements seconds ++ more)
@@ -333,7 +333,7 @@ module _ (laws : Written) where
     body = (let size = is.imprint.size in omega (arith, length-three (plain 1 (numeral kept.second)) (plain 2 kept.root) (plain 3 (numeral (length kept.items))), laws.size kept.second, laws.size (length kept.items), size));
   }
 
-  items_fit : (items : List Node) (more : List Tlv) → AllByRecursion IsItem items → AllByRecursion FitsLong more → AllByRecursion FitsLong (map item_element items ++ more)
+  items_fit : (items : List Item) (more : List Tlv) → AllByRecursion IsItem items → AllByRecursion FitsLong more → AllByRecursion FitsLong (map item_element items ++ more)
   items_fit [] more all rest = rest
   items_fit (item ∷ items) more all rest =
       (record { kind = omega arith; body = (let size = all.0.imprint.size in omega (arith, length-append item.imprint (item.level ∷ []), size)) }, items_fit items more all.1 rest)

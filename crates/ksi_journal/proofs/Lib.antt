@@ -1,8 +1,6 @@
-pub mod Halves
 pub mod Sound
 pub mod Run
 pub mod Files
 pub mod Texts
 pub mod Again
 pub mod Read
-pub mod Wanting

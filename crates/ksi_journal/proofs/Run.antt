@@ -7,7 +7,7 @@ use Rattle.std.proofs.lemmas.Bool.{cond-false, leb-true, ltb-true, ltb-false, eq
 use Rattle.ksi_imprint.specs.Imprints.{zero_imprint}
 use Rattle.ksi_calendar.specs.Calendar.{Seconds, is_covered, calendar_leaf}
 use Rattle.ksi_calendar.specs.Covered.{Roots, IsCovered, IsFirstMissing, first_missing, covered_seconds, second_leaf}
-use Rattle.ksi_journal.specs.declared.second.Second.{Second}
+use Rattle.ksi_aggtree.specs.declared.second.Second.{Second}
 use Rattle.ksi_journal.specs.Journal.{Contents, RiseFrom, IsSecond, IsJournal, kept_among, root_kept, root_at}
 use Rattle.ksi_journal.specs.Kept.{at_place, place_of, view_kept}
 use Rattle.ksi_journal.specs.Calendar.{roots_from, calendar_of}

@@ -12,7 +12,7 @@ use Rattle.ksi_imprint.specs.Imprints.{IsImprint, zero_imprint}
 use Rattle.ksi_imprint.specs.Reading as imprints
 use Rattle.ksi_tlv.specs.Spelling.{AreBytes}
 use Rattle.ksi_tlv.specs.Walking.{PlacedTlv, Items}
-use Rattle.ksi_aggchain.specs.declared.node.Node.{Node}
+use Rattle.ksi_aggtree.specs.declared.item.Item.{Item}
 use Rattle.ksi_aggtree.specs.Rounds.{tree_of}
 use Rattle.ksi_order.specs.declared.fault.OrderFault.{OrderFault}
 use Rattle.ksi_order.specs.declared.fault.OrderFault.TheVariants as orders
@@ -20,9 +20,9 @@ use Rattle.ksi_order.specs.Order.{may_stand, ◌>>=◌}
 use Rattle.ksi_order.specs.Sequence.{Leads, IsWhole}
 use Rattle.ksi_order.specs.Fields.{inside, field, done}
 use Rattle.ksi_order.specs.Values.{number_at, time_at, imprint_at}
-use Rattle.ksi_journal.specs.declared.second.Second.{Second}
-use Rattle.ksi_journal.specs.declared.second.Stage.{Stage}
-use Rattle.ksi_journal.specs.declared.second.Stage.TheVariants as stages
+use Rattle.ksi_aggtree.specs.declared.second.Second.{Second}
+use Rattle.ksi_journal.specs.declared.stage.Stage.{Stage}
+use Rattle.ksi_journal.specs.declared.stage.Stage.TheVariants as stages
 use Rattle.ksi_journal.specs.declared.fault.JournalFault.{JournalFault}
 use Rattle.ksi_journal.specs.Journal.{RiseFrom, IsItem, IsRootOf, IsSecond, IsIssued, IsPublication, IsJournal}
 use Rattle.ksi_journal.specs.Elements.{Loaded, kinds_next, or_named, rises, started, start_at, counts, closed, opened, said_at, read_second, item_of, item_in, with_item, finished, item_at, short_at, signature_at, with_issued, issued_at, published_at, with_publication, publication_at, end_at, element_read, journal_order, nothing_yet}
@@ -101,13 +101,13 @@ bytes_imprint (a ∷ digest) x e = by (eqb a 1) (eqb (length digest) 32) refl re
     by true false ia id = absurd (let found : imprints.imprint_at (a ∷ digest) ≡ Err (imprints_fault.Length (length (a ∷ digest))) = rw (ia, id) refl in cc)
     by false whole ia id = absurd (let found : imprints.imprint_at (a ∷ digest) ≡ Err (imprints_fault.Algorithm a) = rw ia refl in cc)
 
-item_of_ok : (place level : ℕ) (bytes : List ℕ) (r : Result (List ℕ) ImprintFault) (item : Node) → imprints.imprint_at bytes ≡ r → item_of place level r ≡ Ok item → IsItem item
+item_of_ok : (place level : ℕ) (bytes : List ℕ) (r : Result (List ℕ) ImprintFault) (item : Item) → imprints.imprint_at bytes ≡ r → item_of place level r ≡ Ok item → IsItem item
 item_of_ok place level bytes (Ok x) item e is =
     let t = test_ok (leb level 239) (record { imprint = x; level = level }) (orders.Bound place) item is in
     subst IsItem t.1 (record { imprint = bytes_imprint bytes x e; level = leb-true level 239 t.0 })
 item_of_ok place level bytes (Err fault) item e is = absurd cc
 
-item_ok : (at : PlacedTlv) (item : Node) → item_in at ≡ Ok item → IsItem item
+item_ok : (at : PlacedTlv) (item : Item) → item_in at ≡ Ok item → IsItem item
 unfolding item_in
 item_ok at item e =
     let t = test_ok_or (eqb (length at.element.body) 34) (item_of at.place (get_or at.element.body 33 0) (imprints.imprint_at (take 33 at.element.body))) (orders.Imprint at.place) item e in
@@ -269,11 +269,11 @@ module _ (image : List ℕ → List ℕ) where
       let t = test_ok (counts said.0.1 said.0.2) _ _ u said.2 in
       count_sound s u said.0.0 said.0.1 said.0.2 (bytes_eq said.0.1 zero_imprint) refl t.0 sound is.rises is.early is.imprint t.1
 
-  root_more : (items : List Node) (item : Node) (root : List ℕ) → root ≢ zero_imprint → (tree_of image (items ++ item ∷ [])).imprint ≡ root → IsRootOf image (items ++ item ∷ []) root
+  root_more : (items : List Item) (item : Item) (root : List ℕ) → root ≢ zero_imprint → (tree_of image (items ++ item ∷ [])).imprint ≡ root → IsRootOf image (items ++ item ∷ []) root
   root_more [] item root other e = (other, e)
   root_more (first ∷ items) item root other e = (other, e)
 
-  more_items : (s u : Loaded) (item : Node) (none : Bool) → eqb (s.left - 1) 0 ≡ none → IsSound image s → IsOpen s → IsItem item
+  more_items : (s u : Loaded) (item : Item) (none : Bool) → eqb (s.left - 1) 0 ≡ none → IsSound image s → IsOpen s → IsItem item
       → cond none (finished image s (with_item s.current item)) (Ok (record s { current = with_item s.current item; left = s.left - 1 })) ≡ Ok u → IsSound image u
   more_items s u item true none sound waits is e =
       let t = test_ok (bytes_eq (tree_of image (s.current.items ++ item ∷ [])).imprint s.current.root) (closed s (with_item s.current item)) _ u e in

@@ -3,7 +3,7 @@ use Rattle.std.proofs.Common.{◌≡◌, ℕ, List, [], ◌∷◌, ◌++◌, map
 use Rattle.ksi_tlv.specs.Spelling.{Tlv, canonical, plain}
 use Rattle.ksi_tlv.specs.Writing.{texts}
 use Rattle.ksi_tlv.specs.Numerals.{numeral}
-use Rattle.ksi_journal.specs.declared.second.Second.{Second}
+use Rattle.ksi_aggtree.specs.declared.second.Second.{Second}
 use Rattle.ksi_journal.specs.Journal.{Contents}
 use Rattle.ksi_journal.specs.Written.{kept_elements, second_element, item_element, seconds_elements, issued_element, publication_element, journal_elements}
 

@@ -1,7 +1,7 @@
 -- The calendar of the covered seconds.
 use Rattle.std.specs.Prelude.{ℕ, ◌+◌, ◌==◌, List, [], ◌∷◌, if◌then◌else◌}
 use Rattle.ksi_calendar.specs.Calendar.{Seconds}
-use Rattle.ksi_journal.specs.declared.second.Second.{Second}
+use Rattle.ksi_aggtree.specs.declared.second.Second.{Second}
 use Rattle.ksi_journal.specs.Journal.{Contents}
 
 -- the roots of a second and of those that follow it without a gap

@@ -5,16 +5,16 @@ use Rattle.ksi_imprint.specs.declared.fault.ImprintFault.{ImprintFault}
 use Rattle.ksi_imprint.specs.Imprints.{zero_imprint}
 use Rattle.ksi_imprint.specs.Reading as imprints
 use Rattle.ksi_tlv.specs.Walking.{PlacedTlv}
-use Rattle.ksi_aggchain.specs.declared.node.Node.{Node}
-use Rattle.ksi_aggtree.specs.Rounds.{tree_of}
+use Rattle.ksi_aggtree.specs.declared.item.Item.{Item}
+use Rattle.ksi_aggtree.specs.Rounds.{most_items, highest_item, tree_of}
 use Rattle.ksi_order.specs.declared.fault.OrderFault.{OrderFault}
 use Rattle.ksi_order.specs.declared.fault.OrderFault.TheVariants as orders
 use Rattle.ksi_order.specs.Order.{Order, ◌>>=◌}
 use Rattle.ksi_order.specs.Fields.{inside, field, done}
 use Rattle.ksi_order.specs.Values.{number_at, time_at, imprint_at}
-use Rattle.ksi_journal.specs.declared.second.Second.{Second}
-use Rattle.ksi_journal.specs.declared.second.Stage.{Stage}
-use Rattle.ksi_journal.specs.declared.second.Stage.TheVariants.{Start, Seconds, Items, Issued, Publications, End}
+use Rattle.ksi_aggtree.specs.declared.second.Second.{Second}
+use Rattle.ksi_journal.specs.declared.stage.Stage.{Stage}
+use Rattle.ksi_journal.specs.declared.stage.Stage.TheVariants.{Start, Seconds, Items, Issued, Publications, End}
 use Rattle.ksi_journal.specs.declared.fault.JournalFault.{JournalFault}
 use Rattle.ksi_journal.specs.declared.fault.JournalFault.TheVariants as faults
 use Rattle.ksi_journal.specs.Journal.{Contents}
@@ -74,7 +74,7 @@ start_at s at = or_named (time_at at) >>= λ t. Ok (started s t)
 
 -- the zero root alone has no items
 abbrev pub counts : List ℕ → ℕ → Bool
-counts root n = if bytes_eq root zero_imprint then n == 0 else nat_le 1 n && nat_le n 65536
+counts root n = if bytes_eq root zero_imprint then n == 0 else nat_le 1 n && nat_le n most_items
 
 -- a second all of whose items are there
 abbrev pub closed : Loaded → Second → Loaded
@@ -107,17 +107,17 @@ read_second s at = or_named (said_at s.least_second at) >>= λ said. counted s s
 
 -- ---- 3: an item: 34 bytes, an imprint and a level of at most 239
 
-abbrev pub item_of : ℕ → ℕ → Result (List ℕ) ImprintFault → Result Node OrderFault
-item_of place level (Ok imprint) = if nat_le level 239 then Ok (record { imprint = imprint; level = level }) else Err (orders.Bound place)
+abbrev pub item_of : ℕ → ℕ → Result (List ℕ) ImprintFault → Result Item OrderFault
+item_of place level (Ok imprint) = if nat_le level highest_item then Ok (record { imprint = imprint; level = level }) else Err (orders.Bound place)
 item_of place level (Err fault) = Err (orders.Imprint place)
 
-unfoldable pub item_in : PlacedTlv → Result Node OrderFault
+unfoldable pub item_in : PlacedTlv → Result Item OrderFault
 item_in at =
     if length at.element.body == 34
     then item_of at.place (slice_index at.element.body 33) (imprints.imprint_at (take 33 at.element.body))
     else Err (orders.Imprint at.place)
 
-abbrev pub with_item : Second → Node → Second
+abbrev pub with_item : Second → Item → Second
 with_item kept item = record kept { items = kept.items ++ item ∷ [] }
 
 -- the last item closes its second, where the tree has its root

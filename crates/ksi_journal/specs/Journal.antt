@@ -3,9 +3,9 @@ use Rattle.std.specs.Prelude.{◌≡◌, ◌≢◌, ℕ, ◌+◌, ◌^◌, ◌<�
 use Rattle.std.specs.List.{AllByRecursion}
 use Rattle.ksi_imprint.specs.Imprints.{IsImprint, zero_imprint}
 use Rattle.ksi_tlv.specs.Spelling.{AreBytes}
-use Rattle.ksi_aggchain.specs.declared.node.Node.{Node}
-use Rattle.ksi_aggtree.specs.Rounds.{tree_of}
-use Rattle.ksi_journal.specs.declared.second.Second.{Second}
+use Rattle.ksi_aggtree.specs.declared.item.Item.{Item}
+use Rattle.ksi_aggtree.specs.Rounds.{most_items, highest_item, tree_of}
+use Rattle.ksi_aggtree.specs.declared.second.Second.{Second}
 
 -- The first second of the calendar; the kept seconds, each with its root and the items of its tree; the number and the
 -- bytes of each issued signature; and each published time with the root of the calendar to it.
@@ -25,19 +25,19 @@ abbrev pub RiseFrom : ℕ → List ℕ → Type 0
 RiseFrom least [] = Unit {0}
 RiseFrom least (n ∷ others) = (least ≤ n) × RiseFrom (n + 1) others
 
-pub record IsItem (item : Node) : Type 0 where
+pub record IsItem (item : Item) : Type 0 where
   pub imprint : IsImprint item.imprint
-  pub level : item.level ≤ 239
+  pub level : item.level ≤ highest_item
 
 -- the tree of the items has the root, which is the zero imprint where there are none, and there alone
-abbrev pub IsRootOf : (List ℕ → List ℕ) → List Node → List ℕ → Type 0
+abbrev pub IsRootOf : (List ℕ → List ℕ) → List Item → List ℕ → Type 0
 IsRootOf image [] root = root ≡ zero_imprint
 IsRootOf image (item ∷ items) root = (root ≢ zero_imprint) × ((tree_of image (item ∷ items)).imprint ≡ root)
 
 pub record IsSecond (image : List ℕ → List ℕ) (kept : Second) : Type 0 where
   pub early : kept.second < 2 ^ 63
   pub imprint : IsImprint kept.root
-  pub few : length kept.items ≤ 65536
+  pub few : length kept.items ≤ most_items
   pub items : AllByRecursion IsItem kept.items
   pub tree : IsRootOf image kept.items kept.root
 
@@ -75,10 +75,10 @@ root_kept (Some kept) = Some kept.root
 unfoldable pub root_at : Contents → ℕ → Option (List ℕ)
 root_at journal t = root_kept (kept_among journal.seconds t)
 
-abbrev pub items_of : Option Second → List Node
+abbrev pub items_of : Option Second → List Item
 items_of None = []
 items_of (Some kept) = kept.items
 
 -- the items of a second, none where it is not kept
-unfoldable pub items_at : Contents → ℕ → List Node
+unfoldable pub items_at : Contents → ℕ → List Item
 items_at journal t = items_of (kept_among journal.seconds t)

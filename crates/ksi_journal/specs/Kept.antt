@@ -4,11 +4,11 @@ use Rattle.std.specs.Prelude.{◌≡◌, ℕ, zero, suc, ◌==◌, if◌then◌e
 use Rattle.std.specs.List.{AllByRecursion}
 use Rattle.ksi_tlv.specs.Spelling.{AreBytes}
 use Rattle.ksi_order.specs.declared.fault.OrderFault.{OrderFault}
-use Rattle.ksi_aggchain.specs.declared.node.Node.{Node}
+use Rattle.ksi_aggtree.specs.declared.item.Item.{Item}
 use Rattle.ksi_journal.specs.declared.loading.Parts.{Parts}
-use Rattle.ksi_journal.specs.declared.second.Second.{Second}
+use Rattle.ksi_aggtree.specs.declared.second.Second.{Second}
 use Rattle.ksi_journal.specs.Journal.{Contents, contents}
-use Rattle.ksi_aggtree.specs.Rounds.{item_at}
+use Rattle.ksi_aggtree.specs.Rounds.{most_items, highest_item, item_at}
 
 -- what a journal is made of, as a record of lists
 abbrev pub parts_of : Parts → Contents
@@ -16,11 +16,11 @@ parts_of parts = contents parts.start parts.seconds.items parts.issued.items par
 
 -- a second whose items come is below 2^63, those that are there and to come make a round, numbers have 64 bits, and what
 -- stands behind them are bytes
-pub record IsLoading (second : ℕ) (items : List Node) (left : ℕ) (issued : List (ℕ × List ℕ)) : Type 0 where
+pub record IsLoading (second : ℕ) (items : List Item) (left : ℕ) (issued : List (ℕ × List ℕ)) : Type 0 where
   pub early : second < 2 ^ 63
-  pub few : length items + left ≤ 65536
+  pub few : length items + left ≤ most_items
   pub none : left ≡ 0 → items ≡ []
-  pub low : (k : ℕ) → (item_at items k).level ≤ 239
+  pub low : (k : ℕ) → (item_at items k).level ≤ highest_item
   pub numbers : AllByRecursion (λ signature. signature.0 < 2 ^ 64) issued
   pub bytes : AllByRecursion (λ signature. AreBytes signature.1) issued
 

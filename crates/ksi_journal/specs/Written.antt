@@ -3,8 +3,8 @@ use Rattle.std.specs.Prelude.{ℕ, List, [], ◌∷◌, ◌++◌, length, map}
 use Rattle.ksi_tlv.specs.Spelling.{Tlv, plain}
 use Rattle.ksi_tlv.specs.Numerals.{numeral}
 use Rattle.ksi_tlv.specs.Writing.{texts}
-use Rattle.ksi_aggchain.specs.declared.node.Node.{Node}
-use Rattle.ksi_journal.specs.declared.second.Second.{Second}
+use Rattle.ksi_aggtree.specs.declared.item.Item.{Item}
+use Rattle.ksi_aggtree.specs.declared.second.Second.{Second}
 use Rattle.ksi_journal.specs.Journal.{Contents}
 use Rattle.ksi_journal.specs.File.{magic}
 
@@ -15,7 +15,7 @@ head_elements kept = plain 1 (numeral kept.second) ∷ plain 2 kept.root ∷ pla
 abbrev pub second_element : Second → Tlv
 second_element kept = plain 2 (texts (head_elements kept))
 
-abbrev pub item_element : Node → Tlv
+abbrev pub item_element : Item → Tlv
 item_element item = plain 3 (item.imprint ++ item.level ∷ [])
 
 -- a second and its items

@@ -4,7 +4,7 @@ ghost use Rattle.std.specs.List.{AllByRecursion};
 ghost use Rattle.ksi_journal.specs.Journal.{IsSecond};
 ghost use Rattle.ksi_journal.specs.Calendar.{roots_from};
 
-use crate::second::Second;
+use ksi_aggtree::Second;
 use ksi_calendar::Calendar;
 use ksi_imprint::{Compress, NoMemory};
 use std::alloc::Global;

@@ -1,4 +1,4 @@
-use ksi_imprint::{Imprint, NoMemory};
+use ksi_imprint::Imprint;
 
 /// Why bytes are no journal. A malformed file is reported by the codes J1 to J8 with the values of the variant. A place
 /// is the offset of an element's first byte in the file.
@@ -23,17 +23,4 @@ pub enum JournalFault {
     Count(u64),
     /// J8: the file or an element ends where a further element must stand, the end has content, or bytes follow it.
     Ends(usize),
-    /// Memory was wanting.
-    NoMemory,
-}
-
-impl From<NoMemory> for JournalFault {
-    ghost use Rattle.std.specs.Prelude.{◌≡◌};
-    ghost use Rattle.ksi_journal.specs.declared.fault.JournalFault.TheVariants as answers;
-
-    ghost from_gives = { λ _ fault. fault ≡ answers.NoMemory };
-
-    fn from(_: NoMemory) -> Self {
-        JournalFault::NoMemory
-    }
 }

@@ -1,16 +1,14 @@
 //! What single elements say, by the elements inside them.
 ghost use Rattle.std.specs.Prelude.{◌≡◌, ◌<◌, ◌≤◌, ◌^◌, IfOk, length, Ok, Err, Result, ℕ, List};
 ghost use Rattle.ksi_tlv.specs.Views.{view_placed};
+ghost use Rattle.ksi_aggtree.specs.Rounds.{highest_item};
 ghost use Rattle.ksi_journal.specs.Elements.{item_in, said_at, signature_at, published_at, short_at, rises};
 ghost use Rattle.ksi_journal.specs.Kept.{view_signature};
 
-use ksi_aggchain::Node;
+use ksi_aggtree::{HIGHEST_ITEM, Item};
 use ksi_imprint::Imprint;
 use ksi_order::{Fields, OrderFault, imprint, number, time, values_are_bounded};
 use ksi_tlv::Placed;
-
-/// The greatest level of an item.
-const MOST_LEVEL: u8 = 239;
 
 /// The longest signature.
 const LONGEST: usize = 60_000;
@@ -62,9 +60,9 @@ fn check_rise(least: u128, value: u128, place: usize) -> Result<(), OrderFault>
 
 /// An item: 33 bytes of imprint and one of level.
 #[tactic(auto, unfolding(crate::specs::Elements::item_in))]
-pub(crate) fn read_item(at: &Placed<'_>) -> Result<Node, OrderFault>
+pub(crate) fn read_item(at: &Placed<'_>) -> Result<Item, OrderFault>
     ensures value { result ≡ item_in (view_placed at.now) }
-    ensures low { IfOk result (λ item. item.level ≤ 239) }
+    ensures low { IfOk result (λ item. item.level ≤ highest_item) }
 {
     let body = at.element.body;
     if body.len() != 34 {
@@ -75,10 +73,10 @@ pub(crate) fn read_item(at: &Placed<'_>) -> Result<Node, OrderFault>
         return Err(OrderFault::Imprint(at.place));
     };
     let level = level[0];
-    if level > MOST_LEVEL {
+    if level > HIGHEST_ITEM {
         return Err(OrderFault::Bound(at.place));
     }
-    Ok(Node { imprint, level })
+    Ok(Item { imprint, level })
 }
 
 /// The number of an issued signature, and its bytes.

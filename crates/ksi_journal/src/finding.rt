@@ -3,7 +3,7 @@ ghost use Rattle.std.specs.Prelude.{◌≡◌, ◌+◌, map};
 ghost use Rattle.ksi_journal.specs.Journal.{RiseFrom, kept_among};
 ghost use Rattle.ksi_journal.specs.Kept.{view_kept, at_place, place_of};
 
-use crate::second::Second;
+use ksi_aggtree::Second;
 use ksi_calendar::Steps;
 use std::sync::ledger::Ledger;
 

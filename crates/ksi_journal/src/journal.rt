@@ -5,8 +5,7 @@ ghost use Rattle.ksi_journal.specs.Calendar.{calendar_of};
 
 use crate::calendar::calendar;
 use crate::finding::find;
-use crate::second::Second;
-use ksi_aggchain::Node;
+use ksi_aggtree::{Item, Second};
 use ksi_calendar::laws::one_first_missing;
 use ksi_calendar::{Calendar, Steps};
 use ksi_imprint::{Bytes, Compress, Imprint, NoMemory};
@@ -123,7 +122,7 @@ impl<C: Compress> Journal<C> {
     }
 
     /// The items of a second, in order, none where it is not kept or its root is the zero imprint.
-    pub fn items(&self, second: u64) -> &[Node]
+    pub fn items(&self, second: u64) -> &[Item]
         ensures { result.now ≡ items_at self.now second }
     {
         items_from::<C, Brand>(self, second, Blank::new(1))
@@ -131,7 +130,7 @@ impl<C: Compress> Journal<C> {
 
     /// The same, with its step: one search among the kept seconds.
     #[tactic(auto, unfolding(crate::specs::Journal::items_at))]
-    pub fn items_counted<L: Ledger>(&self, second: u64, steps: &mut Steps<L>) -> &[Node]
+    pub fn items_counted<L: Ledger>(&self, second: u64, steps: &mut Steps<L>) -> &[Item]
         ensures items { result.now ≡ items_at self.now second }
         ensures step { steps.new ≡ steps.old + 1 }
     {
@@ -181,7 +180,7 @@ fn root_from<C: Compress, L: Ledger>(
     journal.root_counted(second, &mut steps)
 }
 
-fn items_from<C: Compress, L: Ledger>(journal: &Journal<C>, second: u64, blank: Blank) -> &[Node]
+fn items_from<C: Compress, L: Ledger>(journal: &Journal<C>, second: u64, blank: Blank) -> &[Item]
     requires name { blank.name ≡ L.name }
     requires parts { blank.parts ≡ L.parts }
     requires one { blank.parts ≡ 1 }

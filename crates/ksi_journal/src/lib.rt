@@ -25,13 +25,12 @@ mod journal;
 pub mod laws;
 mod loading;
 mod reader;
-mod second;
-mod tree;
+mod stage;
 mod writer;
 
 pub use fault::JournalFault;
 pub use journal::Journal;
-pub use ksi_imprint::NoMemory;
+pub use ksi_aggtree::Second;
+pub use ksi_imprint::{NoMemory, Refused};
 pub use reader::load;
-pub use second::Second;
 pub use writer::write;

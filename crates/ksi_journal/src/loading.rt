@@ -1,23 +1,20 @@
 ghost use Rattle.std.specs.Prelude.{◌≡◌};
 ghost use Rattle.std.specs.Str.{bytes_eq};
 ghost use Rattle.ksi_tlv.specs.Views.{view_placed};
+ghost use Rattle.ksi_aggtree.specs.Rounds.{highest_item};
 ghost use Rattle.ksi_journal.specs.Elements.{named, counts};
 
 use crate::fault::JournalFault;
 use crate::fields::{read_item, read_publication, read_second, read_signature};
 use crate::laws::are_bytes;
-use crate::second::{Second, Stage};
-use crate::tree::tree;
-use ksi_aggchain::Node;
-use ksi_aggtree::Items;
-use ksi_imprint::{Bytes, Compress, Imprint};
-use ksi_order::{OrderFault, Ordered, Stop, time};
+use crate::stage::Stage;
+use ksi_aggtree::{Item, Items, MOST_ITEMS, Second, root_with};
+use ksi_imprint::{Bytes, Compress, Imprint, Refused};
+use ksi_order::{OrderFault, Ordered, time};
 use ksi_tlv::Placed;
 use std::alloc::Global;
 use std::marker::{Model, PhantomData};
 use std::mem;
-
-const MOST_ITEMS: u64 = 65_536;
 
 pub(crate) const START: u16 = 0x01;
 
@@ -55,7 +52,7 @@ pub(crate) struct Loading<C: Compress> {
     least_time: u64,
     second: u64,
     root: Imprint,
-    items: Vec<Node>,
+    items: Vec<Item>,
     left: usize,
     alloc: Global,
     compress: PhantomData<C>,
@@ -87,7 +84,7 @@ impl<C: Compress> Loading<C> {
     ghost use Rattle.ksi_tlv.specs.Views.{view_placed};
     ghost use Rattle.ksi_tlv.specs.Spelling.{AreBytes};
     ghost use Rattle.ksi_order.specs.Order.{Steps};
-    ghost use Rattle.ksi_order.specs.declared.fault.Stop.TheVariants as stops;
+    ghost use Rattle.ksi_imprint.specs.declared.refused.Refused.TheVariants as refused;
     ghost use Rattle.ksi_journal.specs.Elements.{nothing_yet, start_at, read_second, counted, closed, finished, with_item, item_at, issued_at, publication_at, end_at};
     ghost use Rattle.ksi_journal.specs.Kept.{parts_of};
 
@@ -143,9 +140,9 @@ impl<C: Compress> Loading<C> {
     }
 
     #[tactic(auto, unfolding(crate::specs::Elements::start_at))]
-    fn start(&mut self, at: &Placed<'_>) -> Result<(), Stop<JournalFault>>
+    fn start(&mut self, at: &Placed<'_>) -> Result<(), Refused<JournalFault>>
         ensures read { Steps (start_at self.old (view_placed at.now)) self.new result }
-        ensures memory { result ≢ Err stops.NoMemory }
+        ensures memory { result ≢ Err refused.NoMemory }
     {
         match time(at) {
             Ok(start) => {
@@ -154,34 +151,34 @@ impl<C: Compress> Loading<C> {
                 self.least_second = start;
                 Ok(())
             }
-            Err(fault) => Err(Stop::Fault(named(fault))),
+            Err(fault) => Err(Refused::Fault(named(fault))),
         }
     }
 
     #[tactic(auto, unfolding(crate::specs::Elements::read_second))]
-    fn second(&mut self, at: &Placed<'_>) -> Result<(), Stop<JournalFault>>
+    fn second(&mut self, at: &Placed<'_>) -> Result<(), Refused<JournalFault>>
         ensures read { Steps (read_second self.old (view_placed at.now)) self.new result }
-        ensures wanting { result ≡ Err stops.NoMemory → IsOk (read_second self.old (view_placed at.now)) }
+        ensures wanting { result ≡ Err refused.NoMemory → IsOk (read_second self.old (view_placed at.now)) }
     {
         match read_second(at, self.least_second) {
             Ok((second, root, count)) => self.open(second, root, count),
-            Err(fault) => Err(Stop::Fault(named(fault))),
+            Err(fault) => Err(Refused::Fault(named(fault))),
         }
     }
 
     /// A second of which so many items are to come.
-    fn open(&mut self, second: u64, root: Imprint, count: u64) -> Result<(), Stop<JournalFault>>
+    fn open(&mut self, second: u64, root: Imprint, count: u64) -> Result<(), Refused<JournalFault>>
         requires { second < 2 ^ 63 }
         ensures read { Steps (counted self.old second root count) self.new result }
-        ensures wanting { result ≡ Err stops.NoMemory → IsOk (counted self.old second root count) }
+        ensures wanting { result ≡ Err refused.NoMemory → IsOk (counted self.old second root count) }
     {
         if !counts(&root, count) {
-            return Err(Stop::Fault(JournalFault::Count(second)));
+            return Err(Refused::Fault(JournalFault::Count(second)));
         }
         let count = count as usize;
         let items = match Vec::with_capacity(self.alloc, count) {
             Ok(items) => items,
-            Err(_) => return Err(Stop::NoMemory),
+            Err(_) => return Err(Refused::NoMemory),
         };
         if count == 0 {
             return self.close(second, root, items);
@@ -199,8 +196,8 @@ impl<C: Compress> Loading<C> {
         &mut self,
         second: u64,
         root: Imprint,
-        items: Vec<Node>,
-    ) -> Result<(), Stop<JournalFault>>
+        items: Vec<Item>,
+    ) -> Result<(), Refused<JournalFault>>
         requires { second < 2 ^ 63 }
         ensures { Steps (Ok (closed self.old (record { second = second; root = root; items = items.items }))) self.new result }
     {
@@ -211,7 +208,7 @@ impl<C: Compress> Loading<C> {
             items,
         };
         if self.seconds.push(kept).is_err() {
-            return Err(Stop::NoMemory);
+            return Err(Refused::NoMemory);
         }
         self.stage = Stage::Seconds;
         self.least_second = second + 1;
@@ -223,17 +220,17 @@ impl<C: Compress> Loading<C> {
     }
 
     #[tactic(auto, unfolding(crate::specs::Elements::item_at))]
-    fn item(&mut self, at: &Placed<'_>) -> Result<(), Stop<JournalFault>>
+    fn item(&mut self, at: &Placed<'_>) -> Result<(), Refused<JournalFault>>
         ensures read { Steps (item_at C.image self.old (view_placed at.now)) self.new result }
-        ensures wanting { result ≡ Err stops.NoMemory → IsOk (item_at C.image self.old (view_placed at.now)) }
+        ensures wanting { result ≡ Err refused.NoMemory → IsOk (item_at C.image self.old (view_placed at.now)) }
     {
         let item = match read_item(at) {
             Ok(item) => item,
-            Err(fault) => return Err(Stop::Fault(named(fault))),
+            Err(fault) => return Err(Refused::Fault(named(fault))),
         };
         if self.left > 1 {
             if self.items.push(item).is_err() {
-                return Err(Stop::NoMemory);
+                return Err(Refused::NoMemory);
             }
             self.left -= 1;
             return Ok(());
@@ -242,39 +239,39 @@ impl<C: Compress> Loading<C> {
     }
 
     /// The last item of a second: memory is taken for it only where the tree has the root.
-    fn finish(&mut self, item: Node) -> Result<(), Stop<JournalFault>>
+    fn finish(&mut self, item: Item) -> Result<(), Refused<JournalFault>>
         requires left { self.old.left ≤ 1 }
-        requires low { item.level ≤ 239 }
+        requires low { item.level ≤ highest_item }
         ensures read { Steps (finished C.image self.old (with_item self.old.current item)) self.new result }
-        ensures wanting { result ≡ Err stops.NoMemory → IsOk (finished C.image self.old (with_item self.old.current item)) }
+        ensures wanting { result ≡ Err refused.NoMemory → IsOk (finished C.image self.old (with_item self.old.current item)) }
     {
-        let computed = tree::<C>(&self.items, &item).imprint;
+        let computed = root_with::<C>(&self.items, &item).imprint;
         if !is_same(&computed, &self.root) {
-            return Err(Stop::Fault(JournalFault::TreeRoot(self.second, self.root, computed)));
+            return Err(Refused::Fault(JournalFault::TreeRoot(self.second, self.root, computed)));
         }
         let mut items = mem::replace(&mut self.items, Vec::new(self.alloc));
         if items.push(item).is_err() {
-            return Err(Stop::NoMemory);
+            return Err(Refused::NoMemory);
         }
         self.close(self.second, self.root, items)
     }
 
     #[tactic(auto, unfolding(crate::specs::Elements::issued_at))]
-    fn issued(&mut self, at: &Placed<'_>) -> Result<(), Stop<JournalFault>>
+    fn issued(&mut self, at: &Placed<'_>) -> Result<(), Refused<JournalFault>>
         ensures read { Steps (issued_at self.old (view_placed at.now)) self.new result }
-        ensures wanting { result ≡ Err stops.NoMemory → IsOk (issued_at self.old (view_placed at.now)) }
+        ensures wanting { result ≡ Err refused.NoMemory → IsOk (issued_at self.old (view_placed at.now)) }
     {
         let (number, bytes) = match read_signature(at, self.least_number) {
             Ok(signature) => signature,
-            Err(fault) => return Err(Stop::Fault(named(fault))),
+            Err(fault) => return Err(Refused::Fault(named(fault))),
         };
         are_bytes(bytes);
         let copy = match Bytes::copy_of(self.alloc, bytes) {
             Ok(copy) => copy,
-            Err(_) => return Err(Stop::NoMemory),
+            Err(_) => return Err(Refused::NoMemory),
         };
         if self.issued.push((number, copy)).is_err() {
-            return Err(Stop::NoMemory);
+            return Err(Refused::NoMemory);
         }
         self.stage = Stage::Issued;
         self.least_number = u128::from(number) + 1;
@@ -282,16 +279,16 @@ impl<C: Compress> Loading<C> {
     }
 
     #[tactic(auto, unfolding(crate::specs::Elements::publication_at))]
-    fn publication(&mut self, at: &Placed<'_>) -> Result<(), Stop<JournalFault>>
+    fn publication(&mut self, at: &Placed<'_>) -> Result<(), Refused<JournalFault>>
         ensures read { Steps (publication_at self.old (view_placed at.now)) self.new result }
-        ensures wanting { result ≡ Err stops.NoMemory → IsOk (publication_at self.old (view_placed at.now)) }
+        ensures wanting { result ≡ Err refused.NoMemory → IsOk (publication_at self.old (view_placed at.now)) }
     {
         let (published, root) = match read_publication(at, self.least_time) {
             Ok(publication) => publication,
-            Err(fault) => return Err(Stop::Fault(named(fault))),
+            Err(fault) => return Err(Refused::Fault(named(fault))),
         };
         if self.publications.push((published, root)).is_err() {
-            return Err(Stop::NoMemory);
+            return Err(Refused::NoMemory);
         }
         self.stage = Stage::Publications;
         self.least_time = published + 1;
@@ -299,15 +296,15 @@ impl<C: Compress> Loading<C> {
     }
 
     #[tactic(auto, unfolding(crate::specs::Elements::end_at))]
-    fn end(&mut self, at: &Placed<'_>) -> Result<(), Stop<JournalFault>>
+    fn end(&mut self, at: &Placed<'_>) -> Result<(), Refused<JournalFault>>
         ensures read { Steps (end_at self.old (view_placed at.now)) self.new result }
-        ensures memory { result ≢ Err stops.NoMemory }
+        ensures memory { result ≢ Err refused.NoMemory }
     {
         if at.element.body.is_empty() {
             self.stage = Stage::End;
             Ok(())
         } else {
-            Err(Stop::Fault(JournalFault::Ends(at.place)))
+            Err(Refused::Fault(JournalFault::Ends(at.place)))
         }
     }
 }
@@ -343,7 +340,7 @@ impl<C: Compress> Ordered<JournalFault> for Loading<C> {
     }
 
     #[tactic(auto, unfolding(crate::specs::Elements::element_read))]
-    fn take(&mut self, at: &Placed<'_>) -> Result<(), Stop<JournalFault>> {
+    fn take(&mut self, at: &Placed<'_>) -> Result<(), Refused<JournalFault>> {
         match at.element.kind {
             START => self.start(at),
             SECOND => self.second(at),
@@ -368,7 +365,7 @@ fn counts(root: &Imprint, count: u64) -> bool
     if is_same(root, &Imprint::ZERO) {
         count == 0
     } else {
-        1 <= count && count <= MOST_ITEMS
+        1 <= count && count <= MOST_ITEMS as u64
     }
 }
 

@@ -10,8 +10,7 @@ use crate::journal::Journal;
 use crate::laws::written_is_journal;
 use crate::loading::{END, ISSUED, ITEM, PUBLICATION, SECOND, START};
 use crate::reader::MAGIC;
-use crate::second::Second;
-use ksi_aggchain::Node;
+use ksi_aggtree::{Item, Second};
 use ksi_grammar::put_short;
 use ksi_imprint::{Bytes, Compress, Imprint, NoMemory};
 use ksi_tlv::{Writer, numeral_is_read};
@@ -77,7 +76,7 @@ fn put_head(writer: &mut Writer, alloc: Global, kept: &Second) -> Result<(), NoM
     put_short(writer, SECOND, inside.bytes())
 }
 
-fn put_items(writer: &mut Writer, items: &[Node]) -> Result<(), NoMemory>
+fn put_items(writer: &mut Writer, items: &[Item]) -> Result<(), NoMemory>
     ensures { OnOk result (writer.new ≡ writer.old ++ texts (map item_element items.now)) }
 {
     for item in items {
@@ -86,7 +85,7 @@ fn put_items(writer: &mut Writer, items: &[Node]) -> Result<(), NoMemory>
     Ok(())
 }
 
-fn put_item(writer: &mut Writer, item: &Node) -> Result<(), NoMemory>
+fn put_item(writer: &mut Writer, item: &Item) -> Result<(), NoMemory>
     ensures { OnOk result (writer.new ≡ writer.old ++ canonical (item_element item.now)) }
 {
     let mut body = [0; 34];

@@ -1,7 +1,7 @@
 ghost use Rattle.std.specs.Prelude.{◌≤◌};
 
 use crate::same::same;
-use ksi_tlv::{Elements, NoMemory, NumberFault, PutRefusal, TlvFault, Writer, number, read_one};
+use ksi_tlv::{Elements, NoMemory, NumberFault, PutRefusal, Refused, TlvFault, Writer, number, read_one};
 use std::alloc::Global;
 use std::process::Abort;
 use std::test::Fail;
@@ -154,7 +154,7 @@ fn put_zeros(
     alloc: Global,
     writer: &mut Writer,
     size: usize,
-) -> Result<Result<(), PutRefusal>, NoMemory> {
+) -> Result<Result<(), Refused<PutRefusal>>, NoMemory> {
     let body = vec![in alloc; 0u8; size]?;
     Ok(writer.put(0x02, false, false, &body))
 }
@@ -167,7 +167,8 @@ fn refuses_a_body_above_65535_bytes(rt: HostRuntime) -> Result<(), Fail> {
         put_zeros(alloc, &mut writer, 65_535)?,
         put_zeros(alloc, &mut writer, 65_536)?,
     ];
-    same(&rt, 0, puts, [Ok(()), Err(PutRefusal::TooLong(65_536))]);
+    let long = Refused::Fault(PutRefusal::TooLong(65_536));
+    same(&rt, 0, puts, [Ok(()), Err(long)]);
     same(&rt, 1, writer.bytes().len(), 65_539);
     Ok(())
 }

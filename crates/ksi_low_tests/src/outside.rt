@@ -63,7 +63,11 @@ fn a_load_gives_what_is_held_up_to_its_limit(rt: HostRuntime) -> Result<(), Fail
     ];
     let mut files = held_twice(rt.alloc())?;
     load(&rt, rt.alloc(), &mut files, &LOADS);
-    let counts = [files.faults(), files.calls(), files.taken()];
+    let counts = [
+        files.counts().faults,
+        files.counts().calls,
+        files.counts().taken,
+    ];
     same(&rt, "counts", counts, [1, 5, 9]);
     same(&rt, "c", files.bytes("c"), None);
     Ok(())
@@ -91,7 +95,7 @@ fn listed_calls_fail_and_are_counted(rt: HostRuntime) -> Result<(), Fail> {
     let mut files = three_fail(rt.alloc())?;
     load(&rt, rt.alloc(), &mut files, &LOADS);
     save(&rt, rt.alloc(), &mut files, &SAVES);
-    let held = (files.bytes("b"), files.bytes("c"), files.faults());
+    let held = (files.bytes("b"), files.bytes("c"), files.counts().faults);
     same(&rt, "held", held, (Some(b"two"), None, 3));
     Ok(())
 }
@@ -129,7 +133,11 @@ fn the_system_saves_and_loads_up_to_the_limit(rt: HostRuntime) {
     let mut files = HostFiles::new(&rt);
     save(&rt, rt.alloc(), &mut files, &SAVES);
     load(&rt, rt.alloc(), &mut files, &LOADS);
-    let counts = [files.calls(), files.faults(), files.taken()];
+    let counts = [
+        files.counts().calls,
+        files.counts().faults,
+        files.counts().taken,
+    ];
     same(&rt, "counts", counts, [7, 0, 15_002]);
 }
 
@@ -145,7 +153,11 @@ fn the_system_loads_no_removed_file_and_no_folder(rt: HostRuntime) -> Result<(),
     save(&rt, rt.alloc(), &mut files, &SAVES);
     fs::remove_file(&rt, "ksi_ports_gone")?;
     load(&rt, rt.alloc(), &mut files, &LOADS);
-    let counts = [files.calls(), files.faults(), files.taken()];
+    let counts = [
+        files.counts().calls,
+        files.counts().faults,
+        files.counts().taken,
+    ];
     same(&rt, "counts", counts, [3, 2, 0]);
     Ok(())
 }

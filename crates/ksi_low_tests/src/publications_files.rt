@@ -1,6 +1,6 @@
 use crate::same::same;
 use ksi_imprint::{Bytes, Compress, Imprint, NoMemory, Sha};
-use ksi_publications::{Publications, PublicationsFault, read, write};
+use ksi_publications::{Publications, PublicationsFault, Refused, read, write};
 use std::alloc::Global;
 use std::process::Abort;
 use std::test::Fail;
@@ -15,13 +15,13 @@ fn file(alloc: Global, behind: &[&[u8]]) -> Result<Bytes, NoMemory> {
 }
 
 /// The only pair of a file, nothing where it has not one.
-fn listed(alloc: Global, bytes: &[u8]) -> Result<Option<(u64, Imprint)>, PublicationsFault> {
+fn listed(alloc: Global, bytes: &[u8]) -> Result<Option<(u64, Imprint)>, Refused<PublicationsFault>> {
     match read(alloc, bytes) {
         Ok(publications) => match publications.pairs() {
             [pair] => Ok(Some(*pair)),
             _ => Ok(None),
         },
-        Err(fault) => Err(fault),
+        Err(refused) => Err(refused),
     }
 }
 
@@ -29,7 +29,7 @@ fn lists(
     rt: &impl Abort,
     alloc: Global,
     behind: &[&[u8]],
-    want: Result<Option<(u64, Imprint)>, PublicationsFault>,
+    want: Result<Option<(u64, Imprint)>, Refused<PublicationsFault>>,
 ) -> Result<(), NoMemory> {
     let text = file(alloc, behind)?;
     same(rt, behind.len(), listed(alloc, text.as_slice()), want);
@@ -61,9 +61,9 @@ fn reads_one_record_and_nothing_behind_it(rt: HostRuntime) -> Result<(), Fail> {
         &[&FRONT, hash.bytes()],
         Ok(Some((0, hash))),
     )?;
-    let refused = PublicationsFault::RefusedElement(1796, 60);
+    let fault = PublicationsFault::RefusedElement(1796, 60);
     let behind: [&[u8]; 3] = [&FRONT, hash.bytes(), &[0x87, 0x04, 0x00, 0x00]];
-    lists(&rt, rt.alloc(), &behind, Err(refused))?;
+    lists(&rt, rt.alloc(), &behind, Err(Refused::Fault(fault)))?;
     Ok(())
 }
 
@@ -73,7 +73,7 @@ fn the_magic_comes_first(rt: HostRuntime) {
         &rt,
         "magic",
         listed(rt.alloc(), b"KSIPUBL"),
-        Err(PublicationsFault::Magic),
+        Err(Refused::Fault(PublicationsFault::Magic)),
     );
 }
 
@@ -130,8 +130,8 @@ fn answers_the_first_fault(rt: HostRuntime) -> Result<(), Fail> {
             PublicationsFault::Imprint(16),
         ),
     ];
-    for (behind, want) in ROWS {
-        lists(&rt, rt.alloc(), &[behind], Err(want))?;
+    for (behind, fault) in ROWS {
+        lists(&rt, rt.alloc(), &[behind], Err(Refused::Fault(fault)))?;
     }
     Ok(())
 }

@@ -1,9 +1,8 @@
 ghost use Rattle.std.specs.Prelude.{◌+◌, ◌/◌, ◌%◌, ◌<◌, ◌≡◌, length, IfOk};
 
 use crate::same::same;
-use ksi_rows::{Joins, NoMemory, Rows};
 use ksi_split::Side::{Left, Right};
-use ksi_split::{Side, TreeLink};
+use ksi_split::{Joins, NoMemory, Rows, Side, TreeLink};
 use std::alloc::Global;
 use std::process::Abort;
 use std::test::Fail;

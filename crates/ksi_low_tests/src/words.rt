@@ -1,5 +1,5 @@
 use crate::same::same;
-use ksi_imprint::Imprint;
+use ksi_imprint::{Imprint, Refused};
 use ksi_words::{Command, WordsRefusal, command, hash, number, time};
 use std::alloc::Global;
 use std::process::Abort;
@@ -89,12 +89,12 @@ fn number_of(command: &Command<'_>) -> u64 {
 }
 
 /// The number of a command that a text says, or of the word that is bad; none where it says something else.
-fn told(text: &str, answer: &Result<Command<'_>, WordsRefusal>) -> Option<u64> {
+fn told(text: &str, answer: &Result<Command<'_>, Refused<WordsRefusal>>) -> Option<u64> {
     let (is_said, number) = match answer {
         Ok(command) => (says(text, command), number_of(command)),
-        Err(WordsRefusal::Words) => (text == "refused", 0),
-        Err(WordsRefusal::BadWord(n)) => (text == "bad", *n as u64),
-        Err(WordsRefusal::NoMemory) => (false, 0),
+        Err(Refused::Fault(WordsRefusal::Words)) => (text == "refused", 0),
+        Err(Refused::Fault(WordsRefusal::BadWord(n))) => (text == "bad", *n as u64),
+        Err(Refused::NoMemory) => (false, 0),
     };
     if is_said { Some(number) } else { None }
 }

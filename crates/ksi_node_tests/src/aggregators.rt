@@ -1,8 +1,8 @@
 ghost use Rattle.std.specs.Prelude.{◌≡◌, ◌<◌, ◌^◌, length, IfOk};
 
 use crate::same::same;
-use ksi_aggchain::Node;
 use ksi_aggregator::{Aggregator, NoMemory, Send, Step};
+use ksi_aggtree::Item;
 use ksi_imprint::{Compress, Imprint, Sha};
 use ksi_signature::{
     Above, AboveChain, AboveChains, AboveLinks, AggregationChain, Answer, CalendarLinks, Signature,
@@ -14,17 +14,17 @@ use std::process::Abort;
 
 const T: u64 = 1700000000;
 
-fn item(bytes: &[u8]) -> Node
+fn item(bytes: &[u8]) -> Item
     ensures { result.level ≡ 0 }
 {
-    Node {
+    Item {
         imprint: Sha::of(bytes),
         level: 0,
     }
 }
 
 /// The item that is sent, where the step sends that alone.
-fn submitted(step: &Step) -> Option<Node> {
+fn submitted(step: &Step) -> Option<Item> {
     match step.sends.as_slice() {
         [Send::Submission(item)] => Some(*item),
         _ => None,
@@ -32,7 +32,7 @@ fn submitted(step: &Step) -> Option<Node> {
 }
 
 /// What a step answers, how many messages it sends and the item that it submits; nothing where memory is wanting.
-fn told(step: &Result<Step, NoMemory>) -> Option<(Answer, usize, Option<Node>)> {
+fn told(step: &Result<Step, NoMemory>) -> Option<(Answer, usize, Option<Item>)> {
     match step {
         Ok(step) => Some((step.answer, step.sends.as_slice().len(), submitted(step))),
         Err(_) => None,
@@ -45,7 +45,7 @@ fn only(rt: &impl Abort, step: Result<Step, NoMemory>, answer: Answer) {
 }
 
 /// The step is done and submits this item alone.
-fn submits(rt: &impl Abort, step: Result<Step, NoMemory>, item: Node) {
+fn submits(rt: &impl Abort, step: Result<Step, NoMemory>, item: Item) {
     let want = (Answer::Done, 1, Some(item));
     same(rt, "the submission", told(&step), Some(want));
 }
@@ -169,7 +169,7 @@ fn root() -> Imprint {
 
 /// Closes that round, whose tree is submitted.
 fn close_upper(rt: &impl Abort, upper: &mut Aggregator<Sha>) {
-    let tree = Node {
+    let tree = Item {
         imprint: root(),
         level: 1,
     };

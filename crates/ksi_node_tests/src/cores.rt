@@ -3,7 +3,7 @@ ghost use Rattle.ksi_synod.specs.Ballots.{IsBallot};
 ghost use Rattle.ksi_synod.specs.Rows.{OfBallot};
 
 use crate::same::same;
-use ksi_aggchain::Node;
+use ksi_aggtree::Item;
 use ksi_calchain::{CalendarLink, climb_calendar};
 use ksi_corenode::{Answer, Core, NoMemory, Send, Step};
 use ksi_imprint::{Compress, Imprint, Sha};
@@ -15,10 +15,10 @@ use std::process::Abort;
 
 const T: u64 = 1_700_000_000;
 
-fn item(bytes: &[u8]) -> Node
+fn item(bytes: &[u8]) -> Item
     ensures { result.level ≡ 0 }
 {
-    Node {
+    Item {
         imprint: Sha::of(bytes),
         level: 0,
     }
@@ -118,7 +118,7 @@ fn one_core_alone_decides_its_candidate(rt: HostRuntime) {
 }
 
 /// A core that holds its candidate, the item alone, for second T.
-fn decided(rt: &impl Abort, alloc: Global, a: &Node) -> Core<Sha>
+fn decided(rt: &impl Abort, alloc: Global, a: &Item) -> Core<Sha>
     requires { a.now.level ≡ 0 }
     ensures { result.start ≡ 1700000000 }
 {

@@ -1,13 +1,13 @@
 use crate::same::same;
 use ksi_aggchain::{Link, Node};
-use ksi_aggtree::{Entries, Entry, ItemPath, Origin};
+use ksi_aggtree::{Entries, Entry, Item, ItemPath, Origin};
 use ksi_imprint::{Compress, Imprint, NoMemory, Sha};
 use ksi_split::Side;
 use std::alloc::Global;
 use std::process::Abort;
 
-fn item(level: u8, bytes: &[u8]) -> Node {
-    Node {
+fn item(level: u8, bytes: &[u8]) -> Item {
+    Item {
         imprint: Sha::of(bytes),
         level,
     }
@@ -95,12 +95,12 @@ fn are_links(links: &Option<ItemPath>) -> bool {
 
 fn has_tree(rt: &impl Abort, entries: &Entries<Sha>) {
     let root = Sha::join(Sha::of(b"a").bytes(), Sha::of(b"b").bytes(), 3);
-    let item = Node {
+    let tree = Node {
         imprint: root,
         level: 3,
     };
     same(rt, "candidate", entries.candidate(), root);
-    same(rt, "root", entries.root(), Some(item));
+    same(rt, "root", entries.root(), Some(tree));
     same(rt, "links", are_links(&path(entries, 0)), true);
 }
 

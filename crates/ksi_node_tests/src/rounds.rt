@@ -1,9 +1,10 @@
 ghost use Rattle.std.specs.Prelude.{◌≡◌, ◌<◌, ◌≤◌, length};
+ghost use Rattle.ksi_aggtree.specs.Rounds.{IsRound};
 
 use crate::same::same;
 use ksi_aggchain::{Link, Node, shape};
-use ksi_aggtree::{AddRefusal, Builder, ItemPath, Steps};
-use ksi_imprint::{Compress, Imprint, NoMemory, Sha, Tiny};
+use ksi_aggtree::{AddRefusal, Builder, Item, ItemPath, Steps, node_over, root_over, root_with};
+use ksi_imprint::{Compress, Imprint, NoMemory, Refused, Sha, Tiny};
 use ksi_split::Side;
 use ksi_split::Side::{Left, Right};
 use std::alloc::Global;
@@ -12,10 +13,10 @@ use std::process::Abort;
 use std::sync::ledger::{Blank, Ledger};
 
 /// The item of the hash of these bytes.
-fn item(level: u8, bytes: &[u8]) -> Node
+fn item(level: u8, bytes: &[u8]) -> Item
     ensures { result.level ≡ level }
 {
-    Node {
+    Item {
         imprint: Sha::of(bytes),
         level,
     }
@@ -78,7 +79,7 @@ fn path_counted(round: &Builder<Sha>, k: usize) -> Option<ItemPath> {
     }
 }
 
-fn item_of(round: &Builder<Sha>, k: usize) -> Option<Node> {
+fn item_of(round: &Builder<Sha>, k: usize) -> Option<Item> {
     if k < round.count() {
         Some(round.item(k))
     } else {
@@ -160,7 +161,7 @@ fn the_links_of_three_items(rt: HostRuntime) {
 }
 
 /// A round of five items of level 0.
-fn five(alloc: Global) -> Result<Builder<Sha>, AddRefusal> {
+fn five(alloc: Global) -> Result<Builder<Sha>, Refused<AddRefusal>> {
     let mut round = Builder::new(alloc)?;
     for _ in 0..5usize {
         round.add(item(0, b""))?;
@@ -187,8 +188,32 @@ fn the_ways_of_five_items(rt: HostRuntime) {
     }
 }
 
+/// The tree of the items of the empty string and of `abc` over a slice, and its nodes.
+fn has_tree(rt: &impl Abort, items: &[Item])
+    requires { IsRound items.now }
+{
+    let root = joined(Sha::of(b""), Sha::of(b"abc"), 1);
+    same(rt, "root", root_over::<Sha>(items), Some(root));
+    same(rt, "top", node_over::<Sha>(items, &[]), Some(root));
+    let right = Some(item(0, b"abc").leaf());
+    same(rt, "right", node_over::<Sha>(items, &[Right]), right);
+    same(rt, "past", node_over::<Sha>(items, &[Right, Left]), None);
+}
+
+#[test]
+fn a_slice_has_the_tree_of_its_items(rt: HostRuntime) {
+    let items = [item(0, b""), item(0, b"abc")];
+    has_tree(&rt, &items);
+}
+
+#[test]
+fn a_last_item_stands_behind_the_others(rt: HostRuntime) {
+    let tree = root_with::<Sha>(&[item(0, b"")], &item(0, b"abc"));
+    same(&rt, "tree", tree, joined(Sha::of(b""), Sha::of(b"abc"), 1));
+}
+
 /// A round of as many items as there may be.
-fn full(alloc: Global) -> Result<Builder<Tiny>, AddRefusal> {
+fn full(alloc: Global) -> Result<Builder<Tiny>, Refused<AddRefusal>> {
     let mut round = Builder::new(alloc)?;
     for _ in 0..65536usize {
         round.add(item(239, b""))?;
@@ -209,7 +234,7 @@ fn a_full_round_refuses_the_next_item(rt: HostRuntime) {
     same(&rt, "made", made.is_ok(), true);
     if let Ok(mut round) = made {
         let refused = round.add(item(239, b""));
-        same(&rt, "add", refused, Err(AddRefusal::Full));
+        same(&rt, "add", refused, Err(Refused::Fault(AddRefusal::Full)));
         same(&rt, "count", round.count(), 65536);
         same(&rt, "level", level_of(round.root()), Some(255));
     }

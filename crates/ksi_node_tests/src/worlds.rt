@@ -3,11 +3,11 @@ ghost use Rattle.ksi_schedule.specs.Plans.{InRange};
 ghost use Rattle.ksi_schedule.specs.Events.{IsEvent};
 
 use crate::same::same;
-use ksi_aggchain::Node;
+use ksi_aggtree::Item;
 use ksi_imprint::{Compress, Imprint, Sha};
 use ksi_schedule::read_schedule;
 use ksi_signature::{AggregationChain, read};
-use ksi_world::{Answer, Event, KeptSecond, Plan, World};
+use ksi_world::{Answer, Event, Plan, Second, World};
 use std::alloc::Global;
 use std::process::Abort;
 use std::test::Fail;
@@ -210,9 +210,9 @@ fn keeps(world: &World<Sha>, root: Imprint) -> bool {
 }
 
 /// Whether the imprint is the only item.
-fn is_alone(one: &KeptSecond, imprint: Imprint) -> bool {
+fn is_alone(one: &Second, imprint: Imprint) -> bool {
     match one.items.as_slice() {
-        [item] => *item == Node { imprint, level: 0 },
+        [item] => *item == Item { imprint, level: 0 },
         _ => false,
     }
 }

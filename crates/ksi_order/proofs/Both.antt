@@ -4,8 +4,8 @@ use Rattle.ksi_tlv.specs.Walking.{PlacedTlv, Cut, Items, items_of}
 use Rattle.ksi_order.specs.Order.{Order, one_more, may_stand, walked, Steps, ◌>>=◌}
 use Rattle.ksi_order.specs.Sequence.{Leads, IsWhole, StandsAt, IsFirstFault, Tells}
 use Rattle.ksi_order.specs.declared.fault.OrderFault.TheVariants as faults
-use Rattle.ksi_order.specs.declared.fault.Stop.{Stop}
-use Rattle.ksi_order.specs.declared.fault.Stop.TheVariants as stops
+use Rattle.ksi_imprint.specs.declared.refused.Refused.{Refused}
+use Rattle.ksi_imprint.specs.declared.refused.Refused.TheVariants as refused
 
 module _ {S F : Type 0} (o : Order S F) (end : ℕ) where
   abbrev ok : S → Result S F
@@ -101,10 +101,10 @@ module _ {S F : Type 0} (o : Order S F) (end : ℕ) where
   walked_fault [] s f e = record { before = []; rest = []; split = refl; said = s; leads = refl; stands = end_fault (o.whole s) (o.named (faults.Ends end)) f s e }
   walked_fault (item ∷ items) s f e = step_fault item items s f (one_more o item s) refl e (λ u e. walked_fault items u f e)
 
-pub told : {S F : Type 0} (o : Order S F) (end : ℕ) (items : Items) (s t : S) (r : Result (Unit {0}) (Stop F)) → Steps (walked o end items s) t r → Tells o end items s t r
+pub told : {S F : Type 0} (o : Order S F) (end : ℕ) (items : Items) (s t : S) (r : Result (Unit {0}) (Refused F)) → Steps (walked o end items s) t r → Tells o end items s t r
 told o end items s t (Ok u) steps = walked_whole o end items s t steps
-told o end items s t (Err (stops.Fault f)) steps = walked_fault o end items s f steps
-told o end items s t (Err stops.NoMemory) steps = tt
+told o end items s t (Err (refused.Fault f)) steps = walked_fault o end items s f steps
+told o end items s t (Err refused.NoMemory) steps = tt
 
 -- ---- exactly one
 

@@ -4,8 +4,8 @@ use Rattle.std.specs.List.{list_any}
 use Rattle.ksi_tlv.specs.Walking.{PlacedTlv, Cut, Items}
 use Rattle.ksi_order.specs.declared.fault.OrderFault.{OrderFault}
 use Rattle.ksi_order.specs.declared.fault.OrderFault.TheVariants as faults
-use Rattle.ksi_order.specs.declared.fault.Stop.{Stop}
-use Rattle.ksi_order.specs.declared.fault.Stop.TheVariants as stops
+use Rattle.ksi_imprint.specs.declared.refused.Refused.{Refused}
+use Rattle.ksi_imprint.specs.declared.refused.Refused.TheVariants as refused
 
 -- the next, where nothing is wrong so far
 infixl 10 ◌>>=◌
@@ -38,7 +38,7 @@ walked o end [] s = if o.whole s then Ok s else Err (o.named (faults.Ends end))
 walked o end (item ∷ items) s = one_more o item s >>= walked o end items
 
 -- what a call came to, but for want of memory
-abbrev pub Steps : {S F : Type 0} → Result S F → S → Result (Unit {0}) (Stop F) → Type 0
+abbrev pub Steps : {S F : Type 0} → Result S F → S → Result (Unit {0}) (Refused F) → Type 0
 Steps expected new (Ok u) = expected ≡ Ok new
-Steps expected new (Err (stops.Fault fault)) = expected ≡ Err fault
-Steps expected new (Err stops.NoMemory) = Unit {0}
+Steps expected new (Err (refused.Fault fault)) = expected ≡ Err fault
+Steps expected new (Err refused.NoMemory) = Unit {0}

@@ -3,8 +3,8 @@ use Rattle.std.specs.Prelude.{◌≡◌, ℕ, true, false, List, [], ◌∷◌, 
 use Rattle.ksi_tlv.specs.Walking.{PlacedTlv, Cut, Items, items_of}
 use Rattle.ksi_order.specs.Order.{Order, one_more, may_stand}
 use Rattle.ksi_order.specs.declared.fault.OrderFault.TheVariants as faults
-use Rattle.ksi_order.specs.declared.fault.Stop.{Stop}
-use Rattle.ksi_order.specs.declared.fault.Stop.TheVariants as stops
+use Rattle.ksi_imprint.specs.declared.refused.Refused.{Refused}
+use Rattle.ksi_imprint.specs.declared.refused.Refused.TheVariants as refused
 
 -- the elements, each of a kind that may stand there, lead from one state to another
 abbrev pub Leads : {S F : Type 0} → Order S F → S → List PlacedTlv → S → Type 0
@@ -33,10 +33,10 @@ pub record IsFirstFault {S F : Type 0} (o : Order S F) (end : ℕ) (items : Item
   pub stands : StandsAt o end fault said rest
 
 -- what a walk came to, but for want of memory
-abbrev pub Tells : {S F : Type 0} → Order S F → ℕ → Items → S → S → Result (Unit {0}) (Stop F) → Type 0
+abbrev pub Tells : {S F : Type 0} → Order S F → ℕ → Items → S → S → Result (Unit {0}) (Refused F) → Type 0
 Tells o end items s t (Ok u) = IsWhole o items s t
-Tells o end items s t (Err (stops.Fault fault)) = IsFirstFault o end items s fault
-Tells o end items s t (Err stops.NoMemory) = Unit {0}
+Tells o end items s t (Err (refused.Fault fault)) = IsFirstFault o end items s fault
+Tells o end items s t (Err refused.NoMemory) = Unit {0}
 
 -- memory was wanting for the next element, which may stand there
 abbrev pub WantsAt : {S F : Type 0} → Order S F → (S → PlacedTlv → Type 0) → Result PlacedTlv Cut → S → Type 0

@@ -12,12 +12,3 @@ pub enum OrderFault {
     /// No imprint of SHA-256.
     Imprint(usize),
 }
-
-/// Why a walk ended.
-#[derive(Clone, Copy, Debug, PartialEq, Eq)]
-pub enum Stop<F> {
-    /// At a fault.
-    Fault(F),
-    /// Memory was wanting.
-    NoMemory,
-}

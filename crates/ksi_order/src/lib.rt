@@ -23,7 +23,7 @@ mod laws;
 mod values;
 mod walking;
 
-pub use fault::{OrderFault, Stop};
+pub use fault::OrderFault;
 pub use field::Fields;
 pub use laws::{values_are_bounded, walked_says, whole_or_fault};
 pub use values::{imprint, number, time};

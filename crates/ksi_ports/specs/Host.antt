@@ -6,15 +6,6 @@ use Rattle.ksi_ports.specs.declared.files.LoadRefusal.{LoadRefusal}
 use Rattle.ksi_ports.specs.declared.files.LoadRefusal.TheVariants.{Failed, TooLong, NoMemory}
 use Rattle.ksi_ports.specs.Outside.{count_up, Rose, TakesExactly, TakesUpTo}
 
--- how many calls there were, how many of them were saves, how many failed, how many bytes were taken, and how many of them
--- by the last load
-pub record Counted : Type 0 where
-  pub calls : ℕ
-  pub saves : ℕ
-  pub faults : ℕ
-  pub taken : ℕ
-  pub last_taken : ℕ
-
 -- the count of faults after a load with this answer
 abbrev pub faults_after : {T : Type 0} → ℕ → Result T LoadRefusal → ℕ
 faults_after before (Ok bytes) = before

@@ -1,33 +1,29 @@
 -- Files and output in memory, and what each call of theirs answers and leaves.
 use Rattle.std.specs.Prelude.{◌≡◌, ℕ, ◌+◌, Bool, IsTrue, IsFalse, IsOk, ◌||◌, nat_le, nat_lt, ◌==◌, List, [], ◌∷◌, ◌++◌, length, Option, Some, None, Result, Ok, Err, if◌then◌else◌, bytes_eq}
 use Rattle.std.specs.List.{list_any}
+use Rattle.ksi_ports.specs.declared.counts.Counts.{Counts}
 use Rattle.ksi_ports.specs.declared.files.LoadRefusal.{LoadRefusal}
 use Rattle.ksi_ports.specs.declared.files.LoadRefusal.TheVariants.{Failed, TooLong, NoMemory}
 use Rattle.ksi_ports.specs.declared.files.SaveRefusal.{SaveRefusal}
 use Rattle.ksi_ports.specs.declared.files.SaveRefusal.TheVariants as saves
 use Rattle.ksi_ports.specs.declared.mem_files.Entry.{Entry}
 use Rattle.ksi_ports.specs.Stored.{Held}
-use Rattle.ksi_ports.specs.Outside.{count_up}
+use Rattle.ksi_ports.specs.Outside.{count_up, no_calls}
 
 -- the number of a call is one of those that are to fail
 abbrev pub is_listed : List ℕ → ℕ → Bool
 is_listed failing call = list_any (λ listed. listed == call) failing
 
--- files in memory: the files, the newest first; the numbers of the calls that are to fail, counted from 0;
--- how many calls there were; how many of them were saves; how many failed; how many bytes were taken; how many of them by
--- the last load
+-- files in memory: the files, the newest first; the numbers of the calls that are to fail, counted from 0; and what was
+-- counted of the calls
 pub record StoredFiles : Type 0 where
   pub entries : List Entry
   pub failing : List ℕ
-  pub calls : ℕ
-  pub saves : ℕ
-  pub faults : ℕ
-  pub taken : ℕ
-  pub last_taken : ℕ
+  pub counts : Counts
 
 -- no files, and no call so far
 abbrev pub no_files : List ℕ → StoredFiles
-no_files failing = record { entries = []; failing = failing; calls = 0; saves = 0; faults = 0; taken = 0; last_taken = 0 }
+no_files failing = record { entries = []; failing = failing; counts = no_calls }
 
 -- the bytes of the newest file of each name
 abbrev pub held_in : List Entry → Held
@@ -41,14 +37,18 @@ up_to most (Some bytes) = if nat_le (length bytes) most then Ok bytes else Err T
 
 -- what a load answers with ample memory: it fails exactly where the call is listed or the name is not held
 abbrev pub load_answer : StoredFiles → List ℕ → ℕ → Result (List ℕ) LoadRefusal
-load_answer files name most = if is_listed files.failing files.calls then Err Failed else up_to most (held_in files.entries name)
+load_answer files name most = if is_listed files.failing files.counts.calls then Err Failed else up_to most (held_in files.entries name)
 
--- the files after a load with this answer: where memory is wanting, no call is counted and nothing is taken
+-- the counts after a load with this answer: where memory is wanting, no call is counted and nothing is taken
+abbrev pub counts_after_load : Counts → ℕ → Result (List ℕ) LoadRefusal → Counts
+counts_after_load c most (Ok bytes) = record c { calls = count_up 1 c.calls; taken = count_up (length bytes) c.taken; last_taken = length bytes }
+counts_after_load c most (Err Failed) = record c { calls = count_up 1 c.calls; faults = count_up 1 c.faults; last_taken = 0 }
+counts_after_load c most (Err TooLong) = record c { calls = count_up 1 c.calls; taken = count_up (most + 1) c.taken; last_taken = count_up (most + 1) 0 }
+counts_after_load c most (Err NoMemory) = record c { last_taken = 0 }
+
+-- the files after a load with this answer
 abbrev pub after_load : StoredFiles → ℕ → Result (List ℕ) LoadRefusal → StoredFiles
-after_load files most (Ok bytes) = record files { calls = count_up 1 files.calls; taken = count_up (length bytes) files.taken; last_taken = length bytes }
-after_load files most (Err Failed) = record files { calls = count_up 1 files.calls; faults = count_up 1 files.faults; last_taken = 0 }
-after_load files most (Err TooLong) = record files { calls = count_up 1 files.calls; taken = count_up (most + 1) files.taken; last_taken = count_up (most + 1) 0 }
-after_load files most (Err NoMemory) = record files { last_taken = 0 }
+after_load files most answer = record files { counts = counts_after_load files.counts most answer }
 
 -- the answer with ample memory, or want of memory in the place of bytes
 abbrev pub LoadAnswers : Result (List ℕ) LoadRefusal → Result (List ℕ) LoadRefusal → Type 0
@@ -67,10 +67,14 @@ SaveAnswers listed (Err saves.NoMemory) = IsFalse listed
 abbrev pub with_newest : StoredFiles → List ℕ → List ℕ → StoredFiles
 with_newest files name bytes = record files { entries = record { name = name; bytes = bytes } ∷ files.entries }
 
+-- one call more, which is a save
+abbrev pub one_save : Counts → Counts
+one_save c = record c { calls = count_up 1 c.calls; saves = count_up 1 c.saves }
+
 -- the files after a save with this answer: one that fails leaves the name's content too
 abbrev pub after_save : StoredFiles → List ℕ → List ℕ → Result (Unit {0}) SaveRefusal → StoredFiles
-after_save files name bytes (Ok u) = record (with_newest files name bytes) { calls = count_up 1 files.calls; saves = count_up 1 files.saves }
-after_save files name bytes (Err saves.Failed) = record files { calls = count_up 1 files.calls; saves = count_up 1 files.saves; faults = count_up 1 files.faults }
+after_save files name bytes (Ok u) = record (with_newest files name bytes) { counts = one_save files.counts }
+after_save files name bytes (Err saves.Failed) = record files { counts = record (one_save files.counts) { faults = count_up 1 files.counts.faults } }
 after_save files name bytes (Err saves.NoMemory) = files
 
 -- output in memory: what was written; for how many bytes there is room; the numbers of the puts that are to fail,

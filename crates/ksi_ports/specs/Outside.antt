@@ -1,5 +1,6 @@
 -- What the calls of files and of a sink answer, and what they leave.
 use Rattle.std.specs.Prelude.{◌≡◌, ◌≢◌, ℕ, ◌+◌, ◌-◌, ◌^◌, ◌≤◌, ◌<◌, min, List, ◌++◌, length, take, Option, Some, Result, Ok, Err}
+use Rattle.ksi_ports.specs.declared.counts.Counts.{Counts}
 use Rattle.ksi_ports.specs.declared.files.LoadRefusal.{LoadRefusal}
 use Rattle.ksi_ports.specs.declared.files.LoadRefusal.TheVariants.{Failed, TooLong, NoMemory}
 use Rattle.ksi_ports.specs.declared.files.SaveRefusal.{SaveRefusal}
@@ -9,6 +10,10 @@ use Rattle.ksi_ports.specs.Stored.{Held, with_file}
 -- a count that goes up by so much, and stops at 2 ^ 64 - 1
 abbrev pub count_up : ℕ → ℕ → ℕ
 count_up n before = min (before + n) (2 ^ 64 - 1)
+
+-- no call so far
+abbrev pub no_calls : Counts
+no_calls = record { calls = 0; saves = 0; faults = 0; taken = 0; last_taken = 0 }
 
 -- A count has risen by so much or more. One that stands at 2 ^ 64 - 1 counts as risen by any number.
 abbrev pub RoseBy : ℕ → ℕ → ℕ → Type 0

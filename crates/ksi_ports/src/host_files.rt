@@ -1,9 +1,9 @@
 ghost use Rattle.std.specs.Prelude.{◌≡◌, ◌≤◌, false, length, Some, None, IfOk, IfSome, OnErr, if◌then◌else◌, is_ok};
 ghost use Rattle.std.specs.Bool.{OnTrue, OnFalse};
-ghost use Rattle.ksi_ports.specs.Outside.{count_up, LoadCalls, LoadCounts, LoadTells, Raises, SaveCalls, SaveCounts, SavesCounted};
+ghost use Rattle.ksi_ports.specs.Outside.{count_up, no_calls, LoadCalls, LoadCounts, LoadTells, Raises, SaveCalls, SaveCounts, SavesCounted};
 ghost use Rattle.ksi_ports.specs.Host.{ReadTakes, faults_after};
 
-use crate::{Files, LoadRefusal, SaveRefusal};
+use crate::{Counts, Files, LoadRefusal, SaveRefusal};
 use ksi_imprint::Bytes;
 use std::alloc::Global;
 use std::io::Read;
@@ -14,69 +14,33 @@ use std::{fs, io, rt};
 #[derive(Drop)]
 pub struct HostFiles<'a, R: rt::Files> {
     runtime: &'a R,
-    calls: u64,
-    saves: u64,
-    faults: u64,
-    taken: u64,
-    last_taken: u64,
+    counts: Counts,
 }
 
 impl<'a, R: rt::Files> Model for HostFiles<'a, R> {
-    ghost use Rattle.ksi_ports.specs.Host.{Counted};
+    ghost use Rattle.ksi_ports.specs.declared.counts.Counts as counted;
 
-    ghost Value = { Counted };
+    ghost Value = { counted.Counts };
 
-    ghost view = { λ files. record { calls = files.calls; saves = files.saves; faults = files.faults; taken = files.taken; last_taken = files.last_taken } };
+    ghost view = { λ files. files.counts };
 }
 
 impl<'a, R: rt::Files> HostFiles<'a, R> {
     /// The files of this runtime. There was no call so far, and no byte was taken.
     pub fn new(runtime: &'a R) -> Self
-        ensures { result ≡ record { calls = 0; saves = 0; faults = 0; taken = 0; last_taken = 0 } }
+        ensures { result ≡ no_calls }
     {
         HostFiles {
             runtime,
-            calls: 0,
-            saves: 0,
-            faults: 0,
-            taken: 0,
-            last_taken: 0,
+            counts: Counts::NONE,
         }
     }
 
-    /// How many loads and saves there were.
-    pub fn calls(&self) -> u64
-        ensures { result ≡ self.now.calls }
+    /// What was counted of the calls.
+    pub fn counts(&self) -> Counts
+        ensures { result ≡ self.now }
     {
-        self.calls
-    }
-
-    /// How many saves there were.
-    pub fn saves(&self) -> u64
-        ensures { result ≡ self.now.saves }
-    {
-        self.saves
-    }
-
-    /// How many calls failed.
-    pub fn faults(&self) -> u64
-        ensures { result ≡ self.now.faults }
-    {
-        self.faults
-    }
-
-    /// How many bytes were taken by loads.
-    pub fn taken(&self) -> u64
-        ensures { result ≡ self.now.taken }
-    {
-        self.taken
-    }
-
-    /// How many bytes the last load took.
-    pub fn last_taken(&self) -> u64
-        ensures { result ≡ self.now.last_taken }
-    {
-        self.last_taken
+        self.counts
     }
 
     // Counts a call, and its fault where it failed.
@@ -90,9 +54,9 @@ impl<'a, R: rt::Files> HostFiles<'a, R> {
         ensures taken { self.new.taken ≡ self.old.taken }
         ensures last { self.new.last_taken ≡ self.old.last_taken }
     {
-        self.calls = self.calls.saturating_add(1);
+        self.counts.calls = self.counts.calls.saturating_add(1);
         if failed {
-            self.faults = self.faults.saturating_add(1);
+            self.counts.faults = self.counts.faults.saturating_add(1);
         }
     }
 }
@@ -127,8 +91,8 @@ impl<R: rt::Files> Files for HostFiles<'_, R> {
         let mut taken = 0;
         let result = read_opened(alloc, opened, most, &mut taken);
         self.count(matches!(&result, Err(LoadRefusal::Failed)));
-        self.taken = self.taken.saturating_add(taken);
-        self.last_taken = taken;
+        self.counts.taken = self.counts.taken.saturating_add(taken);
+        self.counts.last_taken = taken;
         result
     }
 
@@ -145,7 +109,7 @@ impl<R: rt::Files> Files for HostFiles<'_, R> {
     {
         let failed = fs::write(self.runtime, name, bytes).is_err();
         self.count(failed);
-        self.saves = self.saves.saturating_add(1);
+        self.counts.saves = self.counts.saves.saturating_add(1);
         if failed {
             return Err(SaveRefusal::Failed);
         }

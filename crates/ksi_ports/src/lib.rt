@@ -17,6 +17,7 @@
 //! ```
 #![tactic(auto)]
 
+mod counts;
 mod files;
 mod host_files;
 mod host_sink;
@@ -24,6 +25,7 @@ mod mem_files;
 mod mem_sink;
 mod sink;
 
+pub use counts::Counts;
 pub use files::{Files, LoadRefusal, SaveRefusal};
 pub use host_files::HostFiles;
 pub use host_sink::HostSink;

@@ -2,7 +2,7 @@ ghost use Rattle.std.specs.Prelude.{◌≡◌, ◌≤◌, OnOk, OnErr, option_co
 ghost use Rattle.ksi_ports.specs.Outside.{LoadCalls, LoadCounts, LoadTakes, SaveCalls, SaveCounts, SavesCounted};
 ghost use Rattle.ksi_ports.specs.Memory.{held_in, no_files, is_listed, load_answer, LoadAnswers, after_load, SaveAnswers, after_save, with_newest};
 
-use crate::{Files, LoadRefusal, SaveRefusal};
+use crate::{Counts, Files, LoadRefusal, SaveRefusal};
 use ksi_imprint::{Bytes, NoMemory};
 use std::alloc::Global;
 use std::marker::Model;
@@ -21,11 +21,7 @@ pub struct MemFiles {
     // the newest first: it counts
     entries: Vec<Entry>,
     failing: Vec<u64>,
-    calls: u64,
-    saves: u64,
-    faults: u64,
-    taken: u64,
-    last_taken: u64,
+    counts: Counts,
 }
 
 impl Model for MemFiles {
@@ -36,11 +32,7 @@ impl Model for MemFiles {
     ghost view = { λ files. record {
       entries = files.entries.items;
       failing = files.failing.items;
-      calls = files.calls;
-      saves = files.saves;
-      faults = files.faults;
-      taken = files.taken;
-      last_taken = files.last_taken;
+      counts = files.counts;
     } };
 }
 
@@ -53,11 +45,7 @@ impl MemFiles {
             alloc,
             entries: Vec::new(alloc),
             failing,
-            calls: 0,
-            saves: 0,
-            faults: 0,
-            taken: 0,
-            last_taken: 0,
+            counts: Counts::NONE,
         }
     }
 
@@ -71,39 +59,11 @@ impl MemFiles {
         }
     }
 
-    /// How many loads and saves there were, but for those that lacked memory.
-    pub fn calls(&self) -> u64
-        ensures { result ≡ self.now.calls }
+    /// What was counted of the calls, but for those that lacked memory.
+    pub fn counts(&self) -> Counts
+        ensures { result ≡ self.now.counts }
     {
-        self.calls
-    }
-
-    /// How many saves there were, but for those that lacked memory.
-    pub fn saves(&self) -> u64
-        ensures { result ≡ self.now.saves }
-    {
-        self.saves
-    }
-
-    /// How many calls failed.
-    pub fn faults(&self) -> u64
-        ensures { result ≡ self.now.faults }
-    {
-        self.faults
-    }
-
-    /// How many bytes were taken by loads.
-    pub fn taken(&self) -> u64
-        ensures { result ≡ self.now.taken }
-    {
-        self.taken
-    }
-
-    /// How many bytes the last load took.
-    pub fn last_taken(&self) -> u64
-        ensures { result ≡ self.now.last_taken }
-    {
-        self.last_taken
+        self.counts
     }
 
     /// Makes these the bytes of the file. This is no call that is counted.
@@ -118,7 +78,7 @@ impl MemFiles {
     fn look_up(&self, alloc: Global, name: &str, most: usize) -> Result<Bytes, LoadRefusal>
         ensures { LoadAnswers (load_answer self.now name.now most) result }
     {
-        if self.failing.contains(&self.calls) {
+        if self.failing.contains(&self.counts.calls) {
             return Err(LoadRefusal::Failed);
         }
         match bytes_at(&self.entries, name) {
@@ -130,23 +90,23 @@ impl MemFiles {
 
     // Counts a load that gave this answer, and what it took.
     fn count_load(&mut self, most: usize, answer: &Result<Bytes, LoadRefusal>)
-        ensures later { self.old.calls ≤ self.new.calls }
-        ensures called { LoadCalls self.old.calls self.new.calls answer.now }
-        ensures counted { LoadCounts self.old.faults self.new.faults answer.now }
-        ensures taken { LoadTakes most self.old.taken self.new.taken answer.now }
-        ensures last { LoadTakes most 0 self.new.last_taken answer.now }
+        ensures later { self.old.counts.calls ≤ self.new.counts.calls }
+        ensures called { LoadCalls self.old.counts.calls self.new.counts.calls answer.now }
+        ensures counted { LoadCounts self.old.counts.faults self.new.counts.faults answer.now }
+        ensures taken { LoadTakes most self.old.counts.taken self.new.counts.taken answer.now }
+        ensures last { LoadTakes most 0 self.new.counts.last_taken answer.now }
         ensures after { self.new ≡ after_load self.old most answer.now }
     {
-        let calls = self.calls.saturating_add(1);
-        self.last_taken = 0;
+        let calls = self.counts.calls.saturating_add(1);
+        self.counts.last_taken = 0;
         match answer {
-            Ok(bytes) => self.last_taken = bytes.as_slice().len() as u64,
-            Err(LoadRefusal::Failed) => self.faults = self.faults.saturating_add(1),
-            Err(LoadRefusal::TooLong) => self.last_taken = (most as u64).saturating_add(1),
+            Ok(bytes) => self.counts.last_taken = bytes.as_slice().len() as u64,
+            Err(LoadRefusal::Failed) => self.counts.faults = self.counts.faults.saturating_add(1),
+            Err(LoadRefusal::TooLong) => self.counts.last_taken = (most as u64).saturating_add(1),
             Err(LoadRefusal::NoMemory) => return,
         }
-        self.calls = calls;
-        self.taken = self.taken.saturating_add(self.last_taken);
+        self.counts.calls = calls;
+        self.counts.taken = self.counts.taken.saturating_add(self.counts.last_taken);
     }
 }
 
@@ -183,22 +143,22 @@ impl Files for MemFiles {
 
     ghost held = { λ files. held_in files.entries };
 
-    ghost calls = { λ files. files.calls };
+    ghost calls = { λ files. files.counts.calls };
 
-    ghost saves = { λ files. files.saves };
+    ghost saves = { λ files. files.counts.saves };
 
-    ghost faults = { λ files. files.faults };
+    ghost faults = { λ files. files.counts.faults };
 
-    ghost taken = { λ files. files.taken };
+    ghost taken = { λ files. files.counts.taken };
 
-    ghost last_taken = { λ files. files.last_taken };
+    ghost last_taken = { λ files. files.counts.last_taken };
 
     fn load(&mut self, alloc: Global, name: &str, most: usize) -> Result<Bytes, LoadRefusal>
-        ensures later { self.old.calls ≤ self.new.calls }
-        ensures called { LoadCalls self.old.calls self.new.calls result }
-        ensures counted { LoadCounts self.old.faults self.new.faults result }
-        ensures taken { LoadTakes most self.old.taken self.new.taken result }
-        ensures last { LoadTakes most 0 self.new.last_taken result }
+        ensures later { self.old.counts.calls ≤ self.new.counts.calls }
+        ensures called { LoadCalls self.old.counts.calls self.new.counts.calls result }
+        ensures counted { LoadCounts self.old.counts.faults self.new.counts.faults result }
+        ensures taken { LoadTakes most self.old.counts.taken self.new.counts.taken result }
+        ensures last { LoadTakes most 0 self.new.counts.last_taken result }
         ensures answers { LoadAnswers (load_answer self.old name.now most) result }
         ensures after { self.new ≡ after_load self.old most result }
     {
@@ -208,22 +168,22 @@ impl Files for MemFiles {
     }
 
     fn save(&mut self, alloc: Global, name: &str, bytes: &[u8]) -> Result<(), SaveRefusal>
-        ensures later { self.old.calls ≤ self.new.calls }
-        ensures called { SaveCalls self.old.calls self.new.calls result }
-        ensures saved { SavesCounted self.old.saves self.new.saves result }
-        ensures counted { SaveCounts self.old.faults self.new.faults result }
-        ensures answers { SaveAnswers (is_listed self.old.failing self.old.calls) result }
+        ensures later { self.old.counts.calls ≤ self.new.counts.calls }
+        ensures called { SaveCalls self.old.counts.calls self.new.counts.calls result }
+        ensures saved { SavesCounted self.old.counts.saves self.new.counts.saves result }
+        ensures counted { SaveCounts self.old.counts.faults self.new.counts.faults result }
+        ensures answers { SaveAnswers (is_listed self.old.failing self.old.counts.calls) result }
         ensures after { self.new ≡ after_save self.old name.now bytes.now result }
     {
-        let calls = self.calls.saturating_add(1);
-        let fails = self.failing.contains(&self.calls);
+        let calls = self.counts.calls.saturating_add(1);
+        let fails = self.failing.contains(&self.counts.calls);
         if !fails {
             put_first(alloc, &mut self.entries, name, bytes)?;
         }
-        self.calls = calls;
-        self.saves = self.saves.saturating_add(1);
+        self.counts.calls = calls;
+        self.counts.saves = self.counts.saves.saturating_add(1);
         if fails {
-            self.faults = self.faults.saturating_add(1);
+            self.counts.faults = self.counts.faults.saturating_add(1);
             return Err(SaveRefusal::Failed);
         }
         Ok(())

@@ -1,6 +1,6 @@
-use crate::NoMemory;
+use ksi_imprint::Refused;
 
-/// Why there are no publications. A malformed file is reported by the codes Q1 to Q9 with the values of the variant. A
+/// Why bytes are no publications file. A malformed file is reported by the codes Q1 to Q9 with the values of the variant. A
 /// place is the offset of an element's first byte in the file.
 #[derive(Clone, Copy, Debug, PartialEq, Eq)]
 pub enum PublicationsFault {
@@ -22,17 +22,15 @@ pub enum PublicationsFault {
     Number(usize),
     /// Q9: a time is not below 2^63.
     Time(usize),
-    /// Memory was wanting for the list of a file in which nothing is wrong.
-    NoMemory,
 }
 
-impl From<NoMemory> for PublicationsFault {
+impl From<PublicationsFault> for Refused<PublicationsFault> {
     ghost use Rattle.std.specs.Prelude.{◌≡◌};
-    ghost use Rattle.ksi_publications.specs.declared.fault.PublicationsFault.TheVariants as answers;
+    ghost use Rattle.ksi_imprint.specs.declared.refused.Refused.TheVariants.{Fault};
 
-    ghost from_gives = { λ _ fault. fault ≡ answers.NoMemory };
+    ghost from_gives = { λ fault refused. refused ≡ Fault fault };
 
-    fn from(_: NoMemory) -> Self {
-        PublicationsFault::NoMemory
+    fn from(fault: PublicationsFault) -> Self {
+        Refused::Fault(fault)
     }
 }

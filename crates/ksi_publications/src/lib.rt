@@ -25,7 +25,7 @@ mod writer;
 
 pub use containers::{FileContent, HeaderContent};
 pub use fault::PublicationsFault;
-pub use ksi_imprint::NoMemory;
+pub use ksi_imprint::{NoMemory, Refused};
 pub use laws::{file_or_fault, publications_are_read, written_is_publications};
 pub use publications::Publications;
 pub use reader::read;

@@ -1,4 +1,6 @@
-ghost use Rattle.std.specs.Prelude.{◌≡◌, ◌+◌, ◌^◌, ◌<◌, ◌⊎◌, ◌++◌, ℕ, List, length, None, Ok, Err, IfOk, IfErr, IfSome};
+ghost use Rattle.std.specs.Prelude.{◌≡◌, ◌+◌, ◌^◌, ◌<◌, ◌++◌, ℕ, List, length, Ok, Err, IfOk, IfErr};
+ghost use Rattle.ksi_imprint.specs.Refused.{IfRefused};
+ghost use Rattle.ksi_imprint.specs.declared.refused.Refused.TheVariants.{Fault};
 ghost use Rattle.ksi_tlv.specs.Views.{view_placed};
 ghost use Rattle.ksi_tlv.specs.Walking.{elements};
 ghost use Rattle.ksi_grammar.specs.declared.fault.ElementFault.{ElementFault};
@@ -6,7 +8,6 @@ ghost use Rattle.ksi_grammar.specs.Reading.{container_verdict};
 ghost use Rattle.ksi_grammar.specs.Valid.{MayStand};
 ghost use Rattle.ksi_grammar.specs.Inside.{whole};
 ghost use Rattle.ksi_grammar.specs.Published.{recorded_in};
-ghost use Rattle.ksi_publications.specs.declared.fault.PublicationsFault.TheVariants as answers;
 ghost use Rattle.ksi_publications.specs.Tables.{file_table};
 ghost use Rattle.ksi_publications.specs.File.{magic, pairs_of, IsNamed, IsPublications, IsPublicationsFault};
 
@@ -18,16 +19,16 @@ use crate::publications::Publications;
 use ksi_grammar::{
     ElementFault, check, faults_by_table, inside_is_whole, recorded, whole_or_fault,
 };
-use ksi_imprint::Imprint;
-use ksi_tlv::{Elements, Placed};
+use ksi_imprint::{Imprint, Refused};
+use ksi_tlv::{Elements, Placed, after_magic};
 use std::alloc::Global;
 
 /// Reads a publications file. Memory is taken only where the whole file is one.
-pub fn read(alloc: Global, bytes: &[u8]) -> Result<Publications, PublicationsFault>
+pub fn read(alloc: Global, bytes: &[u8]) -> Result<Publications, Refused<PublicationsFault>>
     ensures pairs { IfOk result (λ publications. IsPublications bytes.now publications) }
-    ensures fault { (fault : PublicationsFault) → IsPublicationsFault bytes.now fault → result ≡ Err fault }
-    ensures refused { IfErr result (λ fault. IsPublicationsFault bytes.now fault
-        ⊎ ((fault ≡ answers.NoMemory) × (pairs : List (ℕ × List ℕ)) × IsPublications bytes.now pairs)) }
+    ensures fault { (fault : PublicationsFault) → IsPublicationsFault bytes.now fault → result ≡ Err (Fault fault) }
+    ensures refused { IfRefused result (IsPublicationsFault bytes.now)
+        ((pairs : List (ℕ × List ℕ)) × IsPublications bytes.now pairs) }
 {
     file_or_fault();
     inside_is_whole();
@@ -45,20 +46,13 @@ fn behind_magic(bytes: &[u8]) -> Result<&[u8], PublicationsFault>
 {
     faults_by_table();
     whole_or_fault();
-    let Some(rest) = after_magic(bytes) else {
+    let Some(rest) = after_magic(bytes, MAGIC) else {
         return Err(PublicationsFault::Magic);
     };
     match check::<FileContent>(0, MAGIC.len(), rest) {
         Ok(()) => Ok(rest),
         Err(fault) => Err(named(fault)),
     }
-}
-
-fn after_magic(bytes: &[u8]) -> Option<&[u8]>
-    ensures some { IfSome result (λ rest. bytes.now ≡ magic ++ rest.now) }
-    ensures none { result ≡ None → (rest : List ℕ) → bytes.now ≡ magic ++ rest → ⊥ }
-{
-    bytes.strip_prefix(MAGIC)
 }
 
 /// The fault of a file by that of its first element with one.

@@ -4,18 +4,17 @@ use Rattle.std.specs.List.{AllByRecursion}
 use Rattle.std.proofs.lemmas.List.{append_assoc}
 use Rattle.ksi_imprint.specs.Imprints.{IsImprint, zero_imprint}
 use Rattle.ksi_tlv.specs.Spelling.{AreBytes}
-use Rattle.ksi_aggchain.specs.declared.node.Node.{Node}
+use Rattle.ksi_aggtree.specs.declared.item.Item.{Item}
+use Rattle.ksi_aggtree.specs.declared.second.Second.{Second}
 use Rattle.ksi_aggtree.specs.Rounds.{item_at, tree_of}
 use Rattle.ksi_schedule.specs.declared.event.Event.{Event}
 use Rattle.ksi_schedule.specs.Plans.{PlanState}
 use Rattle.ksi_schedule.specs.Events.{IsEvent, AreEvents}
-use Rattle.ksi_world.specs.declared.kept.KeptSecond.{KeptSecond}
 use Rattle.ksi_world.specs.Histories.{WorldState}
 use Rattle.ksi_world.specs.Records.{kept_seconds, issued_all, issued_among, issued_before, issued_of}
 use Rattle.ksi_world.specs.Validity.{AreRising, AreTimes, EachKept, IsKept, HasImprints}
-use Rattle.ksi_journal.specs.declared.second.Second.{Second}
 use Rattle.ksi_journal.specs.Journal.{IsIssued, IsItem, IsJournal, IsPublication, IsRootOf, IsSecond, RiseFrom}
-use Rattle.ksi_replay.specs.Journals.{second_of, journal_in}
+use Rattle.ksi_replay.specs.Journals.{journal_in}
 
 -- ALL OF A LIST
 
@@ -28,9 +27,9 @@ pub all_more : {A : Type 0} (P : A → Type 0) (xs : List A) (x : A) → AllByRe
 all_more P [] x all more = (more, tt)
 all_more P (y ∷ xs) x all more = (all.0, all_more P xs x all.1 more)
 
-pub each_there : (P : KeptSecond → Type 0) (before : List KeptSecond) (one : KeptSecond) (after : List KeptSecond) → EachKept P (before ++ one ∷ after) → P one
-each_there P [] one after each = each.0
-each_there P (other ∷ before) one after each = each_there P before one after each.1
+pub each_kept : (P : Second → Type 0) (kept : List Second) → AllByRecursion P kept → EachKept P kept
+each_kept P [] all = tt
+each_kept P (one ∷ kept) all = (all.0, each_kept P kept all.1)
 
 -- WHAT RISES
 
@@ -38,7 +37,7 @@ rise_earlier : (least most : ℕ) (ns : List ℕ) → least ≤ most → RiseFro
 rise_earlier least most [] le rise = tt
 rise_earlier least most (n ∷ ns) le rise = (omega (arith, le, rise.0), rise.1)
 
-pub seconds_rise : (from : ℕ) (kept : List KeptSecond) → AreRising from kept → RiseFrom from (map (λ one. one.second) (map second_of kept))
+pub seconds_rise : (from : ℕ) (kept : List Second) → AreRising from kept → RiseFrom from (map (λ one. one.second) kept)
 seconds_rise from [] rising = tt
 seconds_rise from (one ∷ kept) rising = (rising.0, rise_earlier (one.second + 1) (suc one.second) _ (omega arith) (seconds_rise (suc one.second) kept rising.1))
 
@@ -96,16 +95,16 @@ are_publications from (x ∷ xs) times imprints = (record { early = times.1; imp
 
 -- A KEPT SECOND
 
-are_items : (items : List Node) → ((k : ℕ) → (item_at items k).level ≤ 239) → AllByRecursion (λ item. IsImprint item.imprint) items → AllByRecursion IsItem items
+are_items : (items : List Item) → ((k : ℕ) → (item_at items k).level ≤ 239) → AllByRecursion (λ item. IsImprint item.imprint) items → AllByRecursion IsItem items
 are_items [] low imprints = tt
 are_items (item ∷ items) low imprints = (record { imprint = imprints.0; level = low 0 }, are_items items (λ k. low (suc k)) imprints.1)
 
-rooted : (image : List ℕ → List ℕ) (root : List ℕ) (items : List Node) → root ≢ zero_imprint → 1 ≤ length items → (tree_of image items).imprint ≡ root → IsRootOf image items root
+rooted : (image : List ℕ → List ℕ) (root : List ℕ) (items : List Item) → root ≢ zero_imprint → 1 ≤ length items → (tree_of image items).imprint ≡ root → IsRootOf image items root
 rooted image root [] real some tree = absurd (omega (arith, some))
 rooted image root (item ∷ items) real some tree = (real, tree)
 
-pub is_second : (image : List ℕ → List ℕ) (kept : KeptSecond) → kept.second < 2 ^ 63 → IsKept image kept → IsImprint kept.root →
-    AllByRecursion (λ item. IsImprint item.imprint) kept.items → IsSecond image (second_of kept)
+pub is_second : (image : List ℕ → List ℕ) (kept : Second) → kept.second < 2 ^ 63 → IsKept image kept → IsImprint kept.root →
+    AllByRecursion (λ item. IsImprint item.imprint) kept.items → IsSecond image kept
 is_second image kept early (inl missed) root imprints = record {
   early = early;
   imprint = root;
@@ -123,12 +122,12 @@ is_second image kept early (inr tree) root imprints = record {
 
 -- THE JOURNAL OF A HISTORY
 
-seconds_are : (image : List ℕ → List ℕ) (kept : List KeptSecond) → EachKept (λ one. one.second < 2 ^ 63) kept → EachKept (IsKept image) kept → EachKept HasImprints kept
-    → AllByRecursion (IsSecond image) (map second_of kept)
+pub seconds_are : (image : List ℕ → List ℕ) (kept : List Second) → EachKept (λ one. one.second < 2 ^ 63) kept → EachKept (IsKept image) kept → EachKept HasImprints kept
+    → AllByRecursion (IsSecond image) kept
 seconds_are image [] early trees imprints = tt
 seconds_are image (one ∷ kept) early trees imprints = (is_second image one early.0 trees.0 imprints.0.0 imprints.0.1, seconds_are image kept early.1 trees.1 imprints.1)
 
-pub roots_are_bytes : (kept : List KeptSecond) → EachKept (λ one. AreBytes one.root) kept → AllByRecursion (λ (one : Second). AreBytes one.root) (map second_of kept)
+pub roots_are_bytes : (kept : List Second) → EachKept (λ one. AreBytes one.root) kept → AllByRecursion (λ (one : Second). AreBytes one.root) kept
 roots_are_bytes [] are = tt
 roots_are_bytes (one ∷ kept) are = (are.0, roots_are_bytes kept are.1)
 

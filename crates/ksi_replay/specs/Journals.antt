@@ -1,19 +1,13 @@
 -- The journal of a history.
-use Rattle.std.specs.Prelude.{ℕ, List, map}
+use Rattle.std.specs.Prelude.{ℕ, List}
 use Rattle.ksi_schedule.specs.Plans.{PlanState}
 use Rattle.ksi_schedule.specs.Events.{History}
-use Rattle.ksi_world.specs.declared.kept.KeptSecond.{KeptSecond}
 use Rattle.ksi_world.specs.Histories.{WorldState, world_of}
 use Rattle.ksi_world.specs.Records.{kept_seconds, issued_all}
-use Rattle.ksi_journal.specs.declared.second.Second.{Second}
 use Rattle.ksi_journal.specs.Journal.{Contents, contents}
 
--- a kept second as a journal has it
-abbrev pub second_of : KeptSecond → Second
-second_of kept = record { second = kept.second; root = kept.root; items = kept.items }
-
 abbrev pub journal_in : (List ℕ → List ℕ) → PlanState → WorldState → Contents
-journal_in image plan w = contents plan.start (map second_of (kept_seconds image plan w)) (issued_all image w) w.published
+journal_in image plan w = contents plan.start (kept_seconds image plan w) (issued_all image w) w.published
 
 -- the plan's start, what the cores keep, the signatures that were issued and what was published, after all events
 unfoldable pub journal_of : (List ℕ → List ℕ) → History → Contents

@@ -1,21 +1,21 @@
-ghost use Rattle.std.specs.Prelude.{◌≡◌, ◌<◌, ◌≤◌, ◌^◌, ◌++◌, [], IfOk, IfSome, OnOk, length, map};
+ghost use Rattle.std.specs.Prelude.{◌≡◌, ◌<◌, ◌≤◌, ◌^◌, ◌++◌, [], IfOk, IfSome, OnOk, length};
 ghost use Rattle.std.specs.List.{AllByRecursion};
 ghost use Rattle.ksi_imprint.specs.Imprints.{IsImprint};
 ghost use Rattle.ksi_world.specs.Histories.{world_of};
 ghost use Rattle.ksi_world.specs.Records.{issued_all, issued_before};
-ghost use Rattle.ksi_world.specs.Validity.{EachKept, IsKept};
-ghost use Rattle.ksi_journal.specs.Journal.{IsIssued, IsSecond};
-ghost use Rattle.ksi_replay.specs.Journals.{journal_of, second_of};
+ghost use Rattle.ksi_world.specs.Validity.{HasImprints};
+ghost use Rattle.ksi_journal.specs.Journal.{IsIssued};
+ghost use Rattle.ksi_replay.specs.Journals.{journal_of};
 
-use ksi_aggchain::Node;
+use ksi_aggtree::{Item, Second};
 use ksi_imprint::{Bytes, Compress, Imprint, NoMemory};
+use ksi_journal::Journal;
 use ksi_journal::laws::are_bytes;
-use ksi_journal::{Journal, Second};
-use ksi_world::{KeptSecond, World};
+use ksi_world::World;
 use std::alloc::Global;
 
 /// The journal of a world: the kept seconds, each with its root and items, the issued signatures, and what was
-/// published. The items and signatures are made anew, and the world is not changed.
+/// published. All is made anew, and the world is not changed.
 ///
 /// # Errors
 /// `NoMemory`.
@@ -26,39 +26,11 @@ pub fn journal_of<C: Compress>(alloc: Global, world: &World<C>) -> Result<Journa
     let _plan = world.plan();
     let kept = world.kept()?;
     let start = kept.start;
-    let seconds = seconds_of::<C>(alloc, kept.seconds.into_vec())?;
+    let seconds = kept.seconds.into_vec();
+    imprints_of(&seconds);
     let issued = issued(alloc, world)?;
     let publications = publications_of(alloc, world.published())?;
     Journal::new(alloc, start, seconds, issued, publications)
-}
-
-/// The kept seconds as a journal has them.
-fn seconds_of<C: Compress>(alloc: Global, kept: Vec<KeptSecond>) -> Result<Vec<Second>, NoMemory>
-    requires early { EachKept (λ one. one.second < 2 ^ 63) kept.items }
-    requires trees { EachKept (IsKept C.image) kept.items }
-    ensures seconds { IfOk result (λ seconds. seconds.items ≡ map second_of kept.items) }
-    ensures lawful { IfOk result (λ seconds. AllByRecursion (IsSecond C.image) seconds.items) }
-{
-    let mut seconds = Vec::with_capacity(alloc, kept.len())?;
-    'seconds: for one in kept {
-        seconds.push(second_of::<C>(one))?;
-    }
-    Ok(seconds)
-}
-
-fn second_of<C: Compress>(kept: KeptSecond) -> Second
-    requires early { kept.second < 2 ^ 63 }
-    requires tree { IsKept C.image kept }
-    ensures second { result ≡ second_of kept }
-    ensures lawful { IsSecond C.image result }
-{
-    let _root = kept.root.bytes();
-    imprints_in(kept.items.as_slice());
-    Second {
-        second: kept.second,
-        root: kept.root,
-        items: kept.items,
-    }
 }
 
 /// The signatures of all requests that have one, each behind the number of its request.
@@ -93,8 +65,18 @@ fn push_issued(
     Ok(())
 }
 
+/// Their roots and the imprints of their items are imprints, as their type keeps it.
+fn imprints_of(seconds: &[Second])
+    ensures { AllByRecursion HasImprints seconds.now }
+{
+    'seconds: for one in seconds {
+        let _root = one.root.bytes();
+        imprints_in(one.items.as_slice());
+    }
+}
+
 /// All are imprints, as their type keeps it.
-fn imprints_in(items: &[Node])
+fn imprints_in(items: &[Item])
     ensures { AllByRecursion (λ item. IsImprint item.imprint) items.now }
 {
     'items: for item in items {

@@ -7,7 +7,7 @@ use Rattle.std.specs.Str.Parse.{digits_value, AllDigits}
 use Rattle.std.proofs.lemmas.Fmt.{decimal_is_IsNumeral, length-decimal-le}
 use Rattle.std.proofs.lemmas.Bool.{lt-ltb, le-leb, ltb-true, ne_eqb}
 use Rattle.ksi_schedule.specs.Pieces.{Text, lines, words}
-use Rattle.ksi_schedule.specs.Words.{number_of}
+use Rattle.ksi_schedule.specs.Decimal.{number_of}
 use Rattle.ksi_schedule.specs.Printed.{spaced, line_of, text_of_lines}
 use Rattle.ksi_schedule.proofs.Cuts.{Lacks, words-whole, words-cut, lines-cut}
 

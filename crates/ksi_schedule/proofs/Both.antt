@@ -1,5 +1,7 @@
 -- Reading gives what a text spells, and else its first fault.
 use Rattle.std.proofs.Common.{◌≡◌, ◌⊎◌, inl, inr, ℕ, ◌+◌, List, [], ◌∷◌, ◌++◌, length, Result, Ok, Err, refl, sym, ap, subst, ◌∙◌, arith, add-zero}
+use Rattle.ksi_imprint.specs.declared.refused.Refused.{Refused}
+use Rattle.ksi_imprint.specs.declared.refused.Refused.TheVariants as answers
 use Rattle.ksi_schedule.specs.Pieces.{Text, lines}
 use Rattle.ksi_schedule.specs.Events.{History}
 use Rattle.ksi_schedule.specs.Lines.{Said, nothing, title, cores, history, with_line}
@@ -178,22 +180,22 @@ read_faulty text fault n is = from_first text fault n (read_fault 1 n (lines tex
 
 -- ---- what was read, in words
 
-pub told : (text : Text) (r : Result History ScheduleFault) → Reads (schedule_at text) r → Tells text r
+pub told : (text : Text) (r : Result History (Refused ScheduleFault)) → Reads (schedule_at text) r → Tells text r
 told text (Ok h) reads = read_spelled text h reads
-told text (Err (faults.Line fault n)) reads = read_faulty text fault n reads
-told text (Err faults.NoMemory) reads = tt
+told text (Err (answers.Fault (faults.Line fault n))) reads = read_faulty text fault n reads
+told text (Err answers.NoMemory) reads = tt
 
-pub found : (text : Text) (h : History) (r : Result History ScheduleFault) → Reads (schedule_at text) r → IsScheduleText text h → Gives h r
+pub found : (text : Text) (h : History) (r : Result History (Refused ScheduleFault)) → Reads (schedule_at text) r → IsScheduleText text h → Gives h r
 found text h (Ok read) reads spelled = same_history read h (sym reads ∙ spelled_read text h spelled)
-found text h (Err (faults.Line fault n)) reads spelled = differ h (fault, n) (sym (spelled_read text h spelled) ∙ reads)
-found text h (Err faults.NoMemory) reads spelled = tt
+found text h (Err (answers.Fault (faults.Line fault n))) reads spelled = differ h (fault, n) (sym (spelled_read text h spelled) ∙ reads)
+found text h (Err answers.NoMemory) reads spelled = tt
 
-pub refused : (text : Text) (fault : LineFault) (n : ℕ) (r : Result History ScheduleFault) → Reads (schedule_at text) r → IsScheduleFault text fault n → Refuses fault n r
+pub refused : (text : Text) (fault : LineFault) (n : ℕ) (r : Result History (Refused ScheduleFault)) → Reads (schedule_at text) r → IsScheduleFault text fault n → Refuses fault n r
 refused text fault n (Ok read) reads faulty = differ read (fault, n) (sym reads ∙ fault_read text fault n faulty)
-refused text fault n (Err (faults.Line given line)) reads faulty =
+refused text fault n (Err (answers.Fault (faults.Line given line))) reads faulty =
     let e = same_fault (given, line) (fault, n) (sym reads ∙ fault_read text fault n faulty) in
     (ap (λ (x : Fault). x.0) e, ap (λ (x : Fault). x.1) e)
-refused text fault n (Err faults.NoMemory) reads faulty = tt
+refused text fault n (Err answers.NoMemory) reads faulty = tt
 
 -- ---- exactly one of the two
 

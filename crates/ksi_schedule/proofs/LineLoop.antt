@@ -1,14 +1,13 @@
 -- Going over the lines of a text, as a loop does.
 use Rattle.std.proofs.Common.{◌≡◌, ℕ, ◌+◌, List, [], ◌∷◌, Ok, Err, Result, refl, sym, ap, ◌∙◌}
+use Rattle.ksi_imprint.specs.declared.refused.Refused.{Refused}
+use Rattle.ksi_imprint.specs.declared.refused.Refused.TheVariants as refused
 use Rattle.ksi_schedule.specs.Pieces.{Text, words}
 use Rattle.ksi_schedule.specs.Events.{History}
 use Rattle.ksi_schedule.specs.Lines.{history, next_in, with_line}
 use Rattle.ksi_schedule.specs.Reading.{Fault, read_from, Goes, Reads, on_line}
 use Rattle.ksi_schedule.specs.declared.fault.LineFault.{LineFault}
 use Rattle.ksi_schedule.specs.declared.fault.ScheduleFault.{ScheduleFault}
-use Rattle.ksi_schedule.specs.declared.fault.ScheduleFault.TheVariants as faults
-use Rattle.ksi_schedule.specs.declared.fault.Stop.{Stop}
-use Rattle.ksi_schedule.specs.declared.fault.Stop.TheVariants as stops
 
 pub goes_on : (n : ℕ) (ls others : List Text) (line : Text) (h new : History) (whole : Result History Fault) → read_from n ls (history h) ≡ whole → ls ≡ line ∷ others → next_in h (words line) ≡ Ok new → read_from (n + 1) others (history new) ≡ whole
 unfolding read_from with_line
@@ -22,14 +21,14 @@ stopped n ls others line h fault whole left is one =
     let here : read_from n (line ∷ others) (history h) ≡ Err (fault, n) = rw one refl in
     sym left ∙ ap (λ (ls : List Text). read_from n ls (history h)) is ∙ here
 
-pub stops_there : (n : ℕ) (ls others : List Text) (line : Text) (h new : History) (stop : Stop) (whole : Result History Fault) → read_from n ls (history h) ≡ whole → ls ≡ line ∷ others → Goes (next_in h (words line)) new (Err stop) → Reads whole (Err (on_line n stop))
-stops_there n ls others line h new (stops.Fault fault) whole left is one = stopped n ls others line h fault whole left is one
-stops_there n ls others line h new stops.NoMemory whole left is one = tt
+pub stops_there : (n : ℕ) (ls others : List Text) (line : Text) (h new : History) (stop : Refused LineFault) (whole : Result History Fault) → read_from n ls (history h) ≡ whole → ls ≡ line ∷ others → Goes (next_in h (words line)) new (Err stop) → Reads whole (Err (on_line n stop))
+stops_there n ls others line h new (refused.Fault fault) whole left is one = stopped n ls others line h fault whole left is one
+stops_there n ls others line h new refused.NoMemory whole left is one = tt
 
 pub ends : (n : ℕ) (ls : List Text) (h : History) (whole : Result History Fault) → read_from n ls (history h) ≡ whole → ls ≡ [] → whole ≡ Ok h
 unfolding read_from
 ends n ls h whole left is = sym left ∙ ap (λ (ls : List Text). read_from n ls (history h)) is
 
-pub wants_memory : (n : ℕ) (stop : Stop) (fault : ScheduleFault) → fault ≡ on_line n stop → fault ≡ faults.NoMemory → stop ≡ stops.NoMemory
-wants_memory n (stops.Fault other) fault is memory = absurd cc
-wants_memory n stops.NoMemory fault is memory = refl
+pub wants_memory : (n : ℕ) (stop : Refused LineFault) (given : Refused ScheduleFault) → given ≡ on_line n stop → given ≡ refused.NoMemory → stop ≡ refused.NoMemory
+wants_memory n (refused.Fault other) given is memory = absurd cc
+wants_memory n refused.NoMemory given is memory = refl

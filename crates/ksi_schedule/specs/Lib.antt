@@ -2,6 +2,7 @@ pub mod Plans
 pub mod Events
 pub mod Schedules
 pub mod Pieces
+pub mod Decimal
 pub mod Words
 pub mod Forms
 pub mod Lines

@@ -4,7 +4,8 @@ use Rattle.std.specs.Str.{bytes_eq}
 use Rattle.ksi_schedule.specs.Pieces.{Text, words}
 use Rattle.ksi_schedule.specs.Plans.{PlanState, parent_of}
 use Rattle.ksi_schedule.specs.Events.{History, with_event}
-use Rattle.ksi_schedule.specs.Words.{number_of, or_fault, form_at, kind_at, ◌>>=◌}
+use Rattle.ksi_schedule.specs.Decimal.{number_of}
+use Rattle.ksi_schedule.specs.Words.{or_fault, form_at, kind_at, ◌>>=◌}
 use Rattle.ksi_schedule.specs.Forms.{event_kinds, aggregator_line}
 use Rattle.ksi_schedule.specs.declared.actor.Actor.{Actor}
 use Rattle.ksi_schedule.specs.declared.actor.Actor.TheVariants as actors

@@ -2,6 +2,8 @@
 -- the law `schedule_is_read` says that these are one.
 use Rattle.std.specs.Borrow.{Bor}
 use Rattle.std.specs.Prelude.{◌≡◌, ◌<◌, ℕ, ◌+◌, List, [], ◌∷◌, length, Option, Some, None, IfSome, Result, Ok, Err}
+use Rattle.ksi_imprint.specs.declared.refused.Refused.{Refused}
+use Rattle.ksi_imprint.specs.declared.refused.Refused.TheVariants as refused
 use Rattle.ksi_schedule.specs.Pieces.{Text, lines, words}
 use Rattle.ksi_schedule.specs.Events.{History}
 use Rattle.ksi_schedule.specs.Lines.{Said, nothing, history, with_line}
@@ -9,8 +11,6 @@ use Rattle.ksi_schedule.specs.declared.fault.LineFault.{LineFault}
 use Rattle.ksi_schedule.specs.declared.fault.LineFault.TheVariants.{Header}
 use Rattle.ksi_schedule.specs.declared.fault.ScheduleFault.{ScheduleFault}
 use Rattle.ksi_schedule.specs.declared.fault.ScheduleFault.TheVariants as faults
-use Rattle.ksi_schedule.specs.declared.fault.Stop.{Stop}
-use Rattle.ksi_schedule.specs.declared.fault.Stop.TheVariants as stops
 
 -- a fault and its line
 abbrev pub Fault : Type 0
@@ -35,20 +35,20 @@ schedule_at text = read_from 1 (lines text) nothing
 -- ---- in the code
 
 -- what was read, but for want of memory
-abbrev pub Reads : Result History Fault → Result History ScheduleFault → Type 0
+abbrev pub Reads : Result History Fault → Result History (Refused ScheduleFault) → Type 0
 Reads expected (Ok h) = expected ≡ Ok h
-Reads expected (Err (faults.Line fault n)) = expected ≡ Err (fault, n)
-Reads expected (Err faults.NoMemory) = Unit {0}
+Reads expected (Err (refused.Fault (faults.Line fault n))) = expected ≡ Err (fault, n)
+Reads expected (Err refused.NoMemory) = Unit {0}
 
 -- what a line came to, but for want of memory
-abbrev pub Goes : Result History LineFault → History → Result (Unit {0}) Stop → Type 0
+abbrev pub Goes : Result History LineFault → History → Result (Unit {0}) (Refused LineFault) → Type 0
 Goes expected new (Ok u) = expected ≡ Ok new
-Goes expected new (Err (stops.Fault fault)) = expected ≡ Err fault
-Goes expected new (Err stops.NoMemory) = Unit {0}
+Goes expected new (Err (refused.Fault fault)) = expected ≡ Err fault
+Goes expected new (Err refused.NoMemory) = Unit {0}
 
-abbrev pub on_line : ℕ → Stop → ScheduleFault
-on_line n (stops.Fault fault) = faults.Line fault n
-on_line n stops.NoMemory = faults.NoMemory
+abbrev pub on_line : ℕ → Refused LineFault → Refused ScheduleFault
+on_line n (refused.Fault fault) = refused.Fault (faults.Line fault n)
+on_line n refused.NoMemory = refused.NoMemory
 
 abbrev pub lines_left : Option (Bor Text) → List Text
 lines_left None = []

@@ -1,5 +1,7 @@
 -- Which texts are which schedule, and the first fault of a text that is none.
 use Rattle.std.specs.Prelude.{◌≡◌, ◌⊎◌, ℕ, ◌+◌, List, [], ◌∷◌, ◌++◌, length, Result, Ok, Err, IsOk}
+use Rattle.ksi_imprint.specs.declared.refused.Refused.{Refused}
+use Rattle.ksi_imprint.specs.declared.refused.Refused.TheVariants as refused
 use Rattle.ksi_schedule.specs.Pieces.{Text, lines, words}
 use Rattle.ksi_schedule.specs.Events.{History}
 use Rattle.ksi_schedule.specs.Lines.{Said, nothing, history, next_in, with_line}
@@ -59,19 +61,19 @@ IsWanting text = IsWantingFrom nothing (lines text)
 -- ---- answers of `read_schedule`
 
 -- the schedule is that of the text, and a fault is its first
-abbrev pub Tells : Text → Result History ScheduleFault → Type 0
+abbrev pub Tells : Text → Result History (Refused ScheduleFault) → Type 0
 Tells text (Ok h) = IsScheduleText text h
-Tells text (Err (faults.Line fault n)) = IsScheduleFault text fault n
-Tells text (Err faults.NoMemory) = Unit {0}
+Tells text (Err (refused.Fault (faults.Line fault n))) = IsScheduleFault text fault n
+Tells text (Err refused.NoMemory) = Unit {0}
 
 -- this schedule is given, or there is no memory
-abbrev pub Gives : History → Result History ScheduleFault → Type 0
+abbrev pub Gives : History → Result History (Refused ScheduleFault) → Type 0
 Gives h (Ok read) = read ≡ h
-Gives h (Err (faults.Line fault n)) = ⊥
-Gives h (Err faults.NoMemory) = Unit {0}
+Gives h (Err (refused.Fault (faults.Line fault n))) = ⊥
+Gives h (Err refused.NoMemory) = Unit {0}
 
 -- this fault is given, or there is no memory
-abbrev pub Refuses : LineFault → ℕ → Result History ScheduleFault → Type 0
+abbrev pub Refuses : LineFault → ℕ → Result History (Refused ScheduleFault) → Type 0
 Refuses fault n (Ok read) = ⊥
-Refuses fault n (Err (faults.Line given line)) = (given ≡ fault) × (line ≡ n)
-Refuses fault n (Err faults.NoMemory) = Unit {0}
+Refuses fault n (Err (refused.Fault (faults.Line given line))) = (given ≡ fault) × (line ≡ n)
+Refuses fault n (Err refused.NoMemory) = Unit {0}

@@ -1,12 +1,10 @@
 -- The sorts of words that stand in a line, what a word of each stands for, and the forms of lines.
-use Rattle.std.specs.Prelude.{ℕ, ◌+◌, ◌-◌, ◌*◌, ◌^◌, List, [], ◌∷◌, length, Bool, true, false, ◌&&◌, ◌==◌, nat_lt, nat_le, Option, Some, None, Result, Ok, Err, if◌then◌else◌}
-use Rattle.std.specs.Char.{is_ascii_digit}
-use Rattle.std.specs.List.{list_all}
+use Rattle.std.specs.Prelude.{ℕ, ◌+◌, ◌^◌, List, [], ◌∷◌, length, Bool, true, false, ◌&&◌, ◌==◌, nat_lt, nat_le, Option, Some, None, Result, Ok, Err, if◌then◌else◌}
 use Rattle.std.specs.Str.{bytes_eq}
-use Rattle.std.specs.Str.Parse.{digits_value}
 use Rattle.ksi_imprint.specs.Reading.{hex_at}
 use Rattle.ksi_imprint.specs.declared.fault.HexFault.{HexFault}
 use Rattle.ksi_schedule.specs.Pieces.{Text}
+use Rattle.ksi_schedule.specs.Decimal.{number_of}
 use Rattle.ksi_schedule.specs.Plans.{PlanState}
 use Rattle.ksi_schedule.specs.declared.fault.LineFault.{LineFault}
 use Rattle.ksi_schedule.specs.declared.fault.LineFault.TheVariants.{Word, Number, Hash, NoSuchActor, SecondOutOfRange}
@@ -21,12 +19,6 @@ or_fault fault None = Err fault
 or_fault fault (Some x) = Ok x
 
 -- ---- numbers and digests
-
--- the number of 1 to 20 decimal digits that is at most 2^64 - 1
-unfoldable pub number_of : Text → Option ℕ
-number_of word =
-    if nat_lt 0 (length word) && nat_le (length word) 20 && list_all is_ascii_digit word && nat_lt (digits_value 10 word) (2 ^ 64)
-    then Some (digits_value 10 word) else None
 
 abbrev pub number_at : Text → Result ℕ LineFault
 number_at word = or_fault Number (number_of word)
@@ -133,10 +125,3 @@ pub record Kind (A : Type 0) : Type 0 where
 abbrev pub kind_at : {A : Type 0} → PlanState → List (Kind A) → (name : Text) → (words : List Text) → Result A LineFault
 kind_at plan [] name words = Err Word
 kind_at plan (kind ∷ kinds) name words = if bytes_eq name kind.name then form_at plan kind.forms words else kind_at plan kinds name words
-
--- ---- in the code
-
--- the number that digits write behind those of n, while it stays below 2^64
-abbrev pub digits_after : ℕ → Text → Option ℕ
-digits_after n [] = Some n
-digits_after n (c ∷ cs) = if is_ascii_digit c && nat_lt (10 * n + (c - 48)) (2 ^ 64) then digits_after (10 * n + (c - 48)) cs else None

@@ -22,13 +22,4 @@ pub enum LineFault {
 pub enum ScheduleFault {
     /// The first line with a fault, counted from 1.
     Line(LineFault, u64),
-    /// There was no memory to keep the schedule.
-    NoMemory,
-}
-
-/// Why a line is not taken.
-#[derive(Clone, Copy)]
-pub(crate) enum Stop {
-    Fault(LineFault),
-    NoMemory,
 }

@@ -5,19 +5,21 @@
 //! the schedule that the lines of a text say, or the first line that is not as it must be, with its fault; what [`print`]
 //! gives is a text that says the schedule again. Every text says one schedule or has one first fault, and not both, and
 //! what it says is within the limits, by the laws [`schedule_or_fault`] and [`spelled_is_schedule`]. Reading goes over the
-//! text once and keeps nothing but the schedule's own lists.
+//! text once and keeps nothing but the schedule's own lists. [`read_number`] reads a number of decimal digits, in a
+//! schedule and in a command's words alike.
 //!
 //! ```text
 //! match read_schedule(alloc, b"ksi-schedule 1\ncores 3\nstart 1700000000\nseal 0 1700000000\n") {
 //!     Ok(schedule) => run(schedule.plan(), schedule.events()),
-//!     Err(ScheduleFault::Line(fault, line)) => tell(fault, line),
-//!     Err(ScheduleFault::NoMemory) => {}
+//!     Err(Refused::Fault(ScheduleFault::Line(fault, line))) => tell(fault, line),
+//!     Err(Refused::NoMemory) => {}
 //! }
 //! ```
 #![tactic(auto)]
 
 mod actor;
 mod cut;
+mod decimal;
 mod event;
 mod fault;
 mod growing;
@@ -30,9 +32,10 @@ mod schedule;
 mod word;
 
 pub use actor::Actor;
+pub use decimal::read_number;
 pub use event::Event;
 pub use fault::{LineFault, ScheduleFault};
-pub use ksi_imprint::NoMemory;
+pub use ksi_imprint::{NoMemory, Refused};
 pub use laws::{schedule_is_read, schedule_or_fault, spelled_is_schedule};
 pub use plan::{Parents, Plan};
 pub use printing::print;

@@ -1,5 +1,6 @@
 // Reading the text of a schedule, line by line.
 ghost use Rattle.std.specs.Prelude.{◌≡◌, ◌≤◌, ◌-◌, ◌^◌, ◌∷◌, [], ℕ, length, Err, IsOk, IfSome};
+ghost use Rattle.ksi_imprint.specs.declared.refused.Refused.TheVariants as refused;
 ghost use Rattle.ksi_schedule.specs.Pieces.{lines, words};
 ghost use Rattle.ksi_schedule.specs.Plans.{IsParent};
 ghost use Rattle.ksi_schedule.specs.Events.{History};
@@ -7,17 +8,17 @@ ghost use Rattle.ksi_schedule.specs.Lines.{history, nothing, next_in, next_paren
 ghost use Rattle.ksi_schedule.specs.Spelled.{IsScheduleText, IsScheduleFault, IsWanting, IsWantingFrom, Tells, Gives, Refuses};
 ghost use Rattle.ksi_schedule.specs.Reading.{Goes, Reads, on_line, read_from, schedule_at, words_left};
 ghost use Rattle.ksi_schedule.specs.declared.fault.LineFault.{LineFault as TheLineFault};
-ghost use Rattle.ksi_schedule.specs.declared.fault.ScheduleFault.TheVariants as faults;
-ghost use Rattle.ksi_schedule.specs.declared.fault.Stop.TheVariants as stops;
+ghost use Rattle.ksi_schedule.specs.declared.fault.ScheduleFault.TheVariants.{Line};
 
 use crate::actor::Actor;
 use crate::cut::{Words, cut, next_line, one};
-use crate::fault::{LineFault, ScheduleFault, Stop};
+use crate::decimal::read_number;
+use crate::fault::{LineFault, ScheduleFault};
 use crate::growing::reaches_core;
 use crate::plan::{Parents, Plan};
 use crate::rows::{event, is, parent};
 use crate::schedule::{Events, Schedule};
-use crate::word::value;
+use ksi_imprint::Refused;
 use std::alloc::Global;
 
 const AGGREGATORS: usize = 4096;
@@ -33,37 +34,37 @@ const LAST_START: u64 = 0x7fff_ffff_ff00_0000;
 /// The first line that is not as it must be, with its fault; `NoMemory` where the schedule has no room for an aggregator
 /// or an event, whose line has no fault.
 #[tactic(auto, using(crate::proofs::Both::told, crate::proofs::Both::found, crate::proofs::Both::refused))]
-pub fn read_schedule(alloc: Global, text: &[u8]) -> Result<Schedule, ScheduleFault>
+pub fn read_schedule(alloc: Global, text: &[u8]) -> Result<Schedule, Refused<ScheduleFault>>
     ensures told { Tells text.now result }
     ensures found { (h : History) → IsScheduleText text.now h → Gives h result }
     ensures refused { (fault : TheLineFault) (n : ℕ) → IsScheduleFault text.now fault n → Refuses fault n result }
-    ensures memory { result ≡ Err faults.NoMemory → IsWanting text.now }
+    ensures memory { result ≡ Err refused.NoMemory → IsWanting text.now }
 {
     read(alloc, text)
 }
 
 #[tactic(auto, unfolding(crate::specs::Reading::schedule_at, crate::specs::Reading::read_from, crate::specs::Lines::with_line, crate::specs::Lines::number_in))]
-fn read(alloc: Global, text: &[u8]) -> Result<Schedule, ScheduleFault>
+fn read(alloc: Global, text: &[u8]) -> Result<Schedule, Refused<ScheduleFault>>
     ensures read { Reads (schedule_at text.now) result }
-    ensures memory { result ≡ Err faults.NoMemory → IsWantingFrom nothing (lines text.now) }
+    ensures memory { result ≡ Err refused.NoMemory → IsWantingFrom nothing (lines text.now) }
 {
     let Some((line, text)) = next_line(text) else {
-        return Err(ScheduleFault::Line(LineFault::Header, 1))
+        return Err(faulty(LineFault::Header, 1))
     };
     if !is(line, b"ksi-schedule 1") {
-        return Err(ScheduleFault::Line(LineFault::Header, 1));
+        return Err(faulty(LineFault::Header, 1));
     }
     let Some((line, text)) = next_line(text) else {
-        return Err(ScheduleFault::Line(LineFault::Header, 2))
+        return Err(faulty(LineFault::Header, 2))
     };
     let Some(cores) = number_line(b"cores", 1, 9, line) else {
-        return Err(ScheduleFault::Line(LineFault::Header, 2))
+        return Err(faulty(LineFault::Header, 2))
     };
     let Some((line, text)) = next_line(text) else {
-        return Err(ScheduleFault::Line(LineFault::Header, 3))
+        return Err(faulty(LineFault::Header, 3))
     };
     let Some(start) = number_line(b"start", 0, LAST_START, line) else {
-        return Err(ScheduleFault::Line(LineFault::Header, 3))
+        return Err(faulty(LineFault::Header, 3))
     };
     read_rest(bare(alloc, cores as u8, start), text)
 }
@@ -87,7 +88,11 @@ fn number_after(name: &[u8], first: &[u8], words: Words<'_>) -> Option<u64>
     ensures { result ≡ number_behind name.now (first.now ∷ words_left words.entry) }
 {
     let word = one(words)?;
-    if is(first, name) { value(word) } else { None }
+    if is(first, name) {
+        read_number(word)
+    } else {
+        None
+    }
 }
 
 // The plan of no aggregators, and no events.
@@ -107,9 +112,9 @@ fn bare(alloc: Global, cores: u8, start: u64) -> Schedule
 }
 
 // The lines behind the first three.
-fn read_rest(schedule: Schedule, text: &[u8]) -> Result<Schedule, ScheduleFault>
+fn read_rest(schedule: Schedule, text: &[u8]) -> Result<Schedule, Refused<ScheduleFault>>
     ensures read { Reads (read_from 4 (lines text.now) (history schedule)) result }
-    ensures memory { result ≡ Err faults.NoMemory → IsWantingFrom (history schedule) (lines text.now) }
+    ensures memory { result ≡ Err refused.NoMemory → IsWantingFrom (history schedule) (lines text.now) }
 {
     let mut schedule = schedule;
     let mut rest = text;
@@ -117,7 +122,7 @@ fn read_rest(schedule: Schedule, text: &[u8]) -> Result<Schedule, ScheduleFault>
     'reading: while let Some((line, others)) = next_line(rest) {
         match take_line(&mut schedule, line) {
             Ok(()) => {}
-            Err(stop) => return Err(on_line(number, stop)),
+            Err(refused) => return Err(on_line(number, refused)),
         }
         rest = others;
         number = number.saturating_add(1);
@@ -125,54 +130,60 @@ fn read_rest(schedule: Schedule, text: &[u8]) -> Result<Schedule, ScheduleFault>
     Ok(schedule)
 }
 
-fn on_line(number: u64, stop: Stop) -> ScheduleFault
-    ensures { result ≡ on_line number stop }
+fn on_line(number: u64, refused: Refused<LineFault>) -> Refused<ScheduleFault>
+    ensures { result ≡ on_line number refused }
 {
-    match stop {
-        Stop::Fault(fault) => ScheduleFault::Line(fault, number),
-        Stop::NoMemory => ScheduleFault::NoMemory,
+    match refused {
+        Refused::Fault(fault) => faulty(fault, number),
+        Refused::NoMemory => Refused::NoMemory,
     }
+}
+
+fn faulty(fault: LineFault, number: u64) -> Refused<ScheduleFault>
+    ensures { result ≡ refused.Fault (Line fault number) }
+{
+    Refused::Fault(ScheduleFault::Line(fault, number))
 }
 
 // One line more.
 #[tactic(auto, unfolding(crate::specs::Lines::next_in))]
-fn take_line(schedule: &mut Schedule, line: &[u8]) -> Result<(), Stop>
+fn take_line(schedule: &mut Schedule, line: &[u8]) -> Result<(), Refused<LineFault>>
     ensures read { Goes (next_in schedule.old (words line.now)) schedule.new result }
-    ensures memory { result ≡ Err stops.NoMemory → IsOk (next_in schedule.old (words line.now)) }
+    ensures memory { result ≡ Err refused.NoMemory → IsOk (next_in schedule.old (words line.now)) }
 {
     let (name, words) = cut(b' ', line);
     if schedule.events().len() >= EVENTS {
-        return Err(Stop::Fault(LineFault::TooManyEvents));
+        return Err(Refused::Fault(LineFault::TooManyEvents));
     }
     if is(name, b"aggregator") && schedule.events().is_empty() {
         return match parent(schedule.plan(), words) {
             Ok((number, parent)) => take_parent(schedule, number, parent),
-            Err(fault) => Err(Stop::Fault(fault)),
+            Err(fault) => Err(Refused::Fault(fault)),
         };
     }
     match event(schedule.plan(), name, words) {
         Ok(event) => match schedule.push_event(event) {
             Ok(()) => Ok(()),
-            Err(_) => Err(Stop::NoMemory),
+            Err(_) => Err(Refused::NoMemory),
         },
-        Err(fault) => Err(Stop::Fault(fault)),
+        Err(fault) => Err(Refused::Fault(fault)),
     }
 }
 
 // One aggregator more, of this number.
 #[tactic(auto, unfolding(crate::specs::Lines::next_parent))]
-fn take_parent(schedule: &mut Schedule, number: u64, parent: Actor) -> Result<(), Stop>
+fn take_parent(schedule: &mut Schedule, number: u64, parent: Actor) -> Result<(), Refused<LineFault>>
     requires none { schedule.old.events ≡ [] }
     requires there { IsParent schedule.old.plan.cores (length schedule.old.plan.parents) parent }
     ensures read { Goes (next_parent schedule.old (number, parent)) schedule.new result }
-    ensures memory { result ≡ Err stops.NoMemory → IsOk (next_parent schedule.old (number, parent)) }
+    ensures memory { result ≡ Err refused.NoMemory → IsOk (next_parent schedule.old (number, parent)) }
 {
     let count = schedule.plan().aggregators();
     if number != count as u64 || count >= AGGREGATORS || !reaches_core(schedule.plan(), 7, parent) {
-        return Err(Stop::Fault(LineFault::Header));
+        return Err(Refused::Fault(LineFault::Header));
     }
     match schedule.push_parent(parent) {
         Ok(()) => Ok(()),
-        Err(_) => Err(Stop::NoMemory),
+        Err(_) => Err(Refused::NoMemory),
     }
 }

@@ -1,8 +1,9 @@
 // What a word of a line stands for.
 ghost use Rattle.std.specs.Prelude.{◌≡◌, ◌<◌, IfOk, length};
 ghost use Rattle.ksi_schedule.specs.Plans.{InRange};
-ghost use Rattle.ksi_schedule.specs.Words.{number_of, number_at, core_at, aggregator_at, time_word, digest_at, digits_after};
+ghost use Rattle.ksi_schedule.specs.Words.{number_at, core_at, aggregator_at, time_word, digest_at};
 
+use crate::decimal::read_number;
 use crate::fault::LineFault;
 use crate::plan::Plan;
 use ksi_imprint::Imprint;
@@ -49,38 +50,10 @@ pub(crate) fn second(plan: &Plan, word: &[u8]) -> Result<u64, LineFault>
 pub(crate) fn number(word: &[u8]) -> Result<u64, LineFault>
     ensures { result ≡ number_at word.now }
 {
-    match value(word) {
+    match read_number(word) {
         Some(n) => Ok(n),
         None => Err(LineFault::Number),
     }
-}
-
-// 1 to 20 decimal digits of at most 2^64 - 1.
-#[tactic(auto, using(crate::proofs::Numbers::number_by_steps, crate::proofs::Numbers::no_number))]
-pub(crate) fn value(word: &[u8]) -> Option<u64>
-    ensures { result ≡ number_of word.now }
-{
-    if word.is_empty() || word.len() > 20 {
-        return None;
-    }
-    digits(word)
-}
-
-fn digits(word: &[u8]) -> Option<u64>
-    ensures { result ≡ digits_after 0 word.now }
-{
-    let mut value: u64 = 0;
-    for byte in word {
-        if !byte.is_ascii_digit() {
-            return None;
-        }
-        let digit = u64::from(*byte - b'0');
-        if value > (u64::MAX - digit) / 10 {
-            return None;
-        }
-        value = 10 * value + digit;
-    }
-    Some(value)
 }
 
 pub(crate) fn digest(word: &[u8]) -> Result<Imprint, LineFault>

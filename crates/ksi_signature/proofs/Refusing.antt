@@ -1,64 +1,38 @@
 -- What is answered where a signature is given another calendar chain.
-use Rattle.std.proofs.Common.{◌≡◌, ◌⊎◌, ℕ, ◌-◌, ◌<◌, ◌≤◌, Bool, true, false, cond, ltb, List, [], ◌∷◌, ◌++◌, length, map, Option, Some, Result, Ok, Err, refl, sym, ap, subst, ◌∙◌, inl, inr, arith}
+use Rattle.std.proofs.Common.{◌≡◌, ◌⊎◌, ℕ, ◌-◌, ◌<◌, ◌≤◌, Bool, true, false, cond, ltb, List, [], ◌∷◌, ◌++◌, length, map, Option, Some, Result, Ok, Err, refl, sym, ap, ◌∙◌, inl, inr, arith}
 use Rattle.std.specs.Prelude.{◌↔◌}
 use Rattle.std.proofs.lemmas.Bool.{ltb-true}
 use Rattle.std.proofs.lemmas.List.{append-nil, length-append}
+use Rattle.ksi_imprint.specs.declared.refused.Refused.{Refused}
+use Rattle.ksi_imprint.specs.declared.refused.Refused.TheVariants.{Fault, NoMemory}
 use Rattle.ksi_tlv.specs.Spelling.{Tlv, plain, canonical}
 use Rattle.ksi_tlv.specs.Front.{element_at}
 use Rattle.ksi_tlv.specs.Walking.{PlacedTlv, elements}
 use Rattle.ksi_tlv.specs.Writing.{texts}
-use Rattle.ksi_grammar.specs.declared.fault.ElementFault.{ElementFault}
-use Rattle.ksi_grammar.specs.declared.fault.ElementFault.TheVariants as faults
 use Rattle.ksi_grammar.specs.Inside.{whole}
 use Rattle.ksi_grammar.specs.Published.{published_elements}
 use Rattle.ksi_signature.specs.declared.fault.SignatureFault.{SignatureFault}
-use Rattle.ksi_signature.specs.declared.fault.SignatureFault.TheVariants as answers
 use Rattle.ksi_signature.specs.declared.refusal.WriteRefusal.{WriteRefusal}
 use Rattle.ksi_signature.specs.declared.refusal.WriteRefusal.TheVariants as unwritten
 use Rattle.ksi_signature.specs.declared.extension.WithRefusal.{WithRefusal}
 use Rattle.ksi_signature.specs.declared.extension.WithRefusal.TheVariants as refusals
 use Rattle.ksi_signature.specs.Values.{Calendar, Publishing}
-use Rattle.ksi_signature.specs.File.{Answer, name_of, IsSignatureFault}
+use Rattle.ksi_signature.specs.File.{Answer}
 use Rattle.ksi_signature.specs.Lengths.{capped}
 use Rattle.ksi_signature.specs.Written.{publishing_elements, first_long, TellsLong}
 use Rattle.ksi_signature.specs.Reading.{held_by}
 use Rattle.ksi_signature.specs.Extended.{content_with, extended_content, IsTooLong}
 use Rattle.ksi_signature.proofs.Capped.{size-canonical, length-joined}
 
--- ---- a fault is never want of memory
-
-no_name : (fault : ElementFault) → answers.NoMemory ≡ name_of fault → ⊥
-no_name (faults.Tlv place) is = absurd cc
-no_name (faults.RefusedElement kind place) is = absurd cc
-no_name (faults.UnknownCritical kind place) is = absurd cc
-no_name (faults.Missing kind place) is = absurd cc
-no_name (faults.Repeated kind place) is = absurd cc
-no_name (faults.Imprint place) is = absurd cc
-no_name (faults.Number place) is = absurd cc
-no_name (faults.Algorithm value) is = absurd cc
-no_name (faults.Links place) is = absurd cc
-no_name (faults.Chains place) is = absurd cc
-no_name (faults.Sibling place) is = absurd cc
-no_name (faults.Time place) is = absurd cc
-
-no_memory : (bytes : List ℕ) → IsSignatureFault bytes answers.NoMemory → ⊥
-no_memory bytes (inl h) = let is = h.named in absurd cc
-no_memory bytes (inr (inl k)) = let is = k.named in absurd cc
-no_memory bytes (inr (inr (inl i))) = no_name i.inner i.named
-no_memory bytes (inr (inr (inr b))) = let is = b.named in absurd cc
-
 -- ---- the clauses, by what reading answers
 
-pub malformed_is : {A : Type 0} (a : Answer) (fault f : SignatureFault) (F : Type 0) (r : Result A WithRefusal) → a ≡ Err fault → (a ≡ Err f) ↔ F → r ≡ Err (refusals.Malformed fault) → (r ≡ Err (refusals.Malformed f)) ↔ F
+pub malformed_is : {A : Type 0} (a : Answer) (fault f : SignatureFault) (F : Type 0) (r : Result A (Refused WithRefusal)) → a ≡ Err fault → (a ≡ Err f) ↔ F → r ≡ Err (Fault (refusals.Malformed fault)) → (r ≡ Err (Fault (refusals.Malformed f))) ↔ F
 malformed_is a fault f F r e law is = (λ same. law.0 (let one : fault ≡ f = cc in cc), λ stands. let here = law.1 stands in cc)
 
-pub malformed_not : {A : Type 0} (a : Answer) (f : SignatureFault) (F : Type 0) (r : Result A WithRefusal) → a ≡ Ok tt → (a ≡ Err f) ↔ F → (r ≡ Err (refusals.Malformed f) → ⊥) → (r ≡ Err (refusals.Malformed f)) ↔ F
+pub malformed_not : {A : Type 0} (a : Answer) (f : SignatureFault) (F : Type 0) (r : Result A (Refused WithRefusal)) → a ≡ Ok tt → (a ≡ Err f) ↔ F → (r ≡ Err (Fault (refusals.Malformed f)) → ⊥) → (r ≡ Err (Fault (refusals.Malformed f))) ↔ F
 malformed_not a f F r e law never = (λ is. absurd (never is), λ stands. let here = law.1 stands in absurd cc)
 
-pub never_memory : {A : Type 0} (bytes : List ℕ) (a : Answer) (fault : SignatureFault) (r : Result A WithRefusal) → a ≡ Err fault → (a ≡ Err fault) ↔ IsSignatureFault bytes fault → r ≡ Err (refusals.Malformed fault) → r ≡ Err (refusals.Malformed answers.NoMemory) → ⊥
-never_memory bytes a fault r e law is other = let memory : fault ≡ answers.NoMemory = cc in no_memory bytes (subst (IsSignatureFault bytes) memory (law.0 e))
-
-pub long_no_signature : {A : Type 0} (a : Answer) (fault : SignatureFault) (S : Type 0) (size n : ℕ) (r : Result A WithRefusal) → a ≡ Err fault → (a ≡ Ok tt) ↔ S → r ≡ Err (refusals.Malformed fault) → (r ≡ Err (refusals.TooLong n)) ↔ (S × IsTooLong size n)
+pub long_no_signature : {A : Type 0} (a : Answer) (fault : SignatureFault) (S : Type 0) (size n : ℕ) (r : Result A (Refused WithRefusal)) → a ≡ Err fault → (a ≡ Ok tt) ↔ S → r ≡ Err (Fault (refusals.Malformed fault)) → (r ≡ Err (Fault (refusals.TooLong n))) ↔ (S × IsTooLong size n)
 long_no_signature a fault S size n r e law is = (λ long. absurd cc, λ h. let ok = law.1 h.0 in absurd cc)
 
 above : (size total : ℕ) → total ≡ capped size → 65535 < total → 65535 < size
@@ -67,13 +41,13 @@ above size total is lt = grind (arith, is, lt)
 pub within : (size total : ℕ) → total ≡ capped size → total ≤ 65535 → size ≤ 65535
 within size total is le = grind (arith, is, le)
 
-pub long_is : {A : Type 0} (a : Answer) (S : Type 0) (size total n : ℕ) (r : Result A WithRefusal) → a ≡ Ok tt → (a ≡ Ok tt) ↔ S → total ≡ capped size → 65535 < total → r ≡ Err (refusals.TooLong total) → (r ≡ Err (refusals.TooLong n)) ↔ (S × IsTooLong size n)
+pub long_is : {A : Type 0} (a : Answer) (S : Type 0) (size total n : ℕ) (r : Result A (Refused WithRefusal)) → a ≡ Ok tt → (a ≡ Ok tt) ↔ S → total ≡ capped size → 65535 < total → r ≡ Err (Fault (refusals.TooLong total)) → (r ≡ Err (Fault (refusals.TooLong n))) ↔ (S × IsTooLong size n)
 long_is a S size total n r e law capped_is lt is = (
   λ long. let one : total ≡ n = cc in (law.0 e, record { long = above size total capped_is lt; number = sym one ∙ capped_is }),
   λ h. let number = h.1.number in cc,
 )
 
-pub long_not : {A : Type 0} (S : Type 0) (size total n : ℕ) (r : Result A WithRefusal) → total ≡ capped size → total ≤ 65535 → (r ≡ Err (refusals.TooLong n) → ⊥) → (r ≡ Err (refusals.TooLong n)) ↔ (S × IsTooLong size n)
+pub long_not : {A : Type 0} (S : Type 0) (size total n : ℕ) (r : Result A (Refused WithRefusal)) → total ≡ capped size → total ≤ 65535 → (r ≡ Err (Fault (refusals.TooLong n)) → ⊥) → (r ≡ Err (Fault (refusals.TooLong n))) ↔ (S × IsTooLong size n)
 long_not S size total n r is le never =
     (λ long. absurd (never long), λ h. let lt = h.1.long in let short = within size total is le in absurd (omega arith))
 
@@ -107,13 +81,13 @@ long_among kind (body ∷ bodies) more n is =
 none_long : (n : ℕ) → first_long [] ≡ Some n → ⊥
 none_long n is = absurd cc
 
-tells_some : {A : Type 0} (sizes : List ℕ) (r : Result A WriteRefusal) (n : ℕ) → TellsLong sizes r → r ≡ Err (unwritten.TooLong n) → first_long sizes ≡ Some n
+tells_some : {A : Type 0} (sizes : List ℕ) (r : Result A (Refused WriteRefusal)) (n : ℕ) → TellsLong sizes r → r ≡ Err (Fault (unwritten.TooLong n)) → first_long sizes ≡ Some n
 tells_some sizes (Ok value) n tells is = absurd cc
-tells_some sizes (Err unwritten.NoMemory) n tells is = absurd cc
-tells_some sizes (Err (unwritten.TooLong size)) n tells is = let same : size ≡ n = cc in tells ∙ ap (λ (n : ℕ). Some n) same
+tells_some sizes (Err NoMemory) n tells is = absurd cc
+tells_some sizes (Err (Fault (unwritten.TooLong size))) n tells is = let same : size ≡ n = cc in tells ∙ ap (λ (n : ℕ). Some n) same
 
-pub record_short : {A : Type 0} (p : Publishing) (r : Result A WriteRefusal) (n : ℕ) → TellsLong (map length p.references ++ map length p.repositories) r → r ≡ Err (unwritten.TooLong n) → length (texts (publishing_elements p)) ≤ 65535 → ⊥
-record_short p r n tells is short =
+pub record_short : {A : Type 0} (p : Publishing) (r : Result A (Refused WriteRefusal)) (refusal : WriteRefusal) → TellsLong (map length p.references ++ map length p.repositories) r → r ≡ Err (Fault refusal) → length (texts (publishing_elements p)) ≤ 65535 → ⊥
+record_short p r (unwritten.TooLong n) tells is short =
     let front = canonical (plain 16 (texts (published_elements p.time p.hash))) in
     let all = length-append front (texts (map (plain 9) p.references ++ map (plain 10) p.repositories)) in
     let both = length-joined (map (plain 9) p.references) (map (plain 10) p.repositories) in

@@ -3,6 +3,8 @@ use Rattle.std.proofs.Common.{◌≡◌, ℕ, ◌+◌, ◌<◌, ◌≤◌, Bool,
 use Rattle.std.specs.Prelude.{◌&&◌, OnOk}
 use Rattle.std.proofs.lemmas.Bool.{lt-ltb, cond_both}
 use Rattle.std.proofs.lemmas.List.{append_assoc}
+use Rattle.ksi_imprint.specs.declared.refused.Refused.{Refused}
+use Rattle.ksi_imprint.specs.declared.refused.Refused.TheVariants.{Fault, NoMemory}
 use Rattle.ksi_tlv.specs.Spelling.{Tlv, canonical, short_form, long_form}
 use Rattle.ksi_tlv.specs.Writing.{texts}
 use Rattle.ksi_signature.specs.declared.refusal.WriteRefusal.{WriteRefusal}
@@ -44,33 +46,33 @@ long_before (size ∷ sizes) more n some =
     before_at (ltb 65535 size) size n (first_long sizes) (first_long (sizes ++ more)) some (long_before sizes more n)
 
 -- a refusal is handed on
-pub tells_before : {B : Type 0} (sizes more : List ℕ) (refusal : WriteRefusal) (r : Result B WriteRefusal) → r ≡ Err refusal → TellsLong {A = B} sizes (Err refusal) → TellsLong (sizes ++ more) r
-tells_before {B} sizes more (refusals.TooLong n) r is tells = rw is (long_before sizes more n tells)
-tells_before {B} sizes more refusals.NoMemory r is tells = rw is tt
+pub tells_before : {B : Type 0} (sizes more : List ℕ) (refusal : Refused WriteRefusal) (r : Result B (Refused WriteRefusal)) → r ≡ Err refusal → TellsLong {A = B} sizes (Err refusal) → TellsLong (sizes ++ more) r
+tells_before {B} sizes more (Fault (refusals.TooLong n)) r is tells = rw is (long_before sizes more n tells)
+tells_before {B} sizes more NoMemory r is tells = rw is tt
 
-pub tells_behind : {B : Type 0} (sizes more : List ℕ) (refusal : WriteRefusal) (r : Result B WriteRefusal) → r ≡ Err refusal → first_long sizes ≡ None → TellsLong {A = B} more (Err refusal) → TellsLong (sizes ++ more) r
-tells_behind {B} sizes more (refusals.TooLong n) r is none tells = rw is (long_behind sizes more none ∙ tells)
-tells_behind {B} sizes more refusals.NoMemory r is none tells = rw is tt
+pub tells_behind : {B : Type 0} (sizes more : List ℕ) (refusal : Refused WriteRefusal) (r : Result B (Refused WriteRefusal)) → r ≡ Err refusal → first_long sizes ≡ None → TellsLong {A = B} more (Err refusal) → TellsLong (sizes ++ more) r
+tells_behind {B} sizes more (Fault (refusals.TooLong n)) r is none tells = rw is (long_behind sizes more none ∙ tells)
+tells_behind {B} sizes more NoMemory r is none tells = rw is tt
 
 -- the outer element's is the last
-pub tells_last : {A : Type 0} (sizes : List ℕ) (size other : ℕ) (r : Result A WriteRefusal) → first_long sizes ≡ None → size ≡ other → TellsLong (size ∷ []) r → TellsLong (sizes ++ (other ∷ [])) r
+pub tells_last : {A : Type 0} (sizes : List ℕ) (size other : ℕ) (r : Result A (Refused WriteRefusal)) → first_long sizes ≡ None → size ≡ other → TellsLong (size ∷ []) r → TellsLong (sizes ++ (other ∷ [])) r
 tells_last {A} sizes size other (Ok x) none same tells = long_behind sizes (other ∷ []) none ∙ (rw (← same) tells)
-tells_last {A} sizes size other (Err (refusals.TooLong n)) none same tells = long_behind sizes (other ∷ []) none ∙ (rw (← same) tells)
-tells_last {A} sizes size other (Err refusals.NoMemory) none same tells = tt
+tells_last {A} sizes size other (Err (Fault (refusals.TooLong n))) none same tells = long_behind sizes (other ∷ []) none ∙ (rw (← same) tells)
+tells_last {A} sizes size other (Err NoMemory) none same tells = tt
 
 -- ---- what a caller is told
 
-pub long_of_refusal : {A : Type 0} (sizes : List ℕ) (r : Result A WriteRefusal) → TellsLong sizes r → (n : ℕ) → r ≡ Err (refusals.TooLong n) → first_long sizes ≡ Some n
+pub long_of_refusal : {A : Type 0} (sizes : List ℕ) (r : Result A (Refused WriteRefusal)) → TellsLong sizes r → (n : ℕ) → r ≡ Err (Fault (refusals.TooLong n)) → first_long sizes ≡ Some n
 long_of_refusal {A} sizes (Ok x) tells n is = absurd cc
-long_of_refusal {A} sizes (Err (refusals.TooLong m)) tells n is = let same : m ≡ n = cc in tells ∙ ap (λ (n : ℕ). Some n) same
-long_of_refusal {A} sizes (Err refusals.NoMemory) tells n is = absurd cc
+long_of_refusal {A} sizes (Err (Fault (refusals.TooLong m))) tells n is = let same : m ≡ n = cc in tells ∙ ap (λ (n : ℕ). Some n) same
+long_of_refusal {A} sizes (Err NoMemory) tells n is = absurd cc
 
-pub refusal_of_long : {A : Type 0} (sizes : List ℕ) (r : Result A WriteRefusal) → TellsLong sizes r → (n : ℕ) → first_long sizes ≡ Some n → (r ≡ Err (refusals.TooLong n)) ⊎ (r ≡ Err refusals.NoMemory)
+pub refusal_of_long : {A : Type 0} (sizes : List ℕ) (r : Result A (Refused WriteRefusal)) → TellsLong sizes r → (n : ℕ) → first_long sizes ≡ Some n → (r ≡ Err (Fault (refusals.TooLong n))) ⊎ (r ≡ Err NoMemory)
 refusal_of_long {A} sizes (Ok x) tells n some = let no : first_long sizes ≡ None = tells in absurd cc
-refusal_of_long {A} sizes (Err (refusals.TooLong m)) tells n some = let is : first_long sizes ≡ Some m = tells in let same : m ≡ n = cc in inl (ap (λ (n : ℕ). Err (refusals.TooLong n)) same)
-refusal_of_long {A} sizes (Err refusals.NoMemory) tells n some = inr refl
+refusal_of_long {A} sizes (Err (Fault (refusals.TooLong m))) tells n some = let is : first_long sizes ≡ Some m = tells in let same : m ≡ n = cc in inl (ap (λ (n : ℕ). Err (Fault (refusals.TooLong n))) same)
+refusal_of_long {A} sizes (Err NoMemory) tells n some = inr refl
 
-pub none_of_ok : {A : Type 0} (sizes : List ℕ) (r : Result A WriteRefusal) → TellsLong sizes r → OnOk r (first_long sizes ≡ None)
+pub none_of_ok : {A : Type 0} (sizes : List ℕ) (r : Result A (Refused WriteRefusal)) → TellsLong sizes r → OnOk r (first_long sizes ≡ None)
 none_of_ok {A} sizes (Ok x) tells = tells
 none_of_ok {A} sizes (Err refusal) tells = tt
 

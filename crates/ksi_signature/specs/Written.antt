@@ -1,5 +1,7 @@
 -- A signature as it is written: the elements of each container in the order of its table, without flags.
 use Rattle.std.specs.Prelude.{◌≡◌, ℕ, suc, zero, nat_lt, List, [], ◌∷◌, ◌++◌, length, map, flat_map, Option, Some, None, Result, Ok, Err, if◌then◌else◌}
+use Rattle.ksi_imprint.specs.declared.refused.Refused.{Refused}
+use Rattle.ksi_imprint.specs.declared.refused.Refused.TheVariants.{Fault, NoMemory}
 use Rattle.ksi_split.specs.declared.side.Side.{Side}
 use Rattle.ksi_split.specs.declared.side.Side.TheVariants.{Left, Right}
 use Rattle.ksi_split.specs.declared.tree_link.TreeLink.{TreeLink}
@@ -112,7 +114,7 @@ first_long [] = None
 first_long (size ∷ sizes) = if nat_lt 65535 size then Some size else first_long sizes
 
 -- none of these sizes is too long, or this is the first that is; nothing is said where memory was wanting
-abbrev pub TellsLong : {A : Type 0} → List ℕ → Result A WriteRefusal → Type 0
+abbrev pub TellsLong : {A : Type 0} → List ℕ → Result A (Refused WriteRefusal) → Type 0
 TellsLong sizes (Ok value) = first_long sizes ≡ None
-TellsLong sizes (Err (refusals.TooLong size)) = first_long sizes ≡ Some size
-TellsLong sizes (Err refusals.NoMemory) = Unit {0}
+TellsLong sizes (Err (Fault (refusals.TooLong size))) = first_long sizes ≡ Some size
+TellsLong sizes (Err NoMemory) = Unit {0}

@@ -20,22 +20,26 @@ use crate::signature::PublicationRecord;
 use ksi_aggchain::{Link, Sibling};
 use ksi_calchain::CalendarLink;
 use ksi_grammar::{put_short, written_published};
-use ksi_imprint::{Bytes, Imprint};
+use ksi_imprint::{Bytes, Imprint, Refused};
 use ksi_split::Side;
-use ksi_tlv::{PutRefusal, Writer, numeral_is_read};
+use ksi_tlv::{Writer, numeral_is_read};
 use std::alloc::Global;
 
+/// The longest body of an element.
+pub(crate) const LONGEST: u64 = 65_535;
+
 /// Writes an element without flags, of whatever size, behind what is there.
-pub(crate) fn put_body(writer: &mut Writer, kind: u16, body: &[u8]) -> Result<(), WriteRefusal>
+pub(crate) fn put_body(writer: &mut Writer, kind: u16, body: &[u8]) -> Result<(), Refused<WriteRefusal>>
     requires { kind ≤ 0x1fff }
     ensures ok { OnOk result (writer.new ≡ writer.old ++ canonical (plain kind body.now)) }
     ensures long { TellsLong (length body.now ∷ []) result }
 {
-    match writer.put(kind, false, false, body) {
-        Ok(()) => Ok(()),
-        Err(PutRefusal::TooLong(size)) => Err(WriteRefusal::TooLong(size as u64)),
-        Err(PutRefusal::NoMemory) => Err(WriteRefusal::NoMemory),
+    let size = body.len() as u64;
+    if size > LONGEST {
+        return Err(Refused::Fault(WriteRefusal::TooLong(size)));
     }
+    put_short(writer, kind, body)?;
+    Ok(())
 }
 
 /// The body of an aggregation chain.
@@ -46,7 +50,7 @@ pub(crate) fn chain_body(
     input_body: Option<&[u8]>,
     input: &Imprint,
     links: &[Link],
-) -> Result<Writer, WriteRefusal>
+) -> Result<Writer, Refused<WriteRefusal>>
     requires { AllByRecursion (λ link. HasSize link.sibling) links.now }
     ensures text { IfOk result (λ body. body ≡ texts (chain_elements (record {
       time = time;
@@ -70,7 +74,7 @@ fn chain_front(
     time: u64,
     index: &[u64],
     input_body: Option<&[u8]>,
-) -> Result<Writer, WriteRefusal>
+) -> Result<Writer, Refused<WriteRefusal>>
     ensures text { IfOk result (λ body. body ≡ texts (plain 2 (numeral time) ∷
         (map part_element index.now ++ body_element (option_map (λ content. content.now) input_body.entry)))) }
     ensures long { TellsLong (body_sizes (option_map (λ content. content.now) input_body.entry)) result }
@@ -110,7 +114,7 @@ fn put_index(writer: &mut Writer, index: &[u64]) -> Result<(), NoMemory>
     Ok(())
 }
 
-fn put_input_data(writer: &mut Writer, content: Option<&[u8]>) -> Result<(), WriteRefusal>
+fn put_input_data(writer: &mut Writer, content: Option<&[u8]>) -> Result<(), Refused<WriteRefusal>>
     ensures ok { OnOk result (writer.new ≡ writer.old ++ texts (body_element (option_map (λ content. content.now) content.entry))) }
     ensures long { TellsLong (body_sizes (option_map (λ content. content.now) content.entry)) result }
 {
@@ -231,7 +235,7 @@ fn put_calendar_links(writer: &mut Writer, links: &[CalendarLink]) -> Result<(),
 pub(crate) fn publishing_body(
     alloc: Global,
     published: &PublicationRecord,
-) -> Result<Writer, WriteRefusal>
+) -> Result<Writer, Refused<WriteRefusal>>
     ensures text { IfOk result (λ body. body ≡ texts (publishing_elements published.now)) }
     ensures long { TellsLong (map length published.now.references ++ map length published.now.repositories) result }
     ensures kept { IsPublishing published.now }
@@ -254,7 +258,7 @@ fn published_parts(
     hash: &Imprint,
     references: &[Bytes],
     repositories: &[Bytes],
-) -> Result<Writer, WriteRefusal>
+) -> Result<Writer, Refused<WriteRefusal>>
     ensures text { IfOk result (λ body. body ≡ texts (publishing_elements (record {
       time = time;
       hash = hash.now;
@@ -271,7 +275,7 @@ fn published_parts(
     Ok(body)
 }
 
-fn put_bodies(writer: &mut Writer, kind: u16, bodies: &[Bytes]) -> Result<(), WriteRefusal>
+fn put_bodies(writer: &mut Writer, kind: u16, bodies: &[Bytes]) -> Result<(), Refused<WriteRefusal>>
     requires { kind ≤ 0x1fff }
     ensures ok { OnOk result (writer.new ≡ writer.old ++ texts (map (plain kind) bodies.now)) }
     ensures long { TellsLong (map length bodies.now) result }

@@ -1,11 +1,11 @@
-ghost use Rattle.std.specs.Prelude.{◌≡◌, ◌≢◌, ◌↔◌, ◌≤◌, ◌∷◌, [], ℕ, Err, IfOk, length};
+ghost use Rattle.std.specs.Prelude.{◌≡◌, ◌↔◌, ◌≤◌, ◌∷◌, [], ℕ, Err, IfOk, length};
 ghost use Rattle.std.specs.List.{AllByRecursion};
+ghost use Rattle.ksi_imprint.specs.declared.refused.Refused.TheVariants.{Fault};
 ghost use Rattle.ksi_tlv.specs.Views.{view, view_placed};
 ghost use Rattle.ksi_tlv.specs.Spelling.{plain, canonical};
 ghost use Rattle.ksi_tlv.specs.Writing.{texts};
 ghost use Rattle.ksi_grammar.specs.Inside.{inner_elements};
 ghost use Rattle.ksi_signature.specs.declared.fault.SignatureFault.{SignatureFault};
-ghost use Rattle.ksi_signature.specs.declared.fault.SignatureFault.TheVariants as answers;
 ghost use Rattle.ksi_signature.specs.declared.extension.WithRefusal.TheVariants as refusals;
 ghost use Rattle.ksi_signature.specs.declared.signature.Signature.{Signature};
 ghost use Rattle.ksi_signature.specs.File.{IsSignature, IsSignatureFault};
@@ -14,7 +14,7 @@ ghost use Rattle.ksi_signature.specs.Written.{calendar_element, publishing_eleme
 ghost use Rattle.ksi_signature.specs.Extended.{is_retained, text_in, retained_texts, content_with, extended_content, extended_text, renewed, IsTooLong, StandsIn};
 
 use crate::NoMemory;
-use crate::bodies::{calendar_body, publishing_body};
+use crate::bodies::{LONGEST, calendar_body, publishing_body};
 use crate::carried::{calendar_is_kept, record_is_kept};
 use crate::checker::accepted;
 use crate::fault::SignatureFault;
@@ -24,12 +24,9 @@ use crate::lengths::{calendar_size, publishing_size, size_of};
 use crate::refusal::WriteRefusal;
 use crate::signature::{CalendarChain, PublicationRecord};
 use ksi_grammar::{put_short, whole_or_fault};
-use ksi_imprint::Bytes;
+use ksi_imprint::{Bytes, Refused};
 use ksi_tlv::{Element, Elements, Placed, Writer, front_by_spelling, reading_is_elements};
 use std::alloc::Global;
-
-/// The longest content.
-const LIMIT: u64 = 65_535;
 
 /// Why there is no signature with another calendar chain.
 #[derive(Clone, Copy, Debug, PartialEq, Eq)]
@@ -38,28 +35,17 @@ pub enum WithRefusal {
     Malformed(SignatureFault),
     /// The new content has so many bytes, above 65,535.
     TooLong(u64),
-    NoMemory,
 }
 
-impl From<NoMemory> for WithRefusal {
+impl From<SignatureFault> for Refused<WithRefusal> {
     ghost use Rattle.std.specs.Prelude.{◌≡◌};
+    ghost use Rattle.ksi_imprint.specs.declared.refused.Refused.TheVariants.{Fault};
     ghost use Rattle.ksi_signature.specs.declared.extension.WithRefusal.TheVariants as refusals;
 
-    ghost from_gives = { λ _ refusal. refusal ≡ refusals.NoMemory };
-
-    fn from(_: NoMemory) -> Self {
-        WithRefusal::NoMemory
-    }
-}
-
-impl From<SignatureFault> for WithRefusal {
-    ghost use Rattle.std.specs.Prelude.{◌≡◌};
-    ghost use Rattle.ksi_signature.specs.declared.extension.WithRefusal.TheVariants as refusals;
-
-    ghost from_gives = { λ fault refusal. refusal ≡ refusals.Malformed fault };
+    ghost from_gives = { λ fault refused. refused ≡ Fault (refusals.Malformed fault) };
 
     fn from(fault: SignatureFault) -> Self {
-        WithRefusal::Malformed(fault)
+        Refused::Fault(WithRefusal::Malformed(fault))
     }
 }
 
@@ -72,15 +58,14 @@ pub fn with_calendar(
     bytes: &[u8],
     calendar: &CalendarChain,
     publication: &PublicationRecord,
-) -> Result<Bytes, WithRefusal>
+) -> Result<Bytes, Refused<WithRefusal>>
     ensures text { IfOk result (λ text. text ≡ extended_text bytes.now calendar.now publication.now) }
-    ensures malformed { (fault : SignatureFault) → (result ≡ Err (refusals.Malformed fault)) ↔ IsSignatureFault bytes.now fault }
-    ensures too_long { (n : ℕ) → (result ≡ Err (refusals.TooLong n)) ↔
+    ensures malformed { (fault : SignatureFault) → (result ≡ Err (Fault (refusals.Malformed fault))) ↔ IsSignatureFault bytes.now fault }
+    ensures too_long { (n : ℕ) → (result ≡ Err (Fault (refusals.TooLong n))) ↔
         (((signature : Signature) × IsSignature bytes.now signature)
         × IsTooLong (length (extended_content bytes.now calendar.now publication.now)) n) }
     ensures again { IfOk result (λ text. (signature : Signature) × IsSignature bytes.now signature
         × IsSignature text (renewed signature calendar.now publication.now)) }
-    ensures memory { result ≢ Err (refusals.Malformed answers.NoMemory) }
 {
     signature_or_fault();
     whole_or_fault();
@@ -96,8 +81,8 @@ pub fn with_calendar(
         element,
     };
     let total = content_size(bytes, &at, calendar, publication);
-    if total > LIMIT {
-        return Err(WithRefusal::TooLong(total));
+    if total > LONGEST {
+        return Err(Refused::Fault(WithRefusal::TooLong(total)));
     }
     let text = text_with(alloc, bytes, &at, calendar, publication)?;
     Ok(text)
@@ -221,7 +206,7 @@ fn record_body(alloc: Global, publication: &PublicationRecord) -> Result<Writer,
 {
     match publishing_body(alloc, publication) {
         Ok(body) => Ok(body),
-        Err(WriteRefusal::NoMemory) => Err(NoMemory),
-        Err(WriteRefusal::TooLong(_)) => unreachable!(),
+        Err(Refused::NoMemory) => Err(NoMemory),
+        Err(Refused::Fault(_)) => unreachable!(),
     }
 }

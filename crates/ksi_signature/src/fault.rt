@@ -1,6 +1,6 @@
-use crate::NoMemory;
+use ksi_imprint::Refused;
 
-/// Why there is no signature. A malformed signature is reported by the codes S1 to S14 with the values of the variant. A
+/// Why bytes are no signature. A malformed signature is reported by the codes S1 to S14 with the values of the variant. A
 /// place is the offset of an element's first byte in the file.
 #[derive(Clone, Copy, Debug, PartialEq, Eq)]
 pub enum SignatureFault {
@@ -32,17 +32,15 @@ pub enum SignatureFault {
     Sibling(usize),
     /// S14: a time is not below 2^63.
     Time(usize),
-    /// Memory was wanting for the signature that the bytes are.
-    NoMemory,
 }
 
-impl From<NoMemory> for SignatureFault {
+impl From<SignatureFault> for Refused<SignatureFault> {
     ghost use Rattle.std.specs.Prelude.{◌≡◌};
-    ghost use Rattle.ksi_signature.specs.declared.fault.SignatureFault.TheVariants as answers;
+    ghost use Rattle.ksi_imprint.specs.declared.refused.Refused.TheVariants.{Fault};
 
-    ghost from_gives = { λ _ fault. fault ≡ answers.NoMemory };
+    ghost from_gives = { λ fault refused. refused ≡ Fault fault };
 
-    fn from(_: NoMemory) -> Self {
-        SignatureFault::NoMemory
+    fn from(fault: SignatureFault) -> Self {
+        Refused::Fault(fault)
     }
 }

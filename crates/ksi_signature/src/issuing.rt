@@ -18,7 +18,7 @@ use crate::laws::written_is_signature;
 use crate::refusal::WriteRefusal;
 use ksi_aggchain::{Link, shape};
 use ksi_grammar::put_short;
-use ksi_imprint::{Bytes, Imprint};
+use ksi_imprint::{Bytes, Imprint, Refused};
 use ksi_tlv::{Writer, numeral_is_read};
 use std::alloc::Global;
 
@@ -180,7 +180,7 @@ fn small_chain(
     imprint_is_kept(input);
     match chain_body(alloc, second, index, None, input, links) {
         Ok(body) => Ok(body),
-        Err(WriteRefusal::NoMemory) => Err(NoMemory),
-        Err(WriteRefusal::TooLong(_)) => unreachable!(),
+        Err(Refused::NoMemory) => Err(NoMemory),
+        Err(Refused::Fault(_)) => unreachable!(),
     }
 }

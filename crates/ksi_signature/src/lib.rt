@@ -44,6 +44,7 @@ mod parts;
 mod reader;
 mod refusal;
 mod signature;
+mod step;
 mod writer;
 
 pub use above::{Above, AboveChain, AboveChains, AboveLinks};
@@ -53,7 +54,7 @@ pub use containers::{CalendarContent, ChainContent, LinkContent, SignatureConten
 pub use extension::{WithRefusal, with_calendar};
 pub use fault::SignatureFault;
 pub use issuing::issue;
-pub use ksi_imprint::NoMemory;
+pub use ksi_imprint::{NoMemory, Refused};
 pub use laws::{
     chains_in_order, extended_is_bytes, extended_is_short, extended_is_signature, issued_is_bytes,
     issued_is_signature, signature_is_read, signature_or_fault, written_is_signature,
@@ -62,4 +63,5 @@ pub use lists::{Bodies, CalendarLinks, Chains, Index, Links};
 pub use reader::read;
 pub use refusal::WriteRefusal;
 pub use signature::{AggregationChain, CalendarChain, PublicationRecord, Signature};
+pub use step::{Sends, Step};
 pub use writer::write;

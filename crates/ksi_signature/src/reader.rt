@@ -1,9 +1,10 @@
-ghost use Rattle.std.specs.Prelude.{◌≡◌, ◌⊎◌, ◌≤◌, ◌+◌, length, Ok, Err, IfOk, IfErr, OnOk, option_map, [], List, ℕ};
+ghost use Rattle.std.specs.Prelude.{◌≡◌, ◌≤◌, ◌+◌, length, Ok, Err, IfOk, OnOk, option_map, [], List, ℕ};
+ghost use Rattle.ksi_imprint.specs.Refused.{IfRefused};
+ghost use Rattle.ksi_imprint.specs.declared.refused.Refused.TheVariants.{Fault};
 ghost use Rattle.ksi_tlv.specs.Views.{view_placed};
 ghost use Rattle.ksi_grammar.specs.Reading.{inner_verdict};
 ghost use Rattle.ksi_grammar.specs.Inside.{inner_elements, first_of};
 ghost use Rattle.ksi_signature.specs.declared.fault.SignatureFault.{SignatureFault};
-ghost use Rattle.ksi_signature.specs.declared.fault.SignatureFault.TheVariants as answers;
 ghost use Rattle.ksi_signature.specs.declared.signature.Signature.{Signature};
 ghost use Rattle.ksi_signature.specs.Values.{Aggregation};
 ghost use Rattle.ksi_signature.specs.Tables.{signature_table};
@@ -21,15 +22,16 @@ use crate::lists::Chains;
 use crate::parts::{calendar_of, chain_of, publishing_of};
 use crate::signature::{AggregationChain, CalendarChain, PublicationRecord, Signature};
 use ksi_grammar::{first_inside, inside_is_whole, whole_or_fault};
+use ksi_imprint::Refused;
 use ksi_tlv::{Elements, Placed, front_by_spelling};
 use std::alloc::Global;
 
 /// Reads a signature. Memory is taken only where the bytes are one.
-pub fn read(alloc: Global, bytes: &[u8]) -> Result<Signature, SignatureFault>
+pub fn read(alloc: Global, bytes: &[u8]) -> Result<Signature, Refused<SignatureFault>>
     ensures signature { IfOk result (λ signature. IsSignature bytes.now signature) }
-    ensures fault { (fault : SignatureFault) → IsSignatureFault bytes.now fault → result ≡ Err fault }
-    ensures refused { IfErr result (λ fault. IsSignatureFault bytes.now fault
-        ⊎ ((fault ≡ answers.NoMemory) × (signature : Signature) × IsSignature bytes.now signature)) }
+    ensures fault { (fault : SignatureFault) → IsSignatureFault bytes.now fault → result ≡ Err (Fault fault) }
+    ensures refused { IfRefused result (IsSignatureFault bytes.now)
+        ((signature : Signature) × IsSignature bytes.now signature) }
 {
     signature_or_fault();
     whole_or_fault();

@@ -1,4 +1,5 @@
 ghost use Rattle.std.specs.Prelude.{◌≡◌, ◌++◌, ◌∷◌, [], ◌⊎◌, ℕ, Some, None, Err, IfSome, IfOk, OnOk, map, flat_map};
+ghost use Rattle.ksi_imprint.specs.declared.refused.Refused.TheVariants as refused;
 ghost use Rattle.ksi_signature.specs.declared.refusal.WriteRefusal.TheVariants as refusals;
 ghost use Rattle.std.specs.List.{AllByRecursion};
 ghost use Rattle.ksi_tlv.specs.Writing.{texts};
@@ -13,7 +14,7 @@ use crate::laws::written_is_signature;
 use crate::refusal::WriteRefusal;
 use crate::signature::{AggregationChain, CalendarChain, PublicationRecord, Signature};
 use ksi_grammar::put_short;
-use ksi_imprint::Bytes;
+use ksi_imprint::{Bytes, Refused};
 use ksi_tlv::Writer;
 use std::alloc::Global;
 
@@ -25,12 +26,12 @@ use std::alloc::Global;
 ///
 /// `TooLong` exactly where the body of an element has more than 65,535 bytes, with the size of the first such: in the
 /// order of writing, an inner element before the one that it stands in. `NoMemory` where memory was wanting.
-pub fn write(alloc: Global, signature: &Signature) -> Result<Bytes, WriteRefusal>
+pub fn write(alloc: Global, signature: &Signature) -> Result<Bytes, Refused<WriteRefusal>>
     ensures text { IfOk result (λ bytes. bytes ≡ signature_text signature.now) }
     ensures fits { OnOk result (first_long (sizes_of signature.now) ≡ None) }
-    ensures too_long { (n : ℕ) → result ≡ Err (refusals.TooLong n) → first_long (sizes_of signature.now) ≡ Some n }
+    ensures too_long { (n : ℕ) → result ≡ Err (refused.Fault (refusals.TooLong n)) → first_long (sizes_of signature.now) ≡ Some n }
     ensures long { (n : ℕ) → first_long (sizes_of signature.now) ≡ Some n →
-        (result ≡ Err (refusals.TooLong n)) ⊎ (result ≡ Err refusals.NoMemory) }
+        (result ≡ Err (refused.Fault (refusals.TooLong n))) ⊎ (result ≡ Err refused.NoMemory) }
     ensures read_again { IfOk result (λ bytes. IsSignature bytes signature.now) }
 {
     written_is_signature();
@@ -38,7 +39,7 @@ pub fn write(alloc: Global, signature: &Signature) -> Result<Bytes, WriteRefusal
 }
 
 #[tactic(auto, unfolding(crate::specs::Written::signature_text))]
-fn written(alloc: Global, signature: &Signature) -> Result<Bytes, WriteRefusal>
+fn written(alloc: Global, signature: &Signature) -> Result<Bytes, Refused<WriteRefusal>>
     ensures text { IfOk result (λ bytes. bytes ≡ signature_text signature.now) }
     ensures long { TellsLong (sizes_of signature.now) result }
     ensures kept { IfOk result (λ _. IsLimited signature.now) }
@@ -49,7 +50,7 @@ fn written(alloc: Global, signature: &Signature) -> Result<Bytes, WriteRefusal>
     Ok(Bytes::from_vec(writer.into_vec()))
 }
 
-fn signature_body(alloc: Global, signature: &Signature) -> Result<Writer, WriteRefusal>
+fn signature_body(alloc: Global, signature: &Signature) -> Result<Writer, Refused<WriteRefusal>>
     ensures text { IfOk result (λ body. body ≡ texts (signature_elements signature.now)) }
     ensures long { TellsLong (flat_map chain_sizes signature.now.chains ++ optional_sizes signature.now.publication) result }
     ensures kept { IfOk result (λ _. IsLimited signature.now) }
@@ -65,7 +66,7 @@ fn put_chains(
     writer: &mut Writer,
     alloc: Global,
     chains: &[AggregationChain],
-) -> Result<(), WriteRefusal>
+) -> Result<(), Refused<WriteRefusal>>
     ensures text { OnOk result (writer.new ≡ writer.old ++ texts (map chain_element chains.now)) }
     ensures long { TellsLong (flat_map chain_sizes chains.now) result }
     ensures kept { OnOk result (AllByRecursion IsAggregation chains.now) }
@@ -80,7 +81,7 @@ fn put_chain(
     writer: &mut Writer,
     alloc: Global,
     chain: &AggregationChain,
-) -> Result<(), WriteRefusal>
+) -> Result<(), Refused<WriteRefusal>>
     ensures text { OnOk result (writer.new ≡ writer.old ++ texts (chain_element chain.now ∷ [])) }
     ensures long { TellsLong (chain_sizes chain.now) result }
     ensures kept { OnOk result (IsAggregation chain.now) }
@@ -115,7 +116,7 @@ fn put_publication(
     writer: &mut Writer,
     alloc: Global,
     publication: &Option<PublicationRecord>,
-) -> Result<(), WriteRefusal>
+) -> Result<(), Refused<WriteRefusal>>
     ensures text { OnOk result (writer.new ≡ writer.old ++ texts (optional_element publishing_element publication.now)) }
     ensures long { TellsLong (optional_sizes publication.now) result }
     ensures kept { OnOk result (IfSome publication.now IsPublishing) }
@@ -130,7 +131,7 @@ fn put_published(
     writer: &mut Writer,
     alloc: Global,
     published: &PublicationRecord,
-) -> Result<(), WriteRefusal>
+) -> Result<(), Refused<WriteRefusal>>
     ensures text { OnOk result (writer.new ≡ writer.old ++ texts (publishing_element published.now ∷ [])) }
     ensures long { TellsLong (publishing_sizes published.now) result }
     ensures kept { OnOk result (IsPublishing published.now) }

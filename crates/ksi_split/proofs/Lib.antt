@@ -1,5 +1,5 @@
 pub mod Powers
-pub mod Levels
+pub mod Within
 pub mod Upward
 pub mod Ways
 pub mod Leaves
@@ -10,3 +10,7 @@ pub mod Second
 pub mod Seconds
 pub mod Along
 pub mod Same
+pub mod Members
+pub mod Rooms
+pub mod Complete
+pub mod Grown

@@ -102,6 +102,11 @@ pub halves_rise : (k m n : ℕ) → m ≤ n → halves k m ≤ halves k n
 halves_rise zero m n le = le
 halves_rise (suc k) m n le = omega (arith, halves_rise k m n le)
 
+-- one number more, and at most one part more
+pub halves_next : (k n : ℕ) → halves k (n + 1) ≤ halves k n + 1
+halves_next zero n = omega arith
+halves_next (suc k) n = let below = halves_next k n in omega arith
+
 -- the multiples of p that a number lies between, told by one multiple
 pub below_multiple : (a b p n : ℕ) → a * p ≤ n → n < b * p → a < b
 below_multiple a b p n low high = elim (le_cases b a) [ inl le ↦ (let m : b * p ≤ a * p = (let same : p ≤ p = omega arith in mul-le b p a p le same) in absurd (omega arith)) | inr lt ↦ lt ]

@@ -3,4 +3,6 @@ pub mod Ways
 pub mod Parts
 pub mod Trees
 pub mod Upward
+pub mod Leaves
 pub mod Layout
+pub mod Stored

@@ -3,7 +3,7 @@
 ghost use Rattle.std.specs.Prelude.{◌≡◌, ◌<◌, ◌≤◌, ◌+◌, ◌-◌, ◌*◌, ◌^◌, ℕ, List, Some, None, map, reverse, length};
 ghost use Rattle.ksi_split.specs.Powers.{IsSplit};
 ghost use Rattle.ksi_split.specs.Ways.{way_of, LeadsTo, PassesLeaf};
-ghost use Rattle.ksi_split.specs.Trees.{tree, path_of, climb_links, node_at};
+ghost use Rattle.ksi_split.specs.Trees.{tree, tree_within, path_of, path_within, climb_links, node_at};
 ghost use Rattle.ksi_split.specs.Upward.{halves, whole, node, links_up};
 ghost use Rattle.ksi_split.specs.declared.side.Side.{Side};
 
@@ -15,6 +15,14 @@ pub fn one_tree<N>()
         tree join leaf lo n ≡ join (tree join leaf lo k) (tree join leaf (lo + k) (n - k)) }
     ensures own_leaves { (join : N → N → N) (leaf other : ℕ → N) (lo n : ℕ) → 0 < n →
         ((i : ℕ) → lo ≤ i → i < lo + n → leaf i ≡ other i) → tree join leaf lo n ≡ tree join other lo n }
+{}
+
+/// It does not matter how many levels a tree may have, where these are enough for its leaves.
+pub fn enough_levels<N>()
+    ensures tree { (join : N → N → N) (leaf : ℕ → N) (k lo n : ℕ) → n ≤ 2 ^ k →
+        tree join leaf lo n ≡ tree_within join leaf k lo n }
+    ensures path { (join : N → N → N) (leaf : ℕ → N) (k lo t n : ℕ) → n ≤ 2 ^ k →
+        path_of join leaf lo t n ≡ path_within join leaf k lo t n }
 {}
 
 /// The path of a leaf leads from it to the root. Its sides are the way to the leaf, from the bottom. Among at most

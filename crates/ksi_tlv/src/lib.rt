@@ -9,7 +9,7 @@
 //! The layer above may rely on this: no spelling of an element begins another; a reader takes both forms and
 //! nothing else; a walk gives every element with its place, or the first that is cut off; the writer takes the
 //! short form where it can hold the element, and what it wrote is read again as it was put. The readers take no
-//! memory.
+//! memory. Files begin with a magic, and their elements stand behind it ([`after_magic`]).
 //!
 //! ```text
 //! let mut writer = Writer::new(alloc);
@@ -23,16 +23,18 @@
 
 mod element;
 mod laws;
+mod magic;
 mod numbers;
 mod walk;
 mod write;
 
 pub use element::{Element, TlvFault, read_one};
+pub use ksi_imprint::{NoMemory, Refused};
 pub use laws::{
     canonical_is_shortest, front_by_spelling, no_spelling_begins_another, numeral_is_read,
     reading_is_elements, walk_by_fronts, written_is_read,
 };
+pub use magic::after_magic;
 pub use numbers::{NumberFault, number};
-pub use std::alloc::AllocError as NoMemory;
 pub use walk::{Elements, Placed};
 pub use write::{PutRefusal, Writer};

@@ -2,7 +2,7 @@ ghost use Rattle.std.specs.Prelude.{false, ◌≡◌, ◌↔◌, ◌<◌, ◌++�
 ghost use Rattle.ksi_tlv.specs.Spelling.{element_of, plain, Spells, canonical};
 ghost use Rattle.ksi_tlv.specs.Numerals.{numeral, without_zeros};
 
-use crate::NoMemory;
+use ksi_imprint::{NoMemory, Refused};
 use std::alloc::Global;
 use std::marker::Model;
 
@@ -14,17 +14,6 @@ const LIMIT: usize = 65_535;
 pub enum PutRefusal {
     /// The body has so many bytes, above 65,535.
     TooLong(usize),
-    NoMemory,
-}
-
-impl From<NoMemory> for PutRefusal {
-    ghost use Rattle.ksi_tlv.specs.declared.write.PutRefusal.TheVariants as refusals;
-
-    ghost from_gives = { λ _ refusal. refusal ≡ refusals.NoMemory };
-
-    fn from(_: NoMemory) -> Self {
-        PutRefusal::NoMemory
-    }
 }
 
 /// Elements as bytes, one behind the other. A contract sees the bytes.
@@ -40,6 +29,7 @@ impl Model for Writer {
 }
 
 impl Writer {
+    ghost use Rattle.ksi_imprint.specs.declared.refused.Refused.TheVariants.{Fault};
     ghost use Rattle.ksi_tlv.specs.declared.write.PutRefusal.TheVariants.{TooLong};
 
     /// A writer of nothing yet.
@@ -73,17 +63,17 @@ impl Writer {
         non_critical: bool,
         forward: bool,
         body: &[u8],
-    ) -> Result<(), PutRefusal>
+    ) -> Result<(), Refused<PutRefusal>>
         requires { kind ≤ 0x1fff }
         ensures ok { OnOk result (self.new ≡ self.old ++ canonical (element_of kind non_critical forward body.now)) }
         ensures spelled { OnOk result ((text : List ℕ) × (self.new ≡ self.old ++ text)
             × Spells (element_of kind non_critical forward body.now) text) }
-        ensures too_long { (n : ℕ) → (result ≡ Err (TooLong n)) ↔ ((n ≡ length body.now) × (65535 < n)) }
+        ensures too_long { (n : ℕ) → (result ≡ Err (Fault (TooLong n))) ↔ ((n ≡ length body.now) × (65535 < n)) }
         ensures err { OnErr result (self.new ≡ self.old) }
     {
         let size = body.len();
         if size > LIMIT {
-            return Err(PutRefusal::TooLong(size));
+            return Err(Refused::Fault(PutRefusal::TooLong(size)));
         }
         self.append(kind, non_critical, forward, body)?;
         Ok(())

@@ -20,11 +20,12 @@ use Rattle.ksi_replay.specs.Journals.{journal_of}
 use Rattle.ksi_world.specs.declared.outcome.Asked as requests
 use Rattle.ksi_world.specs.Histories.{world_of}
 use Rattle.ksi_world.specs.Records.{issued_of}
-use Rattle.ksi_top.specs.Loading.{content, loaded, within, signature_limit, file_limit}
-use Rattle.ksi_top.specs.Verify.{judged, verify_over, verify_run}
+use Rattle.ksi_top.specs.declared.report.Report.{Report}
+use Rattle.ksi_top.specs.Loading.{content, loaded, loaded_publications, loaded_signature, within, signature_limit, file_limit}
+use Rattle.ksi_top.specs.Verify.{judged, verify_command}
 use Rattle.ksi_schedule.specs.Events.{History}
 use Rattle.ksi_schedule.specs.Spelled.{IsScheduleText}
-use Rattle.ksi_top.specs.Headline.{HoldsOver}
+use Rattle.ksi_top.specs.Histories.{HoldsOver}
 use Rattle.ksi_top.specs.Complete.{IsTakenFrom}
 
 within_limit : (limit n : ℕ) (bytes : List ℕ) → length bytes ≤ limit → within limit n bytes ≡ Ok bytes
@@ -37,6 +38,10 @@ signature_short bytes signature is = elim is.spelled [
   | inr long ↦ omega (arith, ap length long.1, long.0.body)
 ]
 
+-- what `verify` reports
+abbrev reported : (signature hash publications : List ℕ) → Held → Report
+reported signature hash publications held = ((verify_command signature hash publications).ran held).reported
+
 -- what an issued signature is extended to are bytes
 abbrev Extends : Type 0
 Extends = (schedule : List ℕ) (h : History) → IsScheduleText schedule h → (number : ℕ) (text : List ℕ) → issued_of imprint_of (world_of imprint_of h) number ≡ Some text
@@ -47,8 +52,8 @@ module _ (signature_read : (bytes : List ℕ) (signature : Signature) → AreByt
   -- what is read of files that are in their grammars, and within their limits
   verified : (signature hash publications : List ℕ) (held : Held) (read : Signature) (pairs : List (ℕ × List ℕ)) → AreBytes (content held signature) → IsSignature (content held signature) read
       → IsPublications (content held publications) pairs → length (content held publications) ≤ file_limit
-      → verify_run signature hash publications held ≡ judged (verdict imprint_of read hash pairs)
-  unfolding verify_run verify_over loaded
+      → reported signature hash publications held ≡ judged (verdict imprint_of read hash pairs)
+  unfolding loaded_signature loaded_publications loaded
   verified signature hash publications held read pairs bytes is are few =
       rw (
         within_limit signature_limit 1 (content held signature) (signature_short (content held signature) read is),
@@ -59,7 +64,7 @@ module _ (signature_read : (bytes : List ℕ) (signature : Signature) → AreByt
 
   lasting : Extends → (signature hash publications : List ℕ) (held : Held) (second : ℕ) → (d : IsTakenFrom (content held signature) hash (content held publications) second)
       → (l : Lasts imprint_of d.history (journal_of imprint_of d.history) d.number d.text) → l.asked ≡ d.asked
-      → verify_run signature hash publications held ≡ judged (Accepted second)
+      → reported signature hash publications held ≡ judged (Accepted second)
   lasting extends signature hash publications held second d l same =
       let journal = journal_of imprint_of d.history in
       let at : l.asked.second ≡ second = ap (λ (a : requests.Asked). a.second) same ∙ d.of_second in
@@ -73,7 +78,7 @@ module _ (signature_read : (bytes : List ℕ) (signature : Signature) → AreByt
 
   pub accepted_again : ((text : List ℕ) (h : History) → IsScheduleText text h → HoldsOver h) → Extends
       → (signature hash publications : List ℕ) (held : Held) (second : ℕ) → IsTakenFrom (content held signature) hash (content held publications) second
-      → verify_run signature hash publications held ≡ judged (Accepted second)
+      → reported signature hash publications held ≡ judged (Accepted second)
   accepted_again holds extends signature hash publications held second d =
       let l = (holds d.schedule d.history d.spelled).lasts d.number d.text d.issued in
       lasting extends signature hash publications held second d l (cc (l.accepted, d.request))

@@ -1,12 +1,12 @@
 -- Causes over one call after another.
-use Rattle.std.proofs.Common.{ℕ, ◌+◌, ◌≤◌, List, ◌∷◌, Option, Some, None, Result, Ok, Err, arith, refl, sym, subst, add-one}
+use Rattle.std.proofs.Common.{inl, inr, ℕ, ◌+◌, ◌≤◌, List, ◌∷◌, Option, Some, None, Result, Ok, Err, arith, refl, sym, subst, add-one}
 use Rattle.ksi_top.specs.declared.report.Report.{Report}
 use Rattle.ksi_top.specs.declared.report.Halt.{Halt}
 use Rattle.ksi_top.specs.declared.report.Halt.TheVariants as halts
 use Rattle.ksi_top.specs.declared.status.Status.{Status}
 use Rattle.ksi_top.specs.declared.status.Status.TheVariants.{Done, Refused, Words, Malformed, Fault, NoMemory, Clash, TooLong}
-use Rattle.ksi_top.specs.Run.{saves_of}
-use Rattle.ksi_top.specs.Causes.{IsJudged, JudgedAs, CausedAs, Counts, Quiet, LoadCaused, Loaded, Caused, ReportCaused, PassesLimit, SomePasses}
+use Rattle.ksi_top.specs.Reports.{saves_of}
+use Rattle.ksi_top.specs.Causes.{IsJudged, JudgedAs, CausedAs, Counts, Quiet, LoadCaused, Loaded, Caused, ReportCaused, PassesLimit, IsMalformed, SomePasses}
 
 judged_caused : (files : List (ℕ × ℕ)) (before now : Counts) (line : List ℕ) (status : Status) (saved : Option (List ℕ × List ℕ)) → JudgedAs status saved → CausedAs files before now line status saved
 judged_caused files before now line Done saved judged = tt
@@ -25,6 +25,9 @@ caused_by_judgement files before now report quiet judged = record {
   status = judged_caused files before now report.line report.status report.saved judged;
 }
 
+pub quiet_alone : (before : Counts) → Quiet before before
+quiet_alone before = record { faults = refl; saves = refl; taken = omega arith }
+
 quiet_twice : (before mid now : Counts) → Quiet before mid → Quiet mid now → Quiet before now
 quiet_twice before mid now one two = record {
   faults = omega (arith, one.faults, two.faults);
@@ -41,11 +44,19 @@ caused_by_limit files n limit before now report passes =
       status = subst (λ (status : Status). CausedAs ((n, limit) ∷ files) before now report.line status report.saved) (sym passes.status) (passes.unsaved, some);
     }
 
--- the first load gives no bytes
-pub load_halts : (files : List (ℕ × ℕ)) (n limit : ℕ) (before now : Counts) (halt : Halt) → LoadCaused {T = List ℕ} n limit before now (Err halt) → ReportCaused ((n, limit) ∷ files) before now (Err halt)
-load_halts files n limit before now (halts.Reported report) one = caused_by_limit files n limit before now report one
-load_halts files n limit before now halts.Fault one = one
-load_halts files n limit before now halts.NoMemory one = one
+-- the first file is not in its grammar
+caused_by_malformed : (files : List (ℕ × ℕ)) (before now : Counts) (report : Report) → IsMalformed before now report → Caused files before now report
+caused_by_malformed files before now report malformed = record {
+  quiet = malformed.loaded.quiet;
+  status = subst (λ (status : Status). CausedAs files before now report.line status report.saved) (sym malformed.status) malformed.unsaved;
+}
+
+-- the first load gives no value
+pub load_halts : (T : Type 0) (files : List (ℕ × ℕ)) (n limit : ℕ) (before now : Counts) (halt : Halt) → LoadCaused {T = T} n limit before now (Err halt) → ReportCaused ((n, limit) ∷ files) before now (Err halt)
+load_halts T files n limit before now (halts.Reported report) (inl passes) = caused_by_limit files n limit before now report passes
+load_halts T files n limit before now (halts.Reported report) (inr malformed) = caused_by_malformed ((n, limit) ∷ files) before now report malformed
+load_halts T files n limit before now halts.Fault one = one
+load_halts T files n limit before now halts.NoMemory one = one
 
 -- a run saves one file at most
 pub one_save : (saved : Option (List ℕ × List ℕ)) → saves_of saved ≤ 1

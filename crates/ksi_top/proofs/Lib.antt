@@ -1,8 +1,11 @@
 pub mod CauseLemmas
-pub mod Judged
-pub mod LineLengths
+pub mod Loads
+pub mod Ends
+pub mod Performing
+pub mod Answered
 pub mod Read
-pub mod Spacing
-pub mod Headline
 pub mod Accepting
-pub mod Wanting
+pub mod Reporting
+pub mod Finishing
+pub mod Extending
+pub mod Replayed

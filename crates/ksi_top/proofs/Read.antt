@@ -19,8 +19,8 @@ use Rattle.ksi_schedule.specs.Reading.{schedule_at}
 use Rattle.ksi_top.specs.declared.report.Report.{Report}
 use Rattle.ksi_top.specs.declared.status.Status.TheVariants.{Malformed}
 use Rattle.ksi_top.specs.Reports.{report}
-use Rattle.ksi_top.specs.FaultWords.{signature_fault, journal_fault, IsLineOf}
-use Rattle.ksi_top.specs.Lines.{malformed_line}
+use Rattle.ksi_lines.specs.FaultWords.{signature_fault, journal_fault, IsLineOf}
+use Rattle.ksi_lines.specs.Lines.{malformed_line}
 use Rattle.ksi_top.specs.Loading.{signature_or_malformed, journal_or_malformed, schedule_or_malformed}
 
 -- the answer of a reader of signatures

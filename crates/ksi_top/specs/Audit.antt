@@ -1,62 +1,82 @@
 -- The command `audit`.
-use Rattle.std.specs.Prelude.{ℕ, ◌+◌, List, [], ◌∷◌}
+use Rattle.std.specs.Prelude.{◌≡◌, ℕ, List, [], ◌∷◌}
 use Rattle.ksi_imprint.specs.Imprints.{imprint_of}
-use Rattle.ksi_ports.specs.Stored.{Held}
 use Rattle.ksi_journal.specs.Journal.{Contents}
+use Rattle.ksi_journal.specs.File.{IsJournalFile}
 use Rattle.ksi_signature.specs.declared.signature.Signature.{Signature}
+use Rattle.ksi_signature.specs.File.{IsSignature}
+use Rattle.ksi_publications.specs.File.{IsPublications}
+use Rattle.ksi_verifier.specs.declared.verdict.Verdict.TheVariants.{Accepted}
+use Rattle.ksi_verifier.specs.Verdict.{verdict}
 use Rattle.ksi_auditor.specs.declared.answer.Audit.{Audit}
 use Rattle.ksi_auditor.specs.declared.answer.Audit.TheVariants as answers
-use Rattle.ksi_auditor.specs.Audit.{audit}
+use Rattle.ksi_auditor.specs.Audit as audits
+use Rattle.ksi_auditor.specs.Shown.{IsDecided, Shows, Tells}
+use Rattle.ksi_lines.specs.Answers.{audit_line}
 use Rattle.ksi_top.specs.declared.report.Report.{Report}
-use Rattle.ksi_top.specs.declared.status.Status.TheVariants as statuses
-use Rattle.ksi_top.specs.Reports.{report, on, and_then, loads_behind}
-use Rattle.ksi_top.specs.Loading.{loaded, journal_or_malformed, signature_or_malformed, publications_or_malformed, signature_limit, file_limit}
-use Rattle.ksi_top.specs.Lines.{line_of, refused_line, inside_line, beneath_line, clash_line, before_start_line, undecided_line, not_decided_line}
+use Rattle.ksi_top.specs.declared.status.Status.{Status}
+use Rattle.ksi_top.specs.declared.status.Status.TheVariants.{Done, Refused, Clash}
+use Rattle.ksi_top.specs.Reports.{CommandRow, report, ends, behind, WhereRead}
+use Rattle.ksi_top.specs.Loading.{content, loaded_journal, loaded_signature, loaded_publications, signature_limit, file_limit}
 
--- want of memory is never an answer of the definition, its row is only there to be total
+abbrev pub audit_status : Audit → Status
+audit_status (answers.Inside second way) = Done
+audit_status (answers.Beneath second item links) = Done
+audit_status (answers.Clash clash) = Clash
+audit_status _ = Refused
+
 abbrev pub audited : Audit → Report
-audited (answers.Inside second way) = report statuses.Done (inside_line second way)
-audited (answers.Beneath second item links) = report statuses.Done (beneath_line second item links)
-audited (answers.Clash clash) = report statuses.Clash (clash_line clash.one clash.two)
-audited (answers.NotAccepted refusal) = report statuses.Refused (refused_line refusal)
-audited (answers.BeforeStart publication) = report statuses.Refused (before_start_line publication)
-audited (answers.Undecided second) = report statuses.Refused (undecided_line second)
-audited (answers.NotDecided publication given kept) = report statuses.Refused (not_decided_line publication given kept)
-audited answers.NoMemory = report statuses.Refused (line_of [])
+audited answer = report (audit_status answer) (audit_line answer)
 
--- the files that are loaded, each told by its word and its limit: the journal's, then the signature's, then the publications'
-abbrev pub over_files : List (ℕ × ℕ)
-over_files = (4, file_limit) ∷ []
+-- The report is that of an answer which shows what it says. Where the signature is accepted and its publication is
+-- decided, the answer tells where the hash stands, or has a clash.
+pub record IsAnswered (journal : Contents) (signature : Signature) (hash : List ℕ) (pairs : List (ℕ × List ℕ)) (report : Report) : Type 0 where
+  pub answer : Audit
+  pub audit_is : answer ≡ audits.audit imprint_of journal signature hash pairs
+  pub reported : report ≡ audited answer
+  pub shown : Shows imprint_of journal signature hash answer
+  pub tells : (t : ℕ) → verdict imprint_of signature hash pairs ≡ Accepted t → IsDecided imprint_of journal signature → Tells answer
 
-abbrev pub beside_files : List (ℕ × ℕ)
-beside_files = (2, signature_limit) ∷ over_files
+-- with the publications that are read
+pub record IsAuditedOver (journal : Contents) (signature : Signature) (hash publications : List ℕ) (report : Report) : Type 0 where
+  pub pairs : List (ℕ × List ℕ)
+  pub publications_are : IsPublications publications pairs
+  pub answered : IsAnswered journal signature hash pairs report
 
-abbrev pub audit_files : List (ℕ × ℕ)
-audit_files = (1, file_limit) ∷ beside_files
+-- with the signature that is read
+pub record IsAuditedBeside (journal : Contents) (signature hash publications : List ℕ) (report : Report) : Type 0 where
+  pub read : Signature
+  pub signature_is : IsSignature signature read
+  pub over : IsAuditedOver journal read hash publications report
 
--- the publications are loaded and read, then the audit is made
-unfoldable pub audit_over : Contents → Signature → List ℕ → List ℕ → Held → Report
-audit_over journal signature hash publications held =
-    on (loaded file_limit 4 held publications) (λ c. on (publications_or_malformed 4 c) (λ p.
-    audited (audit imprint_of journal signature hash p)))
+pub record IsAudited (journal signature hash publications : List ℕ) (report : Report) : Type 0 where
+  pub contents : Contents
+  pub journal_is : IsJournalFile imprint_of journal contents
+  pub beside : IsAuditedBeside contents signature hash publications report
 
--- the signature's file is loaded and read, then the publications'
-unfoldable pub audit_beside : Contents → List ℕ → List ℕ → List ℕ → Held → Report
-audit_beside journal signature hash publications held =
-    on (loaded signature_limit 2 held signature) (λ b. on (signature_or_malformed 2 b) (λ s.
-    audit_over journal s hash publications held))
+-- the publications file is loaded, then the audit is made
+abbrev pub audit_over : Contents → Signature → (hash publications : List ℕ) → CommandRow
+audit_over journal signature hash publications = record {
+  files = (4, file_limit) ∷ [];
+  saves = 0;
+  ran = λ held. behind (loaded_publications 4 held publications) (λ p. ends (audited (audits.audit imprint_of journal signature hash p)));
+  means = λ held. WhereRead (IsAuditedOver journal signature hash (content held publications));
+}
 
--- the journal's file is loaded and read, then the signature's, then the publications', then the audit is made
-unfoldable pub audit_run : List ℕ → List ℕ → List ℕ → List ℕ → Held → Report
-audit_run journal signature hash publications held =
-    on (loaded file_limit 1 held journal) (λ a. on (journal_or_malformed 1 a) (λ j.
-    audit_beside j signature hash publications held))
+-- the signature is loaded, then the publications file
+abbrev pub audit_beside : Contents → (signature hash publications : List ℕ) → CommandRow
+audit_beside journal signature hash publications = record {
+  files = (2, signature_limit) ∷ (4, file_limit) ∷ [];
+  saves = 0;
+  ran = λ held. behind (loaded_signature 2 held signature) (λ s. (audit_over journal s hash publications).ran held);
+  means = λ held. WhereRead (IsAuditedBeside journal (content held signature) hash (content held publications));
+}
 
--- how many files are loaded: each only behind those that are read
-unfoldable pub loads_beside : List ℕ → Held → ℕ
-loads_beside signature held =
-    1 + loads_behind (and_then (loaded signature_limit 2 held signature) (signature_or_malformed 2)) 1
-
-unfoldable pub audit_loads : List ℕ → List ℕ → Held → ℕ
-audit_loads journal signature held =
-    1 + loads_behind (and_then (loaded file_limit 1 held journal) (journal_or_malformed 1)) (loads_beside signature held)
+-- the journal is loaded, then the signature, then the publications file
+abbrev pub audit_command : (journal signature hash publications : List ℕ) → CommandRow
+audit_command journal signature hash publications = record {
+  files = (1, file_limit) ∷ (2, signature_limit) ∷ (4, file_limit) ∷ [];
+  saves = 0;
+  ran = λ held. behind (loaded_journal 1 held journal) (λ j. (audit_beside j signature hash publications).ran held);
+  means = λ held. WhereRead (IsAudited (content held journal) (content held signature) hash (content held publications));
+}

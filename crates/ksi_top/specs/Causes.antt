@@ -1,8 +1,9 @@
--- When a call over files may report what, also where nothing is told of their contents: `LoadCaused` is of one load,
--- `HaltsJudged` of a reader of what was loaded, `ReportCaused` of a command; the others are their parts by status.
-use Rattle.std.specs.Prelude.{◌≡◌, ℕ, ◌+◌, ◌<◌, ◌≤◌, List, Option, None, Some, Result, Ok, Err, slice_get}
+-- When a call over files may report what, also where nothing is told of their contents: `LoadCaused` is of one file that is
+-- loaded and read, `ReportCaused` of a command; the others are their parts by status.
+use Rattle.std.specs.Prelude.{◌≡◌, ◌⊎◌, ℕ, ◌+◌, ◌<◌, ◌≤◌, List, Option, None, Some, Result, Ok, Err, slice_get}
 use Rattle.ksi_ports.specs.Outside.{count_up, Raises, RoseBy}
-use Rattle.ksi_top.specs.Lines.{too_long_line}
+use Rattle.ksi_ports.specs.declared.files.Files as files
+use Rattle.ksi_top.specs.Loading.{too_long_line}
 use Rattle.ksi_top.specs.declared.report.Report.{Report}
 use Rattle.ksi_top.specs.declared.report.Halt.{Halt}
 use Rattle.ksi_top.specs.declared.report.Halt.TheVariants as halts
@@ -20,6 +21,10 @@ pub record Counts : Type 0 where
 
 abbrev pub counts : (calls saves faults taken last_taken : ℕ) → Counts
 counts calls saves faults taken last_taken = record { calls = calls; saves = saves; faults = faults; taken = taken; last_taken = last_taken }
+
+-- those of files of any kind
+abbrev pub counts_of : {F : Type 0} → files.Ghosts F → F → Counts
+counts_of kind it = counts (kind.calls it) (kind.saves it) (kind.faults it) (kind.taken it) (kind.last_taken it)
 
 -- no call failed, and nothing was saved
 pub record Quiet (before now : Counts) : Type 0 where
@@ -54,13 +59,6 @@ JudgedAs TooLong saved = ⊥
 abbrev pub IsJudged : Report → Type 0
 IsJudged report = JudgedAs report.status report.saved
 
--- a reader of bytes that were loaded
-abbrev pub HaltsJudged : {T : Type 0} → Result T Halt → Type 0
-HaltsJudged (Ok value) = Unit {0}
-HaltsJudged (Err (halts.Reported report)) = IsJudged report
-HaltsJudged (Err halts.Fault) = ⊥
-HaltsJudged (Err halts.NoMemory) = Unit {0}
-
 -- ---- reports of a call over files
 
 -- the file of word n passes its limit: its load took more bytes than that
@@ -72,10 +70,16 @@ pub record PassesLimit (n limit : ℕ) (before now : Counts) (report : Report) :
   pub taken : RoseBy (limit + 1) before.taken now.taken
   pub last : limit < now.last_taken
 
+-- the file was loaded, and is not in its grammar
+pub record IsMalformed (before now : Counts) (report : Report) : Type 0 where
+  pub loaded : Loaded before now
+  pub status : report.status ≡ Malformed
+  pub unsaved : report.saved ≡ None
+
 -- what a load of file word n gives
 abbrev pub LoadCaused : {T : Type 0} → (n limit : ℕ) → Counts → Counts → Result T Halt → Type 0
 LoadCaused n limit before now (Ok value) = Loaded before now
-LoadCaused n limit before now (Err (halts.Reported report)) = PassesLimit n limit before now report
+LoadCaused n limit before now (Err (halts.Reported report)) = PassesLimit n limit before now report ⊎ IsMalformed before now report
 LoadCaused n limit before now (Err halts.Fault) = Faulty before now
 LoadCaused n limit before now (Err halts.NoMemory) = Quiet before now
 

@@ -14,7 +14,7 @@ use Rattle.ksi_journal.specs.Journal.{root_at}
 use Rattle.ksi_replay.specs.Journals.{journal_of}
 use Rattle.ksi_extender.specs.Extended.{extended}
 use Rattle.ksi_history.specs.Lasting.{Publish}
-use Rattle.ksi_words.specs.Words.{Asked, replay, sign, publish, extend, verify, audit, make, drill}
+use Rattle.ksi_words.specs.Words.{Asked, verify}
 use Rattle.ksi_top.specs.declared.report.Report.{Report}
 use Rattle.ksi_top.specs.Loading.{content, file_limit}
 use Rattle.ksi_top.specs.Verify.{judged}
@@ -44,12 +44,6 @@ pub record IsTakenFrom (signature hash publications : List ℕ) (second : ℕ) :
 
 -- such a signature is accepted, at its second
 abbrev pub Complete : Asked → Held → Report → Type 0
-Complete (replay schedule journal) held report = Unit {0}
-Complete (sign journal number out) held report = Unit {0}
-Complete (publish journal out) held report = Unit {0}
-Complete (extend journal signature second out) held report = Unit {0}
 Complete (verify signature hash publications) held report =
     (second : ℕ) → IsTakenFrom (content held signature) hash (content held publications) second → report ≡ judged (Accepted second)
-Complete (audit journal signature hash publications) held report = Unit {0}
-Complete (make number out) held report = Unit {0}
-Complete (drill number) held report = Unit {0}
+Complete _ held report = Unit {0}

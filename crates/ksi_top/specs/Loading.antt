@@ -1,5 +1,6 @@
 -- What a file word stands for.
-use Rattle.std.specs.Prelude.{ℕ, List, [], length, unwrap_or, nat_lt, Result, Ok, Err, if◌then◌else◌}
+use Rattle.std.specs.Prelude.{ℕ, List, [], ◌∷◌, codes, length, unwrap_or, nat_lt, Result, Ok, Err, if◌then◌else◌}
+use Rattle.std.specs.Fmt.{decimal}
 use Rattle.ksi_ports.specs.Stored.{Held}
 use Rattle.ksi_signature.specs.declared.signature.Signature.{Signature}
 use Rattle.ksi_signature.specs.Reading.{signature_at}
@@ -11,9 +12,9 @@ use Rattle.ksi_schedule.specs.Events.{History}
 use Rattle.ksi_schedule.specs.Reading.{schedule_at}
 use Rattle.ksi_top.specs.declared.report.Report.{Report}
 use Rattle.ksi_top.specs.declared.status.Status.TheVariants.{Malformed, TooLong}
-use Rattle.ksi_top.specs.Reports.{report}
-use Rattle.ksi_top.specs.FaultWords.{signature_fault, publications_fault, journal_fault, schedule_fault}
-use Rattle.ksi_top.specs.Lines.{too_long_line, malformed_line}
+use Rattle.ksi_top.specs.Reports.{report, and_then}
+use Rattle.ksi_lines.specs.FaultWords.{signature_fault, publications_fault, journal_fault, schedule_fault}
+use Rattle.ksi_lines.specs.Lines.{line_text, malformed_line}
 
 -- the most bytes that a signature file may have, and those of any other file
 abbrev pub signature_limit : ℕ
@@ -25,6 +26,9 @@ file_limit = 67108864
 -- what is held under a name, and no bytes where nothing is: such a load fails, so nothing is claimed of its run
 abbrev pub content : Held → List ℕ → List ℕ
 content held name = unwrap_or (held name) []
+
+abbrev pub too_long_line : ℕ → List ℕ
+too_long_line n = line_text (codes "too" ∷ codes "long" ∷ decimal n ∷ [])
 
 abbrev pub within : ℕ → ℕ → List ℕ → Result (List ℕ) Report
 within limit n bytes = if nat_lt limit (length bytes) then Err (report TooLong (too_long_line n)) else Ok bytes
@@ -50,3 +54,17 @@ journal_or_malformed n bytes = or_malformed journal_fault n (journal_at imprint_
 
 abbrev pub schedule_or_malformed : ℕ → List ℕ → Result History Report
 schedule_or_malformed n bytes = or_malformed schedule_fault n (schedule_at bytes)
+
+-- ---- what file word n is read as: the report of its fault stands in the place of what passes its limit, or is malformed
+
+unfoldable pub loaded_signature : ℕ → Held → List ℕ → Result Signature Report
+loaded_signature n held name = and_then (loaded signature_limit n held name) (signature_or_malformed n)
+
+unfoldable pub loaded_publications : ℕ → Held → List ℕ → Result (List (ℕ × List ℕ)) Report
+loaded_publications n held name = and_then (loaded file_limit n held name) (publications_or_malformed n)
+
+unfoldable pub loaded_journal : ℕ → Held → List ℕ → Result Contents Report
+loaded_journal n held name = and_then (loaded file_limit n held name) (journal_or_malformed n)
+
+unfoldable pub loaded_schedule : ℕ → Held → List ℕ → Result History Report
+loaded_schedule n held name = and_then (loaded file_limit n held name) (schedule_or_malformed n)

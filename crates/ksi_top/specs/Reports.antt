@@ -1,5 +1,7 @@
 -- Reports, and how one follows from what was read.
-use Rattle.std.specs.Prelude.{◌≡◌, ◌≢◌, ℕ, ◌+◌, ◌<◌, List, Some, None, Result, Ok, Err}
+use Rattle.std.specs.Prelude.{◌≡◌, ◌≢◌, ℕ, ◌+◌, ◌<◌, List, Option, Some, None, Result, Ok, Err}
+use Rattle.std.specs.declared.alloc.AllocError.{AllocError}
+use Rattle.ksi_ports.specs.Stored.{Held}
 use Rattle.ksi_top.specs.declared.report.Report.{Report}
 use Rattle.ksi_top.specs.declared.report.Halt.{Halt}
 use Rattle.ksi_top.specs.declared.report.Halt.TheVariants.{Reported, Fault, NoMemory}
@@ -14,22 +16,49 @@ report status line = record { status = status; line = line; saved = None }
 abbrev pub saving : List ℕ → List ℕ → List ℕ → Report
 saving line name bytes = record { status = Done; line = line; saved = Some (name, bytes) }
 
--- what follows from a value, or the report that stands in its place
-abbrev pub on : {T : Type 0} → Result T Report → (T → Report) → Report
-on (Ok value) next = next value
-on (Err report) next = report
+-- how often a run saves
+abbrev pub saves_of : Option (List ℕ × List ℕ) → ℕ
+saves_of None = 0
+saves_of (Some file) = 1
+
+-- ---- what a run reports, and how many files it loads
+
+pub record Ran : Type 0 where
+  pub reported : Report
+  pub loads : ℕ
+
+-- a report, without a further load
+abbrev pub ends : Report → Ran
+ends report = record { reported = report; loads = 0 }
+
+abbrev pub reported_behind : {T : Type 0} → Result T Report → (T → Ran) → Report
+reported_behind (Ok value) next = (next value).reported
+reported_behind (Err report) next = report
+
+abbrev pub loads_behind : {T : Type 0} → Result T Report → (T → Ran) → ℕ
+loads_behind (Ok value) next = (next value).loads
+loads_behind (Err report) next = 0
+
+-- A file is loaded: what follows from the value that was read of it, or the report that stands in its place and ends the run.
+abbrev pub behind : {T : Type 0} → Result T Report → (T → Ran) → Ran
+behind expected next = record { reported = reported_behind expected next; loads = 1 + loads_behind expected next }
+
+-- A command: the files that it loads, in this order, each told by its word and the most bytes that it may have; the most
+-- saves; what it reports and how many files it loads, by what is held; and what its report means, by what is held.
+pub record CommandRow : Type 1 where
+  pub files : List (ℕ × ℕ)
+  pub saves : ℕ
+  pub ran : Held → Ran
+  pub means : Held → Report → Type 0
 
 -- what is read of a value, or the report that stands in its place
 abbrev pub and_then : {T U : Type 0} → Result T Report → (T → Result U Report) → Result U Report
 and_then (Ok value) next = next value
 and_then (Err report) next = Err report
 
--- so many further loads where a value was read, and none where a report ends the run
-abbrev pub loads_behind : {T : Type 0} → Result T Report → ℕ → ℕ
-loads_behind (Ok value) more = more
-loads_behind (Err report) more = 0
+-- ---- what a call gives
 
--- A call gives what is expected, or a fault or want of memory ended it.
+-- what is expected, or a fault or want of memory ended it
 abbrev pub Gives : {T : Type 0} → Result T Report → Result T Halt → Type 0
 Gives expected (Ok value) = expected ≡ Ok value
 Gives expected (Err (Reported report)) = expected ≡ Err report
@@ -43,19 +72,17 @@ Reports expected (Err (Reported report)) = report ≡ expected
 Reports expected (Err Fault) = Unit {0}
 Reports expected (Err NoMemory) = Unit {0}
 
--- a report that a call may end with has this status
-abbrev pub HaltsAs : {T : Type 0} → Status → Result T Halt → Type 0
-HaltsAs status (Ok value) = Unit {0}
-HaltsAs status (Err (Reported report)) = report.status ≡ status
-HaltsAs status (Err Fault) = Unit {0}
-HaltsAs status (Err NoMemory) = Unit {0}
+-- what was computed of loaded values, as the end of a run
+abbrev pub ended : Result Report AllocError → Result Report Halt
+ended (Ok report) = Ok report
+ended (Err none) = Err NoMemory
 
--- such a report saves nothing
-abbrev pub HaltsUnsaved : {T : Type 0} → Result T Halt → Type 0
-HaltsUnsaved (Ok value) = Unit {0}
-HaltsUnsaved (Err (Reported report)) = report.saved ≡ None
-HaltsUnsaved (Err Fault) = Unit {0}
-HaltsUnsaved (Err NoMemory) = Unit {0}
+-- a report that a call may end with is of a file that is not in its grammar, and saves nothing
+abbrev pub HaltsMalformed : {T : Type 0} → Result T Halt → Type 0
+HaltsMalformed (Ok value) = Unit {0}
+HaltsMalformed (Err (Reported report)) = (report.status ≡ Malformed) × (report.saved ≡ None)
+HaltsMalformed (Err Fault) = ⊥
+HaltsMalformed (Err NoMemory) = Unit {0}
 
 -- what a report means, of a call that gives one unless a fault or want of memory ended it
 abbrev pub Means : (Report → Type 0) → Result Report Halt → Type 0
@@ -68,7 +95,16 @@ Means P (Err NoMemory) = Unit {0}
 abbrev pub WhereRead : (Report → Type 0) → Report → Type 0
 WhereRead P report = report.status ≢ TooLong → report.status ≢ Malformed → P report
 
+-- nothing further is said of a report
+abbrev pub Nothing : Report → Type 0
+Nothing report = Unit {0}
+
+-- the report that stands in a value's place tells of a file that passes its limit
+abbrev pub IsTooLong : {T : Type 0} → Result T Report → Type 0
+IsTooLong (Ok value) = ⊥
+IsTooLong (Err report) = report.status ≡ TooLong
+
 -- A file that was loaded and is too long is never told as want of memory: where the run ends with one and memory was wanting,
 -- fewer loads were made than the run makes, so not that file's.
-abbrev pub Unloaded : Report → (loads before now : ℕ) → Result Report Halt → Type 0
-Unloaded ran loads before now result = result ≡ Err NoMemory → ran.status ≡ TooLong → now < before + loads
+abbrev pub Unloaded : Ran → (before now : ℕ) → Result Report Halt → Type 0
+Unloaded ran before now result = result ≡ Err NoMemory → ran.reported.status ≡ TooLong → now < before + ran.loads

@@ -1,40 +1,51 @@
 -- The command `verify`.
-use Rattle.std.specs.Prelude.{ℕ, ◌+◌, List, [], ◌∷◌}
+use Rattle.std.specs.Prelude.{◌≡◌, ℕ, List, [], ◌∷◌, codes}
+use Rattle.std.specs.Fmt.{decimal}
 use Rattle.ksi_imprint.specs.Imprints.{imprint_of}
-use Rattle.ksi_ports.specs.Stored.{Held}
 use Rattle.ksi_signature.specs.declared.signature.Signature.{Signature}
+use Rattle.ksi_signature.specs.File.{IsSignature}
+use Rattle.ksi_publications.specs.File.{IsPublications}
 use Rattle.ksi_verifier.specs.declared.verdict.Verdict.{Verdict}
 use Rattle.ksi_verifier.specs.declared.verdict.Verdict.TheVariants.{Accepted, Refused}
 use Rattle.ksi_verifier.specs.Verdict.{verdict}
+use Rattle.ksi_lines.specs.Lines.{line_text, refused_line}
 use Rattle.ksi_top.specs.declared.report.Report.{Report}
 use Rattle.ksi_top.specs.declared.status.Status.TheVariants as statuses
-use Rattle.ksi_top.specs.Reports.{report, on, and_then, loads_behind}
-use Rattle.ksi_top.specs.Loading.{loaded, signature_or_malformed, publications_or_malformed, signature_limit, file_limit}
-use Rattle.ksi_top.specs.Lines.{accepted_line, refused_line}
+use Rattle.ksi_top.specs.Reports.{CommandRow, report, ends, behind, WhereRead}
+use Rattle.ksi_top.specs.Loading.{content, loaded_signature, loaded_publications, signature_limit, file_limit}
+
+abbrev pub accepted_line : ℕ → List ℕ
+accepted_line t = line_text (codes "accepted" ∷ decimal t ∷ [])
 
 abbrev pub judged : Verdict → Report
 judged (Accepted second) = report statuses.Done (accepted_line second)
 judged (Refused refusal) = report statuses.Refused (refused_line refusal)
 
--- the files that are loaded, each told by its word and its limit: the signature's, then the publications'
-abbrev pub over_files : List (ℕ × ℕ)
-over_files = (3, file_limit) ∷ []
+-- the report is the verdict's
+pub record IsVerifiedOver (signature : Signature) (hash publications : List ℕ) (report : Report) : Type 0 where
+  pub pairs : List (ℕ × List ℕ)
+  pub publications_are : IsPublications publications pairs
+  pub reported : report ≡ judged (verdict imprint_of signature hash pairs)
 
-abbrev pub verify_files : List (ℕ × ℕ)
-verify_files = (1, signature_limit) ∷ over_files
+pub record IsVerified (signature hash publications : List ℕ) (report : Report) : Type 0 where
+  pub read : Signature
+  pub signature_is : IsSignature signature read
+  pub over : IsVerifiedOver read hash publications report
 
--- the publications file is loaded and read, then the checks are made
-unfoldable pub verify_over : Signature → List ℕ → List ℕ → Held → Report
-verify_over signature hash publications held =
-    on (loaded file_limit 3 held publications) (λ b. on (publications_or_malformed 3 b) (λ p.
-    judged (verdict imprint_of signature hash p)))
+-- the publications file is loaded, then the checks are made
+abbrev pub verify_over : Signature → (hash publications : List ℕ) → CommandRow
+verify_over signature hash publications = record {
+  files = (3, file_limit) ∷ [];
+  saves = 0;
+  ran = λ held. behind (loaded_publications 3 held publications) (λ p. ends (judged (verdict imprint_of signature hash p)));
+  means = λ held. WhereRead (IsVerifiedOver signature hash (content held publications));
+}
 
--- the signature's file is loaded and read, then the publications file, then the checks are made
-unfoldable pub verify_run : List ℕ → List ℕ → List ℕ → Held → Report
-verify_run signature hash publications held =
-    on (loaded signature_limit 1 held signature) (λ a. on (signature_or_malformed 1 a) (λ s.
-    verify_over s hash publications held))
-
--- how many files are loaded: the publications only behind a signature that is read
-unfoldable pub verify_loads : List ℕ → Held → ℕ
-verify_loads signature held = 1 + loads_behind (and_then (loaded signature_limit 1 held signature) (signature_or_malformed 1)) 1
+-- the signature is loaded, then the publications file
+abbrev pub verify_command : (signature hash publications : List ℕ) → CommandRow
+verify_command signature hash publications = record {
+  files = (1, signature_limit) ∷ (3, file_limit) ∷ [];
+  saves = 0;
+  ran = λ held. behind (loaded_signature 1 held signature) (λ s. (verify_over s hash publications).ran held);
+  means = λ held. WhereRead (IsVerified (content held signature) hash (content held publications));
+}

@@ -1,27 +1,26 @@
 // The command `audit`.
-ghost use Rattle.std.specs.Prelude.{◌≡◌, ◌≤◌, ◌+◌, ℕ, IsTrue, IfOk, None};
+ghost use Rattle.std.specs.Prelude.{◌≡◌, ◌≢◌, IfOk};
 ghost use Rattle.ksi_imprint.specs.Imprints.{imprint_of};
 ghost use Rattle.ksi_auditor.specs.Audit as audits;
-ghost use Rattle.ksi_top.specs.Reports.{Reports, Unloaded, Means, WhereRead};
-ghost use Rattle.ksi_top.specs.Headline.{IsAudited, IsAuditedBeside, IsAuditedOver, IsAnswered};
-ghost use Rattle.ksi_top.specs.Loading.{content};
-ghost use Rattle.ksi_top.specs.Causes.{ReportCaused, IsJudged, counts};
-ghost use Rattle.ksi_top.specs.Audit.{audit_beside, audit_files, audit_loads, audit_over, audit_run, audited, beside_files, loads_beside, over_files};
+ghost use Rattle.ksi_auditor.specs.Shown.{IsShort};
+ghost use Rattle.ksi_auditor.specs.declared.answer.Audit.TheVariants as answers;
+ghost use Rattle.ksi_top.specs.Promised.{Performed};
+ghost use Rattle.ksi_top.specs.Audit.{IsAnswered, audit_beside, audit_command, audit_over, audit_status, audited};
 
-use crate::audit_line::audited;
-use crate::loading::{FILE_LIMIT, SIGNATURE_LIMIT, load_file};
-use crate::reading::{read_journal, read_publications, read_signature};
-use crate::report::{Halt, Report};
+use crate::loading::{load_journal, load_publications, load_signature};
+use crate::report::{Halt, Report, ended};
+use crate::status::Status;
+use ksi_auditor::Audit;
 use ksi_auditor::laws::decided_tells;
 use ksi_imprint::{Imprint, NoMemory, Sha};
 use ksi_journal::Journal;
+use ksi_lines::audit_line;
 use ksi_ports::Files;
 use ksi_publications::Publications;
 use ksi_signature::Signature;
 use std::alloc::Global;
 
-/// Loads and reads the journal, then the signature, then the publications, and audits the signature for the hash.
-#[tactic(auto, unfolding(crate::specs::Audit::audit_run, crate::specs::Audit::audit_loads))]
+/// Loads the journal, then the signature, then the publications, and audits the signature for the hash.
 pub(crate) fn audit<F: Files>(
     alloc: Global,
     files: &mut F,
@@ -30,22 +29,13 @@ pub(crate) fn audit<F: Files>(
     hash: &Imprint,
     publications: &str,
 ) -> Result<Report, Halt>
-    ensures told { IsTrue F.tells → Reports (audit_run journal.now signature.now hash.now publications.now (F.held files.old)) result }
-    ensures headline { IsTrue F.tells → Means (WhereRead (IsAudited (content (F.held files.old) journal.now) (content (F.held files.old) signature.now) hash.now (content (F.held files.old) publications.now))) result }
-    ensures stays { IsTrue F.tells → F.held files.new ≡ F.held files.old }
-    ensures calls { IsTrue F.tells → F.calls files.new ≤ F.calls files.old + audit_loads journal.now signature.now (F.held files.old) }
-    ensures few_calls { (F.calls files.old ≤ F.calls files.new) × (F.calls files.new ≤ F.calls files.old + 3) }
-    ensures wanting { IsTrue F.tells → Unloaded (audit_run journal.now signature.now hash.now publications.now (F.held files.old)) (audit_loads journal.now signature.now (F.held files.old)) (F.calls files.old) (F.calls files.new) result }
-    ensures unsaved { Means (λ report. report.saved ≡ None) result }
-    ensures causes { ReportCaused audit_files (counts (F.calls files.old) (F.saves files.old) (F.faults files.old) (F.taken files.old) (F.last_taken files.old)) (counts (F.calls files.new) (F.saves files.new) (F.faults files.new) (F.taken files.new) (F.last_taken files.new)) result }
+    ensures { Performed F.Files (audit_command journal.now signature.now hash.now publications.now) files.old files.new result }
 {
-    let bytes = load_file(alloc, files, FILE_LIMIT, 1, journal)?;
-    let journal = read_journal(alloc, 1, bytes.as_slice())?;
+    let journal = load_journal(alloc, files, 1, journal)?;
     audit_beside(alloc, files, &journal, signature, hash, publications)
 }
 
-/// Loads and reads the signature, then the publications.
-#[tactic(auto, unfolding(crate::specs::Audit::audit_beside, crate::specs::Audit::loads_beside))]
+/// Loads the signature, then the publications.
 fn audit_beside<F: Files>(
     alloc: Global,
     files: &mut F,
@@ -54,22 +44,13 @@ fn audit_beside<F: Files>(
     hash: &Imprint,
     publications: &str,
 ) -> Result<Report, Halt>
-    ensures told { IsTrue F.tells → Reports (audit_beside journal.now signature.now hash.now publications.now (F.held files.old)) result }
-    ensures headline { IsTrue F.tells → Means (WhereRead (IsAuditedBeside journal.now (content (F.held files.old) signature.now) hash.now (content (F.held files.old) publications.now))) result }
-    ensures stays { IsTrue F.tells → F.held files.new ≡ F.held files.old }
-    ensures calls { IsTrue F.tells → F.calls files.new ≤ F.calls files.old + loads_beside signature.now (F.held files.old) }
-    ensures few_calls { (F.calls files.old ≤ F.calls files.new) × (F.calls files.new ≤ F.calls files.old + 2) }
-    ensures wanting { IsTrue F.tells → Unloaded (audit_beside journal.now signature.now hash.now publications.now (F.held files.old)) (loads_beside signature.now (F.held files.old)) (F.calls files.old) (F.calls files.new) result }
-    ensures unsaved { Means (λ report. report.saved ≡ None) result }
-    ensures causes { ReportCaused beside_files (counts (F.calls files.old) (F.saves files.old) (F.faults files.old) (F.taken files.old) (F.last_taken files.old)) (counts (F.calls files.new) (F.saves files.new) (F.faults files.new) (F.taken files.new) (F.last_taken files.new)) result }
+    ensures { Performed F.Files (audit_beside journal.now signature.now hash.now publications.now) files.old files.new result }
 {
-    let bytes = load_file(alloc, files, SIGNATURE_LIMIT, 2, signature)?;
-    let signature = read_signature(alloc, 2, bytes.as_slice())?;
+    let signature = load_signature(alloc, files, 2, signature)?;
     audit_over(alloc, files, journal, &signature, hash, publications)
 }
 
-/// Loads and reads the publications, and audits.
-#[tactic(auto, unfolding(crate::specs::Audit::audit_over))]
+/// Loads the publications, and audits.
 fn audit_over<F: Files>(
     alloc: Global,
     files: &mut F,
@@ -78,17 +59,10 @@ fn audit_over<F: Files>(
     hash: &Imprint,
     publications: &str,
 ) -> Result<Report, Halt>
-    ensures told { IsTrue F.tells → Reports (audit_over journal.now signature.now hash.now publications.now (F.held files.old)) result }
-    ensures headline { IsTrue F.tells → Means (WhereRead (IsAuditedOver journal.now signature.now hash.now (content (F.held files.old) publications.now))) result }
-    ensures stays { IsTrue F.tells → F.held files.new ≡ F.held files.old }
-    ensures few_calls { (F.calls files.old ≤ F.calls files.new) × (F.calls files.new ≤ F.calls files.old + 1) }
-    ensures wanting { IsTrue F.tells → Unloaded (audit_over journal.now signature.now hash.now publications.now (F.held files.old)) 1 (F.calls files.old) (F.calls files.new) result }
-    ensures unsaved { Means (λ report. report.saved ≡ None) result }
-    ensures causes { ReportCaused over_files (counts (F.calls files.old) (F.saves files.old) (F.faults files.old) (F.taken files.old) (F.last_taken files.old)) (counts (F.calls files.new) (F.saves files.new) (F.faults files.new) (F.taken files.new) (F.last_taken files.new)) result }
+    ensures { Performed F.Files (audit_over journal.now signature.now hash.now publications.now) files.old files.new result }
 {
-    let bytes = load_file(alloc, files, FILE_LIMIT, 4, publications)?;
-    let publications = read_publications(alloc, 4, bytes.as_slice())?;
-    Ok(answer(alloc, journal, signature, hash, &publications)?)
+    let publications = load_publications(alloc, files, 4, publications)?;
+    ended(answer(alloc, journal, signature, hash, &publications))
 }
 
 fn answer(
@@ -100,11 +74,32 @@ fn answer(
 ) -> Result<Report, NoMemory>
     ensures answer { IfOk result (λ report. report ≡ audited (audits.audit imprint_of journal.now signature.now hash.now publications.now)) }
     ensures answered { IfOk result (IsAnswered journal.now signature.now hash.now publications.now) }
-    ensures unsaved { IfOk result (λ report. report.saved ≡ None) }
-    ensures judged { IfOk result (λ report. IsJudged report) }
 {
     decided_tells();
     let _start = journal.start();
     let audit = ksi_auditor::audit::<Sha>(alloc, journal, signature, hash, publications);
     audited(alloc, &audit)
+}
+
+/// An audit's answer, with its line and its status.
+///
+/// # Errors
+/// `NoMemory` where it is the answer, and where the line of a clash finds none.
+fn audited(alloc: Global, audit: &Audit) -> Result<Report, NoMemory>
+    requires { IsShort audit.now }
+    ensures report { IfOk result (λ report. report ≡ audited audit.now) }
+    ensures memory { IfOk result (λ _. audit.now ≢ answers.NoMemory) }
+{
+    let line = audit_line(alloc, audit)?;
+    Ok(Report::new(status_of(audit), line))
+}
+
+fn status_of(audit: &Audit) -> Status
+    ensures { result ≡ audit_status audit.now }
+{
+    match audit {
+        Audit::Inside(..) | Audit::Beneath(..) => Status::Done,
+        Audit::Clash(_) => Status::Clash,
+        _ => Status::Refused,
+    }
 }

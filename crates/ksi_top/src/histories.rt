@@ -7,7 +7,7 @@ ghost use Rattle.ksi_journal.specs.Written.{journal_text};
 ghost use Rattle.ksi_schedule.specs.Events.{History};
 ghost use Rattle.ksi_schedule.specs.Spelled.{IsScheduleText};
 ghost use Rattle.ksi_replay.specs.Journals.{journal_of};
-ghost use Rattle.ksi_top.specs.Headline.{HoldsOver};
+ghost use Rattle.ksi_top.specs.Histories.{HoldsOver};
 
 use ksi_facts::laws::history_is_recalled;
 use ksi_history::laws::history_is_joined;

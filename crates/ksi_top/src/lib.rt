@@ -11,27 +11,21 @@
 #![tactic(auto)]
 
 mod audit;
-mod audit_line;
 mod completeness;
 mod drill;
+mod ending;
 mod extend;
-mod extend_line;
-mod fault_line;
 mod histories;
-mod line;
 mod loading;
 mod make;
 mod perform;
-mod printed;
 mod publish;
 mod reading;
-mod refusal_line;
 mod replay;
 mod report;
 mod sign;
 mod status;
-mod top;
 mod verify;
 
+pub use ending::ksi;
 pub use status::Status;
-pub use top::ksi;

@@ -1,23 +1,87 @@
-// The file words that a command reads.
-ghost use Rattle.std.specs.Prelude.{◌≡◌, ◌≤◌, ◌+◌, ℕ, IsTrue, IfOk, Err};
-ghost use Rattle.ksi_top.specs.declared.report.Halt.TheVariants as halts;
-ghost use Rattle.ksi_top.specs.Reports.{Gives};
-ghost use Rattle.ksi_top.specs.Causes.{LoadCaused, counts};
-ghost use Rattle.ksi_top.specs.Loading.{content, loaded};
+// The file words that a command loads.
+ghost use Rattle.std.specs.Prelude.{◌≡◌, ◌≤◌, IsTrue, IfOk};
+ghost use Rattle.ksi_imprint.specs.Imprints.{imprint_of};
+ghost use Rattle.ksi_journal.specs.File.{IsJournalFile};
+ghost use Rattle.ksi_publications.specs.File.{IsPublications};
+ghost use Rattle.ksi_schedule.specs.Spelled.{IsScheduleText};
+ghost use Rattle.ksi_signature.specs.File.{IsSignature};
+ghost use Rattle.ksi_top.specs.Loading.{content, loaded, loaded_journal, loaded_publications, loaded_schedule, loaded_signature, file_limit, signature_limit};
+ghost use Rattle.ksi_top.specs.Promised.{IsLoaded};
 
-use crate::printed::Word::{Number, Text};
-use crate::printed::print;
+use crate::reading::{read_journal, read_publications, read_schedule, read_signature};
 use crate::report::{Halt, Report};
 use crate::status::Status;
-use ksi_imprint::Bytes;
+use ksi_imprint::{Bytes, Sha};
+use ksi_journal::Journal;
+use ksi_lines::Word::{Number, Text};
+use ksi_lines::print;
 use ksi_ports::{Files, LoadRefusal};
+use ksi_publications::Publications;
+use ksi_schedule::Schedule;
+use ksi_signature::Signature;
 use std::alloc::Global;
 
 /// The most bytes that a signature file may have.
 pub(crate) const SIGNATURE_LIMIT: usize = 65_539;
 
 /// The most bytes that any other file may have.
-pub(crate) const FILE_LIMIT: usize = 67_108_864;
+const FILE_LIMIT: usize = 67_108_864;
+
+/// The signature that file word `n` is.
+pub(crate) fn load_signature<F: Files>(
+    alloc: Global,
+    files: &mut F,
+    n: usize,
+    name: &str,
+) -> Result<Signature, Halt>
+    ensures loaded { IsLoaded F.Files n signature_limit (loaded_signature n (F.held files.old) name.now) files.old files.new result }
+    ensures is { IsTrue F.tells → IfOk result (IsSignature (content (F.held files.old) name.now)) }
+{
+    let bytes = load_file(alloc, files, SIGNATURE_LIMIT, n, name)?;
+    read_signature(alloc, n, bytes.as_slice())
+}
+
+/// The publications file that file word `n` is.
+pub(crate) fn load_publications<F: Files>(
+    alloc: Global,
+    files: &mut F,
+    n: usize,
+    name: &str,
+) -> Result<Publications, Halt>
+    ensures loaded { IsLoaded F.Files n file_limit (loaded_publications n (F.held files.old) name.now) files.old files.new result }
+    ensures is { IsTrue F.tells → IfOk result (IsPublications (content (F.held files.old) name.now)) }
+{
+    let bytes = load_file(alloc, files, FILE_LIMIT, n, name)?;
+    read_publications(alloc, n, bytes.as_slice())
+}
+
+/// The journal that file word `n` is.
+pub(crate) fn load_journal<F: Files>(
+    alloc: Global,
+    files: &mut F,
+    n: usize,
+    name: &str,
+) -> Result<Journal<Sha>, Halt>
+    ensures loaded { IsLoaded F.Files n file_limit (loaded_journal n (F.held files.old) name.now) files.old files.new result }
+    ensures is { IsTrue F.tells → IfOk result (IsJournalFile imprint_of (content (F.held files.old) name.now)) }
+{
+    let bytes = load_file(alloc, files, FILE_LIMIT, n, name)?;
+    read_journal(alloc, n, bytes.as_slice())
+}
+
+/// The schedule that file word `n` is.
+pub(crate) fn load_schedule<F: Files>(
+    alloc: Global,
+    files: &mut F,
+    n: usize,
+    name: &str,
+) -> Result<Schedule, Halt>
+    ensures loaded { IsLoaded F.Files n file_limit (loaded_schedule n (F.held files.old) name.now) files.old files.new result }
+    ensures is { IsTrue F.tells → IfOk result (IsScheduleText (content (F.held files.old) name.now)) }
+{
+    let bytes = load_file(alloc, files, FILE_LIMIT, n, name)?;
+    read_schedule(alloc, n, bytes.as_slice())
+}
 
 /// The bytes of file word `n`, at most `limit` of them.
 #[tactic(auto, unfolding(crate::specs::Loading::loaded))]
@@ -29,12 +93,8 @@ pub(crate) fn load_file<F: Files>(
     name: &str,
 ) -> Result<Bytes, Halt>
     requires { limit ≤ 67108864 }
-    ensures told { IsTrue F.tells → Gives (loaded limit n (F.held files.old) name.now) result }
+    ensures loaded { IsLoaded F.Files n limit (loaded limit n (F.held files.old) name.now) files.old files.new result }
     ensures whole { IsTrue F.tells → IfOk result (λ bytes. bytes ≡ content (F.held files.old) name.now) }
-    ensures stays { IsTrue F.tells → F.held files.new ≡ F.held files.old }
-    ensures few_calls { (F.calls files.old ≤ F.calls files.new) × (F.calls files.new ≤ F.calls files.old + 1) }
-    ensures wanting { IsTrue F.tells → result ≡ Err halts.NoMemory → F.calls files.new ≡ F.calls files.old }
-    ensures causes { LoadCaused n limit (counts (F.calls files.old) (F.saves files.old) (F.faults files.old) (F.taken files.old) (F.last_taken files.old)) (counts (F.calls files.new) (F.saves files.new) (F.faults files.new) (F.taken files.new) (F.last_taken files.new)) result }
 {
     match files.load(alloc, name, limit) {
         Ok(bytes) => Ok(bytes),

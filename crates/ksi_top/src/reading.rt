@@ -5,18 +5,17 @@ ghost use Rattle.ksi_journal.specs.File.{IsJournalFile};
 ghost use Rattle.ksi_publications.specs.File.{IsPublications};
 ghost use Rattle.ksi_schedule.specs.Spelled.{IsScheduleText};
 ghost use Rattle.ksi_signature.specs.File.{IsSignature};
-ghost use Rattle.ksi_top.specs.Reports.{Gives, HaltsAs, HaltsUnsaved};
-ghost use Rattle.ksi_top.specs.Causes.{HaltsJudged};
+ghost use Rattle.ksi_top.specs.Reports.{Gives, HaltsMalformed};
 ghost use Rattle.ksi_top.specs.Loading.{signature_or_malformed, publications_or_malformed, journal_or_malformed, schedule_or_malformed};
 
-use crate::fault_line::{
-    journal_fault_line, publications_fault_line, schedule_fault_line, signature_fault_line,
-};
 use crate::report::{Halt, Report};
 use crate::status::Status;
 use ksi_imprint::Sha;
 use ksi_journal::Journal;
 use ksi_journal::laws::journal_is_read;
+use ksi_lines::{
+    journal_fault_line, publications_fault_line, schedule_fault_line, signature_fault_line,
+};
 use ksi_publications::{Publications, publications_are_read};
 use ksi_schedule::{Schedule, schedule_is_read};
 use ksi_signature::{Signature, signature_is_read};
@@ -26,9 +25,7 @@ use std::alloc::Global;
 pub(crate) fn read_signature(alloc: Global, n: usize, bytes: &[u8]) -> Result<Signature, Halt>
     ensures told { Gives (signature_or_malformed n bytes.now) result }
     ensures is { IfOk result (IsSignature bytes.now) }
-    ensures halts { HaltsAs Status.Malformed result }
-    ensures unsaved { HaltsUnsaved result }
-    ensures judged { HaltsJudged result }
+    ensures halts { HaltsMalformed result }
 {
     signature_is_read();
     match ksi_signature::read(alloc, bytes) {
@@ -44,9 +41,7 @@ pub(crate) fn read_signature(alloc: Global, n: usize, bytes: &[u8]) -> Result<Si
 pub(crate) fn read_publications(alloc: Global, n: usize, bytes: &[u8]) -> Result<Publications, Halt>
     ensures told { Gives (publications_or_malformed n bytes.now) result }
     ensures is { IfOk result (IsPublications bytes.now) }
-    ensures halts { HaltsAs Status.Malformed result }
-    ensures unsaved { HaltsUnsaved result }
-    ensures judged { HaltsJudged result }
+    ensures halts { HaltsMalformed result }
 {
     publications_are_read();
     match ksi_publications::read(alloc, bytes) {
@@ -62,9 +57,7 @@ pub(crate) fn read_publications(alloc: Global, n: usize, bytes: &[u8]) -> Result
 pub(crate) fn read_journal(alloc: Global, n: usize, bytes: &[u8]) -> Result<Journal<Sha>, Halt>
     ensures told { Gives (journal_or_malformed n bytes.now) result }
     ensures is { IfOk result (IsJournalFile imprint_of bytes.now) }
-    ensures halts { HaltsAs Status.Malformed result }
-    ensures unsaved { HaltsUnsaved result }
-    ensures judged { HaltsJudged result }
+    ensures halts { HaltsMalformed result }
 {
     journal_is_read();
     match ksi_journal::load::<Sha>(alloc, bytes) {
@@ -80,9 +73,7 @@ pub(crate) fn read_journal(alloc: Global, n: usize, bytes: &[u8]) -> Result<Jour
 pub(crate) fn read_schedule(alloc: Global, n: usize, bytes: &[u8]) -> Result<Schedule, Halt>
     ensures told { Gives (schedule_or_malformed n bytes.now) result }
     ensures is { IfOk result (IsScheduleText bytes.now) }
-    ensures halts { HaltsAs Status.Malformed result }
-    ensures unsaved { HaltsUnsaved result }
-    ensures judged { HaltsJudged result }
+    ensures halts { HaltsMalformed result }
 {
     schedule_is_read();
     match ksi_schedule::read_schedule(alloc, bytes) {

@@ -1,57 +1,41 @@
 // The command `replay`.
-ghost use Rattle.std.specs.Prelude.{◌≡◌, ◌≤◌, ◌+◌, IsTrue, IfOk};
-ghost use Rattle.ksi_top.specs.Reports.{Reports, Unloaded, Means, WhereRead};
+ghost use Rattle.std.specs.Prelude.{◌≡◌, IfOk};
 ghost use Rattle.ksi_imprint.specs.Imprints.{imprint_of};
 ghost use Rattle.ksi_journal.specs.Journal.{IsJournal};
-ghost use Rattle.ksi_journal.specs.File.{IsJournalFile};
-ghost use Rattle.ksi_journal.specs.Written.{journal_text};
 ghost use Rattle.ksi_replay.specs.Journals.{journal_of};
-ghost use Rattle.ksi_top.specs.Headline.{IsReplayed};
-ghost use Rattle.ksi_top.specs.Loading.{content};
-ghost use Rattle.ksi_top.specs.Causes.{ReportCaused, IsJudged, counts};
-ghost use Rattle.ksi_top.specs.Replay.{replay_files, replay_run, replayed, replayed_as, counted};
-ghost use Rattle.ksi_top.specs.Lines.{replayed_line};
+ghost use Rattle.ksi_top.specs.Promised.{Performed};
+ghost use Rattle.ksi_top.specs.Replay.{counted, replay_command, replayed, replayed_as, replayed_line};
 
 use crate::histories::histories_hold;
-use crate::line::Line;
-use crate::loading::{FILE_LIMIT, load_file};
-use crate::printed::Word::{Number, Text};
-use crate::printed::print;
-use crate::reading::read_schedule;
-use crate::report::{Halt, Report, Saved};
+use crate::loading::load_schedule;
+use crate::report::{Halt, Report, Saved, ended};
 use ksi_imprint::{NoMemory, Sha};
 use ksi_journal::Journal;
+use ksi_lines::Word::{Number, Text};
+use ksi_lines::{Line, print};
 use ksi_ports::Files;
 use ksi_replay::journal_of;
 use ksi_schedule::Schedule;
 use ksi_world::World;
 use std::alloc::Global;
 
-/// Loads and reads the schedule, and saves the journal of what its events come to.
-#[tactic(auto, unfolding(crate::specs::Replay::replay_run))]
+/// Loads the schedule, and saves the journal of what its events come to.
 pub(crate) fn replay<F: Files>(
     alloc: Global,
     files: &mut F,
     schedule: &str,
     journal: &str,
 ) -> Result<Report, Halt>
-    ensures told { IsTrue F.tells → Reports (replay_run schedule.now journal.now (F.held files.old)) result }
-    ensures headline { IsTrue F.tells → Means (WhereRead (IsReplayed (content (F.held files.old) schedule.now) journal.now)) result }
-    ensures stays { IsTrue F.tells → F.held files.new ≡ F.held files.old }
-    ensures few_calls { (F.calls files.old ≤ F.calls files.new) × (F.calls files.new ≤ F.calls files.old + 1) }
-    ensures wanting { IsTrue F.tells → Unloaded (replay_run schedule.now journal.now (F.held files.old)) 1 (F.calls files.old) (F.calls files.new) result }
-    ensures causes { ReportCaused replay_files (counts (F.calls files.old) (F.saves files.old) (F.faults files.old) (F.taken files.old) (F.last_taken files.old)) (counts (F.calls files.new) (F.saves files.new) (F.faults files.new) (F.taken files.new) (F.last_taken files.new)) result }
+    ensures { Performed F.Files (replay_command schedule.now journal.now) files.old files.new result }
 {
     histories_hold();
-    let bytes = load_file(alloc, files, FILE_LIMIT, 1, schedule)?;
-    let schedule = read_schedule(alloc, 1, bytes.as_slice())?;
-    Ok(replayed(alloc, journal, &schedule)?)
+    let schedule = load_schedule(alloc, files, 1, schedule)?;
+    ended(replayed(alloc, journal, &schedule))
 }
 
 fn replayed(alloc: Global, name: &str, schedule: &Schedule) -> Result<Report, NoMemory>
     ensures replayed { IfOk result (λ report. report ≡ replayed name.now schedule.now) }
     ensures lawful { IfOk result (λ _. IsJournal imprint_of (journal_of imprint_of schedule.now)) }
-    ensures judged { IfOk result (λ report. IsJudged report) }
 {
     let world = ksi_replay::replay::<Sha>(alloc, schedule)?;
     kept(alloc, name, &world)
@@ -61,7 +45,6 @@ fn replayed(alloc: Global, name: &str, schedule: &Schedule) -> Result<Report, No
 fn kept(alloc: Global, name: &str, world: &World<Sha>) -> Result<Report, NoMemory>
     ensures replayed { IfOk result (λ report. report ≡ replayed name.now world.now) }
     ensures lawful { IfOk result (λ _. IsJournal imprint_of (journal_of imprint_of world.now)) }
-    ensures judged { IfOk result (λ report. IsJudged report) }
 {
     let journal = journal_of(alloc, world)?;
     let _start = journal.start();
@@ -74,8 +57,7 @@ fn saving(
     world: &World<Sha>,
     journal: &Journal<Sha>,
 ) -> Result<Report, NoMemory>
-    ensures saving { IfOk result (λ report. report ≡ replayed_as name.now world.now journal.now) }
-    ensures judged { IfOk result (λ report. IsJudged report) }
+    ensures { IfOk result (λ report. report ≡ replayed_as name.now world.now journal.now) }
 {
     let bytes = ksi_journal::write(alloc, journal)?;
     let line = counted(world, journal);

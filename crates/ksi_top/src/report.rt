@@ -1,10 +1,10 @@
 ghost use Rattle.std.specs.Prelude.{◌≡◌, ℕ, IfOk, string_bytes};
 ghost use Rattle.ksi_top.specs.declared.report.Halt.TheVariants.{NoMemory};
-ghost use Rattle.ksi_top.specs.Reports.{report, saving};
+ghost use Rattle.ksi_top.specs.Reports.{ended, report, saving};
 
-use crate::line::Line;
 use crate::status::Status;
 use ksi_imprint::{Bytes, NoMemory};
+use ksi_lines::Line;
 use std::alloc::Global;
 use std::marker::Model;
 
@@ -100,4 +100,11 @@ impl From<NoMemory> for Halt {
     fn from(_: NoMemory) -> Self {
         Halt::NoMemory
     }
+}
+
+/// What was computed of loaded values, as the end of a run.
+pub(crate) fn ended(computed: Result<Report, NoMemory>) -> Result<Report, Halt>
+    ensures { result ≡ ended computed }
+{
+    Ok(computed?)
 }

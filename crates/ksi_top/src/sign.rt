@@ -1,22 +1,19 @@
 // The command `sign`.
-ghost use Rattle.std.specs.Prelude.{◌≡◌, ◌≤◌, ◌+◌, IsTrue, IfOk};
+ghost use Rattle.std.specs.Prelude.{◌≡◌, IfOk};
 ghost use Rattle.std.specs.Option.{option_copied};
-ghost use Rattle.ksi_top.specs.Reports.{Reports, Unloaded};
-ghost use Rattle.ksi_top.specs.Causes.{ReportCaused, IsJudged, counts};
-ghost use Rattle.ksi_top.specs.Sign.{sign_files, sign_run, signature_of, signed};
+ghost use Rattle.ksi_top.specs.Promised.{Performed};
+ghost use Rattle.ksi_top.specs.Sign.{sign_command, signature_of, signed};
 
-use crate::loading::{FILE_LIMIT, load_file};
-use crate::printed::Word::{Number, Text};
-use crate::printed::print;
-use crate::reading::read_journal;
-use crate::report::{Halt, Report, Saved};
+use crate::loading::load_journal;
+use crate::report::{Halt, Report, Saved, ended};
 use crate::status::Status;
 use ksi_imprint::{Bytes, NoMemory};
+use ksi_lines::Word::{Number, Text};
+use ksi_lines::print;
 use ksi_ports::Files;
 use std::alloc::Global;
 
-/// Loads and reads the journal, and saves the signature of a number.
-#[tactic(auto, unfolding(crate::specs::Sign::sign_run))]
+/// Loads the journal, and saves the signature of a number.
 pub(crate) fn sign<F: Files>(
     alloc: Global,
     files: &mut F,
@@ -24,15 +21,11 @@ pub(crate) fn sign<F: Files>(
     number: u64,
     out: &str,
 ) -> Result<Report, Halt>
-    ensures told { IsTrue F.tells → Reports (sign_run journal.now number out.now (F.held files.old)) result }
-    ensures stays { IsTrue F.tells → F.held files.new ≡ F.held files.old }
-    ensures few_calls { (F.calls files.old ≤ F.calls files.new) × (F.calls files.new ≤ F.calls files.old + 1) }
-    ensures wanting { IsTrue F.tells → Unloaded (sign_run journal.now number out.now (F.held files.old)) 1 (F.calls files.old) (F.calls files.new) result }
-    ensures causes { ReportCaused sign_files (counts (F.calls files.old) (F.saves files.old) (F.faults files.old) (F.taken files.old) (F.last_taken files.old)) (counts (F.calls files.new) (F.saves files.new) (F.faults files.new) (F.taken files.new) (F.last_taken files.new)) result }
+    ensures { Performed F.Files (sign_command journal.now number out.now) files.old files.new result }
 {
-    let bytes = load_file(alloc, files, FILE_LIMIT, 1, journal)?;
-    let journal = read_journal(alloc, 1, bytes.as_slice())?;
-    Ok(signed(alloc, number, out, signature_of(journal.issued(), number))?)
+    let journal = load_journal(alloc, files, 1, journal)?;
+    let signature = signature_of(journal.issued(), number);
+    ended(signed(alloc, number, out, signature))
 }
 
 /// The bytes that stand beside the number.
@@ -53,8 +46,7 @@ fn signed(
     out: &str,
     signature: Option<&Bytes>,
 ) -> Result<Report, NoMemory>
-    ensures signed { IfOk result (λ report. report ≡ signed number out.now (option_copied signature.entry)) }
-    ensures judged { IfOk result (λ report. IsJudged report) }
+    ensures { IfOk result (λ report. report ≡ signed number out.now (option_copied signature.entry)) }
 {
     match signature {
         Some(bytes) => {

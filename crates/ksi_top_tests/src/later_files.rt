@@ -82,7 +82,12 @@ fn each_calls(
     for row in rows.lines() {
         let mut files = holding(alloc, &[], &[JOURNALS_OF_0, OF_0])?;
         each_ends(rt, alloc, &mut files, status, row)?;
-        same(rt, row, [files.calls(), files.faults()], [calls, 0]);
+        same(
+            rt,
+            row,
+            [files.counts().calls, files.counts().faults],
+            [calls, 0],
+        );
     }
     Ok(())
 }
@@ -181,7 +186,12 @@ fn fails(rt: &impl Abort, alloc: Global, failing: u64, calls: u64) -> Result<(),
     let mut out = MemSink::new(alloc, 32_767, Vec::new(alloc))?;
     let status = ksi(alloc, &words, &mut files, &mut out);
     same(rt, "status", status, Status::Fault);
-    same(rt, "counts", [files.calls(), files.faults()], [calls, 1]);
+    same(
+        rt,
+        "counts",
+        [files.counts().calls, files.counts().faults],
+        [calls, 1],
+    );
     same(rt, "written", out.written(), b"");
     Ok(())
 }

@@ -37,7 +37,12 @@ fn is_as_said(
 ) -> Result<(), Fail> {
     let mut files = held(alloc, &[], signature, publications)?;
     ends(rt, alloc, &mut files, line, (said.0, said.1))?;
-    same(rt, said.1, [files.calls(), files.faults()], [said.2, 0]);
+    same(
+        rt,
+        said.1,
+        [files.counts().calls, files.counts().faults],
+        [said.2, 0],
+    );
     Ok(())
 }
 
@@ -224,7 +229,12 @@ fn fails(
     let words = words(alloc, VERIFY)?;
     let status = ksi(alloc, &words, &mut files, &mut out);
     same(rt, "status", status, Status::Fault);
-    let told = [files.faults(), files.calls(), out.faults(), out.puts()];
+    let told = [
+        files.counts().faults,
+        files.counts().calls,
+        out.faults(),
+        out.puts(),
+    ];
     same(rt, "counts", told, counts);
     same(rt, "written", out.written(), b"");
     Ok(())

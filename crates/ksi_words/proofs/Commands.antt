@@ -7,7 +7,7 @@ use Rattle.std.specs.Str.{bytes_eq}
 use Rattle.std.proofs.lemmas.Bool.{eqb-true, eqb-false}
 use Rattle.std.proofs.lemmas.Slice.Eq.{bytes_eq-Decides}
 use Rattle.clap.specs.Lexer.{usize_max}
-use Rattle.clap.specs.Walk.{settled, finished, idle, Names, CommandForm, Rule, Text, Walk, is_multiple, answers_to, nothing_held, walk, walk_from, walked, rows_after, stop_after}
+use Rattle.clap.specs.Walk.{settled, finished, idle, Names, Row, Rule, Text, Walk, is_multiple, answers_to, nothing_held, walk, walk_from, walked, rows_after, stop_after}
 use Rattle.clap.specs.Simple.{App, Shape, built, built_leaf, entered, inherited, is_simple, is_buildable, is_ready, is_ready_leaf, is_simple_leaf, label_of, names_of, subcommand_of}
 use Rattle.clap.specs.Faults.{settle_fault, entered_fault, defaults_fault, check_fault, built_fault, fault_of, has_free_rules, is_free_app, is_simple_and_free, level_fault, walk_fault}
 use Rattle.clap.specs.Kinds.{Kinds, or_else}
@@ -190,7 +190,7 @@ unfolding walk_fault defaults_fault
 no_words_fault forms good = in_parts forms [] good
 
 -- the subcommand that a walk enters
-abbrev entered_by : List Form → Walk → Option (Text × List CommandForm)
+abbrev entered_by : List Form → Walk → Option (Text × List Row)
 entered_by forms w = entered (built_app forms) w.stopped
 
 known_subcommand : (forms : List Form) (word : Text) (words : List Text) (form : Form) → AllGood forms → named forms word ≡ Some form → subcommand_of (app_with forms) (word ∷ words) ≡ Some (form.0, rows_after (built_rule form.1 ∷ []) [] words)
@@ -240,7 +240,7 @@ module _ (forms : List Form) (good : AllGood forms) (word : Text) (words : List 
       let is : length words ≡ form.1 = eqb-true (length words) form.1 (sym (fits_named forms word words form e) ∙ fit) in
       let name = named_is forms word form good e in
       let rows = right_rows form.1 words name.1.0 (first_plain word words plain).1 is in
-      known_subcommand forms word words form good e ∙ ap₂ (λ (n : Text) (r : List CommandForm). Some (n, r)) name.0 rows
+      known_subcommand forms word words form good e ∙ ap₂ (λ (n : Text) (r : List Row). Some (n, r)) name.0 rows
 
 pub fits_no_fault : (forms : List Form) (words : List Text) → AllGood forms → AllPlain words → fits forms words ≡ true → fault_of (app_with forms) words ≡ []
 fits_no_fault forms [] good plain fit = absurd (cc (fit))

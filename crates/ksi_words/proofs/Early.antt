@@ -1,20 +1,20 @@
 -- A second that a word stands for is below 2^63.
-use Rattle.std.proofs.Common.{◌≡◌, ◌<◌, ◌^◌, ℕ, Bool, true, false, cond, List, Option, Some, None, IfOk, refl, subst}
-use Rattle.std.specs.Prelude.{◌&&◌}
-use Rattle.std.proofs.Math.Dec.{ltb}
-use Rattle.std.proofs.lemmas.Bool.{ltb-true}
-use Rattle.std.specs.Str.Parse.{digits_value}
-use Rattle.ksi_words.specs.Sorts.{is_digits, time_of}
+use Rattle.std.proofs.Common.{◌≡◌, ◌<◌, ◌^◌, ℕ, suc, List, Option, Some, None, IfOk, refl, arith, inl, inr}
+use Rattle.std.proofs.lemmas.Bool.Decides.{leb_tells}
+use Rattle.ksi_schedule.specs.Decimal.{number_of}
+use Rattle.ksi_words.specs.Sorts.{if_early, time_of}
 use Rattle.ksi_words.specs.Words.{word_at}
 
-below : (digits early : Bool) (limit n t : ℕ) → ltb n limit ≡ early → cond (digits && early) (Some n) None ≡ Some t → t < limit
-below true true limit n t e is = let same : n ≡ t = cc in subst (λ (m : ℕ). m < limit) same (ltb-true n limit e)
-below true false limit n t e is = absurd cc
-below false early limit n t e is = absurd cc
+below : (r : Option ℕ) (t : ℕ) → if_early r ≡ Some t → t < 2 ^ 63
+below None t is = absurd cc
+below (Some n) t is = elim (leb_tells (suc n) (2 ^ 63)) [
+  | inl early ↦ (let same : n ≡ t = (let e = rw early.0 at is in cc) in omega (arith, same, early.1))
+  | inr late ↦ absurd (let e = rw late.0 at is in cc)
+]
 
 early : (word : List ℕ) (t : ℕ) → time_of word ≡ Some t → t < 2 ^ 63
 unfolding time_of
-early word t is = below (is_digits word) (ltb (digits_value 10 word) (2 ^ 63)) (2 ^ 63) (digits_value 10 word) t refl is
+early word t is = below (number_of word) t is
 
 of_option : (n : ℕ) (r : Option ℕ) → ((t : ℕ) → r ≡ Some t → t < 2 ^ 63) → IfOk (word_at n r) (λ (t : ℕ). t < 2 ^ 63)
 of_option n None h = tt

@@ -5,7 +5,7 @@ use Rattle.std.specs.Prelude.{fold}
 use Rattle.std.specs.List.{list_any}
 use Rattle.std.specs.Str.{bytes_eq}
 use Rattle.clap.specs.Lexer.{usize_max, long_of, short_of}
-use Rattle.clap.specs.Walk.{settled, finished, CommandForm, Rule, Text, Walk, positional, nothing_held, rows_after, walk, walk_from, walked}
+use Rattle.clap.specs.Walk.{settled, finished, Row, Rule, Text, Walk, positional, nothing_held, rows_after, walk, walk_from, walked}
 use Rattle.clap.specs.Simple.{Shape, new_shape, filled, with_index}
 use Rattle.clap.specs.Faults.{settle_fault, check_fault, level_fault, walk_fault, defaults_fault}
 use Rattle.clap.specs.Kinds.{Kinds, or_else, values_kinds}
@@ -47,7 +47,7 @@ rule_built n some few =
 abbrev pub leaf : Text → ℕ → Shape
 leaf name n = record (new_shape name) { rules = built_rule n ∷ []; no_binary_name = true; disable_help_flag = true; disable_help_subcommand = true; is_built = true }
 
-abbrev pub words_row : List Text → CommandForm
+abbrev pub words_row : List Text → Row
 words_row words = record { id = codes "words"; values = words; count = None; source = Some CommandLine; reading = AsWritten }
 
 -- ---- where words go on

@@ -1,7 +1,6 @@
 pub mod Building
 pub mod Commands
 pub mod Leaf
-pub mod Numbers
 pub mod Misfits
 pub mod Parsed
 pub mod WordLemmas

@@ -3,13 +3,14 @@ use Rattle.std.proofs.Common.{◌≡◌, List, [], ◌∷◌, map, codes, Option
 use Rattle.std.specs.Prelude.{Box}
 use Rattle.std.specs.Box.{box_value}
 use Rattle.std.specs.declared.alloc.Global.{Global}
-use Rattle.clap.specs.Walk.{CommandForm, Text, all_of}
+use Rattle.clap.specs.Walk.{Row, Text, all_of}
 use Rattle.clap.specs.Words.{App, HasMatchesOf, fault_of, is_simple, is_simple_and_free, subcommand_of, found_of, matched_of, raw_values, rows_of, subcommand_name_of, subcommand_rows, subcommand_rows_of}
 use Rattle.clap.specs.declared.parser.matches.ArgMatches.{ArgMatches}
 use Rattle.clap.specs.declared.parser.matches.ArgMatches.TheViews.{out-ArgMatches, out-SubCommand}
 use Rattle.clap.specs.declared.parser.matches.SubCommand.{SubCommand}
 use Rattle.clap.specs.declared.parser.matches.Found.{Found}
 use Rattle.clap.proofs.WalkLemmas.{raw_values-rows}
+use Rattle.ksi_imprint.specs.declared.refused.Refused.{Refused}
 use Rattle.ksi_words.specs.Words.{Reads, command_form, command_named, command_of, table}
 use Rattle.ksi_words.specs.declared.asked.Command.{Command}
 use Rattle.ksi_words.specs.declared.asked.WordsRefusal.{WordsRefusal}
@@ -27,14 +28,14 @@ name_of_rows m = name_of_entered (out-ArgMatches m).subcommand
 same_text : (a b : Text) → Some a ≡ Some b → a ≡ b
 same_text a b e = cc (e)
 
-same_rows : (a b : List CommandForm) → Some a ≡ Some b → a ≡ b
+same_rows : (a b : List Row) → Some a ≡ Some b → a ≡ b
 same_rows a b e = cc (e)
 
-name_found : (m : ArgMatches) (found : Option (Bor Text × Bor ArgMatches)) (name : Bor Text) (matches : Bor ArgMatches) (n : Text) (rows : List CommandForm) → subcommand_rows_of m ≡ Some (n, rows) → option_map (λ p. p.0.now) found ≡ subcommand_name_of m → found ≡ Some (name, matches) → name.now ≡ n
+name_found : (m : ArgMatches) (found : Option (Bor Text × Bor ArgMatches)) (name : Bor Text) (matches : Bor ArgMatches) (n : Text) (rows : List Row) → subcommand_rows_of m ≡ Some (n, rows) → option_map (λ p. p.0.now) found ≡ subcommand_name_of m → found ≡ Some (name, matches) → name.now ≡ n
 name_found m found name matches n rows is names e =
     same_text name.now n (ap (option_map (λ p. p.0.now)) (sym e) ∙ names ∙ name_of_rows m ∙ ap (option_map (λ p. p.0)) is)
 
-rows_found : (m : ArgMatches) (found : Option (Bor Text × Bor ArgMatches)) (name : Bor Text) (matches : Bor ArgMatches) (n : Text) (rows : List CommandForm) → subcommand_rows_of m ≡ Some (n, rows) → option_map (λ p. rows_of (found_of p.1.now)) found ≡ option_map (λ p. p.1) (subcommand_rows_of m) → found ≡ Some (name, matches) → rows_of (found_of matches.now) ≡ rows
+rows_found : (m : ArgMatches) (found : Option (Bor Text × Bor ArgMatches)) (name : Bor Text) (matches : Bor ArgMatches) (n : Text) (rows : List Row) → subcommand_rows_of m ≡ Some (n, rows) → option_map (λ p. rows_of (found_of p.1.now)) found ≡ option_map (λ p. p.1) (subcommand_rows_of m) → found ≡ Some (name, matches) → rows_of (found_of matches.now) ≡ rows
 rows_found m found name matches n rows is told e =
     same_rows (rows_of (found_of matches.now)) rows (ap (option_map (λ p. rows_of (found_of p.1.now))) (sym e) ∙ told ∙ ap (option_map (λ p. p.1)) is)
 
@@ -56,7 +57,7 @@ module _ (words : List Text) (app : App) (is : app ≡ app_with forms) (plain : 
       let rows_are = rows_found m found name matches entered.0 _ (subcommand_is ∙ entered.3) rows e in
       (entered.1, entered.2 ∙ ap (λ (n : Text). n ∷ entered.1) (sym name_is), words_found (found_of matches.now) entered.1 rows_are)
 
-pub named_reads : (words : List Text) (name : Text) (rest read : List Text) (result : Result Command WordsRefusal) → AllPlain words → words ≡ name ∷ rest → read ≡ rest → Reads (command_named table name read) result → Reads (command_of words) result
+pub named_reads : (words : List Text) (name : Text) (rest read : List Text) (result : Result Command (Refused WordsRefusal)) → AllPlain words → words ≡ name ∷ rest → read ≡ rest → Reads (command_named table name read) result → Reads (command_of words) result
 named_reads words name rest read result plain is same reads =
     subst (λ expected. Reads expected result) (sym (plain_form words plain ∙ ap command_form is)) (subst (λ rest. Reads (command_named table name rest) result) same reads)
 

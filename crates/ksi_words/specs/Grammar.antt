@@ -4,8 +4,10 @@ use Rattle.clap.specs.Words.{App, Rule, Shape, Text, new_app, new_rule, with_rul
 use Rattle.clap.specs.Simple.{on_top}
 use Rattle.clap.specs.declared.error.kind.ErrorKind.{ErrorKind}
 use Rattle.clap.specs.declared.error.kind.ErrorKind.TheVariants.{OutOfMemory}
+use Rattle.ksi_imprint.specs.declared.refused.Refused.{Refused}
+use Rattle.ksi_imprint.specs.declared.refused.Refused.TheVariants.{Fault, NoMemory}
 use Rattle.ksi_words.specs.declared.asked.WordsRefusal.{WordsRefusal}
-use Rattle.ksi_words.specs.declared.asked.WordsRefusal.TheVariants.{NoMemory, Words}
+use Rattle.ksi_words.specs.declared.asked.WordsRefusal.TheVariants.{Words}
 use Rattle.ksi_words.specs.declared.table.CommandForm.{CommandForm}
 
 -- a command's name, and how many words follow it
@@ -31,6 +33,6 @@ abbrev pub app_over : List (Text × ℕ) → App
 app_over forms = fold (λ app form. with_subcommand app (row_app form).top) bare forms
 
 -- why a parse fails, of words of which none begins with a dash
-abbrev pub refusal_of : ErrorKind → WordsRefusal
+abbrev pub refusal_of : ErrorKind → Refused WordsRefusal
 refusal_of OutOfMemory = NoMemory
-refusal_of _ = Words
+refusal_of _ = Fault Words

@@ -1,8 +1,6 @@
 -- The sorts of words that stand after a command's name, and what a word of each stands for.
-use Rattle.std.specs.Prelude.{ℕ, ◌^◌, List, length, Bool, ◌&&◌, nat_lt, nat_le, Option, Some, None, Result, Ok, Err, if◌then◌else◌}
-use Rattle.std.specs.Char.{is_ascii_digit}
-use Rattle.std.specs.List.{list_all}
-use Rattle.std.specs.Str.Parse.{digits_value}
+use Rattle.std.specs.Prelude.{ℕ, ◌^◌, List, nat_lt, Option, Some, None, Result, Ok, Err, if◌then◌else◌}
+use Rattle.ksi_schedule.specs.Decimal.{number_of}
 use Rattle.ksi_imprint.specs.Reading.{hex_at}
 use Rattle.ksi_imprint.specs.declared.fault.HexFault.{HexFault}
 
@@ -13,19 +11,13 @@ pub data Sort : Type 0 where
   -- a number below 2^63
   time_word : Sort
 
--- 1 to 20 decimal digits
-abbrev pub is_digits : List ℕ → Bool
-is_digits word = nat_lt 0 (length word) && nat_le (length word) 20 && list_all is_ascii_digit word
-
-abbrev pub number_below : ℕ → List ℕ → Option ℕ
-number_below limit word = if is_digits word && nat_lt (digits_value 10 word) limit then Some (digits_value 10 word) else None
-
--- the number of 1 to 20 digits that is at most 2^64 - 1
-unfoldable pub number_of : List ℕ → Option ℕ
-number_of word = number_below (2 ^ 64) word
+-- the number, where it is below 2^63
+abbrev pub if_early : Option ℕ → Option ℕ
+if_early None = None
+if_early (Some n) = if nat_lt n (2 ^ 63) then Some n else None
 
 unfoldable pub time_of : List ℕ → Option ℕ
-time_of word = number_below (2 ^ 63) word
+time_of word = if_early (number_of word)
 
 abbrev pub read_hash : Result (List ℕ) HexFault → Option (List ℕ)
 read_hash (Ok imprint) = Some imprint

@@ -3,11 +3,13 @@ use Rattle.std.specs.Prelude.{◌≡◌, ℕ, ◌+◌, ◌<◌, ◌^◌, List, [
 use Rattle.std.specs.List.{list_any}
 use Rattle.std.specs.Str.{bytes_eq}
 use Rattle.std.specs.declared.alloc.Global.{Global}
+use Rattle.ksi_imprint.specs.declared.refused.Refused.{Refused}
+use Rattle.ksi_imprint.specs.declared.refused.Refused.TheVariants.{Fault, NoMemory}
 use Rattle.ksi_words.specs.Sorts.{Sort, file_word, hash_word, number_word, time_word, Of, value_of}
 use Rattle.ksi_words.specs.declared.asked.Command.{Command}
 use Rattle.ksi_words.specs.declared.asked.Command.TheVariants.{Replay, Sign, Publish, Extend, Verify, Audit, Make, Drill}
 use Rattle.ksi_words.specs.declared.asked.WordsRefusal.{WordsRefusal}
-use Rattle.ksi_words.specs.declared.asked.WordsRefusal.TheVariants.{Words, BadWord, NoMemory}
+use Rattle.ksi_words.specs.declared.asked.WordsRefusal.TheVariants.{Words, BadWord}
 
 -- a command: its file words as they stand, and its other words read
 pub data Asked : Type 0 where
@@ -115,9 +117,13 @@ abbrev pub IsEarly : Command → Type 0
 IsEarly (Extend journal signature second out) = second < 2 ^ 63
 IsEarly _ = Unit {0}
 
--- the words were read as they are, or there was no memory to read them
-abbrev pub Reads : Result Asked WordsRefusal → Result Command WordsRefusal → Type 0
+-- the words were read as they are
+abbrev pub Asks : Result Asked WordsRefusal → Result Command WordsRefusal → Type 0
+Asks expected (Ok command) = expected ≡ Ok (asked command)
+Asks expected (Err refusal) = expected ≡ Err refusal
+
+-- or there was no memory to read them
+abbrev pub Reads : Result Asked WordsRefusal → Result Command (Refused WordsRefusal) → Type 0
 Reads expected (Ok command) = expected ≡ Ok (asked command)
+Reads expected (Err (Fault refusal)) = expected ≡ Err refusal
 Reads expected (Err NoMemory) = ⊤
-Reads expected (Err Words) = expected ≡ Err Words
-Reads expected (Err (BadWord n)) = expected ≡ Err (BadWord n)

@@ -28,6 +28,4 @@ pub enum WordsRefusal {
     Words,
     /// The word of this number, counted from 1 behind the command's name, is no number or hash.
     BadWord(usize),
-    /// There was no memory to read them.
-    NoMemory,
 }

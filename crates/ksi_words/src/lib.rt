@@ -9,9 +9,9 @@
 //! ```text
 //! match command(alloc, &words) {
 //!     Ok(command) => perform(&command),
-//!     Err(WordsRefusal::Words) => say("words refused"),
-//!     Err(WordsRefusal::BadWord(n)) => say_of("bad word", n),
-//!     Err(WordsRefusal::NoMemory) => {}
+//!     Err(Refused::Fault(WordsRefusal::Words)) => say("words refused"),
+//!     Err(Refused::Fault(WordsRefusal::BadWord(n))) => say_of("bad word", n),
+//!     Err(Refused::NoMemory) => {}
 //! }
 //! ```
 #![tactic(auto)]

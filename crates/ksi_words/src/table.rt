@@ -1,7 +1,8 @@
 // The commands: a row of the table each, and what the words after its name ask for.
 ghost use Rattle.std.specs.Prelude.{◌≡◌, ◌<◌, ◌^◌, ℕ, IfOk, map};
-ghost use Rattle.ksi_words.specs.Sorts.{hash_of, number_of, time_of};
-ghost use Rattle.ksi_words.specs.Words.{Reads, asked_by, command_named, table, replay_row, sign_row, publish_row, extend_row, verify_row, audit_row, make_row, drill_row, word_at, IsEarly};
+ghost use Rattle.ksi_schedule.specs.Decimal.{number_of};
+ghost use Rattle.ksi_words.specs.Sorts.{hash_of, time_of};
+ghost use Rattle.ksi_words.specs.Words.{Asks, asked_by, command_named, table, replay_row, sign_row, publish_row, extend_row, verify_row, audit_row, make_row, drill_row, word_at, IsEarly};
 
 use crate::values::{hash, number, time};
 use crate::{Command, WordsRefusal};
@@ -51,7 +52,7 @@ pub(crate) static TABLE: [CommandForm; 8] = [
 
 /// The command of a name and the words after it.
 pub(crate) fn asked<'a>(name: &str, words: &[&'a str]) -> Result<Command<'a>, WordsRefusal>
-    ensures reads { Reads (command_named table name.now (map (λ word. word.now) words.now)) result }
+    ensures reads { Asks (command_named table name.now (map (λ word. word.now) words.now)) result }
     ensures early { IfOk result IsEarly }
 {
     match name {
@@ -68,7 +69,7 @@ pub(crate) fn asked<'a>(name: &str, words: &[&'a str]) -> Result<Command<'a>, Wo
 }
 
 fn replay<'a>(words: &[&'a str]) -> Result<Command<'a>, WordsRefusal>
-    ensures reads { Reads (asked_by replay_row (map (λ word. word.now) words.now)) result }
+    ensures reads { Asks (asked_by replay_row (map (λ word. word.now) words.now)) result }
     ensures early { IfOk result IsEarly }
 {
     let [schedule, journal] = words else {
@@ -78,7 +79,7 @@ fn replay<'a>(words: &[&'a str]) -> Result<Command<'a>, WordsRefusal>
 }
 
 fn sign<'a>(words: &[&'a str]) -> Result<Command<'a>, WordsRefusal>
-    ensures reads { Reads (asked_by sign_row (map (λ word. word.now) words.now)) result }
+    ensures reads { Asks (asked_by sign_row (map (λ word. word.now) words.now)) result }
     ensures early { IfOk result IsEarly }
 {
     let [journal, number, out] = words else {
@@ -88,7 +89,7 @@ fn sign<'a>(words: &[&'a str]) -> Result<Command<'a>, WordsRefusal>
 }
 
 fn publish<'a>(words: &[&'a str]) -> Result<Command<'a>, WordsRefusal>
-    ensures reads { Reads (asked_by publish_row (map (λ word. word.now) words.now)) result }
+    ensures reads { Asks (asked_by publish_row (map (λ word. word.now) words.now)) result }
     ensures early { IfOk result IsEarly }
 {
     let [journal, out] = words else {
@@ -98,7 +99,7 @@ fn publish<'a>(words: &[&'a str]) -> Result<Command<'a>, WordsRefusal>
 }
 
 fn extend<'a>(words: &[&'a str]) -> Result<Command<'a>, WordsRefusal>
-    ensures reads { Reads (asked_by extend_row (map (λ word. word.now) words.now)) result }
+    ensures reads { Asks (asked_by extend_row (map (λ word. word.now) words.now)) result }
     ensures early { IfOk result IsEarly }
 {
     let [journal, signature, publication, out] = words else {
@@ -108,7 +109,7 @@ fn extend<'a>(words: &[&'a str]) -> Result<Command<'a>, WordsRefusal>
 }
 
 fn verify<'a>(words: &[&'a str]) -> Result<Command<'a>, WordsRefusal>
-    ensures reads { Reads (asked_by verify_row (map (λ word. word.now) words.now)) result }
+    ensures reads { Asks (asked_by verify_row (map (λ word. word.now) words.now)) result }
     ensures early { IfOk result IsEarly }
 {
     let [signature, hash, publications] = words else {
@@ -118,7 +119,7 @@ fn verify<'a>(words: &[&'a str]) -> Result<Command<'a>, WordsRefusal>
 }
 
 fn audit<'a>(words: &[&'a str]) -> Result<Command<'a>, WordsRefusal>
-    ensures reads { Reads (asked_by audit_row (map (λ word. word.now) words.now)) result }
+    ensures reads { Asks (asked_by audit_row (map (λ word. word.now) words.now)) result }
     ensures early { IfOk result IsEarly }
 {
     let [journal, signature, hash, publications] = words else {
@@ -128,7 +129,7 @@ fn audit<'a>(words: &[&'a str]) -> Result<Command<'a>, WordsRefusal>
 }
 
 fn make<'a>(words: &[&'a str]) -> Result<Command<'a>, WordsRefusal>
-    ensures reads { Reads (asked_by make_row (map (λ word. word.now) words.now)) result }
+    ensures reads { Asks (asked_by make_row (map (λ word. word.now) words.now)) result }
     ensures early { IfOk result IsEarly }
 {
     let [number, out] = words else {
@@ -138,7 +139,7 @@ fn make<'a>(words: &[&'a str]) -> Result<Command<'a>, WordsRefusal>
 }
 
 fn drill<'a>(words: &[&'a str]) -> Result<Command<'a>, WordsRefusal>
-    ensures reads { Reads (asked_by drill_row (map (λ word. word.now) words.now)) result }
+    ensures reads { Asks (asked_by drill_row (map (λ word. word.now) words.now)) result }
     ensures early { IfOk result IsEarly }
 {
     let [number] = words else {

@@ -7,6 +7,7 @@ use Rattle.std.proofs.lemmas.Bool.{cond_both}
 use Rattle.std.proofs.lemmas.List.{length-map}
 use Rattle.ksi_imprint.specs.Imprints.{zero_imprint}
 use Rattle.ksi_aggchain.specs.declared.node.Node.{Node}
+use Rattle.ksi_aggtree.specs.declared.item.Item.{Item}
 use Rattle.ksi_aggchain.specs.Climbing.{Climbs, level_after}
 use Rattle.ksi_aggchain.specs.Links.{PlainLink}
 use Rattle.ksi_aggtree.specs.declared.entries.Entry.{Entry}
@@ -174,13 +175,13 @@ module _ (P : List ℕ → Type 0) where
     pub images : (bytes : List ℕ) → P (image bytes)
     pub rises : TreeRises image
     pub climb : ItemClimbs image
-    pub few : (items : List Node) (k : ℕ) → length items ≤ 65536 → length (chain_of image items k) ≤ 16
+    pub few : (items : List Item) (k : ℕ) → length items ≤ 65536 → length (chain_of image items k) ≤ 16
     pub sum : (start top : Node) (links : List PlainLink) → Climbs image start links top → top.level ≡ level_after start.level links
 
   module _ (image : List ℕ → List ℕ) (plan : PlanState) (is : IsPlan plan) (laws : RoundLaws image) where
     pub chain_of_round : (es : List Entry) → IsRound (items_of es) → OfEntries P es → (k : ℕ) → k < length es → OfChain P (chain_at image (items_of es) k)
     chain_of_round es round all k lt =
-        let f : Entry → Node = λ e. e.item in
+        let f : Entry → Item = λ e. e.item in
         chain_carried P laws.zero_too image laws.images laws.rises laws.climb laws.few laws.sum es k round (omega (arith, length-map es f, lt)) all
 
     module _ (above : Above) (chains : AllByRecursion (OfChain P) above.chains) (all : List Entry) (round : IsRound (items_of all)) (have : OfEntries P all) where
@@ -198,7 +199,7 @@ module _ (P : List ℕ → Type 0) where
       still_all : (j t : ℕ) (answer : Answer) → AllOf (at_core w j t (still (w.seconds j t) answer)).world
       still_all j t answer = core_turned w j t (still (w.seconds j t) answer) (all.seconds j t) tt all
 
-      submission_all : (j t from : ℕ) (item : Node) → P item.imprint → AllOf (at_core w j t (submission_row from item (w.seconds j t))).world
+      submission_all : (j t from : ℕ) (item : Item) → P item.imprint → AllOf (at_core w j t (submission_row from item (w.seconds j t))).world
       unfolding submission_row
       submission_all j t from item imprint =
           let s = w.seconds j t in
@@ -274,7 +275,7 @@ module _ (P : List ℕ → Type 0) where
               (λ _. cond_both (is_full r.open_items) _ _ (λ turn. AllOf (at_round plan w k t turn).world) (λ _. stays_all k t answers.Full)
               (λ _. added_all k t (request_entry (length w.requests) imprint) (answers.Number (length w.requests)) it))
 
-      take_all : (k t from : ℕ) (item : Node) → P item.imprint → AllOf (at_round plan w k t (round_submission from item (w.rounds k t))).world
+      take_all : (k t from : ℕ) (item : Item) → P item.imprint → AllOf (at_round plan w k t (round_submission from item (w.rounds k t))).world
       unfolding round_submission
       take_all k t from item imprint =
           let r = w.rounds k t in

@@ -6,7 +6,7 @@ use Rattle.std.proofs.lemmas.Bool.{cond-true}
 use Rattle.std.proofs.lemmas.List.{length-map}
 use Rattle.std.proofs.lemmas.Slice.Eq.{bytes_eq-Decides}
 use Rattle.ksi_imprint.specs.Imprints.{zero_imprint}
-use Rattle.ksi_aggchain.specs.declared.node.Node.{Node}
+use Rattle.ksi_aggtree.specs.declared.item.Item.{Item}
 use Rattle.ksi_aggtree.specs.declared.entries.Entry.{Entry}
 use Rattle.ksi_aggtree.specs.Rounds.{IsRound, tree_of}
 use Rattle.ksi_aggtree.specs.Entries.{items_of, candidate_of}
@@ -17,7 +17,7 @@ use Rattle.ksi_schedule.specs.declared.actor.Actor.TheVariants as actors
 use Rattle.ksi_schedule.specs.declared.event.Event.{Event}
 use Rattle.ksi_schedule.specs.Plans.{PlanState, IsPlan}
 use Rattle.ksi_schedule.specs.Events.{AreEvents}
-use Rattle.ksi_world.specs.declared.kept.KeptSecond.{KeptSecond}
+use Rattle.ksi_aggtree.specs.declared.second.Second.{Second}
 use Rattle.ksi_world.specs.Histories.{WorldState, happens, held_in, first_world, run, after}
 use Rattle.ksi_world.specs.Sound.{IsSound}
 use Rattle.ksi_world.specs.Records.{lowest, kept_root, kept_with, sealed_as, kept_items, kept_at, kept_seconds}
@@ -59,7 +59,7 @@ module _ (image : List ℕ → List ℕ) (plan : PlanState) (is : IsPlan plan) w
 
   module _ (law : StepsValid) (w : WorldState) (sound : IsSound plan w) (voted : IsVoted image plan w.seconds w.wire) where
     round_is : (j t : ℕ) (entries : List Entry) → (w.seconds j t).sealed ≡ Some entries → IsRound (items_of entries)
-    round_is j t entries at = let f : Entry → Node = λ e. e.item in record {
+    round_is j t entries at = let f : Entry → Item = λ e. e.item in record {
       few = omega (arith, length-map entries f, (voted.sealed j t).few entries at);
       low = λ k. omega (arith, are_low plan is (actors.Core j) (length w.requests) entries (sound.sealed j t entries at) k);
     }
@@ -89,7 +89,7 @@ module _ (image : List ℕ → List ℕ) (plan : PlanState) (is : IsPlan plan) w
     sealed_is : (root : List ℕ) (entries : List Entry) → candidate_of image entries ≡ root → sealed_as image root (Some entries) ≡ Some (items_of entries)
     sealed_is root entries same = cond-true (bytes_eq (candidate_of image entries) root) (Some (items_of entries)) None ((bytes_eq-Decides (candidate_of image entries) root).1 same)
 
-    sealed_by : (root : List ℕ) (sealed : Option (List Entry)) (items : List Node) → sealed_as image root sealed ≡ Some items → (entries : List Entry) × (sealed ≡ Some entries) × (candidate_of image entries ≡ root) × (items ≡ items_of entries)
+    sealed_by : (root : List ℕ) (sealed : Option (List Entry)) (items : List Item) → sealed_as image root sealed ≡ Some items → (entries : List Entry) × (sealed ≡ Some entries) × (candidate_of image entries ≡ root) × (items ≡ items_of entries)
     sealed_by root None items at = absurd (cc at)
     sealed_by root (Some entries) items at = by (bytes_eq (candidate_of image entries) root) refl at
       where
@@ -103,15 +103,15 @@ module _ (image : List ℕ → List ℕ) (plan : PlanState) (is : IsPlan plan) w
     tree_is (e ∷ es) root same real = same
 
     items_some : (entries : List Entry) → 1 ≤ length entries → 1 ≤ length (items_of entries)
-    items_some entries some = let f : Entry → Node = λ e. e.item in omega (arith, length-map entries f, some)
+    items_some entries some = let f : Entry → Item = λ e. e.item in omega (arith, length-map entries f, some)
 
     with_root : (t : ℕ) (root : List ℕ) → kept_root plan w t ≡ Some root → IsKept image (kept_with t root (kept_items image plan w t root))
     with_root t root at = by (bytes_eq root zero_imprint) refl
       where
-        of_core : ℕ → Option (List Node)
+        of_core : ℕ → Option (List Item)
         of_core core = sealed_as image root (w.seconds core t).sealed
 
-        found : root ≢ zero_imprint → (items : List Node) × (lowest of_core 0 plan.cores ≡ Some items)
+        found : root ≢ zero_imprint → (items : List Item) × (lowest of_core 0 plan.cores ≡ Some items)
         found real =
             let holder = lowest_some (λ core. held_in w core t) 0 plan.cores root at in
             let p = proposed holder.0 t root holder.3 real in
@@ -132,15 +132,15 @@ module _ (image : List ℕ → List ℕ) (plan : PlanState) (is : IsPlan plan) w
               tree = tree_is s.0 root s.2 real;
             }))
 
-    kept_is : (t : ℕ) (one : KeptSecond) → kept_at image plan w t ≡ Some one → IsKept image one
+    kept_is : (t : ℕ) (one : Second) → kept_at image plan w t ≡ Some one → IsKept image one
     kept_is t one at =
         let r = mapped (λ root. kept_with t root (kept_items image plan w t root)) (kept_root plan w t) one at in
         subst (λ one. IsKept image one) r.2 (with_root t r.0 r.1)
 
-    second_is : (t : ℕ) (one : KeptSecond) → kept_at image plan w t ≡ Some one → one.second ≡ t
+    second_is : (t : ℕ) (one : Second) → kept_at image plan w t ≡ Some one → one.second ≡ t
     second_is t one at =
         let r = mapped (λ root. kept_with t root (kept_items image plan w t root)) (kept_root plan w t) one at in
-        sym (ap (λ (one : KeptSecond). one.second) r.2)
+        sym (ap (λ (one : Second). one.second) r.2)
 
     pub kept_rising : AreRising plan.start (kept_seconds image plan w)
     unfolding kept_seconds

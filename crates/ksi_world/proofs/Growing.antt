@@ -2,7 +2,7 @@
 use Rattle.std.proofs.Common.{◌≡◌, ℕ, ◌&&◌, eqb, List, [], ◌∷◌, ◌++◌, length, refl, sym, ap, subst, ◌∙◌, is_some, Option, Some, None}
 use Rattle.std.specs.Prelude.{slice_get}
 use Rattle.std.proofs.lemmas.Bool.{cond_both, eqb-true, and_parts}
-use Rattle.ksi_aggchain.specs.declared.node.Node.{Node}
+use Rattle.ksi_aggtree.specs.declared.item.Item.{Item}
 use Rattle.ksi_aggtree.specs.declared.entries.Entry.{Entry}
 use Rattle.ksi_aggtree.specs.Entries.{has_from, is_full, candidate_of}
 use Rattle.ksi_synod.specs.declared.messages.SynodMessage.{SynodMessage}
@@ -63,7 +63,7 @@ round_grew plan w k t turn keeps = record {
 
 -- THE ROWS OF A CORE
 
-pub submission_holds : (from : ℕ) (item : Node) (s : SecondState) → Holds s (submission_row from item s).after
+pub submission_holds : (from : ℕ) (item : Item) (s : SecondState) → Holds s (submission_row from item s).after
 unfolding submission_row
 submission_holds from item s d is =
     cond_both (is_some s.sealed) _ _ (λ (turn : Turn). turn.after.vote.held ≡ Some d) (λ _. is)
@@ -106,7 +106,7 @@ request_keeps number imprint r entries is =
     cond_both (is_some r.closed) _ _ (λ (turn : RoundTurn). turn.after.closed ≡ Some entries) (λ _. is)
     (λ _. cond_both (is_full r.open_items) _ _ (λ (turn : RoundTurn). turn.after.closed ≡ Some entries) (λ _. is) (λ _. is))
 
-pub take_keeps : (from : ℕ) (item : Node) (r : RoundState) → Keeps r (round_submission from item r).after
+pub take_keeps : (from : ℕ) (item : Item) (r : RoundState) → Keeps r (round_submission from item r).after
 unfolding round_submission
 take_keeps from item r entries is =
     cond_both (is_some r.closed) _ _ (λ (turn : RoundTurn). turn.after.closed ≡ Some entries) (λ _. is)

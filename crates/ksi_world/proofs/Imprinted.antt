@@ -13,11 +13,12 @@ use Rattle.ksi_aggchain.specs.Climbing.{Climbs, level_after}
 use Rattle.ksi_aggchain.specs.Links.{PlainLink}
 use Rattle.ksi_aggchain.specs.Owned.{plain_link, plain_links}
 use Rattle.ksi_aggchain.specs.declared.node.Node.{Node}
+use Rattle.ksi_aggtree.specs.declared.item.Item.{Item}
 use Rattle.ksi_aggchain.specs.declared.link.Link.{Link}
 use Rattle.ksi_aggchain.specs.declared.link.Sibling.{Sibling}
 use Rattle.ksi_aggchain.specs.declared.link.Sibling.TheVariants as siblings
 use Rattle.ksi_aggtree.specs.declared.entries.Entry.{Entry}
-use Rattle.ksi_aggtree.specs.Rounds.{IsRound, aggregation_join, item_at, tree_of, tree_path}
+use Rattle.ksi_aggtree.specs.Rounds.{IsRound, aggregation_join, item_at, leaf_of_place, tree_of, tree_path}
 use Rattle.ksi_aggtree.specs.Paths.{links_from, chain_of}
 use Rattle.ksi_aggtree.specs.Entries.{items_of, candidate_of}
 use Rattle.ksi_signature.specs.Above.{IsNode, AreRoundLinks}
@@ -77,8 +78,11 @@ zero_is = record { algorithm = refl; size = refl }
 -- WHAT IS OF SUCH IMPRINTS
 
 module _ (P : List ℕ → Type 0) where
-  abbrev pub OfItem : Node → Type 0
+  abbrev pub OfItem : Item → Type 0
   OfItem item = P item.imprint
+
+  abbrev pub OfNode : Node → Type 0
+  OfNode node = P node.imprint
 
   -- each item is of one
   abbrev pub OfEntries : List Entry → Type 0
@@ -108,7 +112,7 @@ module _ (P : List ℕ → Type 0) where
     item_of (e ∷ es) all zero = all.0
     item_of (e ∷ es) all (suc k) = item_of es all.1 k
 
-  beside : (level : ℕ) (others : List (TreeLink Node)) → EachSibling OfItem others → AllByRecursion (λ link. OfSibling link.sibling) (links_from level others)
+  beside : (level : ℕ) (others : List (TreeLink Node)) → EachSibling OfNode others → AllByRecursion (λ link. OfSibling link.sibling) (links_from level others)
   beside level [] all = tt
   beside level (other ∷ others) all = (all.0, beside (max level other.sibling.level + 1) others all.1)
 
@@ -126,28 +130,28 @@ nodes level (other ∷ others) = (tt, nodes (max level other.sibling.level + 1) 
 module _ (P : List ℕ → Type 0) (zero_too : P zero_imprint) (image : List ℕ → List ℕ) (images : (bytes : List ℕ) → P (image bytes)) where
   -- ROUNDS
 
-  joined_is : (a b : Node) → OfItem P (aggregation_join image a b)
+  joined_is : (a b : Node) → OfNode P (aggregation_join image a b)
   joined_is a b = images (join_text a.imprint b.imprint (max a.level b.level + 1))
 
-  pub round_of : (es : List Entry) → OfEntries P es → OfItem P (tree_of image (items_of es))
-  round_of es all = tree_is Node (OfItem P) (aggregation_join image) joined_is (item_at (items_of es)) (item_of P zero_too es all) 0 (length (items_of es))
+  pub round_of : (es : List Entry) → OfEntries P es → OfNode P (tree_of image (items_of es))
+  round_of es all = tree_is Node (OfNode P) (aggregation_join image) joined_is (leaf_of_place (items_of es)) (item_of P zero_too es all) 0 (length (items_of es))
 
   pub candidate_is : (es : List Entry) → OfEntries P es → P (candidate_of image es)
   candidate_is [] all = zero_too
   candidate_is (e ∷ es) all = round_of (e ∷ es) all
 
-  module _ (rises : TreeRises image) (climb : ItemClimbs image) (few : (items : List Node) (k : ℕ) → length items ≤ 65536 → length (chain_of image items k) ≤ 16)
+  module _ (rises : TreeRises image) (climb : ItemClimbs image) (few : (items : List Item) (k : ℕ) → length items ≤ 65536 → length (chain_of image items k) ≤ 16)
       (sum : (start top : Node) (links : List PlainLink) → Climbs image start links top → top.level ≡ level_after start.level links) where
     pub chain_carried : (es : List Entry) (k : ℕ) → IsRound (items_of es) → k < length (items_of es) → OfEntries P es → OfChain P (chain_at image (items_of es) k)
     chain_carried es k round lt all =
         let items = items_of es in
         let top = rises items 239 round.few round.low in
-        let high = sum (item_at items k) (tree_of image items) (plain_links (chain_of image items k)) (climb items k round lt) in
+        let high = sum (leaf_of_place items k) (tree_of image items) (plain_links (chain_of image items k)) (climb items k round lt) in
         record {
           input = item_of P zero_too es all k;
-          limits = record { count = few items k round.few; nodes = nodes (item_at items k).level (tree_path image items k) };
-          links = low_links P (item_at items k).level (chain_of image items k) (omega (arith, top, high))
-              (beside P (item_at items k).level (tree_path image items k) (path_is Node (OfItem P) (aggregation_join image) joined_is (item_at items) (item_of P zero_too es all) 0 k (length items)));
+          limits = record { count = few items k round.few; nodes = nodes (leaf_of_place items k).level (tree_path image items k) };
+          links = low_links P (leaf_of_place items k).level (chain_of image items k) (omega (arith, top, high))
+              (beside P (leaf_of_place items k).level (tree_path image items k) (path_is Node (OfNode P) (aggregation_join image) joined_is (leaf_of_place items) (item_of P zero_too es all) 0 k (length items)));
         }
 
   -- CALENDARS

@@ -2,7 +2,7 @@
 use Rattle.std.proofs.Common.{◌≡◌, ℕ, zero, suc, ◌+◌, zero-add, true, false, List, [], ◌∷◌, refl, sym, ap, subst, ◌∙◌, arith, ◌⊎◌, inl, inr, Option, Some, None}
 use Rattle.std.specs.Prelude.{slice_get, option_map, IfSome, IfNone, IfOk, Result, Ok, Err}
 use Rattle.std.proofs.lemmas.Bool.{cases_Bool, cond-true, cond-false, eqb-true, eq-eqb}
-use Rattle.ksi_aggchain.specs.declared.node.Node.{Node}
+use Rattle.ksi_aggtree.specs.declared.item.Item.{Item}
 use Rattle.ksi_aggtree.specs.declared.entries.Entry.{Entry}
 use Rattle.ksi_aggtree.specs.declared.entries.Origin.{Origin}
 use Rattle.ksi_aggtree.specs.declared.entries.Origin.TheVariants as origins
@@ -24,11 +24,11 @@ request_is number e is = ap (λ (o : Origin). record { origin = o; item = e.item
     by (origins.Request n) is = ap (λ n. origins.Request n) (eqb-true n number is)
     by (origins.Aggregator from) is = absurd (cc is)
 
-is_of : (number : ℕ) (e : Entry) (item : Node) → e ≡ from_request number item → is_request number e.origin ≡ true
+is_of : (number : ℕ) (e : Entry) (item : Item) → e ≡ from_request number item → is_request number e.origin ≡ true
 is_of number e item same = ap (λ (e : Entry). is_request number e.origin) same ∙ eq-eqb number number refl
 
 -- what is placed stands there
-placed_there : (number place : ℕ) (entries : List Entry) (x : ℕ × Node) → placed_from number place entries ≡ Some x → (k : ℕ) × (x.0 ≡ place + k) × (slice_get entries k ≡ Some (from_request number x.1))
+placed_there : (number place : ℕ) (entries : List Entry) (x : ℕ × Item) → placed_from number place entries ≡ Some x → (k : ℕ) × (x.0 ≡ place + k) × (slice_get entries k ≡ Some (from_request number x.1))
 placed_there number place [] x is = absurd (cc is)
 placed_there number place (e ∷ es) x is = by (cases_Bool (is_request number e.origin)) (placed_there number (suc place) es x)
   where
@@ -37,14 +37,14 @@ placed_there number place (e ∷ es) x is = by (cases_Bool (is_request number e.
         (k : ℕ) × (x.0 ≡ place + k) × (slice_get (e ∷ es) k ≡ Some (from_request number x.1))
     by (inl here) later =
         let same : (place, e.item) ≡ x = cc (sym (cond-true (is_request number e.origin) (Some (place, e.item)) (placed_from number (suc place) es) here) ∙ is) in
-        let at : place ≡ x.0 = ap (λ (x : ℕ × Node). x.0) same in
-        (0, omega (arith, at), ap Some (request_is number e here) ∙ ap (λ (x : ℕ × Node). Some (from_request number x.1)) same)
+        let at : place ≡ x.0 = ap (λ (x : ℕ × Item). x.0) same in
+        (0, omega (arith, at), ap Some (request_is number e here) ∙ ap (λ (x : ℕ × Item). Some (from_request number x.1)) same)
     by (inr other) later =
         let r = later (sym (cond-false (is_request number e.origin) (Some (place, e.item)) (placed_from number (suc place) es) other) ∙ is) in
         (suc r.0, omega (arith, r.1), r.2)
 
 -- the item that stands once is the one that is placed
-placed_is : (number place : ℕ) (entries : List Entry) (k : ℕ) (item : Node) → ((i j : ℕ) (x y : Node) → slice_get entries i ≡ Some (from_request number x) → slice_get entries j ≡ Some (from_request number y) → i ≡ j) →
+placed_is : (number place : ℕ) (entries : List Entry) (k : ℕ) (item : Item) → ((i j : ℕ) (x y : Item) → slice_get entries i ≡ Some (from_request number x) → slice_get entries j ≡ Some (from_request number y) → i ≡ j) →
     slice_get entries k ≡ Some (from_request number item) → placed_from number place entries ≡ Some (place + k, item)
 placed_is number place [] k item once at = absurd (cc at)
 placed_is number place (e ∷ es) zero item once at =
@@ -74,7 +74,7 @@ module _ (image : List ℕ → List ℕ) (w : WorldState) (number : ℕ) where
     where_there bytes (Some entries) None c a is = absurd (cc is)
     where_there bytes (Some entries) (Some above) c a is = by (placed_from number 0 entries) refl is
       where
-        by : (o : Option (ℕ × Node)) → placed_from number 0 entries ≡ o → option_map (λ (placed : ℕ × Node). issued_text image asked.second entries placed.0 placed.1 above) o ≡ Some bytes → IsIssuedOf image w number bytes
+        by : (o : Option (ℕ × Item)) → placed_from number 0 entries ≡ o → option_map (λ (placed : ℕ × Item). issued_text image asked.second entries placed.0 placed.1 above) o ≡ Some bytes → IsIssuedOf image w number bytes
         by None none is = absurd (cc is)
         by (Some x) some is =
             let r = placed_there number 0 entries x some in
@@ -113,7 +113,7 @@ module _ (image : List ℕ → List ℕ) (w : WorldState) (number : ℕ) where
       ∙ subst (λ t. issued_where image t number (w.rounds k t).closed (w.rounds k t).answered ≡ Some bytes) second_is (
       ap (λ closed. issued_where image t number closed (w.rounds k t).answered) at.answered.closed
       ∙ ap (λ answered. issued_where image t number (Some at.entries) answered) at.answered.answered
-      ∙ ap (option_map (λ (placed : ℕ × Node). issued_text image t at.entries placed.0 placed.1 at.above)) placed
+      ∙ ap (option_map (λ (placed : ℕ × Item). issued_text image t at.entries placed.0 placed.1 at.above)) placed
       ∙ sym (ap Some at.text))
     where
       k : ℕ

@@ -7,8 +7,9 @@ use Rattle.std.proofs.lemmas.Slice.Eq.{bytes_eq-Decides}
 use Rattle.ksi_imprint.specs.Imprints.{zero_imprint}
 use Rattle.ksi_calendar.specs.Calendar.{calendar_path}
 use Rattle.ksi_aggchain.specs.declared.node.Node.{Node}
+use Rattle.ksi_aggtree.specs.declared.item.Item.{Item}
 use Rattle.ksi_aggtree.specs.declared.entries.Entry.{Entry}
-use Rattle.ksi_aggtree.specs.Rounds.{IsRound, tree_of}
+use Rattle.ksi_aggtree.specs.Rounds.{IsRound, leaf, tree_of}
 use Rattle.ksi_aggtree.specs.Entries.{items_of, has_from, is_full, candidate_of}
 use Rattle.ksi_synod.specs.declared.messages.SynodMessage.{SynodMessage}
 use Rattle.ksi_synod.specs.Rows.{try_ballot, ballot_told, receive, held_told}
@@ -55,7 +56,7 @@ module _ (image : List ℕ → List ℕ) (plan : PlanState) (is : IsPlan plan) (
     sealed = λ entries at. (joined.seconds j t).sealed entries (sym sealed_are ∙ at);
   }) (core_so image plan (at_core w j t turn).world j t turn.sends sends) joined
 
-  submission_joined : (j t from : ℕ) (item : Node) → IsClosedAs image plan w from t item → AllJoined image plan (at_core w j t (submission_row from item (w.seconds j t))).world
+  submission_joined : (j t from : ℕ) (item : Item) → IsClosedAs image plan w from t item → AllJoined image plan (at_core w j t (submission_row from item (w.seconds j t))).world
   unfolding submission_row
   submission_joined j t from item submitted_is =
       let s = w.seconds j t in
@@ -178,7 +179,7 @@ module _ (image : List ℕ → List ℕ) (plan : PlanState) (is : IsPlan plan) (
           (λ _. added_joined k t (request_entry (length w.requests) imprint) (answers.Number (length w.requests))
           (requested_push image plan w t r.open_items (length w.requests) (record { imprint = imprint; level = 0 }) (joined.rounds k t).open_items)))
 
-  take_joined : (k t from : ℕ) (item : Node) → IsClosedAs image plan w from t item → AllJoined image plan (at_round plan w k t (round_submission from item (w.rounds k t))).world
+  take_joined : (k t from : ℕ) (item : Item) → IsClosedAs image plan w from t item → AllJoined image plan (at_round plan w k t (round_submission from item (w.rounds k t))).world
   unfolding round_submission
   take_joined k t from item submitted_is =
       let r = w.rounds k t in
@@ -230,7 +231,7 @@ module _ (image : List ℕ → List ℕ) (plan : PlanState) (is : IsPlan plan) (
           (all_answered image plan climb w w' (round_grew plan w k t turn (λ entries at. at)) t above (e ∷ es)
           (round_is image plan is (actors.Aggregator k) (length w.requests) (e ∷ es) round.are round.few)
           ((joined.rounds k t).closed (e ∷ es) closed)
-          (subst (λ (item : Node). Joins image plan w t item above) (sym item_is) answer.joins)))) joined
+          (subst (λ (node : Node). Joins image plan w t node above) (sym tree_is) answer.joins)))) joined
         where
           turn : RoundTurn
           turn = answered_now image above (e ∷ es) (w.rounds k t)
@@ -241,11 +242,11 @@ module _ (image : List ℕ → List ℕ) (plan : PlanState) (is : IsPlan plan) (
           round : IsRoundAt plan (actors.Aggregator k) (length w.requests) (e ∷ es)
           round = (sound.rounds k t).closed (e ∷ es) closed
 
-          item_is : tree_of image (items_of (e ∷ es)) ≡ answer.item
-          item_is =
+          tree_is : tree_of image (items_of (e ∷ es)) ≡ leaf answer.item
+          tree_is =
               let both : Some (e ∷ es) ≡ Some answer.closed.entries = sym closed ∙ answer.closed.closed in
               let same : e ∷ es ≡ answer.closed.entries = cc both in
-              ap (λ es. tree_of image (items_of es)) same ∙ answer.closed.item_is
+              ap (λ es. tree_of image (items_of es)) same ∙ ap leaf answer.closed.item_is
 
       by : (closed : Option (List Entry)) → (w.rounds k t).closed ≡ closed → (answered : Option Above) → AllJoined image plan (at_round plan w k t (response_where image above closed answered (w.rounds k t))).world
       by None at answered = round_stays k t answers.Nothing

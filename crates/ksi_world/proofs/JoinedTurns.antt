@@ -1,11 +1,11 @@
 -- Each turn of a core or an aggregator keeps that what is told is so.
 use Rattle.std.proofs.Common.{◌≡◌, ℕ, zero, suc, ◌+◌, List, [], ◌∷◌, ◌++◌, refl, sym, ap, subst, arith, inl, inr, zero-add, Option, Some, None}
 use Rattle.std.specs.Prelude.{slice_get, map}
-use Rattle.ksi_aggchain.specs.declared.node.Node.{Node}
+use Rattle.ksi_aggtree.specs.declared.item.Item.{Item}
 use Rattle.ksi_aggtree.specs.declared.entries.Entry.{Entry}
 use Rattle.ksi_aggtree.specs.declared.entries.Origin.{Origin}
 use Rattle.ksi_aggtree.specs.declared.entries.Origin.TheVariants as origins
-use Rattle.ksi_aggtree.specs.Rounds.{IsRound, tree_of}
+use Rattle.ksi_aggtree.specs.Rounds.{IsRound, leaf, tree_of}
 use Rattle.ksi_aggtree.specs.Entries.{items_of}
 use Rattle.ksi_synod.specs.declared.messages.SynodMessage.{SynodMessage}
 use Rattle.ksi_synod.specs.declared.messages.SynodMessage.TheVariants as message
@@ -145,7 +145,7 @@ module _ (image : List ℕ → List ℕ) (plan : PlanState) where
 
   -- where each item of an aggregator from place k on is answered, so is what is sent
   abbrev pub AreAnswered : WorldState → (t : ℕ) (above : ℕ → Above) (k : ℕ) → List Entry → Type 0
-  AreAnswered w t above k es = (i a : ℕ) (item : Node) → slice_get es i ≡ Some (submitted_entry a item) → IsAnswer image plan w a t (above (k + i))
+  AreAnswered w t above k es = (i a : ℕ) (item : Item) → slice_get es i ≡ Some (submitted_entry a item) → IsAnswer image plan w a t (above (k + i))
 
   first_answered : (w : WorldState) (t : ℕ) (above : ℕ → Above) (k : ℕ) (e : Entry) (es : List Entry) (a : ℕ) → AreAnswered w t above k (e ∷ es) → e.origin ≡ origins.Aggregator a → IsAnswer image plan w a t (above k)
   first_answered w t above k e es a each is =
@@ -184,7 +184,7 @@ module _ (image : List ℕ → List ℕ) (plan : PlanState) where
       subst (λ (m : Message). IsSo image plan w m.sender m.addressee m.second m.content) same (tt, each.0)
   round_so w k t (s ∷ ss) each (suc i) m at = round_so w k t ss each.1 i m at
 
-  pub round_answers : (w : WorldState) (here t : ℕ) (above : Above) (items : List Node) (k : ℕ) (es : List Entry) → AreAnswered w t (below image above items) k es → EachRoundSo w here t (told.responses_from image k above items es)
+  pub round_answers : (w : WorldState) (here t : ℕ) (above : Above) (items : List Item) (k : ℕ) (es : List Entry) → AreAnswered w t (below image above items) k es → EachRoundSo w here t (told.responses_from image k above items es)
   round_answers w here t above items k [] each = tt
   round_answers w here t above items k (e ∷ es) each = by e.origin refl (round_answers w here t above items (suc k) es (others_answered w t (below image above items) k e es each))
     where
@@ -199,7 +199,7 @@ module _ (image : List ℕ → List ℕ) (plan : PlanState) where
       subst (λ n. IsAnswer image plan w' a t (below image above (items_of entries) n)) (sym (zero-add i)) (record {
         item = item;
         closed = closed_later image plan w w' grew a t item (submitted i a item at);
-        joins = joins_later image plan w w' grew t item (below image above (items_of entries) i) (joins_below image plan climb w t above entries round joins i (submitted_entry a item) at);
+        joins = joins_later image plan w w' grew t (leaf item) (below image above (items_of entries) i) (joins_below image plan climb w t above entries round joins i (submitted_entry a item) at);
       })
 
   pub fresh_joined : (w : WorldState) (k t : ℕ) → IsJoinedRound w k t fresh_round

@@ -6,11 +6,12 @@ use Rattle.std.proofs.lemmas.List.{length-map}
 use Rattle.ksi_imprint.specs.Imprints.{zero_imprint}
 use Rattle.ksi_calendar.specs.Calendar.{Seconds, calendar_path}
 use Rattle.ksi_aggchain.specs.declared.node.Node.{Node}
+use Rattle.ksi_aggtree.specs.declared.item.Item.{Item}
 use Rattle.ksi_aggchain.specs.Climbing.{Climbs}
 use Rattle.ksi_aggchain.specs.Owned.{plain_links}
 use Rattle.ksi_aggtree.specs.declared.entries.Entry.{Entry}
 use Rattle.ksi_aggtree.specs.declared.entries.Origin.TheVariants as origins
-use Rattle.ksi_aggtree.specs.Rounds.{IsRound, item_at, tree_of}
+use Rattle.ksi_aggtree.specs.Rounds.{IsRound, leaf, as_item, item_at, tree_of}
 use Rattle.ksi_aggtree.specs.Paths.{chain_of}
 use Rattle.ksi_aggtree.specs.Entries.{items_of}
 use Rattle.ksi_signature.specs.declared.above.Above.{Above}
@@ -33,20 +34,20 @@ use Rattle.ksi_world.proofs.Turning.{get_push}
 
 -- the law of chains
 abbrev pub ItemClimbs : (List ℕ → List ℕ) → Type 0
-ItemClimbs image = (items : List Node) (k : ℕ) → IsRound items → k < length items → Climbs image (item_at items k) (plain_links (chain_of image items k)) (tree_of image items)
+ItemClimbs image = (items : List Item) (k : ℕ) → IsRound items → k < length items → Climbs image (leaf (item_at items k)) (plain_links (chain_of image items k)) (tree_of image items)
 
 module _ (image : List ℕ → List ℕ) (plan : PlanState) where
-  -- the aggregator has closed this round, and this is its item
-  pub record IsClosedAs (w : WorldState) (a t : ℕ) (item : Node) : Type 0 where
+  -- the aggregator has closed this round, and submits this item for it
+  pub record IsClosedAs (w : WorldState) (a t : ℕ) (item : Item) : Type 0 where
     pub entries : List Entry
     pub closed : (w.rounds a t).closed ≡ Some entries
-    pub item_is : tree_of image (items_of entries) ≡ item
+    pub item_is : as_item (tree_of image (items_of entries)) ≡ item
 
-  -- from the item the chains climb to the root. A core holds it, and all seconds up to it, and the calendar links are those
+  -- from the node the chains climb to the root. A core holds it, and all seconds up to it, and the calendar links are those
   -- from this second to the calendar of it
-  pub record Joins (w : WorldState) (t : ℕ) (item : Node) (above : Above) : Type 0 where
+  pub record Joins (w : WorldState) (t : ℕ) (node : Node) (above : Above) : Type 0 where
     pub top : Node
-    pub climbs : ChainsClimb image item above.chains top
+    pub climbs : ChainsClimb image node above.chains top
     pub root_is : top.imprint ≡ above.root
     pub core : ℕ
     pub there : core < plan.cores
@@ -58,15 +59,15 @@ module _ (image : List ℕ → List ℕ) (plan : PlanState) where
     pub low : top.level ≤ 144
 
   pub record IsAnswer (w : WorldState) (a t : ℕ) (above : Above) : Type 0 where
-    pub item : Node
+    pub item : Item
     pub closed : IsClosedAs w a t item
-    pub joins : Joins w t item above
+    pub joins : Joins w t (leaf item) above
 
   -- each item of an aggregator is what it submitted
   abbrev pub AreSubmitted : WorldState → (t : ℕ) → List Entry → Type 0
-  AreSubmitted w t entries = (i a : ℕ) (item : Node) → slice_get entries i ≡ Some (submitted_entry a item) → IsClosedAs w a t item
+  AreSubmitted w t entries = (i a : ℕ) (item : Item) → slice_get entries i ≡ Some (submitted_entry a item) → IsClosedAs w a t item
 
-  abbrev pub IsSubmission : WorldState → (sender : Actor) (t : ℕ) → Node → Type 0
+  abbrev pub IsSubmission : WorldState → (sender : Actor) (t : ℕ) → Item → Type 0
   IsSubmission w (actors.Aggregator a) t item = IsClosedAs w a t item
   IsSubmission w (actors.Core j) t item = Unit {0}
 
@@ -90,11 +91,11 @@ module _ (image : List ℕ → List ℕ) (plan : PlanState) where
   -- LATER
 
   module _ (w w' : WorldState) (grew : Grew w w') where
-    pub closed_later : (a t : ℕ) (item : Node) → IsClosedAs w a t item → IsClosedAs w' a t item
+    pub closed_later : (a t : ℕ) (item : Item) → IsClosedAs w a t item → IsClosedAs w' a t item
     closed_later a t item is = record { entries = is.entries; closed = grew.closed a t is.entries is.closed; item_is = is.item_is }
 
-    pub joins_later : (t : ℕ) (item : Node) (above : Above) → Joins w t item above → Joins w' t item above
-    joins_later t item above is =
+    pub joins_later : (t : ℕ) (node : Node) (above : Above) → Joins w t node above → Joins w' t node above
+    joins_later t node above is =
         let too : HeldToo (held_in w is.core) (held_in w' is.core) plan.start t = λ t from to root at. grew.held is.core t root at in
         record {
           top = is.top;
@@ -111,12 +112,12 @@ module _ (image : List ℕ → List ℕ) (plan : PlanState) where
         }
 
     pub answer_later : (a t : ℕ) (above : Above) → IsAnswer w a t above → IsAnswer w' a t above
-    answer_later a t above is = record { item = is.item; closed = closed_later a t is.item is.closed; joins = joins_later t is.item above is.joins }
+    answer_later a t above is = record { item = is.item; closed = closed_later a t is.item is.closed; joins = joins_later t (leaf is.item) above is.joins }
 
     pub submitted_later : (t : ℕ) (entries : List Entry) → AreSubmitted w t entries → AreSubmitted w' t entries
     submitted_later t entries are i a item at = closed_later a t item (are i a item at)
 
-    submission_later : (sender : Actor) (t : ℕ) (item : Node) → IsSubmission w sender t item → IsSubmission w' sender t item
+    submission_later : (sender : Actor) (t : ℕ) (item : Item) → IsSubmission w sender t item → IsSubmission w' sender t item
     submission_later (actors.Aggregator a) t item is = closed_later a t item is
     submission_later (actors.Core j) t item is = tt
 
@@ -141,17 +142,17 @@ module _ (image : List ℕ → List ℕ) (plan : PlanState) where
   pub none_submitted : (w : WorldState) (t : ℕ) → AreSubmitted w t []
   none_submitted w t i a item at = absurd (cc at)
 
-  pub submitted_push : (w : WorldState) (t : ℕ) (entries : List Entry) (from : ℕ) (new : Node) → AreSubmitted w t entries → IsClosedAs w from t new → AreSubmitted w t (entries ++ submitted_entry from new ∷ [])
+  pub submitted_push : (w : WorldState) (t : ℕ) (entries : List Entry) (from : ℕ) (new : Item) → AreSubmitted w t entries → IsClosedAs w from t new → AreSubmitted w t (entries ++ submitted_entry from new ∷ [])
   submitted_push w t entries from new are is i a item at = elim (get_push entries (submitted_entry from new) i (submitted_entry a item) at) [
     | inl old ↦ are i a item old
     | inr last ↦
         let origin : origins.Aggregator a ≡ origins.Aggregator from = ap (λ (e : Entry). e.origin) last.1 in
         let a_is : a ≡ from = cc origin in
         let item_is : item ≡ new = ap (λ (e : Entry). e.item) last.1 in
-        subst (λ a. IsClosedAs w a t item) (sym a_is) (subst (λ (item : Node). IsClosedAs w from t item) (sym item_is) is)
+        subst (λ a. IsClosedAs w a t item) (sym a_is) (subst (λ (item : Item). IsClosedAs w from t item) (sym item_is) is)
   ]
 
-  pub requested_push : (w : WorldState) (t : ℕ) (entries : List Entry) (number : ℕ) (new : Node) → AreSubmitted w t entries → AreSubmitted w t (entries ++ record { origin = origins.Request number; item = new } ∷ [])
+  pub requested_push : (w : WorldState) (t : ℕ) (entries : List Entry) (number : ℕ) (new : Item) → AreSubmitted w t entries → AreSubmitted w t (entries ++ record { origin = origins.Request number; item = new } ∷ [])
   requested_push w t entries number new are i a item at = elim (get_push entries (record { origin = origins.Request number; item = new }) i (submitted_entry a item) at) [
     | inl old ↦ are i a item old
     | inr last ↦ let origin : origins.Aggregator a ≡ origins.Request number = ap (λ (e : Entry). e.origin) last.1 in absurd (cc origin)
@@ -166,19 +167,19 @@ module _ (image : List ℕ → List ℕ) (plan : PlanState) where
 
   -- items that came up in a plan are a round
   pub round_is : IsPlan plan → (here : Actor) (n : ℕ) (es : List Entry) → AreOf plan here n es → length es ≤ 65536 → IsRound (items_of es)
-  round_is is here n es are few = let f : Entry → Node = λ e. e.item in record {
+  round_is is here n es are few = let f : Entry → Item = λ e. e.item in record {
     few = omega (arith, length-map es f, few);
     low = λ k. omega (arith, are_low plan is here n es are k);
   }
 
   pub joins_below : ItemClimbs image → (w : WorldState) (t : ℕ) (above : Above) (all : List Entry) → IsRound (items_of all) → Joins w t (tree_of image (items_of all)) above → (k : ℕ) (e : Entry) → slice_get all k ≡ Some e →
-      Joins w t e.item (below image above (items_of all) k)
+      Joins w t (leaf e.item) (below image above (items_of all) k)
   joins_below climb w t above all round joins k e at =
       let there = entry_at all k e at in
-      let climbs = subst (λ (x : Node). Climbs image x (plain_links (chain_of image (items_of all) k)) (tree_of image (items_of all))) there.0 (climb (items_of all) k round there.1) in
+      let climbs = subst (λ (x : Item). Climbs image (leaf x) (plain_links (chain_of image (items_of all) k)) (tree_of image (items_of all))) there.0 (climb (items_of all) k round there.1) in
       record {
         top = joins.top;
-        climbs = (tree_of image (items_of all), ap (λ (x : Node). x.imprint) there.0, climbs, joins.climbs);
+        climbs = (tree_of image (items_of all), ap (λ (x : Item). x.imprint) there.0, climbs, joins.climbs);
         root_is = joins.root_is;
         core = joins.core;
         there = joins.there;

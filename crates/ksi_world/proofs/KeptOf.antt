@@ -12,6 +12,7 @@ use Rattle.ksi_aggchain.specs.declared.node.Node.{Node}
 use Rattle.ksi_aggchain.specs.Climbing.{Climbs, level_after}
 use Rattle.ksi_aggchain.specs.Links.{PlainLink}
 use Rattle.ksi_aggtree.specs.Paths.{chain_of}
+use Rattle.ksi_aggtree.specs.declared.item.Item.{Item}
 use Rattle.ksi_aggchain.specs.declared.link.Link.{Link}
 use Rattle.ksi_aggchain.specs.declared.link.Sibling.{Sibling}
 use Rattle.ksi_aggchain.specs.declared.link.Sibling.TheVariants as siblings
@@ -25,7 +26,7 @@ use Rattle.ksi_schedule.specs.declared.event.Event.{Event}
 use Rattle.ksi_schedule.specs.declared.event.Event.TheVariants as events
 use Rattle.ksi_schedule.specs.Plans.{PlanState, IsPlan}
 use Rattle.ksi_schedule.specs.Events.{AreEvents, AsksForImprint, AskForImprints, AsksForBytes, AskForBytes}
-use Rattle.ksi_world.specs.declared.kept.KeptSecond.{KeptSecond}
+use Rattle.ksi_aggtree.specs.declared.second.Second.{Second}
 use Rattle.ksi_world.specs.Histories.{after}
 use Rattle.ksi_world.specs.Records.{lowest, kept_root, kept_with, kept_items, kept_at, kept_seconds, sealed_as}
 use Rattle.ksi_world.specs.Validity.{EachKept}
@@ -44,7 +45,7 @@ module _ (P : List ℕ → Type 0) where
   entries_items [] of = tt
   entries_items (entry ∷ entries) of = (of.0, entries_items entries of.1)
 
-  sealed_items : (image : List ℕ → List ℕ) (root : List ℕ) (sealed : Option (List Entry)) (items : List Node) → sealed_as image root sealed ≡ Some items
+  sealed_items : (image : List ℕ → List ℕ) (root : List ℕ) (sealed : Option (List Entry)) (items : List Item) → sealed_as image root sealed ≡ Some items
       → ((entries : List Entry) → sealed ≡ Some entries → OfEntries P entries) → AllByRecursion (OfItem P) items
   sealed_items image root None items at of = absurd (cc at)
   sealed_items image root (Some entries) items at of = by (bytes_eq (candidate_of image entries) root) at
@@ -58,10 +59,10 @@ module _ (P : List ℕ → Type 0) where
   all_roots (x ∷ xs) each = (each 0 x.0 x.1 refl, all_roots xs (λ k. each (suc k)))
 
   -- a kept second of such imprints
-  abbrev pub OfKept : KeptSecond → Type 0
+  abbrev pub OfKept : Second → Type 0
   OfKept kept = P kept.root × AllByRecursion (OfItem P) kept.items
 
-  pub roots_of : (kept : List KeptSecond) → EachKept OfKept kept → EachKept (λ one. P one.root) kept
+  pub roots_of : (kept : List Second) → EachKept OfKept kept → EachKept (λ one. P one.root) kept
   roots_of [] of = tt
   roots_of (one ∷ kept) of = (of.0.0, roots_of kept of.1)
 
@@ -74,16 +75,16 @@ module _ (P : List ℕ → Type 0) where
     items_are t root =
         cond_both (bytes_eq root zero_imprint) [] (unwrap_or (lowest of_core 0 plan.cores) []) (AllByRecursion (OfItem P)) (λ missed. tt) (λ real. by (lowest of_core 0 plan.cores) refl)
       where
-        of_core : ℕ → Option (List Node)
+        of_core : ℕ → Option (List Item)
         of_core core = sealed_as image root ((after image plan es).seconds core t).sealed
 
-        by : (o : Option (List Node)) → lowest of_core 0 plan.cores ≡ o → AllByRecursion (OfItem P) (unwrap_or o [])
+        by : (o : Option (List Item)) → lowest of_core 0 plan.cores ≡ o → AllByRecursion (OfItem P) (unwrap_or o [])
         by None none = tt
         by (Some items) some =
             let core = lowest_some of_core 0 plan.cores items some in
             sealed_items image root ((after image plan es).seconds core.0 t).sealed items core.3 (λ entries at. (all.seconds core.0 t).sealed entries at)
 
-    one_kept : (t : ℕ) (one : KeptSecond) → kept_at image plan (after image plan es) t ≡ Some one → OfKept one
+    one_kept : (t : ℕ) (one : Second) → kept_at image plan (after image plan es) t ≡ Some one → OfKept one
     one_kept t one at = by (kept_root plan (after image plan es) t) refl at
       where
         by : (o : Option (List ℕ)) → kept_root plan (after image plan es) t ≡ o → option_map (λ root. kept_with t root (kept_items image plan (after image plan es) t root)) o ≡ Some one → OfKept one
@@ -105,7 +106,7 @@ module _ (P : List ℕ → Type 0) where
 
 -- the laws of rounds, where what is hashed are imprints
 pub imprint_laws : (image : List ℕ → List ℕ) → ((bytes : List ℕ) → IsImprint (image bytes)) → TreeRises image → ItemClimbs image
-    → ((items : List Node) (k : ℕ) → length items ≤ 65536 → length (chain_of image items k) ≤ 16)
+    → ((items : List Item) (k : ℕ) → length items ≤ 65536 → length (chain_of image items k) ≤ 16)
     → ((start top : Node) (links : List PlainLink) → Climbs image start links top → top.level ≡ level_after start.level links) → RoundLaws IsImprint image
 imprint_laws image images rises climb few sum = record { zero_too = zero_is; images = images; rises = rises; climb = climb; few = few; sum = sum }
 

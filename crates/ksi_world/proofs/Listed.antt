@@ -6,7 +6,7 @@ use Rattle.ksi_imprint.specs.Imprints.{zero_imprint}
 use Rattle.ksi_corenode.specs.SecondState.{SecondState}
 use Rattle.ksi_corenode.specs.CoreState.{CoreState, state_of, held_by}
 use Rattle.ksi_schedule.specs.Plans.{PlanState, InRange}
-use Rattle.ksi_world.specs.declared.kept.KeptSecond.{KeptSecond}
+use Rattle.ksi_aggtree.specs.declared.second.Second.{Second}
 use Rattle.ksi_world.specs.Histories.{WorldState, held_in}
 use Rattle.ksi_world.specs.Sound.{IsSound}
 use Rattle.ksi_world.specs.Nodes.{NodesState, AreCores, Fits}
@@ -53,11 +53,11 @@ module _ (image : List ℕ → List ℕ) (plan : PlanState) (w : WorldState) whe
     from_start from [] within rising = tt
     from_start from (t ∷ ts) within rising = (within t (inl refl), rising.1)
 
-    pub listed_is : (nodes : NodesState) (kept : List KeptSecond) → Fits plan w nodes → AreListed image nodes.cores nodes.wire kept → kept ≡ kept_seconds image plan w
+    pub listed_is : (nodes : NodesState) (kept : List Second) → Fits plan w nodes → AreListed image nodes.cores nodes.wire kept → kept ≡ kept_seconds image plan w
     unfolding kept_seconds
     listed_is nodes kept fits are =
         are.kept_are
-        ∙ ap (λ (f : ℕ → Option KeptSecond). kept_listed f are.seconds) (same_function (second_among image nodes.cores) (kept_at image plan w) (second_same nodes.cores fits.cores))
+        ∙ ap (λ (f : ℕ → Option Second). kept_listed f are.seconds) (same_function (second_among image nodes.cores) (kept_at image plan w) (second_same nodes.cores fits.cores))
         ∙ listed_all (kept_at image plan w) plan.start (2 ^ 24) are.seconds
         (from_start 0 are.seconds (λ t there. (range t there).0) are.told.rising)
         range

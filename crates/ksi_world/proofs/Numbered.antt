@@ -2,7 +2,7 @@
 use Rattle.std.proofs.Common.{◌≡◌, ℕ, zero, suc, ◌&&◌, eqb, List, [], ◌∷◌, ◌++◌, length, refl, sym, ap, subst, ◌∙◌, inl, inr, is_some, Option, Some, None}
 use Rattle.std.specs.Prelude.{slice_get}
 use Rattle.std.proofs.lemmas.Bool.{cond_both, eqb-true, and_parts}
-use Rattle.ksi_aggchain.specs.declared.node.Node.{Node}
+use Rattle.ksi_aggtree.specs.declared.item.Item.{Item}
 use Rattle.ksi_aggtree.specs.declared.entries.Entry.{Entry}
 use Rattle.ksi_aggtree.specs.declared.entries.Origin.TheVariants as origins
 use Rattle.ksi_aggtree.specs.Entries.{has_from, is_full}
@@ -25,16 +25,16 @@ use Rattle.ksi_world.specs.Histories as histories
 use Rattle.ksi_world.proofs.Turning.{get_push}
 
 -- what the request of the item asked of aggregator k for second t
-abbrev pub asked_at : (k t : ℕ) → Node → Asked
+abbrev pub asked_at : (k t : ℕ) → Item → Asked
 asked_at k t item = record { aggregator = k; second = t; imprint = item.imprint }
 
-pub record IsAskedAt (requests : List Asked) (k t number : ℕ) (item : Node) : Type 0 where
+pub record IsAskedAt (requests : List Asked) (k t number : ℕ) (item : Item) : Type 0 where
   pub asked : slice_get requests number ≡ Some (asked_at k t item)
   pub level : item.level ≡ 0
 
 pub record AreRequested (requests : List Asked) (k t : ℕ) (entries : List Entry) : Type 0 where
-  pub asked : (i number : ℕ) (item : Node) → slice_get entries i ≡ Some (from_request number item) → IsAskedAt requests k t number item
-  pub once : (i j number : ℕ) (x y : Node) → slice_get entries i ≡ Some (from_request number x) → slice_get entries j ≡ Some (from_request number y) → i ≡ j
+  pub asked : (i number : ℕ) (item : Item) → slice_get entries i ≡ Some (from_request number item) → IsAskedAt requests k t number item
+  pub once : (i j number : ℕ) (x y : Item) → slice_get entries i ≡ Some (from_request number x) → slice_get entries j ≡ Some (from_request number y) → i ≡ j
 
 pub record IsNumberedRound (requests : List Asked) (k t : ℕ) (r : RoundState) : Type 0 where
   pub open_items : AreRequested requests k t r.open_items
@@ -64,7 +64,7 @@ no_items requests k t = record { asked = λ i number item at. absurd (cc at); on
 fresh_numbered : (requests : List Asked) (k t : ℕ) → IsNumberedRound requests k t fresh_round
 fresh_numbered requests k t = record { open_items = no_items requests k t; closed = λ entries at. absurd (cc at) }
 
-asked_more : (requests : List Asked) (new : Asked) (k t number : ℕ) (item : Node) → IsAskedAt requests k t number item → IsAskedAt (requests ++ new ∷ []) k t number item
+asked_more : (requests : List Asked) (new : Asked) (k t number : ℕ) (item : Item) → IsAskedAt requests k t number item → IsAskedAt (requests ++ new ∷ []) k t number item
 asked_more requests new k t number item is = record { asked = get_front requests (new ∷ []) number (asked_at k t item) is.asked; level = is.level }
 
 requested_more : (requests : List Asked) (new : Asked) (k t : ℕ) (entries : List Entry) → AreRequested requests k t entries → AreRequested (requests ++ new ∷ []) k t entries
@@ -80,13 +80,13 @@ round_more requests new k t r is = record {
 }
 
 -- an item of an aggregator
-push_lower : (requests : List Asked) (k t from : ℕ) (item : Node) (entries : List Entry) → AreRequested requests k t entries → AreRequested requests k t (entries ++ submitted_entry from item ∷ [])
+push_lower : (requests : List Asked) (k t from : ℕ) (item : Item) (entries : List Entry) → AreRequested requests k t entries → AreRequested requests k t (entries ++ submitted_entry from item ∷ [])
 push_lower requests k t from item entries are = record {
   asked = λ i number x at. are.asked i number x (old i number x at);
   once = λ i j number x y at at'. are.once i j number x y (old i number x at) (old j number y at');
 }
   where
-    old : (i number : ℕ) (x : Node) → slice_get (entries ++ submitted_entry from item ∷ []) i ≡ Some (from_request number x) → slice_get entries i ≡ Some (from_request number x)
+    old : (i number : ℕ) (x : Item) → slice_get (entries ++ submitted_entry from item ∷ []) i ≡ Some (from_request number x) → slice_get entries i ≡ Some (from_request number x)
     old i number x at = elim (get_push entries (submitted_entry from item) i (from_request number x) at) [
       | inl there ↦ there
       | inr new ↦ absurd (cc (ap (λ (e : Entry). e.origin) new.1))
@@ -118,19 +118,19 @@ push_request requests k t imprint entries are = record {
     entry : Entry
     entry = request_entry (length requests) imprint
 
-    number_is : (number : ℕ) (x : Node) → from_request number x ≡ request_entry (length requests) imprint → number ≡ length requests
+    number_is : (number : ℕ) (x : Item) → from_request number x ≡ request_entry (length requests) imprint → number ≡ length requests
     number_is number x same = let origin : origins.Request number ≡ origins.Request (length requests) = ap (λ (e : Entry). e.origin) same in cc origin
 
-    item_is : (number : ℕ) (x : Node) → from_request number x ≡ request_entry (length requests) imprint → x ≡ record { imprint = imprint; level = 0 }
+    item_is : (number : ℕ) (x : Item) → from_request number x ≡ request_entry (length requests) imprint → x ≡ record { imprint = imprint; level = 0 }
     item_is number x same = ap (λ (e : Entry). e.item) same
 
-    here : (number : ℕ) (x : Node) → number ≡ length requests → x ≡ record { imprint = imprint; level = 0 } → IsAskedAt (requests ++ new ∷ []) k t number x
+    here : (number : ℕ) (x : Item) → number ≡ length requests → x ≡ record { imprint = imprint; level = 0 } → IsAskedAt (requests ++ new ∷ []) k t number x
     here number x number_is item_is =
         subst (λ n. IsAskedAt (requests ++ new ∷ []) k t n x) (sym number_is)
-        (subst (λ (x : Node). IsAskedAt (requests ++ new ∷ []) k t (length requests) x) (sym item_is)
+        (subst (λ (x : Item). IsAskedAt (requests ++ new ∷ []) k t (length requests) x) (sym item_is)
         (record { asked = get_last requests new; level = refl }))
 
-    not_both : (i number : ℕ) (x : Node) → slice_get entries i ≡ Some (from_request number x) → number ≡ length requests → ⊥
+    not_both : (i number : ℕ) (x : Item) → slice_get entries i ≡ Some (from_request number x) → number ≡ length requests → ⊥
     not_both i number x there is = none_at_end requests (asked_at k t x) (subst (λ n. slice_get requests n ≡ Some (asked_at k t x)) is ((are.asked i number x there).asked))
 
 module _ (image : List ℕ → List ℕ) (plan : PlanState) where
@@ -166,7 +166,7 @@ module _ (image : List ℕ → List ℕ) (plan : PlanState) where
       all : IsNumbered w'
       all i u = round_more w.requests new i u (w.rounds i u) (is i u)
 
-  submission_numbered : (w : WorldState) (k t from : ℕ) (item : Node) → IsNumbered w → IsNumbered (at_round plan w k t (round_submission from item (w.rounds k t))).world
+  submission_numbered : (w : WorldState) (k t from : ℕ) (item : Item) → IsNumbered w → IsNumbered (at_round plan w k t (round_submission from item (w.rounds k t))).world
   unfolding round_submission
   submission_numbered w k t from item is =
       let r = w.rounds k t in

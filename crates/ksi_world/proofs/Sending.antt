@@ -3,11 +3,11 @@ use Rattle.std.proofs.Common.{◌≡◌, ℕ, zero, suc, ◌+◌, ◌-◌, ◌*�
 use Rattle.std.specs.Prelude.{slice_get, map}
 use Rattle.std.proofs.lemmas.Bool.{cond_both, cond-false, eqb-true, eqb-false, or_parts}
 use Rattle.std.proofs.lemmas.List.{length-map}
-use Rattle.ksi_aggchain.specs.declared.node.Node.{Node}
+use Rattle.ksi_aggtree.specs.declared.item.Item.{Item}
 use Rattle.ksi_aggtree.specs.declared.entries.Entry.{Entry}
 use Rattle.ksi_aggtree.specs.declared.entries.Origin.{Origin}
 use Rattle.ksi_aggtree.specs.declared.entries.Origin.TheVariants as origins
-use Rattle.ksi_aggtree.specs.Rounds.{item_at, tree_of}
+use Rattle.ksi_aggtree.specs.Rounds.{as_item, item_at, tree_of}
 use Rattle.ksi_aggtree.specs.Entries.{items_of, is_from, has_from, is_full}
 use Rattle.ksi_synod.specs.declared.messages.SynodMessage.{SynodMessage}
 use Rattle.ksi_synod.specs.declared.messages.SynodMessage.TheVariants as message
@@ -40,7 +40,7 @@ get_in_either (y ∷ xs) ys (suc k) x at = get_in_either xs ys k x at
 
 -- the law of levels
 abbrev pub TreeRises : (List ℕ → List ℕ) → Type 0
-TreeRises image = (items : List Node) (most : ℕ) → length items ≤ 65536 → ((k : ℕ) → (item_at items k).level ≤ most) → (tree_of image items).level ≤ most + 16
+TreeRises image = (items : List Item) (most : ℕ) → length items ≤ 65536 → ((k : ℕ) → (item_at items k).level ≤ most) → (tree_of image items).level ≤ most + 16
 
 -- each message is a post
 abbrev pub ArePosts : PlanState → List Message → Type 0
@@ -113,7 +113,7 @@ module _ (plan : PlanState) where
 
   -- ITEMS
 
-  pub of_more : (here : Actor) (n n' : ℕ) (o : Origin) (item : Node) → n ≤ n' → IsOf plan here n o item → IsOf plan here n' o item
+  pub of_more : (here : Actor) (n n' : ℕ) (o : Origin) (item : Item) → n ≤ n' → IsOf plan here n o item → IsOf plan here n' o item
   of_more here n n' (origins.Request number) item le is = (omega (arith, is.0), is.1)
   of_more here n n' (origins.Aggregator from) item le is = is
 
@@ -146,7 +146,7 @@ module _ (plan : PlanState) where
       omega (arith, none_from from es parts.1, none_here)
 
   -- where the list has room and none of the sender, a sender's item may be added
-  pub round_push : (here : Actor) (n : ℕ) (es : List Entry) (from : ℕ) (item : Node) → IsRoundAt plan here n es → has_from from es ≡ false → is_full es ≡ false → IsOf plan here n (origins.Aggregator from) item →
+  pub round_push : (here : Actor) (n : ℕ) (es : List Entry) (from : ℕ) (item : Item) → IsRoundAt plan here n es → has_from from es ≡ false → is_full es ≡ false → IsOf plan here n (origins.Aggregator from) item →
       IsRoundAt plan here n (es ++ submitted_entry from item ∷ [])
   round_push here n es from item r none room is = record {
     are = are_push here n es (submitted_entry from item) r.are is;
@@ -164,7 +164,7 @@ module _ (plan : PlanState) where
   -- LEVELS AND RESPONSES
 
   module _ (is : IsPlan plan) where
-    of_low : (here : Actor) (n : ℕ) (o : Origin) (item : Node) → IsOf plan here n o item → item.level + 16 * suc (depth_of plan here) ≤ 144
+    of_low : (here : Actor) (n : ℕ) (o : Origin) (item : Item) → IsOf plan here n o item → item.level + 16 * suc (depth_of plan here) ≤ 144
     of_low here n (origins.Request number) item r = omega (arith, r.1, depth_most plan here)
     of_low here n (origins.Aggregator from) item r = omega (arith, r.2, depth_child plan is from r.0, ap (depth_of plan) r.1)
 
@@ -174,24 +174,24 @@ module _ (plan : PlanState) where
     are_low here n (e ∷ es) r zero = omega (arith, of_low here n e.origin e.item r.0)
     are_low here n (e ∷ es) r (suc i) = are_low here n es r.1 i
 
-    pub tree_low : (image : List ℕ → List ℕ) → TreeRises image → (here : Actor) (n : ℕ) (es : List Entry) → IsRoundAt plan here n es → IsLow plan here (tree_of image (items_of es))
+    pub tree_low : (image : List ℕ → List ℕ) → TreeRises image → (here : Actor) (n : ℕ) (es : List Entry) → IsRoundAt plan here n es → IsLow plan here (as_item (tree_of image (items_of es)))
     tree_low image rises here n es r =
-        let f : Entry → Node = λ e. e.item in
+        let f : Entry → Item = λ e. e.item in
         omega (arith, depth_most plan here, rises (items_of es) (144 - 16 * suc (depth_of plan here)) (omega (arith, length-map es f, r.few)) (are_low here n es r.are))
 
     pub core_responses : (j n k : ℕ) (above : ℕ → Above) (es : List Entry) → ((i : ℕ) → length (above i).chains ≤ 1) → AreOf plan (actors.Core j) n es → FineSends j (responses_from above k es)
     core_responses j n k above [] short are = tt
     core_responses j n k above (e ∷ es) short are = fine_both j (response_to e.origin (above k)) (responses_from above (suc k) es) (one e.origin e.item are.0) (core_responses j n (suc k) above es short are.1)
       where
-        one : (o : Origin) (item : Node) → IsOf plan (actors.Core j) n o item → FineSends j (response_to o (above k))
+        one : (o : Origin) (item : Item) → IsOf plan (actors.Core j) n o item → FineSends j (response_to o (above k))
         one (origins.Request number) item r = tt
         one (origins.Aggregator from) item r = ((r.0, omega (arith, depth_child plan is from r.0, short k)), tt)
 
-    module _ (image : List ℕ → List ℕ) (k n : ℕ) (above : Above) (items : List Node) (few : length above.chains ≤ depth_of plan (actors.Aggregator k)) where
+    module _ (image : List ℕ → List ℕ) (k n : ℕ) (above : Above) (items : List Item) (few : length above.chains ≤ depth_of plan (actors.Aggregator k)) where
       pub round_responses : (i : ℕ) (es : List Entry) → AreOf plan (actors.Aggregator k) n es → FineOuts k (told.responses_from image i above items es)
       round_responses i [] are = tt
       round_responses i (e ∷ es) are = out_both k (told.told_to e.origin (told.below image above items i)) (told.responses_from image (suc i) above items es) (one e.origin e.item are.0) (round_responses (suc i) es are.1)
         where
-          one : (o : Origin) (item : Node) → IsOf plan (actors.Aggregator k) n o item → FineOuts k (told.told_to o (told.below image above items i))
+          one : (o : Origin) (item : Item) → IsOf plan (actors.Aggregator k) n o item → FineOuts k (told.told_to o (told.below image above items i))
           one (origins.Request number) item r = tt
           one (origins.Aggregator from) item r = ((r.0, omega (arith, depth_child plan is from r.0, ap (depth_of plan) r.1, few)), tt)

@@ -1,14 +1,14 @@
 -- The kept ones of all seconds are those of the seconds that may be kept.
 use Rattle.std.proofs.Common.{◌≡◌, ℕ, zero, suc, ◌+◌, ◌<◌, ◌≤◌, List, [], ◌∷◌, refl, sym, ap, subst, ◌∙◌, arith, ◌⊎◌, inl, inr, Option, Some, None}
 use Rattle.std.proofs.lemmas.Bool.{cases_eq}
-use Rattle.ksi_world.specs.declared.kept.KeptSecond.{KeptSecond}
+use Rattle.ksi_aggtree.specs.declared.second.Second.{Second}
 use Rattle.ksi_world.specs.Records.{kept_before, kept_among}
 use Rattle.ksi_world.specs.Deciding.{In, IsRising}
 use Rattle.ksi_world.specs.Keeping.{kept_listed}
 use Rattle.ksi_world.specs.Validity.{AreRising, EachKept}
 use Rattle.ksi_world.proofs.Listing.{in_above}
 
-module _ (kept : ℕ → Option KeptSecond) where
+module _ (kept : ℕ → Option Second) where
   -- each of n seconds from lo on is listed, or not kept
   abbrev Covers : (lo n : ℕ) → List ℕ → Type 0
   Covers lo n ts = (t : ℕ) → lo ≤ t → t < lo + n → (kept t ≡ None) ⊎ In t ts
@@ -47,8 +47,8 @@ module _ (kept : ℕ → Option KeptSecond) where
 
   -- WHAT HOLDS OF EACH
 
-  module _ (second_is : (t : ℕ) (one : KeptSecond) → kept t ≡ Some one → one.second ≡ t) where
-    lower : (from to : ℕ) (ks : List KeptSecond) → to ≤ from → AreRising from ks → AreRising to ks
+  module _ (second_is : (t : ℕ) (one : Second) → kept t ≡ Some one → one.second ≡ t) where
+    lower : (from to : ℕ) (ks : List Second) → to ≤ from → AreRising from ks → AreRising to ks
     lower from to [] le rising = tt
     lower from to (k ∷ ks) le rising = (omega (arith, le, rising.0), rising.1)
 
@@ -56,14 +56,14 @@ module _ (kept : ℕ → Option KeptSecond) where
     among_rising lo zero = tt
     among_rising lo (suc n) = by (kept lo) refl (among_rising (suc lo) n)
       where
-        by : (o : Option KeptSecond) → kept lo ≡ o → AreRising (suc lo) (kept_among kept (suc lo) n) → AreRising lo (kept_before o (kept_among kept (suc lo) n))
+        by : (o : Option Second) → kept lo ≡ o → AreRising (suc lo) (kept_among kept (suc lo) n) → AreRising lo (kept_before o (kept_among kept (suc lo) n))
         by None is later = lower (suc lo) lo (kept_among kept (suc lo) n) (omega arith) later
         by (Some one) is later = let same = second_is lo one is in (omega (arith, same), subst (λ t. AreRising (suc t) (kept_among kept (suc lo) n)) (sym same) later)
 
-  pub among_each : (P : KeptSecond → Type 0) (lo n : ℕ) → ((t : ℕ) (one : KeptSecond) → lo ≤ t → t < lo + n → kept t ≡ Some one → P one) → EachKept P (kept_among kept lo n)
+  pub among_each : (P : Second → Type 0) (lo n : ℕ) → ((t : ℕ) (one : Second) → lo ≤ t → t < lo + n → kept t ≡ Some one → P one) → EachKept P (kept_among kept lo n)
   among_each P lo zero each = tt
   among_each P lo (suc n) each = by (kept lo) refl (among_each P (suc lo) n (λ t one le lt. each t one (omega (arith, le)) (omega (arith, lt))))
     where
-      by : (o : Option KeptSecond) → kept lo ≡ o → EachKept P (kept_among kept (suc lo) n) → EachKept P (kept_before o (kept_among kept (suc lo) n))
+      by : (o : Option Second) → kept lo ≡ o → EachKept P (kept_among kept (suc lo) n) → EachKept P (kept_before o (kept_among kept (suc lo) n))
       by None is later = later
       by (Some one) is later = (each lo one (omega arith) (omega arith) is, later)

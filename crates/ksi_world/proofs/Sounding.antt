@@ -2,7 +2,7 @@
 use Rattle.std.proofs.Common.{◌≡◌, ℕ, suc, ◌<◌, ◌≤◌, true, ◌&&◌, eqb, List, [], ◌∷◌, ◌++◌, length, refl, sym, subst, arith, is_some, Option, Some, None, length-append, lit<}
 use Rattle.std.specs.Prelude.{slice_get, map}
 use Rattle.std.proofs.lemmas.Bool.{cond_both, eqb-true, and_parts}
-use Rattle.ksi_aggchain.specs.declared.node.Node.{Node}
+use Rattle.ksi_aggtree.specs.declared.item.Item.{Item}
 use Rattle.ksi_aggtree.specs.declared.entries.Entry.{Entry}
 use Rattle.ksi_aggtree.specs.Entries.{items_of, has_from, is_full, candidate_of}
 use Rattle.ksi_synod.specs.declared.messages.SynodMessage.{SynodMessage}
@@ -64,7 +64,7 @@ module _ (image : List ℕ → List ℕ) (plan : PlanState) (is : IsPlan plan) (
   still_sound : (w : WorldState) (j t : ℕ) (answer : Answer) → j < plan.cores → InRange plan t → IsSound plan w → IsSound plan (at_core w j t (still (w.seconds j t) answer)).world
   still_sound w j t answer lt range sound = core_sound w j t (still (w.seconds j t) answer) lt range (second_of w j t lt sound) tt sound
 
-  submission_sound : (w : WorldState) (j t from : ℕ) (item : Node) → j < plan.cores → InRange plan t → IsSent plan (actors.Aggregator from) (actors.Core j) (contents.Submission item) → IsSound plan w → IsSound plan (at_core w j t (submission_row from item (w.seconds j t))).world
+  submission_sound : (w : WorldState) (j t from : ℕ) (item : Item) → j < plan.cores → InRange plan t → IsSent plan (actors.Aggregator from) (actors.Core j) (contents.Submission item) → IsSound plan w → IsSound plan (at_core w j t (submission_row from item (w.seconds j t))).world
   unfolding submission_row
   submission_sound w j t from item lt range sent sound =
       let s = w.seconds j t in
@@ -182,7 +182,7 @@ module _ (image : List ℕ → List ℕ) (plan : PlanState) (is : IsPlan plan) (
       Goes : RoundTurn → Type 0
       Goes turn = IsSound plan (accepted_where asked (at_round plan w k t turn)).world
 
-  take_sound : (w : WorldState) (k t from : ℕ) (item : Node) → k < length plan.parents → InRange plan t → IsSent plan (actors.Aggregator from) (actors.Aggregator k) (contents.Submission item) → IsSound plan w → IsSound plan (at_round plan w k t (round_submission from item (w.rounds k t))).world
+  take_sound : (w : WorldState) (k t from : ℕ) (item : Item) → k < length plan.parents → InRange plan t → IsSent plan (actors.Aggregator from) (actors.Aggregator k) (contents.Submission item) → IsSound plan w → IsSound plan (at_round plan w k t (round_submission from item (w.rounds k t))).world
   unfolding round_submission
   take_sound w k t from item lt range sent sound =
       let r = w.rounds k t in

@@ -2,7 +2,7 @@
 use Rattle.std.proofs.Common.{◌≡◌, ℕ, zero, suc, ◌+◌, ◌≤◌, true, ◌||◌, cond, eqb, ltb, List, [], ◌∷◌, length, refl, sym, ap, subst, ◌∙◌, arith, inl, inr, Option, Some, None, length-append}
 use Rattle.std.specs.Prelude.{slice_get, unwrap_or}
 use Rattle.std.proofs.lemmas.Bool.{cases_lt, cases_eq, cond-true, cond-false, lt-ltb, le-ltb, eq-eqb}
-use Rattle.ksi_aggchain.specs.declared.node.Node.{Node}
+use Rattle.ksi_aggtree.specs.declared.item.Item.{Item}
 use Rattle.ksi_aggtree.specs.declared.entries.Entry.{Entry}
 use Rattle.ksi_aggtree.specs.declared.entries.Origin.{Origin}
 use Rattle.ksi_aggtree.specs.declared.entries.Origin.TheVariants as origins
@@ -83,11 +83,11 @@ module _ (plan : PlanState) where
   few_below zero es once = omega (arith, count_none es)
   few_below (suc m) es once = omega (arith, count_more m es, few_below m es once, once m)
 
-  flag_lower : (here : Actor) (n : ℕ) (o : Origin) (item : Node) (above : Above) → IsOf plan here n o item → length (told.told_to o above) ≡ flag_below (length plan.parents) o
+  flag_lower : (here : Actor) (n : ℕ) (o : Origin) (item : Item) (above : Above) → IsOf plan here n o item → length (told.told_to o above) ≡ flag_below (length plan.parents) o
   flag_lower here n (origins.Request number) item above is = refl
   flag_lower here n (origins.Aggregator from) item above is = let one : ℕ = 1 in sym (cond-true (ltb from (length plan.parents)) one 0 (lt-ltb from (length plan.parents) is.0))
 
-  count_lower : (image : List ℕ → List ℕ) (here : Actor) (n i : ℕ) (above : Above) (items : List Node) (es : List Entry) → AreOf plan here n es → length (told.responses_from image i above items es) ≡ count_below (length plan.parents) es
+  count_lower : (image : List ℕ → List ℕ) (here : Actor) (n i : ℕ) (above : Above) (items : List Item) (es : List Entry) → AreOf plan here n es → length (told.responses_from image i above items es) ≡ count_below (length plan.parents) es
   count_lower image here n i above items [] are = refl
   count_lower image here n i above items (e ∷ es) are = omega (arith, length-append (told.told_to e.origin (told.below image above items i)) (told.responses_from image (suc i) above items es), flag_lower here n e.origin e.item (told.below image above items i) are.0, count_lower image here n (suc i) above items es are.1)
 
@@ -107,7 +107,7 @@ module _ (plan : PlanState) where
     lower_depth here n [] are lower = absurd (cc lower)
     lower_depth here n (e ∷ es) are lower = by e.origin e.item are.0 (lower_depth here n es are.1) lower
       where
-        by : (o : Origin) (item : Node) → IsOf plan here n o item → (has_lower es ≡ true → suc (depth_of plan here) ≤ 8) → (is_lower o || has_lower es) ≡ true → suc (depth_of plan here) ≤ 8
+        by : (o : Origin) (item : Item) → IsOf plan here n o item → (has_lower es ≡ true → suc (depth_of plan here) ≤ 8) → (is_lower o || has_lower es) ≡ true → suc (depth_of plan here) ≤ 8
         by (origins.Request number) item of rest lower = rest lower
         by (origins.Aggregator from) item of rest lower = omega (arith, depth_child plan is from of.0, ap (depth_of plan) of.1, depth_most plan (actors.Aggregator from))
 

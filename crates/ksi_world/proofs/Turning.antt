@@ -8,11 +8,11 @@ use Rattle.ksi_synod.specs.declared.messages.SynodMessage.TheVariants as message
 use Rattle.ksi_synod.specs.Voters.{cores_below}
 use Rattle.ksi_corenode.specs.declared.step.Send as core_step
 use Rattle.ksi_corenode.specs.declared.step.Send.TheVariants as core_sends
-use Rattle.ksi_corenode.specs.declared.step.Step as core_turn
+use Rattle.ksi_signature.specs.declared.step.Step.{Step}
 use Rattle.ksi_corenode.specs.SecondState.{SecondState}
 use Rattle.ksi_corenode.specs.Turns.{Turn, told, to_each}
 use Rattle.ksi_corenode.specs.Rows.{ballot_row, receive_row, tell_row, seal_row, submission_row}
-use Rattle.ksi_aggchain.specs.declared.node.Node.{Node}
+use Rattle.ksi_aggtree.specs.declared.item.Item.{Item}
 use Rattle.ksi_corenode.specs.CoreState.{CoreState, state_of, IsSame, IsTurn}
 use Rattle.ksi_world.specs.declared.outcome.Outcome.{Outcome}
 use Rattle.ksi_world.specs.declared.message.Message.{Message}
@@ -48,7 +48,7 @@ get_push (z ∷ zs) x (suc k) y at = elim (get_push zs x k y at) [ inl old ↦ i
 
 -- THE STEP OF A CORE
 
-pub core_turned : (row : CoreState → Turn) (j t : ℕ) (cores : List CoreState) (wire wire' : List Message) (old new : CoreState) (step : core_turn.Step) (outcome : Outcome) →
+pub core_turned : (row : CoreState → Turn) (j t : ℕ) (cores : List CoreState) (wire wire' : List Message) (old new : CoreState) (step : Step core_step.Send) (outcome : Outcome) →
     slice_get cores j ≡ Some old → IsTurn old new t (row old) step → wire' ≡ wire ++ map (core_message j t) step.sends → outcome ≡ outcome_of step.answer (length step.sends) →
     CoreStep row j t cores (set cores j new) wire wire' outcome
 core_turned row j t cores wire wire' old new step outcome at is posted told = record {
@@ -114,7 +114,7 @@ pub none_sealed : (image : List ℕ → List ℕ) (s : SecondState) → (seal_ro
 unfolding seal_row
 none_sealed image s = cond_both (is_some s.sealed) _ _ (λ (turn : Turn). turn.sends ≡ []) (λ _. refl) (λ _. refl)
 
-pub none_submitted : (from : ℕ) (item : Node) (s : SecondState) → (submission_row from item s).sends ≡ []
+pub none_submitted : (from : ℕ) (item : Item) (s : SecondState) → (submission_row from item s).sends ≡ []
 unfolding submission_row
 none_submitted from item s = cond_both (is_some s.sealed) _ _ (λ (turn : Turn). turn.sends ≡ []) (λ _. refl) (λ _. refl)
 

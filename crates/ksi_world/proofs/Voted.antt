@@ -2,7 +2,7 @@
 use Rattle.std.proofs.Common.{◌≡◌, ℕ, ◌<◌, ◌≤◌, false, cond, eqb, is_some, List, [], ◌∷◌, ◌++◌, length, refl, sym, ap, subst, ◌∙◌, arith, inl, inr, Option, Some, None, length-append}
 use Rattle.std.specs.Prelude.{slice_get, option_map}
 use Rattle.std.proofs.lemmas.Bool.{cond_both, cond-true, cond-false, eq-eqb, eqb-false, ne_eqb}
-use Rattle.ksi_aggchain.specs.declared.node.Node.{Node}
+use Rattle.ksi_aggtree.specs.declared.item.Item.{Item}
 use Rattle.ksi_aggtree.specs.declared.entries.Entry.{Entry}
 use Rattle.ksi_aggtree.specs.Entries.{items_of, has_from, is_full, candidate_of}
 use Rattle.ksi_synod.specs.declared.messages.SynodMessage.{SynodMessage}
@@ -40,7 +40,7 @@ module _ (image : List ℕ → List ℕ) (plan : PlanState) where
   module _ (w : WorldState) (voted : Voted w) where
     -- A TURN OF A CORE
 
-    submission_voted : (j u from : ℕ) (item : Node) → Voted (at_core w j u (submission_row from item (w.seconds j u))).world
+    submission_voted : (j u from : ℕ) (item : Item) → Voted (at_core w j u (submission_row from item (w.seconds j u))).world
     unfolding submission_row
     submission_voted j u from item =
         let s = w.seconds j u in

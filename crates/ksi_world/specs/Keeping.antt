@@ -2,9 +2,9 @@
 use Rattle.std.specs.Prelude.{◌≡◌, ℕ, if◌then◌else◌, List, [], ◌∷◌, Option, None, option_map, unwrap_or}
 use Rattle.std.specs.Str.{bytes_eq}
 use Rattle.ksi_imprint.specs.Imprints.{zero_imprint}
-use Rattle.ksi_aggchain.specs.declared.node.Node.{Node}
+use Rattle.ksi_aggtree.specs.declared.item.Item.{Item}
 use Rattle.ksi_corenode.specs.CoreState.{CoreState, state_of, held_by}
-use Rattle.ksi_world.specs.declared.kept.KeptSecond.{KeptSecond}
+use Rattle.ksi_aggtree.specs.declared.second.Second.{Second}
 use Rattle.ksi_world.specs.declared.message.Message.{Message}
 use Rattle.ksi_world.specs.Deciding.{ListsTold}
 use Rattle.ksi_world.specs.Records.{or_else, kept_before, kept_with, sealed_as}
@@ -19,23 +19,23 @@ abbrev pub root_among : List CoreState → (second : ℕ) → Option (List ℕ)
 root_among cores t = first_of (λ (core : CoreState). held_by core t) cores
 
 -- those of the seconds that are kept
-abbrev pub kept_listed : (ℕ → Option KeptSecond) → List ℕ → List KeptSecond
+abbrev pub kept_listed : (ℕ → Option Second) → List ℕ → List Second
 kept_listed kept [] = []
 kept_listed kept (t ∷ ts) = kept_before (kept t) (kept_listed kept ts)
 
 module _ (image : List ℕ → List ℕ) where
   -- the sealed items of the first core whose candidate the root is
-  abbrev pub sealed_among : List CoreState → (second : ℕ) → (root : List ℕ) → Option (List Node)
+  abbrev pub sealed_among : List CoreState → (second : ℕ) → (root : List ℕ) → Option (List Item)
   sealed_among cores t root = first_of (λ (core : CoreState). sealed_as image root (state_of core t).sealed) cores
 
-  abbrev pub items_among : List CoreState → (second : ℕ) → (root : List ℕ) → List Node
+  abbrev pub items_among : List CoreState → (second : ℕ) → (root : List ℕ) → List Item
   items_among cores t root = if bytes_eq root zero_imprint then [] else unwrap_or (sealed_among cores t root) []
 
-  unfoldable pub second_among : List CoreState → (second : ℕ) → Option KeptSecond
+  unfoldable pub second_among : List CoreState → (second : ℕ) → Option Second
   second_among cores t = option_map (λ root. kept_with t root (items_among cores t root)) (root_among cores t)
 
   -- the decided ones of all seconds of messages that decide
-  pub record AreListed (cores : List CoreState) (wire : List Message) (kept : List KeptSecond) : Type 0 where
+  pub record AreListed (cores : List CoreState) (wire : List Message) (kept : List Second) : Type 0 where
     pub seconds : List ℕ
     pub told : ListsTold wire seconds
     pub kept_are : kept ≡ kept_listed (second_among cores) seconds

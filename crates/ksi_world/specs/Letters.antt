@@ -1,5 +1,5 @@
 -- What a message asks of its addressee.
-use Rattle.ksi_aggchain.specs.declared.node.Node.{Node}
+use Rattle.ksi_aggtree.specs.declared.item.Item.{Item}
 use Rattle.ksi_synod.specs.declared.messages.SynodMessage.{SynodMessage}
 use Rattle.ksi_schedule.specs.declared.actor.Actor.{Actor}
 use Rattle.ksi_schedule.specs.declared.actor.Actor.TheVariants as actors
@@ -13,7 +13,7 @@ vote_of (actors.Core from) (actors.Core to) m = letters.Vote from to m
 vote_of (actors.Core from) (actors.Aggregator to) m = letters.None
 vote_of (actors.Aggregator from) to m = letters.None
 
-abbrev pub item_of : (sender addressee : Actor) → Node → Letter
+abbrev pub item_of : (sender addressee : Actor) → Item → Letter
 item_of (actors.Aggregator from) (actors.Core to) item = letters.ToCore from to item
 item_of (actors.Aggregator from) (actors.Aggregator to) item = letters.ToAggregator from to item
 item_of (actors.Core from) to item = letters.None

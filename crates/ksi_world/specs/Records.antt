@@ -2,7 +2,7 @@
 use Rattle.std.specs.Prelude.{◌≡◌, ℕ, zero, suc, ◌^◌, Bool, false, ◌==◌, if◌then◌else◌, List, [], ◌∷◌, length, slice_get, Option, Some, None, option_map, unwrap_or}
 use Rattle.std.specs.Str.{bytes_eq}
 use Rattle.ksi_imprint.specs.Imprints.{zero_imprint}
-use Rattle.ksi_aggchain.specs.declared.node.Node.{Node}
+use Rattle.ksi_aggtree.specs.declared.item.Item.{Item}
 use Rattle.ksi_aggtree.specs.declared.entries.Entry.{Entry}
 use Rattle.ksi_aggtree.specs.declared.entries.Origin.{Origin}
 use Rattle.ksi_aggtree.specs.declared.entries.Origin.TheVariants as origins
@@ -11,7 +11,7 @@ use Rattle.ksi_calendar.specs.Covered.{Roots}
 use Rattle.ksi_signature.specs.declared.above.Above.{Above}
 use Rattle.ksi_aggregator.specs.Issuing.{IsIssued, NotIssued, issued_text}
 use Rattle.ksi_schedule.specs.Plans.{PlanState}
-use Rattle.ksi_world.specs.declared.kept.KeptSecond.{KeptSecond}
+use Rattle.ksi_aggtree.specs.declared.second.Second.{Second}
 use Rattle.ksi_world.specs.declared.outcome.Asked.{Asked}
 use Rattle.ksi_world.specs.Histories.{WorldState, held_in}
 
@@ -30,34 +30,34 @@ lowest of_core core (suc n) = or_else (of_core core) (lowest of_core (suc core) 
 abbrev pub kept_root : PlanState → WorldState → Roots
 kept_root plan w t = lowest (λ core. held_in w core t) 0 plan.cores
 
-abbrev pub kept_before : Option KeptSecond → List KeptSecond → List KeptSecond
+abbrev pub kept_before : Option Second → List Second → List Second
 kept_before None later = later
 kept_before (Some kept) later = kept ∷ later
 
 -- of n seconds from this one on those that are kept, rising
-abbrev pub kept_among : (ℕ → Option KeptSecond) → (second n : ℕ) → List KeptSecond
+abbrev pub kept_among : (ℕ → Option Second) → (second n : ℕ) → List Second
 kept_among kept t zero = []
 kept_among kept t (suc n) = kept_before (kept t) (kept_among kept (suc t) n)
 
-abbrev pub kept_with : (second : ℕ) → (root : List ℕ) → (items : List Node) → KeptSecond
+abbrev pub kept_with : (second : ℕ) → (root : List ℕ) → (items : List Item) → Second
 kept_with t root items = record { second = t; root = root; items = items }
 
 module _ (image : List ℕ → List ℕ) where
   -- the sealed items, where their imprint is the root
-  abbrev pub sealed_as : (root : List ℕ) → (sealed : Option (List Entry)) → Option (List Node)
+  abbrev pub sealed_as : (root : List ℕ) → (sealed : Option (List Entry)) → Option (List Item)
   sealed_as root None = None
   sealed_as root (Some entries) = if bytes_eq (candidate_of image entries) root then Some (items_of entries) else None
 
   -- those of the lowest core whose candidate the root is; none for the zero imprint
-  abbrev pub kept_items : PlanState → WorldState → (second : ℕ) → (root : List ℕ) → List Node
+  abbrev pub kept_items : PlanState → WorldState → (second : ℕ) → (root : List ℕ) → List Item
   kept_items plan w t root = if bytes_eq root zero_imprint then [] else unwrap_or (lowest (λ core. sealed_as root (w.seconds core t).sealed) 0 plan.cores) []
 
   -- a decided second: its root, and the items of its tree
-  abbrev pub kept_at : PlanState → WorldState → (second : ℕ) → Option KeptSecond
+  abbrev pub kept_at : PlanState → WorldState → (second : ℕ) → Option Second
   kept_at plan w t = option_map (λ root. kept_with t root (kept_items plan w t root)) (kept_root plan w t)
 
   -- all decided seconds, rising
-  unfoldable pub kept_seconds : PlanState → WorldState → List KeptSecond
+  unfoldable pub kept_seconds : PlanState → WorldState → List Second
   kept_seconds plan w = kept_among (kept_at plan w) plan.start (2 ^ 24)
 
 -- ISSUED SIGNATURES
@@ -68,7 +68,7 @@ is_request number (origins.Request n) = n == number
 is_request number (origins.Aggregator from) = false
 
 -- the request's item with its place, where they are counted from this one on
-abbrev pub placed_from : (number place : ℕ) → List Entry → Option (ℕ × Node)
+abbrev pub placed_from : (number place : ℕ) → List Entry → Option (ℕ × Item)
 placed_from number place [] = None
 placed_from number place (entry ∷ entries) = if is_request number entry.origin then Some (place, entry.item) else placed_from number (suc place) entries
 
@@ -82,7 +82,7 @@ module _ (image : List ℕ → List ℕ) where
   issued_where second number None answered = None
   issued_where second number (Some entries) None = None
   issued_where second number (Some entries) (Some above) =
-      option_map (λ (placed : ℕ × Node). issued_text image second entries placed.0 placed.1 above) (placed_from number 0 entries)
+      option_map (λ (placed : ℕ × Item). issued_text image second entries placed.0 placed.1 above) (placed_from number 0 entries)
 
   -- by the round of the aggregator that took it, of its second
   abbrev pub issued_for : WorldState → (number : ℕ) → Option Asked → Option (List ℕ)

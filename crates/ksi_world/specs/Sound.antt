@@ -1,9 +1,10 @@
 -- What always holds of the world of a plan, whatever happens: bounds on ballots, levels, chains and origins.
 use Rattle.std.specs.Prelude.{◌≡◌, ℕ, zero, suc, ◌+◌, ◌*◌, ◌^◌, ◌<◌, ◌≤◌, if◌then◌else◌, List, [], ◌∷◌, length, slice_get, Some}
-use Rattle.ksi_aggchain.specs.declared.node.Node.{Node}
+use Rattle.ksi_aggtree.specs.declared.item.Item.{Item}
 use Rattle.ksi_aggtree.specs.declared.entries.Entry.{Entry}
 use Rattle.ksi_aggtree.specs.declared.entries.Origin.{Origin}
 use Rattle.ksi_aggtree.specs.declared.entries.Origin.TheVariants as origins
+use Rattle.ksi_aggtree.specs.Rounds.{most_items}
 use Rattle.ksi_aggtree.specs.Entries.{is_from}
 use Rattle.ksi_synod.specs.VoteState.{VoteState}
 use Rattle.ksi_synod.specs.Rows.{OfBallot}
@@ -26,7 +27,7 @@ unfoldable pub depth_of : PlanState → Actor → ℕ
 depth_of plan actor = depth_within plan 8 actor
 
 -- the item may go up from an actor: 16 levels are left for each aggregator above it, and for this one
-abbrev pub IsLow : PlanState → Actor → Node → Type 0
+abbrev pub IsLow : PlanState → Actor → Item → Type 0
 IsLow plan sender item = item.level + 16 * depth_of plan sender ≤ 144
 
 -- the core's ballots are ballots
@@ -50,7 +51,7 @@ pub record IsPost (plan : PlanState) (m : Message) : Type 0 where
 -- THE ITEMS OF A ROUND
 
 -- an item at an actor is of a request that was accepted, or of an aggregator whose parent the actor is
-abbrev pub IsOf : PlanState → (here : Actor) (accepted : ℕ) → Origin → Node → Type 0
+abbrev pub IsOf : PlanState → (here : Actor) (accepted : ℕ) → Origin → Item → Type 0
 IsOf plan here accepted (origins.Request number) item = (number < accepted) × (item.level ≡ 0)
 IsOf plan here accepted (origins.Aggregator from) item = (from < length plan.parents) × (here ≡ parent_of plan from) × IsLow plan (actors.Aggregator from) item
 
@@ -66,7 +67,7 @@ count_from from (entry ∷ entries) = (if is_from from entry.origin then 1 else 
 -- at most 65,536 items, at most one of each aggregator
 pub record IsRoundAt (plan : PlanState) (here : Actor) (accepted : ℕ) (entries : List Entry) : Type 0 where
   pub are : AreOf plan here accepted entries
-  pub few : length entries ≤ 65536
+  pub few : length entries ≤ most_items
   pub once : (from : ℕ) → count_from from entries ≤ 1
 
 pub record IsRoundState (plan : PlanState) (k accepted : ℕ) (r : RoundState) : Type 0 where

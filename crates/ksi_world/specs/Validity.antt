@@ -6,7 +6,7 @@ use Rattle.ksi_aggtree.specs.declared.entries.Entry.{Entry}
 use Rattle.ksi_aggtree.specs.Rounds.{IsRound, tree_of}
 use Rattle.ksi_aggtree.specs.Entries.{items_of, candidate_of}
 use Rattle.ksi_schedule.specs.Plans.{PlanState}
-use Rattle.ksi_world.specs.declared.kept.KeptSecond.{KeptSecond}
+use Rattle.ksi_aggtree.specs.declared.second.Second.{Second}
 use Rattle.ksi_world.specs.Histories.{WorldState}
 
 -- a core of the plan sealed items for the second, at least one, and the root is their candidate
@@ -20,30 +20,30 @@ pub record IsProposed (image : List ℕ → List ℕ) (plan : PlanState) (w : Wo
   pub round : IsRound (items_of entries)
 
 -- a second with the zero imprint has no items
-pub record IsMissed (kept : KeptSecond) : Type 0 where
+pub record IsMissed (kept : Second) : Type 0 where
   pub zero : kept.root ≡ zero_imprint
   pub none : kept.items ≡ []
 
 -- any other has at least one, at most 65,536, of levels to 239, and its root is the imprint of their tree
-pub record HasTree (image : List ℕ → List ℕ) (kept : KeptSecond) : Type 0 where
+pub record HasTree (image : List ℕ → List ℕ) (kept : Second) : Type 0 where
   pub real : kept.root ≢ zero_imprint
   pub some : 1 ≤ length kept.items
   pub round : IsRound kept.items
   pub tree : (tree_of image kept.items).imprint ≡ kept.root
 
-abbrev pub IsKept : (List ℕ → List ℕ) → KeptSecond → Type 0
+abbrev pub IsKept : (List ℕ → List ℕ) → Second → Type 0
 IsKept image kept = IsMissed kept ⊎ HasTree image kept
 
 -- its root and its items are imprints
-abbrev pub HasImprints : KeptSecond → Type 0
+abbrev pub HasImprints : Second → Type 0
 HasImprints kept = IsImprint kept.root × AllByRecursion (λ item. IsImprint item.imprint) kept.items
 
-abbrev pub EachKept : (KeptSecond → Type 0) → List KeptSecond → Type 0
+abbrev pub EachKept : (Second → Type 0) → List Second → Type 0
 EachKept P [] = Unit {0}
 EachKept P (kept ∷ others) = P kept × EachKept P others
 
 -- the seconds rise from this one on
-abbrev pub AreRising : (from : ℕ) → List KeptSecond → Type 0
+abbrev pub AreRising : (from : ℕ) → List Second → Type 0
 AreRising from [] = Unit {0}
 AreRising from (kept ∷ others) = (from ≤ kept.second) × AreRising (suc kept.second) others
 

@@ -24,13 +24,13 @@ IsHeldBySender w (actors.Aggregator k) second root = Unit {0}
 
 -- The message tells an aggregator what stands above its round.
 pub record IsLinked (image : List ℕ → List ℕ) (plan : PlanState) (w : WorldState) (message : Message) (above : Above) : Type 0 where
-  -- the aggregator is of the plan, and has closed its round of this second: what is answered is the item of the round's tree
+  -- the aggregator is of the plan, and has closed its round of this second: what is answered is the round's tree
   pub aggregator : ℕ
   pub to : message.addressee ≡ actors.Aggregator aggregator
   pub planned : aggregator < length plan.parents
   pub entries : List Entry
   pub closed : (w.rounds aggregator message.second).closed ≡ Some entries
-  -- the aggregation chains climb from this item, at its level, to the root that the message carries
+  -- the aggregation chains climb from this tree, at its level, to the root that the message carries
   pub top : Node
   pub climbs : ChainsClimb image (tree_of image (items_of entries)) above.chains top
   pub root_is : top.imprint ≡ above.root

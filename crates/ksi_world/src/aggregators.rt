@@ -2,6 +2,7 @@
 ghost use Rattle.std.specs.Prelude.{◌≡◌, ◌≤◌, ◌<◌, ◌+◌, ◌^◌, length, slice_get, Some, IfOk, OnErr};
 ghost use Rattle.ksi_aggregator.specs.Rows.{fresh_round, round_request, round_submission, round_close, round_restarted};
 ghost use Rattle.ksi_aggregator.specs.Rounds.{rounds_of, IsNew};
+ghost use Rattle.ksi_aggtree.specs.Rounds.{highest_item};
 ghost use Rattle.ksi_world.specs.declared.message.Message.{Message};
 ghost use Rattle.ksi_schedule.specs.Plans.{PlanState};
 ghost use Rattle.ksi_world.specs.Nodes.{AreAggregators, EachAggregator, CanTake, response_row, RoundMove, RoundStep, RoundRestart, AggregatorsStay};
@@ -9,8 +10,8 @@ ghost use Rattle.ksi_world.specs.Nodes.{AreAggregators, EachAggregator, CanTake,
 use crate::message::{Content, Message};
 use crate::outcome::Outcome;
 use crate::posting::post_round;
-use ksi_aggchain::Node;
 use ksi_aggregator::{Aggregator, NoMemory, Step};
+use ksi_aggtree::Item;
 use ksi_imprint::{Compress, Imprint};
 use ksi_schedule::Plan;
 use std::alloc::Global;
@@ -56,12 +57,12 @@ pub(crate) fn submission<C: Compress>(
     from: u32,
     aggregator: u32,
     second: u64,
-    item: Node,
+    item: Item,
 ) -> Result<Outcome, NoMemory>
     requires there { aggregator < length aggregators.old.items }
     requires planned { aggregator < length plan.now.parents }
     requires early { second < 2 ^ 63 }
-    requires level { item.level ≤ 239 }
+    requires level { item.level ≤ highest_item }
     ensures ok { IfOk result (RoundStep (round_submission from item) plan.now aggregator second aggregators.old.items aggregators.new.items wire.old.items wire.new.items) }
     ensures aggregators { OnErr result (AggregatorsStay aggregators.old.items aggregators.new.items) }
     ensures wire { OnErr result (wire.new.items ≡ wire.old.items) }

@@ -7,8 +7,7 @@ ghost use Rattle.ksi_world.specs.Deciding.{decides, ListsTold};
 ghost use Rattle.ksi_world.specs.Keeping.{root_among, sealed_among, items_among, second_among, kept_listed, AreListed};
 
 use crate::message::{Content, Message};
-use ksi_aggchain::Node;
-use ksi_aggtree::Items;
+use ksi_aggtree::{Item, Items, Second};
 use ksi_corenode::Core;
 use ksi_imprint::{Compress, Imprint, NoMemory};
 use ksi_schedule::Plan;
@@ -17,47 +16,38 @@ use std::alloc::Global;
 use std::collections::BTreeSet;
 use std::marker::Model;
 
-/// A kept second: the root that is held for it, and the items whose tree has this root. A second with the zero imprint
-/// has no items.
-#[derive(Drop)]
-pub struct KeptSecond {
-    pub second: u64,
-    pub root: Imprint,
-    pub items: Items,
-}
-
 /// Kept seconds. A contract sees their list.
 #[derive(Drop)]
 pub struct Seconds {
-    seconds: Vec<KeptSecond>,
+    seconds: Vec<Second>,
 }
 
 impl Model for Seconds {
     ghost use Rattle.std.specs.Prelude.{List};
-    ghost use Rattle.ksi_world.specs.declared.kept.KeptSecond as kept;
+    ghost use Rattle.ksi_aggtree.specs.declared.second.Second as kept;
 
-    ghost Value = { List kept.KeptSecond };
+    ghost Value = { List kept.Second };
 
     ghost view = { λ seconds. seconds.seconds.items };
 }
 
 impl Seconds {
     /// The seconds of a `Vec`, which is not copied.
-    pub fn from_vec(seconds: Vec<KeptSecond>) -> Self
+    pub fn from_vec(seconds: Vec<Second>) -> Self
         ensures { result ≡ seconds.items }
     {
         Seconds { seconds }
     }
 
     /// The seconds in order.
-    pub fn as_slice(&self) -> &[KeptSecond]
+    pub fn as_slice(&self) -> &[Second]
         ensures { result.now ≡ self.now }
     {
         self.seconds.as_slice()
     }
 
     /// The seconds in a `Vec`, which are not copied.
-    pub fn into_vec(self) -> Vec<KeptSecond>
+    pub fn into_vec(self) -> Vec<Second>
         ensures { result.items ≡ self }
     {
         let Seconds { seconds } = self;
@@ -73,7 +63,7 @@ pub struct Kept {
 }
 
 /// What is kept under a plan, where these are the kept seconds.
-pub(crate) fn kept_under(plan: &Plan, seconds: Vec<KeptSecond>) -> Kept
+pub(crate) fn kept_under(plan: &Plan, seconds: Vec<Second>) -> Kept
     ensures start { result.start ≡ plan.now.start }
     ensures seconds { result.seconds ≡ seconds.items }
 {
@@ -88,7 +78,7 @@ pub(crate) fn kept_seconds<C: Compress>(
     alloc: Global,
     cores: &[Core<C>],
     wire: &[Message],
-) -> Result<Vec<KeptSecond>, NoMemory>
+) -> Result<Vec<Second>, NoMemory>
     ensures { IfOk result (λ kept. AreListed C.image cores.now wire.now kept.items) }
 {
     let seconds = told_seconds(alloc, wire)?;
@@ -123,7 +113,7 @@ fn kept_of<C: Compress>(
     alloc: Global,
     cores: &[Core<C>],
     seconds: BTreeSet<u64>,
-) -> Result<Vec<KeptSecond>, NoMemory>
+) -> Result<Vec<Second>, NoMemory>
     ensures { IfOk result (λ kept. kept.items ≡ kept_listed (second_among C.image cores.now) seconds.keys) }
 {
     let mut kept = Vec::new(alloc);
@@ -141,7 +131,7 @@ fn kept_second<C: Compress>(
     alloc: Global,
     cores: &[Core<C>],
     second: u64,
-) -> Result<Option<KeptSecond>, NoMemory>
+) -> Result<Option<Second>, NoMemory>
     ensures { IfOk result (λ kept. kept ≡ second_among C.image cores.now second) }
 {
     let root = match held_root(cores, second) {
@@ -149,7 +139,7 @@ fn kept_second<C: Compress>(
         None => return Ok(None),
     };
     let items = kept_items(alloc, cores, second, &root)?;
-    Ok(Some(KeptSecond {
+    Ok(Some(Second {
         second,
         root,
         items,
@@ -191,7 +181,7 @@ fn sealed_items<'a, C: Compress>(
     cores: &'a [Core<C>],
     second: u64,
     root: &Imprint,
-) -> Option<&'a [Node]>
+) -> Option<&'a [Item]>
     ensures { option_copied result ≡ sealed_among C.image cores.now second root.now }
 {
     'asking: for core in cores {
@@ -207,7 +197,7 @@ fn items_of_root<'a, C: Compress>(
     core: &'a Core<C>,
     second: u64,
     root: &Imprint,
-) -> Option<&'a [Node]>
+) -> Option<&'a [Item]>
     ensures { option_copied result ≡ sealed_as C.image root.now (state_of core.now second).sealed }
 {
     match core.candidate(second) {

@@ -3,7 +3,7 @@ ghost use Rattle.std.specs.Prelude.{◌≡◌};
 ghost use Rattle.ksi_world.specs.Letters.{letter_of, vote_of, item_of};
 
 use crate::message::{Content, Message};
-use ksi_aggchain::Node;
+use ksi_aggtree::Item;
 use ksi_schedule::Actor;
 use ksi_synod::SynodMessage;
 
@@ -13,9 +13,9 @@ pub(crate) enum Letter {
     /// A message of the vote, from a core to a core.
     Vote(u8, u8, SynodMessage),
     /// An item, from an aggregator to a core.
-    ToCore(u32, u8, Node),
+    ToCore(u32, u8, Item),
     /// An item, from an aggregator to another.
-    ToAggregator(u32, u32, Node),
+    ToAggregator(u32, u32, Item),
     /// A response, to an aggregator.
     Response(u32),
     /// One that nobody sends.
@@ -48,7 +48,7 @@ fn vote_of(sender: Actor, addressee: Actor, vote: &SynodMessage) -> Letter
     }
 }
 
-fn item_of(sender: Actor, addressee: Actor, item: &Node) -> Letter
+fn item_of(sender: Actor, addressee: Actor, item: &Item) -> Letter
     ensures { result ≡ item_of sender addressee item.now }
 {
     match sender {

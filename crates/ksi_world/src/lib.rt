@@ -34,7 +34,8 @@ mod posting;
 mod published;
 mod world;
 
-pub use kept::{Kept, KeptSecond, Seconds};
+pub use kept::{Kept, Seconds};
+pub use ksi_aggtree::Second;
 pub use ksi_imprint::NoMemory;
 pub use ksi_schedule::{Actor, Event, Parents, Plan};
 pub use ksi_signature::Answer;

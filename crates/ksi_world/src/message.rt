@@ -1,4 +1,4 @@
-use ksi_aggchain::Node;
+use ksi_aggtree::Item;
 use ksi_schedule::Actor;
 use ksi_signature::Above;
 use ksi_synod::SynodMessage;
@@ -8,8 +8,8 @@ use ksi_synod::SynodMessage;
 pub enum Content {
     /// A message of the vote on a second.
     Synod(SynodMessage),
-    /// The item of an aggregator's round.
-    Submission(Node),
+    /// The item that the tree of an aggregator's round is submitted as.
+    Submission(Item),
     /// What stands above the addressee's item.
     Response(Above),
 }

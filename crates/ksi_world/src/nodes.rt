@@ -8,14 +8,14 @@ ghost use Rattle.ksi_world.specs.Histories.{asked_with, outcome_of, first_world}
 ghost use Rattle.ksi_world.specs.Keeping.{AreListed};
 ghost use Rattle.ksi_world.specs.Nodes.{Fits, IsReady, IsTaken, Happened, WasTaken, StoodStill};
 
-use crate::kept::{KeptSecond, kept_seconds};
+use crate::kept::kept_seconds;
 use crate::letter::{Letter, letter_of};
 use crate::message::{Content, Message};
 use crate::outcome::{Asked, Outcome};
 use crate::published::put_answer;
 use crate::{aggregators, cores};
-use ksi_aggchain::Node;
 use ksi_aggregator::Aggregator;
+use ksi_aggtree::{Item, Second};
 use ksi_corenode::Core;
 use ksi_imprint::{Compress, Imprint, NoMemory};
 use ksi_schedule::{Actor, Event, Plan};
@@ -183,7 +183,7 @@ impl<C: Compress> Nodes<C> {
         from: u32,
         to: u8,
         second: u64,
-        item: Node,
+        item: Item,
     ) -> Result<Outcome, NoMemory>
         requires { (plan : PlanState) × IsTaken plan (Actor.Aggregator from) (Actor.Core to) second (Content.Submission item) self.old }
         ensures ok { IfOk result (λ outcome. (plan : PlanState) → WasTaken C.image plan (Actor.Aggregator from) (Actor.Core to) second (Content.Submission item) self.old self.new outcome) }
@@ -199,7 +199,7 @@ impl<C: Compress> Nodes<C> {
         from: u32,
         to: u32,
         second: u64,
-        item: Node,
+        item: Item,
     ) -> Result<Outcome, NoMemory>
         requires { IsTaken plan.now (Actor.Aggregator from) (Actor.Aggregator to) second (Content.Submission item) self.old }
         ensures ok { IfOk result (WasTaken C.image plan.now (Actor.Aggregator from) (Actor.Aggregator to) second (Content.Submission item) self.old self.new) }
@@ -330,7 +330,7 @@ impl<C: Compress> Nodes<C> {
     }
 
     /// The kept seconds, rising.
-    pub fn kept(&self, alloc: Global) -> Result<Vec<KeptSecond>, NoMemory>
+    pub fn kept(&self, alloc: Global) -> Result<Vec<Second>, NoMemory>
         ensures { IfOk result (λ kept. AreListed C.image self.now.cores self.now.wire kept.items) }
     {
         kept_seconds(alloc, &self.cores, &self.wire)

@@ -7,8 +7,8 @@ use Rattle.ksi_aggchain.specs.declared.climbing.LevelFault.TheVariants.{Over}
 use Rattle.ksi_aggchain.proofs.ClimbLemmas.{climb_both, over_both, loop_stops, loop_goes, loop_ends, seen_at, seen_within, seen_past}
 use Rattle.ksi_aggchain.proofs.climbing.climb_along.Goals as goal
 
-pub returns-then-above-gt255 : goal.returns-then-above-gt255
-returns-then-above-gt255 g c =
+pub returns-then-above : goal.returns-then-above
+returns-then-above g c =
     let image = g.C.Compress.image in
     let plain = g.L.AnyLink.plain in
     let start : Node = record { imprint = c.args.start; level = c.args.level } in
@@ -20,7 +20,7 @@ returns-then-above-gt255 g c =
     let is : all ≡ climbed image 0 start links =
     loop_stops image place c.loop-place.level high c.loop-place.imprint link links (climbed image 0 start links)
     (seen_within plain c.args.links.now place c.loop-place-test.true) (seen_at plain c.args.links.now place c.index-links-place.result c.index-links-place.is)
-    c.loop-place.invariant (omega (arith, c.correction.ensures)) c.if-above-gt255.true in
+    c.loop-place.invariant (omega (arith, c.correction.ensures)) c.if-above.true in
     record { climbs = climb_both image start links all is; over = over_both image start links all is; value = is }
 
 pub loop-place-preserved : goal.loop-place-preserved
@@ -35,7 +35,7 @@ loop-place-preserved g c =
     (seen_within plain c.args.links.now place c.loop-place-test.true) (seen_at plain c.args.links.now place c.index-links-place.result c.index-links-place.is)
     c.loop-place.invariant (omega (arith, c.correction.ensures))
     c.side.result c.bytes.result.now c.sibling.result.now c.join_beside-imprint.result
-    c.if-above-gt255.false c.join_beside-imprint.ensures c.side.ensures c.bytes.ensures.value c.sibling.ensures
+    c.if-above.false c.join_beside-imprint.ensures c.side.ensures c.bytes.ensures.value c.sibling.ensures
 
 pub returns : goal.returns
 returns g c =

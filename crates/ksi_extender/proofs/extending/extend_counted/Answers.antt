@@ -1,13 +1,7 @@
 use Rattle.std.proofs.Common.{◌<◌, arith}
 use Rattle.std.proofs.lemmas.List.Elements.{All-from_get_or}
-use Rattle.ksi_signature.specs.declared.fault.SignatureFault.TheVariants as answers
-use Rattle.ksi_extender.proofs.Told.{never_memory, accepted_answer}
+use Rattle.ksi_extender.proofs.Told.{accepted_answer}
 use Rattle.ksi_extender.proofs.extending.extend_counted.Goals as goal
-
-pub returns-clause-memory : goal.returns-clause-memory
-returns-clause-memory g c =
-    let fits = All-from_get_or (λ b. b < 256) c.args.bytes.now 0 (λ i lt. omega (arith, c.type_inv.bytes i)) in
-    never_memory g.C.Compress.image c.args.journal.now c.args.bytes.now c.args.p c.extended_bytes.result (c.signature_is_read.ensures.fault c.args.bytes.now answers.NoMemory fits).0 c.extended_bytes.ensures.answer
 
 pub returns-clause-accepted : goal.returns-clause-accepted
 returns-clause-accepted g c =

@@ -1,4 +1,4 @@
-use Rattle.std.proofs.Common.{◌<◌, ◌∙◌, sym, arith, inl}
+use Rattle.std.proofs.Common.{◌<◌, ◌∙◌, sym, arith}
 use Rattle.std.proofs.lemmas.List.Elements.{All-from_get_or}
 use Rattle.std.proofs.lemmas.Result.{IfOk-weaker}
 use Rattle.ksi_journal.specs.Journal.{root_at}
@@ -10,7 +10,7 @@ use Rattle.ksi_extender.proofs.extending.over_journal.Goals as goal
 pub returns-in-Err-clause-answer : goal.returns-in-Err-clause-answer
 returns-in-Err-clause-answer g c =
     let are = c.requires.chains in
-    inl (not_kept g.C.Compress.image c.args.journal.now c.args.bytes.now c.args.p c.args.chains.now c.in-Err.refusal are c.in-Err.ensures.kept)
+    sym (not_kept g.C.Compress.image c.args.journal.now c.args.bytes.now c.args.p c.args.chains.now c.in-Err.refusal are c.in-Err.ensures.kept)
 
 pub proof_to-requires-clause-covered : goal.proof_to-requires-clause-covered
 proof_to-requires-clause-covered g c =

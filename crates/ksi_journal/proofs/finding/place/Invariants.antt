@@ -1,5 +1,5 @@
 use Rattle.std.proofs.Common.{ℕ, ◌<◌, ◌≤◌, ◌-◌, List, length, get_or}
-use Rattle.ksi_journal.specs.declared.second.Second.{Second}
+use Rattle.ksi_aggtree.specs.declared.second.Second.{Second}
 use Rattle.ksi_journal.proofs.finding.place.Given as goal
 
 -- those before the low place are earlier than the second, and those from the high place on are not

@@ -1,7 +1,9 @@
 use Rattle.std.proofs.Common.{inr, refl}
+use Rattle.std.proofs.lemmas.Result.{err_from_is_err_and}
 use Rattle.ksi_journal.proofs.reader.load.Goals as goal
 
-pub returns-in_err-journal-clause-memory : goal.returns-in_err-journal-clause-memory
-returns-in_err-journal-clause-memory g c = λ e.
+pub returns-in_err-journal-clause-refused : goal.returns-in_err-journal-clause-refused
+returns-in_err-journal-clause-refused g c =
+    let p = err_from_is_err_and c.from_residual-in_err-journal.result c.from_residual-in_err-journal.ensures.1 in
     let whole = c.in_ok-parts.ensures.whole in
-    inr (whole.0.contents, record { rest = c.in-Some.rest.now; begins = c.in-Some.ensures.some; said = whole.0; whole = whole.1; holds = refl })
+    rw (p.1, p.2) (inr (whole.0.contents, record { rest = c.in-Some.rest.now; begins = c.in-Some.ensures.some; said = whole.0; whole = whole.1; holds = refl }))

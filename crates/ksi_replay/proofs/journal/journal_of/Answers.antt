@@ -2,9 +2,9 @@ use Rattle.std.proofs.Common.{map, ap, sym, subst, ◌∙◌, arith}
 use Rattle.std.specs.List.{AllByRecursion}
 use Rattle.ksi_imprint.specs.Imprints.{IsImprint}
 use Rattle.ksi_world.specs.Histories.{world_of}
-use Rattle.ksi_journal.specs.Journal.{IsPublication, RiseFrom}
-use Rattle.ksi_replay.specs.Journals.{second_of}
-use Rattle.ksi_replay.proofs.Lawful.{seconds_rise, numbers_rise, are_publications, times_rise}
+use Rattle.ksi_journal.specs.Journal.{IsPublication, IsSecond, RiseFrom}
+use Rattle.ksi_world.specs.Validity.{HasImprints}
+use Rattle.ksi_replay.proofs.Lawful.{each_kept, seconds_are, seconds_rise, numbers_rise, are_publications, times_rise}
 use Rattle.ksi_replay.proofs.journal.journal_of.Goals as goal
 
 pub new-requires : goal.new-requires
@@ -13,10 +13,12 @@ new-requires g c =
     let w = world_of image c.args.world.now in
     let kept = c.in_ok-kept.kept in
     let published = c.in_ok-publications.ensures.same ∙ c.published.ensures.published in
-    let seconds = c.in_ok-seconds.ensures.seconds ∙ ap (map second_of) c.into_vec.ensures in
+    let seconds = c.into_vec-seconds.ensures in
     record {
       start = omega (arith, c.in_ok-kept.ensures.start, c.plan-plan.ensures.limits.early);
-      seconds = c.in_ok-seconds.ensures.lawful;
+      seconds = subst (AllByRecursion (IsSecond image)) (sym seconds)
+          (seconds_are image kept.seconds c.in_ok-kept.ensures.early c.in_ok-kept.ensures.trees
+          (each_kept HasImprints kept.seconds (subst (AllByRecursion HasImprints) seconds c.imprints_of.ensures)));
       seconds_rise = subst (λ xs. RiseFrom kept.start (map (λ one. one.second) xs)) (sym seconds) (seconds_rise kept.start kept.seconds c.in_ok-kept.ensures.rising);
       issued = c.in_ok-issued.ensures.lawful;
       numbers_rise = subst (λ xs. RiseFrom 0 (map (λ signature. signature.0) xs)) (sym c.in_ok-issued.ensures.issued) (numbers_rise image w);

@@ -1,6 +1,6 @@
 use Rattle.std.proofs.Common.{◌≡◌, ◌<◌, ◌+◌, length, arith, ◌∙◌}
+use Rattle.ksi_imprint.specs.declared.refused.Refused.TheVariants as refused
 use Rattle.ksi_schedule.specs.Pieces.{lines}
-use Rattle.ksi_schedule.specs.declared.fault.Stop.TheVariants as stops
 use Rattle.ksi_schedule.proofs.LineLoop.{goes_on, stops_there, ends, wants_memory}
 use Rattle.ksi_schedule.proofs.Wanting.{wanting_here, wanting_next}
 use Rattle.ksi_schedule.proofs.reading.read_rest.Goals as goal
@@ -17,11 +17,11 @@ reading-preserved c =
 
 pub returns-in-Err-clause-read : goal.returns-in-Err-clause-read
 returns-in-Err-clause-read c =
-    rw c.on_line.ensures (stops_there c.reading.number _ (lines c.in-Some.others.now) c.in-Some.line.now c.reading.schedule c.take_line.new.schedule c.in-Err.stop _ c.reading.invariant.left c.in-Some.ensures.0 c.in-Err.ensures.read)
+    rw c.on_line.ensures (stops_there c.reading.number _ (lines c.in-Some.others.now) c.in-Some.line.now c.reading.schedule c.take_line.new.schedule c.in-Err.refused _ c.reading.invariant.left c.in-Some.ensures.0 c.in-Err.ensures.read)
 
 pub returns-in-Err-clause-memory : goal.returns-in-Err-clause-memory
 returns-in-Err-clause-memory c = λ e.
-    let stop : c.in-Err.stop ≡ stops.NoMemory = wants_memory c.reading.number c.in-Err.stop c.on_line.result c.on_line.ensures cc in
+    let wanting : c.in-Err.refused ≡ refused.NoMemory = wants_memory c.reading.number c.in-Err.refused c.on_line.result c.on_line.ensures cc in
     c.reading.invariant.behind (wanting_here c.reading.schedule c.in-Some.line.now (lines c.reading.rest.now) (lines c.in-Some.others.now) c.in-Some.ensures.0 (c.in-Err.ensures.memory cc))
 
 pub returns-clause-read : goal.returns-clause-read

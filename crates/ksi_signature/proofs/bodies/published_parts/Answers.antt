@@ -1,5 +1,6 @@
 use Rattle.std.proofs.Common.{map, length, Err, ◌∙◌, ◌++◌, ap, List, ℕ}
 use Rattle.std.proofs.lemmas.Result.{err_from_is_err_and}
+use Rattle.ksi_imprint.specs.declared.refused.Refused.{Refused}
 use Rattle.ksi_tlv.specs.Spelling.{plain, canonical}
 use Rattle.ksi_tlv.specs.Writing.{texts}
 use Rattle.ksi_grammar.specs.Published.{published_elements}
@@ -10,12 +11,12 @@ use Rattle.ksi_signature.proofs.bodies.published_parts.Goals as goal
 pub returns-in_err-put_bodies-clause-long : goal.returns-in_err-put_bodies-clause-long
 returns-in_err-put_bodies-clause-long c =
     let p = err_from_is_err_and c.from_residual-in_err-put_bodies.result c.from_residual-in_err-put_bodies.ensures.1 in
-    tells_before (map length c.args.references.now) (map length c.args.repositories.now) c.in_err-put_bodies.field-0.0 c.from_residual-in_err-put_bodies.result (p.1 ∙ ap (λ (refusal : WriteRefusal). Err refusal) p.2) c.in_err-put_bodies.ensures.long
+    tells_before (map length c.args.references.now) (map length c.args.repositories.now) c.in_err-put_bodies.field-0.0 c.from_residual-in_err-put_bodies.result (p.1 ∙ ap (λ (refused : Refused WriteRefusal). Err refused) p.2) c.in_err-put_bodies.ensures.long
 
 pub returns-in_err-put_bodies-2-clause-long : goal.returns-in_err-put_bodies-2-clause-long
 returns-in_err-put_bodies-2-clause-long c =
     let p = err_from_is_err_and c.from_residual-in_err-put_bodies-2.result c.from_residual-in_err-put_bodies-2.ensures.1 in
-    tells_behind (map length c.args.references.now) (map length c.args.repositories.now) c.in_err-put_bodies-2.field-0.0 c.from_residual-in_err-put_bodies-2.result (p.1 ∙ ap (λ (refusal : WriteRefusal). Err refusal) p.2) c.in_ok-put_bodies.ensures.long c.in_err-put_bodies-2.ensures.long
+    tells_behind (map length c.args.references.now) (map length c.args.repositories.now) c.in_err-put_bodies-2.field-0.0 c.from_residual-in_err-put_bodies-2.result (p.1 ∙ ap (λ (refused : Refused WriteRefusal). Err refused) p.2) c.in_ok-put_bodies.ensures.long c.in_err-put_bodies-2.ensures.long
 
 pub returns-clause-text : goal.returns-clause-text
 returns-clause-text c =

@@ -2,6 +2,7 @@ use Rattle.std.proofs.Common.{◌≤◌, ◌<◌, ℕ, List, length, Err, refl, 
 use Rattle.std.specs.List.{AllByRecursion}
 use Rattle.std.proofs.lemmas.List.Elements.{All-from_get_or}
 use Rattle.std.proofs.lemmas.Result.{err_from_is_err_and}
+use Rattle.ksi_imprint.specs.declared.refused.Refused.{Refused}
 use Rattle.ksi_tlv.specs.Views.{view}
 use Rattle.ksi_tlv.specs.Spelling.{plain, canonical}
 use Rattle.ksi_signature.specs.declared.extension.WithRefusal.{WithRefusal}
@@ -10,26 +11,20 @@ use Rattle.ksi_signature.specs.File.{IsSignature}
 use Rattle.ksi_signature.specs.Reading.{held_by}
 use Rattle.ksi_signature.specs.Extended.{extended_content, extended_text, renewed, StandsIn}
 use Rattle.ksi_signature.proofs.Standing.{elements_stand}
-use Rattle.ksi_signature.proofs.Refusing.{malformed_is, malformed_not, never_memory, long_no_signature, long_is, long_not, within, content_same}
+use Rattle.ksi_signature.proofs.Refusing.{malformed_is, malformed_not, long_no_signature, long_is, long_not, within, content_same}
 use Rattle.ksi_signature.proofs.extension.with_calendar.Goals as goal
 
 pub returns-in_err-element-clause-malformed : goal.returns-in_err-element-clause-malformed
 returns-in_err-element-clause-malformed c =
     let fits = All-from_get_or (λ b. b < 256) c.args.bytes.now 0 (λ i lt. omega (arith, c.type_inv.bytes i)) in
     let p = err_from_is_err_and c.from_residual.result c.from_residual.ensures.1 in
-    λ fault. malformed_is _ c.in_err-element.field-0.0 fault _ c.from_residual.result c.in_err-element.ensures.fault (c.signature_or_fault.ensures.fault c.args.bytes.now fault fits) (p.1 ∙ ap (λ (refusal : WithRefusal). Err refusal) p.2)
+    λ fault. malformed_is _ c.in_err-element.field-0.0 fault _ c.from_residual.result c.in_err-element.ensures.fault (c.signature_or_fault.ensures.fault c.args.bytes.now fault fits) (p.1 ∙ ap (λ (refused : Refused WithRefusal). Err refused) p.2)
 
 pub returns-in_err-element-clause-too_long : goal.returns-in_err-element-clause-too_long
 returns-in_err-element-clause-too_long c =
     let fits = All-from_get_or (λ b. b < 256) c.args.bytes.now 0 (λ i lt. omega (arith, c.type_inv.bytes i)) in
     let p = err_from_is_err_and c.from_residual.result c.from_residual.ensures.1 in
-    λ n. long_no_signature _ c.in_err-element.field-0.0 _ _ n c.from_residual.result c.in_err-element.ensures.fault (c.signature_or_fault.ensures.whole c.args.bytes.now fits) (p.1 ∙ ap (λ (refusal : WithRefusal). Err refusal) p.2)
-
-pub returns-in_err-element-clause-memory : goal.returns-in_err-element-clause-memory
-returns-in_err-element-clause-memory c =
-    let fits = All-from_get_or (λ b. b < 256) c.args.bytes.now 0 (λ i lt. omega (arith, c.type_inv.bytes i)) in
-    let p = err_from_is_err_and c.from_residual.result c.from_residual.ensures.1 in
-    never_memory c.args.bytes.now _ c.in_err-element.field-0.0 c.from_residual.result c.in_err-element.ensures.fault (c.signature_or_fault.ensures.fault c.args.bytes.now c.in_err-element.field-0.0 fits) (p.1 ∙ ap (λ (refusal : WithRefusal). Err refusal) p.2)
+    λ n. long_no_signature _ c.in_err-element.field-0.0 _ _ n c.from_residual.result c.in_err-element.ensures.fault (c.signature_or_fault.ensures.whole c.args.bytes.now fits) (p.1 ∙ ap (λ (refused : Refused WithRefusal). Err refused) p.2)
 
 pub content_size-total-requires : goal.content_size-total-requires
 content_size-total-requires c =
@@ -38,13 +33,13 @@ content_size-total-requires c =
     (elements_stand (record { whole = c.whole_or_fault.ensures.whole; fault = c.whole_or_fault.ensures.fault; found = c.front_by_spelling.ensures.found; spelled = c.front_by_spelling.ensures.spelled })
     c.reading_is_elements.ensures c.args.bytes.now fits ((c.signature_or_fault.ensures.whole c.args.bytes.now fits).0 c.in_ok-element.ensures.ok))
 
-pub returns-then-total-gt-LIMIT-clause-malformed : goal.returns-then-total-gt-LIMIT-clause-malformed
-returns-then-total-gt-LIMIT-clause-malformed c =
+pub returns-then-total-gt-LONGEST-clause-malformed : goal.returns-then-total-gt-LONGEST-clause-malformed
+returns-then-total-gt-LONGEST-clause-malformed c =
     let fits = All-from_get_or (λ b. b < 256) c.args.bytes.now 0 (λ i lt. omega (arith, c.type_inv.bytes i)) in
     λ fault. malformed_not _ fault _ _ c.in_ok-element.ensures.ok (c.signature_or_fault.ensures.fault c.args.bytes.now fault fits) (λ is. absurd cc)
 
-pub returns-then-total-gt-LIMIT-clause-too_long : goal.returns-then-total-gt-LIMIT-clause-too_long
-returns-then-total-gt-LIMIT-clause-too_long c =
+pub returns-then-total-gt-LONGEST-clause-too_long : goal.returns-then-total-gt-LONGEST-clause-too_long
+returns-then-total-gt-LONGEST-clause-too_long c =
     let fits = All-from_get_or (λ b. b < 256) c.args.bytes.now 0 (λ i lt. omega (arith, c.type_inv.bytes i)) in
     let same = content_same c.args.bytes.now (view c.in_ok-element.element) c.in_ok-element.size c.args.calendar.now c.args.publication.now c.in_ok-element.ensures.front in
     λ n. long_is _ _ _ c.content_size-total.result n _ c.in_ok-element.ensures.ok (c.signature_or_fault.ensures.whole c.args.bytes.now fits) (c.content_size-total.ensures ∙ sym (ap (λ (content : List ℕ). capped (length content)) same)) (omega arith) refl

@@ -1,6 +1,7 @@
-use Rattle.std.proofs.Common.{◌<◌, Err, ap, inl, inr, arith}
+use Rattle.std.proofs.Common.{◌<◌, Err, ap, arith}
 use Rattle.std.proofs.lemmas.List.Elements.{All-from_get_or}
 use Rattle.std.proofs.lemmas.Result.{err_from_is_err_and}
+use Rattle.ksi_imprint.specs.declared.refused.Refused.TheVariants.{Fault}
 use Rattle.ksi_tlv.specs.Views.{view}
 use Rattle.ksi_signature.specs.declared.fault.SignatureFault.{SignatureFault}
 use Rattle.ksi_signature.proofs.Whole.{read_is}
@@ -10,13 +11,13 @@ pub returns-in_err-element-clause-fault : goal.returns-in_err-element-clause-fau
 returns-in_err-element-clause-fault c =
     let fits = All-from_get_or (λ b. b < 256) c.args.bytes.now 0 (λ i lt. omega (arith, c.type_inv.bytes i)) in
     let p = err_from_is_err_and c.from_residual.result c.from_residual.ensures.1 in
-    λ fault is. rw (p.1, p.2) (ap (λ (fault : SignatureFault). Err fault) (c.signature_or_fault.ensures.one_fault c.args.bytes.now _ fault fits ((c.signature_or_fault.ensures.fault c.args.bytes.now _ fits).0 c.in_err-element.ensures.fault) is))
+    λ fault is. rw (p.1, p.2) (ap (λ (fault : SignatureFault). Err (Fault fault)) (c.signature_or_fault.ensures.one_fault c.args.bytes.now _ fault fits ((c.signature_or_fault.ensures.fault c.args.bytes.now _ fits).0 c.in_err-element.ensures.fault) is))
 
 pub returns-in_err-element-clause-refused : goal.returns-in_err-element-clause-refused
 returns-in_err-element-clause-refused c =
     let fits = All-from_get_or (λ b. b < 256) c.args.bytes.now 0 (λ i lt. omega (arith, c.type_inv.bytes i)) in
     let p = err_from_is_err_and c.from_residual.result c.from_residual.ensures.1 in
-    rw (p.1, p.2) (inl ((c.signature_or_fault.ensures.fault c.args.bytes.now _ fits).0 c.in_err-element.ensures.fault))
+    rw (p.1, p.2) ((c.signature_or_fault.ensures.fault c.args.bytes.now _ fits).0 c.in_err-element.ensures.fault)
 
 pub returns-in_err-signature-clause-fault : goal.returns-in_err-signature-clause-fault
 returns-in_err-signature-clause-fault c =
@@ -29,7 +30,7 @@ returns-in_err-signature-clause-refused c =
     let fits = All-from_get_or (λ b. b < 256) c.args.bytes.now 0 (λ i lt. omega (arith, c.type_inv.bytes i)) in
     let p = err_from_is_err_and c.from_residual-in_err-signature.result c.from_residual-in_err-signature.ensures.1 in
     let s = (c.signature_or_fault.ensures.whole c.args.bytes.now fits).0 c.in_ok-element.ensures.ok in
-    rw p.1 (inr (p.2, s.0, s.1))
+    rw (p.1, p.2) (s.0, s.1)
 
 pub returns-clause-signature : goal.returns-clause-signature
 returns-clause-signature c =

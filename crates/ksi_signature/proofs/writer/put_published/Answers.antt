@@ -1,5 +1,6 @@
 use Rattle.std.proofs.Common.{map, length, Err, ◌∙◌, ◌++◌, ap}
 use Rattle.std.proofs.lemmas.Result.{err_from_is_err_and}
+use Rattle.ksi_imprint.specs.declared.refused.Refused.{Refused}
 use Rattle.ksi_tlv.specs.Writing.{texts}
 use Rattle.ksi_signature.specs.declared.refusal.WriteRefusal.{WriteRefusal}
 use Rattle.ksi_signature.specs.Written.{publishing_elements}
@@ -9,7 +10,7 @@ use Rattle.ksi_signature.proofs.writer.put_published.Goals as goal
 pub returns-in_err-body-clause-long : goal.returns-in_err-body-clause-long
 returns-in_err-body-clause-long c =
     let p = err_from_is_err_and c.from_residual.result c.from_residual.ensures.1 in
-    tells_before (map length c.args.published.now.references ++ map length c.args.published.now.repositories) _ c.in_err-body.field-0.0 c.from_residual.result (p.1 ∙ ap (λ (refusal : WriteRefusal). Err refusal) p.2) c.in_err-body.ensures.long
+    tells_before (map length c.args.published.now.references ++ map length c.args.published.now.repositories) _ c.in_err-body.field-0.0 c.from_residual.result (p.1 ∙ ap (λ (refused : Refused WriteRefusal). Err refused) p.2) c.in_err-body.ensures.long
 
 pub returns-clause-long : goal.returns-clause-long
 returns-clause-long c =

@@ -2,7 +2,7 @@ use Rattle.std.proofs.Common.{◌≡◌, ℕ, ◌+◌, ◌-◌, sym, ap, ◌∙�
 use Rattle.ksi_split.specs.Powers.{IsSplit}
 use Rattle.ksi_split.specs.Trees.{tree}
 use Rattle.ksi_split.proofs.Powers.{split_some, split_only}
-use Rattle.ksi_split.proofs.Levels.{tree_one, tree_cut}
+use Rattle.ksi_split.proofs.Within.{tree_one, tree_cut}
 use Rattle.ksi_split.proofs.Same.{tree_same}
 use Rattle.ksi_split.proofs.trees.one_tree.Goals as goal
 

@@ -1,10 +1,9 @@
-use Rattle.std.proofs.Common.{Ok}
-use Rattle.ksi_words.specs.Words.{asked}
-use Rattle.ksi_top.proofs.Wanting.{none_loaded}
+use Rattle.ksi_top.proofs.Ends.{done_ends, saving_ends}
+use Rattle.ksi_top.proofs.Performing.{performed_alone}
 use Rattle.ksi_top.proofs.perform.perform.Goals as goal
 
-pub returns-in_err-make-in-Make-clause-wanting : goal.returns-in_err-make-in-Make-clause-wanting
-returns-in_err-make-in-Make-clause-wanting g c = λ tells none long. none_loaded (Ok (asked c.args.command.now)) (g.F.Files.held c.args.files.now) (g.F.Files.calls c.args.files.now) long
+pub returns-in-Make : goal.returns-in-Make
+returns-in-Make g c = rw c.in-Make.is (performed_alone g.F.Files _ 1 _ _ c.make.result _ (saving_ends _ _ _) c.ended.ensures c.make.ensures.told c.make.ensures.headline)
 
-pub returns-in_err-drill-in-Drill-clause-wanting : goal.returns-in_err-drill-in-Drill-clause-wanting
-returns-in_err-drill-in-Drill-clause-wanting g c = λ tells none long. none_loaded (Ok (asked c.args.command.now)) (g.F.Files.held c.args.files.now) (g.F.Files.calls c.args.files.now) long
+pub returns-in-Drill : goal.returns-in-Drill
+returns-in-Drill g c = rw c.in-Drill.is (performed_alone g.F.Files _ 0 _ _ c.drill.result _ (done_ends _) c.ended.ensures c.drill.ensures.told c.drill.ensures.headline)

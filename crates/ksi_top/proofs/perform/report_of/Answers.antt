@@ -1,8 +1,15 @@
-use Rattle.ksi_words.specs.Words.{command_of, texts}
-use Rattle.ksi_top.specs.Run.{run}
-use Rattle.ksi_top.proofs.Wanting.{none_loaded}
+use Rattle.ksi_top.proofs.Reporting.{reported_by_command, reported_of_refusal, words_wanting}
+use Rattle.ksi_words.specs.declared.asked.WordsRefusal.TheVariants as refusals
 use Rattle.ksi_top.proofs.perform.report_of.Goals as goal
 
-pub returns-in-Err-NoMemory-clause-wanting : goal.returns-in-Err-NoMemory-clause-wanting
-unfolding run
-returns-in-Err-NoMemory-clause-wanting g c = λ tells none long. none_loaded (command_of (texts c.args.words.now)) (g.F.Files.held c.args.files.now) (g.F.Files.calls c.args.files.now) long
+pub returns-in-Ok : goal.returns-in-Ok
+returns-in-Ok g c = reported_by_command g.F.Files _ _ _ _ _ c.in-Ok.ensures.reads c.perform.ensures
+
+pub returns-in-Err-Words : goal.returns-in-Err-Words
+returns-in-Err-Words g c = reported_of_refusal g.F.Files _ refusals.Words _ _ (rw c.in-Err-Words.field-0-is at c.in-Err-Words.ensures.reads) c.words_refused.ensures
+
+pub returns-in-Err-BadWord : goal.returns-in-Err-BadWord
+returns-in-Err-BadWord g c = reported_of_refusal g.F.Files _ (refusals.BadWord c.in-Err-BadWord.n) _ _ (rw c.in-Err-BadWord.field-0-is at c.in-Err-BadWord.ensures.reads) (rw c.in-Err-BadWord.field-0-is at c.bad_word.ensures)
+
+pub returns-in-Err-NoMemory : goal.returns-in-Err-NoMemory
+returns-in-Err-NoMemory g c = words_wanting g.F.Files _ _

@@ -41,4 +41,4 @@ returns c =
     let parse = c.in-Ok-try_get_matches_from in
     let found = found_words (texts c.args.words.now) (app_of c.in-Ok.grammar) app_is (any_text begins_with_dash c.args.words.now ∙ plain) parse.matches parse.ensures.kinds parse.ensures.matches c.subcommand.result c.in-Some.name c.in-Some.matches c.subcommand.ensures.name c.subcommand.ensures.rows c.in-Some.is in
     let words_are : map (λ word. word.now) c.in-Some-get_raw.words.now ≡ found.0 = words_got c.get_raw.result c.in-Some-get_raw.words _ found.0 c.in-Some-get_raw.is c.get_raw.ensures found.2 in
-    record { reads = named_reads (texts c.args.words.now) c.in-Some.name.now found.0 _ c.asked.result (any_text begins_with_dash c.args.words.now ∙ plain) found.1 words_are c.asked.ensures.reads; early = c.asked.ensures.early }
+    record { reads = named_reads (texts c.args.words.now) c.in-Some.name.now found.0 _ c.by_name.result (any_text begins_with_dash c.args.words.now ∙ plain) found.1 words_are c.by_name.ensures.reads; early = c.by_name.ensures.early }

@@ -1,5 +1,5 @@
 use Rattle.std.proofs.Common.{◌++◌, ◌∷◌, [], ◌∙◌, List, length, ap, arith}
-use Rattle.ksi_aggchain.specs.declared.node.Node.{Node}
+use Rattle.ksi_aggtree.specs.declared.item.Item.{Item}
 use Rattle.ksi_aggtree.specs.declared.entries.Origin.{Origin}
 use Rattle.ksi_aggtree.specs.declared.entries.Entry.{Entry}
 use Rattle.ksi_aggtree.specs.Entries.{entries_of}
@@ -12,7 +12,7 @@ returns-in-Ok-clause-added g c =
     let o = c.args.entry.origin in
     let x = c.args.entry.item in
     ap (λ (origins : List Origin). entries_of origins c.add.new.self) (c.put.ensures ∙ ap (λ (origins : List Origin). origins ++ o ∷ []) c.reserve.ensures.items)
-    ∙ ap (λ (items : List Node). entries_of (inside.origins.items ++ o ∷ []) items) c.in-Ok.ensures.added
+    ∙ ap (λ (items : List Item). entries_of (inside.origins.items ++ o ∷ []) items) c.in-Ok.ensures.added
     ∙ beside_more inside.origins.items inside.round o x c.self.invariant.count
     ∙ ap (λ (entries : List Entry). entries ++ c.args.entry ∷ []) c.self.view_is
 
@@ -21,4 +21,4 @@ returns-in-Err-clause-full g c =
     let inside = c.self.inside in
     let count = ap (λ (entries : List Entry). length entries) c.self.view_is in
     let same = beside_count inside.origins.items inside.round c.self.invariant.count in
-    (λ e. omega (arith, count, same, c.add.ensures.full.0 (c.in-Err.is ∙ e)), λ n. absurd (c.if-place-eq65536.false (c.count-place.ensures ∙ n)))
+    (λ e. omega (arith, count, same, c.add.ensures.full.0 (c.in-Err.is ∙ e)), λ n. absurd (c.if-place-eq-MOST_ITEMS.false (c.count-place.ensures ∙ n)))

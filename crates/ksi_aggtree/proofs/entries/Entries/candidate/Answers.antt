@@ -1,5 +1,5 @@
 use Rattle.std.proofs.Common.{◌∙◌, List, ap, sym}
-use Rattle.ksi_aggchain.specs.declared.node.Node.{Node}
+use Rattle.ksi_aggtree.specs.declared.item.Item.{Item}
 use Rattle.ksi_aggtree.specs.declared.entries.Entry.{Entry}
 use Rattle.ksi_aggtree.specs.Rounds.{root_of}
 use Rattle.ksi_aggtree.specs.Entries.{items_of}
@@ -11,6 +11,6 @@ returns-in-Some g c =
     let inside = c.self.inside in
     let image = g.C.Compress.image in
     let root = c.root.ensures
-    ∙ ap (λ (items : List Node). root_of image items) (sym (beside_items inside.origins.items inside.round c.self.invariant.count))
+    ∙ ap (λ (items : List Item). root_of image items) (sym (beside_items inside.origins.items inside.round c.self.invariant.count))
     ∙ ap (λ (entries : List Entry). root_of image (items_of entries)) c.self.view_is in
     ap imprint_or (sym c.in-Some.is ∙ root) ∙ imprint_candidate image c.args.self.now

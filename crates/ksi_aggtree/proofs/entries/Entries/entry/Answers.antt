@@ -1,5 +1,5 @@
 use Rattle.std.proofs.Common.{◌≡◌, ◌∙◌, List, length, slice_get, Some, ap, sym, subst, arith}
-use Rattle.ksi_aggchain.specs.declared.node.Node.{Node}
+use Rattle.ksi_aggtree.specs.declared.item.Item.{Item}
 use Rattle.ksi_aggtree.specs.declared.entries.Entry.{Entry}
 use Rattle.ksi_aggtree.proofs.Beside.{beside, beside_count, beside_entry}
 use Rattle.ksi_aggtree.proofs.entries.Entries.entry.Goals as goal
@@ -25,4 +25,4 @@ returns g c =
     subst (λ (entries : List Entry). slice_get entries k ≡ Some (record { origin = origin; item = c.item.result })) c.self.view_is
     (beside_entry inside.origins.items inside.round k origin c.self.invariant.count
     (omega (arith, c.requires, count, beside_count inside.origins.items inside.round c.self.invariant.count)) c.index.ensures
-    ∙ ap (λ (item : Node). Some (beside origin item)) (sym c.item.ensures.item))
+    ∙ ap (λ (item : Item). Some (beside origin item)) (sym c.item.ensures.item))

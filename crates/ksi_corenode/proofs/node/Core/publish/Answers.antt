@@ -10,5 +10,5 @@ returns-clause-undecided g c = λ s.
     let held = held_by c.args.self.now in
     let start = c.args.self.now.start in
     same_answer c.without_sends.result.answer (publish_answer g.C.Compress.image held start c.args.p) (Undecided s)
-    (c.without_sends.ensures.answer ∙ subst (λ (core : CoreState). c.in_ok-answer.field-0 ≡ publish_answer g.C.Compress.image (held_by core) core.start c.args.p) c.take_calendar.ensures.same c.in_ok-answer.ensures.answer) 
+    (c.without_sends.ensures.answer ∙ subst (λ (core : CoreState). c.in_ok-answer.field-0 ≡ publish_answer g.C.Compress.image (held_by core) core.start c.args.p) c.take_calendar.ensures.same c.in_ok-answer.ensures.answer)
     (publish_undecided g.C.Compress.image held (record { some = c.one_first_missing.ensures.some; none = c.one_first_missing.ensures.none }) start c.args.p s)

@@ -32,7 +32,7 @@ returns-clause-undecided g c = λ s.
     let now = c.args.self.now in
     let t = c.args.second in
     let row = respond_row g.C.Compress.image (held_by now) now.start t (state_of now t) in
-    same_answer c.in_ok-step.step.answer row.answer (Undecided s) (subst (λ (core : CoreState). c.in_ok-step.step.answer ≡ (respond_row g.C.Compress.image (held_by core) core.start t (state_of core t)).answer) c.take_calendar.ensures.same c.in_ok-step.ensures.answer) 
+    same_answer c.in_ok-step.step.answer row.answer (Undecided s) (subst (λ (core : CoreState). c.in_ok-step.step.answer ≡ (respond_row g.C.Compress.image (held_by core) core.start t (state_of core t)).answer) c.take_calendar.ensures.same c.in_ok-step.ensures.answer)
     (respond_undecided g.C.Compress.image (held_by now) now.start t (state_of now t) (record { some = c.one_first_missing.ensures.some; none = c.one_first_missing.ensures.none }) c.requires.from s)
 
 pub returns-clause-not_mine : goal.returns-clause-not_mine
@@ -40,5 +40,5 @@ returns-clause-not_mine g c =
     let now = c.args.self.now in
     let t = c.args.second in
     let row = respond_row g.C.Compress.image (held_by now) now.start t (state_of now t) in
-    same_answer c.in_ok-step.step.answer row.answer NotMine (subst (λ (core : CoreState). c.in_ok-step.step.answer ≡ (respond_row g.C.Compress.image (held_by core) core.start t (state_of core t)).answer) c.take_calendar.ensures.same c.in_ok-step.ensures.answer) 
+    same_answer c.in_ok-step.step.answer row.answer NotMine (subst (λ (core : CoreState). c.in_ok-step.step.answer ≡ (respond_row g.C.Compress.image (held_by core) core.start t (state_of core t)).answer) c.take_calendar.ensures.same c.in_ok-step.ensures.answer)
     (respond_not_mine g.C.Compress.image (held_by now) now.start t (state_of now t) (record { some = c.one_first_missing.ensures.some; none = c.one_first_missing.ensures.none }) c.requires.from)

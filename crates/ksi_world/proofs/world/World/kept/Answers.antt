@@ -1,6 +1,6 @@
 use Rattle.std.proofs.Common.{◌≡◌, ◌^◌, ◌<◌, sym, ap, subst, ◌∙◌}
 use Rattle.ksi_schedule.specs.Events.{History}
-use Rattle.ksi_world.specs.declared.kept.KeptSecond.{KeptSecond}
+use Rattle.ksi_aggtree.specs.declared.second.Second.{Second}
 use Rattle.ksi_world.specs.Histories.{after, world_of}
 use Rattle.ksi_world.specs.Records.{kept_seconds}
 use Rattle.ksi_world.specs.Validity.{AreRising, EachKept, IsKept}
@@ -39,7 +39,7 @@ returns-clause-early g c =
     let is = c.self.invariant in
     let voted = after_voted image plan is.plan_is events is.are in
     let all : c.kept_under.result.seconds ≡ kept_seconds image plan (after image plan events) = c.kept_under.ensures.seconds ∙ listed_is image plan (after image plan events) voted is.sound c.self.inside.nodes c.in_ok-seconds.seconds.items is.fits c.in_ok-seconds.ensures in
-    subst (λ ks. EachKept (λ (one : KeptSecond). one.second < 2 ^ 63) ks) (sym all) (kept_early image plan is.plan_is c.steps_agree.ensures.validity (after image plan events) is.sound voted)
+    subst (λ ks. EachKept (λ (one : Second). one.second < 2 ^ 63) ks) (sym all) (kept_early image plan is.plan_is c.steps_agree.ensures.validity (after image plan events) is.sound voted)
 
 pub returns-clause-trees : goal.returns-clause-trees
 returns-clause-trees g c =

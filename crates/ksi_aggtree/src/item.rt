@@ -1,0 +1,40 @@
+ghost use Rattle.std.specs.Prelude.{◌≡◌};
+ghost use Rattle.ksi_aggtree.specs.Rounds.{leaf, as_item};
+
+use ksi_aggchain::Node;
+use ksi_imprint::Imprint;
+
+/// How many items a round may have.
+pub const MOST_ITEMS: usize = 65536;
+
+/// The highest level that an item may have.
+pub const HIGHEST_ITEM: u8 = 239;
+
+/// What is submitted to a round and kept: an imprint at a level.
+#[derive(Clone, Copy, PartialEq, Eq, Debug)]
+pub struct Item {
+    pub imprint: Imprint,
+    pub level: u8,
+}
+
+impl Item {
+    /// The item that a node is submitted as.
+    pub fn of(node: Node) -> Item
+        ensures { result ≡ as_item node }
+    {
+        Item {
+            imprint: node.imprint,
+            level: node.level,
+        }
+    }
+
+    /// The leaf of a tree that stands for the item.
+    pub fn leaf(&self) -> Node
+        ensures { result ≡ leaf self.now }
+    {
+        Node {
+            imprint: self.imprint,
+            level: self.level,
+        }
+    }
+}

@@ -1,0 +1,16 @@
+-- Answers of calls that take memory, beside what a definition gives.
+use Rattle.std.specs.Prelude.{◌≡◌, Result, Ok, Err}
+use Rattle.ksi_imprint.specs.declared.refused.Refused.{Refused}
+use Rattle.ksi_imprint.specs.declared.refused.Refused.TheVariants.{Fault, NoMemory}
+
+-- the answer is this one, or there is no memory
+abbrev pub OrNoMemory : {T F : Type 0} → Result T F → Result T (Refused F) → Type 0
+OrNoMemory expected (Ok value) = expected ≡ Ok value
+OrNoMemory expected (Err (Fault fault)) = expected ≡ Err fault
+OrNoMemory expected (Err NoMemory) = Unit {0}
+
+-- a fault says this, and memory is wanting only where that holds
+abbrev pub IfRefused : {T F : Type 0} → Result T (Refused F) → (F → Type 0) → Type 0 → Type 0
+IfRefused (Ok value) says wanting = Unit {0}
+IfRefused (Err (Fault fault)) says wanting = says fault
+IfRefused (Err NoMemory) says wanting = wanting

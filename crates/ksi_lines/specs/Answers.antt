@@ -1,0 +1,57 @@
+-- The lines of what is answered of a signature: why it is not extended, and where an audit finds it.
+use Rattle.std.specs.Prelude.{ℕ, List, [], ◌∷◌, ◌++◌, codes}
+use Rattle.std.specs.Fmt.{decimal}
+use Rattle.hex.specs.Hex.{encode_lower}
+use Rattle.ksi_split.specs.declared.side.Side.{Side}
+use Rattle.ksi_split.specs.declared.side.Side.TheVariants.{Left, Right}
+use Rattle.ksi_schedule.specs.Printed.{hex_of}
+use Rattle.ksi_extender.specs.declared.refusal.ExtendRefusal.{ExtendRefusal}
+use Rattle.ksi_extender.specs.declared.refusal.ExtendRefusal.TheVariants as refusals
+use Rattle.ksi_auditor.specs.declared.answer.Audit.{Audit}
+use Rattle.ksi_auditor.specs.declared.answer.Audit.TheVariants as answers
+use Rattle.ksi_lines.specs.Lines.{line_text, malformed_line, refused_for, refused_line}
+use Rattle.ksi_lines.specs.FaultWords.{signature_fault}
+
+-- The signature is file word n. Want of memory is never a refusal of a definition, its row is only there to be total.
+abbrev pub not_extended_line : (n : ℕ) → ExtendRefusal → List ℕ
+not_extended_line n (refusals.Malformed fault) = malformed_line n (signature_fault fault)
+not_extended_line n (refusals.Refused refusal) = refused_line refusal
+not_extended_line n (refusals.RootDiffers second kept given) = refused_for (codes "E1" ∷ decimal second ∷ hex_of kept ∷ hex_of given ∷ [])
+not_extended_line n (refusals.Undecided second) = refused_for (codes "E2" ∷ decimal second ∷ [])
+not_extended_line n (refusals.TooEarly second publication) = refused_for (codes "E3" ∷ decimal second ∷ decimal publication ∷ [])
+not_extended_line n (refusals.BeforeStart second) = refused_for (codes "E4" ∷ decimal second ∷ [])
+not_extended_line n (refusals.TooLarge size) = refused_for (codes "E5" ∷ decimal size ∷ [])
+not_extended_line n refusals.NoMemory = line_text []
+
+-- ---- an audit
+
+abbrev pub letter : Side → List ℕ
+letter Left = codes "L"
+letter Right = codes "R"
+
+abbrev pub letters : List Side → List ℕ
+letters [] = []
+letters (side ∷ sides) = letter side ++ letters sides
+
+-- the sides of a way, and a dash where there are none
+abbrev pub way_text : List Side → List ℕ
+way_text [] = codes "-"
+way_text (side ∷ sides) = letters (side ∷ sides)
+
+abbrev pub inside_line : (second : ℕ) → List Side → List ℕ
+inside_line second way = line_text (codes "inside" ∷ decimal second ∷ way_text way ∷ [])
+
+-- two strings in hex
+abbrev pub clash_line : (one two : List ℕ) → List ℕ
+clash_line one two = line_text (codes "clash" ∷ encode_lower one ∷ encode_lower two ∷ [])
+
+-- want of memory is never an answer of a definition, its row is only there to be total
+abbrev pub audit_line : Audit → List ℕ
+audit_line (answers.Inside second way) = inside_line second way
+audit_line (answers.Beneath second item links) = line_text (codes "beneath" ∷ decimal second ∷ decimal item ∷ decimal links ∷ [])
+audit_line (answers.Clash clash) = clash_line clash.one clash.two
+audit_line (answers.NotAccepted refusal) = refused_line refusal
+audit_line (answers.BeforeStart publication) = line_text (codes "before" ∷ codes "start" ∷ decimal publication ∷ [])
+audit_line (answers.Undecided second) = line_text (codes "undecided" ∷ decimal second ∷ [])
+audit_line (answers.NotDecided publication given kept) = line_text (codes "not" ∷ codes "decided" ∷ decimal publication ∷ hex_of given ∷ hex_of kept ∷ [])
+audit_line answers.NoMemory = line_text []

@@ -1,0 +1,74 @@
+-- The faults of files as they are printed: a code and its values.
+use Rattle.std.specs.Prelude.{◌≡◌, ℕ, List, [], ◌∷◌, codes}
+use Rattle.std.specs.Fmt.{decimal}
+use Rattle.ksi_signature.specs.declared.fault.SignatureFault.{SignatureFault}
+use Rattle.ksi_signature.specs.declared.fault.SignatureFault.TheVariants as signatures
+use Rattle.ksi_publications.specs.declared.fault.PublicationsFault.{PublicationsFault}
+use Rattle.ksi_publications.specs.declared.fault.PublicationsFault.TheVariants as publications
+use Rattle.ksi_journal.specs.declared.fault.JournalFault.{JournalFault}
+use Rattle.ksi_journal.specs.declared.fault.JournalFault.TheVariants as journals
+use Rattle.ksi_schedule.specs.declared.fault.LineFault.{LineFault}
+use Rattle.ksi_schedule.specs.declared.fault.LineFault.TheVariants as lines
+use Rattle.ksi_schedule.specs.declared.fault.ScheduleFault.{ScheduleFault}
+use Rattle.ksi_schedule.specs.declared.fault.ScheduleFault.TheVariants as schedules
+use Rattle.ksi_schedule.specs.Printed.{hex_of}
+use Rattle.ksi_lines.specs.Lines.{malformed_line}
+
+-- want of memory is no fault of a file, and has no code
+abbrev pub signature_fault : SignatureFault → List (List ℕ)
+signature_fault (signatures.Tlv place) = codes "S1" ∷ decimal place ∷ []
+signature_fault (signatures.After place) = codes "S2" ∷ decimal place ∷ []
+signature_fault (signatures.NotSignature kind) = codes "S3" ∷ decimal kind ∷ []
+signature_fault (signatures.RefusedElement kind place) = codes "S4" ∷ decimal kind ∷ decimal place ∷ []
+signature_fault (signatures.UnknownCritical kind place) = codes "S5" ∷ decimal kind ∷ decimal place ∷ []
+signature_fault (signatures.Missing kind place) = codes "S6" ∷ decimal kind ∷ decimal place ∷ []
+signature_fault (signatures.Repeated kind place) = codes "S7" ∷ decimal kind ∷ decimal place ∷ []
+signature_fault (signatures.Imprint place) = codes "S8" ∷ decimal place ∷ []
+signature_fault (signatures.Number place) = codes "S9" ∷ decimal place ∷ []
+signature_fault (signatures.Algorithm value) = codes "S10" ∷ decimal value ∷ []
+signature_fault (signatures.Links place) = codes "S11" ∷ decimal place ∷ []
+signature_fault (signatures.Chains place) = codes "S12" ∷ decimal place ∷ []
+signature_fault (signatures.Sibling place) = codes "S13" ∷ decimal place ∷ []
+signature_fault (signatures.Time place) = codes "S14" ∷ decimal place ∷ []
+signature_fault signatures.NoMemory = []
+
+abbrev pub publications_fault : PublicationsFault → List (List ℕ)
+publications_fault publications.Magic = codes "Q1" ∷ []
+publications_fault (publications.Tlv place) = codes "Q2" ∷ decimal place ∷ []
+publications_fault (publications.RefusedElement kind place) = codes "Q3" ∷ decimal kind ∷ decimal place ∷ []
+publications_fault (publications.UnknownCritical kind place) = codes "Q4" ∷ decimal kind ∷ decimal place ∷ []
+publications_fault (publications.Missing kind place) = codes "Q5" ∷ decimal kind ∷ decimal place ∷ []
+publications_fault (publications.Repeated kind place) = codes "Q6" ∷ decimal kind ∷ decimal place ∷ []
+publications_fault (publications.Imprint place) = codes "Q7" ∷ decimal place ∷ []
+publications_fault (publications.Number place) = codes "Q8" ∷ decimal place ∷ []
+publications_fault (publications.Time place) = codes "Q9" ∷ decimal place ∷ []
+publications_fault publications.NoMemory = []
+
+abbrev pub journal_fault : JournalFault → List (List ℕ)
+journal_fault journals.Magic = codes "J1" ∷ []
+journal_fault (journals.Tlv place) = codes "J2" ∷ decimal place ∷ []
+journal_fault (journals.Order place) = codes "J3" ∷ decimal place ∷ []
+journal_fault (journals.TreeRoot second kept computed) = codes "J4" ∷ decimal second ∷ hex_of kept ∷ hex_of computed ∷ []
+journal_fault (journals.Bound place) = codes "J5" ∷ decimal place ∷ []
+journal_fault (journals.Imprint place) = codes "J6" ∷ decimal place ∷ []
+journal_fault (journals.Count second) = codes "J7" ∷ decimal second ∷ []
+journal_fault (journals.Ends place) = codes "J8" ∷ decimal place ∷ []
+journal_fault journals.NoMemory = []
+
+-- of a schedule the value is the line, from 1
+abbrev pub line_code : LineFault → List ℕ
+line_code lines.Word = codes "L1"
+line_code lines.Number = codes "L2"
+line_code lines.Hash = codes "L3"
+line_code lines.NoSuchActor = codes "L4"
+line_code lines.SecondOutOfRange = codes "L5"
+line_code lines.TooManyEvents = codes "L6"
+line_code lines.Header = codes "L7"
+
+abbrev pub schedule_fault : LineFault × ℕ → List (List ℕ)
+schedule_fault at = line_code at.0 ∷ decimal at.1 ∷ []
+
+-- the line of a fault of a schedule
+abbrev pub IsLineOf : ℕ → ScheduleFault → List ℕ → Type 0
+IsLineOf n (schedules.Line fault line) text = text ≡ malformed_line n (schedule_fault (fault, line))
+IsLineOf n schedules.NoMemory text = ⊥

@@ -1,0 +1,4 @@
+pub mod Lines
+pub mod FaultWords
+pub mod Answers
+pub mod Printed

@@ -1,0 +1,132 @@
+// The line of a file that is not in its grammar: the fault's code and its values.
+ghost use Rattle.std.specs.Prelude.{◌≡◌, ◌≢◌, ◌≤◌, ◌∷◌, [], IfOk, map, length};
+ghost use Rattle.std.specs.Fmt.{decimal};
+ghost use Rattle.ksi_signature.specs.declared.fault.SignatureFault.TheVariants as signatures;
+ghost use Rattle.ksi_publications.specs.declared.fault.PublicationsFault.TheVariants as publications;
+ghost use Rattle.ksi_journal.specs.declared.fault.JournalFault.TheVariants as journals;
+ghost use Rattle.ksi_lines.specs.FaultWords.{signature_fault, publications_fault, journal_fault, line_code, IsLineOf};
+ghost use Rattle.ksi_lines.specs.Lines.{malformed_line};
+ghost use Rattle.ksi_lines.specs.Printed.{word_text, room};
+
+use crate::line::Line;
+use crate::printing::Word::{self, Digest, Number, Text};
+use crate::printing::print;
+use ksi_imprint::NoMemory;
+use ksi_journal::JournalFault;
+use ksi_publications::PublicationsFault;
+use ksi_schedule::{LineFault, ScheduleFault};
+use ksi_signature::SignatureFault;
+
+/// Of file word `n`, which is a signature.
+pub fn signature_fault_line(n: usize, fault: SignatureFault) -> Result<Line, NoMemory>
+    ensures line { IfOk result (λ line. line ≡ malformed_line n (signature_fault fault)) }
+    ensures fault { IfOk result (λ _. fault ≢ signatures.NoMemory) }
+{
+    match fault {
+        SignatureFault::Tlv(place) => Ok(at_place(n, "S1", place)),
+        SignatureFault::After(place) => Ok(at_place(n, "S2", place)),
+        SignatureFault::NotSignature(kind) => Ok(malformed(n, "S3", &[Number(kind as u64)])),
+        SignatureFault::RefusedElement(kind, place) => Ok(of_kind(n, "S4", kind, place)),
+        SignatureFault::UnknownCritical(kind, place) => Ok(of_kind(n, "S5", kind, place)),
+        SignatureFault::Missing(kind, place) => Ok(of_kind(n, "S6", kind, place)),
+        SignatureFault::Repeated(kind, place) => Ok(of_kind(n, "S7", kind, place)),
+        SignatureFault::Imprint(place) => Ok(at_place(n, "S8", place)),
+        SignatureFault::Number(place) => Ok(at_place(n, "S9", place)),
+        SignatureFault::Algorithm(value) => Ok(malformed(n, "S10", &[Number(value)])),
+        SignatureFault::Links(place) => Ok(at_place(n, "S11", place)),
+        SignatureFault::Chains(place) => Ok(at_place(n, "S12", place)),
+        SignatureFault::Sibling(place) => Ok(at_place(n, "S13", place)),
+        SignatureFault::Time(place) => Ok(at_place(n, "S14", place)),
+        SignatureFault::NoMemory => Err(NoMemory),
+    }
+}
+
+/// Of file word `n`, which is a publications file.
+pub fn publications_fault_line(n: usize, fault: PublicationsFault) -> Result<Line, NoMemory>
+    ensures line { IfOk result (λ line. line ≡ malformed_line n (publications_fault fault)) }
+    ensures fault { IfOk result (λ _. fault ≢ publications.NoMemory) }
+{
+    match fault {
+        PublicationsFault::Magic => Ok(malformed(n, "Q1", &[])),
+        PublicationsFault::Tlv(place) => Ok(at_place(n, "Q2", place)),
+        PublicationsFault::RefusedElement(kind, place) => Ok(of_kind(n, "Q3", kind, place)),
+        PublicationsFault::UnknownCritical(kind, place) => Ok(of_kind(n, "Q4", kind, place)),
+        PublicationsFault::Missing(kind, place) => Ok(of_kind(n, "Q5", kind, place)),
+        PublicationsFault::Repeated(kind, place) => Ok(of_kind(n, "Q6", kind, place)),
+        PublicationsFault::Imprint(place) => Ok(at_place(n, "Q7", place)),
+        PublicationsFault::Number(place) => Ok(at_place(n, "Q8", place)),
+        PublicationsFault::Time(place) => Ok(at_place(n, "Q9", place)),
+        PublicationsFault::NoMemory => Err(NoMemory),
+    }
+}
+
+/// Of file word `n`, which is a journal.
+pub fn journal_fault_line(n: usize, fault: &JournalFault) -> Result<Line, NoMemory>
+    ensures line { IfOk result (λ line. line ≡ malformed_line n (journal_fault fault.now)) }
+    ensures fault { IfOk result (λ _. fault.now ≢ journals.NoMemory) }
+{
+    match fault {
+        JournalFault::Magic => Ok(malformed(n, "J1", &[])),
+        JournalFault::Tlv(place) => Ok(at_place(n, "J2", *place)),
+        JournalFault::Order(place) => Ok(at_place(n, "J3", *place)),
+        JournalFault::TreeRoot(second, kept, computed) => Ok(malformed(
+            n,
+            "J4",
+            &[Number(*second), Digest(kept), Digest(computed)],
+        )),
+        JournalFault::Bound(place) => Ok(at_place(n, "J5", *place)),
+        JournalFault::Imprint(place) => Ok(at_place(n, "J6", *place)),
+        JournalFault::Count(second) => Ok(malformed(n, "J7", &[Number(*second)])),
+        JournalFault::Ends(place) => Ok(at_place(n, "J8", *place)),
+        JournalFault::NoMemory => Err(NoMemory),
+    }
+}
+
+/// Of file word `n`, which is a schedule.
+pub fn schedule_fault_line(n: usize, fault: &ScheduleFault) -> Result<Line, NoMemory>
+    ensures { IfOk result (λ line. IsLineOf n fault.now line) }
+{
+    match fault {
+        ScheduleFault::Line(fault, line) => {
+            Ok(malformed(n, line_code(*fault), &[Number(*line)]))
+        }
+        ScheduleFault::NoMemory => Err(NoMemory),
+    }
+}
+
+fn line_code(fault: LineFault) -> &'static str
+    ensures code { result.now ≡ line_code fault }
+    ensures short { length result.now ≤ 3 }
+{
+    match fault {
+        LineFault::Word => "L1",
+        LineFault::Number => "L2",
+        LineFault::Hash => "L3",
+        LineFault::NoSuchActor => "L4",
+        LineFault::SecondOutOfRange => "L5",
+        LineFault::TooManyEvents => "L6",
+        LineFault::Header => "L7",
+    }
+}
+
+fn at_place(n: usize, code: &str, place: usize) -> Line
+    requires { length code.now ≤ 3 }
+    ensures { result ≡ malformed_line n (code.now ∷ decimal place ∷ []) }
+{
+    malformed(n, code, &[Number(place as u64)])
+}
+
+fn of_kind(n: usize, code: &str, kind: u16, place: usize) -> Line
+    requires { length code.now ≤ 3 }
+    ensures { result ≡ malformed_line n (code.now ∷ decimal kind ∷ decimal place ∷ []) }
+{
+    malformed(n, code, &[Number(kind as u64), Number(place as u64)])
+}
+
+fn malformed(n: usize, code: &str, values: &[Word<'_>]) -> Line
+    requires code { length code.now ≤ 3 }
+    requires values { room values.now ≤ 200 }
+    ensures { result ≡ malformed_line n (code.now ∷ map word_text values.now) }
+{
+    print(Text("malformed"), &[Number(n as u64), Text(code)], values)
+}

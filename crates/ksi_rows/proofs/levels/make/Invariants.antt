@@ -1,9 +1,0 @@
-use Rattle.std.proofs.Common.{◌≡◌, ℕ, ◌≤◌, vec_len}
-use Rattle.ksi_rows.specs.Stored.{row_at}
-use Rattle.ksi_rows.proofs.levels.make.Given as goal
-
-abbrev pub invariant-loop-level : goal.invariant-loop-level
-invariant-loop-level g l = record {
-  rows : l._level ≤ vec_len l.rows;
-  kept : (k : ℕ) → row_at l.rows.items k ≡ row_at l.fn.rows.items k;
-}

@@ -1,6 +1,0 @@
-use Rattle.ksi_split.specs.Upward.{whole, node}
-use Rattle.ksi_rows.proofs.rows.Rows.border.Goals as goal
-
-pub loop-level-init : goal.loop-level-init
-unfolding whole node
-loop-level-init g c = c.part-border.ensures.part

@@ -1,4 +1,0 @@
-use Rattle.ksi_rows.proofs.rows.Rows.leaf.Given as goal
-
-abbrev pub ghosts-leaf_from : goal.ghosts-leaf_from
-ghosts-leaf_from g a = record { name = a.blank.name; parts = a.blank.parts }

@@ -1,0 +1,9 @@
+use Rattle.std.proofs.Common.{◌≡◌, ℕ, ◌≤◌, vec_len}
+use Rattle.ksi_split.specs.Stored.{row_at}
+use Rattle.ksi_split.proofs.levels.make.Given as goal
+
+abbrev pub invariant-loop-level : goal.invariant-loop-level
+invariant-loop-level g l = record {
+  rows : l._level ≤ vec_len l.rows;
+  kept : (k : ℕ) → row_at l.rows.items k ≡ row_at l.fn.rows.items k;
+}

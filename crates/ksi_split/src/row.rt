@@ -1,0 +1,68 @@
+ghost use Rattle.std.specs.Prelude.{◌≡◌, ◌<◌, ◌+◌, ◌++◌, ◌∷◌, [], length, slice_index_or, OnOk};
+
+use crate::NoMemory;
+use crate::steps::Steps;
+use std::alloc::Global;
+use std::marker::Model;
+use std::sync::ledger::Ledger;
+
+/// Parts of one tree that are kept. The only way to read one is `read`, which takes a step.
+#[derive(Drop)]
+pub(crate) struct Row<N: Copy> {
+    parts: Vec<N>,
+}
+
+impl<N: Copy> Model for Row<N> {
+    ghost use Rattle.std.specs.Prelude.{◌-◌, vec_len, vec_capacity};
+    ghost use Rattle.ksi_split.specs.Stored.{Stored};
+
+    ghost Value = { Stored N };
+
+    ghost view = { λ row. record { parts = row.parts.items; room = vec_capacity row.parts - vec_len row.parts } };
+}
+
+impl<N: Copy> Row<N> {
+    /// No parts yet.
+    pub(crate) fn new(alloc: Global) -> Self
+        ensures { result.parts ≡ [] }
+    {
+        Row {
+            parts: Vec::new(alloc),
+        }
+    }
+
+    pub(crate) fn len(&self) -> usize
+        ensures { result ≡ length self.now.parts }
+    {
+        self.parts.len()
+    }
+
+    /// A part.
+    pub(crate) fn read<L: Ledger>(&self, at: usize, steps: &mut Steps<L>) -> N
+        requires { at < length self.now.parts }
+        ensures part { (d : N) → result ≡ slice_index_or self.now.parts at d }
+        ensures cost { steps.new ≡ steps.old + 1 }
+    {
+        steps.tick();
+        self.parts[at]
+    }
+
+    /// Makes room for one part more.
+    pub(crate) fn grow(&mut self) -> Result<(), NoMemory>
+        ensures parts { self.new.parts ≡ self.old.parts }
+        ensures room { OnOk result (0 < self.new.room) }
+    {
+        self.parts.reserve(1)
+    }
+
+    /// Puts a part behind the others, where there is room.
+    pub(crate) fn put(&mut self, part: N)
+        requires { 0 < self.old.room }
+        ensures { self.new.parts ≡ self.old.parts ++ part ∷ [] }
+    {
+        match self.parts.push(part) {
+            Ok(()) => {}
+            Err(_) => unreachable!(),
+        }
+    }
+}

@@ -1,0 +1,388 @@
+ghost use Rattle.std.specs.Prelude.{◌≡◌, ◌≢◌, ◌++◌, ◌∷◌, [], ℕ, ◌%◌, ◌<◌, ◌≤◌, ◌+◌, ◌-◌, ◌*◌, ◌^◌, length, OnOk, OnErr, IfOk};
+ghost use Rattle.ksi_split.specs.Upward.{halves, whole, node, link_up, links_up};
+ghost use Rattle.ksi_split.specs.Trees.{tree, path_of, node_at};
+ghost use Rattle.ksi_split.specs.Leaves.{leaf_of};
+ghost use Rattle.ksi_split.specs.Stored.{AreBorders, maybe_link};
+
+use crate::NoMemory;
+use crate::joins::Joins;
+use crate::levels::{add, completed, count, grow, levels, part};
+use crate::paths::{Paths, paths_from};
+use crate::power::split;
+use crate::row::Row;
+use crate::side::Side;
+use crate::steps::Steps;
+use crate::tree_link::TreeLink;
+use crate::uncounted::{append_from, leaf_from, node_from, path_from, root_from};
+use crate::zeros::Zeros;
+use std::alloc::Global;
+use std::marker::{Brand, Model};
+use std::sync::ledger::{Blank, Ledger};
+
+/// Leaves that come one by one behind those before the start, and the complete parts of their tree. A contract sees
+/// how many leaves stand before the start, what each of them is, and the leaves that came.
+#[derive(Drop)]
+pub struct Rows<N: Copy, J: Joins<N>> {
+    alloc: Global,
+    zeros: Zeros<N, J>,
+    rows: Vec<Row<N>>,
+}
+
+impl<N: Copy, J: Joins<N>> Model for Rows<N, J> {
+    ghost use Rattle.ksi_split.specs.Leaves.{Leaves};
+    ghost use Rattle.ksi_split.specs.Stored.{AreRows, row_at};
+
+    ghost Value = { Leaves N };
+
+    ghost view = { λ r. record { start = r.zeros.start; before = r.zeros.leaf; items = row_at r.rows.items 0 } };
+
+    ghost invariant = { λ r. AreRows J.joined r.zeros.start r.zeros.leaf r.rows.items };
+}
+
+impl<N: Copy, J: Joins<N>> Rows<N, J> {
+    /// No leaf yet behind the first `start`, which are all `before`; `start` is at most 2^63.
+    ///
+    /// # Errors
+    /// `NoMemory`: no rows are made.
+    pub fn new(alloc: Global, start: u64, before: N) -> Result<Self, NoMemory>
+        requires { start ≤ 2 ^ 63 }
+        ensures { IfOk result (λ rows. rows ≡ record { start = start; before = before; items = [] }) }
+    {
+        let zeros = Zeros::new(alloc, start, before)?;
+        Ok(Rows {
+            alloc,
+            zeros,
+            rows: Vec::new(alloc),
+        })
+    }
+
+    /// What the memory is taken from.
+    pub fn alloc(&self) -> Global {
+        self.alloc
+    }
+
+    /// How many leaves stand before the first that came.
+    pub fn start(&self) -> u64
+        ensures { result ≡ self.now.start }
+    {
+        self.zeros.start
+    }
+
+    /// How many leaves came.
+    pub fn count(&self) -> u64
+        ensures { result ≡ length self.now.items }
+    {
+        count(&self.rows)
+    }
+
+    /// A leaf; `at` is below the start and the count together.
+    pub fn leaf(&self, at: u64) -> N
+        requires { at < self.now.start + length self.now.items }
+        ensures { result ≡ leaf_of self.now at }
+    {
+        leaf_from::<N, J, Brand>(self, at, Blank::new(1))
+    }
+
+    /// The same, with its step.
+    pub fn leaf_counted<L: Ledger>(&self, at: u64, steps: &mut Steps<L>) -> N
+        requires { at < self.now.start + length self.now.items }
+        ensures leaf { result ≡ leaf_of self.now at }
+        ensures cost { steps.new ≡ steps.old + 1 }
+    {
+        self.part(0, at, steps)
+    }
+
+    /// The root of the tree over the leaves to `last`, which is a leaf that stands.
+    pub fn root(&self, last: u64) -> N
+        requires { last < self.now.start + length self.now.items }
+        ensures { result ≡ tree J.joined (leaf_of self.now) 0 (last + 1) }
+    {
+        root_from::<N, J, Brand>(self, last, Blank::new(1))
+    }
+
+    /// The part that sides from the top lead to in the tree over the leaves to `last`, which is a leaf that stands; none
+    /// where the sides pass a leaf.
+    pub fn node(&self, last: u64, sides: &[Side]) -> Option<N>
+        requires { last < self.now.start + length self.now.items }
+        ensures { result ≡ node_at J.joined (leaf_of self.now) last sides.now }
+    {
+        node_from::<N, J, Brand>(self, last, sides, Blank::new(1))
+    }
+
+    /// The links from leaf `t` up to the root of the tree over the leaves to `last`, the lowest first; `t` is at most
+    /// `last`, which is a leaf that stands.
+    ///
+    /// # Errors
+    /// `NoMemory`: all is as it was.
+    pub fn path(&self, t: u64, last: u64) -> Result<Vec<TreeLink<N>>, NoMemory>
+        requires within { t ≤ last }
+        requires covered { last < self.now.start + length self.now.items }
+        ensures { IfOk result (λ path. path.items ≡ path_of J.joined (leaf_of self.now) 0 t (last + 1)) }
+    {
+        path_from::<N, J, Brand>(self, t, last, Blank::new(1))
+    }
+
+    /// The same, with its steps: one for each link at least, and fewer than two for each level that the tree has, which
+    /// are at most 63.
+    pub fn path_counted<L: Ledger>(
+        &self,
+        t: u64,
+        last: u64,
+        steps: &mut Steps<L>,
+    ) -> Result<Vec<TreeLink<N>>, NoMemory>
+        requires within { t ≤ last }
+        requires covered { last < self.now.start + length self.now.items }
+        ensures path { IfOk result (λ path. path.items ≡ path_of J.joined (leaf_of self.now) 0 t (last + 1)) }
+        ensures cost { (k : ℕ) → last < 2 ^ k → steps.new ≤ steps.old + (2 * k - 1) }
+        ensures most { steps.new ≤ steps.old + 126 }
+        ensures least { IfOk result (λ path. steps.old + length path.items ≤ steps.new) }
+    {
+        let alloc = self.alloc;
+        let levels = levels(last);
+        let mut path = Vec::with_capacity(alloc, levels)?;
+        // the part that the last leaf is in, read where it may become a sibling
+        let mut border = None;
+        if t < last {
+            border = Some(self.part(0, last, steps));
+        }
+        let mut at = t;
+        for level in 0..levels {
+            if let Some(link) = self.link_up(last, level, at, border, steps) {
+                path.push(link)?;
+            }
+            at /= 2;
+            border = self.raise_behind(last, level, at, border, steps);
+        }
+        Ok(path)
+    }
+
+    /// The paths of the tree over the leaves to `last`, which is a leaf that stands. What they share is computed once.
+    ///
+    /// # Errors
+    /// `NoMemory`: all is as it was.
+    pub fn paths(&self, last: u64) -> Result<Paths<'_, N, J>, NoMemory>
+        requires { last < self.now.start + length self.now.items }
+        ensures { IfOk result (λ paths. paths ≡ record { leaves = self.now; last = last }) }
+    {
+        paths_from::<N, J, Brand>(self, last, Blank::new(1))
+    }
+
+    /// Adds a leaf behind all others, of which there are fewer than 2^63 with those before the start.
+    ///
+    /// # Errors
+    /// `NoMemory`: all is as it was.
+    pub fn append(&mut self, leaf: N) -> Result<(), NoMemory>
+        requires { self.old.start + length self.old.items < 2 ^ 63 }
+        ensures added { OnOk result (self.new ≡ record self.old { items = self.old.items ++ leaf ∷ [] }) }
+        ensures unchanged { OnErr result (self.new ≡ self.old) }
+    {
+        append_from::<N, J, Brand>(self, leaf, Blank::new(1))
+    }
+
+    pub(crate) fn append_counted<L: Ledger>(
+        &mut self,
+        leaf: N,
+        steps: &mut Steps<L>,
+    ) -> Result<(), NoMemory>
+        requires { self.old.start + length self.old.items < 2 ^ 63 }
+        ensures added { OnOk result (self.new ≡ record self.old { items = self.old.items ++ leaf ∷ [] }) }
+        ensures unchanged { OnErr result (self.new ≡ self.old) }
+    {
+        let n = self.zeros.start + count(&self.rows);
+        let top = completed(n);
+        // all growths come first, so that a refused one leaves all as it was
+        grow(self.alloc, &mut self.rows, top)?;
+        add(&self.zeros, &mut self.rows, n, top, leaf, steps);
+        Ok(())
+    }
+
+    pub(crate) fn root_counted<L: Ledger>(&self, last: u64, steps: &mut Steps<L>) -> N
+        requires { last < self.now.start + length self.now.items }
+        ensures { result ≡ tree J.joined (leaf_of self.now) 0 (last + 1) }
+    {
+        let _ = &self.zeros;
+        self.border(last, levels(last), steps)
+    }
+
+    pub(crate) fn node_counted<L: Ledger>(
+        &self,
+        last: u64,
+        sides: &[Side],
+        steps: &mut Steps<L>,
+    ) -> Option<N>
+        requires { last < self.now.start + length self.now.items }
+        ensures { result ≡ node_at J.joined (leaf_of self.now) last sides.now }
+    {
+        let _ = &self.zeros;
+        let mut first = 0;
+        let mut count = last + 1;
+        for side in sides {
+            if count == 1 {
+                return None;
+            }
+            let half = split(count);
+            match side {
+                Side::Left => count = half,
+                Side::Right => {
+                    first += half;
+                    count -= half;
+                }
+            }
+        }
+        let level = levels(count - 1);
+        Some(self.part_to(last, level, first >> level, steps))
+    }
+
+    /// A complete part.
+    fn part<L: Ledger>(&self, level: usize, at: u64, steps: &mut Steps<L>) -> N
+        requires few { level < 64 }
+        requires within { at < halves level (self.now.start + length self.now.items) }
+        ensures part { result ≡ whole J.joined (leaf_of self.now) level at }
+        ensures cost { steps.new ≡ steps.old + 1 }
+    {
+        part(&self.zeros, &self.rows, level, at, steps)
+    }
+
+    /// The last part of the next level.
+    fn raise<L: Ledger>(&self, last: u64, level: usize, border: N, steps: &mut Steps<L>) -> N
+        requires few { level < 63 }
+        requires covered { last < self.now.start + length self.now.items }
+        requires border { border ≡ node J.joined (leaf_of self.now) last level (halves level last) }
+        ensures border { result ≡ node J.joined (leaf_of self.now) last (level + 1) (halves (level + 1) last) }
+        ensures later { steps.old ≤ steps.new }
+        ensures cost { steps.new ≤ steps.old + 1 }
+    {
+        let _ = &self.zeros;
+        let end = last >> level;
+        let above = last >> (level + 1);
+        if above < (last + 1) >> (level + 1) {
+            // the last leaf completes this part, so it is kept
+            self.part(level + 1, above, steps)
+        } else if end % 2 == 1 {
+            let left = self.part(level, end - 1, steps);
+            J::join(&left, &border)
+        } else {
+            border
+        }
+    }
+
+    /// The last part of the next level where it stands behind part `at` of that level, and else none.
+    fn raise_behind<L: Ledger>(
+        &self,
+        last: u64,
+        level: usize,
+        at: u64,
+        border: Option<N>,
+        steps: &mut Steps<L>,
+    ) -> Option<N>
+        requires few { level < 63 }
+        requires covered { last < self.now.start + length self.now.items }
+        requires border { at < halves (level + 1) last →
+            border ≡ Some (node J.joined (leaf_of self.now) last level (halves level last)) }
+        ensures border { at < halves (level + 1) last →
+            result ≡ Some (node J.joined (leaf_of self.now) last (level + 1) (halves (level + 1) last)) }
+        ensures none { halves (level + 1) last ≤ at → result ≡ None }
+        ensures later { steps.old ≤ steps.new }
+        ensures cost { steps.new ≤ steps.old + 1 }
+        ensures free { halves (level + 1) last ≤ at → steps.new ≡ steps.old }
+    {
+        if at >= last >> (level + 1) {
+            return None;
+        }
+        match border {
+            Some(part) => Some(self.raise(last, level, part, steps)),
+            None => None,
+        }
+    }
+
+    /// The part that the last leaf is in, of each level below the root's.
+    pub(crate) fn borders<L: Ledger>(
+        &self,
+        last: u64,
+        steps: &mut Steps<L>,
+    ) -> Result<Vec<N>, NoMemory>
+        requires { last < self.now.start + length self.now.items }
+        ensures { IfOk result (λ borders. AreBorders J.joined (leaf_of self.now) last borders.items) }
+    {
+        let _ = &self.zeros;
+        let height = levels(last);
+        let mut borders = Vec::with_capacity(self.alloc, height)?;
+        let mut border = self.part(0, last, steps);
+        for level in 0..height {
+            borders.push(border)?;
+            border = self.raise(last, level, border, steps);
+        }
+        Ok(borders)
+    }
+
+    /// The part of a level that the last leaf is in.
+    fn border<L: Ledger>(&self, last: u64, levels: usize, steps: &mut Steps<L>) -> N
+        requires few { levels ≤ 63 }
+        requires covered { last < self.now.start + length self.now.items }
+        ensures { result ≡ node J.joined (leaf_of self.now) last levels (halves levels last) }
+    {
+        let mut border = self.part(0, last, steps);
+        for level in 0..levels {
+            border = self.raise(last, level, border, steps);
+        }
+        border
+    }
+
+    /// A part of a level, complete or not.
+    fn part_to<L: Ledger>(&self, last: u64, level: usize, at: u64, steps: &mut Steps<L>) -> N
+        requires few { level ≤ 63 }
+        requires covered { last < self.now.start + length self.now.items }
+        requires within { at ≤ halves level last }
+        ensures { result ≡ node J.joined (leaf_of self.now) last level at }
+    {
+        if at < last >> level {
+            self.part(level, at, steps)
+        } else {
+            self.border(last, level, steps)
+        }
+    }
+
+    /// The link up from a part of a level, none from a last part that stands alone.
+    pub(crate) fn link_up<L: Ledger>(
+        &self,
+        last: u64,
+        level: usize,
+        at: u64,
+        border: Option<N>,
+        steps: &mut Steps<L>,
+    ) -> Option<TreeLink<N>>
+        requires few { level < 63 }
+        requires covered { last < self.now.start + length self.now.items }
+        requires within { at ≤ halves level last }
+        requires border { at < halves level last →
+            border ≡ Some (node J.joined (leaf_of self.now) last level (halves level last)) }
+        requires none { halves level last ≤ at → border ≡ None }
+        ensures link { maybe_link result ≡ link_up J.joined (leaf_of self.now) last level at }
+        ensures cost { steps.new ≤ steps.old + 1 }
+        ensures free { at % 2 ≡ 0 → at + 1 ≡ halves level last → steps.new ≡ steps.old }
+        ensures later { steps.old ≤ steps.new }
+        ensures left { at % 2 ≡ 1 → steps.new ≡ steps.old + 1 }
+        ensures read { at + 1 ≢ halves level last → steps.old + length (maybe_link result) ≤ steps.new }
+    {
+        let end = last >> level;
+        if at % 2 == 1 {
+            Some(TreeLink {
+                side: Side::Right,
+                sibling: self.part(level, at - 1, steps),
+            })
+        } else if at + 1 < end {
+            Some(TreeLink {
+                side: Side::Left,
+                sibling: self.part(level, at + 1, steps),
+            })
+        } else {
+            match border {
+                Some(sibling) => Some(TreeLink {
+                    side: Side::Left,
+                    sibling,
+                }),
+                None => None,
+            }
+        }
+    }
+}

@@ -1,4 +1,0 @@
-use Rattle.ksi_top.proofs.refusal_line.difference_line.Goals as goal
-
-pub returns-in-Hash : goal.returns-in-Hash
-returns-in-Hash c = rw c.in-Hash.is c.refused-in-Hash.ensures
