@@ -1,5 +1,5 @@
 -- The journal of what the cores keep keeps their roots.
-use Rattle.std.proofs.Common.{◌≡◌, ◌≢◌, ℕ, zero, suc, ◌+◌, ◌^◌, ◌<◌, ◌≤◌, Bool, true, false, leb, cond, List, map, refl, sym, ap, ◌∙◌, arith, inl, inr, ◌⊎◌, Option, Some, None}
+use Rattle.std.proofs.Common.{◌≡◌, ◌≢◌, ℕ, zero, suc, ◌+◌, ◌^◌, ◌<◌, ◌≤◌, Bool, true, false, leb, cond, List, refl, sym, ap, subst, ◌∙◌, arith, inl, inr, ◌⊎◌, Option, Some, None}
 use Rattle.std.specs.Prelude.{option_map}
 use Rattle.std.proofs.lemmas.Bool.{cases_eq, eq-eqb, ne_eqb, leb-true, leb-false}
 use Rattle.ksi_aggtree.specs.declared.second.Second.{Second}
@@ -77,6 +77,14 @@ module _ (image : List ℕ → List ℕ) (plan : PlanState) (w : WorldState) whe
       ]
     ]
 
+    -- the same of a list that is this one, whatever the number is
+    all_kept : (kept : List Second) (n : ℕ) → kept ≡ from plan.start n → (t : ℕ) → (InRange plan t → (plan.start ≤ t) × (t < plan.start + n)) → ((plan.start ≤ t) × (t < plan.start + n) → InRange plan t) → root_kept (kept_among kept t) ≡ kept_root plan w t
+    all_kept kept n is t one other = subst (λ (kept : List Second). root_kept (kept_among kept t) ≡ kept_root plan w t) (sym is) (all_roots n t one other)
+
+    kept_is : kept_seconds image plan w ≡ from plan.start (2 ^ 24)
+    unfolding kept_seconds
+    kept_is = refl
+
     pub journal_keeps : (issued publications : List (ℕ × List ℕ)) → KeepsRoots plan w (contents plan.start (kept_seconds image plan w) issued publications)
-    unfolding root_at kept_seconds
-    journal_keeps issued publications = record { start = refl; roots = λ t. all_roots (2 ^ 24) t (λ r. r) (λ r. r) }
+    unfolding root_at
+    journal_keeps issued publications = record { start = refl; roots = λ t. all_kept (kept_seconds image plan w) (2 ^ 24) kept_is t (λ r. r) (λ r. r) }

@@ -106,7 +106,7 @@ module _ (P : List ℕ → Type 0) where
 
 -- the laws of rounds, where what is hashed are imprints
 pub imprint_laws : (image : List ℕ → List ℕ) → ((bytes : List ℕ) → IsImprint (image bytes)) → TreeRises image → ItemClimbs image
-    → ((items : List Node) (k : ℕ) → length items ≤ 65536 → length (chain_of image items k) ≤ 16)
+    → ((items : List Item) (k : ℕ) → length items ≤ 65536 → length (chain_of image items k) ≤ 16)
     → ((start top : Node) (links : List PlainLink) → Climbs image start links top → top.level ≡ level_after start.level links) → RoundLaws IsImprint image
 imprint_laws image images rises climb few sum = record { zero_too = zero_is; images = images; rises = rises; climb = climb; few = few; sum = sum }
 

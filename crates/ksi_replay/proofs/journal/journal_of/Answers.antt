@@ -18,7 +18,7 @@ new-requires g c =
       start = omega (arith, c.in_ok-kept.ensures.start, c.plan-plan.ensures.limits.early);
       seconds = subst (AllByRecursion (IsSecond image)) (sym seconds)
           (seconds_are image kept.seconds c.in_ok-kept.ensures.early c.in_ok-kept.ensures.trees
-          (each_kept HasImprints kept.seconds (subst (AllByRecursion HasImprints) seconds c.imprints_of.ensures)));
+          (each_kept HasImprints kept.seconds (subst (AllByRecursion HasImprints) (c.deref.ensures.value ∙ seconds) c.imprints_of.ensures)));
       seconds_rise = subst (λ xs. RiseFrom kept.start (map (λ one. one.second) xs)) (sym seconds) (seconds_rise kept.start kept.seconds c.in_ok-kept.ensures.rising);
       issued = c.in_ok-issued.ensures.lawful;
       numbers_rise = subst (λ xs. RiseFrom 0 (map (λ signature. signature.0) xs)) (sym c.in_ok-issued.ensures.issued) (numbers_rise image w);
