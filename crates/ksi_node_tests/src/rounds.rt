@@ -126,7 +126,7 @@ fn has_nodes(rt: &impl Abort, round: &Builder<Sha>) {
     let root = joined(inner.imprint, a, 4);
     same(rt, "root", round.root(), Some(root));
     same(rt, "left", round.node(&[Left]), Some(inner));
-    let right = Some(item(0, b"abc"));
+    let right = Some(item(0, b"abc").leaf());
     same(rt, "left, right", round.node(&[Left, Right]), right);
     same(rt, "right, left", round.node(&[Right, Left]), None);
 }
