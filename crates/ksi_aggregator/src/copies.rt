@@ -1,6 +1,5 @@
 //! Copies of what a response carries.
 ghost use Rattle.std.specs.Prelude.{◌≡◌, ◌≤◌, ◌∷◌, ◌++◌, length, IfOk, OnOk};
-ghost use Rattle.ksi_signature.specs.Above.{AreRoundLinks};
 
 use ksi_aggchain::{Link, Sibling};
 use ksi_imprint::{Bytes, NoMemory};

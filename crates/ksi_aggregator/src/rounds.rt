@@ -4,7 +4,7 @@ ghost use Rattle.std.specs.Ordering.{nat_cmp};
 ghost use Rattle.std.specs.BTreeMap.{get};
 ghost use Rattle.ksi_aggtree.specs.Rounds.{highest_item};
 ghost use Rattle.ksi_aggregator.specs.Rows.{fresh_round, round_request, round_submission, round_close, round_response, round_restarted};
-ghost use Rattle.ksi_aggregator.specs.Rounds.{round_at, items_in, HasPlace, SameRounds, IsTurn, ChangesOnly, StandsAt};
+ghost use Rattle.ksi_aggregator.specs.Rounds.{round_at, items_in, HasPlace, SameRounds, IsTurn, StandsAt};
 ghost use Rattle.ksi_aggregator.specs.Issuing.{IsIssuedAt, NotIssuedAt};
 
 use crate::round::Round;

@@ -24,13 +24,13 @@
 mod answer;
 mod auditing;
 mod calendar;
-mod reached;
 mod deep;
 mod items;
 mod kept;
 pub mod laws;
 mod nodes;
 mod place;
+mod reached;
 mod rung;
 mod walk;
 

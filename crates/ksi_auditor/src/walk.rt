@@ -1,6 +1,5 @@
-ghost use Rattle.std.specs.Prelude.{◌≡◌, ◌≤◌, [], length, IfOk, IfSome, map};
+ghost use Rattle.std.specs.Prelude.{◌≡◌, ◌≤◌, [], length, IfOk, IfSome};
 ghost use Rattle.std.specs.List.{AllByRecursion};
-ghost use Rattle.ksi_split.specs.declared.side.Side.{Side};
 ghost use Rattle.ksi_aggchain.specs.Links.{highest_level};
 ghost use Rattle.ksi_aggchain.specs.Owned.{plain_links, sibling_bytes};
 ghost use Rattle.ksi_aggchain.specs.Climbing.{level_after};
@@ -8,14 +7,13 @@ ghost use Rattle.ksi_signature.specs.Values.{HasSize};
 ghost use Rattle.ksi_verifier.specs.Chains.{plain_chains};
 ghost use Rattle.ksi_verifier.specs.Leading.{all_links};
 ghost use Rattle.ksi_auditor.specs.Beside.{calendar_rungs_from, rungs_from};
-ghost use Rattle.ksi_auditor.specs.Climbed.{climbed_to};
 ghost use Rattle.ksi_auditor.specs.Walks.{IsShortWalk, clash_in, go, step, laid, view_rung};
 ghost use Rattle.ksi_auditor.specs.declared.walk.Walk.TheVariants as walks;
 ghost use Rattle.ksi_auditor.specs.Shown.{AreShort};
 
-use crate::reached::top_of;
 use crate::kept::KeptTree;
 use crate::place::Place;
+use crate::reached::top_of;
 use crate::rung::{Rung, is_joined_of, join_of, text_of};
 use ksi_aggchain::{Link, Node, Sibling};
 use ksi_calchain::CalendarLink;

@@ -1,4 +1,4 @@
-ghost use Rattle.std.specs.Prelude.{◌≡◌, ℕ, List};
+ghost use Rattle.std.specs.Prelude.{◌≡◌, ℕ};
 ghost use Rattle.ksi_split.specs.Trees.{climb_links};
 ghost use Rattle.ksi_calchain.specs.Climbing.{ClimbsCalendar, calendar_join, calendar_element_text};
 

@@ -37,8 +37,8 @@ listed roots t (x ∷ xs) each =
     let first : roots t ≡ Some x = ap roots here ∙ each 0 (omega arith) in
     ap (λ (o : Option (List ℕ)). unwrap_or o zero_imprint ∷ roots_among roots (suc t) (length xs)) first
     ∙ ap (λ (l : List (List ℕ)). x ∷ l) (listed roots (suc t) xs (λ k lt.
-        let next : suc t + k ≡ t + suc k = omega arith in
-        ap roots next ∙ each (suc k) (omega (arith, lt))))
+    let next : suc t + k ≡ t + suc k = omega arith in
+    ap roots next ∙ each (suc k) (omega (arith, lt))))
 
 -- the leaf of a second from the start on
 leaf_from : (seconds : Seconds) (k : ℕ) → calendar_leaf seconds (seconds.start + k) ≡ slice_index_or seconds.roots k zero_imprint
@@ -55,7 +55,7 @@ seconds_is seconds roots last end each =
     let with : List (List ℕ) → Seconds = λ all. record { start = seconds.start; roots = all } in
     let count : length seconds.roots ≡ suc last - seconds.start = omega (arith, end) in
     let all = listed roots seconds.start seconds.roots (λ k lt.
-        each (seconds.start + k) (omega arith) (omega (arith, lt, end)) ∙ ap (λ (root : List ℕ). Some root) (leaf_from seconds k)) in
+    each (seconds.start + k) (omega arith) (omega (arith, lt, end)) ∙ ap (λ (root : List ℕ). Some root) (leaf_from seconds k)) in
     ap with (sym all) ∙ ap (λ (n : ℕ). with (roots_among roots seconds.start n)) count
 
 -- ---- more is known

@@ -1,6 +1,5 @@
 //! What holds of the calendar's definitions, for the layers above to cite. None of these functions does anything.
-ghost use Rattle.std.specs.Prelude.{◌≡◌, ◌↔◌, ◌<◌, ◌≤◌, ◌+◌, ◌-◌, ◌^◌, ℕ, zero, suc, List, length, Some, None, IsSome, IsTrue};
-ghost use Rattle.ksi_imprint.specs.Imprints.{zero_imprint};
+ghost use Rattle.std.specs.Prelude.{◌≡◌, ◌↔◌, ◌<◌, ◌≤◌, ◌+◌, ◌-◌, ◌^◌, ℕ, suc, List, length, Some, None, IsSome, IsTrue};
 ghost use Rattle.ksi_split.specs.Powers.{IsSplit};
 ghost use Rattle.ksi_split.specs.Ways.{way_of, LeadsTo, PassesLeaf};
 ghost use Rattle.ksi_split.specs.declared.side.Side.{Side};

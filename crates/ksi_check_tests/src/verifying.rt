@@ -47,7 +47,11 @@ fn judged_both(
 }
 
 /// Whether the chains of a signature lead to this item in this second.
-fn leads_to(alloc: Global, row: &SignatureRow<'_>, to: Aggregated) -> Result<bool, Refused<SignatureFault>> {
+fn leads_to(
+    alloc: Global,
+    row: &SignatureRow<'_>,
+    to: Aggregated,
+) -> Result<bool, Refused<SignatureFault>> {
     let bytes = bytes_of(alloc, row)?;
     let signature = read(alloc, bytes.as_slice())?;
     Ok(aggregate::<Tiny>(&signature) == Ok(to))
@@ -77,7 +81,10 @@ fn the_chains_lead_to_an_item(rt: HostRuntime) {
 }
 
 /// The first check that fails where the given hash is 06 and 26 is published for second 5.
-fn refused(alloc: Global, row: &SignatureRow<'_>) -> Result<Option<Refusal>, Refused<SignatureFault>> {
+fn refused(
+    alloc: Global,
+    row: &SignatureRow<'_>,
+) -> Result<Option<Refusal>, Refused<SignatureFault>> {
     match judged(alloc, row, 6, &[(5, 0x26)])? {
         Verdict::Accepted(_) => Ok(None),
         Verdict::Refused(refusal) => Ok(Some(refusal)),
@@ -136,7 +143,10 @@ fn the_chains_are_of_one_time(rt: HostRuntime) {
 }
 
 /// What a calendar chain of these links above the two chains is refused for.
-fn refused_links(alloc: Global, links: &[(Side, u8)]) -> Result<Option<Refusal>, Refused<SignatureFault>> {
+fn refused_links(
+    alloc: Global,
+    links: &[(Side, u8)],
+) -> Result<Option<Refusal>, Refused<SignatureFault>> {
     let calendar = CalendarRow { links, ..CALENDAR };
     let chains = [LOW, HIGH];
     let whole = SignatureRow {

@@ -1,6 +1,6 @@
 -- The calendar that is kept: it stays one as long as nothing that is held is lost, and as it is lengthened. Its leaves are
 -- those of all that is held.
-use Rattle.std.proofs.Common.{◌≡◌, ◌∙◌, ℕ, zero, suc, ◌+◌, ◌-◌, ◌<◌, ◌≤◌, List, [], ◌∷◌, length, get_or, Option, Some, None, true, false, Bool, ◌&&◌, cond, refl, sym, ap, subst, arith, inl, inr, ltb, leb, le-leb, lt-ltb}
+use Rattle.std.proofs.Common.{◌≡◌, ◌∙◌, ℕ, ◌+◌, ◌-◌, ◌<◌, ◌≤◌, List, [], ◌∷◌, length, get_or, Option, Some, None, true, false, Bool, ◌&&◌, cond, refl, sym, ap, subst, arith, inl, inr, ltb, leb, le-leb, lt-ltb}
 use Rattle.std.specs.Prelude.{if◌then◌else◌, is_some, IfSome, IsSome, unwrap_or}
 use Rattle.std.proofs.lemmas.Bool.{le-ltb, ltb-true, cond-true, cond-false, cases_lt}
 use Rattle.ksi_imprint.specs.Imprints.{zero_imprint}

@@ -12,7 +12,7 @@ use Rattle.ksi_signature.specs.declared.answer.Answer.{Answer}
 use Rattle.ksi_signature.specs.declared.answer.Answer.TheVariants.{Unsealed, Undecided, NotMine}
 use Rattle.ksi_corenode.specs.SecondState.{SecondState}
 use Rattle.ksi_corenode.specs.Turns.{Turn}
-use Rattle.ksi_calendar.specs.Covered.{Roots, IsCovered, IsFirstMissing, first_missing}
+use Rattle.ksi_calendar.specs.Covered.{Roots, IsFirstMissing, first_missing}
 use Rattle.ksi_corenode.specs.Rows.{is_mine, respond_row, respond_where, IsNotMine, publish_answer, publish_where}
 use Rattle.ksi_corenode.specs.CoreState.{CoreState, state_of}
 

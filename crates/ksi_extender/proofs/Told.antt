@@ -53,8 +53,8 @@ module _ (image : List ℕ → List ℕ) (journal : Contents) (bytes : List ℕ)
       → chain ≡ chain_to image journal chains.time p → published ≡ record_to image journal p → OrNoMemory (fitting bytes chain published) result → OrNoMemory (extended image journal bytes p) result
   all_passed chains chain published result is kept chain_is published_is answer =
       let same : fitting bytes chain published ≡ extended image journal bytes p =
-          ap (λ (c : Calendar). fitting bytes c published) chain_is ∙ ap (λ (r : Publishing). fitting bytes (chain_to image journal chains.time p) r) published_is
-          ∙ ap (λ (r : Result (Unit {0}) ExtendRefusal). r >> fitting bytes (chain_to image journal chains.time p) (record_to image journal p)) kept ∙ then_next chains is in
+      ap (λ (c : Calendar). fitting bytes c published) chain_is ∙ ap (λ (r : Publishing). fitting bytes (chain_to image journal chains.time p) r) published_is
+      ∙ ap (λ (r : Result (Unit {0}) ExtendRefusal). r >> fitting bytes (chain_to image journal chains.time p) (record_to image journal p)) kept ∙ then_next chains is in
       subst (λ (expected : Result (List ℕ) ExtendRefusal). OrNoMemory expected result) same answer
 
 -- what is answered is accepted where what is defined is

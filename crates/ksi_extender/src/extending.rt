@@ -1,4 +1,4 @@
-ghost use Rattle.std.specs.Prelude.{◌≡◌, [], ◌<◌, ◌≤◌, ◌+◌, ◌^◌, length, Ok, Err, IfOk};
+ghost use Rattle.std.specs.Prelude.{◌≡◌, [], ◌<◌, ◌≤◌, ◌+◌, ◌^◌, Ok, Err, IfOk};
 ghost use Rattle.ksi_imprint.specs.Refused.{OrNoMemory};
 ghost use Rattle.ksi_imprint.specs.declared.refused.Refused.TheVariants as refused;
 ghost use Rattle.ksi_tlv.specs.Spelling.{AreBytes};
@@ -20,8 +20,8 @@ use ksi_imprint::{Bytes, Compress, Imprint, NoMemory, Refused};
 use ksi_journal::Journal;
 use ksi_journal::laws::{are_bytes, calendar_is_covered};
 use ksi_signature::{
-    Bodies, CalendarChain, CalendarLinks, PublicationRecord, WithRefusal, read,
-    signature_is_read, signature_or_fault, with_calendar,
+    Bodies, CalendarChain, CalendarLinks, PublicationRecord, WithRefusal, read, signature_is_read,
+    signature_or_fault, with_calendar,
 };
 use ksi_verifier::laws::aggregation;
 use ksi_verifier::{Aggregated, Refusal, aggregate};

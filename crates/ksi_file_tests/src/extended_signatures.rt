@@ -77,7 +77,11 @@ const FLAGGED: [u8; 8] = [0xe8, 0x01, 0x00, 0x2d, 0xc0, 0x02, 0x00, 0x00];
 const LONG: [u8; 5] = [0xe0, 0x1e, 0x00, 0x01, 0xff];
 
 /// Whether a signature of these parts is extended to one of those, the calendar chain and the record.
-fn extends_to(alloc: Global, inside: &[&[u8]], wanted: &[&[u8]]) -> Result<bool, Refused<WithRefusal>> {
+fn extends_to(
+    alloc: Global,
+    inside: &[&[u8]],
+    wanted: &[&[u8]],
+) -> Result<bool, Refused<WithRefusal>> {
     let bytes = signature(alloc, inside)?;
     let retained = joined(alloc, wanted)?;
     let other = [retained.as_slice(), &S0[51..], &RECORD, &S0[15..48]];

@@ -1,8 +1,8 @@
 use crate::same::same;
 use ksi_imprint::Imprint;
 use ksi_schedule::{
-    Actor, Event, Events, LineFault, NoMemory, Parents, Plan, Refused, Schedule, ScheduleFault, print,
-    read_schedule,
+    Actor, Event, Events, LineFault, NoMemory, Parents, Plan, Refused, Schedule, ScheduleFault,
+    print, read_schedule,
 };
 use std::alloc::Global;
 use std::process::Abort;

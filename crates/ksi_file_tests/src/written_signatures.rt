@@ -114,7 +114,10 @@ fn with_input(alloc: Global, size: usize) -> Result<Signature, NoMemory> {
     })
 }
 
-fn written_size(alloc: Global, size: usize) -> Result<Result<usize, Refused<WriteRefusal>>, NoMemory> {
+fn written_size(
+    alloc: Global,
+    size: usize,
+) -> Result<Result<usize, Refused<WriteRefusal>>, NoMemory> {
     let signature = with_input(alloc, size)?;
     Ok(write(alloc, &signature).map(|bytes| bytes.as_slice().len()))
 }

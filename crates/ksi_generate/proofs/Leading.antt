@@ -29,7 +29,7 @@ use Rattle.ksi_world.specs.declared.outcome.Asked.{Asked}
 use Rattle.ksi_world.specs.declared.message.Content.{Content}
 use Rattle.ksi_world.specs.declared.message.Content.TheVariants as contents
 use Rattle.ksi_world.specs.declared.message.Message.{Message}
-use Rattle.ksi_world.specs.Histories.{WorldState, Happening, put_at, core_message, round_message, at_core, at_round, accepted_where, request_happens, delivered, happens, held_in, first_world}
+use Rattle.ksi_world.specs.Histories.{WorldState, core_message, round_message, at_core, at_round, accepted_where, request_happens, delivered, happens, held_in, first_world}
 use Rattle.ksi_world.specs.Histories as histories
 use Rattle.ksi_generate.specs.Generate.{header}
 use Rattle.ksi_generate.proofs.Weights.{led_below, led_below_few, led_by_vote, led_by, heavy, heavy_told, led_by_received, led_by_ballot, led_by_tell, heavy_core, heavy_round}

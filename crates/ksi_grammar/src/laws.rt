@@ -1,7 +1,6 @@
 //! Laws of tables and containers, for the proofs of the layers above. They do nothing when they are called.
 
 ghost use Rattle.std.specs.Prelude.{◌≡◌, ◌↔◌, ◌<◌, ◌≤◌, ◌^◌, ◌⊎◌, Bool, true, ℕ, List, length, Ok, Err};
-ghost use Rattle.std.specs.List.{AllByRecursion};
 ghost use Rattle.ksi_imprint.specs.Imprints.{IsImprint};
 ghost use Rattle.ksi_tlv.specs.Spelling.{Tlv};
 ghost use Rattle.ksi_tlv.specs.Walking.{PlacedTlv, elements};
@@ -11,7 +10,7 @@ ghost use Rattle.ksi_grammar.specs.Table.{Table, is_table};
 ghost use Rattle.ksi_grammar.specs.Reading.{container_verdict, inner_verdict};
 ghost use Rattle.ksi_grammar.specs.Valid.{IsContainer, IsWhole, IsFirstFault};
 ghost use Rattle.ksi_grammar.specs.Faults.{PassesFaults};
-ghost use Rattle.ksi_grammar.specs.Inside.{whole, inner_elements};
+ghost use Rattle.ksi_grammar.specs.Inside.{whole};
 ghost use Rattle.ksi_grammar.specs.Written.{MayBeWritten};
 ghost use Rattle.ksi_grammar.specs.Published.{published_table, published_in, published_elements, record_table, recorded_in, record_elements};
 

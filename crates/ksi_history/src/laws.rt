@@ -35,7 +35,8 @@ use ksi_schedule::spelled_is_schedule;
 use ksi_signature::issued_is_signature;
 use ksi_verifier::laws::aggregation;
 use ksi_world::laws::{
-    answered_roots, history_is_of_bytes, issued_is_carried, issued_is_joined, published_roots, validity,
+    answered_roots, history_is_of_bytes, issued_is_carried, issued_is_joined, published_roots,
+    validity,
 };
 
 /// Chains that climb from an imprint at level 0 to an item pass the checks of aggregation chains, as they are issued: they

@@ -175,7 +175,6 @@ module _ (image : List ℕ → List ℕ) (journal : Contents) (is : IsJournal im
       → (last : ℕ) → suc last ≡ journal.start + length (calendar_of journal).roots → calendar_of journal ≡ covered_seconds (root_at journal) journal.start last
   unfolding calendar_of
   seconds_words known last end = known (calendar_of journal) (root_at journal) last end (λ t from to. leaf_kept t from (omega (arith, to, end)))
-
   -- ---- finding a second
 
 pub found : (least t n : ℕ) (seconds : List Second) → RiseFrom least (times seconds) → ((j : ℕ) (d : Second) → j < n → (get_or seconds j d).second < t) → ((j : ℕ) (d : Second) → n ≤ j → j < length seconds → t ≤ (get_or seconds j d).second)

@@ -1,5 +1,5 @@
 //! The calendar of the covered seconds.
-ghost use Rattle.std.specs.Prelude.{◌≡◌, ◌<◌, ◌≤◌, ◌+◌, ◌^◌, IfOk, length};
+ghost use Rattle.std.specs.Prelude.{◌≡◌, ◌<◌, ◌≤◌, ◌+◌, ◌^◌, IfOk};
 ghost use Rattle.std.specs.List.{AllByRecursion};
 ghost use Rattle.ksi_journal.specs.Journal.{IsSecond};
 ghost use Rattle.ksi_journal.specs.Calendar.{roots_from};

@@ -1,8 +1,8 @@
 //! What single elements say, by the elements inside them.
-ghost use Rattle.std.specs.Prelude.{◌≡◌, ◌<◌, ◌≤◌, ◌^◌, IfOk, length, Ok, Err, Result, ℕ, List};
+ghost use Rattle.std.specs.Prelude.{◌≡◌, ◌<◌, ◌≤◌, ◌^◌, IfOk, Ok, Err, Result, ℕ};
 ghost use Rattle.ksi_tlv.specs.Views.{view_placed};
 ghost use Rattle.ksi_aggtree.specs.Rounds.{highest_item};
-ghost use Rattle.ksi_journal.specs.Elements.{item_in, said_at, signature_at, published_at, short_at, rises};
+ghost use Rattle.ksi_journal.specs.Elements.{item_in, said_at, signature_at, published_at, rises};
 ghost use Rattle.ksi_journal.specs.Kept.{view_signature};
 
 use ksi_aggtree::{HIGHEST_ITEM, Item};

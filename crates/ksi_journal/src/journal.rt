@@ -1,5 +1,5 @@
 ghost use Rattle.std.specs.Prelude.{◌≡◌, ◌↔◌, ℕ, ◌<◌, ◌≤◌, ◌+◌, ◌^◌, None, Some, IfOk, IfSome, IsSome, IsNone, length};
-ghost use Rattle.ksi_journal.specs.Journal.{contents, IsJournal, root_at, items_at, kept_among};
+ghost use Rattle.ksi_journal.specs.Journal.{contents, IsJournal, root_at, items_at};
 ghost use Rattle.ksi_calendar.specs.Covered.{IsFirstMissing, first_missing};
 ghost use Rattle.ksi_journal.specs.Calendar.{calendar_of};
 

@@ -79,7 +79,7 @@ impl<C: Compress> Model for Loading<C> {
 }
 
 impl<C: Compress> Loading<C> {
-    ghost use Rattle.std.specs.Prelude.{◌≡◌, ◌≢◌, ◌+◌, ◌<◌, ◌≤◌, ◌^◌, length, Ok, Err, IsOk, ℕ};
+    ghost use Rattle.std.specs.Prelude.{◌≡◌, ◌≢◌, ◌+◌, ◌<◌, ◌≤◌, ◌^◌, Ok, Err, IsOk, ℕ};
     ghost use Rattle.std.specs.List.{AllByRecursion};
     ghost use Rattle.ksi_tlv.specs.Views.{view_placed};
     ghost use Rattle.ksi_tlv.specs.Spelling.{AreBytes};

@@ -1,6 +1,6 @@
 ghost use Rattle.std.specs.Prelude.{◌≡◌, ◌++◌, ◌∷◌, [], ◌≤◌, ◌<◌, length, map, OnOk, IfOk};
 ghost use Rattle.std.specs.List.{AllByRecursion};
-ghost use Rattle.ksi_tlv.specs.Spelling.{plain, canonical};
+ghost use Rattle.ksi_tlv.specs.Spelling.{canonical};
 ghost use Rattle.ksi_tlv.specs.Writing.{texts};
 ghost use Rattle.ksi_journal.specs.Written.{head_elements, pair_elements, second_element, item_element, kept_elements, seconds_elements, issued_element, publication_element, journal_elements, journal_text};
 ghost use Rattle.ksi_journal.specs.Journal.{IsIssued, IsJournal};

@@ -21,7 +21,6 @@ not_extended_line n (refusals.Undecided second) = refused_for (codes "E2" ∷ de
 not_extended_line n (refusals.TooEarly second publication) = refused_for (codes "E3" ∷ decimal second ∷ decimal publication ∷ [])
 not_extended_line n (refusals.BeforeStart second) = refused_for (codes "E4" ∷ decimal second ∷ [])
 not_extended_line n (refusals.TooLarge size) = refused_for (codes "E5" ∷ decimal size ∷ [])
-not_extended_line n refusals.NoMemory = line_text []
 
 -- ---- an audit
 
@@ -54,4 +53,3 @@ audit_line (answers.NotAccepted refusal) = refused_line refusal
 audit_line (answers.BeforeStart publication) = line_text (codes "before" ∷ codes "start" ∷ decimal publication ∷ [])
 audit_line (answers.Undecided second) = line_text (codes "undecided" ∷ decimal second ∷ [])
 audit_line (answers.NotDecided publication given kept) = line_text (codes "not" ∷ codes "decided" ∷ decimal publication ∷ hex_of given ∷ hex_of kept ∷ [])
-audit_line answers.NoMemory = line_text []

@@ -14,7 +14,6 @@ use Rattle.ksi_schedule.specs.declared.fault.ScheduleFault.TheVariants as schedu
 use Rattle.ksi_schedule.specs.Printed.{hex_of}
 use Rattle.ksi_lines.specs.Lines.{malformed_line}
 
--- want of memory is no fault of a file, and has no code
 abbrev pub signature_fault : SignatureFault → List (List ℕ)
 signature_fault (signatures.Tlv place) = codes "S1" ∷ decimal place ∷ []
 signature_fault (signatures.After place) = codes "S2" ∷ decimal place ∷ []
@@ -30,7 +29,6 @@ signature_fault (signatures.Links place) = codes "S11" ∷ decimal place ∷ []
 signature_fault (signatures.Chains place) = codes "S12" ∷ decimal place ∷ []
 signature_fault (signatures.Sibling place) = codes "S13" ∷ decimal place ∷ []
 signature_fault (signatures.Time place) = codes "S14" ∷ decimal place ∷ []
-signature_fault signatures.NoMemory = []
 
 abbrev pub publications_fault : PublicationsFault → List (List ℕ)
 publications_fault publications.Magic = codes "Q1" ∷ []
@@ -42,7 +40,6 @@ publications_fault (publications.Repeated kind place) = codes "Q6" ∷ decimal k
 publications_fault (publications.Imprint place) = codes "Q7" ∷ decimal place ∷ []
 publications_fault (publications.Number place) = codes "Q8" ∷ decimal place ∷ []
 publications_fault (publications.Time place) = codes "Q9" ∷ decimal place ∷ []
-publications_fault publications.NoMemory = []
 
 abbrev pub journal_fault : JournalFault → List (List ℕ)
 journal_fault journals.Magic = codes "J1" ∷ []
@@ -53,7 +50,6 @@ journal_fault (journals.Bound place) = codes "J5" ∷ decimal place ∷ []
 journal_fault (journals.Imprint place) = codes "J6" ∷ decimal place ∷ []
 journal_fault (journals.Count second) = codes "J7" ∷ decimal second ∷ []
 journal_fault (journals.Ends place) = codes "J8" ∷ decimal place ∷ []
-journal_fault journals.NoMemory = []
 
 -- of a schedule the value is the line, from 1
 abbrev pub line_code : LineFault → List ℕ
@@ -71,4 +67,3 @@ schedule_fault at = line_code at.0 ∷ decimal at.1 ∷ []
 -- the line of a fault of a schedule
 abbrev pub IsLineOf : ℕ → ScheduleFault → List ℕ → Type 0
 IsLineOf n (schedules.Line fault line) text = text ≡ malformed_line n (schedule_fault (fault, line))
-IsLineOf n schedules.NoMemory text = ⊥

@@ -1,7 +1,6 @@
 // The line of what an audit answers.
-ghost use Rattle.std.specs.Prelude.{◌≡◌, ◌≢◌, ◌≤◌, ◌+◌, ◌++◌, IfOk, length};
+ghost use Rattle.std.specs.Prelude.{◌≡◌, ◌≤◌, ◌+◌, ◌++◌, IfOk, length};
 ghost use Rattle.arrayvec.specs.ArrayString.{array_string_len};
-ghost use Rattle.ksi_auditor.specs.declared.answer.Audit.TheVariants as answers;
 ghost use Rattle.ksi_auditor.specs.Shown.{IsShort};
 ghost use Rattle.ksi_lines.specs.Answers.{audit_line, inside_line, clash_line, letter, letters, way_text};
 
@@ -18,11 +17,10 @@ use std::alloc::Global;
 /// The line of an audit's answer.
 ///
 /// # Errors
-/// `NoMemory` where it is the answer, and where the line of a clash finds none.
+/// `NoMemory` where the line of a clash finds none.
 pub fn audit_line(alloc: Global, audit: &Audit) -> Result<Line, NoMemory>
     requires { IsShort audit.now }
     ensures line { IfOk result (λ line. line ≡ audit_line audit.now) }
-    ensures memory { IfOk result (λ _. audit.now ≢ answers.NoMemory) }
 {
     match audit {
         Audit::Inside(second, way) => Ok(inside_line(*second, way)),
@@ -40,7 +38,6 @@ pub fn audit_line(alloc: Global, audit: &Audit) -> Result<Line, NoMemory>
             let values = [Number(*publication), Digest(given), Digest(kept)];
             Ok(print(Text("not"), &[Text("decided")], &values))
         }
-        Audit::NoMemory => Err(NoMemory),
     }
 }
 

@@ -1,9 +1,6 @@
 // The line of a file that is not in its grammar: the fault's code and its values.
-ghost use Rattle.std.specs.Prelude.{◌≡◌, ◌≢◌, ◌≤◌, ◌∷◌, [], IfOk, map, length};
+ghost use Rattle.std.specs.Prelude.{◌≡◌, ◌≤◌, ◌∷◌, [], map, length};
 ghost use Rattle.std.specs.Fmt.{decimal};
-ghost use Rattle.ksi_signature.specs.declared.fault.SignatureFault.TheVariants as signatures;
-ghost use Rattle.ksi_publications.specs.declared.fault.PublicationsFault.TheVariants as publications;
-ghost use Rattle.ksi_journal.specs.declared.fault.JournalFault.TheVariants as journals;
 ghost use Rattle.ksi_lines.specs.FaultWords.{signature_fault, publications_fault, journal_fault, line_code, IsLineOf};
 ghost use Rattle.ksi_lines.specs.Lines.{malformed_line};
 ghost use Rattle.ksi_lines.specs.Printed.{word_text, room};
@@ -11,86 +8,76 @@ ghost use Rattle.ksi_lines.specs.Printed.{word_text, room};
 use crate::line::Line;
 use crate::printing::Word::{self, Digest, Number, Text};
 use crate::printing::print;
-use ksi_imprint::NoMemory;
 use ksi_journal::JournalFault;
 use ksi_publications::PublicationsFault;
 use ksi_schedule::{LineFault, ScheduleFault};
 use ksi_signature::SignatureFault;
 
 /// Of file word `n`, which is a signature.
-pub fn signature_fault_line(n: usize, fault: SignatureFault) -> Result<Line, NoMemory>
-    ensures line { IfOk result (λ line. line ≡ malformed_line n (signature_fault fault)) }
-    ensures fault { IfOk result (λ _. fault ≢ signatures.NoMemory) }
+pub fn signature_fault_line(n: usize, fault: SignatureFault) -> Line
+    ensures { result ≡ malformed_line n (signature_fault fault) }
 {
     match fault {
-        SignatureFault::Tlv(place) => Ok(at_place(n, "S1", place)),
-        SignatureFault::After(place) => Ok(at_place(n, "S2", place)),
-        SignatureFault::NotSignature(kind) => Ok(malformed(n, "S3", &[Number(kind as u64)])),
-        SignatureFault::RefusedElement(kind, place) => Ok(of_kind(n, "S4", kind, place)),
-        SignatureFault::UnknownCritical(kind, place) => Ok(of_kind(n, "S5", kind, place)),
-        SignatureFault::Missing(kind, place) => Ok(of_kind(n, "S6", kind, place)),
-        SignatureFault::Repeated(kind, place) => Ok(of_kind(n, "S7", kind, place)),
-        SignatureFault::Imprint(place) => Ok(at_place(n, "S8", place)),
-        SignatureFault::Number(place) => Ok(at_place(n, "S9", place)),
-        SignatureFault::Algorithm(value) => Ok(malformed(n, "S10", &[Number(value)])),
-        SignatureFault::Links(place) => Ok(at_place(n, "S11", place)),
-        SignatureFault::Chains(place) => Ok(at_place(n, "S12", place)),
-        SignatureFault::Sibling(place) => Ok(at_place(n, "S13", place)),
-        SignatureFault::Time(place) => Ok(at_place(n, "S14", place)),
-        SignatureFault::NoMemory => Err(NoMemory),
+        SignatureFault::Tlv(place) => at_place(n, "S1", place),
+        SignatureFault::After(place) => at_place(n, "S2", place),
+        SignatureFault::NotSignature(kind) => malformed(n, "S3", &[Number(kind as u64)]),
+        SignatureFault::RefusedElement(kind, place) => of_kind(n, "S4", kind, place),
+        SignatureFault::UnknownCritical(kind, place) => of_kind(n, "S5", kind, place),
+        SignatureFault::Missing(kind, place) => of_kind(n, "S6", kind, place),
+        SignatureFault::Repeated(kind, place) => of_kind(n, "S7", kind, place),
+        SignatureFault::Imprint(place) => at_place(n, "S8", place),
+        SignatureFault::Number(place) => at_place(n, "S9", place),
+        SignatureFault::Algorithm(value) => malformed(n, "S10", &[Number(value)]),
+        SignatureFault::Links(place) => at_place(n, "S11", place),
+        SignatureFault::Chains(place) => at_place(n, "S12", place),
+        SignatureFault::Sibling(place) => at_place(n, "S13", place),
+        SignatureFault::Time(place) => at_place(n, "S14", place),
     }
 }
 
 /// Of file word `n`, which is a publications file.
-pub fn publications_fault_line(n: usize, fault: PublicationsFault) -> Result<Line, NoMemory>
-    ensures line { IfOk result (λ line. line ≡ malformed_line n (publications_fault fault)) }
-    ensures fault { IfOk result (λ _. fault ≢ publications.NoMemory) }
+pub fn publications_fault_line(n: usize, fault: PublicationsFault) -> Line
+    ensures { result ≡ malformed_line n (publications_fault fault) }
 {
     match fault {
-        PublicationsFault::Magic => Ok(malformed(n, "Q1", &[])),
-        PublicationsFault::Tlv(place) => Ok(at_place(n, "Q2", place)),
-        PublicationsFault::RefusedElement(kind, place) => Ok(of_kind(n, "Q3", kind, place)),
-        PublicationsFault::UnknownCritical(kind, place) => Ok(of_kind(n, "Q4", kind, place)),
-        PublicationsFault::Missing(kind, place) => Ok(of_kind(n, "Q5", kind, place)),
-        PublicationsFault::Repeated(kind, place) => Ok(of_kind(n, "Q6", kind, place)),
-        PublicationsFault::Imprint(place) => Ok(at_place(n, "Q7", place)),
-        PublicationsFault::Number(place) => Ok(at_place(n, "Q8", place)),
-        PublicationsFault::Time(place) => Ok(at_place(n, "Q9", place)),
-        PublicationsFault::NoMemory => Err(NoMemory),
+        PublicationsFault::Magic => malformed(n, "Q1", &[]),
+        PublicationsFault::Tlv(place) => at_place(n, "Q2", place),
+        PublicationsFault::RefusedElement(kind, place) => of_kind(n, "Q3", kind, place),
+        PublicationsFault::UnknownCritical(kind, place) => of_kind(n, "Q4", kind, place),
+        PublicationsFault::Missing(kind, place) => of_kind(n, "Q5", kind, place),
+        PublicationsFault::Repeated(kind, place) => of_kind(n, "Q6", kind, place),
+        PublicationsFault::Imprint(place) => at_place(n, "Q7", place),
+        PublicationsFault::Number(place) => at_place(n, "Q8", place),
+        PublicationsFault::Time(place) => at_place(n, "Q9", place),
     }
 }
 
 /// Of file word `n`, which is a journal.
-pub fn journal_fault_line(n: usize, fault: &JournalFault) -> Result<Line, NoMemory>
-    ensures line { IfOk result (λ line. line ≡ malformed_line n (journal_fault fault.now)) }
-    ensures fault { IfOk result (λ _. fault.now ≢ journals.NoMemory) }
+pub fn journal_fault_line(n: usize, fault: &JournalFault) -> Line
+    ensures { result ≡ malformed_line n (journal_fault fault.now) }
 {
     match fault {
-        JournalFault::Magic => Ok(malformed(n, "J1", &[])),
-        JournalFault::Tlv(place) => Ok(at_place(n, "J2", *place)),
-        JournalFault::Order(place) => Ok(at_place(n, "J3", *place)),
-        JournalFault::TreeRoot(second, kept, computed) => Ok(malformed(
+        JournalFault::Magic => malformed(n, "J1", &[]),
+        JournalFault::Tlv(place) => at_place(n, "J2", *place),
+        JournalFault::Order(place) => at_place(n, "J3", *place),
+        JournalFault::TreeRoot(second, kept, computed) => malformed(
             n,
             "J4",
             &[Number(*second), Digest(kept), Digest(computed)],
-        )),
-        JournalFault::Bound(place) => Ok(at_place(n, "J5", *place)),
-        JournalFault::Imprint(place) => Ok(at_place(n, "J6", *place)),
-        JournalFault::Count(second) => Ok(malformed(n, "J7", &[Number(*second)])),
-        JournalFault::Ends(place) => Ok(at_place(n, "J8", *place)),
-        JournalFault::NoMemory => Err(NoMemory),
+        ),
+        JournalFault::Bound(place) => at_place(n, "J5", *place),
+        JournalFault::Imprint(place) => at_place(n, "J6", *place),
+        JournalFault::Count(second) => malformed(n, "J7", &[Number(*second)]),
+        JournalFault::Ends(place) => at_place(n, "J8", *place),
     }
 }
 
 /// Of file word `n`, which is a schedule.
-pub fn schedule_fault_line(n: usize, fault: &ScheduleFault) -> Result<Line, NoMemory>
-    ensures { IfOk result (λ line. IsLineOf n fault.now line) }
+pub fn schedule_fault_line(n: usize, fault: &ScheduleFault) -> Line
+    ensures { IsLineOf n fault.now result }
 {
     match fault {
-        ScheduleFault::Line(fault, line) => {
-            Ok(malformed(n, line_code(*fault), &[Number(*line)]))
-        }
-        ScheduleFault::NoMemory => Err(NoMemory),
+        ScheduleFault::Line(fault, line) => malformed(n, line_code(*fault), &[Number(*line)]),
     }
 }
 

@@ -3,7 +3,7 @@ ghost use Rattle.std.specs.Prelude.{◌≡◌, ℕ, ◌+◌, ◌≤◌, ◌∷�
 ghost use Rattle.std.specs.Fmt.{decimal};
 ghost use Rattle.arrayvec.specs.ArrayVec.{array_vec_len};
 ghost use Rattle.ksi_schedule.specs.Printed.{spaced, hex_of};
-ghost use Rattle.ksi_lines.specs.Lines.{line_text, optional_text};
+ghost use Rattle.ksi_lines.specs.Lines.{line_text};
 ghost use Rattle.ksi_lines.specs.Printed.{word_text, word_room, room};
 
 use crate::line::Line;

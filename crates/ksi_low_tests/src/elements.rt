@@ -1,7 +1,9 @@
 ghost use Rattle.std.specs.Prelude.{◌≤◌};
 
 use crate::same::same;
-use ksi_tlv::{Elements, NoMemory, NumberFault, PutRefusal, Refused, TlvFault, Writer, number, read_one};
+use ksi_tlv::{
+    Elements, NoMemory, NumberFault, PutRefusal, Refused, TlvFault, Writer, number, read_one,
+};
 use std::alloc::Global;
 use std::process::Abort;
 use std::test::Fail;

@@ -15,7 +15,10 @@ fn file(alloc: Global, behind: &[&[u8]]) -> Result<Bytes, NoMemory> {
 }
 
 /// The only pair of a file, nothing where it has not one.
-fn listed(alloc: Global, bytes: &[u8]) -> Result<Option<(u64, Imprint)>, Refused<PublicationsFault>> {
+fn listed(
+    alloc: Global,
+    bytes: &[u8],
+) -> Result<Option<(u64, Imprint)>, Refused<PublicationsFault>> {
     match read(alloc, bytes) {
         Ok(publications) => match publications.pairs() {
             [pair] => Ok(Some(*pair)),

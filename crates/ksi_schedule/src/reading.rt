@@ -172,7 +172,11 @@ fn take_line(schedule: &mut Schedule, line: &[u8]) -> Result<(), Refused<LineFau
 
 // One aggregator more, of this number.
 #[tactic(auto, unfolding(crate::specs::Lines::next_parent))]
-fn take_parent(schedule: &mut Schedule, number: u64, parent: Actor) -> Result<(), Refused<LineFault>>
+fn take_parent(
+    schedule: &mut Schedule,
+    number: u64,
+    parent: Actor,
+) -> Result<(), Refused<LineFault>>
     requires none { schedule.old.events ≡ [] }
     requires there { IsParent schedule.old.plan.cores (length schedule.old.plan.parents) parent }
     ensures read { Goes (next_parent schedule.old (number, parent)) schedule.new result }

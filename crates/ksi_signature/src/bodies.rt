@@ -29,7 +29,11 @@ use std::alloc::Global;
 pub(crate) const LONGEST: u64 = 65_535;
 
 /// Writes an element without flags, of whatever size, behind what is there.
-pub(crate) fn put_body(writer: &mut Writer, kind: u16, body: &[u8]) -> Result<(), Refused<WriteRefusal>>
+pub(crate) fn put_body(
+    writer: &mut Writer,
+    kind: u16,
+    body: &[u8],
+) -> Result<(), Refused<WriteRefusal>>
     requires { kind ≤ 0x1fff }
     ensures ok { OnOk result (writer.new ≡ writer.old ++ canonical (plain kind body.now)) }
     ensures long { TellsLong (length body.now ∷ []) result }

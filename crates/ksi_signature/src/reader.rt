@@ -1,4 +1,4 @@
-ghost use Rattle.std.specs.Prelude.{◌≡◌, ◌≤◌, ◌+◌, length, Ok, Err, IfOk, OnOk, option_map, [], List, ℕ};
+ghost use Rattle.std.specs.Prelude.{◌≡◌, ◌≤◌, ◌+◌, length, Ok, Err, IfOk, OnOk, option_map, [], ℕ};
 ghost use Rattle.ksi_imprint.specs.Refused.{IfRefused};
 ghost use Rattle.ksi_imprint.specs.declared.refused.Refused.TheVariants.{Fault};
 ghost use Rattle.ksi_tlv.specs.Views.{view_placed};
@@ -6,7 +6,6 @@ ghost use Rattle.ksi_grammar.specs.Reading.{inner_verdict};
 ghost use Rattle.ksi_grammar.specs.Inside.{inner_elements, first_of};
 ghost use Rattle.ksi_signature.specs.declared.fault.SignatureFault.{SignatureFault};
 ghost use Rattle.ksi_signature.specs.declared.signature.Signature.{Signature};
-ghost use Rattle.ksi_signature.specs.Values.{Aggregation};
 ghost use Rattle.ksi_signature.specs.Tables.{signature_table};
 ghost use Rattle.ksi_signature.specs.Contents.{put_chain, chains_behind, calendar_in, publishing_in, signature_of};
 ghost use Rattle.ksi_signature.specs.Places.{place_of};

@@ -1,5 +1,5 @@
 //! The rows of all levels, the lowest first: how they are read, and how they grow by a leaf.
-ghost use Rattle.std.specs.Prelude.{◌≡◌, ◌≢◌, ◌++◌, ◌∷◌, [], ℕ, ◌<◌, ◌≤◌, ◌%◌, ◌+◌, ◌^◌, length, vec_len, OnOk, List};
+ghost use Rattle.std.specs.Prelude.{◌≡◌, ◌≢◌, ◌++◌, ◌∷◌, [], ℕ, ◌<◌, ◌≤◌, ◌%◌, ◌+◌, ◌^◌, length, vec_len, OnOk};
 ghost use Rattle.ksi_split.specs.Upward.{halves};
 ghost use Rattle.ksi_split.specs.Leaves.{leaf_at};
 ghost use Rattle.ksi_split.specs.Stored.{row_at, room_at, kept_part, row_of, EndsAt};

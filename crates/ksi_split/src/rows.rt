@@ -1,5 +1,5 @@
 ghost use Rattle.std.specs.Prelude.{◌≡◌, ◌≢◌, ◌++◌, ◌∷◌, [], ℕ, ◌%◌, ◌<◌, ◌≤◌, ◌+◌, ◌-◌, ◌*◌, ◌^◌, length, OnOk, OnErr, IfOk};
-ghost use Rattle.ksi_split.specs.Upward.{halves, whole, node, link_up, links_up};
+ghost use Rattle.ksi_split.specs.Upward.{halves, whole, node, link_up};
 ghost use Rattle.ksi_split.specs.Trees.{tree, path_of, node_at};
 ghost use Rattle.ksi_split.specs.Leaves.{leaf_of};
 ghost use Rattle.ksi_split.specs.Stored.{AreBorders, maybe_link};

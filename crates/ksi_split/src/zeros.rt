@@ -1,4 +1,4 @@
-ghost use Rattle.std.specs.Prelude.{◌≡◌, ◌<◌, ◌≤◌, ◌+◌, ◌^◌, ℕ, slice_index_or, IfOk, length, List};
+ghost use Rattle.std.specs.Prelude.{◌≡◌, ◌<◌, ◌≤◌, ◌+◌, ◌^◌, ℕ, slice_index_or, IfOk, length};
 ghost use Rattle.ksi_split.specs.Upward.{halves};
 ghost use Rattle.ksi_split.specs.Stored.{zero_part};
 

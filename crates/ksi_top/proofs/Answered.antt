@@ -1,5 +1,5 @@
 -- What an audit's report means.
-use Rattle.std.proofs.Common.{◌≡◌, ◌≢◌, ℕ, List, Result, Ok, Err, sym, subst}
+use Rattle.std.proofs.Common.{◌≡◌, ℕ, List, Result, Ok, Err, sym, subst}
 use Rattle.std.specs.Prelude.{IfOk}
 use Rattle.std.specs.declared.alloc.AllocError.{AllocError}
 use Rattle.ksi_imprint.specs.Imprints.{imprint_of}
@@ -8,22 +8,20 @@ use Rattle.ksi_signature.specs.declared.signature.Signature.{Signature}
 use Rattle.ksi_verifier.specs.declared.verdict.Verdict.TheVariants.{Accepted}
 use Rattle.ksi_verifier.specs.Verdict.{verdict}
 use Rattle.ksi_auditor.specs.declared.answer.Audit.{Audit}
-use Rattle.ksi_auditor.specs.declared.answer.Audit.TheVariants as answers
 use Rattle.ksi_auditor.specs.Audit as audits
 use Rattle.ksi_auditor.specs.Shown.{IsDecided, Shows, Tells}
 use Rattle.ksi_top.specs.declared.report.Report.{Report}
 use Rattle.ksi_top.specs.Audit.{IsAnswered, audited}
 
 pub answered : (journal : Contents) (signature : Signature) (hash : List ℕ) (pairs : List (ℕ × List ℕ)) (answer : Audit) (result : Result Report AllocError)
-    → IfOk result (λ _. answer ≢ answers.NoMemory) → IfOk result (λ report. report ≡ audited answer)
-    → (answer ≢ answers.NoMemory → answer ≡ audits.audit imprint_of journal signature hash pairs) → Shows imprint_of journal signature hash answer
+    → IfOk result (λ report. report ≡ audited answer) → answer ≡ audits.audit imprint_of journal signature hash pairs → Shows imprint_of journal signature hash answer
     → ((t : ℕ) → verdict imprint_of signature hash pairs ≡ Accepted t → IsDecided imprint_of journal signature → Tells (audits.audit imprint_of journal signature hash pairs))
     → IfOk result (IsAnswered journal signature hash pairs)
-answered journal signature hash pairs answer (Ok report) memory reported is shown tells = record {
+answered journal signature hash pairs answer (Ok report) reported is shown tells = record {
   answer = answer;
-  audit_is = is memory;
+  audit_is = is;
   reported = reported;
   shown = shown;
-  tells = λ t accepted decided. subst Tells (sym (is memory)) (tells t accepted decided);
+  tells = λ t accepted decided. subst Tells (sym is) (tells t accepted decided);
 }
-answered journal signature hash pairs answer (Err none) memory reported is shown tells = tt
+answered journal signature hash pairs answer (Err none) reported is shown tells = tt

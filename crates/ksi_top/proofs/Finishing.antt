@@ -1,7 +1,6 @@
 -- How a run ends, by what its save and its put gave.
-use Rattle.std.proofs.Common.{◌≡◌, ◌≢◌, ℕ, ◌+◌, ◌<◌, ◌≤◌, ◌++◌, List, [], length, Option, None, IsTrue, Result, Ok, Err, refl, sym, ap, subst, ◌∙◌, arith}
+use Rattle.std.proofs.Common.{◌≡◌, ◌≢◌, ℕ, ◌+◌, ◌<◌, ◌≤◌, ◌++◌, [], None, Ok, Err, refl, sym, ap, ◌∙◌, arith}
 use Rattle.std.proofs.lemmas.List.{append-nil}
-use Rattle.ksi_ports.specs.Outside.{Raises, Rose}
 use Rattle.ksi_ports.specs.declared.files.Files as files
 use Rattle.ksi_ports.specs.declared.files.SaveRefusal.TheVariants as saves
 use Rattle.ksi_ports.specs.declared.sink.Sink as sinks

@@ -1,5 +1,5 @@
 -- What is promised of a command, over one file after another.
-use Rattle.std.proofs.Common.{◌≡◌, ◌≢◌, ◌⊎◌, ℕ, ◌+◌, ◌<◌, ◌≤◌, List, [], ◌∷◌, length, IsTrue, Result, Ok, Err, inl, inr, refl, sym, ap, subst, ◌∙◌, arith}
+use Rattle.std.proofs.Common.{◌≡◌, ◌≢◌, ◌⊎◌, ℕ, ◌+◌, ◌<◌, ◌≤◌, List, [], ◌∷◌, IsTrue, Result, Ok, Err, inl, inr, refl, sym, ap, subst, ◌∙◌, arith}
 use Rattle.std.specs.Prelude.{IfOk}
 use Rattle.std.specs.declared.alloc.AllocError.{AllocError}
 use Rattle.ksi_ports.specs.Stored.{Held}
@@ -7,7 +7,7 @@ use Rattle.ksi_ports.specs.declared.files.Files as files
 use Rattle.ksi_top.specs.declared.report.Report.{Report}
 use Rattle.ksi_top.specs.declared.report.Halt.{Halt}
 use Rattle.ksi_top.specs.declared.report.Halt.TheVariants as halts
-use Rattle.ksi_top.specs.declared.status.Status.TheVariants.{Malformed, TooLong}
+use Rattle.ksi_top.specs.declared.status.Status.TheVariants.{TooLong}
 use Rattle.ksi_top.specs.Reports.{CommandRow, Ran, Reports, Means, WhereRead, IsTooLong, behind, ended, ends, saves_of}
 use Rattle.ksi_top.specs.Causes.{Counts, PassesLimit, IsMalformed, counts_of}
 use Rattle.ksi_top.specs.Promised.{IsLoaded, Performed}

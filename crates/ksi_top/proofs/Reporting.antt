@@ -1,5 +1,5 @@
 -- What words report: a command, or that they are none.
-use Rattle.std.proofs.Common.{◌≡◌, ◌≢◌, ℕ, ◌+◌, ◌<◌, ◌≤◌, List, length, Option, Some, None, IsTrue, Result, Ok, Err, refl, sym, subst, arith}
+use Rattle.std.proofs.Common.{◌≡◌, ◌≢◌, ℕ, ◌+◌, ◌<◌, ◌≤◌, List, length, Option, None, Result, Ok, Err, refl, subst, arith}
 use Rattle.std.specs.Prelude.{IfOk, IfErr}
 use Rattle.ksi_ports.specs.Stored.{Held}
 use Rattle.ksi_ports.specs.declared.files.Files as files
@@ -69,7 +69,6 @@ reported_by_command kind words asked old new result is one = record {
 refusal_has_cause : (refusal : WordsRefusal) (before : Counts) → HasCause (Err refusal) before before (refused refusal)
 refusal_has_cause refusals.Words before = record { quiet = quiet_alone before; no_fault = λ is. cc is; no_want = λ is. cc is; words = refl; too_long = λ is. cc is; unsaved = λ other. refl }
 refusal_has_cause (refusals.BadWord n) before = record { quiet = quiet_alone before; no_fault = λ is. cc is; no_want = λ is. cc is; words = refl; too_long = λ is. cc is; unsaved = λ other. refl }
-refusal_has_cause refusals.NoMemory before = record { quiet = quiet_alone before; no_fault = λ is. cc is; no_want = λ is. cc is; words = refl; too_long = λ is. cc is; unsaved = λ other. refl }
 
 pub reported_of_refusal : {F : Type 0} (kind : files.Ghosts F) (words : List (List ℕ)) (refusal : WordsRefusal) (it : F) (report : Report)
     → command_of words ≡ Err refusal → report ≡ refused refusal → IsReported kind words it it (Ok report)
@@ -94,7 +93,6 @@ run_is_sound (Ok (drill number)) held long = absurd (cc long)
 run_is_sound (Ok _) held long = omega arith
 run_is_sound (Err refusals.Words) held long = absurd (cc long)
 run_is_sound (Err (refusals.BadWord n)) held long = absurd (cc long)
-run_is_sound (Err refusals.NoMemory) held long = absurd (cc long)
 
 -- before any load there are fewer calls than such a run makes
 few_at_first : (asked : Result Asked WordsRefusal) (calls : ℕ) → IfOk asked (λ asked. calls ≤ calls + length (files_of asked))

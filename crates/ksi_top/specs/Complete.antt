@@ -2,6 +2,7 @@
 use Rattle.std.specs.Prelude.{◌≡◌, ℕ, ◌≤◌, List, length, slice_get, Some, Ok}
 use Rattle.ksi_imprint.specs.Imprints.{imprint_of}
 use Rattle.ksi_ports.specs.Stored.{Held}
+use Rattle.ksi_calendar.specs.Covered.{IsCovered}
 use Rattle.ksi_publications.specs.File.{IsPublications}
 use Rattle.ksi_verifier.specs.declared.verdict.Verdict.TheVariants.{Accepted}
 use Rattle.ksi_schedule.specs.Events.{History}
@@ -9,7 +10,7 @@ use Rattle.ksi_schedule.specs.Spelled.{IsScheduleText}
 use Rattle.ksi_world.specs.declared.outcome.Asked as requests
 use Rattle.ksi_world.specs.Histories.{world_of}
 use Rattle.ksi_world.specs.Records.{issued_of}
-use Rattle.ksi_journal.specs.Calendar.{IsCovered}
+use Rattle.ksi_journal.specs.Journal.{root_at}
 use Rattle.ksi_replay.specs.Journals.{journal_of}
 use Rattle.ksi_extender.specs.Extended.{extended}
 use Rattle.ksi_history.specs.Lasting.{Publish}
@@ -34,7 +35,7 @@ pub record IsTakenFrom (signature hash publications : List ℕ) (second : ℕ) :
   pub of_hash : asked.imprint ≡ hash
   pub p : ℕ
   pub from : second ≤ p
-  pub covered : IsCovered (journal_of imprint_of history) p
+  pub covered : IsCovered (root_at (journal_of imprint_of history)) (journal_of imprint_of history).start p
   pub extension : extended imprint_of (journal_of imprint_of history) text p ≡ Ok signature
   pub pairs : List (ℕ × List ℕ)
   pub publications_are : IsPublications publications pairs

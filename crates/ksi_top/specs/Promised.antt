@@ -1,5 +1,5 @@
 -- What is promised of the parts of the top call: of each file that is loaded, of each command, of the words, and of the end.
-use Rattle.std.specs.Prelude.{◌≡◌, ◌≢◌, ℕ, ◌+◌, ◌<◌, ◌≤◌, ◌++◌, IsTrue, IfOk, IfErr, List, length, Option, Some, None, Result, Ok, Err}
+use Rattle.std.specs.Prelude.{◌≡◌, ◌≢◌, ℕ, ◌+◌, ◌<◌, ◌≤◌, ◌++◌, IsTrue, IfOk, IfErr, List, length, Option, None, Result, Ok, Err}
 use Rattle.ksi_ports.specs.Outside.{Rose, ExtendsByFront, SaveCounts}
 use Rattle.ksi_ports.specs.Stored.{Held}
 use Rattle.ksi_ports.specs.declared.files.Files as files

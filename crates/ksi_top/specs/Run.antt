@@ -3,7 +3,7 @@ use Rattle.std.specs.Prelude.{ℕ, ◌+◌, List, [], ◌∷◌, codes, length, 
 use Rattle.std.specs.Fmt.{decimal}
 use Rattle.ksi_ports.specs.Stored.{Held, with_file}
 use Rattle.ksi_words.specs.declared.asked.WordsRefusal.{WordsRefusal}
-use Rattle.ksi_words.specs.declared.asked.WordsRefusal.TheVariants.{Words, BadWord, NoMemory}
+use Rattle.ksi_words.specs.declared.asked.WordsRefusal.TheVariants.{Words, BadWord}
 use Rattle.ksi_words.specs.Words.{Asked, replay, sign, publish, extend, verify, audit, make, drill, command_of}
 use Rattle.ksi_lines.specs.Lines.{line_text}
 use Rattle.ksi_top.specs.declared.report.Report.{Report}
@@ -39,11 +39,10 @@ words_refused_line = line_text (codes "words" ∷ codes "refused" ∷ [])
 abbrev pub bad_word_line : ℕ → List ℕ
 bad_word_line n = line_text (codes "bad" ∷ codes "word" ∷ decimal n ∷ [])
 
--- what words that are no command report; want of memory is never such a refusal, its row is only there to be total
+-- what words that are no command report
 abbrev pub refused : WordsRefusal → Report
 refused Words = report statuses.Words words_refused_line
 refused (BadWord n) = report statuses.Words (bad_word_line n)
-refused NoMemory = report statuses.Words words_refused_line
 
 -- words that are no command load nothing
 abbrev pub ran_of : Result Asked WordsRefusal → Held → Ran

@@ -1,9 +1,8 @@
 // The command `audit`.
-ghost use Rattle.std.specs.Prelude.{◌≡◌, ◌≢◌, IfOk};
+ghost use Rattle.std.specs.Prelude.{◌≡◌, IfOk};
 ghost use Rattle.ksi_imprint.specs.Imprints.{imprint_of};
 ghost use Rattle.ksi_auditor.specs.Audit as audits;
 ghost use Rattle.ksi_auditor.specs.Shown.{IsShort};
-ghost use Rattle.ksi_auditor.specs.declared.answer.Audit.TheVariants as answers;
 ghost use Rattle.ksi_top.specs.Promised.{Performed};
 ghost use Rattle.ksi_top.specs.Audit.{IsAnswered, audit_beside, audit_command, audit_over, audit_status, audited};
 
@@ -77,18 +76,17 @@ fn answer(
 {
     decided_tells();
     let _start = journal.start();
-    let audit = ksi_auditor::audit::<Sha>(alloc, journal, signature, hash, publications);
+    let audit = ksi_auditor::audit::<Sha>(alloc, journal, signature, hash, publications)?;
     audited(alloc, &audit)
 }
 
 /// An audit's answer, with its line and its status.
 ///
 /// # Errors
-/// `NoMemory` where it is the answer, and where the line of a clash finds none.
+/// `NoMemory` where the line of a clash finds none.
 fn audited(alloc: Global, audit: &Audit) -> Result<Report, NoMemory>
     requires { IsShort audit.now }
-    ensures report { IfOk result (λ report. report ≡ audited audit.now) }
-    ensures memory { IfOk result (λ _. audit.now ≢ answers.NoMemory) }
+    ensures { IfOk result (λ report. report ≡ audited audit.now) }
 {
     let line = audit_line(alloc, audit)?;
     Ok(Report::new(status_of(audit), line))

@@ -1,9 +1,8 @@
 // The command `extend`.
-ghost use Rattle.std.specs.Prelude.{◌≡◌, ◌≢◌, ◌<◌, ◌^◌, IfOk};
+ghost use Rattle.std.specs.Prelude.{◌≡◌, ◌<◌, ◌^◌, IfOk};
 ghost use Rattle.ksi_imprint.specs.Imprints.{imprint_of};
 ghost use Rattle.ksi_extender.specs.Accepted.{first_time};
 ghost use Rattle.ksi_extender.specs.Extended.{extended};
-ghost use Rattle.ksi_extender.specs.declared.refusal.ExtendRefusal.TheVariants as refusals;
 ghost use Rattle.ksi_top.specs.declared.status.Status.TheVariants as statuses;
 ghost use Rattle.ksi_top.specs.Reports.{report};
 ghost use Rattle.ksi_top.specs.Promised.{Performed};
@@ -15,7 +14,7 @@ use crate::reading::read_signature;
 use crate::report::{Halt, Report, Saved, ended};
 use crate::status::Status;
 use ksi_extender::ExtendRefusal;
-use ksi_imprint::{NoMemory, Sha};
+use ksi_imprint::{NoMemory, Refused, Sha};
 use ksi_journal::Journal;
 use ksi_lines::Word::{Number, Text};
 use ksi_lines::{not_extended_line, print};
@@ -89,20 +88,17 @@ fn extended_report(
             );
             Ok(Report::saving(line, Saved::named(alloc, out, text)?))
         }
-        Err(refusal) => not_extended(&refusal),
+        Err(Refused::Fault(refusal)) => Ok(not_extended(&refusal)),
+        Err(Refused::NoMemory) => Err(NoMemory),
     }
 }
 
 /// The refusal's line and its status.
-///
-/// # Errors
-/// `NoMemory` where it is the refusal.
-fn not_extended(refusal: &ExtendRefusal) -> Result<Report, NoMemory>
-    ensures report { IfOk result (λ made. made ≡ report (refusal_status refusal.now) (not_extended_line 2 refusal.now)) }
-    ensures memory { IfOk result (λ _. refusal.now ≢ refusals.NoMemory) }
+fn not_extended(refusal: &ExtendRefusal) -> Report
+    ensures { result ≡ report (refusal_status refusal.now) (not_extended_line 2 refusal.now) }
 {
-    let line = not_extended_line(2, refusal)?;
-    Ok(Report::new(status_of(refusal), line))
+    let line = not_extended_line(2, refusal);
+    Report::new(status_of(refusal), line)
 }
 
 fn status_of(refusal: &ExtendRefusal) -> Status

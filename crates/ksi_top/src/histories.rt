@@ -10,11 +10,11 @@ ghost use Rattle.ksi_replay.specs.Journals.{journal_of};
 ghost use Rattle.ksi_top.specs.Histories.{HoldsOver};
 
 use ksi_facts::laws::history_is_recalled;
-use ksi_history::laws::{held_stays, history_is_joined};
+use ksi_history::laws::history_is_joined;
 use ksi_journal::laws::written_is_journal;
 use ksi_replay::laws::hashes_are_bytes;
 use ksi_schedule::spelled_is_schedule;
-use ksi_world::laws::{agreement, responses_climb, validity};
+use ksi_world::laws::{agreement, held_stays, responses_climb, validity};
 
 /// What holds over every history that a schedule spells.
 pub(crate) fn histories_hold()

@@ -16,6 +16,7 @@ use crate::report::{Halt, Report, ended};
 use crate::sign::sign;
 use crate::status::Status;
 use crate::verify::verify;
+use ksi_imprint::Refused;
 use ksi_lines::Word::{Number, Text};
 use ksi_lines::print;
 use ksi_ports::Files;
@@ -32,9 +33,18 @@ pub(crate) fn report_of<F: Files>(
 {
     match command(alloc, words) {
         Ok(command) => perform(alloc, files, &command),
-        Err(WordsRefusal::Words) => Ok(words_refused()),
-        Err(WordsRefusal::BadWord(n)) => Ok(bad_word(n)),
-        Err(WordsRefusal::NoMemory) => Err(Halt::NoMemory),
+        Err(Refused::Fault(refusal)) => Ok(refused(refusal)),
+        Err(Refused::NoMemory) => Err(Halt::NoMemory),
+    }
+}
+
+/// What words that are no command report.
+fn refused(refusal: WordsRefusal) -> Report
+    ensures { result ≡ refused refusal }
+{
+    match refusal {
+        WordsRefusal::Words => words_refused(),
+        WordsRefusal::BadWord(n) => bad_word(n),
     }
 }
 

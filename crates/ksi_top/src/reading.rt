@@ -10,7 +10,7 @@ ghost use Rattle.ksi_top.specs.Loading.{signature_or_malformed, publications_or_
 
 use crate::report::{Halt, Report};
 use crate::status::Status;
-use ksi_imprint::Sha;
+use ksi_imprint::{Refused, Sha};
 use ksi_journal::Journal;
 use ksi_journal::laws::journal_is_read;
 use ksi_lines::{
@@ -30,10 +30,11 @@ pub(crate) fn read_signature(alloc: Global, n: usize, bytes: &[u8]) -> Result<Si
     signature_is_read();
     match ksi_signature::read(alloc, bytes) {
         Ok(signature) => Ok(signature),
-        Err(fault) => {
-            let line = signature_fault_line(n, fault)?;
+        Err(Refused::Fault(fault)) => {
+            let line = signature_fault_line(n, fault);
             Err(Halt::Reported(Report::new(Status::Malformed, line)))
         }
+        Err(Refused::NoMemory) => Err(Halt::NoMemory),
     }
 }
 
@@ -46,10 +47,11 @@ pub(crate) fn read_publications(alloc: Global, n: usize, bytes: &[u8]) -> Result
     publications_are_read();
     match ksi_publications::read(alloc, bytes) {
         Ok(publications) => Ok(publications),
-        Err(fault) => {
-            let line = publications_fault_line(n, fault)?;
+        Err(Refused::Fault(fault)) => {
+            let line = publications_fault_line(n, fault);
             Err(Halt::Reported(Report::new(Status::Malformed, line)))
         }
+        Err(Refused::NoMemory) => Err(Halt::NoMemory),
     }
 }
 
@@ -62,10 +64,11 @@ pub(crate) fn read_journal(alloc: Global, n: usize, bytes: &[u8]) -> Result<Jour
     journal_is_read();
     match ksi_journal::load::<Sha>(alloc, bytes) {
         Ok(journal) => Ok(journal),
-        Err(fault) => {
-            let line = journal_fault_line(n, &fault)?;
+        Err(Refused::Fault(fault)) => {
+            let line = journal_fault_line(n, &fault);
             Err(Halt::Reported(Report::new(Status::Malformed, line)))
         }
+        Err(Refused::NoMemory) => Err(Halt::NoMemory),
     }
 }
 
@@ -78,9 +81,10 @@ pub(crate) fn read_schedule(alloc: Global, n: usize, bytes: &[u8]) -> Result<Sch
     schedule_is_read();
     match ksi_schedule::read_schedule(alloc, bytes) {
         Ok(schedule) => Ok(schedule),
-        Err(fault) => {
-            let line = schedule_fault_line(n, &fault)?;
+        Err(Refused::Fault(fault)) => {
+            let line = schedule_fault_line(n, &fault);
             Err(Halt::Reported(Report::new(Status::Malformed, line)))
         }
+        Err(Refused::NoMemory) => Err(Halt::NoMemory),
     }
 }

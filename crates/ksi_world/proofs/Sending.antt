@@ -16,7 +16,7 @@ use Rattle.ksi_synod.specs.Rows.{OfBallot, OfReply}
 use Rattle.ksi_signature.specs.declared.above.Above.{Above}
 use Rattle.ksi_corenode.specs.declared.step.Send as core_step
 use Rattle.ksi_corenode.specs.declared.step.Send.TheVariants as core_sends
-use Rattle.ksi_corenode.specs.Turns.{Turn, to_each}
+use Rattle.ksi_corenode.specs.Turns.{to_each}
 use Rattle.ksi_corenode.specs.Turns as turns
 use Rattle.ksi_corenode.specs.Rows.{responses_from, response_to}
 use Rattle.ksi_aggregator.specs.declared.step.Send as round_step

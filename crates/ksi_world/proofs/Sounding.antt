@@ -26,7 +26,7 @@ use Rattle.ksi_world.specs.declared.message.Content.{Content}
 use Rattle.ksi_world.specs.declared.message.Content.TheVariants as contents
 use Rattle.ksi_world.specs.declared.message.Message.{Message}
 use Rattle.ksi_schedule.specs.Plans.{PlanState, IsPlan, InRange}
-use Rattle.ksi_world.specs.Histories.{WorldState, Happening, put_at, core_message, round_message, at_core, at_round, accepted_where, delivered, happens, held_in, first_world}
+use Rattle.ksi_world.specs.Histories.{WorldState, core_message, round_message, at_core, at_round, accepted_where, delivered, happens, held_in, first_world}
 use Rattle.ksi_schedule.specs.Events.{IsEvent}
 use Rattle.ksi_world.specs.Histories as histories
 use Rattle.ksi_world.specs.Sound.{depth_of, IsSmall, IsSent, AreOf, IsRoundAt, IsRoundState, IsSound}

@@ -23,7 +23,7 @@ use Rattle.ksi_schedule.specs.Events.{IsEvent, AreEvents}
 use Rattle.ksi_world.specs.declared.message.Content.{Content}
 use Rattle.ksi_world.specs.declared.message.Content.TheVariants as contents
 use Rattle.ksi_world.specs.declared.message.Message.{Message}
-use Rattle.ksi_world.specs.Histories.{WorldState, at_core, at_round, delivered, happens, held_in, first_world, run, after}
+use Rattle.ksi_world.specs.Histories.{WorldState, at_core, delivered, happens, held_in, first_world, run, after}
 use Rattle.ksi_world.specs.Histories as histories
 use Rattle.ksi_world.specs.Deciding.{decides, IsTold}
 use Rattle.ksi_world.proofs.Leaving.{receive_leaves, try_leaves, seal_sets, seal_holds}

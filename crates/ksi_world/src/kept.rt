@@ -1,5 +1,5 @@
 //! The kept seconds: what the cores hold, and whose items it is.
-ghost use Rattle.std.specs.Prelude.{◌≡◌, ◌<◌, [], length, IfOk};
+ghost use Rattle.std.specs.Prelude.{◌≡◌, ◌<◌, [], IfOk};
 ghost use Rattle.std.specs.Option.{option_copied};
 ghost use Rattle.ksi_corenode.specs.CoreState.{state_of};
 ghost use Rattle.ksi_world.specs.Records.{sealed_as};

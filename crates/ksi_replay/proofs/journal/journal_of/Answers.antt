@@ -1,4 +1,4 @@
-use Rattle.std.proofs.Common.{map, ap, sym, subst, ◌∙◌, arith}
+use Rattle.std.proofs.Common.{map, sym, subst, ◌∙◌, arith}
 use Rattle.std.specs.List.{AllByRecursion}
 use Rattle.ksi_imprint.specs.Imprints.{IsImprint}
 use Rattle.ksi_world.specs.Histories.{world_of}

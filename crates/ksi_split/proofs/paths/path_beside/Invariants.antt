@@ -1,4 +1,4 @@
-use Rattle.std.proofs.Common.{◌≡◌, length}
+use Rattle.std.proofs.Common.{◌≡◌}
 use Rattle.ksi_split.specs.Upward.{halves, links_up}
 use Rattle.ksi_split.specs.Leaves.{leaf_of}
 use Rattle.ksi_split.proofs.paths.path_beside.Given as goal

@@ -4,6 +4,6 @@ use Rattle.ksi_top.proofs.audit.answer.Goals as goal
 
 pub returns-clause-answered : goal.returns-clause-answered
 returns-clause-answered c =
-    answered c.args.journal.now c.args.signature.now c.args.hash.now c.args.publications.now c.audit-audit.result c.audited.result
-    c.audited.ensures.memory c.audited.ensures.report c.audit-audit.ensures.answer c.audit-audit.ensures.shown
+    answered c.args.journal.now c.args.signature.now c.args.hash.now c.args.publications.now c.in_ok-audit.audit c.audited.result
+    c.audited.ensures c.in_ok-audit.ensures.answer c.in_ok-audit.ensures.shown
     (λ t accepted decided. c.decided_tells.ensures imprint_of c.args.journal.now c.args.signature.now c.args.hash.now c.args.publications.now t c.start-start.ensures.journal accepted decided)

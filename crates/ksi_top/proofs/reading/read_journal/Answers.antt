@@ -5,7 +5,8 @@ use Rattle.ksi_top.specs.Reports.{report}
 use Rattle.ksi_top.proofs.Read.{journal_malformed}
 use Rattle.ksi_top.proofs.reading.read_journal.Goals as goal
 
-pub returns-in_ok-line-in-Err-clause-told : goal.returns-in_ok-line-in-Err-clause-told
-returns-in_ok-line-in-Err-clause-told c =
-    journal_malformed c.args.n c.args.bytes.now c.in-Err.fault c.new.result (c.journal_is_read.ensures.fault imprint_of c.args.bytes.now c.in-Err.fault) c.in-Err.ensures.fault c.in_ok-line-in-Err.ensures.fault
-    (c.new.ensures ∙ ap (λ (line : List ℕ). report Malformed line) c.in_ok-line-in-Err.ensures.line)
+pub returns-in-Err-Fault-clause-told : goal.returns-in-Err-Fault-clause-told
+returns-in-Err-Fault-clause-told c =
+    let told = rw c.in-Err-Fault.field-0-is at c.in-Err-Fault.ensures in
+    journal_malformed c.args.n c.args.bytes.now c.in-Err-Fault.fault c.new.result (c.journal_is_read.ensures.fault imprint_of c.args.bytes.now c.in-Err-Fault.fault) told.refused
+    (c.new.ensures ∙ ap (λ (line : List ℕ). report Malformed line) c.journal_fault_line-line.ensures)

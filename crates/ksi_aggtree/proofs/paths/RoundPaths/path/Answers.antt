@@ -8,7 +8,6 @@ use Rattle.ksi_aggchain.specs.Climbing.{Climbs}
 use Rattle.ksi_aggchain.specs.Owned.{plain_links}
 use Rattle.ksi_aggtree.specs.Rounds.{leaf, no_item, leaf_of_place, tree_of, tree_path, IsRound}
 use Rattle.ksi_aggtree.specs.Paths.{links_from, chain_of, sides_from_top}
-use Rattle.ksi_split.specs.Leaves.{TreeTo}
 use Rattle.ksi_aggtree.proofs.Kept.{round_path}
 use Rattle.ksi_aggtree.proofs.Chains.{links_count}
 use Rattle.ksi_aggtree.proofs.paths.RoundPaths.path.Goals as goal

@@ -1,5 +1,5 @@
-use Rattle.std.proofs.Common.{◌≡◌, ◌+◌, ◌∷◌, [], ◌<◌, ℕ, get_or, length, refl, sym, ap, ◌∙◌, arith, inl, inr}
-use Rattle.ksi_split.specs.Upward.{halves, node, whole}
+use Rattle.std.proofs.Common.{◌≡◌, ◌+◌, ◌∷◌, [], ◌<◌, ℕ, length, ap, ◌∙◌, arith}
+use Rattle.ksi_split.specs.Upward.{node, whole}
 use Rattle.ksi_split.proofs.rows.Rows.borders.Goals as goal
 
 pub loop-level-init : goal.loop-level-init
