@@ -45,9 +45,9 @@ const MAGIC: &str = "4b53494a524e4c31";
 
 /// The fault of bytes, if they have one.
 pub(crate) fn fault_of(alloc: Global, bytes: &[u8]) -> Option<JournalFault> {
-    match load::<Tiny>(alloc, bytes) {
-        Err(Refused::Fault(fault)) => Some(fault),
-        Ok(_) | Err(Refused::NoMemory) => None,
+    match load::<Tiny>(alloc, bytes).err()? {
+        Refused::Fault(fault) => Some(fault),
+        Refused::NoMemory => None,
     }
 }
 
