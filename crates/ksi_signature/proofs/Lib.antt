@@ -1,7 +1,11 @@
 pub mod Whole
 pub mod Says
 pub mod Limits
+pub mod Heading
+pub mod Lent
+pub mod LentCalendar
 pub mod Order
+pub mod Inserted
 pub mod Answered
 pub mod Sizes
 pub mod Capped

@@ -12,3 +12,8 @@ pub mod Above
 pub mod Issued
 pub mod Kept
 pub mod Carried
+pub mod Heads
+pub mod HeadViews
+pub mod PartsSeen
+pub mod Seen
+pub mod Gathered
