@@ -1,5 +1,5 @@
 -- One walk over a container finds what is said there: where a kind stands once at most, the last is the first.
-use Rattle.std.proofs.Common.{◌≡◌, ℕ, zero, suc, ◌+◌, ◌<◌, ◌≤◌, Bool, true, false, cond, eqb, List, [], ◌∷◌, length, map, drop, Option, Some, None, Result, Ok, Err, refl, sym, ap, ◌∙◌, arith}
+use Rattle.std.proofs.Common.{◌≡◌, ℕ, zero, suc, ◌+◌, ◌-◌, ◌<◌, ◌≤◌, Bool, true, false, cond, eqb, List, [], ◌∷◌, length, map, drop, slice_index, Option, Some, None, Result, Ok, Err, refl, sym, ap, ◌∙◌, arith}
 use Rattle.std.specs.Prelude.{◌||◌, option_map}
 use Rattle.std.proofs.lemmas.List.{length-map}
 use Rattle.ksi_tlv.specs.Spelling.{Tlv}
@@ -12,8 +12,8 @@ use Rattle.ksi_grammar.specs.Inside.{whole, inner_elements, first_of}
 use Rattle.ksi_grammar.specs.Published.{number_or_zero, imprint_or_zero}
 use Rattle.ksi_signature.specs.Tables.{chain_table, calendar_table}
 use Rattle.ksi_signature.specs.Contents.{bodies_of, number_or, chain_in, calendar_in}
-use Rattle.ksi_signature.specs.Heads.{Head, head_of, head_with, head_behind, CalendarHead, calendar_with, calendar_behind, time_or, SaysCalendar}
-use Rattle.ksi_signature.proofs.Limits.{IsHeld, length-bodies}
+use Rattle.ksi_signature.specs.Heads.{last_part, Head, head_of, head_with, head_behind, CalendarHead, calendar_with, calendar_behind, time_or, SaysCalendar}
+use Rattle.ksi_signature.proofs.Limits.{IsHeld, length-bodies, some_index}
 
 -- ---- there are no more elements than bytes
 
@@ -105,6 +105,7 @@ parts_after n (at ∷ es) = parts_after (cond (eqb at.element.kind 3) (n + 1) n)
 walked : (head : Head) (es : List PlacedTlv) → head_behind head es ≡ record {
   time = last_or number 2 head.time es;
   parts = parts_after head.parts es;
+  last = last_or number 3 head.last es;
   input_body = last_or some_body 4 head.input_body es;
   input = last_or body 5 head.input es;
 }
@@ -120,17 +121,42 @@ parts_are : (es : List PlacedTlv) (n : ℕ) → parts_after n es ≡ n + length 
 parts_are [] n = omega arith
 parts_are (at ∷ es) n = parts_at (eqb at.element.kind 3) n at.element.body es (parts_are es)
 
+-- the last of numbers that follow one
+abbrev last_from : ℕ → List ℕ → ℕ
+last_from n [] = n
+last_from n (m ∷ ms) = last_from m ms
+
+last_at : (b : Bool) (n : ℕ) (bytes : List ℕ) (es : List PlacedTlv) → ((m : ℕ) → last_or number 3 m es ≡ last_from m (map number_of (bodies_of 3 es)))
+    → last_or number 3 (cond b (number_of bytes) n) es ≡ last_from n (map number_of (cond b (bytes ∷ bodies_of 3 es) (bodies_of 3 es)))
+last_at true n bytes es rest = rest (number_of bytes)
+last_at false n bytes es rest = rest n
+
+lasts : (es : List PlacedTlv) (n : ℕ) → last_or number 3 n es ≡ last_from n (map number_of (bodies_of 3 es))
+lasts [] n = refl
+lasts (at ∷ es) n = last_at (eqb at.element.kind 3) n at.element.body es (lasts es)
+
+from_is : (n : ℕ) (ms : List ℕ) → last_from n ms ≡ slice_index (n ∷ ms) (length ms)
+from_is n [] = refl
+from_is n (m ∷ ms) = from_is m ms
+
+last_part_is : (index : List ℕ) → 0 < length index → last_from 0 index ≡ last_part index
+last_part_is [] some = absurd (omega (arith, some))
+last_part_is (n ∷ ms) some =
+    let one : length ms ≡ length (n ∷ ms) - 1 = omega arith in
+    from_is n ms ∙ ap (slice_index (n ∷ ms)) one
+
 pub head_is : IsHeld → (at : PlacedTlv) → inner_verdict chain_table at ≡ Ok tt
-    → head_behind (record { time = 0; parts = 0; input_body = None; input = [] }) (inner_elements at) ≡ head_of (chain_in at)
+    → head_behind (record { time = 0; parts = 0; last = 0; input_body = None; input = [] }) (inner_elements at) ≡ head_of (chain_in at)
 unfolding chain_in
 head_is held at ok =
     let es = inner_elements at in
     let c = held chain_table at.place at.inside at.element.body refl ok in
     let time : last_or number 2 0 es ≡ number_or_zero (first_of 2 es) = one_last number 2 0 es c.within.0 ∙ number_is (first_of 2 es) in
     let parts : parts_after 0 es ≡ length (map number_of (bodies_of 3 es)) = let n = parts_are es 0 in omega (arith, n, length-map (bodies_of 3 es) number_of) in
+    let last : last_or number 3 0 es ≡ last_part (map number_of (bodies_of 3 es)) = lasts es 0 ∙ last_part_is (map number_of (bodies_of 3 es)) (some_index held at ok) in
     let told : last_or some_body 4 None es ≡ option_map body (first_of 4 es) = one_last some_body 4 None es c.within.1.1.0 ∙ body_is (first_of 4 es) in
     let input : last_or body 5 [] es ≡ imprint_or_zero (first_of 5 es) = one_last body 5 [] es c.within.1.1.1.0 ∙ input_is es c.enough.1.1.1.0 in
-    walked (record { time = 0; parts = 0; input_body = None; input = [] }) es ∙ rw (time, parts, told, input) refl
+    walked (record { time = 0; parts = 0; last = 0; input_body = None; input = [] }) es ∙ rw (time, parts, last, told, input) refl
 
 -- ---- calendar chains
 

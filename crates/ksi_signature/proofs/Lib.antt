@@ -2,6 +2,8 @@ pub mod Whole
 pub mod Says
 pub mod Limits
 pub mod Heading
+pub mod Linking
+pub mod Numbering
 pub mod Lent
 pub mod LentCalendar
 pub mod Order

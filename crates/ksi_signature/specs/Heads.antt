@@ -1,29 +1,33 @@
 -- What chains have beside their links, and what is found of it in one walk over their elements: where a kind stands
 -- twice, the last counts.
-use Rattle.std.specs.Prelude.{◌≡◌, ℕ, ◌+◌, ◌==◌, ◌||◌, List, [], ◌∷◌, length, Option, Some, None, if◌then◌else◌}
-use Rattle.ksi_split.specs.declared.side.Side.{Side}
-use Rattle.ksi_aggchain.specs.declared.link.Sibling.{Sibling}
-use Rattle.ksi_aggchain.specs.declared.link.Sibling.TheVariants as siblings
+use Rattle.std.specs.Prelude.{◌≡◌, ℕ, ◌+◌, ◌-◌, ◌==◌, ◌&&◌, nat_le, Bool, true, List, [], ◌∷◌, length, slice_index, Option, Some, None, if◌then◌else◌}
 use Rattle.ksi_tlv.specs.Walking.{PlacedTlv}
 use Rattle.ksi_tlv.specs.Numerals.{number_of}
 use Rattle.ksi_signature.specs.Values.{Aggregation, Calendar}
 
 -- ---- aggregation chains
 
--- a time, how many parts the index has, what was hashed where it is parts, and the imprint that the links lead from
+-- the last part of an index
+abbrev pub last_part : List ℕ → ℕ
+last_part index = slice_index index (length index - 1)
+
+-- a time, how many parts the index has and the last of them, what was hashed where it is told, and the imprint that the
+-- links lead from
 pub record Head : Type 0 where
   pub time : ℕ
   pub parts : ℕ
+  pub last : ℕ
   pub input_body : Option (List ℕ)
   pub input : List ℕ
 
 abbrev pub head_of : Aggregation → Head
-head_of chain = record { time = chain.time; parts = length chain.index; input_body = chain.input_body; input = chain.input }
+head_of chain = record { time = chain.time; parts = length chain.index; last = last_part chain.index; input_body = chain.input_body; input = chain.input }
 
 abbrev pub head_with : Head → PlacedTlv → Head
 head_with head at = record {
   time = if at.element.kind == 2 then number_of at.element.body else head.time;
   parts = if at.element.kind == 3 then head.parts + 1 else head.parts;
+  last = if at.element.kind == 3 then number_of at.element.body else head.last;
   input_body = if at.element.kind == 4 then Some at.element.body else head.input_body;
   input = if at.element.kind == 5 then at.element.body else head.input;
 }
@@ -59,28 +63,9 @@ time_or publication (Some time) = time
 abbrev pub SaysCalendar : CalendarHead → Calendar → Type 0
 SaysCalendar head chain = (head.publication ≡ chain.publication) × (time_or head.publication head.time ≡ chain.time) × (head.input ≡ chain.input)
 
--- ---- links
+-- ---- index parts
 
--- a correction, the kind of the sibling's element, and its body
-pub record LinkParts : Type 0 where
-  pub correction : ℕ
-  pub kind : ℕ
-  pub body : List ℕ
-
-abbrev pub link_with : LinkParts → PlacedTlv → LinkParts
-link_with parts at = record {
-  correction = if at.element.kind == 1 then number_of at.element.body else parts.correction;
-  kind = if at.element.kind == 2 || at.element.kind == 3 || at.element.kind == 4 then at.element.kind else parts.kind;
-  body = if at.element.kind == 2 || at.element.kind == 3 || at.element.kind == 4 then at.element.body else parts.body;
-}
-
-abbrev pub link_behind : LinkParts → List PlacedTlv → LinkParts
-link_behind parts [] = parts
-link_behind parts (at ∷ es) = link_behind (link_with parts at) es
-
--- the sibling that an element of a kind says
-abbrev pub sibling_as : ℕ → List ℕ → Sibling
-sibling_as kind body =
-    if kind == 2 then siblings.Imprint body
-    else if kind == 3 then siblings.Legacy body
-    else siblings.Metadata body
+-- each element with an index part is a number
+abbrev pub parts_pass : List PlacedTlv → Bool
+parts_pass [] = true
+parts_pass (at ∷ es) = (if at.element.kind == 3 then nat_le (length at.element.body) 8 else true) && parts_pass es

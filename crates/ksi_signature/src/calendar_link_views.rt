@@ -1,5 +1,6 @@
 ghost use Rattle.std.specs.Prelude.{◌≡◌, ◌<◌, ◌≤◌, ◌++◌, ◌∷◌, [], length};
 
+use crate::arrays::append_at;
 use ksi_calchain::CalendarLink;
 use ksi_imprint::Imprint;
 use ksi_split::Side;
@@ -43,8 +44,9 @@ impl CalendarLinkViews {
         requires { length self.old < 63 }
         ensures { self.new ≡ self.old ++ link ∷ [] }
     {
-        self.links[self.count] = link;
-        self.count += 1;
+        let count = self.count;
+        append_at(&mut self.links, count, link);
+        self.count = count + 1;
     }
 
     /// The links, the lowest first.

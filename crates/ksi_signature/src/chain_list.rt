@@ -1,8 +1,9 @@
-ghost use Rattle.std.specs.Prelude.{◌≡◌, ◌<◌, ◌≤◌, ◌+◌, ◌∷◌, [], length, map, take, insert};
+ghost use Rattle.std.specs.Prelude.{◌≡◌, ◌<◌, ◌≤◌, ◌∷◌, [], length, map};
 ghost use Rattle.ksi_signature.specs.Contents.{put_chain};
 ghost use Rattle.ksi_signature.specs.Places.{place_of};
 ghost use Rattle.ksi_signature.specs.PartsSeen.{chain_seen};
 
+use crate::arrays::insert_at;
 use crate::chain_view::ChainView;
 use std::marker::Model;
 
@@ -51,7 +52,7 @@ impl<'a> ChainList<'a> {
     {
         let place = place_among(self.as_slice(), chain.parts());
         let count = self.count;
-        put_at(&mut self.chains, count, place, chain);
+        insert_at(&mut self.chains, count, place, chain);
         self.count = count + 1;
     }
 }
@@ -67,19 +68,4 @@ fn place_among(chains: &[ChainView<'_>], parts: usize) -> usize
         }
     }
     chains.len()
-}
-
-/// Puts an item at a place among the first so many, the later of which move up.
-fn put_at<T: Copy>(items: &mut [T], count: usize, place: usize, item: T)
-    requires room { count < length items.old }
-    requires within { place ≤ count }
-    ensures { take (count + 1) items.new ≡ insert (take count items.old) place item }
-{
-    let mut carried = item;
-    for k in place..count {
-        let next = items[k];
-        items[k] = carried;
-        carried = next;
-    }
-    items[count] = carried;
 }

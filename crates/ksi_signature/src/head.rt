@@ -6,6 +6,8 @@ pub(crate) struct Head<'a> {
     pub(crate) time: u64,
     /// How many parts the index has.
     pub(crate) parts: usize,
+    /// The last of them.
+    pub(crate) last: u64,
     pub(crate) input_body: Option<&'a [u8]>,
     pub(crate) input: &'a [u8],
 }

@@ -9,7 +9,7 @@ ghost use Rattle.ksi_signature.specs.Contents.{chain_in};
 ghost use Rattle.ksi_signature.specs.Heads.{head_of, head_with};
 ghost use Rattle.ksi_signature.specs.HeadViews.{view_head};
 
-use crate::contents::time_of;
+use crate::contents::{number_of, time_of};
 use crate::head::Head;
 use crate::kinds::{AGGREGATION_TIME, INDEX_PART, INPUT_DATA, INPUT_HASH};
 use ksi_grammar::inside_is_whole;
@@ -24,6 +24,7 @@ pub(crate) fn head_in<'a>(at: &Placed<'a>) -> Head<'a>
     let mut head = Head {
         time: 0,
         parts: 0,
+        last: 0,
         input_body: None,
         input: &[],
     };
@@ -45,7 +46,10 @@ impl<'a> Head<'a> {
     {
         match part.element.kind {
             AGGREGATION_TIME => self.time = time_of(part),
-            INDEX_PART => self.parts += 1,
+            INDEX_PART => {
+                self.parts += 1;
+                self.last = number_of(part);
+            }
             INPUT_DATA => self.input_body = Some(part.element.body),
             INPUT_HASH => self.input = part.element.body,
             _ => (),

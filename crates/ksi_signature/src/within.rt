@@ -1,6 +1,6 @@
 //! What an accepted chain is within. The functions without a result only tell it to the proofs.
 
-ghost use Rattle.std.specs.Prelude.{◌≡◌, Ok};
+ghost use Rattle.std.specs.Prelude.{◌≡◌, true, Ok};
 ghost use Rattle.ksi_imprint.specs.Imprints.{IsImprint};
 ghost use Rattle.ksi_tlv.specs.Views.{view_placed};
 ghost use Rattle.ksi_grammar.specs.Reading.{inner_verdict};
@@ -8,6 +8,7 @@ ghost use Rattle.ksi_grammar.specs.Inside.{inner_elements};
 ghost use Rattle.ksi_signature.specs.Values.{AreChains};
 ghost use Rattle.ksi_signature.specs.Tables.{chain_table, calendar_table, signature_table};
 ghost use Rattle.ksi_signature.specs.Contents.{chain_in, calendar_in, signature_of};
+ghost use Rattle.ksi_signature.specs.Heads.{parts_pass};
 ghost use Rattle.ksi_signature.specs.Kept.{IsLent, IsCalendar};
 
 use ksi_grammar::inside_is_whole;
@@ -65,6 +66,14 @@ pub(crate) fn imprint_in_calendar(at: &Placed<'_>, bytes: &[u8]) -> Imprint
 pub(crate) fn signature_is_limited(at: &Placed<'_>)
     requires { inner_verdict signature_table (view_placed at.now) ≡ Ok tt }
     ensures { AreChains (signature_of (inner_elements (view_placed at.now))).chains }
+{
+    inside_is_whole();
+}
+
+/// The index parts of an accepted chain are numbers.
+pub(crate) fn parts_are_numbers(at: &Placed<'_>)
+    requires { inner_verdict chain_table (view_placed at.now) ≡ Ok tt }
+    ensures { parts_pass (inner_elements (view_placed at.now)) ≡ true }
 {
     inside_is_whole();
 }

@@ -10,6 +10,6 @@ use Rattle.ksi_signature.proofs.walking.head_in.Given as goal
 
 abbrev pub invariant-loop-item : goal.invariant-loop-item
 invariant-loop-item l =
-    (head_behind (view_head l.head) (whole (rest l.elements)) ≡ head_behind (record { time = 0; parts = 0; input_body = None; input = [] }) (inner_elements (view_placed l.at)))
+    (head_behind (view_head l.head) (whole (rest l.elements)) ≡ head_behind (record { time = 0; parts = 0; last = 0; input_body = None; input = [] }) (inner_elements (view_placed l.at)))
     × AllByRecursion (MayStand chain_table) (whole (rest l.elements))
     × (l.head.parts + length (whole (rest l.elements)) ≤ length l.at.element.body.now)

@@ -10,8 +10,8 @@ use Rattle.ksi_signature.proofs.chain_list.ChainList.put.Goals as goal
 pub returns : goal.returns
 returns c =
     let place = c.place_among-place.result in
-    put_at (chain_seen c.args.chain) (map chain_seen (take (c.self.inside.count + 1) c.put_at.new.items)) c.args.self.now place c.parts.result
-    (ap (map chain_seen) c.put_at.ensures ∙ map-insert chain_seen place (take c.self.inside.count c.self.inside.chains) c.args.chain
+    put_at (chain_seen c.args.chain) (map chain_seen (take (c.self.inside.count + 1) c.insert_at.new.items)) c.args.self.now place c.parts.result
+    (ap (map chain_seen) c.insert_at.ensures ∙ map-insert chain_seen place (take c.self.inside.count c.self.inside.chains) c.args.chain
     ∙ ap (λ (old : List Aggregation). insert old place (chain_seen c.args.chain)) c.self.view_is)
     (c.place_among-place.ensures.value ∙ ap (place_of c.parts.result) c.as_slice.ensures)
     c.parts.ensures.value

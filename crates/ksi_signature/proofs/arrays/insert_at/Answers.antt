@@ -1,7 +1,7 @@
 use Rattle.std.proofs.Common.{◌≡◌, ℕ, ◌+◌, ◌<◌, ◌≤◌, suc, length, take, slice_set, subst, ◌∙◌, arith}
 use Rattle.std.specs.Prelude.{insert}
 use Rattle.ksi_signature.proofs.Inserted.{insert_next, put_among}
-use Rattle.ksi_signature.proofs.chain_list.put_at.Goals as goal
+use Rattle.ksi_signature.proofs.arrays.insert_at.Goals as goal
 
 pub loop-k-preserved : goal.loop-k-preserved
 loop-k-preserved g c =
