@@ -1,7 +1,7 @@
 use Rattle.std.proofs.Common.{ℕ, List, ◌<◌, ◌^◌, sym, subst}
 use Rattle.ksi_tlv.specs.Views.{view_placed}
 use Rattle.ksi_signature.proofs.Limits.{recorded_below}
-use Rattle.ksi_signature.proofs.parts.recorded_below.Goals as goal
+use Rattle.ksi_signature.proofs.within.recorded_below.Goals as goal
 
 pub returns-clause-below : goal.returns-clause-below
 returns-clause-below c =
