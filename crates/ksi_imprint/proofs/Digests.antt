@@ -2,11 +2,14 @@
 use Rattle.std.proofs.Common.{ℕ, zero, suc, ◌/◌, ◌%◌, ◌^◌, ◌<◌, List, refl, ap, arith}
 use Rattle.std.specs.Prelude.{slice_index}
 use Rattle.std.specs.Int.{w32, to_be_bytes, bytes_high_first, byte_at}
+use Rattle.std.specs.Prelude.{All}
 use Rattle.std.proofs.lemmas.List.Elements.{All-nil, All-cons, All-append}
 use Rattle.sha2.specs.Sha256.{sha256, digest_bytes}
 use Rattle.sha2.proofs.Facts256.{length-sha256}
 use Rattle.ksi_imprint.specs.Imprints.{IsImprint, imprint_of}
-use Rattle.ksi_tlv.specs.Spelling.{AreBytes}
+
+abbrev AreBytes : List ℕ → Type 0
+AreBytes bytes = All (λ b. b < 256) bytes
 
 byte_small : (k n : ℕ) → byte_at k n < 256
 byte_small zero n = omega arith
