@@ -14,13 +14,21 @@ use std::test::Fail;
 fn answers_the_first_fault(rt: HostRuntime) {
     const ROWS: [(&[u8], SignatureFault); 3] = [
         (&[], SignatureFault::Tlv(0)),
-        (&[0x88, 0x01, 0x00, 0x00], SignatureFault::NotSignature(0x801)),
+        (
+            &[0x88, 0x01, 0x00, 0x00],
+            SignatureFault::NotSignature(0x801),
+        ),
         (&[0x88, 0x00, 0x00, 0x00], SignatureFault::Missing(0x801, 0)),
     ];
     for (bytes, want) in ROWS {
         same(&rt, bytes.len(), view(bytes).err(), Some(want));
     }
-    same(&rt, "cut", view(&S0[..93]).err(), Some(SignatureFault::Tlv(0)));
+    same(
+        &rt,
+        "cut",
+        view(&S0[..93]).err(),
+        Some(SignatureFault::Tlv(0)),
+    );
 }
 
 /// The hash of no bytes, which each hash in `two_chains` is.
@@ -58,7 +66,12 @@ fn shows_chains(rt: &impl Abort, chains: &[ChainView<'_>]) {
 
 fn shows_index(rt: &impl Abort, chains: &[ChainView<'_>]) {
     if let [low, high] = chains {
-        same(rt, "low", first_three(low.index()), (Some(300), Some(0), None));
+        same(
+            rt,
+            "low",
+            first_three(low.index()),
+            (Some(300), Some(0), None),
+        );
         same(rt, "high", first_three(high.index()), (Some(1), None, None));
     }
 }
