@@ -1,6 +1,6 @@
 use Rattle.std.proofs.Common.{◌≡◌, drop}
 use Rattle.ksi_ports.specs.Memory.{held_in}
-use Rattle.ksi_ports.proofs.mem_files.bytes_at.Given as goal
+use Rattle.ksi_ports.proofs.entries.bytes_at.Given as goal
 
 -- no entry so far has the name
 abbrev pub invariant-loop-entry : goal.invariant-loop-entry
