@@ -57,6 +57,7 @@ mod lists;
 mod reader;
 mod record_view;
 mod refusal;
+mod renewal;
 mod signature;
 mod signature_view;
 mod step;

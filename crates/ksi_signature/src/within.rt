@@ -2,6 +2,7 @@
 
 ghost use Rattle.std.specs.Prelude.{◌≡◌, ◌<◌, ◌^◌, true, Ok};
 ghost use Rattle.ksi_imprint.specs.Imprints.{IsImprint};
+ghost use Rattle.ksi_tlv.specs.Spelling.{AreBytes};
 ghost use Rattle.ksi_tlv.specs.Views.{view_placed};
 ghost use Rattle.ksi_grammar.specs.Reading.{inner_verdict};
 ghost use Rattle.ksi_grammar.specs.Inside.{inner_elements};
@@ -96,3 +97,8 @@ pub(crate) fn recorded_below(at: &Placed<'_>) -> (u64, Imprint)
     inside_is_whole();
     recorded(at)
 }
+
+/// The members of a slice of bytes are bytes.
+pub(crate) fn are_bytes(bytes: &[u8])
+    ensures { AreBytes bytes.now }
+{}
