@@ -30,6 +30,8 @@ mod checking;
 mod difference;
 mod index;
 pub mod laws;
+mod lent;
+mod owned;
 mod publication;
 mod refusal;
 mod verdict;

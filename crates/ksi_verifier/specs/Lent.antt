@@ -1,0 +1,12 @@
+-- The parts of a signature above its aggregation chains, whoever owns them.
+use Rattle.ksi_signature.specs.Values.{Calendar, Publishing}
+use Rattle.ksi_verifier.specs.declared.lent.CalendarPart.{CalendarPart}
+use Rattle.ksi_verifier.specs.declared.lent.RecordPart.{RecordPart}
+
+-- the calendar chain that lent parts are, wherever its links lie in memory
+abbrev pub calendar_of : CalendarPart → Calendar
+calendar_of part = record { publication = part.publication; time = part.time; input = part.input; links = part.links.now }
+
+-- what a publication record states
+abbrev pub record_of : Publishing → RecordPart
+record_of published = record { time = published.time; hash = published.hash }
