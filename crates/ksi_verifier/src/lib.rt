@@ -37,7 +37,10 @@ mod refusal;
 mod verdict;
 
 pub use aggregated::Aggregated;
+pub use any_chain::AnyChain;
 pub use checking::{aggregate, verify};
 pub use difference::RecordDifference;
+pub use lent::{CalendarPart, RecordPart};
+pub use owned::calendar_part;
 pub use refusal::Refusal;
 pub use verdict::Verdict;

@@ -5,8 +5,8 @@ ghost use Rattle.ksi_verifier.specs.Lent.{calendar_of, record_of};
 use crate::lent::{CalendarPart, RecordPart};
 use ksi_signature::{CalendarChain, PublicationRecord};
 
-/// Lends the parts of a calendar chain.
-pub(crate) fn calendar_part(calendar: &Option<CalendarChain>) -> Option<CalendarPart<'_>>
+/// The parts of a calendar chain, lent.
+pub fn calendar_part(calendar: &Option<CalendarChain>) -> Option<CalendarPart<'_>>
     ensures { option_map calendar_of result ≡ calendar.now }
 {
     match calendar {
