@@ -12,7 +12,7 @@ pub(crate) fn top_of<C: Compress>(below: &Node, links: &[Link]) -> Node
     requires { level_after below.now.level (plain_links links.now) ≤ highest_level }
     ensures { result ≡ climbed_to C.image below.now (plain_links links.now) }
 {
-    match climb::<C>(below.imprint, below.level, links) {
+    match climb::<C, Link>(below.imprint, below.level, links) {
         Ok(top) => top,
         Err(_) => Node {
             imprint: below.imprint,

@@ -18,7 +18,7 @@
 //! let signature = read(alloc, bytes)?;
 //! if let [first, ..] = signature.chains.as_slice() {
 //!     // the next chain goes on from this item, at its level
-//!     let top = climb::<Sha>(first.input, 0, first.links.as_slice())?;
+//!     let top = climb::<Sha, Link>(first.input, 0, first.links.as_slice())?;
 //! }
 //! let proved = signature.calendar.as_ref().map(|chain| climb_calendar::<Sha>(chain.input, chain.links.as_slice()));
 //! let text = write(alloc, &signature)?; // the same signature, in the order of the format

@@ -5,7 +5,7 @@ ghost use Rattle.ksi_verifier.specs.ChainChecks.{same_parts};
 
 use crate::index::compare_parts;
 use crate::refusal::Refusal;
-use ksi_aggchain::{LevelFault, Node, climb, shape};
+use ksi_aggchain::{LevelFault, Link, Node, climb, shape};
 use ksi_imprint::{Compress, Imprint};
 use ksi_signature::AggregationChain;
 
@@ -71,6 +71,6 @@ impl AnyChain for AggregationChain {
     }
 
     fn climb<C: Compress>(&self, start: Node) -> Result<Node, LevelFault> {
-        climb::<C>(start.imprint, start.level, self.links.as_slice())
+        climb::<C, Link>(start.imprint, start.level, self.links.as_slice())
     }
 }

@@ -5,12 +5,12 @@ use Rattle.ksi_aggchain.specs.declared.node.Node.{Node}
 use Rattle.ksi_aggchain.specs.declared.climbing.LevelFault.{LevelFault}
 use Rattle.ksi_aggchain.specs.declared.climbing.LevelFault.TheVariants.{Over}
 use Rattle.ksi_aggchain.proofs.ClimbLemmas.{climb_both, over_both, loop_stops, loop_goes, loop_ends, seen_at, seen_within, seen_past}
-use Rattle.ksi_aggchain.proofs.climbing.climb_along.Goals as goal
+use Rattle.ksi_aggchain.proofs.climbing.climb.Goals as goal
 
 pub returns-then-above : goal.returns-then-above
 returns-then-above g c =
     let image = g.C.Compress.image in
-    let plain = g.L.AnyLink.plain in
+    let plain = g.L.ChainLink.plain in
     let start : Node = record { imprint = c.args.start; level = c.args.level } in
     let links : List PlainLink = map plain c.args.links.now in
     let place = c.loop-place.place in
@@ -26,7 +26,7 @@ returns-then-above g c =
 pub loop-place-preserved : goal.loop-place-preserved
 loop-place-preserved g c =
     let image = g.C.Compress.image in
-    let plain = g.L.AnyLink.plain in
+    let plain = g.L.ChainLink.plain in
     let start : Node = record { imprint = c.args.start; level = c.args.level } in
     let links : List PlainLink = map plain c.args.links.now in
     let place = c.loop-place.place in
@@ -40,7 +40,7 @@ loop-place-preserved g c =
 pub returns : goal.returns
 returns g c =
     let image = g.C.Compress.image in
-    let plain = g.L.AnyLink.plain in
+    let plain = g.L.ChainLink.plain in
     let start : Node = record { imprint = c.args.start; level = c.args.level } in
     let links : List PlainLink = map plain c.args.links.now in
     let top : Node = record { imprint = c.loop-place.imprint; level = c.loop-place.level } in
