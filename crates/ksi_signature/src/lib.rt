@@ -27,41 +27,66 @@
 
 mod above;
 mod answer;
+mod arrays;
 mod bodies;
+mod calendar_link_views;
+mod calendar_view;
+mod calendar_walking;
 mod carried;
+mod chain_list;
+mod chain_view;
 mod checker;
 mod containers;
 mod contents;
 mod extension;
 mod fault;
+mod gathering;
+mod head;
+mod index_parts;
 mod issuing;
 mod kinds;
 mod laws;
 mod lengths;
+mod link_parts;
+mod link_views;
+mod link_walking;
 mod links;
 mod lists;
 mod parts;
 mod reader;
+mod record_view;
 mod refusal;
 mod signature;
+mod signature_view;
 mod step;
+mod viewer;
+mod walking;
+mod within;
 mod writer;
 
 pub use above::{Above, AboveChain, AboveChains, AboveLinks};
 pub use answer::Answer;
+pub use calendar_link_views::CalendarLinkViews;
+pub use calendar_view::CalendarView;
+pub use chain_view::ChainView;
 pub use checker::check;
 pub use containers::{CalendarContent, ChainContent, LinkContent, SignatureContent};
 pub use extension::{WithRefusal, with_calendar};
 pub use fault::SignatureFault;
+pub use index_parts::IndexParts;
 pub use issuing::issue;
 pub use ksi_imprint::{NoMemory, Refused};
 pub use laws::{
     chains_in_order, extended_is_bytes, extended_is_short, extended_is_signature, issued_is_bytes,
     issued_is_signature, signature_is_read, signature_or_fault, written_is_signature,
 };
+pub use link_views::LinkViews;
 pub use lists::{Bodies, CalendarLinks, Chains, Index, Links};
 pub use reader::read;
+pub use record_view::RecordView;
 pub use refusal::WriteRefusal;
 pub use signature::{AggregationChain, CalendarChain, PublicationRecord, Signature};
+pub use signature_view::SignatureView;
 pub use step::{Sends, Step};
+pub use viewer::view;
 pub use writer::write;

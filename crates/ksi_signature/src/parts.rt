@@ -158,7 +158,7 @@ pub(crate) fn publishing_of(alloc: Global, at: &Placed<'_>) -> Result<Publicatio
     })
 }
 
-fn recorded_below(at: &Placed<'_>) -> (u64, Imprint)
+pub(crate) fn recorded_below(at: &Placed<'_>) -> (u64, Imprint)
     requires { inner_verdict record_table (view_placed at.now) ≡ Ok tt }
     ensures value { result ≡ recorded_in (view_placed at.now) }
     ensures below { result.0 < 2 ^ 63 }
