@@ -1,5 +1,8 @@
--- The parts of a signature above its aggregation chains, whoever owns them.
+-- Lent parts of a signature.
 use Rattle.ksi_signature.specs.Values.{Calendar, Publishing}
+use Rattle.ksi_signature.specs.PartsSeen.{chain_seen}
+use Rattle.ksi_signature.specs.declared.chain_view.ChainView.{ChainView}
+use Rattle.ksi_verifier.specs.Chains.{PlainChain, plain_chain}
 use Rattle.ksi_verifier.specs.declared.lent.CalendarPart.{CalendarPart}
 use Rattle.ksi_verifier.specs.declared.lent.RecordPart.{RecordPart}
 
@@ -10,3 +13,7 @@ calendar_of part = record { publication = part.publication; time = part.time; in
 -- what a publication record states
 abbrev pub record_of : Publishing → RecordPart
 record_of published = record { time = published.time; hash = published.hash }
+
+-- the chain that a lent one shows
+abbrev pub lent_chain : ChainView → PlainChain
+lent_chain chain = plain_chain (chain_seen chain)

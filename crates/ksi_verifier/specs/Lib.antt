@@ -6,3 +6,4 @@ pub mod Lent
 pub mod Verdict
 pub mod Accepted
 pub mod Leading
+pub mod Bytes

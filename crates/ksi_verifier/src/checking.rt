@@ -3,7 +3,7 @@ ghost use Rattle.ksi_verifier.specs.declared.verdict.Verdict.TheVariants as verd
 ghost use Rattle.ksi_verifier.specs.Accepted.{IsAccepted};
 ghost use Rattle.ksi_verifier.specs.ChainChecks.{aggregated};
 ghost use Rattle.ksi_verifier.specs.Lent.{calendar_of};
-ghost use Rattle.ksi_verifier.specs.Verdict.{calendar_checked, checked, verdict};
+ghost use Rattle.ksi_verifier.specs.Verdict.{calendar_checked, checked, or_refused, verdict};
 
 use crate::aggregated::Aggregated;
 use crate::any_chain::AnyChain;
@@ -53,20 +53,22 @@ fn verdict<C: Compress>(
     ensures { result ≡ verdict C.image signature.now hash.now publications.now }
 {
     let chains = signature.chains.as_slice();
-    match check::<C, AggregationChain>(
-        chains,
-        &calendar_part(&signature.calendar),
-        &record_part(&signature.publication),
-        hash,
-        publications,
-    ) {
+    let calendar = calendar_part(&signature.calendar);
+    let record = record_part(&signature.publication);
+    verdict_of(check::<C, AggregationChain>(chains, &calendar, &record, hash, publications))
+}
+
+pub(crate) fn verdict_of(checked: Result<u64, Refusal>) -> Verdict
+    ensures { result ≡ or_refused checked }
+{
+    match checked {
         Ok(second) => Verdict::Accepted(second),
         Err(refusal) => Verdict::Refused(refusal),
     }
 }
 
 /// The checks V1 to V14 in their order, whoever owns the parts.
-fn check<C: Compress, T: AnyChain>(
+pub(crate) fn check<C: Compress, T: AnyChain>(
     chains: &[T],
     calendar: &Option<CalendarPart<'_>>,
     published: &Option<RecordPart>,

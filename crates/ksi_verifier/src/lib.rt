@@ -24,6 +24,8 @@
 
 mod aggregated;
 mod any_chain;
+mod bytes_checking;
+mod bytes_verdict;
 mod calendar;
 mod chains;
 mod checking;
@@ -31,6 +33,8 @@ mod difference;
 mod index;
 pub mod laws;
 mod lent;
+mod lent_chain;
+mod lent_checking;
 mod owned;
 mod publication;
 mod refusal;
@@ -38,9 +42,11 @@ mod verdict;
 
 pub use aggregated::Aggregated;
 pub use any_chain::AnyChain;
+pub use bytes_checking::verify_bytes;
+pub use bytes_verdict::BytesVerdict;
 pub use checking::{aggregate, verify};
 pub use difference::RecordDifference;
 pub use lent::{CalendarPart, RecordPart};
-pub use owned::calendar_part;
+pub use lent_checking::{lent_calendar, verify_view};
 pub use refusal::Refusal;
 pub use verdict::Verdict;
