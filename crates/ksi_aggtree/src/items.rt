@@ -1,4 +1,4 @@
-ghost use Rattle.std.specs.Prelude.{◌≡◌, length};
+ghost use Rattle.std.specs.Prelude.{◌≡◌, ◌∷◌, []};
 
 use crate::item::Item;
 use std::marker::Model;
@@ -28,6 +28,15 @@ impl Model for Items {
 }
 
 impl Items {
+    /// One item.
+    pub fn one(item: Item) -> Self
+        ensures { result ≡ item ∷ [] }
+    {
+        Items {
+            kept: KeptItems::One([item]),
+        }
+    }
+
     /// The items of a `Vec`, of which one alone is copied.
     pub fn from_vec(vec: Vec<Item>) -> Self
         ensures { result ≡ vec.items }

@@ -3,7 +3,7 @@ ghost use Rattle.std.specs.Prelude.{◌≡◌, ◌<◌, ◌++◌, ◌∷◌, [],
 use ksi_imprint::NoMemory;
 
 /// Makes room for one more, and for no other where it is the first: most rounds of a small history have one item.
-pub(crate) fn make_room<T>(vec: &mut Vec<T>) -> Result<(), NoMemory>
+pub(crate) fn reserve_one<T>(vec: &mut Vec<T>) -> Result<(), NoMemory>
     ensures items { vec.new.items ≡ vec.old.items }
     ensures room { OnOk result (vec_len vec.new < vec_capacity vec.new) }
 {
