@@ -1,15 +1,13 @@
 -- What is answered where a signature is given another calendar chain.
-use Rattle.std.proofs.Common.{◌≡◌, ◌⊎◌, ℕ, ◌-◌, ◌<◌, ◌≤◌, Bool, true, false, cond, ltb, List, [], ◌∷◌, ◌++◌, length, map, Option, Some, Result, Ok, Err, refl, sym, ap, ◌∙◌, inl, inr, arith}
+use Rattle.std.proofs.Common.{◌≡◌, ◌⊎◌, ℕ, ◌<◌, ◌≤◌, Bool, true, false, cond, ltb, List, [], ◌∷◌, ◌++◌, length, map, Option, Some, Result, Ok, Err, refl, sym, ap, ◌∙◌, inl, inr, arith}
 use Rattle.std.specs.Prelude.{◌↔◌}
 use Rattle.std.proofs.lemmas.Bool.{ltb-true}
 use Rattle.std.proofs.lemmas.List.{append-nil, length-append}
 use Rattle.ksi_imprint.specs.declared.refused.Refused.{Refused}
 use Rattle.ksi_imprint.specs.declared.refused.Refused.TheVariants.{Fault, NoMemory}
-use Rattle.ksi_tlv.specs.Spelling.{Tlv, plain, canonical}
-use Rattle.ksi_tlv.specs.Front.{element_at}
-use Rattle.ksi_tlv.specs.Walking.{PlacedTlv, elements}
+use Rattle.ksi_tlv.specs.Spelling.{plain, canonical}
+use Rattle.ksi_tlv.specs.Walking.{PlacedTlv}
 use Rattle.ksi_tlv.specs.Writing.{texts}
-use Rattle.ksi_grammar.specs.Inside.{whole}
 use Rattle.ksi_grammar.specs.Published.{published_elements}
 use Rattle.ksi_signature.specs.declared.fault.SignatureFault.{SignatureFault}
 use Rattle.ksi_signature.specs.declared.refusal.WriteRefusal.{WriteRefusal}
@@ -17,11 +15,10 @@ use Rattle.ksi_signature.specs.declared.refusal.WriteRefusal.TheVariants as unwr
 use Rattle.ksi_signature.specs.declared.extension.WithRefusal.{WithRefusal}
 use Rattle.ksi_signature.specs.declared.extension.WithRefusal.TheVariants as refusals
 use Rattle.ksi_signature.specs.Values.{Calendar, Publishing}
-use Rattle.ksi_signature.specs.File.{Answer}
 use Rattle.ksi_signature.specs.Renewed.{too_long}
 use Rattle.ksi_signature.specs.Lengths.{capped}
 use Rattle.ksi_signature.specs.Written.{publishing_elements, first_long, TellsLong}
-use Rattle.ksi_signature.specs.Reading.{held_by, elements_in}
+use Rattle.ksi_signature.specs.Reading.{elements_in}
 use Rattle.ksi_signature.specs.Extended.{content_with, extended_content, IsTooLong}
 use Rattle.ksi_signature.proofs.Capped.{size-canonical, length-joined}
 
