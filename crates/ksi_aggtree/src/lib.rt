@@ -18,7 +18,7 @@
 //! let first = round.add(Item { imprint, level: 0 })?;
 //! round.add(other)?;
 //! let links = round.path(first)?;
-//! assert_eq!(climb::<Sha>(imprint, 0, links.as_slice()).ok(), round.root());
+//! assert_eq!(climb::<Sha, Link>(imprint, 0, links.as_slice()).ok(), round.root());
 //! ```
 #![tactic(auto)]
 
