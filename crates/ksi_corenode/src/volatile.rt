@@ -1,4 +1,4 @@
-ghost use Rattle.std.specs.Prelude.{◌≡◌, ◌<◌, ◌≤◌, ◌++◌, ◌∷◌, [], IfOk, OnErr, vec_len, vec_capacity, unwrap_or};
+ghost use Rattle.std.specs.Prelude.{◌≡◌, ◌<◌, ◌≤◌, ◌++◌, ◌∷◌, [], IsTrue, IfOk, OnErr, vec_len, vec_capacity, unwrap_or};
 ghost use Rattle.ksi_aggtree.specs.Rounds.{IsRound, highest_item};
 ghost use Rattle.ksi_aggtree.specs.Entries.{items_of, candidate_of};
 ghost use Rattle.ksi_corenode.specs.Rows.{taken};
@@ -15,12 +15,12 @@ use std::marker::Model;
 #[derive(Drop)]
 pub(crate) struct VolatileSecond<C: Compress> {
     hand: Option<InHand>,
-    tree: Option<Entries<C>>,
+    tree: Option<Box<Entries<C>>>,
     items: Vec<Entry>,
 }
 
 impl<C: Compress> Model for VolatileSecond<C> {
-    ghost use Rattle.std.specs.Prelude.{◌≡◌, [], unwrap_or};
+    ghost use Rattle.std.specs.Prelude.{◌≡◌, [], option_map, unwrap_or};
     ghost use Rattle.ksi_aggtree.specs.Rounds.{IsRound};
     ghost use Rattle.ksi_aggtree.specs.Entries.{items_of};
     ghost use Rattle.ksi_corenode.specs.Stored.{VolatileState};
@@ -29,7 +29,7 @@ impl<C: Compress> Model for VolatileSecond<C> {
 
     ghost view = { λ v. record { hand = v.hand; open_items = v.items.items } };
 
-    ghost invariant = { λ v. (unwrap_or v.tree [] ≡ v.items.items) × IsRound (items_of v.items.items) };
+    ghost invariant = { λ v. (unwrap_or (option_map (λ tree. tree.value) v.tree) [] ≡ v.items.items) × IsRound (items_of v.items.items) };
 }
 
 impl<C: Compress> VolatileSecond<C> {
@@ -42,6 +42,13 @@ impl<C: Compress> VolatileSecond<C> {
             tree: None,
             items: Vec::new(alloc),
         }
+    }
+
+    /// Whether there is neither a ballot in hand nor an open item.
+    pub fn is_idle(&self) -> bool
+        ensures { IsTrue result → self.now ≡ fresh_volatile }
+    {
+        self.hand.is_none() && self.items.is_empty()
     }
 
     /// The ballot in hand.
@@ -94,7 +101,7 @@ impl<C: Compress> VolatileSecond<C> {
         match &mut self.tree {
             Some(tree) => take(tree, &mut self.items, aggregator, item),
             None => {
-                let mut tree = Entries::new(alloc)?;
+                let mut tree = Box::new(alloc, Entries::new(alloc)?)?;
                 let answer = take(&mut tree, &mut self.items, aggregator, item)?;
                 self.tree = Some(tree);
                 Ok(answer)

@@ -88,8 +88,23 @@ pub(crate) fn move_items<C: Compress>(
             items.extend_from_slice(volatile.items())?;
             let candidate = volatile.candidate();
             volatile.clear(alloc);
+            drop_idle(volatiles, second);
             Ok(candidate)
         }
         None => Ok(Imprint::ZERO),
+    }
+}
+
+/// Drops the part of a second that has neither a ballot in hand nor an open item, which changes nothing that is seen.
+#[tactic(auto, unfolding(crate::specs::Stored::volatile_at))]
+fn drop_idle<C: Compress>(volatiles: &mut BTreeMap<u64, VolatileSecond<C>>, second: u64)
+    ensures { (t : ℕ) → volatile_at volatiles.new.entries t ≡ volatile_at volatiles.old.entries t }
+{
+    let idle = match volatiles.get(&second) {
+        Some(volatile) => volatile.is_idle(),
+        None => false,
+    };
+    if idle {
+        volatiles.remove(&second);
     }
 }

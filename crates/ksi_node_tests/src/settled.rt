@@ -54,7 +54,7 @@ struct Plain {
     sealed: Option<usize>,
 }
 
-fn plain(me: u8, members: u8) -> Plain
+fn nothing_came(me: u8, members: u8) -> Plain
     requires mine { me < members }
     requires few { members ≤ 9 }
 {
@@ -236,14 +236,12 @@ fn alike(rt: &impl Abort, core: &Core<Sha>, plain: &Plain, t: u64) {
 
 /// How many of the seconds from the first on are held, up to the first that is not.
 fn held_first(plains: &[Plain]) -> u64 {
-    let mut count = 0;
-    for plain in plains {
+    for (k, plain) in plains.iter().enumerate() {
         if plain.vote.held().is_none() {
-            return count;
+            return k as u64;
         }
-        count += 1;
     }
-    count
+    plains.len() as u64
 }
 
 fn restarts(core: &mut Core<Sha>, plains: &mut [Plain]) {
@@ -279,11 +277,11 @@ fn a_thousand_events_of_a_core_and_a_plain_one(rt: HostRuntime) {
     let alloc = rt.alloc();
     let mut core = Core::<Sha>::new(alloc, 0, 3, T);
     let mut plains = [
-        plain(0, 3),
-        plain(0, 3),
-        plain(0, 3),
-        plain(0, 3),
-        plain(0, 3),
+        nothing_came(0, 3),
+        nothing_came(0, 3),
+        nothing_came(0, 3),
+        nothing_came(0, 3),
+        nothing_came(0, 3),
     ];
     let mut n: u64 = 26;
     for _ in 0..1000 {
