@@ -22,6 +22,11 @@ abbrev pub if_signature : Result Signature SignatureFault → Option Signature
 if_signature (Ok signature) = Some signature
 if_signature (Err fault) = None
 
+-- of bytes, if there are any
+abbrev pub if_text : Option (List ℕ) → Option Signature
+if_text None = None
+if_text (Some bytes) = if_signature (signature_at bytes)
+
 abbrev pub if_extended : Result (List ℕ) ExtendRefusal → Option Signature
 if_extended (Ok bytes) = if_signature (signature_at bytes)
 if_extended (Err refusal) = None

@@ -1,18 +1,19 @@
 // One issued signature is put to the test.
-ghost use Rattle.std.specs.Prelude.{◌≡◌, ◌<◌, ◌^◌, None, Some, IfOk};
+ghost use Rattle.std.specs.Prelude.{◌≡◌, ◌<◌, ◌^◌, None, Some, IfOk, option_map};
 ghost use Rattle.ksi_imprint.specs.Imprints.{imprint_of};
 ghost use Rattle.ksi_signature.specs.Reading.{signature_at};
+ghost use Rattle.ksi_signature.specs.Seen.{seen};
 ghost use Rattle.ksi_drill.specs.Covered.{published};
-ghost use Rattle.ksi_drill.specs.Trials.{extension, if_signature, is_accepted, is_beneath, is_inside, judged, trial};
+ghost use Rattle.ksi_drill.specs.Trials.{extension, if_signature, if_text, is_accepted, is_beneath, is_inside, judged, trial};
 
 use crate::trial::Trial;
-use ksi_auditor::{Audit, audit};
+use ksi_auditor::{Audit, audit_view};
 use ksi_extender::extend;
 use ksi_imprint::{Bytes, Imprint, NoMemory, Refused, Sha};
 use ksi_journal::Journal;
 use ksi_publications::Publications;
-use ksi_signature::{Signature, read, signature_is_read};
-use ksi_verifier::{Verdict, verify};
+use ksi_signature::{SignatureView, signature_is_read, view};
+use ksi_verifier::{Verdict, verify_view};
 use ksi_world::Asked;
 use std::alloc::Global;
 
@@ -31,39 +32,49 @@ pub(crate) fn trial(
     requires root { publications.now ≡ published imprint_of journal.now p }
     ensures { IfOk result (λ found. found ≡ trial imprint_of requests.now journal.now p issued.now) }
 {
-    let extension = extension(alloc, journal, &issued.1, p)?;
+    let text = extension(alloc, journal, &issued.1, p)?;
+    let signature = viewed(&text);
     match requests.get(issued.0 as usize) {
-        Some(asked) => judged(alloc, journal, p, publications, &asked.imprint, &extension),
+        Some(asked) => judged(alloc, journal, p, publications, &asked.imprint, &signature),
         None => Ok(Trial::SILENT),
     }
 }
 
-/// The signature extended to `p`, as it is read.
+/// The bytes of the signature extended to `p`.
 fn extension(
     alloc: Global,
     journal: &Journal<Sha>,
     bytes: &Bytes,
     p: u64,
-) -> Result<Option<Signature>, NoMemory>
+) -> Result<Option<Bytes>, NoMemory>
     requires { p < 2 ^ 63 }
-    ensures { IfOk result (λ found. found ≡ extension imprint_of journal.now bytes.now p) }
+    ensures { IfOk result (λ found. if_text found ≡ extension imprint_of journal.now bytes.now p) }
 {
     match extend::<Sha>(alloc, journal, bytes.as_slice(), p) {
-        Ok(text) => if_signature(alloc, text.as_slice()),
+        Ok(text) => Ok(Some(text)),
         Err(Refused::Fault(_)) => Ok(None),
         Err(Refused::NoMemory) => Err(NoMemory),
     }
 }
 
-/// The signature that bytes are.
-fn if_signature(alloc: Global, bytes: &[u8]) -> Result<Option<Signature>, NoMemory>
-    ensures { IfOk result (λ found. found ≡ if_signature (signature_at bytes.now)) }
+/// The signature of these bytes, lent from them.
+fn viewed(text: &Option<Bytes>) -> Option<SignatureView<'_>>
+    ensures { option_map seen result ≡ if_text text.now }
+{
+    match text {
+        Some(text) => if_signature(text.as_slice()),
+        None => None,
+    }
+}
+
+/// The signature that bytes are, lent from them.
+fn if_signature(bytes: &[u8]) -> Option<SignatureView<'_>>
+    ensures { option_map seen result ≡ if_signature (signature_at bytes.now) }
 {
     signature_is_read();
-    match read(alloc, bytes) {
-        Ok(signature) => Ok(Some(signature)),
-        Err(Refused::Fault(_)) => Ok(None),
-        Err(Refused::NoMemory) => Err(NoMemory),
+    match view(bytes) {
+        Ok(signature) => Some(signature),
+        Err(_) => None,
     }
 }
 
@@ -74,17 +85,17 @@ fn judged(
     p: u64,
     publications: &Publications,
     hash: &Imprint,
-    extension: &Option<Signature>,
+    signature: &Option<SignatureView<'_>>,
 ) -> Result<Trial, NoMemory>
     requires { publications.now ≡ published imprint_of journal.now p }
-    ensures { IfOk result (λ found. found ≡ judged imprint_of journal.now p hash.now extension.now) }
+    ensures { IfOk result (λ found. found ≡ judged imprint_of journal.now p hash.now (option_map seen signature.now)) }
 {
-    let signature = match extension {
+    let signature = match signature {
         Some(signature) => signature,
         None => return Ok(Trial::SILENT),
     };
-    let accepted = is_accepted(&verify::<Sha>(signature, hash, publications));
-    let answer = audit::<Sha>(alloc, journal, signature, hash, publications)?;
+    let accepted = is_accepted(&verify_view::<Sha>(signature, hash, publications));
+    let answer = audit_view::<Sha>(alloc, journal, signature, hash, publications)?;
     Ok(Trial {
         accepted,
         inside: is_inside(&answer),

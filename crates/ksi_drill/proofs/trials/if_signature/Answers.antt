@@ -4,8 +4,7 @@ use Rattle.ksi_drill.specs.Trials.{if_signature}
 use Rattle.ksi_drill.proofs.trials.if_signature.Goals as goal
 
 -- a fault is what is read
-pub returns-in-Err-Fault : goal.returns-in-Err-Fault
-returns-in-Err-Fault c =
+pub returns-in-Err : goal.returns-in-Err
+returns-in-Err c =
     let fits = All-from_get_or (λ b. b < 256) c.args.bytes.now 0 (λ i lt. omega (arith, c.type_inv.bytes i)) in
-    let told = rw c.in-Err-Fault.field-0-is at c.in-Err-Fault.ensures in
-    sym (ap if_signature ((c.signature_is_read.ensures.fault c.args.bytes.now c.in-Err-Fault.field-0-0 fits).1 told.refused))
+    sym (ap if_signature ((c.signature_is_read.ensures.fault c.args.bytes.now c.in-Err.field-0 fits).1 ((c.view.ensures.fault c.in-Err.field-0).0 c.in-Err.is)))
