@@ -128,8 +128,7 @@ fn take<C: Compress>(
     requires level { item.now.level ≤ highest_item }
     requires same { tree.old ≡ items.old.items }
     requires round { IsRound (items_of items.old.items) }
-    ensures after { IfOk result (λ answer. items.new.items ≡ (taken aggregator item.now items.old.items).0) }
-    ensures answer { IfOk result (λ answer. answer ≡ (taken aggregator item.now items.old.items).1) }
+    ensures taken { IfOk result (λ answer. (items.new.items, answer) ≡ taken aggregator item.now items.old.items) }
     ensures unchanged { OnErr result (items.new.items ≡ items.old.items) }
     ensures same { tree.new ≡ items.new.items }
     ensures round { IsRound (items_of items.new.items) }
