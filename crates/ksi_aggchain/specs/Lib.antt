@@ -1,4 +1,5 @@
 pub mod Links
 pub mod Owned
+pub mod Lent
 pub mod Climbing
 pub mod Shapes

@@ -1,12 +1,10 @@
 ghost use Rattle.std.specs.Prelude.{◌≡◌, ◌≤◌, ◌<◌, ◌+◌, ◌↔◌, ℕ, map};
 ghost use Rattle.ksi_aggchain.specs.Links.{side_text};
-ghost use Rattle.ksi_aggchain.specs.Owned.{plain_links};
 ghost use Rattle.ksi_aggchain.specs.Climbing.{Climbs, PassesLevels, climbed};
 ghost use Rattle.ksi_aggchain.specs.declared.climbing.LevelFault.TheVariants.{Over};
 ghost use Rattle.ksi_aggchain.specs.declared.node.Node.{Node};
 
-use crate::any_link::AnyLink;
-use crate::link::Link;
+use crate::chain_link::ChainLink;
 use crate::node::{HIGHEST_LEVEL, Node};
 use ksi_imprint::{Compress, Imprint};
 use ksi_split::Side;
@@ -18,23 +16,11 @@ pub enum LevelFault {
     Over { link: usize, level: u16 },
 }
 
-/// The item that links lead to, the lowest first, from an imprint at a level.
+/// The item that links lead to, the lowest first, from an imprint at a level, whoever owns the siblings.
 ///
 /// # Errors
 /// `Over` with the first link whose level passes 255.
-pub fn climb<C: Compress>(start: Imprint, level: u8, links: &[Link]) -> Result<Node, LevelFault>
-    ensures climbs { (item : Node) → (result ≡ Ok item) ↔
-        Climbs C.image (record { imprint = start; level = level }) (plain_links links.now) item }
-    ensures over { (place high : ℕ) → (result ≡ Err (Over place high)) ↔
-        PassesLevels level (plain_links links.now) place high }
-    ensures value { result ≡
-        climbed C.image 0 (record { imprint = start; level = level }) (plain_links links.now) }
-{
-    climb_along::<C, Link>(start, level, links)
-}
-
-/// The same along links of any owner.
-pub(crate) fn climb_along<C: Compress, L: AnyLink>(
+pub fn climb<C: Compress, L: ChainLink>(
     start: Imprint,
     level: u8,
     links: &[L],

@@ -9,21 +9,24 @@
 //!
 //! ```text
 //! let links = [Link { side: Side::Left, correction: 0, sibling: Sibling::Imprint(sibling) }];
-//! let item = climb::<Sha>(input, 0, &links)?;
+//! let item = climb::<Sha, Link>(input, 0, &links)?;
 //! assert_eq!(item.imprint, Sha::join(input.bytes(), sibling.bytes(), 1));
 //! assert_eq!(item.level, 1);
 //! assert_eq!(shape(&links), 3);
 //! ```
 #![tactic(auto)]
 
-mod any_link;
+mod chain_link;
 mod climbing;
 pub mod laws;
 mod link;
+mod link_view;
 mod node;
 mod shapes;
 
+pub use chain_link::ChainLink;
 pub use climbing::{LevelFault, climb};
 pub use link::{Link, Sibling};
+pub use link_view::LinkView;
 pub use node::{HIGHEST_LEVEL, Node};
 pub use shapes::shape;

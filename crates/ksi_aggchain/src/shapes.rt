@@ -1,21 +1,11 @@
 ghost use Rattle.std.specs.Prelude.{◌≡◌, ◌≤◌, ◌<◌, ◌+◌, ◌^◌, map, length};
 ghost use Rattle.ksi_aggchain.specs.Shapes.{IsShape, shape_of};
 
-use crate::any_link::AnyLink;
-use crate::link::Link;
+use crate::chain_link::ChainLink;
 use ksi_split::Side;
 
 /// The links' sides as bits, the lowest link's lowest: 1 for a left link, and a leading one above them all.
-pub fn shape(links: &[Link]) -> u64
-    requires { length links.now ≤ 63 }
-    ensures shape { IsShape (map (λ link. link.side) links.now) result }
-    ensures value { result ≡ shape_of (map (λ link. link.side) links.now) }
-{
-    shape_along(links)
-}
-
-/// The same of links of any owner.
-pub(crate) fn shape_along<L: AnyLink>(links: &[L]) -> u64
+pub fn shape<L: ChainLink>(links: &[L]) -> u64
     requires { length links.now ≤ 63 }
     ensures shape { IsShape (map (λ link. (L.plain link).side) links.now) result }
     ensures value { result ≡ shape_of (map (λ link. (L.plain link).side) links.now) }

@@ -4,3 +4,4 @@ pub mod Climbing
 pub mod Chains
 pub mod Beside
 pub mod Halves
+pub mod Lent

@@ -1,5 +1,5 @@
 -- The items of a round, the leaves that they make, and the tree over these.
-use Rattle.std.specs.Prelude.{◌≡◌, ℕ, zero, suc, ◌+◌, ◌≤◌, List, length, map, max, min, slice_index_or, Option, None, Some}
+use Rattle.std.specs.Prelude.{◌≡◌, ℕ, zero, suc, ◌+◌, ◌≤◌, List, [], ◌∷◌, length, map, max, min, slice_index_or, Option, None, Some}
 use Rattle.ksi_imprint.specs.Imprints.{join_text, zero_imprint}
 use Rattle.ksi_split.specs.Trees.{tree, path_of, node_at}
 use Rattle.ksi_split.specs.declared.side.Side.{Side}
@@ -44,6 +44,11 @@ tree_from image items lo n = tree (aggregation_join image) (leaf_of_place items)
 -- the tree of all items
 abbrev pub tree_of : (List ℕ → List ℕ) → List Item → Node
 tree_of image items = tree_from image items 0 (length items)
+
+-- the items of a tree, where there is one
+abbrev pub some_items : List Item → Option (List Item)
+some_items [] = None
+some_items (item ∷ others) = Some (item ∷ others)
 
 -- the root of the tree, where there is an item
 abbrev pub root_from : ℕ → Node → Option Node

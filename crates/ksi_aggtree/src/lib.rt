@@ -7,8 +7,9 @@
 //! An [`Item`] is what is submitted and kept; its leaf is the node that stands for it in a tree, and what chains climb
 //! from. The layer above may rely on this: `root` is the tree of the items; the links of `path` climb from an item's leaf
 //! to it along the item's way; `node` is the tree of the part that sides lead to. Only `add` and the paths take memory,
-//! and after a refused `add` all is as it was. `root_over`, `node_over` and `root_with` are the same over a slice of
-//! items; they take no memory, and compute each node from its leaves. A path takes at most 32 steps, each the read of
+//! and after a refused `add` all is as it was. A [`Tree`] is the same over lent
+//! items, and `root_with` the root over a slice and one item more; they take no memory, and compute each node from its
+//! leaves. A path takes at most 32 steps, each the read of
 //! one stored node, and one step at least for the item and for each link. [`Entries`] is a round that also keeps where
 //! each item came from, a request or an aggregator. What holds of the definitions is in `laws`.
 //!
@@ -17,7 +18,7 @@
 //! let first = round.add(Item { imprint, level: 0 })?;
 //! round.add(other)?;
 //! let links = round.path(first)?;
-//! assert_eq!(climb::<Sha>(imprint, 0, links.as_slice()).ok(), round.root());
+//! assert_eq!(climb::<Sha, Link>(imprint, 0, links.as_slice()).ok(), round.root());
 //! ```
 #![tactic(auto)]
 
@@ -33,6 +34,7 @@ mod paths;
 mod room;
 mod second;
 mod senders;
+mod tree;
 
 pub use builder::{AddRefusal, Builder};
 pub use entries::{Entries, Entry, Origin};
@@ -40,6 +42,7 @@ pub use item::{HIGHEST_ITEM, Item, MOST_ITEMS};
 pub use item_path::ItemPath;
 pub use items::Items;
 pub use ksi_split::Steps;
-pub use over::{node_over, root_over, root_with};
+pub use over::{node_over, root_with};
 pub use paths::RoundPaths;
 pub use second::Second;
+pub use tree::Tree;

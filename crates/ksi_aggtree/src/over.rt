@@ -1,4 +1,4 @@
-//! Trees over a slice of items, which take no memory: each node is computed from its leaves.
+//! Trees over a slice of items and a last one behind it, which take no memory: each node is computed from its leaves.
 ghost use Rattle.std.specs.Prelude.{◌≡◌, ◌<◌, ◌≤◌, ◌+◌, ◌-◌, ◌^◌, ◌++◌, ◌∷◌, [], ℕ, length, IfSome};
 ghost use Rattle.ksi_split.specs.Powers.{IsSplit, split_of};
 ghost use Rattle.ksi_split.specs.Parts.{part_at};
@@ -10,15 +10,6 @@ use crate::laws::one_round;
 use ksi_aggchain::Node;
 use ksi_imprint::Compress;
 use ksi_split::{Side, split};
-
-/// The tree of the items, none where there is no item.
-pub fn root_over<C: Compress>(items: &[Item]) -> Option<Node>
-    requires { IsRound items.now }
-    ensures { result ≡ root_of C.image items.now }
-{
-    let (last, others) = items.split_last()?;
-    Some(root_with::<C>(others, last))
-}
 
 /// The node of the tree of the items that sides from the top lead to, none where there is no item or they go past a leaf.
 pub fn node_over<C: Compress>(items: &[Item], sides: &[Side]) -> Option<Node>
@@ -40,7 +31,7 @@ pub fn root_with<C: Compress>(items: &[Item], last: &Item) -> Node
 }
 
 /// The node of this tree that sides from the top lead to, none where they go past a leaf.
-fn node_with<C: Compress>(items: &[Item], last: &Item, sides: &[Side]) -> Option<Node>
+pub(crate) fn node_with<C: Compress>(items: &[Item], last: &Item, sides: &[Side]) -> Option<Node>
     requires few { length items.now < most_items }
     requires low { (k : ℕ) → (item_at items.now k).level ≤ highest_item }
     requires last { last.now.level ≤ highest_item }

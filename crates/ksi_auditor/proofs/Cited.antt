@@ -1,6 +1,7 @@
 -- What the crates below say, for the proof that an answer shows what it says.
-use Rattle.std.proofs.Common.{◌≡◌, ◌↔◌, ℕ, ◌+◌, ◌-◌, ◌<◌, ◌≤◌, List, length, Ok, None}
+use Rattle.std.proofs.Common.{◌≡◌, ◌↔◌, ℕ, ◌+◌, ◌-◌, ◌<◌, ◌≤◌, List, length, Ok, Option, Some, None}
 use Rattle.std.specs.Prelude.{IsTrue, IsSome}
+use Rattle.ksi_imprint.specs.Imprints.{IsClash}
 use Rattle.ksi_split.specs.declared.side.Side.{Side}
 use Rattle.ksi_split.specs.declared.tree_link.TreeLink.{TreeLink}
 use Rattle.ksi_split.specs.Powers.{IsSplit, split_of}
@@ -12,6 +13,8 @@ use Rattle.ksi_aggchain.specs.Climbing.{Climbs, climbed}
 use Rattle.ksi_aggchain.specs.declared.node.Node.{Node}
 use Rattle.ksi_aggtree.specs.declared.item.Item.{Item}
 use Rattle.ksi_aggtree.specs.Rounds.{aggregation_join, leaf, item_at, tree_from}
+use Rattle.ksi_beside.specs.Beside.{Rung, Pair, pairs_below, differing}
+use Rattle.ksi_beside.specs.Standing.{Holds, IsTree, Walked, whole}
 use Rattle.ksi_calchain.specs.Climbing.{ClimbsCalendar, calendar_join}
 use Rattle.ksi_calendar.specs.Calendar.{Seconds, calendar_leaf, calendar_tree, calendar_root, is_covered}
 use Rattle.ksi_calendar.specs.Covered.{Roots, IsCovered, first_missing, covered_root, second_leaf}
@@ -41,3 +44,7 @@ pub record Laws : Type 0 where
   pub within : (image : List ℕ → List ℕ) (journal : Contents) (p : ℕ) → IsJournal image journal → ((journal.start ≤ p) × (p < journal.start + length (calendar_of journal).roots)) ↔ IsCovered (root_at journal) journal.start p
   pub root : (image : List ℕ → List ℕ) (journal : Contents) (p : ℕ) → IsJournal image journal → IsCovered (root_at journal) journal.start p → calendar_root image (calendar_of journal) p ≡ covered_root image (root_at journal) journal.start p
   pub none : (roots : Roots) (start last : ℕ) → (first_missing roots start last ≡ None) ↔ ((t : ℕ) → start ≤ t → t ≤ last → IsSome (roots t))
+  pub clash : (image : List ℕ → List ℕ) (kept : List Side → Option (List ℕ)) (count : ℕ) (node : Part → List ℕ) (level : Part → ℕ) (rungs : List Rung) (above : List Side) (part : Part) (x : List ℕ) (pair : Pair) → IsTree image kept count node level → part_at 0 (whole count) above ≡ Ok part → 0 < part.count
+      → Holds image x (node part) rungs → differing (pairs_below kept above rungs) ≡ Some pair → IsClash image (record { one = pair.0; two = pair.1 })
+  pub beside : (image : List ℕ → List ℕ) (kept : List Side → Option (List ℕ)) (count : ℕ) (node : Part → List ℕ) (level : Part → ℕ) (rungs : List Rung) (above : List Side) (part : Part) (x : List ℕ) → IsTree image kept count node level → part_at 0 (whole count) above ≡ Ok part → 0 < part.count
+      → Holds image x (node part) rungs → differing (pairs_below kept above rungs) ≡ None → Walked image kept count node above x rungs

@@ -1,11 +1,9 @@
 pub mod Cases
-pub mod Strings
-pub mod Bits
 pub mod Climbs
-pub mod Going
+pub mod Chaining
+pub mod Lent
 pub mod Parts
 pub mod Rounds
-pub mod Walking
 pub mod Rungs
 pub mod Cited
 pub mod Keeping

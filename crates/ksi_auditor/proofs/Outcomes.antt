@@ -1,118 +1,86 @@
--- What the walk along links comes to, by the pairs of strings.
-use Rattle.std.proofs.Common.{◌≡◌, ℕ, suc, ◌-◌, ◌<◌, ◌≤◌, List, [], ◌∷◌, ◌++◌, map, take, length, Option, Some, None, refl, sym, ap, ◌∙◌, arith, inl, inr, ◌⊎◌, append_assoc, append-nil}
-use Rattle.std.proofs.lemmas.List.{length-take-le, length-map}
+-- What the walk comes to is what the definition says.
+use Rattle.std.proofs.Common.{◌≡◌, ◌≢◌, ℕ, zero, suc, ◌-◌, ◌<◌, ◌≤◌, List, [], ◌∷◌, ◌++◌, map, take, length, Option, Some, None, refl, sym, ap, subst, ◌∙◌, arith, inl, inr}
+use Rattle.std.proofs.lemmas.List.{length-map, length-take-le}
 use Rattle.ksi_imprint.specs.declared.clash.Clash.{Clash}
 use Rattle.ksi_split.specs.declared.side.Side.{Side}
 use Rattle.ksi_aggchain.specs.Links.{PlainLink}
 use Rattle.ksi_aggtree.specs.declared.item.Item.{Item}
+use Rattle.ksi_beside.specs.Beside.{Rung, rung_side, rung_text, rungs_from, Pair, pairs_below, pair_before, differing, ended, laid_from, IsApart, clash_in}
+use Rattle.ksi_beside.specs.declared.walk.Walk.{Walk}
+use Rattle.ksi_beside.specs.declared.walk.Walk.TheVariants.{Apart, At, Past}
 use Rattle.ksi_verifier.specs.Chains.{at_level_zero}
-use Rattle.ksi_auditor.specs.Beside.{Rung, rung_side, rung_text, rungs_from, Pair, pairs_below, differing}
 use Rattle.ksi_auditor.specs.Kept.{items_text}
-use Rattle.ksi_auditor.specs.Walks.{go, clash_in}
 use Rattle.ksi_auditor.specs.Audit.{sides_of, item_pairs, item_named, ends, found, compared}
-use Rattle.ksi_auditor.specs.declared.walk.Walk.{Walk}
-use Rattle.ksi_auditor.specs.declared.walk.Walk.TheVariants.{Apart, At, Past}
+use Rattle.ksi_auditor.specs.Shown.{HasClash}
 use Rattle.ksi_auditor.specs.declared.answer.Audit.TheVariants as answers
-use Rattle.ksi_auditor.proofs.Cases.{eq_cases}
-use Rattle.ksi_auditor.proofs.Strings.{same_cases}
+use Rattle.ksi_auditor.proofs.Cases.{eq_cases, same_cases}
 use Rattle.ksi_auditor.proofs.Rungs.{aggregation_sides, rungs_count}
 
 abbrev pub pair_of : Clash → Pair
 pair_of clash = (clash.one, clash.two)
 
-module _ (text : List Side → Option (List ℕ)) where
-  go_apart : (clash : Clash) (rungs : List Rung) → go text (Apart clash) rungs ≡ Apart clash
-  go_apart clash [] = refl
-  go_apart clash (rung ∷ rungs) = go_apart clash rungs
+-- ---- how links ended
 
-  go_past : (sides : List Side) (rungs : List Rung) → go text (Past sides) rungs ≡ Past sides
-  go_past sides [] = refl
-  go_past sides (rung ∷ rungs) = go_past sides rungs
-
-  option_cases : (above : List Side) → (text above ≡ None) ⊎ ((kept : List ℕ) × (text above ≡ Some kept))
-  option_cases above = of (text above) refl
-    where
-      of : (found : Option (List ℕ)) → text above ≡ found → (text above ≡ None) ⊎ ((kept : List ℕ) × (text above ≡ Some kept))
-      of None e = inl e
-      of (Some kept) e = inr (kept, e)
-
-  pub apart_is : (above : List Side) (rungs : List Rung) (clash : Clash) → Apart clash ≡ go text (At above) rungs → differing (pairs_below text above rungs) ≡ Some (pair_of clash)
-  apart_is above [] clash e = absurd cc
-  apart_is above (rung ∷ rungs) clash e = elim (option_cases above) [
-    | inl none ↦ (let past = rw none at e in let over = past ∙ go_past above rungs in absurd cc)
-    | inr kept ↦ (let laid = rw kept.1 at e in
-        elim (same_cases (rung_text rung) kept.0) [
-          | inl same ↦ (let on = rw same.0 at laid in rw (kept.1, same.0) (apart_is (above ++ rung.side ∷ []) rungs clash on))
-          | inr other ↦ (let here = rw other.0 at laid in
-              let both = here ∙ go_apart (record { one = rung_text rung; two = kept.0 }) rungs in
-              let is : clash ≡ record { one = rung_text rung; two = kept.0 } = cc in
-              rw (kept.1, other.0) (ap (λ (c : Clash). Some (pair_of c)) (sym is)))
-        ])
+module _ (above : List Side) (rungs : List Rung) (passed : ℕ) where
+  ended_apart : (d : Option Pair) (clash : Clash) → Apart clash ≡ ended above rungs passed d → d ≡ Some (pair_of clash)
+  ended_apart (Some pair) clash e = let is : clash ≡ record { one = pair.0; two = pair.1 } = cc in ap (λ (c : Clash). Some (pair_of c)) (sym is)
+  ended_apart None clash e = elim (eq_cases passed (length rungs)) [
+    | inl same ↦ (let at = rw same.0 at e in absurd cc)
+    | inr other ↦ (let past = rw other.0 at e in absurd cc)
   ]
 
-  -- no pair differs, and so many links were passed
-  pub record Ended (above : List Side) (rungs : List Rung) (sides : List Side) : Type 0 where
-    pub none : differing (pairs_below text above rungs) ≡ None
-    pub is : sides ≡ above ++ take (length (pairs_below text above rungs)) (map rung_side rungs)
-
-  pub at_is : (above : List Side) (rungs : List Rung) (sides : List Side) → At sides ≡ go text (At above) rungs → Ended above rungs sides × (length (pairs_below text above rungs) ≡ length rungs)
-  at_is above [] sides e = let is : sides ≡ above = cc in (record { none = refl; is = is ∙ sym (append-nil above) }, refl)
-  at_is above (rung ∷ rungs) sides e = elim (option_cases above) [
-    | inl none ↦ (let past = rw none at e in let over = past ∙ go_past above rungs in absurd cc)
-    | inr kept ↦ (let laid = rw kept.1 at e in
-        elim (same_cases (rung_text rung) kept.0) [
-          | inl same ↦ (let on = rw same.0 at laid in
-              let rest = at_is (above ++ rung.side ∷ []) rungs sides on in
-              (record { none = rw (kept.1, same.0) rest.0.none; is = rw kept.1 (rest.0.is ∙ append_assoc above (rung.side ∷ []) _) }, rw kept.1 (ap suc rest.1)))
-          | inr other ↦ (let here = rw other.0 at laid in
-              let both = here ∙ go_apart (record { one = rung_text rung; two = kept.0 }) rungs in absurd cc)
-        ])
+  ended_at : (d : Option Pair) (sides : List Side) → At sides ≡ ended above rungs passed d → (d ≡ None) × (passed ≡ length rungs) × (sides ≡ above ++ map rung_side rungs)
+  ended_at (Some pair) sides e = absurd cc
+  ended_at None sides e = elim (eq_cases passed (length rungs)) [
+    | inl same ↦ (let at = rw same.0 at e in let is : sides ≡ above ++ map rung_side rungs = cc in (refl, same.1, is))
+    | inr other ↦ (let past = rw other.0 at e in absurd cc)
   ]
 
-  pub past_is : (above : List Side) (rungs : List Rung) (sides : List Side) → Past sides ≡ go text (At above) rungs → Ended above rungs sides × (length (pairs_below text above rungs) < length rungs)
-  past_is above [] sides e = absurd cc
-  past_is above (rung ∷ rungs) sides e = elim (option_cases above) [
-    | inl none ↦ (let past = rw none at e in
-        let over = past ∙ go_past above rungs in
-        let is : sides ≡ above = cc in
-        (record { none = rw none refl; is = rw none (is ∙ sym (append-nil above)) }, rw none (omega arith)))
-    | inr kept ↦ (let laid = rw kept.1 at e in
-        elim (same_cases (rung_text rung) kept.0) [
-          | inl same ↦ (let on = rw same.0 at laid in
-              let rest = past_is (above ++ rung.side ∷ []) rungs sides on in
-              let fewer = rest.1 in
-              (record { none = rw (kept.1, same.0) rest.0.none; is = rw kept.1 (rest.0.is ∙ append_assoc above (rung.side ∷ []) _) }, rw kept.1 (omega (arith, fewer))))
-          | inr other ↦ (let here = rw other.0 at laid in
-              let both = here ∙ go_apart (record { one = rung_text rung; two = kept.0 }) rungs in absurd cc)
-        ])
+  ended_past : (d : Option Pair) (sides : List Side) → Past sides ≡ ended above rungs passed d → (d ≡ None) × (passed ≢ length rungs) × (sides ≡ above ++ take passed (map rung_side rungs))
+  ended_past (Some pair) sides e = absurd cc
+  ended_past None sides e = elim (eq_cases passed (length rungs)) [
+    | inl same ↦ (let at = rw same.0 at e in absurd cc)
+    | inr other ↦ (let past = rw other.0 at e in let is : sides ≡ above ++ take passed (map rung_side rungs) = cc in (refl, other.1, is))
   ]
 
-  apart_none : (above : List Side) (rungs : List Rung) (walk : Walk) → walk ≡ go text (At above) rungs → None ≡ clash_in walk → differing (pairs_below text above rungs) ≡ None
-  apart_none above rungs (Apart clash) e is = absurd cc
-  apart_none above rungs (At sides) e is = (at_is above rungs sides e).0.none
-  apart_none above rungs (Past sides) e is = (past_is above rungs sides e).0.none
+  pub apart_differs : (d : Option Pair) → IsApart (ended above rungs passed d) → (pair : Pair) × (d ≡ Some pair)
+  apart_differs (Some pair) h = (pair, refl)
+  apart_differs None h = elim (eq_cases passed (length rungs)) [
+    | inl same ↦ (let at = rw same.0 at h in absurd at)
+    | inr other ↦ (let past = rw other.0 at h in absurd past)
+  ]
 
-  pub no_clash : (above : List Side) (rungs : List Rung) (walk : Walk) (found : Option Clash) → walk ≡ go text (At above) rungs → found ≡ clash_in walk → found ≡ None → differing (pairs_below text above rungs) ≡ None
-  no_clash above rungs walk found e is none = apart_none above rungs walk e (sym none ∙ is)
+  pub none_differs : (d : Option Pair) → None ≡ clash_in (ended above rungs passed d) → d ≡ None
+  none_differs (Some pair) e = absurd cc
+  none_differs None e = refl
 
-  apart_some : (above : List Side) (rungs : List Rung) (walk : Walk) (clash : Clash) → walk ≡ go text (At above) rungs → Some clash ≡ clash_in walk → differing (pairs_below text above rungs) ≡ Some (pair_of clash)
-  apart_some above rungs (Apart other) clash e is = let same : clash ≡ other = cc in apart_is above rungs clash (ap Apart same ∙ e)
-  apart_some above rungs (At sides) clash e is = absurd cc
-  apart_some above rungs (Past sides) clash e is = absurd cc
+  apart_some : (walk : Walk) (clash : Clash) → Some clash ≡ clash_in walk → Apart clash ≡ walk
+  apart_some (Apart other) clash e = let is : clash ≡ other = cc in ap Apart is
+  apart_some (At sides) clash e = absurd cc
+  apart_some (Past sides) clash e = absurd cc
 
-  pub a_clash : (above : List Side) (rungs : List Rung) (walk : Walk) (found : Option Clash) (clash : Clash) → walk ≡ go text (At above) rungs → found ≡ clash_in walk → found ≡ Some clash → differing (pairs_below text above rungs) ≡ Some (pair_of clash)
-  a_clash above rungs walk found clash e is some = apart_some above rungs walk clash e (sym some ∙ is)
+  pub some_differs : (d : Option Pair) (clash : Clash) → Some clash ≡ clash_in (ended above rungs passed d) → d ≡ Some (pair_of clash)
+  some_differs d clash e = ended_apart d clash (apart_some (ended above rungs passed d) clash e)
+
+-- so many links have a string beside them
+pairs_few : (text : List Side → Option (List ℕ)) (sides : List Side) (rungs : List Rung) → length (pairs_below text sides rungs) ≤ length rungs
+pairs_few text sides [] = omega arith
+pairs_few text sides (rung ∷ rungs) = of (text sides) (pairs_few text (sides ++ rung.side ∷ []) rungs)
+  where
+    of : (o : Option (List ℕ)) → length (pairs_below text (sides ++ rung.side ∷ []) rungs) ≤ length rungs → length (pair_before o rung (pairs_below text (sides ++ rung.side ∷ []) rungs)) ≤ suc (length rungs)
+    of None few = omega arith
+    of (Some kept) few = omega (arith, few)
 
 -- ---- pairs of two trees, one list after the other
 
-pub differing_first : (pairs more : List Pair) (pair : Pair) → differing pairs ≡ Some pair → differing (pairs ++ more) ≡ Some pair
+differing_first : (pairs more : List Pair) (pair : Pair) → differing pairs ≡ Some pair → differing (pairs ++ more) ≡ Some pair
 differing_first [] more pair e = absurd cc
 differing_first (here ∷ pairs) more pair e = elim (same_cases here.0 here.1) [
   | inl same ↦ (let further = rw same.0 at e in rw same.0 (differing_first pairs more pair further))
   | inr other ↦ (let is = rw other.0 at e in rw other.0 is)
 ]
 
-pub differing_then : (pairs more : List Pair) → differing pairs ≡ None → differing (pairs ++ more) ≡ differing more
+differing_then : (pairs more : List Pair) → differing pairs ≡ None → differing (pairs ++ more) ≡ differing more
 differing_then [] more e = refl
 differing_then (here ∷ pairs) more e = elim (same_cases here.0 here.1) [
   | inl same ↦ (let further = rw same.0 at e in rw same.0 (differing_then pairs more further))
@@ -128,64 +96,59 @@ module _ (image : List ℕ → List ℕ) (items : List Item) (links : List Plain
   abbrev passed : ℕ
   passed = length (item_pairs image items links hash)
 
+  abbrev walked : Walk
+  walked = laid_from (items_text image items) [] rungs
+
   pub first_above : (above : List Pair) (clash : Clash) → differing above ≡ Some (pair_of clash) → answers.Clash clash ≡ compared image items links hash t above
   first_above above clash e = ap (found t (length items) (sides_of links) passed) (sym (differing_first above (item_pairs image items links hash) (pair_of clash) e))
 
   pub none_above : (above : List Pair) → differing above ≡ None → compared image items links hash t [] ≡ compared image items links hash t above
   none_above above e = ap (found t (length items) (sides_of links) passed) (sym (differing_then above (item_pairs image items links hash) e))
 
-  pub clash_below : (clash : Clash) → Apart clash ≡ go (items_text image items) (At []) rungs → answers.Clash clash ≡ compared image items links hash t []
-  clash_below clash e = ap (found t (length items) (sides_of links) passed) (sym (apart_is (items_text image items) [] rungs clash e))
+  -- ---- a clash for which memory may be wanting
 
-  sides_length : length (sides_of links) ≡ length rungs
-  sides_length = ap length (sym (aggregation_sides image (at_level_zero hash) links)) ∙ length-map rungs rung_side
+  pub clash_first : (above : List Pair) (pair : Pair) → differing above ≡ Some pair → HasClash (compared image items links hash t above)
+  clash_first above pair e = subst (λ (d : Option Pair). HasClash (found t (length items) (sides_of links) passed d)) (sym (differing_first above (item_pairs image items links hash) pair e)) tt
 
-  take_all : (n : ℕ) (sides : List Side) → n ≡ length sides → take n sides ≡ sides
-  take_all n sides e = ap (λ (k : ℕ). take k sides) e ∙ all sides
-    where
-      all : (xs : List Side) → take (length xs) xs ≡ xs
-      all [] = refl
-      all (x ∷ xs) = ap (λ (ys : List Side). x ∷ ys) (all xs)
+  pub apart_below : IsApart walked → HasClash (compared image items links hash t [])
+  apart_below h =
+      let differs = apart_differs [] rungs passed (differing (item_pairs image items links hash)) h in
+      subst (λ (d : Option Pair). HasClash (found t (length items) (sides_of links) passed d)) (sym differs.1) tt
 
-  pub inside_at : (place : List Side) → At place ≡ go (items_text image items) (At []) rungs → answers.Inside t place ≡ compared image items links hash t []
-  inside_at place e =
-      let all = at_is (items_text image items) [] rungs place e in
-      let count : passed ≡ length (sides_of links) = all.1 ∙ sym sides_length in
-      let is : place ≡ sides_of links = all.0.is ∙ ap (take passed) (aggregation_sides image (at_level_zero hash) links) ∙ take_all passed (sides_of links) count in
-      ap (answers.Inside t) is
-      ∙ (elim (eq_cases passed (length (sides_of links))) as (λ z. answers.Inside t (sides_of links) ≡ ends t (length items) (sides_of links) passed) [ inl same ↦ rw same.0 refl | inr other ↦ absurd (other.1 count) ])
-      ∙ ap (found t (length items) (sides_of links) passed) (sym all.0.none)
+  -- ---- the others
 
-  pub beneath_at : (place : List Side) (count : ℕ) → Past place ≡ go (items_text image items) (At []) rungs → count ≡ length links → (length place ≤ count) × (answers.Beneath t (item_named (length items) place) (count - length place) ≡ compared image items links hash t [])
-  beneath_at place count e n =
-      let all = past_is (items_text image items) [] rungs place e in
-      let fewer = all.1 in
-      let sides = sides_length in
-      let same = rungs_count image (at_level_zero hash) links in
-      let is : place ≡ take passed (sides_of links) = all.0.is ∙ ap (take passed) (aggregation_sides image (at_level_zero hash) links) in
-      let depth : length place ≡ passed = ap length is ∙ length-take-le passed (sides_of links) (omega (arith, fewer, sides)) in
-      let left : count - length place ≡ length (sides_of links) - passed = omega (arith, n, same, sides, depth) in (
-        omega (arith, depth, fewer, same, n),
-        ap (answers.Beneath t (item_named (length items) place)) left
-            ∙ ap (λ (s : List Side). answers.Beneath t (item_named (length items) s) (length (sides_of links) - passed)) is
-            ∙ (elim (eq_cases passed (length (sides_of links))) as (λ z. answers.Beneath t (item_named (length items) (take passed (sides_of links))) (length (sides_of links) - passed) ≡ ends t (length items) (sides_of links) passed) [
-              | inl equal ↦ absurd (omega (arith, equal.1, fewer, sides))
-              | inr other ↦ rw other.0 refl
-            ])
-            ∙ ap (found t (length items) (sides_of links) passed) (sym all.0.none),
-      )
+  module _ (walk : Walk) (went : walk ≡ walked) where
+    pub clash_below : (clash : Clash) → walk ≡ Apart clash → answers.Clash clash ≡ compared image items links hash t []
+    clash_below clash is = ap (found t (length items) (sides_of links) passed) (sym (ended_apart [] rungs passed (differing (item_pairs image items links hash)) clash (sym is ∙ went)))
 
--- ---- the same with the walk of the code, beside a round that is these items
+    sides_length : length (sides_of links) ≡ length rungs
+    sides_length = ap length (sym (aggregation_sides image (at_level_zero hash) links)) ∙ length-map rungs rung_side
 
-module _ (image : List ℕ → List ℕ) (round items : List Item) (links : List PlainLink) (hash : List ℕ) (t : ℕ) (walk : Walk) (same : round ≡ items) (e : walk ≡ go (items_text image round) (At []) (rungs_from image (at_level_zero hash) links)) where
-  went : walk ≡ go (items_text image items) (At []) (rungs_from image (at_level_zero hash) links)
-  went = e ∙ ap (λ (x : List Item). go (items_text image x) (At []) (rungs_from image (at_level_zero hash) links)) same
+    pub inside_at : (place : List Side) → walk ≡ At place → answers.Inside t place ≡ compared image items links hash t []
+    inside_at place is =
+        let all = ended_at [] rungs passed (differing (item_pairs image items links hash)) place (sym is ∙ went) in
+        let count : passed ≡ length (sides_of links) = all.1 ∙ sym sides_length in
+        ap (answers.Inside t) (all.2 ∙ aggregation_sides image (at_level_zero hash) links)
+        ∙ (elim (eq_cases passed (length (sides_of links))) as (λ z. answers.Inside t (sides_of links) ≡ ends t (length items) (sides_of links) passed) [ inl same ↦ rw same.0 refl | inr other ↦ absurd (other.1 count) ])
+        ∙ ap (found t (length items) (sides_of links) passed) (sym all.0)
 
-  pub code_clash : (clash : Clash) → walk ≡ Apart clash → answers.Clash clash ≡ compared image items links hash t []
-  code_clash clash is = clash_below image items links hash t clash (sym is ∙ went)
-
-  pub code_inside : (place : List Side) → walk ≡ At place → answers.Inside t place ≡ compared image items links hash t []
-  code_inside place is = inside_at image items links hash t place (sym is ∙ went)
-
-  pub code_beneath : (place : List Side) (count : ℕ) → walk ≡ Past place → count ≡ length links → (length place ≤ count) × (answers.Beneath t (item_named (length items) place) (count - length place) ≡ compared image items links hash t [])
-  code_beneath place count is n = beneath_at image items links hash t place count (sym is ∙ went) n
+    pub beneath_at : (place : List Side) (count : ℕ) → walk ≡ Past place → count ≡ length links → (length place ≤ count) × (answers.Beneath t (item_named (length items) place) (count - length place) ≡ compared image items links hash t [])
+    beneath_at place count is n =
+        let all = ended_past [] rungs passed (differing (item_pairs image items links hash)) place (sym is ∙ went) in
+        let few = pairs_few (items_text image items) [] rungs in
+        let other = all.1 in
+        let fewer : passed < length rungs = omega (arith, few, other) in
+        let sides = sides_length in
+        let same = rungs_count image (at_level_zero hash) links in
+        let here : place ≡ take passed (sides_of links) = all.2 ∙ ap (take passed) (aggregation_sides image (at_level_zero hash) links) in
+        let depth : length place ≡ passed = ap length here ∙ length-take-le passed (sides_of links) (omega (arith, fewer, sides)) in
+        let left : count - length place ≡ length (sides_of links) - passed = omega (arith, n, same, sides, depth) in (
+          omega (arith, depth, fewer, same, n),
+          ap (answers.Beneath t (item_named (length items) place)) left
+              ∙ ap (λ (s : List Side). answers.Beneath t (item_named (length items) s) (length (sides_of links) - passed)) here
+              ∙ (elim (eq_cases passed (length (sides_of links))) as (λ z. answers.Beneath t (item_named (length items) (take passed (sides_of links))) (length (sides_of links) - passed) ≡ ends t (length items) (sides_of links) passed) [
+                | inl equal ↦ absurd (omega (arith, equal.1, fewer, sides))
+                | inr other ↦ rw other.0 refl
+              ])
+              ∙ ap (found t (length items) (sides_of links) passed) (sym all.0),
+        )

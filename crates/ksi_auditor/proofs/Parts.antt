@@ -9,12 +9,10 @@ use Rattle.ksi_split.specs.Trees.{tree, node_in, node_at}
 use Rattle.ksi_split.specs.Ways.{IsWay, LeadsTo}
 use Rattle.ksi_aggtree.specs.declared.item.Item.{Item}
 use Rattle.ksi_aggtree.specs.Rounds as rounds
+use Rattle.ksi_beside.specs.Standing.{whole}
 use Rattle.ksi_calchain.specs.Climbing.{calendar_join}
 use Rattle.ksi_calendar.specs.Calendar as calendars
 use Rattle.ksi_auditor.proofs.Cases.{eq_cases}
-
-abbrev pub whole : ℕ → Part
-whole n = record { first = 0; count = n }
 
 -- ---- parts
 

@@ -1,30 +1,41 @@
 -- The links of chains, from the top.
 use Rattle.std.proofs.Common.{◌≡◌, ℕ, ◌+◌, ◌≤◌, List, [], ◌∷◌, ◌++◌, map, reverse, length, take, drop, Ok, None, refl, sym, ap, subst, ◌∙◌, arith, inl, inr, length-append}
 use Rattle.std.proofs.lemmas.List.{map-append, take-append-drop, length-take-le}
+use Rattle.std.proofs.Math.Seq.{drop-append_seam}
 use Rattle.std.proofs.lemmas.Grind.{reverse_onto}
 use Rattle.ksi_split.specs.declared.side.Side.{Side}
 use Rattle.ksi_split.specs.declared.side.Side.TheVariants.{Left, Right}
 use Rattle.ksi_split.specs.declared.tree_link.TreeLink.{TreeLink}
 use Rattle.ksi_split.specs.Trees.{climb_links, link_from}
-use Rattle.ksi_aggchain.specs.Links.{PlainLink, level_above}
+use Rattle.ksi_aggchain.specs.Links.{PlainLink, side_text, level_above}
 use Rattle.ksi_aggchain.specs.Climbing.{above, climbed, level_after}
 use Rattle.ksi_aggchain.specs.declared.node.Node.{Node}
 use Rattle.ksi_calchain.specs.Climbing.{calendar_join, calendar_join_text, calendar_element_text}
 use Rattle.ksi_calchain.specs.Sides.{sides_from_top}
-use Rattle.ksi_auditor.specs.Beside.{Rung, rung_side, rung_text, rung_from, rungs_from, calendar_rung_from, calendar_rungs_from}
+use Rattle.ksi_beside.specs.Beside.{Rung, rung_side, rung_text, rung_from, rungs_from, calendar_rung_from, calendar_rungs_from}
+use Rattle.ksi_beside.specs.Standing.{Holds}
 use Rattle.ksi_auditor.specs.Climbed.{climbed_to}
 use Rattle.ksi_auditor.proofs.Cases.{lt_cases}
-use Rattle.ksi_auditor.proofs.Strings.{back_same}
 use Rattle.ksi_auditor.proofs.Climbs.{level_more}
-use Rattle.ksi_auditor.proofs.Going.{calendar_text_is, rungs_append}
-use Rattle.ksi_auditor.proofs.Walking.{Holds}
+use Rattle.ksi_auditor.proofs.Chaining.{rungs_append}
+
+calendar_side : (side : Side) (below : List ℕ) (link : TreeLink (List ℕ)) → side_text side below link.sibling 255 ≡ link_from calendar_join_text below link side
+calendar_side Left below link = refl
+calendar_side Right below link = refl
+
+-- a calendar link's string
+calendar_text_is : (below : List ℕ) (link : TreeLink (List ℕ)) → rung_text (calendar_rung_from below link) ≡ calendar_element_text below link
+calendar_text_is below link = calendar_side link.side below link
 
 -- one more side at the top
 more_sides : (rungs : List Rung) (rung : Rung) (sides : List Side) → map rung_side rungs ≡ reverse sides → map rung_side (rungs ++ rung ∷ []) ≡ reverse (rung.side ∷ sides)
 more_sides rungs rung sides e = map-append rung_side rungs (rung ∷ []) ∙ ap (λ (w : List Side). w ++ rung.side ∷ []) e ∙ sym (reverse_onto sides rung.side [])
 
 same_back : (a b c d : List Rung) → a ++ b ≡ c ++ d → length b ≡ length d → b ≡ d
-same_back a b c d e n = let all = ap length e in let front : length a ≡ length c = omega (arith, n, length-append a b, length-append c d, all) in back_same a b c d e front
+same_back a b c d e n =
+    let all = ap length e in
+    let front : length a ≡ length c = omega (arith, n, length-append a b, length-append c d, all) in
+    sym (drop-append_seam a b) ∙ ap (λ (k : ℕ). drop k (a ++ b)) front ∙ ap (drop (length c)) e ∙ drop-append_seam c d
 
 module _ (image : List ℕ → List ℕ) where
   holds_more : (x y z : List ℕ) (rungs : List Rung) (rung : Rung) → Holds image z y rungs → z ≡ image (rung_text rung) → length rung.below ≡ 33 → rung.below ≡ x → Holds image x y (rungs ++ rung ∷ [])
@@ -84,7 +95,7 @@ module _ (image : List ℕ → List ℕ) where
     left_climbs x y links passed left rung n e h =
         let m : ℕ = length (rung ∷ left) in
         let count : length links ≡ length passed + m = sym (rungs_count x links) ∙ ap length e ∙ length-append passed (rung ∷ left) in
-        let parts = rungs_append image (λ sides. None) x (take m links) (drop m links) in
+        let parts = rungs_append image x (take m links) (drop m links) in
         let all : rungs_from image (climbed_to image x (take m links)) (drop m links) ++ rungs_from image x (take m links) ≡ passed ++ rung ∷ left = sym parts ∙ ap (rungs_from image x) (take-append-drop m links) ∙ e in
         let is : rungs_from image x (take m links) ≡ rung ∷ left = same_back _ _ _ _ all (rungs_count x (take m links) ∙ length-take-le m links (omega (arith, count))) in
         let full = aggregation_holds x (take m links) n in

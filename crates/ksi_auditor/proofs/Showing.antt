@@ -33,15 +33,14 @@ use Rattle.ksi_verifier.specs.declared.verdict.Verdict.TheVariants.{Accepted, Re
 use Rattle.ksi_journal.specs.Journal.{Contents, IsJournal, root_at, items_at}
 use Rattle.ksi_journal.specs.Calendar.{calendar_of}
 use Rattle.ksi_auditor.specs.declared.answer.Audit.TheVariants as answers
-use Rattle.ksi_auditor.specs.Beside.{Rung, rung_side, rungs_from, calendar_rungs_from, Pair, differing}
+use Rattle.ksi_beside.specs.Beside.{Rung, rung_side, rungs_from, calendar_rungs_from, Pair, differing}
+use Rattle.ksi_beside.specs.Standing.{Holds, IsTree, Walked, whole}
 use Rattle.ksi_auditor.specs.Climbed.{climbed_to}
 use Rattle.ksi_auditor.specs.Kept.{calendar_text, joined_imprints, items_text, joined_items}
 use Rattle.ksi_auditor.specs.Audit.{links_of, link_sides, calendar_pairs, item_pairs, item_named, ends, found, compared, laid_beside, decided, kept_or_not, accepted_or_not, audit}
 use Rattle.ksi_auditor.specs.Shown.{Names, imprint_at, IsDecided, IsInside, IsBeneath, Shows}
-use Rattle.ksi_auditor.proofs.Cases.{lt_cases, eq_cases}
-use Rattle.ksi_auditor.proofs.Strings.{same_cases}
-use Rattle.ksi_auditor.proofs.Parts.{whole, part_goes_on, node_past, node_below}
-use Rattle.ksi_auditor.proofs.Walking.{Holds, first_is_clash, none_differs}
+use Rattle.ksi_auditor.proofs.Cases.{lt_cases, eq_cases, same_cases}
+use Rattle.ksi_auditor.proofs.Parts.{part_goes_on, node_past, node_below}
 use Rattle.ksi_auditor.proofs.Rungs.{calendar_sides, aggregation_sides, rungs_count, climbed_ends, calendar_holds, aggregation_holds, climbed_size, left_climbs}
 use Rattle.ksi_auditor.proofs.Climbs.{rise, climbed_is}
 use Rattle.ksi_auditor.proofs.Keeping.{all_of_tree, item_size, leaf_size, items_kept, HasItems, leaf_has_items}
@@ -95,13 +94,13 @@ root_is image j p seconds found same e covered = e ∙ ap (λ (s : calendars.Sec
 
 -- an audit of an accepted signature, whose publication is decided
 pub audit_laid : (image : List ℕ → List ℕ) (j : Contents) (signature : Signature) (hash : List ℕ) (publications : List (ℕ × List ℕ)) (t : ℕ) (calendar : Calendar) → verdict image signature hash publications ≡ Accepted t → signature.calendar ≡ Some calendar
-    → j.start ≤ calendar.publication → first_missing (root_at j) j.start calendar.publication ≡ None → chain_root image calendar ≡ covered_root image (root_at j) j.start calendar.publication → audit image j signature hash publications ≡ laid_beside image j signature hash t calendar
+    → j.start ≤ calendar.publication → first_missing (root_at j) j.start calendar.publication ≡ None → chain_root image calendar ≡ covered_root image (root_at j) j.start calendar.publication → audit image j signature hash publications ≡ laid_beside image j (links_of signature) hash t calendar
 unfolding audit
 audit_laid image j signature hash publications t calendar passes has from none root =
-    ap (accepted_or_not image j signature hash) passes ∙ ap (kept_or_not image j signature hash t) has
-    ∙ (elim (lt_cases calendar.publication j.start) as (λ z. kept_or_not image j signature hash t (Some calendar) ≡ decided image j signature hash t calendar (first_missing (root_at j) j.start calendar.publication)) [ inl early ↦ absurd (omega (arith, early.1, from)) | inr late ↦ rw late.0 refl ])
-    ∙ ap (decided image j signature hash t calendar) none
-    ∙ (elim (same_cases (chain_root image calendar) (covered_root image (root_at j) j.start calendar.publication)) as (λ z. decided image j signature hash t calendar None ≡ laid_beside image j signature hash t calendar) [ inl same ↦ rw same.0 refl | inr other ↦ absurd (other.1 root) ])
+    ap (accepted_or_not image j (links_of signature) signature.calendar hash) passes ∙ ap (kept_or_not image j (links_of signature) hash t) has
+    ∙ (elim (lt_cases calendar.publication j.start) as (λ z. kept_or_not image j (links_of signature) hash t (Some calendar) ≡ decided image j (links_of signature) hash t calendar (first_missing (root_at j) j.start calendar.publication)) [ inl early ↦ absurd (omega (arith, early.1, from)) | inr late ↦ rw late.0 refl ])
+    ∙ ap (decided image j (links_of signature) hash t calendar) none
+    ∙ (elim (same_cases (chain_root image calendar) (covered_root image (root_at j) j.start calendar.publication)) as (λ z. decided image j (links_of signature) hash t calendar None ≡ laid_beside image j (links_of signature) hash t calendar) [ inl same ↦ rw same.0 refl | inr other ↦ absurd (other.1 root) ])
 
 -- no level of an accepted signature passes 255
 pub low : (climbs : (image : List ℕ → List ℕ) (start top : Node) (links : List PlainLink) → (climbed image 0 start links ≡ Ok top) ↔ Climbs image start links top)
@@ -218,14 +217,18 @@ module _ (laws : Laws) (image : List ℕ → List ℕ) (lawful : (bytes : List �
     names : Names signature t
     names = record { calendar = a.calendar; has_calendar = a.has_calendar; second = a.second }
 
+    calendar_is_tree : IsTree image (calendar_text image seconds p) (p + 1) calendar_chain_at (λ q. 255)
+    calendar_is_tree = record { one = calendar_one p covered.0; more = calendar_more p covered.0; hashes = calendar_hashes; sizes = calendar_sizes }
+
+    calendar_stands : Holds image a.calendar.input (calendar_chain_at (whole (p + 1))) (calendar_rungs_from image a.calendar.input a.calendar.links)
+    calendar_stands = subst (λ (y : List ℕ). Holds image a.calendar.input y (calendar_rungs_from image a.calendar.input a.calendar.links)) leads (calendar_holds image sizes a.calendar.input a.calendar.links input_size)
+
     calendar_clash : (pair : Pair) → differing (calendar_pairs image j a.calendar) ≡ Some pair → IsClash image (record { one = pair.0; two = pair.1 })
-    calendar_clash pair e = first_is_clash image (calendar_text image seconds p) (p + 1) calendar_chain_at calendar_string (λ q. 255) laws.split (calendar_one p covered.0) (calendar_more p covered.0) calendar_hashes (λ q. refl) calendar_sizes
-        (calendar_rungs_from image a.calendar.input a.calendar.links) [] (whole (p + 1)) a.calendar.input (chain_root image a.calendar) pair refl (omega arith) (calendar_holds image sizes a.calendar.input a.calendar.links input_size) leads e
+    calendar_clash pair e = laws.clash image (calendar_text image seconds p) (p + 1) calendar_chain_at (λ q. 255) (calendar_rungs_from image a.calendar.input a.calendar.links) [] (whole (p + 1)) a.calendar.input pair calendar_is_tree refl (omega arith) calendar_stands e
 
     at_leaf : differing (calendar_pairs image j a.calendar) ≡ None → a.calendar.input ≡ second_leaf (root_at j) j.start t
     at_leaf e =
-        let w = none_differs image (calendar_text image seconds p) (p + 1) calendar_chain_at calendar_string (λ q. 255) laws.split (calendar_one p covered.0) (calendar_more p covered.0) calendar_hashes (λ q. refl) calendar_sizes
-        (calendar_rungs_from image a.calendar.input a.calendar.links) [] (whole (p + 1)) a.calendar.input (chain_root image a.calendar) refl (omega arith) (calendar_holds image sizes a.calendar.input a.calendar.links input_size) leads e in
+        let w = laws.beside image (calendar_text image seconds p) (p + 1) calendar_chain_at (λ q. 255) (calendar_rungs_from image a.calendar.input a.calendar.links) [] (whole (p + 1)) a.calendar.input calendar_is_tree refl (omega arith) calendar_stands e in
         let named = leaf_named p t (sides_from_top a.calendar.links) ((laws.second p t (sides_from_top a.calendar.links)).1 a.second) in
         let reach : List Rung → Result Part ℕ = λ r. part_at 0 (whole (p + 1)) (map rung_side r) in
         let all : reach (w.passed ++ w.left) ≡ Ok named.0 = ap reach (sym w.split) ∙ ap (part_at 0 (whole (p + 1))) (calendar_sides image a.calendar.input a.calendar.links) ∙ named.1 in
@@ -260,9 +263,14 @@ module _ (laws : Laws) (image : List ℕ → List ℕ) (lawful : (bytes : List �
       abbrev passed_links : ℕ
       passed_links = length (item_pairs image items links hash)
 
+      items_are_tree : IsTree image (items_text image items) (last + 1) (aggregation_imprint items each last len) (aggregation_level items each last len)
+      items_are_tree = record { one = aggregation_one items each last len; more = aggregation_more items each last len; hashes = aggregation_hashes items each last len; sizes = aggregation_sizes items each last len }
+
+      links_stand : Holds image hash (aggregation_imprint items each last len (whole (last + 1))) (rungs_from image start links)
+      links_stand = subst (λ (y : List ℕ). Holds image hash y (rungs_from image start links)) tree_root_is (aggregation_holds image sizes start links size)
+
       aggregation_clash : (pair : Pair) → differing (item_pairs image items links hash) ≡ Some pair → IsClash image (record { one = pair.0; two = pair.1 })
-      aggregation_clash pair e = first_is_clash image (items_text image items) (last + 1) (aggregation_imprint items each last len) (aggregation_string items each last len) (aggregation_level items each last len) laws.split (aggregation_one items each last len) (aggregation_more items each last len)
-          (aggregation_hashes items each last len) (λ q. refl) (aggregation_sizes items each last len) (rungs_from image start links) [] (whole (last + 1)) hash (climbed_to image start links).imprint pair refl (omega arith) (aggregation_holds image sizes start links size) tree_root_is e
+      aggregation_clash pair e = laws.clash image (items_text image items) (last + 1) (aggregation_imprint items each last len) (aggregation_level items each last len) (rungs_from image start links) [] (whole (last + 1)) hash pair items_are_tree refl (omega arith) links_stand e
 
       inside : (passed : List Rung) (part : Part) → rungs_from image start links ≡ passed → part_at 0 (whole (last + 1)) (map rung_side passed) ≡ Ok part → hash ≡ aggregation_imprint items each last len part → IsInside image j signature hash t (link_sides signature)
       inside passed part split reached rest =
@@ -330,9 +338,8 @@ module _ (laws : Laws) (image : List ℕ → List ℕ) (lawful : (bytes : List �
       on_items : (d : Option Pair) → differing (item_pairs image items links hash) ≡ d → Shows image j signature hash (found t (length items) (link_sides signature) passed_links d)
       on_items (Some pair) e = aggregation_clash pair e
       on_items None e =
-          let w = none_differs image (items_text image items) (last + 1) (aggregation_imprint items each last len) (aggregation_string items each last len) (aggregation_level items each last len) laws.split (aggregation_one items each last len) (aggregation_more items each last len)
-          (aggregation_hashes items each last len) (λ q. refl) (aggregation_sizes items each last len) (rungs_from image start links) [] (whole (last + 1)) hash (climbed_to image start links).imprint refl (omega arith) (aggregation_holds image sizes start links size) tree_root_is e in
-          ended w.passed w.left w.part w.split w.reached w.count w.stops w.rest
+          let w = laws.beside image (items_text image items) (last + 1) (aggregation_imprint items each last len) (aggregation_level items each last len) (rungs_from image start links) [] (whole (last + 1)) hash items_are_tree refl (omega arith) links_stand e in
+          ended w.passed w.left w.part w.split w.reached w.number w.stops w.rest
 
       items_show : Shows image j signature hash (compared image items links hash t [])
       items_show = on_items (differing (item_pairs image items links hash)) refl
@@ -342,10 +349,10 @@ module _ (laws : Laws) (image : List ℕ → List ℕ) (lawful : (bytes : List �
     on_calendar (Some pair) e = inl (pair, e)
     on_calendar None e = inr e
 
-    clash_above : (pair : Pair) → differing (calendar_pairs image j a.calendar) ≡ Some pair → answers.Clash (record { one = pair.0; two = pair.1 }) ≡ laid_beside image j signature hash t a.calendar
+    clash_above : (pair : Pair) → differing (calendar_pairs image j a.calendar) ≡ Some pair → answers.Clash (record { one = pair.0; two = pair.1 }) ≡ laid_beside image j (links_of signature) hash t a.calendar
     clash_above pair e = first_above image (items_at j t) links hash t (calendar_pairs image j a.calendar) (record { one = pair.0; two = pair.1 }) e
 
-    pub laid_shows : Shows image j signature hash (laid_beside image j signature hash t a.calendar)
+    pub laid_shows : Shows image j signature hash (laid_beside image j (links_of signature) hash t a.calendar)
     laid_shows = elim (on_calendar (differing (calendar_pairs image j a.calendar)) refl) [
       | inl d ↦ subst (Shows image j signature hash) (clash_above d.0 d.1) (calendar_clash d.0 d.1)
       | inr e ↦ (let leaf = at_leaf e in
@@ -354,7 +361,7 @@ module _ (laws : Laws) (image : List ℕ → List ℕ) (lawful : (bytes : List �
     ]
 
     -- of a second before the start, or a missed one, only with a clash
-    pub missed_is_clash : second_leaf (root_at j) j.start t ≡ zero_imprint → (clash : Clash) × (laid_beside image j signature hash t a.calendar ≡ answers.Clash clash) × IsClash image clash
+    pub missed_is_clash : second_leaf (root_at j) j.start t ≡ zero_imprint → (clash : Clash) × (laid_beside image j (links_of signature) hash t a.calendar ≡ answers.Clash clash) × IsClash image clash
     missed_is_clash missed = elim (on_calendar (differing (calendar_pairs image j a.calendar)) refl) [
       | inl d ↦ (record { one = d.0.0; two = d.0.1 }, sym (clash_above d.0 d.1), calendar_clash d.0 d.1)
       | inr e ↦ absurd (a.not_missed (at_leaf e ∙ missed))
@@ -363,21 +370,21 @@ module _ (laws : Laws) (image : List ℕ → List ℕ) (lawful : (bytes : List �
   -- ---- whatever an audit answers, it shows what it says
 
   module _ (signature : Signature) (hash : List ℕ) (publications : List (ℕ × List ℕ)) (size : length hash ≡ 33) where
-    when_whole : (t : ℕ) (a : IsAccepted image signature hash publications t) → j.start ≤ a.calendar.publication → (missing : Option ℕ) → first_missing (root_at j) j.start a.calendar.publication ≡ missing → Shows image j signature hash (decided image j signature hash t a.calendar missing)
+    when_whole : (t : ℕ) (a : IsAccepted image signature hash publications t) → j.start ≤ a.calendar.publication → (missing : Option ℕ) → first_missing (root_at j) j.start a.calendar.publication ≡ missing → Shows image j signature hash (decided image j (links_of signature) hash t a.calendar missing)
     when_whole t a from (Some second) e = tt
     when_whole t a from None e = elim (same_cases (chain_root image a.calendar) (covered_root image (root_at j) j.start a.calendar.publication)) [
       | inl root ↦ rw root.0 (laid_shows signature hash publications t size a from e root.1)
       | inr other ↦ rw other.0 tt
     ]
 
-    when_accepted : (t : ℕ) → IsAccepted image signature hash publications t → Shows image j signature hash (kept_or_not image j signature hash t signature.calendar)
-    when_accepted t a = subst (λ (c : Option Calendar). Shows image j signature hash (kept_or_not image j signature hash t c)) (sym a.has_calendar)
+    when_accepted : (t : ℕ) → IsAccepted image signature hash publications t → Shows image j signature hash (kept_or_not image j (links_of signature) hash t signature.calendar)
+    when_accepted t a = subst (λ (c : Option Calendar). Shows image j signature hash (kept_or_not image j (links_of signature) hash t c)) (sym a.has_calendar)
         (elim (lt_cases a.calendar.publication j.start) [
           | inl early ↦ rw early.0 tt
           | inr late ↦ rw late.0 (when_whole t a late.1 (first_missing (root_at j) j.start a.calendar.publication) refl)
         ])
 
-    of_verdict : (v : Verdict) → verdict image signature hash publications ≡ v → Shows image j signature hash (accepted_or_not image j signature hash v)
+    of_verdict : (v : Verdict) → verdict image signature hash publications ≡ v → Shows image j signature hash (accepted_or_not image j (links_of signature) signature.calendar hash v)
     of_verdict (Refused refusal) e = tt
     of_verdict (Accepted t) e = when_accepted t ((laws.accepted image signature hash publications t).0 e)
 

@@ -6,6 +6,7 @@ use Rattle.ksi_split.specs.declared.side.Side.{Side}
 use Rattle.ksi_split.specs.Parts.{second_at}
 use Rattle.ksi_aggtree.specs.declared.item.Item.{Item}
 use Rattle.ksi_aggchain.specs.Links.{PlainLink}
+use Rattle.ksi_beside.specs.Beside.{Pair, rungs_from, calendar_rungs_from, pairs_below, differing}
 use Rattle.ksi_calendar.specs.Covered.{first_missing, covered_root}
 use Rattle.ksi_signature.specs.Values.{Calendar}
 use Rattle.ksi_signature.specs.declared.signature.Signature.{Signature}
@@ -19,7 +20,6 @@ use Rattle.ksi_journal.specs.Journal.{Contents, root_at, items_at}
 use Rattle.ksi_journal.specs.Calendar.{calendar_of}
 use Rattle.ksi_auditor.specs.declared.answer.Audit.{Audit}
 use Rattle.ksi_auditor.specs.declared.answer.Audit.TheVariants.{Inside, Beneath, Clash, NotAccepted, BeforeStart, Undecided, NotDecided}
-use Rattle.ksi_auditor.specs.Beside.{Pair, rungs_from, calendar_rungs_from, pairs_below, differing}
 use Rattle.ksi_auditor.specs.Kept.{calendar_text, items_text}
 
 -- the links of all aggregation chains of a signature, the lowest first
@@ -60,36 +60,38 @@ abbrev pub found : ℕ → ℕ → List Side → ℕ → Option Pair → Audit
 found t count sides passed (Some pair) = Clash (record { one = pair.0; two = pair.1 })
 found t count sides passed None = ends t count sides passed
 
--- ---- the audit
+-- ---- the audit of the aggregation links and the calendar chain that a signature has
 
 -- of links that lead up from a hash, beside the tree of items, where strings above were compared before
 abbrev pub compared : (List ℕ → List ℕ) → List Item → List PlainLink → List ℕ → ℕ → List Pair → Audit
 compared image items links hash t above =
     found t (length items) (sides_of links) (length (item_pairs image items links hash)) (differing (above ++ item_pairs image items links hash))
 
--- of an accepted signature, whose publication is decided
-abbrev pub laid_beside : (List ℕ → List ℕ) → Contents → Signature → List ℕ → ℕ → Calendar → Audit
-laid_beside image journal signature hash t calendar = compared image (items_at journal t) (links_of signature) hash t (calendar_pairs image journal calendar)
+-- where the signature is accepted and its publication is decided
+abbrev pub laid_beside : (List ℕ → List ℕ) → Contents → List PlainLink → List ℕ → ℕ → Calendar → Audit
+laid_beside image journal links hash t calendar = compared image (items_at journal t) links hash t (calendar_pairs image journal calendar)
 
-abbrev pub decided : (List ℕ → List ℕ) → Contents → Signature → List ℕ → ℕ → Calendar → Option ℕ → Audit
-decided image journal signature hash t calendar (Some second) = Undecided second
-decided image journal signature hash t calendar None =
+abbrev pub decided : (List ℕ → List ℕ) → Contents → List PlainLink → List ℕ → ℕ → Calendar → Option ℕ → Audit
+decided image journal links hash t calendar (Some second) = Undecided second
+decided image journal links hash t calendar None =
     if bytes_eq (chain_root image calendar) (covered_root image (root_at journal) journal.start calendar.publication)
-    then laid_beside image journal signature hash t calendar
+    then laid_beside image journal links hash t calendar
     else NotDecided calendar.publication (chain_root image calendar) (covered_root image (root_at journal) journal.start calendar.publication)
 
--- of an accepted signature; it has a calendar chain
-abbrev pub kept_or_not : (List ℕ → List ℕ) → Contents → Signature → List ℕ → ℕ → Option Calendar → Audit
-kept_or_not image journal signature hash t None = NotAccepted NoCalendar
-kept_or_not image journal signature hash t (Some calendar) =
+-- where the signature is accepted; it has a calendar chain
+abbrev pub kept_or_not : (List ℕ → List ℕ) → Contents → List PlainLink → List ℕ → ℕ → Option Calendar → Audit
+kept_or_not image journal links hash t None = NotAccepted NoCalendar
+kept_or_not image journal links hash t (Some calendar) =
     if nat_lt calendar.publication journal.start
     then BeforeStart calendar.publication
-    else decided image journal signature hash t calendar (first_missing (root_at journal) journal.start calendar.publication)
+    else decided image journal links hash t calendar (first_missing (root_at journal) journal.start calendar.publication)
 
-abbrev pub accepted_or_not : (List ℕ → List ℕ) → Contents → Signature → List ℕ → Verdict → Audit
-accepted_or_not image journal signature hash (Refused refusal) = NotAccepted refusal
-accepted_or_not image journal signature hash (Accepted t) = kept_or_not image journal signature hash t signature.calendar
+abbrev pub accepted_or_not : (List ℕ → List ℕ) → Contents → List PlainLink → Option Calendar → List ℕ → Verdict → Audit
+accepted_or_not image journal links calendar hash (Refused refusal) = NotAccepted refusal
+accepted_or_not image journal links calendar hash (Accepted t) = kept_or_not image journal links hash t calendar
 
--- of a signature for a hash over a journal, with published times and roots
+-- ---- the audit of a signature for a hash over a journal, with published times and roots
+
 unfoldable pub audit : (List ℕ → List ℕ) → Contents → Signature → List ℕ → List (ℕ × List ℕ) → Audit
-audit image journal signature hash publications = accepted_or_not image journal signature hash (verdict image signature hash publications)
+audit image journal signature hash publications =
+    accepted_or_not image journal (links_of signature) signature.calendar hash (verdict image signature hash publications)

@@ -1,13 +1,13 @@
 -- What the answers of an audit show.
 use Rattle.std.specs.Prelude.{◌≡◌, ℕ, ◌-◌, ◌<◌, ◌≤◌, List, length, take, Option, Some, option_map}
 use Rattle.ksi_imprint.specs.Imprints.{IsClash}
-use Rattle.ksi_imprint.specs.declared.clash.Clash as clashes
 use Rattle.ksi_split.specs.declared.side.Side.{Side}
 use Rattle.ksi_split.specs.Ways.{IsWay, NamesSecond}
 use Rattle.ksi_aggchain.specs.Climbing.{Climbs}
 use Rattle.ksi_aggchain.specs.declared.node.Node.{Node}
 use Rattle.ksi_aggtree.specs.declared.item.Item.{Item}
 use Rattle.ksi_aggtree.specs.Rounds.{leaf_of_place, node_of}
+use Rattle.ksi_beside.specs.Beside.{AreShort}
 use Rattle.ksi_calchain.specs.Sides.{sides_from_top}
 use Rattle.ksi_calendar.specs.Covered.{IsCovered, covered_root}
 use Rattle.ksi_signature.specs.Values.{Calendar}
@@ -53,10 +53,6 @@ pub record IsDecided (image : List ℕ → List ℕ) (journal : Contents) (signa
   pub covered : IsCovered (root_at journal) journal.start calendar.publication
   pub root : chain_root image calendar ≡ covered_root image (root_at journal) journal.start calendar.publication
 
--- so short strings that a line can show both: each is an imprint, a sibling of at most 4,096 bytes and a level
-abbrev pub AreShort : clashes.Clash → Type 0
-AreShort clash = (length clash.one ≤ 4130) × (length clash.two ≤ 4130)
-
 abbrev pub IsShort : Audit → Type 0
 IsShort (Clash clash) = AreShort clash
 IsShort _ = Unit {0}
@@ -80,3 +76,8 @@ Tells (NotAccepted refusal) = ⊥
 Tells (BeforeStart p) = ⊥
 Tells (Undecided second) = ⊥
 Tells (NotDecided p given kept) = ⊥
+
+-- the answer is a clash
+abbrev pub HasClash : Audit → Type 0
+HasClash (Clash clash) = Unit {0}
+HasClash _ = ⊥

@@ -1,8 +1,7 @@
 ghost use Rattle.std.specs.Prelude.{◌<◌, ◌^◌};
 
 use crate::deep::deep_places;
-use crate::kept::{KeptTree, Parts};
-use crate::place::Place;
+use ksi_beside::{KeptTree, Parts, Place};
 use ksi_calendar::Calendar;
 use ksi_imprint::Compress;
 use ksi_split::Side;

@@ -1,10 +1,9 @@
 ghost use Rattle.ksi_aggtree.specs.Rounds.{IsRound};
 
 use crate::deep::deep_places;
-use crate::kept::{KeptTree, Parts};
 use crate::nodes::low_nodes;
-use crate::place::Place;
 use ksi_aggtree::{Item, node_over};
+use ksi_beside::{KeptTree, Parts, Place};
 use ksi_imprint::Compress;
 use ksi_split::Side;
 use std::marker::PhantomData;

@@ -15,6 +15,7 @@ ghost use Rattle.ksi_auditor.specs.Audit.{audit, links_of};
 ghost use Rattle.ksi_auditor.specs.Shown.{IsDecided, Shows, Tells};
 
 use ksi_aggtree::laws::one_round;
+use ksi_beside::laws::beside_a_tree;
 use ksi_calendar::laws::{one_calendar, one_first_missing};
 use ksi_journal::laws::calendar_is_covered;
 use ksi_split::laws::{one_answer, one_split, parts};
@@ -29,6 +30,7 @@ pub fn audit_shows()
     parts();
     one_split();
     one_answer();
+    beside_a_tree();
     one_calendar();
     one_first_missing();
     one_round();
@@ -61,6 +63,7 @@ pub fn missed_seconds()
     parts();
     one_split();
     one_answer();
+    beside_a_tree();
     one_calendar();
     one_first_missing();
     one_round();

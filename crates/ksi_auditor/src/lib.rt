@@ -1,18 +1,19 @@
 //! Audits: where an accepted hash stands in what the cores kept, or two different strings with one imprint.
 //!
-//! A signature is laid beside a journal. The string that each of its links hashes is compared, from the top, with the
+//! A lent signature is laid beside a journal. The string that each of its links hashes is compared, from the top, with the
 //! string of the kept tree at that place: first along the calendar, then along the tree of the second that the calendar
 //! links name. Where all strings are equal, the hash is a node of that tree, or its lowest links lead to an item of it. The
 //! first string that differs has the imprint of the kept one, so that it shows a clash of the hash function.
 //!
-//! The layer above may rely on this: [`audit`] gives exactly the answer that its definition computes, and what each answer
-//! says holds, whatever the hash function is; the proof needs no premise about it but that its images are imprints. Memory
-//! is taken for the rows of one round and for the two strings of a clash; where there is none, no answer comes, and
-//! this is in place of no refusal.
+//! The layer above may rely on this: [`audit_view`] gives exactly the answer that its definition computes of the signature
+//! that is shown, and what each answer says holds, whatever the hash function is; the proof needs no premise about it but
+//! that its images are imprints. Memory is taken for the two strings of a clash alone, and is wanting only where the answer
+//! is a clash.
 //! The walk goes down by recursion, at most 63 links and 16 chains deep. In [`laws`] stands what holds of the definition.
 //!
 //! ```text
-//! match audit::<Sha>(alloc, &journal, &signature, &hash, &publications)? {
+//! let signature = ksi_signature::view(bytes)?;
+//! match audit_view::<Sha>(alloc, &journal, &signature, &hash, &publications)? {
 //!     Audit::Inside(second, way) => ..,
 //!     Audit::Beneath(second, item, links) => ..,
 //!     Audit::Clash(clash) => ..,
@@ -24,16 +25,13 @@
 mod answer;
 mod auditing;
 mod calendar;
+mod chains;
 mod deep;
 mod items;
-mod kept;
 pub mod laws;
 mod nodes;
-mod place;
 mod reached;
-mod rung;
-mod walk;
 
 pub use answer::Audit;
-pub use auditing::audit;
+pub use auditing::audit_view;
 pub use ksi_imprint::{Clash, NoMemory};

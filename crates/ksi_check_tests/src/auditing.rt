@@ -1,11 +1,11 @@
 use crate::journals::journal_of;
 use crate::same::same;
 use crate::signatures::{CalendarRow, ChainRow, SignatureRow, bytes_of, listed, named};
-use ksi_auditor::{Audit, NoMemory, audit};
+use ksi_auditor::{Audit, NoMemory, audit_view};
 use ksi_imprint::{Bytes, Compress, Imprint, Tiny};
 use ksi_journal::{Journal, load};
 use ksi_publications::Publications;
-use ksi_signature::read;
+use ksi_signature::view;
 use ksi_split::Side;
 use ksi_verifier::Refusal;
 use std::alloc::Global;
@@ -52,8 +52,8 @@ fn answer_of(
     publications: &Publications,
 ) -> Option<Audit> {
     let journal: Journal<Tiny> = load(alloc, journal.as_slice()).ok()?;
-    let signature = read(alloc, signature.as_slice()).ok()?;
-    audit(alloc, &journal, &signature, hash, publications).ok()
+    let signature = view(signature.as_slice()).ok()?;
+    audit_view(alloc, &journal, &signature, hash, publications).ok()
 }
 
 /// The answer for a hash and chains that lead to a root.

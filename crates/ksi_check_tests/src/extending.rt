@@ -15,14 +15,14 @@ use std::process::Abort;
 use std::sync::ledger::{Blank, Ledger};
 use std::test::Fail;
 
-const T: u64 = 1_700_000_000;
+pub(crate) const T: u64 = 1_700_000_000;
 
 const DIGITS: &str = "e3b0c44298fc1c149afbf4c8996fb92427ae41e4649b934ca495991b7852b855";
 
 const ZEROS: &str = "0000000000000000000000000000000000000000000000000000000000000000";
 
 // The bytes of pieces in hex, where A stands for the SHA-256 of no bytes and Z for 32 zero bytes.
-fn bytes(alloc: Global, text: &str) -> Result<Vec<u8>, Fail> {
+pub(crate) fn bytes(alloc: Global, text: &str) -> Result<Vec<u8>, Fail> {
     let mut digits = String::new(alloc);
     for c in text.chars() {
         match c {
@@ -36,10 +36,10 @@ fn bytes(alloc: Global, text: &str) -> Result<Vec<u8>, Fail> {
 }
 
 // A journal that keeps A in second T, which is its start, and signatures of A in T without a calendar chain.
-const JOURNAL: &str =
+pub(crate) const JOURNAL: &str =
     "4b53494a524e4c31 01046553f100 022c 01046553f100 022101A 030101 032201A00 0600";
 
-const SIGNATURE: &str =
+pub(crate) const SIGNATURE: &str =
     "88000069 88010032 02046553f100 030101 030101 052101A 060101 8801002f 02046553f100 030101 052101A 060101";
 
 const WITH_DROPPED: &str =
@@ -54,7 +54,7 @@ const FROM_8: &str =
 
 const OF_9: &str = "88000030 8801002c 020109 030101 052101A 060101";
 
-fn journal(alloc: Global, text: &str) -> Result<Journal<Sha>, Fail> {
+pub(crate) fn journal(alloc: Global, text: &str) -> Result<Journal<Sha>, Fail> {
     match load::<Sha>(alloc, bytes(alloc, text)?.as_slice()) {
         Ok(journal) => Ok(journal),
         Err(_) => Err(Fail::from("the journal does not load")),
@@ -98,7 +98,11 @@ fn extended_counted(
 }
 
 /// The journal's root of `p`, if it has one, as the only publication.
-fn published(alloc: Global, journal: &Journal<Sha>, p: u64) -> Result<Publications, Fail> {
+pub(crate) fn published(
+    alloc: Global,
+    journal: &Journal<Sha>,
+    p: u64,
+) -> Result<Publications, Fail> {
     let mut pairs = Vec::new(alloc);
     if let Some(root) = journal.calendar().root_to(p) {
         pairs.push((p, root))?;
@@ -126,7 +130,12 @@ fn is_accepted(
 }
 
 /// The signature of a text, extended.
-fn taken(alloc: Global, journal: &Journal<Sha>, text: &str, p: u64) -> Result<Bytes, Fail> {
+pub(crate) fn taken(
+    alloc: Global,
+    journal: &Journal<Sha>,
+    text: &str,
+    p: u64,
+) -> Result<Bytes, Fail> {
     let bytes = bytes(alloc, text)?;
     Ok(extended_to(alloc, journal, bytes.as_slice(), p)?)
 }

@@ -6,6 +6,8 @@
 #[cfg(test)]
 mod auditing;
 #[cfg(test)]
+mod borrowed;
+#[cfg(test)]
 mod extending;
 #[cfg(test)]
 mod journals;

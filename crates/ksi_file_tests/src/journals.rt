@@ -1,6 +1,9 @@
 use crate::same::same;
+use ksi_aggchain::Node;
 use ksi_imprint::{Compress, Imprint, Tiny};
 use ksi_journal::{Journal, JournalFault, Refused, load, write};
+use ksi_split::Side;
+use ksi_split::Side::{Left, Right};
 use std::alloc::Global;
 use std::process::Abort;
 use std::test::Fail;
@@ -126,6 +129,42 @@ fn holds_one_publication(rt: &impl Abort, journal: &Journal<Tiny>) {
     same(rt, "publications", journal.publications(), &[(6, named(4))]);
 }
 
+fn root_over(journal: &Journal<Tiny>, second: u64) -> Option<Node> {
+    Some(journal.tree(second)?.root())
+}
+
+fn node_over(journal: &Journal<Tiny>, second: u64, sides: &[Side]) -> Option<Node> {
+    journal.tree(second)?.node(sides)
+}
+
+fn node(level: u8, imprint: Imprint) -> Option<Node> {
+    Some(Node { imprint, level })
+}
+
+fn holds_two_trees(rt: &impl Abort, journal: &Journal<Tiny>) {
+    let tops = [
+        (5, node(0, named(1))),
+        (6, None),
+        (7, None),
+        (8, node(1, pair())),
+    ];
+    for (second, top) in tops {
+        same(rt, "tree", root_over(journal, second), top);
+    }
+    let sides = [Left, Right];
+    let nodes = [
+        (8, 0, 0, node(1, pair())),
+        (8, 0, 1, node(0, named(2))),
+        (8, 1, 2, node(0, named(3))),
+        (8, 0, 2, None),
+        (7, 0, 0, None),
+    ];
+    for (second, first, end, wanted) in nodes {
+        let way = sides.get(first..end).unwrap_or(&[]);
+        same(rt, "node", node_over(journal, second, way), wanted);
+    }
+}
+
 #[test]
 fn what_is_loaded_is_written_again(rt: HostRuntime) -> Result<(), Fail> {
     const WORDS: &str =
@@ -134,6 +173,7 @@ fn what_is_loaded_is_written_again(rt: HostRuntime) -> Result<(), Fail> {
     let journal = journal_of(rt.alloc(), text.as_slice())?;
     holds_two_roots(&rt, &journal);
     holds_one_publication(&rt, &journal);
+    holds_two_trees(&rt, &journal);
     is_written(&rt, rt.alloc(), &journal, text.as_slice())
 }
 

@@ -1,4 +1,4 @@
-ghost use Rattle.std.specs.Prelude.{◌≡◌, ◌∷◌, ◌+◌, ◌%◌, ℕ, suc, List, replicate, sum, refl};
+ghost use Rattle.std.specs.Prelude.{◌≡◌, ◌∷◌, ◌+◌, ◌%◌, ℕ, suc, List, length, replicate, sum, refl};
 ghost use Rattle.std.proofs.Common.{ap};
 ghost use Rattle.sha2.proofs.Facts256.{length-sha256};
 ghost use Rattle.ksi_imprint.specs.Imprints.{IsImprint, imprint_of, join_text, tiny_imprint};
@@ -31,11 +31,11 @@ impl Compress for Sha {
     ghost image = { imprint_of };
 
     fn join(left: &[u8], right: &[u8], level: u8) -> Imprint {
-        let mut hasher = Sha256::new();
-        hasher.update(left);
-        hasher.update(right);
-        hasher.update(&[level]);
-        Imprint::of_digest(&hasher.finalize())
+        if left.len() == 33 && right.len() == 33 {
+            Sha::of(&joined(left, right, level))
+        } else {
+            join_parts(left, right, level)
+        }
     }
 
     fn of(bytes: &[u8]) -> Imprint {
@@ -43,6 +43,32 @@ impl Compress for Sha {
     }
 
     ghost gives_imprints = { λ bytes. record { algorithm = refl; size = ap suc (length-sha256 bytes) } };
+}
+
+/// The text of a join of two imprints, in one block.
+fn joined(left: &[u8], right: &[u8], level: u8) -> [u8; 67]
+    requires left { length left.now ≡ 33 }
+    requires right { length right.now ≡ 33 }
+    ensures { result ≡ join_text left.now right.now level }
+{
+    let mut text = [0; 67];
+    let (first, behind) = text.split_at_mut(33);
+    first.copy_from_slice(left);
+    let (second, last) = behind.split_at_mut(33);
+    second.copy_from_slice(right);
+    last[0] = level;
+    text
+}
+
+/// The imprint of both parts of any sizes and the level's byte.
+fn join_parts(left: &[u8], right: &[u8], level: u8) -> Imprint
+    ensures { result ≡ imprint_of (join_text left.now right.now level) }
+{
+    let mut hasher = Sha256::new();
+    hasher.update(left);
+    hasher.update(right);
+    hasher.update(&[level]);
+    Imprint::of_digest(&hasher.finalize())
 }
 
 /// The sum of the bytes, modulo 256, and 31 zero bytes: a function whose clashes a test can find.

@@ -1,5 +1,6 @@
 pub mod Sound
 pub mod Run
+pub mod Trees
 pub mod Files
 pub mod Texts
 pub mod Again

@@ -4,7 +4,7 @@ use Rattle.std.specs.List.{AllByRecursion}
 use Rattle.ksi_imprint.specs.Imprints.{IsImprint, zero_imprint}
 use Rattle.ksi_tlv.specs.Spelling.{AreBytes}
 use Rattle.ksi_aggtree.specs.declared.item.Item.{Item}
-use Rattle.ksi_aggtree.specs.Rounds.{most_items, highest_item, tree_of}
+use Rattle.ksi_aggtree.specs.Rounds.{most_items, highest_item, some_items, tree_of}
 use Rattle.ksi_aggtree.specs.declared.second.Second.{Second}
 
 -- The first second of the calendar; the kept seconds, each with its root and the items of its tree; the number and the
@@ -82,3 +82,7 @@ items_of (Some kept) = kept.items
 -- the items of a second, none where it is not kept
 unfoldable pub items_at : Contents → ℕ → List Item
 items_at journal t = items_of (kept_among journal.seconds t)
+
+-- the items of a second's tree, where it is kept and its root is not the zero imprint
+abbrev pub tree_at : Contents → ℕ → Option (List Item)
+tree_at journal t = some_items (items_at journal t)

@@ -1,11 +1,13 @@
-ghost use Rattle.std.specs.Prelude.{◌≡◌, ◌↔◌, ℕ, ◌<◌, ◌≤◌, ◌+◌, ◌^◌, None, Some, IfOk, IfSome, IsSome, IsNone, length};
-ghost use Rattle.ksi_journal.specs.Journal.{contents, IsJournal, root_at, items_at};
+ghost use Rattle.std.specs.Prelude.{◌≡◌, ◌↔◌, ◌⊎◌, ℕ, ◌<◌, ◌≤◌, ◌+◌, ◌^◌, None, Some, IfOk, IfSome, IsSome, IsNone, length};
+ghost use Rattle.ksi_imprint.specs.Imprints.{zero_imprint};
+ghost use Rattle.ksi_aggtree.specs.Rounds.{IsRound, tree_of};
+ghost use Rattle.ksi_journal.specs.Journal.{contents, IsJournal, root_at, items_at, tree_at};
 ghost use Rattle.ksi_calendar.specs.Covered.{IsFirstMissing, first_missing};
 ghost use Rattle.ksi_journal.specs.Calendar.{calendar_of};
 
 use crate::calendar::calendar;
 use crate::finding::find;
-use ksi_aggtree::{Item, Second};
+use ksi_aggtree::{Item, Second, Tree};
 use ksi_calendar::laws::one_first_missing;
 use ksi_calendar::{Calendar, Steps};
 use ksi_imprint::{Bytes, Compress, Imprint, NoMemory};
@@ -138,6 +140,27 @@ impl<C: Compress> Journal<C> {
             Some(kept) => kept.items.as_slice(),
             None => &[],
         }
+    }
+
+    /// The tree of a second over its items, none exactly where it is not kept or its root is the zero imprint. Each call of
+    /// the tree computes what it gives anew, and takes no memory.
+    pub fn tree(&self, second: u64) -> Option<Tree<'_, C>>
+        ensures tree { result ≡ tree_at self.now second }
+        ensures root { IfSome result (λ items. root_at self.now second ≡ Some (tree_of C.image items).imprint) }
+        ensures none { (result ≡ None) ↔
+            ((root_at self.now second ≡ None) ⊎ (root_at self.now second ≡ Some zero_imprint)) }
+    {
+        Tree::over(self.round(second))
+    }
+
+    /// The items of a second, which make a round.
+    fn round(&self, second: u64) -> &[Item]
+        ensures items { result.now ≡ items_at self.now second }
+        ensures round { IsRound result.now }
+        ensures journal { IsJournal C.image self.now }
+    {
+        let _ = &self.calendar;
+        self.items(second)
     }
 
     /// The first second from the start to `p` that is not kept, none where all are.

@@ -71,7 +71,7 @@ fn links_lead_to_the_joins_by_hand(rt: HostRuntime) -> Result<(), Fail> {
     let imprint = Sha::join(second.bytes(), b"data", 11);
     let links = three_kinds(rt.alloc(), abc)?;
     let item = Node { imprint, level: 11 };
-    same(&rt, "three", climb::<Sha>(start, 5, &links), Ok(item));
+    same(&rt, "three", climb::<Sha, Link>(start, 5, &links), Ok(item));
     Ok(())
 }
 
@@ -113,7 +113,7 @@ fn the_first_level_above_255_is_refused(rt: HostRuntime) {
     ];
     let start = Sha::of(b"");
     for (level, correction, fault) in ROWS {
-        let climbed = climb::<Sha>(start, level, &two(correction));
+        let climbed = climb::<Sha, Link>(start, level, &two(correction));
         same(&rt, correction, climbed, Err(fault));
     }
 }
@@ -123,7 +123,7 @@ fn the_level_255_is_reached(rt: HostRuntime) {
     let start = Sha::of(b"");
     let imprint = Sha::join(Imprint::ZERO.bytes(), start.bytes(), 255);
     let level = 255;
-    let climbed = climb::<Sha>(start, 0, &[link(Right, 254, Imprint::ZERO)]);
+    let climbed = climb::<Sha, Link>(start, 0, &[link(Right, 254, Imprint::ZERO)]);
     same(&rt, "255", climbed, Ok(Node { imprint, level }));
 }
 
@@ -134,10 +134,10 @@ fn named(first: u8) -> Imprint {
 #[test]
 fn sums_of_links(rt: HostRuntime) {
     let imprint = named(0x0f);
-    let climbed = climb::<Tiny>(named(0x05), 0, &[link(Left, 0, named(0x07))]);
+    let climbed = climb::<Tiny, Link>(named(0x05), 0, &[link(Left, 0, named(0x07))]);
     // 5 and 7, the level 1 and the first byte of both imprints, which is 1
     same(&rt, "one", climbed, Ok(Node { imprint, level: 1 }));
     let level = 255;
-    let climbed = climb::<Tiny>(imprint, level, &[]);
+    let climbed = climb::<Tiny, Link>(imprint, level, &[]);
     same(&rt, "none", climbed, Ok(Node { imprint, level }));
 }

@@ -1,7 +1,13 @@
 pub mod Whole
 pub mod Says
 pub mod Limits
+pub mod Heading
+pub mod Linking
+pub mod Numbering
+pub mod Lent
+pub mod LentCalendar
 pub mod Order
+pub mod Inserted
 pub mod Answered
 pub mod Sizes
 pub mod Capped

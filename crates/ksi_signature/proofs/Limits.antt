@@ -55,7 +55,7 @@ bodies_at : (b : Bool) (kind : ℕ) (body : List ℕ) (es : List PlacedTlv) → 
 bodies_at true kind body es e = omega (arith, e)
 bodies_at false kind body es e = omega (arith, e)
 
-length-bodies : (kind : ℕ) (es : List PlacedTlv) → length (bodies_of kind es) ≡ count (kind ∷ []) es
+pub length-bodies : (kind : ℕ) (es : List PlacedTlv) → length (bodies_of kind es) ≡ count (kind ∷ []) es
 length-bodies kind [] = refl
 length-bodies kind (at ∷ es) = bodies_at (eqb at.element.kind kind) kind at.element.body es (length-bodies kind es)
 
@@ -100,10 +100,10 @@ sibling_fits : (es : List PlacedTlv) → AllByRecursion (MayStand link_table) es
 sibling_fits [] all = tt
 sibling_fits (at ∷ es) all = sibling_at (eqb at.element.kind 2) (eqb at.element.kind 3) (eqb at.element.kind 4) at es refl refl all.0 (sibling_fits es all.1)
 
-left_stands : (at : PlacedTlv) → at.element.kind ≡ 7 → MayStand chain_table at → inner_verdict link_table at ≡ Ok tt
+pub left_stands : (at : PlacedTlv) → at.element.kind ≡ 7 → MayStand chain_table at → inner_verdict link_table at ≡ Ok tt
 left_stands at is may = let fits : MayStandAs chain_table at (slot_of chain_table.slots at.element.kind) = may.fits in rw is at fits
 
-right_stands : (at : PlacedTlv) → at.element.kind ≡ 8 → MayStand chain_table at → inner_verdict link_table at ≡ Ok tt
+pub right_stands : (at : PlacedTlv) → at.element.kind ≡ 8 → MayStand chain_table at → inner_verdict link_table at ≡ Ok tt
 right_stands at is may = let fits : MayStandAs chain_table at (slot_of chain_table.slots at.element.kind) = may.fits in rw is at fits
 
 link_fits : IsHeld → (at : PlacedTlv) → inner_verdict link_table at ≡ Ok tt → HasSize (link_in at).sibling
@@ -230,3 +230,14 @@ datas held (at ∷ es) all = first_data (eqb at.element.kind 16) at es held refl
 pub recorded_below : IsHeld → (at : PlacedTlv) → inner_verdict record_table at ≡ Ok tt → (recorded_in at).0 < 2 ^ 63
 unfolding recorded_in
 recorded_below held at ok = datas held (inner_elements at) (held record_table at.place at.inside at.element.body refl ok).each
+
+-- one more chain has its place
+one_more : (at : PlacedTlv) (es : List PlacedTlv) → at.element.kind ≡ 2049 → count (2049 ∷ []) (at ∷ es) ≡ suc (count (2049 ∷ []) es)
+one_more at es is = rw is (omega arith)
+
+pub room : (chains all : List Aggregation) (at : PlacedTlv) (es : List PlacedTlv) → at.element.kind ≡ 2049 → chains_behind chains (at ∷ es) ≡ all → length all ≤ 16 → length chains < 16
+room chains all at es is e few =
+    let n = length-behind chains (at ∷ es) in
+    let one = one_more at es is in
+    let same = ap (λ (chains : List Aggregation). length chains) e in
+    omega (arith, n, one, same, few)

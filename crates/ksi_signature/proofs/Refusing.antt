@@ -20,7 +20,7 @@ use Rattle.ksi_signature.specs.Values.{Calendar, Publishing}
 use Rattle.ksi_signature.specs.File.{Answer}
 use Rattle.ksi_signature.specs.Lengths.{capped}
 use Rattle.ksi_signature.specs.Written.{publishing_elements, first_long, TellsLong}
-use Rattle.ksi_signature.specs.Reading.{held_by}
+use Rattle.ksi_signature.specs.Reading.{held_by, elements_in}
 use Rattle.ksi_signature.specs.Extended.{content_with, extended_content, IsTooLong}
 use Rattle.ksi_signature.proofs.Capped.{size-canonical, length-joined}
 
@@ -51,7 +51,21 @@ pub long_not : {A : Type 0} (S : Type 0) (size total n : ℕ) (r : Result A (Ref
 long_not S size total n r is le never =
     (λ long. absurd (never long), λ h. let lt = h.1.long in let short = within size total is le in absurd (omega arith))
 
+pub renewed_long : {A : Type 0} (size total n : ℕ) (r : Result A (Refused WriteRefusal)) → total ≡ capped size → 65535 < total → r ≡ Err (Fault (unwritten.TooLong total)) → (r ≡ Err (Fault (unwritten.TooLong n))) ↔ IsTooLong size n
+renewed_long size total n r capped_is lt is = (
+  λ long. let one : total ≡ n = cc in record { long = above size total capped_is lt; number = sym one ∙ capped_is },
+  λ h. let number = h.number in cc,
+)
+
+pub renewed_not : {A : Type 0} (size total n : ℕ) (r : Result A (Refused WriteRefusal)) → total ≡ capped size → total ≤ 65535 → (r ≡ Err (Fault (unwritten.TooLong n)) → ⊥) → (r ≡ Err (Fault (unwritten.TooLong n))) ↔ IsTooLong size n
+renewed_not size total n r is le never =
+    (λ long. absurd (never long), λ h. let lt = h.long in let short = within size total is le in absurd (omega arith))
+
 -- the content by the elements that were found
+pub content_found : (bytes : List ℕ) (es : List PlacedTlv) (chain : Calendar) (published : Publishing) → elements_in bytes ≡ es → extended_content bytes chain published ≡ content_with bytes es chain published
+unfolding extended_content
+content_found bytes es chain published found = ap (λ (es : List PlacedTlv). content_with bytes es chain published) found
+
 pub content_same : (bytes : List ℕ) (e : Tlv) (size : ℕ) (chain : Calendar) (published : Publishing) → element_at bytes ≡ Ok (e, size)
     → extended_content bytes chain published ≡ content_with bytes (whole (elements (size - length e.body) e.body)) chain published
 unfolding extended_content

@@ -193,3 +193,11 @@ read_is laws bytes element size signature front s value =
     let same = one_front element s.1.element size (length bytes) (element_at bytes) front here in
     let values = value ∙ ap (λ (found : Tlv × ℕ). value_of found.1 found.0) same ∙ sym (is_value bytes s.0 s.1) in
     subst (IsSignature bytes) (sym values) s.1
+
+-- a fault that was found is the one there is
+pub err_found : {A : Type 0} (bytes : List ℕ) (found fault : SignatureFault) → answer_of bytes ≡ Err found → (answer_of bytes ≡ Err fault) ↔ IsSignatureFault bytes fault
+    → (◌≡◌ {A = Result A SignatureFault} (Err found) (Err fault)) ↔ IsSignatureFault bytes fault
+err_found {A} bytes found fault e law = (
+  λ is. let same : found ≡ fault = cc in law.0 (e ∙ ap (λ (fault : SignatureFault). Err fault) same),
+  λ is. let both : failed found ≡ failed fault = sym e ∙ law.1 is in let same : found ≡ fault = cc in ap (λ (fault : SignatureFault). Err fault) same,
+)

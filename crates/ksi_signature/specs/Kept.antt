@@ -41,3 +41,11 @@ pub record IsLimited (signature : Signature) : Type 0 where
   pub chains : AllByRecursion IsAggregation signature.chains
   pub calendar : IfSome signature.calendar IsCalendar
   pub publication : IfSome signature.publication IsPublishing
+
+-- what holds of a chain that is lent from bytes
+pub record IsLent (chain : Aggregation) : Type 0 where
+  pub time : chain.time < 2 ^ 63
+  pub some : 0 < length chain.index
+  pub input : IsImprint chain.input
+  pub limits : AreLinks chain.links
+  pub links : AllByRecursion IsLink chain.links

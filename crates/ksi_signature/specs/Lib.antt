@@ -12,3 +12,10 @@ pub mod Above
 pub mod Issued
 pub mod Kept
 pub mod Carried
+pub mod Heads
+pub mod LinkParts
+pub mod HeadViews
+pub mod PartsSeen
+pub mod PartsLeft
+pub mod Seen
+pub mod Gathered

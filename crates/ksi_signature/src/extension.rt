@@ -89,7 +89,7 @@ pub fn with_calendar(
 }
 
 /// The size of the new content.
-fn content_size(
+pub(crate) fn content_size(
     bytes: &[u8],
     at: &Placed<'_>,
     calendar: &CalendarChain,
@@ -140,7 +140,7 @@ fn text_in<'a>(bytes: &'a [u8], at: &Placed<'_>) -> &'a [u8]
 }
 
 /// The new signature.
-fn text_with(
+pub(crate) fn text_with(
     alloc: Global,
     bytes: &[u8],
     at: &Placed<'_>,

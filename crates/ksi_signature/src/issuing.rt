@@ -103,10 +103,18 @@ fn index_of(alloc: Global, links: &[Link], chains: &[AboveChain]) -> Result<Vec<
     let mut index = Vec::new(alloc);
     for place in 0..chains.len() {
         let chain = &chains[chains.len() - 1 - place];
-        index.push(shape(chain.links.as_slice()))?;
+        index.push(shape_of(chain.links.as_slice()))?;
     }
-    index.push(shape(links))?;
+    index.push(shape_of(links))?;
     Ok(index)
+}
+
+/// The last index part of a chain with these links.
+fn shape_of(links: &[Link]) -> u64
+    requires { length links.now ≤ 63 }
+    ensures { result ≡ shape_along links.now }
+{
+    shape(links)
 }
 
 /// Chains one above the other, the first with this index.

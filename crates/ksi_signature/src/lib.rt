@@ -3,10 +3,11 @@
 //! calendar tree, and a record of where that root was published. A file is one TLV element with these inside, in any
 //! order: Guardtime's published format, as docs/FORMATS.md tells it.
 //!
-//! The layer above may rely on this: [`read`] gives exactly the signature that the bytes are, or the first fault in
-//! reading order, which it and [`check`] find without taking memory; for all bytes exactly one of both stands; chains
-//! stand by falling number of index parts; and the types keep what the format limits: 1 to 16 chains, an index of 1 part
-//! or more, at most 63 links, raw siblings of 1 to 4,096 bytes, and times below 2^63. What [`write`] gives is the text of
+//! The layer above may rely on this: [`view`] lends exactly the signature that the bytes are, or gives the first fault in
+//! reading order, and takes no memory; [`read`] is that view copied, and [`check`] whether there is one; for all bytes
+//! exactly one of signature and fault stands; chains stand by falling number of index parts; and the types and the calls
+//! of a view keep what the format limits: 1 to 16 chains, an index of 1 part or more, at most 63 links, raw siblings of 1
+//! to 4,096 bytes, and times below 2^63. What [`write`] gives is the text of
 //! the signature, and is that signature again ([`written_is_signature`]); it refuses the first body, in the order of
 //! writing and an inner one before an outer, that has more than 65,535 bytes.
 //!
@@ -18,7 +19,7 @@
 //! let signature = read(alloc, bytes)?;
 //! if let [first, ..] = signature.chains.as_slice() {
 //!     // the next chain goes on from this item, at its level
-//!     let top = climb::<Sha>(first.input, 0, first.links.as_slice())?;
+//!     let top = climb::<Sha, Link>(first.input, 0, first.links.as_slice())?;
 //! }
 //! let proved = signature.calendar.as_ref().map(|chain| climb_calendar::<Sha>(chain.input, chain.links.as_slice()));
 //! let text = write(alloc, &signature)?; // the same signature, in the order of the format
@@ -27,41 +28,67 @@
 
 mod above;
 mod answer;
+mod arrays;
 mod bodies;
+mod calendar_link_views;
+mod calendar_view;
+mod calendar_walking;
 mod carried;
+mod chain_list;
+mod chain_view;
 mod checker;
 mod containers;
 mod contents;
+mod copies;
 mod extension;
 mod fault;
+mod gathering;
+mod head;
+mod index_parts;
 mod issuing;
 mod kinds;
 mod laws;
 mod lengths;
+mod link_parts;
+mod link_views;
+mod link_walking;
 mod links;
 mod lists;
-mod parts;
 mod reader;
+mod record_view;
 mod refusal;
+mod renewal;
 mod signature;
+mod signature_view;
 mod step;
+mod viewer;
+mod walking;
+mod within;
 mod writer;
 
 pub use above::{Above, AboveChain, AboveChains, AboveLinks};
 pub use answer::Answer;
+pub use calendar_link_views::CalendarLinkViews;
+pub use calendar_view::CalendarView;
+pub use chain_view::ChainView;
 pub use checker::check;
 pub use containers::{CalendarContent, ChainContent, LinkContent, SignatureContent};
 pub use extension::{WithRefusal, with_calendar};
 pub use fault::SignatureFault;
+pub use index_parts::IndexParts;
 pub use issuing::issue;
 pub use ksi_imprint::{NoMemory, Refused};
 pub use laws::{
     chains_in_order, extended_is_bytes, extended_is_short, extended_is_signature, issued_is_bytes,
     issued_is_signature, signature_is_read, signature_or_fault, written_is_signature,
 };
+pub use link_views::LinkViews;
 pub use lists::{Bodies, CalendarLinks, Chains, Index, Links};
 pub use reader::read;
+pub use record_view::RecordView;
 pub use refusal::WriteRefusal;
 pub use signature::{AggregationChain, CalendarChain, PublicationRecord, Signature};
+pub use signature_view::SignatureView;
 pub use step::{Sends, Step};
+pub use viewer::view;
 pub use writer::write;

@@ -5,3 +5,4 @@ pub mod Whole
 pub mod Levels
 pub mod Breaks
 pub mod Orders
+pub mod Turns

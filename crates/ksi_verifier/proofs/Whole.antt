@@ -1,5 +1,5 @@
 -- What it means that all checks pass.
-use Rattle.std.proofs.Common.{◌≡◌, ◌≢◌, ◌↔◌, ℕ, ◌<◌, not, List, [], ◌∷◌, length, Result, Ok, Err, Option, Some, None, refl, sym, ap, ◌∙◌, subst, arith}
+use Rattle.std.proofs.Common.{◌≡◌, ◌≢◌, ◌↔◌, ℕ, ◌<◌, not, List, [], ◌∷◌, length, Result, Ok, Err, Option, Some, None, option_map, refl, sym, ap, ◌∙◌, subst, arith}
 use Rattle.std.specs.Prelude.{◌==◌, IfSome}
 use Rattle.std.specs.Str.{bytes_eq}
 use Rattle.ksi_imprint.specs.Imprints.{zero_imprint}
@@ -27,12 +27,13 @@ use Rattle.ksi_verifier.specs.Chains.{PlainChain, plain_chains, first_chain, at_
 use Rattle.ksi_verifier.specs.ChainChecks.{chains_checked}
 use Rattle.ksi_verifier.specs.Verdict.{same_hash, some_calendar, or_shape, second_named, calendar_second, same_second, chain_root, same_record, same_publication, published_checks, calendar_checked, checked, or_refused, verdict}
 use Rattle.ksi_verifier.specs.Accepted.{IsAggregated, IsRecord, IsAccepted}
+use Rattle.ksi_verifier.specs.Lent.{record_of}
 use Rattle.ksi_verifier.proofs.Passing.{Passes, good, ok_is, bind_both, then_both, need_same, need_equal, need_other}
 use Rattle.ksi_verifier.proofs.Chained.{chains_both}
 
 -- ---- what was published
 
-record_both : (published : Option Publishing) (time : ℕ) (root : List ℕ) → Passes (same_record published time root) ↔ IfSome published (IsRecord time root)
+record_both : (published : Option Publishing) (time : ℕ) (root : List ℕ) → Passes (same_record (option_map record_of published) time root) ↔ IfSome published (IsRecord time root)
 record_both None time root = (λ e. tt, λ h. refl)
 record_both (Some published) time root =
     let time_differs = RecordDiffers (differences.Time published.time time) in
@@ -84,9 +85,9 @@ times_both calendar_time chain_time t =
     (λ e. (first.0 (both.0 e).0, second.0 (both.0 e).1), λ h. both.1 (first.1 h.0, second.1 h.1))
 
 published_both : (published : Option Publishing) (publications : List (ℕ × List ℕ)) (time : ℕ) (root : List ℕ)
-    → Passes (published_checks published publications time root) ↔ (IfSome published (IsRecord time root) × (find time publications ≡ Some root))
+    → Passes (published_checks (option_map record_of published) publications time root) ↔ (IfSome published (IsRecord time root) × (find time publications ≡ Some root))
 published_both published publications time root =
-    let both = then_both (same_record published time root) (same_publication (find time publications) time root) tt in
+    let both = then_both (same_record (option_map record_of published) time root) (same_publication (find time publications) time root) tt in
     let records = record_both published time root in
     let found = found_both (find time publications) time root in
     (λ e. (records.0 (both.0 e).0, found.0 (both.0 e).1), λ h. both.1 (records.1 h.0, found.1 h.1))
@@ -99,12 +100,12 @@ record GoesOn (image : List ℕ → List ℕ) (aggregation : Aggregated) (calend
 
 module _ (image : List ℕ → List ℕ) (aggregation : Aggregated) (calendar : Calendar) (published : Option Publishing) (publications : List (ℕ × List ℕ)) (t : ℕ) where
   abbrev listed : Result (Unit {0}) Refusal
-  listed = published_checks published publications calendar.publication (chain_root image calendar)
+  listed = published_checks (option_map record_of published) publications calendar.publication (chain_root image calendar)
 
   abbrev timed : ℕ → Result ℕ Refusal
   timed second = same_second calendar.time aggregation.time second >> (listed >> good second)
 
-  goes_on : calendar_checked image aggregation calendar published publications ≡ Ok t → GoesOn image aggregation calendar published publications t
+  goes_on : calendar_checked image aggregation calendar (option_map record_of published) publications ≡ Ok t → GoesOn image aggregation calendar published publications t
   goes_on e =
       let first = (bind_both (calendar_second aggregation.item calendar) timed t).0 e in
       let second = first.0 in
@@ -117,7 +118,7 @@ module _ (image : List ℕ → List ℕ) (aggregation : Aggregated) (calendar : 
         found = (published_both published publications calendar.publication (chain_root image calendar)).0 last.0;
       }
 
-  comes_from : GoesOn image aggregation calendar published publications t → calendar_checked image aggregation calendar published publications ≡ Ok t
+  comes_from : GoesOn image aggregation calendar published publications t → calendar_checked image aggregation calendar (option_map record_of published) publications ≡ Ok t
   comes_from h =
       let named = (named_both aggregation.item calendar t).1 h.named in
       let times = (times_both calendar.time aggregation.time t).1 h.times in
@@ -141,12 +142,12 @@ module _ (image : List ℕ → List ℕ) (climbs : (start top : Node) (links : L
   chains = plain_chains signature.chains
 
   abbrev above : Aggregated → Calendar → Result ℕ Refusal
-  above aggregation calendar = calendar_checked image aggregation calendar signature.publication publications
+  above aggregation calendar = calendar_checked image aggregation calendar (option_map record_of signature.publication) publications
 
   abbrev calendars : Aggregated → Result ℕ Refusal
   calendars aggregation = some_calendar signature.calendar >>= above aggregation
 
-  forward : checked image chains signature.calendar signature.publication hash publications ≡ Ok t → IsAccepted image signature hash publications t
+  forward : checked image chains signature.calendar (option_map record_of signature.publication) hash publications ≡ Ok t → IsAccepted image signature hash publications t
   forward e =
       let first = (then_both (same_hash (first_chain chains).input hash) (chains_checked image chains >>= calendars) t).0 e in
       let hashes = (need_same (first_chain chains).input hash (WrongHash (first_chain chains).input hash)).0 first.0 in
@@ -172,7 +173,7 @@ module _ (image : List ℕ → List ℕ) (climbs : (start top : Node) (links : L
         published = on.found.1;
       }
 
-  backward : IsAccepted image signature hash publications t → checked image chains signature.calendar signature.publication hash publications ≡ Ok t
+  backward : IsAccepted image signature hash publications t → checked image chains signature.calendar (option_map record_of signature.publication) hash publications ≡ Ok t
   backward h =
       let aggregation : Aggregated = record { time = t; item = h.item } in
       let hashes = first_is image chains hash t h.item h.chains in
@@ -190,5 +191,5 @@ module _ (image : List ℕ → List ℕ) (climbs : (start top : Node) (links : L
   pub accepted_both : (verdict image signature hash publications ≡ Accepted t) ↔ IsAccepted image signature hash publications t
   unfolding verdict
   accepted_both =
-      let both = refused_both (checked image chains signature.calendar signature.publication hash publications) t in
+      let both = refused_both (checked image chains signature.calendar (option_map record_of signature.publication) hash publications) t in
       (λ e. forward (both.0 e), λ h. both.1 (backward h))

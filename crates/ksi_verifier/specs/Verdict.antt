@@ -1,5 +1,5 @@
 -- The verdict on a signature: the first check that fails, or the second that the signature proves.
-use Rattle.std.specs.Prelude.{ℕ, ◌==◌, not, List, Option, Some, None, Result, Ok, Err}
+use Rattle.std.specs.Prelude.{ℕ, ◌==◌, not, List, Option, Some, None, option_map, Result, Ok, Err}
 use Rattle.std.specs.Str.{bytes_eq}
 use Rattle.ksi_imprint.specs.Imprints.{zero_imprint}
 use Rattle.ksi_split.specs.Parts.{second_at}
@@ -9,10 +9,11 @@ use Rattle.ksi_aggchain.specs.declared.node.Node.{Node}
 use Rattle.ksi_calchain.specs.Climbing.{calendar_join}
 use Rattle.ksi_calchain.specs.Sides.{sides_from_top}
 use Rattle.ksi_publications.specs.Finding.{find}
-use Rattle.ksi_signature.specs.Values.{Calendar, Publishing}
+use Rattle.ksi_signature.specs.Values.{Calendar}
 use Rattle.ksi_signature.specs.declared.signature.Signature.{Signature}
 use Rattle.ksi_verifier.specs.declared.aggregated.Aggregated.{Aggregated}
 use Rattle.ksi_verifier.specs.declared.difference.RecordDifference.TheVariants as differences
+use Rattle.ksi_verifier.specs.declared.lent.RecordPart.{RecordPart}
 use Rattle.ksi_verifier.specs.declared.refusal.Refusal.{Refusal}
 use Rattle.ksi_verifier.specs.declared.refusal.Refusal.TheVariants.{WrongHash, NoCalendar, CalendarInput, MissedSecond, CalendarShape, TimeField, RecordDiffers, NoPublication, PublicationDiffers}
 use Rattle.ksi_verifier.specs.declared.verdict.Verdict.{Verdict}
@@ -20,6 +21,7 @@ use Rattle.ksi_verifier.specs.declared.verdict.Verdict.TheVariants.{Accepted, Re
 use Rattle.ksi_verifier.specs.Checks.{◌>>=◌, ◌>>◌, need}
 use Rattle.ksi_verifier.specs.Chains.{PlainChain, plain_chains, first_chain}
 use Rattle.ksi_verifier.specs.ChainChecks.{chains_checked}
+use Rattle.ksi_verifier.specs.Lent.{record_of}
 
 -- V1: the first chain's input hash is the given one
 abbrev pub same_hash : List ℕ → List ℕ → Result (Unit {0}) Refusal
@@ -61,7 +63,7 @@ abbrev pub chain_root : (List ℕ → List ℕ) → Calendar → List ℕ
 chain_root image calendar = climb_links (calendar_join image) calendar.input calendar.links
 
 -- V12: a publication record, where there is one, has the publication time and the root
-abbrev pub same_record : Option Publishing → ℕ → List ℕ → Result (Unit {0}) Refusal
+abbrev pub same_record : Option RecordPart → ℕ → List ℕ → Result (Unit {0}) Refusal
 same_record None time root = Ok tt
 same_record (Some published) time root = do
   need (published.time == time) (RecordDiffers (differences.Time published.time time))
@@ -73,14 +75,14 @@ same_publication None time root = Err (NoPublication time)
 same_publication (Some hash) time root = need (bytes_eq hash root) (PublicationDiffers time hash root)
 
 -- V12, V13 and V14
-abbrev pub published_checks : Option Publishing → List (ℕ × List ℕ) → ℕ → List ℕ → Result (Unit {0}) Refusal
+abbrev pub published_checks : Option RecordPart → List (ℕ × List ℕ) → ℕ → List ℕ → Result (Unit {0}) Refusal
 published_checks published publications time root = do
   same_record published time root
   same_publication (find time publications) time root
 
 -- ---- V8 to V14: the second, of an aggregation and a calendar chain, or the first check that fails
 
-abbrev pub calendar_checked : (List ℕ → List ℕ) → Aggregated → Calendar → Option Publishing → List (ℕ × List ℕ) → Result ℕ Refusal
+abbrev pub calendar_checked : (List ℕ → List ℕ) → Aggregated → Calendar → Option RecordPart → List (ℕ × List ℕ) → Result ℕ Refusal
 calendar_checked image aggregation calendar published publications = do
   second ← calendar_second aggregation.item calendar
   same_second calendar.time aggregation.time second
@@ -89,8 +91,8 @@ calendar_checked image aggregation calendar published publications = do
 
 -- ---- V1 to V14
 
--- of chains, a calendar chain and a publication record
-abbrev pub checked : (List ℕ → List ℕ) → List PlainChain → Option Calendar → Option Publishing → List ℕ → List (ℕ × List ℕ) → Result ℕ Refusal
+-- of chains, a calendar chain and what a publication record states
+abbrev pub checked : (List ℕ → List ℕ) → List PlainChain → Option Calendar → Option RecordPart → List ℕ → List (ℕ × List ℕ) → Result ℕ Refusal
 checked image chains calendar_chain published hash publications = do
   same_hash (first_chain chains).input hash
   aggregation ← chains_checked image chains
@@ -103,4 +105,4 @@ or_refused (Err refusal) = Refused refusal
 
 -- of a signature, for a hash and the times and hashes of a publications file
 unfoldable pub verdict : (List ℕ → List ℕ) → Signature → List ℕ → List (ℕ × List ℕ) → Verdict
-verdict image signature hash publications = or_refused (checked image (plain_chains signature.chains) signature.calendar signature.publication hash publications)
+verdict image signature hash publications = or_refused (checked image (plain_chains signature.chains) signature.calendar (option_map record_of signature.publication) hash publications)

@@ -5,33 +5,44 @@ ghost use Rattle.ksi_verifier.specs.ChainChecks.{same_parts};
 
 use crate::index::compare_parts;
 use crate::refusal::Refusal;
-use ksi_aggchain::{LevelFault, Node, climb, shape};
+use ksi_aggchain::{LevelFault, Link, Node, climb, shape};
 use ksi_imprint::{Compress, Imprint};
 use ksi_signature::AggregationChain;
 
-/// An aggregation chain as the checks see it, whoever owns its parts.
-pub(crate) trait AnyChain {
+/// An aggregation chain as checks and audits see it, whoever owns its parts.
+pub trait AnyChain {
+    /// The chain's time, index, input hash and links.
     ghost plain: { Self → PlainChain };
 
+    /// The second that it states.
     fn time(&self) -> u64
         ensures { result ≡ (plain self.now).time };
 
+    /// The input hash.
     fn input(&self) -> Imprint
         ensures { result ≡ (plain self.now).input };
 
+    /// The last part of its index.
     fn last_part(&self) -> u64
         ensures { result ≡ last_part (plain self.now).index };
 
+    /// The shape of its links.
     fn shape(&self) -> u64
         ensures { result ≡ chain_shape (plain self.now) };
 
     /// Compares the index without its last part with that of the chain above, this one being chain `k`.
+    ///
+    /// # Errors
+    /// `IndexOrder` with the first place where they differ.
     fn compare_index(&self, k: u64, higher: &Self) -> Result<(), Refusal>
         ensures { result ≡ same_parts k 0 (without_last (plain self.now).index) (plain higher.now).index };
 
-    /// The item that the links lead to from the input hash.
-    fn climb<C: Compress>(&self, level: u8) -> Result<Node, LevelFault>
-        ensures { result ≡ climbed C.image 0 (record { imprint = (plain self.now).input; level = level }) (plain self.now).links };
+    /// The item that the links lead to from an item.
+    ///
+    /// # Errors
+    /// `Over` with the first link whose level passes 255.
+    fn climb<C: Compress>(&self, start: Node) -> Result<Node, LevelFault>
+        ensures { result ≡ climbed C.image 0 start (plain self.now).links };
 }
 
 impl AnyChain for AggregationChain {
@@ -59,7 +70,7 @@ impl AnyChain for AggregationChain {
         compare_parts(k, &parts[..parts.len() - 1], higher.index.as_slice())
     }
 
-    fn climb<C: Compress>(&self, level: u8) -> Result<Node, LevelFault> {
-        climb::<C>(self.input, level, self.links.as_slice())
+    fn climb<C: Compress>(&self, start: Node) -> Result<Node, LevelFault> {
+        climb::<C, Link>(start.imprint, start.level, self.links.as_slice())
     }
 }

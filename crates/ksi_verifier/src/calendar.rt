@@ -1,16 +1,17 @@
 // The checks of a calendar chain.
 ghost use Rattle.std.specs.Prelude.{◌≡◌};
+ghost use Rattle.ksi_verifier.specs.Lent.{calendar_of};
 ghost use Rattle.ksi_verifier.specs.Verdict.{calendar_second, same_second, second_named};
 
+use crate::lent::CalendarPart;
 use crate::refusal::Refusal;
 use ksi_aggchain::Node;
 use ksi_calchain::second;
 use ksi_imprint::Imprint;
-use ksi_signature::CalendarChain;
 
 /// V8, V9 and V10: the second that the sides name.
-pub(crate) fn check_calendar(item: &Node, calendar: &CalendarChain) -> Result<u64, Refusal>
-    ensures { result ≡ calendar_second item.now calendar.now }
+pub(crate) fn check_calendar(item: &Node, calendar: &CalendarPart<'_>) -> Result<u64, Refusal>
+    ensures { result ≡ calendar_second item.now (calendar_of calendar.now) }
 {
     if calendar.input != item.imprint {
         return Err(Refusal::CalendarInput {
@@ -24,10 +25,10 @@ pub(crate) fn check_calendar(item: &Node, calendar: &CalendarChain) -> Result<u6
     second_named(calendar)
 }
 
-fn second_named(calendar: &CalendarChain) -> Result<u64, Refusal>
-    ensures { result ≡ second_named calendar.now }
+fn second_named(calendar: &CalendarPart<'_>) -> Result<u64, Refusal>
+    ensures { result ≡ second_named (calendar_of calendar.now) }
 {
-    match second(calendar.publication, calendar.links.as_slice()) {
+    match second(calendar.publication, calendar.links) {
         Ok(second) => Ok(second),
         Err(fault) => Err(Refusal::CalendarShape(fault)),
     }

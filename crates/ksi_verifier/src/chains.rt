@@ -113,7 +113,11 @@ fn first_break(
 fn climb_one<C: Compress, T: AnyChain>(k: u64, level: u8, chain: &T) -> Result<Node, Refusal>
     ensures { result ≡ top_of C.image k level (T.plain chain.now) }
 {
-    match chain.climb::<C>(level) {
+    let start = Node {
+        imprint: chain.input(),
+        level,
+    };
+    match chain.climb::<C>(start) {
         Ok(top) => Ok(top),
         Err(LevelFault::Over { link, level }) => Err(Refusal::Level {
             chain: k,

@@ -1,21 +1,24 @@
-ghost use Rattle.std.specs.Prelude.{◌≡◌, ◌↔◌, ◌<◌, ℕ, length, map};
+ghost use Rattle.std.specs.Prelude.{◌≡◌, ◌↔◌, ◌<◌, ℕ, length, map, option_map};
 ghost use Rattle.ksi_verifier.specs.declared.verdict.Verdict.TheVariants as verdicts;
 ghost use Rattle.ksi_verifier.specs.Accepted.{IsAccepted};
 ghost use Rattle.ksi_verifier.specs.ChainChecks.{aggregated};
-ghost use Rattle.ksi_verifier.specs.Verdict.{calendar_checked, checked, verdict};
+ghost use Rattle.ksi_verifier.specs.Lent.{calendar_of};
+ghost use Rattle.ksi_verifier.specs.Verdict.{calendar_checked, checked, or_refused, verdict};
 
 use crate::aggregated::Aggregated;
 use crate::any_chain::AnyChain;
 use crate::calendar::{check_calendar, check_second};
 use crate::chains::check_chains;
 use crate::laws::accepted;
+use crate::lent::{CalendarPart, RecordPart};
+use crate::owned::{calendar_part, record_part};
 use crate::publication::check_published;
 use crate::refusal::Refusal;
 use crate::verdict::Verdict;
 use ksi_calchain::climb_calendar;
 use ksi_imprint::{Compress, Imprint};
 use ksi_publications::Publications;
-use ksi_signature::{AggregationChain, CalendarChain, PublicationRecord, Signature};
+use ksi_signature::{AggregationChain, Signature};
 
 /// What the aggregation chains of a signature come to.
 ///
@@ -50,28 +53,30 @@ fn verdict<C: Compress>(
     ensures { result ≡ verdict C.image signature.now hash.now publications.now }
 {
     let chains = signature.chains.as_slice();
-    match check::<C, AggregationChain>(
-        chains,
-        &signature.calendar,
-        &signature.publication,
-        hash,
-        publications,
-    ) {
+    let calendar = calendar_part(&signature.calendar);
+    let record = record_part(&signature.publication);
+    verdict_of(check::<C, AggregationChain>(chains, &calendar, &record, hash, publications))
+}
+
+pub(crate) fn verdict_of(checked: Result<u64, Refusal>) -> Verdict
+    ensures { result ≡ or_refused checked }
+{
+    match checked {
         Ok(second) => Verdict::Accepted(second),
         Err(refusal) => Verdict::Refused(refusal),
     }
 }
 
-/// The checks V1 to V14 in their order, whoever owns the chains.
-fn check<C: Compress, T: AnyChain>(
+/// The checks V1 to V14 in their order, whoever owns the parts.
+pub(crate) fn check<C: Compress, T: AnyChain>(
     chains: &[T],
-    calendar: &Option<CalendarChain>,
-    published: &Option<PublicationRecord>,
+    calendar: &Option<CalendarPart<'_>>,
+    published: &Option<RecordPart>,
     hash: &Imprint,
     publications: &Publications,
 ) -> Result<u64, Refusal>
     requires { 0 < length chains.now }
-    ensures { result ≡ checked C.image (map T.plain chains.now) calendar.now published.now hash.now publications.now }
+    ensures { result ≡ checked C.image (map T.plain chains.now) (option_map calendar_of calendar.now) published.now hash.now publications.now }
 {
     let input = chains[0].input();
     if input != *hash {
@@ -93,11 +98,11 @@ fn check<C: Compress, T: AnyChain>(
 /// The checks V8 to V14, where the chains come to an item.
 fn check_above<C: Compress>(
     aggregated: &Aggregated,
-    calendar: &CalendarChain,
-    published: &Option<PublicationRecord>,
+    calendar: &CalendarPart<'_>,
+    published: &Option<RecordPart>,
     publications: &Publications,
 ) -> Result<u64, Refusal>
-    ensures { result ≡ calendar_checked C.image aggregated.now calendar.now published.now publications.now }
+    ensures { result ≡ calendar_checked C.image aggregated.now (calendar_of calendar.now) published.now publications.now }
 {
     let second = match check_calendar(&aggregated.item, calendar) {
         Ok(second) => second,
@@ -106,7 +111,7 @@ fn check_above<C: Compress>(
     if let Err(refusal) = check_second(calendar.time, aggregated.time, second) {
         return Err(refusal);
     }
-    let root = climb_calendar::<C>(calendar.input, calendar.links.as_slice());
+    let root = climb_calendar::<C>(calendar.input, calendar.links);
     match check_published(published, publications, calendar.publication, root) {
         Ok(()) => Ok(second),
         Err(refusal) => Err(refusal),

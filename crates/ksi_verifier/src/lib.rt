@@ -8,34 +8,46 @@
 //!
 //! The layer above may rely on this: [`verify`] gives the verdict, which is the first check that fails, with its values, or
 //! the second that the signature proves, and its clause `accepted` says what an accepted signature is, without an order of
-//! checks; [`aggregate`] does V2 to V6 alone, and gives the chains' time and the item that they lead to. No call takes
-//! memory. In [`laws`] stands what the checks mean whatever their order: `accepted` turns an accepted signature into the
+//! checks; [`verify_view`] does the same for a lent signature, by the same body, and [`verify_bytes`] for bytes, whose
+//! first fault it gives where they are no signature; [`aggregate`] does V2 to V6 alone, and gives the chains' time and the
+//! item that they lead to. No call takes memory, so that none may want it. In [`laws`] stands what the checks mean whatever their order: `accepted` turns an accepted signature into the
 //! facts that make it one, and back.
 //!
 //! ```text
-//! let signature = ksi_signature::read(alloc, bytes)?;
 //! let publications = ksi_publications::read(alloc, file)?;
-//! match verify::<Sha>(&signature, &hash, &publications) {
-//!     Verdict::Accepted(second) => ..,
-//!     Verdict::Refused(refusal) => ..,
+//! match verify_bytes::<Sha>(bytes, &hash, &publications) {
+//!     BytesVerdict::Accepted(second) => ..,
+//!     BytesVerdict::Refused(refusal) => ..,
+//!     BytesVerdict::Malformed(fault) => ..,
 //! }
 //! ```
 #![tactic(auto)]
 
 mod aggregated;
 mod any_chain;
+mod bytes_checking;
+mod bytes_verdict;
 mod calendar;
 mod chains;
 mod checking;
 mod difference;
 mod index;
 pub mod laws;
+mod lent;
+mod lent_chain;
+mod lent_checking;
+mod owned;
 mod publication;
 mod refusal;
 mod verdict;
 
 pub use aggregated::Aggregated;
+pub use any_chain::AnyChain;
+pub use bytes_checking::verify_bytes;
+pub use bytes_verdict::BytesVerdict;
 pub use checking::{aggregate, verify};
 pub use difference::RecordDifference;
+pub use lent::{CalendarPart, RecordPart};
+pub use lent_checking::{lent_calendar, verify_view};
 pub use refusal::Refusal;
 pub use verdict::Verdict;

@@ -3,14 +3,14 @@ ghost use Rattle.std.specs.Prelude.{◌≡◌};
 ghost use Rattle.ksi_verifier.specs.Verdict.{published_checks, same_publication, same_record};
 
 use crate::difference::RecordDifference;
+use crate::lent::RecordPart;
 use crate::refusal::Refusal;
 use ksi_imprint::Imprint;
 use ksi_publications::Publications;
-use ksi_signature::PublicationRecord;
 
 /// V12, V13 and V14: what was published for a time is the root.
 pub(crate) fn check_published(
-    published: &Option<PublicationRecord>,
+    published: &Option<RecordPart>,
     publications: &Publications,
     time: u64,
     root: Imprint,
@@ -23,11 +23,7 @@ pub(crate) fn check_published(
     }
 }
 
-fn check_record(
-    published: &Option<PublicationRecord>,
-    time: u64,
-    root: Imprint,
-) -> Result<(), Refusal>
+fn check_record(published: &Option<RecordPart>, time: u64, root: Imprint) -> Result<(), Refusal>
     ensures { result ≡ same_record published.now time root }
 {
     let published = match published {

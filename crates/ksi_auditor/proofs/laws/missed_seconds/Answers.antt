@@ -21,5 +21,7 @@ returns c =
       within = c.calendar_is_covered.ensures.within;
       root = c.calendar_is_covered.ensures.root;
       none = c.one_first_missing.ensures.none;
+      clash = c.beside_a_tree.ensures.clash;
+      beside = c.beside_a_tree.ensures.within;
     } in
     λ image journal signature hash publications t lawful is_journal imprint passes decided missed. missed_shows laws image lawful journal is_journal signature hash publications imprint.size t passes decided missed

@@ -1,7 +1,0 @@
-use Rattle.std.proofs.Common.{◌≡◌, ◌+◌, map, drop}
-use Rattle.ksi_aggchain.specs.Shapes.{left_powers, shape_of}
-use Rattle.ksi_aggchain.proofs.shapes.shape_along.Given as goal
-
-abbrev pub invariant-loop-place : goal.invariant-loop-place
-invariant-loop-place g l =
-    l.shape + left_powers l.place (drop l.place (map (λ link. (g.L.AnyLink.plain link).side) l.links)) ≡ shape_of (map (λ link. (g.L.AnyLink.plain link).side) l.links)

@@ -1,0 +1,58 @@
+ghost use Rattle.std.specs.Prelude.{◌≡◌};
+ghost use Rattle.ksi_aggchain.specs.Links.{PlainLink};
+ghost use Rattle.ksi_aggchain.specs.Owned.{plain_link};
+ghost use Rattle.ksi_aggchain.specs.Lent.{lent_link};
+
+use crate::link::Link;
+use crate::link_view::LinkView;
+use ksi_split::Side;
+
+/// A link as climbing sees it, whoever owns its sibling's bytes.
+pub trait ChainLink {
+    /// The link's side, correction and sibling.
+    ghost plain: { Self → PlainLink };
+
+    /// Which part of its join a node is that is climbed from.
+    fn side(&self) -> Side
+        ensures { result ≡ (plain self.now).side };
+
+    /// How many levels more than one the link goes up.
+    fn correction(&self) -> u8
+        ensures { result ≡ (plain self.now).correction };
+
+    /// The bytes that the join has of the other part.
+    fn sibling(&self) -> &[u8]
+        ensures { result.now ≡ (plain self.now).sibling };
+}
+
+impl ChainLink for Link {
+    ghost plain = { plain_link };
+
+    fn side(&self) -> Side {
+        self.side
+    }
+
+    fn correction(&self) -> u8 {
+        self.correction
+    }
+
+    fn sibling(&self) -> &[u8] {
+        self.sibling.bytes()
+    }
+}
+
+impl ChainLink for LinkView<'_> {
+    ghost plain = { lent_link };
+
+    fn side(&self) -> Side {
+        self.side
+    }
+
+    fn correction(&self) -> u8 {
+        self.correction
+    }
+
+    fn sibling(&self) -> &[u8] {
+        self.sibling
+    }
+}

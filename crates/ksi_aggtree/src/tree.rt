@@ -1,0 +1,79 @@
+//! The tree over lent items.
+ghost use Rattle.std.specs.Prelude.{◌≡◌, ◌<◌, ◌≤◌, ◌-◌, ◌↔◌, ◌++◌, ◌∷◌, [], ℕ, Some, None, length};
+ghost use Rattle.ksi_split.specs.Ways.{LeadsTo, PassesLeaf};
+ghost use Rattle.ksi_aggtree.specs.Rounds.{most_items, highest_item, item_at, IsRound, some_items, tree_from, tree_of, node_of};
+
+use crate::item::Item;
+use crate::laws::one_part;
+use crate::over::{node_with, root_with};
+use ksi_aggchain::Node;
+use ksi_imprint::Compress;
+use ksi_split::Side;
+use ksi_split::laws::{one_answer, parts};
+use std::marker::{Model, PhantomData};
+
+/// The tree over items that are lent, of which there is one at least. It takes no memory: each node is computed from the
+/// leaves below it, by one join fewer than these are. A contract sees the list of items.
+#[derive(Drop)]
+pub struct Tree<'a, C: Compress> {
+    others: &'a [Item],
+    last: &'a Item,
+    compress: PhantomData<C>,
+}
+
+impl<'a, C: Compress> Model for Tree<'a, C> {
+    ghost use Rattle.std.specs.Prelude.{List, [], ◌∷◌, ◌++◌};
+    ghost use Rattle.ksi_aggtree.specs.declared.item.Item as item;
+    ghost use Rattle.ksi_aggtree.specs.Reached.{IsLent};
+
+    ghost Value = { List item.Item };
+
+    ghost view = { λ t. t.others.now ++ t.last.now ∷ [] };
+
+    ghost invariant = { λ t. IsLent t.others.now t.last.now };
+}
+
+impl<'a, C: Compress> Tree<'a, C> {
+    /// The tree over the items of a round, none where there is no item.
+    pub fn over(items: &'a [Item]) -> Option<Self>
+        requires { IsRound items.now }
+        ensures { result ≡ some_items items.now }
+    {
+        let (last, others) = items.split_last()?;
+        Some(Self::behind(others, last))
+    }
+
+    /// The tree over a last item and the others before it.
+    fn behind(others: &'a [Item], last: &'a Item) -> Self
+        requires few { length others.now < most_items }
+        requires low { (k : ℕ) → (item_at others.now k).level ≤ highest_item }
+        requires last { last.now.level ≤ highest_item }
+        ensures { result ≡ others.now ++ last.now ∷ [] }
+    {
+        Tree {
+            others,
+            last,
+            compress: PhantomData,
+        }
+    }
+
+    /// The node at the top.
+    pub fn root(&self) -> Node
+        ensures { result ≡ tree_of C.image self.now }
+    {
+        root_with::<C>(self.others, self.last)
+    }
+
+    /// The node that sides from the top lead to, none exactly where they go past a leaf.
+    pub fn node(&self, sides: &[Side]) -> Option<Node>
+        ensures node { result ≡ node_of C.image self.now sides.now }
+        ensures some { (first count : ℕ) → LeadsTo (length self.now) sides.now first count →
+            result ≡ Some (tree_from C.image self.now first count) }
+        ensures none { (result ≡ None) ↔ ((place : ℕ) × PassesLeaf (length self.now - 1) sides.now place) }
+    {
+        one_part();
+        one_answer();
+        parts();
+        node_with::<C>(self.others, self.last, sides)
+    }
+}

@@ -1,0 +1,4 @@
+pub mod Parts
+pub mod Beside
+pub mod Standing
+pub mod Walks

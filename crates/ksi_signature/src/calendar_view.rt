@@ -1,0 +1,86 @@
+ghost use Rattle.std.specs.Prelude.{◌≡◌, Ok};
+ghost use Rattle.ksi_tlv.specs.Views.{view_placed};
+ghost use Rattle.ksi_grammar.specs.Reading.{inner_verdict};
+ghost use Rattle.ksi_signature.specs.Tables.{calendar_table};
+ghost use Rattle.ksi_signature.specs.Contents.{calendar_in};
+
+use crate::calendar_link_views::CalendarLinkViews;
+use crate::calendar_walking::{calendar_head_in, calendar_links_in};
+use crate::within::{calendar_is_limited, imprint_in_calendar};
+use ksi_imprint::Imprint;
+use ksi_tlv::Placed;
+
+/// A calendar chain, lent from the bytes of its signature.
+#[derive(Clone, Copy)]
+pub struct CalendarView<'a> {
+    at: Placed<'a>,
+    publication: u64,
+    time: u64,
+    input: &'a [u8],
+    ghost accepted: { inner_verdict calendar_table (view_placed at) ≡ Ok tt },
+    ghost publication_is: { publication ≡ (calendar_in (view_placed at)).publication },
+    ghost time_is: { time ≡ (calendar_in (view_placed at)).time },
+    ghost input_is: { input.now ≡ (calendar_in (view_placed at)).input },
+}
+
+impl<'a> CalendarView<'a> {
+    ghost use Rattle.std.specs.Prelude.{◌≡◌, ◌<◌, ◌≤◌, ◌^◌, Ok, length};
+    ghost use Rattle.ksi_tlv.specs.Views.{view_placed};
+    ghost use Rattle.ksi_grammar.specs.Reading.{inner_verdict};
+    ghost use Rattle.ksi_signature.specs.Tables.{calendar_table};
+    ghost use Rattle.ksi_signature.specs.Contents.{calendar_in};
+    ghost use Rattle.ksi_signature.specs.PartsSeen.{calendar_seen};
+
+    /// The chain that an accepted element is.
+    pub(crate) fn new(at: &Placed<'a>) -> Self
+        requires { inner_verdict calendar_table (view_placed at.now) ≡ Ok tt }
+        ensures { calendar_seen result ≡ calendar_in (view_placed at.now) }
+    {
+        let head = calendar_head_in(at);
+        let time = match head.time {
+            Some(time) => time,
+            None => head.publication,
+        };
+        CalendarView {
+            at: *at,
+            publication: head.publication,
+            time,
+            input: head.input,
+        }
+    }
+
+    /// The last second of the tree that the links lead to the root of.
+    pub fn publication(&self) -> u64
+        ensures value { result ≡ (calendar_seen self.now).publication }
+        ensures below { result < 2 ^ 63 }
+    {
+        calendar_is_limited(&self.at);
+        self.publication
+    }
+
+    /// The second that the links lead from.
+    pub fn time(&self) -> u64
+        ensures value { result ≡ (calendar_seen self.now).time }
+        ensures below { result < 2 ^ 63 }
+    {
+        calendar_is_limited(&self.at);
+        self.time
+    }
+
+    /// What is stated as the root of that second.
+    pub fn input(&self) -> Imprint
+        ensures { result ≡ (calendar_seen self.now).input }
+    {
+        imprint_in_calendar(&self.at, self.input)
+    }
+
+    /// The links, the lowest first, copied into an array.
+    #[tactic(auto, unfolding(crate::specs::Contents::calendar_in))]
+    pub fn links(&self) -> CalendarLinkViews
+        ensures links { result ≡ (calendar_seen self.now).links }
+        ensures count { length result ≤ 63 }
+    {
+        calendar_is_limited(&self.at);
+        calendar_links_in(&self.at)
+    }
+}

@@ -1,0 +1,110 @@
+ghost use Rattle.std.specs.Prelude.{◌≡◌, Ok};
+ghost use Rattle.ksi_tlv.specs.Views.{view_placed};
+ghost use Rattle.ksi_grammar.specs.Reading.{inner_verdict};
+ghost use Rattle.ksi_signature.specs.Tables.{chain_table};
+ghost use Rattle.ksi_signature.specs.Contents.{chain_in};
+ghost use Rattle.ksi_signature.specs.Heads.{head_of};
+ghost use Rattle.ksi_signature.specs.HeadViews.{view_head};
+
+use crate::head::Head;
+use crate::index_parts::IndexParts;
+use crate::link_views::LinkViews;
+use crate::link_walking::links_in;
+use crate::walking::head_in;
+use crate::within::{chain_is_limited, imprint_in_chain, parts_are_numbers};
+use ksi_imprint::Imprint;
+use ksi_tlv::{Elements, Placed};
+
+/// An aggregation chain, lent from the bytes of its signature.
+#[derive(Clone, Copy)]
+pub struct ChainView<'a> {
+    pub(crate) at: Placed<'a>,
+    head: Head<'a>,
+    ghost accepted: { inner_verdict chain_table (view_placed at) ≡ Ok tt },
+    ghost told: { view_head head ≡ head_of (chain_in (view_placed at)) },
+}
+
+impl<'a> ChainView<'a> {
+    ghost use Rattle.std.specs.Prelude.{◌≡◌, ◌<◌, ◌≤◌, ◌^◌, Ok, length, option_map};
+    ghost use Rattle.std.specs.List.{AllByRecursion};
+    ghost use Rattle.ksi_aggchain.specs.Owned.{plain_links};
+    ghost use Rattle.ksi_tlv.specs.Views.{view_placed};
+    ghost use Rattle.ksi_grammar.specs.Reading.{inner_verdict};
+    ghost use Rattle.ksi_signature.specs.Tables.{chain_table};
+    ghost use Rattle.ksi_signature.specs.Contents.{chain_in};
+    ghost use Rattle.ksi_signature.specs.Heads.{last_part};
+    ghost use Rattle.ksi_signature.specs.Values.{AreLinks};
+    ghost use Rattle.ksi_signature.specs.Kept.{IsLink};
+    ghost use Rattle.ksi_signature.specs.PartsLeft.{parts_left};
+    ghost use Rattle.ksi_signature.specs.PartsSeen.{chain_seen};
+
+    /// The chain that an accepted element is.
+    pub(crate) fn new(at: &Placed<'a>) -> Self
+        requires { inner_verdict chain_table (view_placed at.now) ≡ Ok tt }
+        ensures { chain_seen result ≡ chain_in (view_placed at.now) }
+    {
+        let head = head_in(at);
+        ChainView { at: *at, head }
+    }
+
+    /// The second of the aggregation.
+    pub fn time(&self) -> u64
+        ensures value { result ≡ (chain_seen self.now).time }
+        ensures below { result < 2 ^ 63 }
+    {
+        chain_is_limited(&self.at);
+        self.head.time
+    }
+
+    /// What the links lead from.
+    pub fn input(&self) -> Imprint
+        ensures { result ≡ (chain_seen self.now).input }
+    {
+        imprint_in_chain(&self.at, self.head.input)
+    }
+
+    /// What was hashed into the input, where it is told.
+    pub fn input_body(&self) -> Option<&'a [u8]>
+        ensures { option_map (λ body. body.now) result ≡ (chain_seen self.now).input_body }
+    {
+        self.head.input_body
+    }
+
+    /// The parts of the index in turn.
+    #[tactic(auto, unfolding(crate::specs::Contents::chain_in))]
+    pub fn index(&self) -> IndexParts<'a>
+        ensures { parts_left result ≡ (chain_seen self.now).index }
+    {
+        parts_are_numbers(&self.at);
+        let elements = Elements::at(self.at.inside, self.at.element.body);
+        IndexParts::new(elements, self.head.parts)
+    }
+
+    /// The last part of the index.
+    pub fn last_part(&self) -> u64
+        ensures { result ≡ last_part (chain_seen self.now).index }
+    {
+        self.head.last
+    }
+
+    /// The links, the lowest first, in an array.
+    #[tactic(auto, unfolding(crate::specs::Contents::chain_in))]
+    pub fn links(&self) -> LinkViews<'a>
+        ensures links { result ≡ plain_links (chain_seen self.now).links }
+        ensures count { length result ≤ 63 }
+        ensures limits { AreLinks (chain_seen self.now).links }
+        ensures each { AllByRecursion IsLink (chain_seen self.now).links }
+    {
+        chain_is_limited(&self.at);
+        links_in(&self.at)
+    }
+
+    /// How many parts the index has.
+    pub fn parts(&self) -> usize
+        ensures value { result ≡ length (chain_seen self.now).index }
+        ensures some { 0 < result }
+    {
+        chain_is_limited(&self.at);
+        self.head.parts
+    }
+}

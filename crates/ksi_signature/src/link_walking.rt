@@ -1,0 +1,105 @@
+//! Walks over the links of an accepted aggregation chain.
+
+ghost use Rattle.std.specs.Prelude.{◌≡◌, Ok};
+ghost use Rattle.ksi_aggchain.specs.Owned.{plain_link, plain_links};
+ghost use Rattle.ksi_aggchain.specs.Lent.{lent_link};
+ghost use Rattle.ksi_tlv.specs.Views.{view_placed};
+ghost use Rattle.ksi_grammar.specs.Reading.{inner_verdict};
+ghost use Rattle.ksi_grammar.specs.Valid.{MayStand};
+ghost use Rattle.ksi_grammar.specs.Inside.{inner_elements};
+ghost use Rattle.ksi_signature.specs.Tables.{link_table, chain_table};
+ghost use Rattle.ksi_signature.specs.Contents.{link_in, links_among};
+ghost use Rattle.ksi_signature.specs.LinkParts.{parts_of, parts_with, view_sibling, view_parts};
+
+use crate::contents::{level_of, side_of};
+use crate::kinds::{CORRECTION, IMPRINT, LEFT_LINK, LEGACY, METADATA, RIGHT_LINK};
+use crate::link_parts::{LinkParts, SiblingView};
+use crate::link_views::LinkViews;
+use ksi_aggchain::LinkView;
+use ksi_grammar::inside_is_whole;
+use ksi_tlv::{Elements, Placed};
+
+/// The links of an accepted chain.
+pub(crate) fn links_in<'a>(at: &Placed<'a>) -> LinkViews<'a>
+    requires { inner_verdict chain_table (view_placed at.now) ≡ Ok tt }
+    ensures { result ≡ plain_links (links_among (inner_elements (view_placed at.now))) }
+{
+    inside_is_whole();
+    let mut links = LinkViews::new();
+    let mut elements = Elements::at(at.inside, at.element.body);
+    while let Some(item) = elements.next() {
+        if let Ok(part) = item {
+            if matches!(part.element.kind, LEFT_LINK | RIGHT_LINK) {
+                links.push(link_at(&part));
+            }
+        }
+    }
+    links
+}
+
+/// The link that an accepted element is.
+#[tactic(auto, unfolding(crate::specs::Contents::link_in))]
+fn link_at<'a>(at: &Placed<'a>) -> LinkView<'a>
+    requires { inner_verdict link_table (view_placed at.now) ≡ Ok tt }
+    ensures { lent_link result ≡ plain_link (link_in (view_placed at.now)) }
+{
+    let parts = link_parts_in(at);
+    LinkView {
+        side: side_of(at),
+        correction: parts.correction,
+        sibling: parts.sibling.bytes(),
+    }
+}
+
+/// All of an accepted link but its side.
+pub(crate) fn link_parts_in<'a>(at: &Placed<'a>) -> LinkParts<'a>
+    requires { inner_verdict link_table (view_placed at.now) ≡ Ok tt }
+    ensures { view_parts result ≡ parts_of (link_in (view_placed at.now)) }
+{
+    inside_is_whole();
+    let mut parts = LinkParts {
+        correction: 0,
+        sibling: SiblingView::Imprint(&[]),
+    };
+    let mut elements = Elements::at(at.inside, at.element.body);
+    while let Some(item) = elements.next() {
+        if let Ok(part) = item {
+            parts.put(&part);
+        }
+    }
+    parts
+}
+
+impl<'a> LinkParts<'a> {
+    /// Takes what one element says.
+    fn put(&mut self, part: &Placed<'a>)
+        requires { MayStand link_table (view_placed part.now) }
+        ensures { view_parts self.new ≡ parts_with (view_parts self.old) (view_placed part.now) }
+    {
+        let body = part.element.body;
+        match part.element.kind {
+            CORRECTION => self.correction = level_of(part),
+            IMPRINT => self.sibling = SiblingView::Imprint(body),
+            LEGACY => self.sibling = SiblingView::Legacy(body),
+            METADATA => self.sibling = SiblingView::Metadata(body),
+            _ => (),
+        }
+    }
+}
+
+impl<'a> SiblingView<'a> {
+    ghost use Rattle.std.specs.Prelude.{◌≡◌};
+    ghost use Rattle.ksi_aggchain.specs.Owned.{sibling_bytes};
+    ghost use Rattle.ksi_signature.specs.LinkParts.{view_sibling};
+
+    /// The bytes that a join has of it.
+    fn bytes(&self) -> &'a [u8]
+        ensures { result.now ≡ sibling_bytes (view_sibling self.now) }
+    {
+        match self {
+            SiblingView::Imprint(bytes)
+            | SiblingView::Legacy(bytes)
+            | SiblingView::Metadata(bytes) => bytes,
+        }
+    }
+}

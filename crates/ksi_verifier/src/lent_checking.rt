@@ -1,0 +1,92 @@
+// The checks of a lent signature.
+ghost use Rattle.std.specs.Prelude.{◌≡◌, ◌↔◌, ℕ, option_map};
+ghost use Rattle.ksi_signature.specs.PartsSeen.{calendar_seen, record_seen};
+ghost use Rattle.ksi_signature.specs.Seen.{seen};
+ghost use Rattle.ksi_verifier.specs.declared.verdict.Verdict.TheVariants as verdicts;
+ghost use Rattle.ksi_verifier.specs.Accepted.{IsAccepted};
+ghost use Rattle.ksi_verifier.specs.Chains.{plain_chains};
+ghost use Rattle.ksi_verifier.specs.Lent.{calendar_of, record_of};
+ghost use Rattle.ksi_verifier.specs.Verdict.{checked, verdict};
+
+use crate::checking::{check, verdict_of};
+use crate::laws::accepted;
+use crate::lent::{CalendarPart, RecordPart};
+use crate::refusal::Refusal;
+use crate::verdict::Verdict;
+use ksi_imprint::{Compress, Imprint};
+use ksi_publications::Publications;
+use ksi_signature::{CalendarLinkViews, CalendarView, ChainView, RecordView, SignatureView};
+
+/// Checks a lent signature for a hash against the published roots of the calendar, as [`verify`](crate::verify) does an
+/// owned one.
+pub fn verify_view<C: Compress>(
+    signature: &SignatureView<'_>,
+    hash: &Imprint,
+    publications: &Publications,
+) -> Verdict
+    ensures first { result ≡ verdict C.image (seen signature.now) hash.now publications.now }
+    ensures accepted { (t : ℕ) → (result ≡ verdicts.Accepted t) ↔ IsAccepted C.image (seen signature.now) hash.now publications.now t }
+{
+    accepted();
+    lent_verdict::<C>(signature, hash, publications)
+}
+
+#[tactic(auto, unfolding(crate::specs::Verdict::verdict))]
+fn lent_verdict<C: Compress>(
+    signature: &SignatureView<'_>,
+    hash: &Imprint,
+    publications: &Publications,
+) -> Verdict
+    ensures { result ≡ verdict C.image (seen signature.now) hash.now publications.now }
+{
+    verdict_of(check_lent::<C>(signature, hash, publications))
+}
+
+fn check_lent<C: Compress>(
+    signature: &SignatureView<'_>,
+    hash: &Imprint,
+    publications: &Publications,
+) -> Result<u64, Refusal>
+    ensures { result ≡ checked C.image (plain_chains (seen signature.now).chains) (seen signature.now).calendar
+        (option_map record_of (seen signature.now).publication) hash.now publications.now }
+{
+    let chains = signature.chains();
+    let record = lent_record(&signature.publication());
+    match signature.calendar() {
+        None => check::<C, ChainView<'_>>(chains, &None, &record, hash, publications),
+        Some(calendar) => {
+            let links = calendar.links();
+            let part = lent_calendar(&calendar, &links);
+            check::<C, ChainView<'_>>(chains, &Some(part), &record, hash, publications)
+        }
+    }
+}
+
+/// The parts of a lent calendar chain, with its links.
+pub fn lent_calendar<'a>(
+    calendar: &CalendarView<'_>,
+    links: &'a CalendarLinkViews,
+) -> CalendarPart<'a>
+    requires { links.now ≡ (calendar_seen calendar.now).links }
+    ensures { calendar_of result ≡ calendar_seen calendar.now }
+{
+    CalendarPart {
+        publication: calendar.publication(),
+        time: calendar.time(),
+        input: calendar.input(),
+        links: links.as_slice(),
+    }
+}
+
+/// What a lent publication record states.
+fn lent_record(published: &Option<RecordView<'_>>) -> Option<RecordPart>
+    ensures { result ≡ option_map record_of (option_map record_seen published.now) }
+{
+    match published {
+        None => None,
+        Some(published) => Some(RecordPart {
+            time: published.time(),
+            hash: published.hash(),
+        }),
+    }
+}
