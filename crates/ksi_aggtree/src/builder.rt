@@ -10,7 +10,7 @@ use crate::item_path::ItemPath;
 use crate::join::AggregationJoin;
 use crate::laws::{no_cap, one_chain};
 use crate::paths::RoundPaths;
-use crate::room::put;
+use crate::room::{put, reserve_one};
 use ksi_aggchain::Node;
 use ksi_imprint::{Compress, Imprint, NoMemory, Refused};
 use ksi_split::{Rows, Side, Steps};
@@ -178,7 +178,7 @@ impl<C: Compress> Builder<C> {
         if place >= MOST_ITEMS {
             return Err(Refused::Fault(AddRefusal::Full));
         }
-        self.items.reserve(1)?;
+        reserve_one(&mut self.items)?;
         self.rows.append(item.leaf())?;
         put(&mut self.items, item);
         Ok(place)

@@ -10,7 +10,7 @@ use crate::builder::{AddRefusal, Builder};
 use crate::item::{Item, MOST_ITEMS};
 use crate::item_path::ItemPath;
 use crate::paths::RoundPaths;
-use crate::room::put;
+use crate::room::{put, reserve_one};
 use crate::senders::{make_room, note};
 use ksi_aggchain::Node;
 use ksi_imprint::{Compress, Imprint, NoMemory, Refused};
@@ -155,7 +155,7 @@ impl<C: Compress> Entries<C> {
         if place == MOST_ITEMS {
             return Err(Refused::Fault(AddRefusal::Full));
         }
-        self.origins.reserve(1)?;
+        reserve_one(&mut self.origins)?;
         make_room(&mut self.senders, &entry.origin)?;
         match self.round.add(entry.item) {
             Ok(_) => {

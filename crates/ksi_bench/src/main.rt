@@ -1,119 +1,54 @@
-//! The work that bench/trees times: a round of 65,536 items, all its paths, a calendar of 2^20 seconds, and as many
-//! joins by a plain loop.
-//!
-//! `ksi_bench WORK` does the work of that name, and ends with one byte of what it computed.
+//! Times the work of one kernel: `ksi_bench KERNEL COUNT [FILE ..]` prints `KERNEL COUNT NANOSECONDS` and ends with one byte
+//! of what was computed. bench/README.md tells the kernels. With other words it prints nothing and ends with 2.
 #![tactic(auto)]
 
-ghost use Rattle.std.specs.Prelude.{◌≡◌, ◌≤◌, ◌+◌, ◌^◌, length, IfOk};
+mod calendars;
+mod clock;
+mod files;
+mod joins;
+mod line;
+mod trees;
 
-use ksi_aggtree::{Builder, Item};
-use ksi_calendar::Calendar;
-use ksi_imprint::{Compress, Imprint, NoMemory, Sha};
-use std::alloc::Global;
+use crate::clock::Timed;
 use std::env;
 use std::process::ExitCode;
 
-const ITEMS: u32 = 65_536;
-
-const SECONDS: usize = 1_048_576;
-
 fn main(rt: HostRuntime) -> ExitCode {
-    match work(&rt) {
-        Ok(byte) => ExitCode::from(byte),
-        Err(_) => ExitCode::from(5),
+    match words(&rt) {
+        Some(words) => ExitCode::from(run(&rt, &words).unwrap_or(2)),
+        None => ExitCode::from(2),
     }
 }
 
-fn work(rt: &HostRuntime) -> Result<u8, NoMemory> {
-    let alloc = rt.alloc();
-    let Ok(args) = env::args(rt) else {
-        return Ok(2);
-    };
-    for word in args.skip(1) {
-        match word.as_str() {
-            "items" => return Ok(last_byte(&hashed(ITEMS))),
-            "round" => return round(alloc, false),
-            "paths" => return round(alloc, true),
-            "calendar" => return calendar(alloc),
-            "joins_16" => return Ok(last_byte(&joined(ITEMS - 1))),
-            "joins_20" => return Ok(last_byte(&joined(SECONDS as u32 - 1))),
-            _ => {}
-        }
+/// The words after the program's name.
+fn words(rt: &HostRuntime) -> Option<Vec<String>> {
+    let mut words = Vec::new(rt.alloc());
+    for word in env::args(rt).ok()?.skip(1) {
+        words.push(word).ok()?;
     }
-    Ok(2)
+    Some(words)
 }
 
-/// Hashes as many numbers of four bytes, as the items of a round are.
-fn hashed(count: u32) -> Imprint {
-    let mut last = Imprint::ZERO;
-    for n in 0..count {
-        last = Sha::of(&n.to_be_bytes());
-    }
-    last
+fn run(rt: &HostRuntime, words: &[String]) -> Option<u8> {
+    let (kernel, rest) = words.split_first()?;
+    let (count, names) = rest.split_first()?;
+    let timed = timed(rt, kernel.as_str(), line::number(count.as_bytes())?, names)?;
+    line::put(rt, kernel, count, timed.nanoseconds);
+    Some(timed.byte)
 }
 
-/// Joins the last result with itself, as many times.
-fn joined(times: u32) -> Imprint {
-    let mut last = Imprint::ZERO;
-    for _ in 0..times {
-        last = Sha::join(last.bytes(), last.bytes(), 1);
+/// The work of a kernel, timed.
+fn timed(rt: &HostRuntime, kernel: &str, count: u64, names: &[String]) -> Option<Timed> {
+    match kernel {
+        "join" => joins::join(rt, count),
+        "tree_root" => trees::root(rt, count),
+        "tree_paths" => trees::paths(rt, count),
+        "cal_append" => calendars::append(rt, count),
+        "cal_root" => calendars::root(rt, count),
+        "cal_chain" => calendars::chain(rt, count),
+        "verify" => files::verify(rt, count, names),
+        "journal" => files::journal(rt, count, names),
+        "pubs" => files::publications(rt, count, names),
+        _ => None,
     }
-    last
-}
-
-fn round(alloc: Global, paths: bool) -> Result<u8, NoMemory> {
-    let mut round = Builder::<Sha>::new(alloc)?;
-    for n in 0..ITEMS {
-        let item = Item {
-            imprint: Sha::of(&n.to_be_bytes()),
-            level: 0,
-        };
-        if round.add(item).is_err() {
-            return Err(NoMemory);
-        }
-    }
-    let mut byte = match round.root() {
-        Some(root) => last_byte(&root.imprint),
-        None => 0,
-    };
-    if paths {
-        byte ^= all_paths(&round)?;
-    }
-    Ok(byte)
-}
-
-/// The lengths of all paths of a round, by one bit each.
-fn all_paths(round: &Builder<Sha>) -> Result<u8, NoMemory> {
-    let mut byte = 0;
-    if round.count() > 0 {
-        let paths = round.paths()?;
-        for k in 0..round.count() {
-            byte ^= paths.path(k)?.as_slice().len() as u8;
-        }
-    }
-    Ok(byte)
-}
-
-fn calendar(alloc: Global) -> Result<u8, NoMemory> {
-    let roots = vec![in alloc; Sha::of(b""); SECONDS]?;
-    let calendar = calendar_of(alloc, roots.as_slice())?;
-    match calendar.root_to(SECONDS as u64 - 1) {
-        Some(root) => Ok(last_byte(&root)),
-        None => Ok(0),
-    }
-}
-
-fn calendar_of(alloc: Global, roots: &[Imprint]) -> Result<Calendar<Sha>, NoMemory>
-    requires { length roots.now ≤ 2 ^ 63 }
-    ensures { IfOk result (λ calendar. calendar ≡ record { start = 0; roots = roots.now }) }
-{
-    let mut calendar = Calendar::new(alloc, 0)?;
-    for root in roots {
-        calendar.append(*root)?;
-    }
-    Ok(calendar)
-}
-
-fn last_byte(imprint: &Imprint) -> u8 {
-    imprint.bytes()[32]
 }

@@ -1,32 +1,35 @@
 -- The calendar that is kept: it stays one as long as nothing that is held is lost, and as it is lengthened. Its leaves are
 -- those of all that is held.
-use Rattle.std.proofs.Common.{◌≡◌, ◌∙◌, ℕ, ◌+◌, ◌-◌, ◌<◌, ◌≤◌, List, [], ◌∷◌, length, get_or, Option, Some, None, true, false, Bool, ◌&&◌, cond, refl, sym, ap, subst, arith, inl, inr, ltb, leb, le-leb, lt-ltb}
-use Rattle.std.specs.Prelude.{if◌then◌else◌, is_some, IfSome, IsSome, unwrap_or}
-use Rattle.std.proofs.lemmas.Bool.{le-ltb, ltb-true, cond-true, cond-false, cases_lt}
+use Rattle.std.proofs.Common.{◌≡◌, ◌∙◌, ℕ, ◌+◌, ◌-◌, ◌<◌, ◌≤◌, List, length, get_or, Option, Some, None, true, false, Bool, ◌&&◌, refl, sym, ap, subst, arith, inl, inr, ltb, leb, le-leb, lt-ltb}
+use Rattle.std.specs.Prelude.{◌==◌, if◌then◌else◌, is_some, IfSome, IsSome, unwrap_or, Result, Ok, Err, OnOk, OnErr}
+use Rattle.std.proofs.lemmas.Bool.{le-ltb, ltb-true, cond-true, cond-false, cond_both, eqb-true, cases_lt}
 use Rattle.ksi_imprint.specs.Imprints.{zero_imprint}
 use Rattle.ksi_calendar.specs.Calendar.{Seconds, calendar_leaf, calendar_root, root_to}
-use Rattle.std.specs.Ordering.{nat_cmp}
-use Rattle.std.specs.BTreeMap.{is_at}
-use Rattle.std.specs.Map.{lookup, set_value}
-use Rattle.ksi_corenode.specs.SecondState.{SecondState, fresh_second}
+use Rattle.ksi_corenode.specs.SecondState.{SecondState}
 use Rattle.ksi_calendar.specs.Covered.{Roots, IsFirstMissing, covered_root, first_missing, second_leaf}
 use Rattle.ksi_corenode.specs.Kept.{IsCalendarOf, StillHolds}
-use Rattle.ksi_corenode.specs.CoreState.{state_of, held_by}
-use Rattle.ksi_signature.specs.declared.answer.Answer.TheVariants.{Published}
-use Rattle.ksi_corenode.specs.Rows.{publish_answer, publish_where}
+use Rattle.ksi_corenode.specs.CoreState.{CoreState, state_of, held_by, IsSame, IsChange}
+use Rattle.ksi_signature.specs.declared.answer.Answer.TheVariants.{Published, Late, Sealed}
+use Rattle.ksi_aggtree.specs.declared.item.Item.{Item}
+use Rattle.ksi_aggtree.specs.Entries.{candidate_of}
+use Rattle.ksi_synod.specs.Rows.{seal, seal_of}
+use Rattle.ksi_corenode.specs.Turns.{Turn, still}
+use Rattle.ksi_corenode.specs.Rows.{taken, item_taken, submission_row, sealed_now, seal_row, publish_answer, publish_where}
 
 -- NOTHING IS LOST
 
-abbrev pub Lasts : (old new : Roots) → Type 0
-Lasts old new = (t : ℕ) (root : List ℕ) → old t ≡ Some root → new t ≡ Some root
-
-pub kept_lasts : (old new : Roots) (start : ℕ) (calendar : Option Seconds) → Lasts old new → IfSome calendar (IsCalendarOf old start) → IfSome calendar (IsCalendarOf new start)
+pub kept_lasts : (old new : Roots) (start : ℕ) (calendar : Option Seconds) → StillHolds old new → IfSome calendar (IsCalendarOf old start) → IfSome calendar (IsCalendarOf new start)
 kept_lasts old new start None lasts kept = kept
 kept_lasts old new start (Some calendar) lasts kept = record {
   begins = kept.begins;
   most = kept.most;
   roots = λ t from below. lasts t (calendar_leaf calendar t) (kept.roots t from below);
 }
+
+pub kept_from : (old new : CoreState) (calendar : Option Seconds) → new.start ≡ old.start → StillHolds (held_by old) (held_by new) →
+    IfSome calendar (IsCalendarOf (held_by old) old.start) → IfSome calendar (IsCalendarOf (held_by new) new.start)
+kept_from old new calendar start lasts kept =
+    subst (λ (n : ℕ). IfSome calendar (IsCalendarOf (held_by new) n)) (sym start) (kept_lasts (held_by old) (held_by new) old.start calendar lasts kept)
 
 -- THE CALENDAR IS LENGTHENED
 
@@ -70,40 +73,19 @@ rooted image start p seconds begins from covered =
     let before : ltb p (seconds.start + length seconds.roots) ≡ true = lt-ltb p (seconds.start + length seconds.roots) (omega (arith, begins, covered)) in
     rw (after, before) refl
 
--- A SECOND IS WRITTEN
+-- A SECOND CHANGES
 
--- what is held for any second is held after one of them is written, if what was held for that one is
-lasts_write : (fresh : SecondState) (test other : ℕ → Bool) (es : List (ℕ × SecondState)) (before after : SecondState) → lookup test es ≡ Some before → StillHolds before after →
-    StillHolds (unwrap_or (lookup other es) fresh) (unwrap_or (lookup other (set_value test es after)) fresh)
-lasts_write fresh test other [] before after is still d holds = holds
-lasts_write fresh test other (e ∷ es) before after is still d holds = by (λ later now. lasts_write fresh test other es before after later still d now) (test e.0) is
-  where
-    held_of : Option SecondState → Option (List ℕ)
-    held_of o = (unwrap_or o fresh).vote.held
-
-    here : (there : Bool) → e.1 ≡ before → held_of (cond there (Some e.1) (lookup other es)) ≡ Some d → held_of (cond there (Some after) (lookup other es)) ≡ Some d
-    here true same now = still d (subst (λ (s : SecondState). s.vote.held ≡ Some d) same now)
-    here false same now = now
-
-    behind : (there : Bool) (rest : List (ℕ × SecondState)) → (held_of (lookup other es) ≡ Some d → held_of (lookup other rest) ≡ Some d) →
-        held_of (cond there (Some e.1) (lookup other es)) ≡ Some d → held_of (cond there (Some e.1) (lookup other rest)) ≡ Some d
-    behind true rest later now = now
-    behind false rest later now = later now
-
-    by : (lookup test es ≡ Some before → held_of (lookup other es) ≡ Some d → held_of (lookup other (set_value test es after)) ≡ Some d) →
-        (found : Bool) → cond found (Some e.1) (lookup test es) ≡ Some before → held_of (lookup other (cond found ((e.0, after) ∷ es) (e ∷ set_value test es after))) ≡ Some d
-    by later true same = here (other e.0) (cc same) holds
-    by later false rest = behind (other e.0) (set_value test es after) (later rest) holds
-
-pub kept_write : (me members start second : ℕ) (old new : List (ℕ × SecondState)) (calendar : Option Seconds) (before after : SecondState) →
-    lookup (is_at (nat_cmp second)) old ≡ Some before → new ≡ set_value (is_at (nat_cmp second)) old after → StillHolds before after →
-    IfSome calendar (IsCalendarOf (held_by (record { me = me; members = members; start = start; kept = old })) start) →
-    IfSome calendar (IsCalendarOf (held_by (record { me = me; members = members; start = start; kept = new })) start)
-unfolding state_of
-kept_write me members start second old new calendar before after there written still = kept_lasts
-    (held_by (record { me = me; members = members; start = start; kept = old })) (held_by (record { me = me; members = members; start = start; kept = new })) start calendar
-    (λ t d holds. subst (λ (es : List (ℕ × SecondState)). (unwrap_or (lookup (is_at (nat_cmp t)) es) (fresh_second me members t)).vote.held ≡ Some d) (sym written)
-    (lasts_write (fresh_second me members t) (is_at (nat_cmp second)) (is_at (nat_cmp t)) old before after there still d holds))
+-- the calendar stays one after a call, if what was held for its second is
+pub kept_after : {T E : Type 0} (old new : CoreState) (second : ℕ) (after : SecondState) (result : Result T E) (calendar : Option Seconds) →
+    OnOk result (IsChange old new second after) → OnErr result (IsSame old new) → ((root : List ℕ) → held_by old second ≡ Some root → after.vote.held ≡ Some root) →
+    IfSome calendar (IsCalendarOf (held_by old) old.start) → IfSome calendar (IsCalendarOf (held_by new) new.start)
+kept_after old new second after (Ok value) calendar change same holds kept =
+    kept_from old new calendar change.start
+    (λ t root is. ap (λ (s : SecondState). s.vote.held) (change.seconds t)
+    ∙ cond_both (t == second) after (state_of old t) (λ (s : SecondState). s.vote.held ≡ Some root)
+    (λ here. holds root (ap (held_by old) (sym (eqb-true t second here)) ∙ is)) (λ _. is)) kept
+kept_after old new second after (Err error) calendar change same holds kept =
+    kept_from old new calendar same.start (λ t root is. ap (λ (s : SecondState). s.vote.held) (same.seconds t) ∙ is) kept
 
 -- WHAT IS PUBLISHED
 
@@ -128,3 +110,17 @@ published_root image held start p calendar root kept from none own is =
     let same : root ≡ calendar_root image calendar p = cc (sym is ∙ rooted image start p calendar kept.begins from covered) in
     ap Published (same ∙ own (kept_leaves held start p calendar kept covered))
     ∙ ap (λ (missing : Option ℕ). publish_where image held start p missing) (sym (none (kept_all held start p calendar kept covered)))
+
+-- WHAT A ROW LEAVES
+
+pub submission_holds : (from : ℕ) (item : Item) (s : SecondState) (root : List ℕ) → s.vote.held ≡ Some root → (submission_row from item s).after.vote.held ≡ Some root
+unfolding submission_row
+submission_holds from item s root is = cond_both (is_some s.sealed) (still s Late) (item_taken s (taken from item s.open_items)) (λ (turn : Turn). turn.after.vote.held ≡ Some root) (λ _. is) (λ _. is)
+
+pub seal_holds : (image : List ℕ → List ℕ) (s : SecondState) (root : List ℕ) → s.vote.held ≡ Some root → (seal_row image s).after.vote.held ≡ Some root
+unfolding seal_row seal
+seal_holds image s root is = cond_both (is_some s.sealed) (still s Sealed) (sealed_now image s) (λ (turn : Turn). turn.after.vote.held ≡ Some root) (λ _. is) (λ _. by s.vote.candidate)
+  where
+    by : (o : Option (List ℕ)) → (seal_of o s.vote (candidate_of image s.open_items)).held ≡ Some root
+    by None = is
+    by (Some candidate) = is

@@ -1,15 +1,15 @@
 -- What stands above the items of a round.
-use Rattle.std.proofs.Common.{◌≡◌, ◌∙◌, ℕ, zero, suc, ◌+◌, ◌≤◌, List, [], ◌∷◌, ◌++◌, length, drop, slice_get, Option, Some, None, sym, ap, subst, append_assoc, add-one}
-use Rattle.std.specs.Prelude.{option_map, unwrap_or, IfSome}
+use Rattle.std.proofs.Common.{◌≡◌, ◌∙◌, ℕ, zero, suc, ◌+◌, ◌<◌, ◌≤◌, List, [], ◌∷◌, ◌++◌, length, take, drop, slice_get, Option, Some, None, sym, ap, subst, append_assoc, add-one, arith}
 use Rattle.std.specs.List.{AllByRecursion}
 use Rattle.std.proofs.lemmas.Option.{slice_get_within, get_or_from_slice_get}
-use Rattle.std.proofs.Math.Seq.{drop-cons}
+use Rattle.std.proofs.Math.Seq.{drop-cons, take-suc}
+use Rattle.std.proofs.lemmas.List.{length-map, length-take-le}
 use Rattle.ksi_split.specs.declared.tree_link.TreeLink.{TreeLink}
 use Rattle.ksi_aggchain.specs.declared.node.Node.{Node}
 use Rattle.ksi_aggtree.specs.declared.item.Item.{Item}
 use Rattle.ksi_aggchain.specs.declared.link.Link.{Link}
 use Rattle.ksi_aggtree.specs.declared.entries.Entry.{Entry}
-use Rattle.ksi_aggtree.specs.Rounds.{item_at, leaf_of_place, no_item, tree_path}
+use Rattle.ksi_aggtree.specs.Rounds.{item_at, leaf_of_place, no_item, tree_path, IsRound, most_items, highest_item}
 use Rattle.ksi_aggtree.specs.Paths.{links_from, chain_of}
 use Rattle.ksi_aggtree.specs.Entries.{items_of}
 use Rattle.ksi_signature.specs.declared.above.Above.{Above}
@@ -48,7 +48,21 @@ responses_later above sends entries k entry is =
     ∙ ap (λ (n : ℕ). sends ++ (response_to entry.origin (above k) ++ responses_from above n (drop n entries))) (add-one k)
     ∙ ap (λ (es : List Entry). sends ++ responses_from above k es) (sym rest)
 
--- what holds of the entries that were found holds of those that are sealed
-pub of_sealed : (sealed found : Option (List Entry)) (P : List Entry → Type 0) → option_map (λ (s : List Entry). unwrap_or found []) sealed ≡ sealed → P (unwrap_or found []) → IfSome sealed P
-of_sealed None found P is holds = tt
-of_sealed (Some entries) found P is holds = subst P (cc is) holds
+-- ALL ITEMS OF A ROUND ARE ADDED TO A TREE
+
+-- what the next one is, behind those before it
+pub record IsNext (items : List Item) (k : ℕ) (item : Item) : Type 0 where
+  pub level : item.level ≤ highest_item
+  pub few : length (take k items) < most_items
+  pub more : take k items ++ item ∷ [] ≡ take (k + 1) items
+
+pub round_next : (entries : List Entry) (k : ℕ) (entry : Entry) → IsRound (items_of entries) → slice_get entries k ≡ Some entry → IsNext (items_of entries) k entry.item
+round_next entries k entry round is =
+    let within : k < length entries = slice_get_within entries k entry is in
+    let inside : k < length (items_of entries) = omega (arith, within, length-map entries (λ (e : Entry). e.item)) in
+    let same : item_at (items_of entries) k ≡ entry.item = entry_item entries k entry is in
+    record {
+      level = subst (λ (item : Item). item.level ≤ highest_item) same (round.low k);
+      few = omega (arith, inside, round.few, length-take-le k (items_of entries) (omega (arith, inside)));
+      more = ap (λ (item : Item). take k (items_of entries) ++ item ∷ []) (sym same) ∙ sym (take-suc (items_of entries) k no_item inside) ∙ ap (λ (n : ℕ). take n (items_of entries)) (sym (add-one k));
+    }

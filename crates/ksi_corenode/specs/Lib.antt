@@ -1,4 +1,5 @@
 pub mod SecondState
+pub mod Stored
 pub mod Kept
 pub mod Turns
 pub mod Rows

@@ -2,10 +2,15 @@
 //! on the second's root by Lamport's Synod, and answers each aggregator with the way from its item to the calendar.
 //!
 //! A [`Core`] takes one call at a time and answers a [`Step`]: an [`Answer`], and what is to be sent for the second of the
-//! call. Nothing is sent, stored or timed here. A contract sees a core's seconds (`second_at`), each with its part in the
-//! vote, its open items and its sealed ones. The layer above may rely on this: each call's answer, sends and second are
-//! those of its row in `specs/Rows`, all other seconds are as they were, and each refusal comes exactly where its clause
-//! says. After `NoMemory` all is as it was. `restart` and the readers take no memory.
+//! call. Nothing is sent, stored or timed here. A contract sees each second of a core by `state_of`: its part in the vote,
+//! its open items and its sealed ones. The layer above may rely on this: each call's answer, sends and second are those of
+//! its row in `specs/Rows`, all other seconds are as they were, and each refusal comes exactly where its clause says. After
+//! `NoMemory` all is as it was. `restart` and the readers take no memory.
+//!
+//! A core of years stays small: what a second keeps for good is of fixed size but for its sealed items, which stand in one
+//! list. Of the seconds from the start on that are held, up to the first that is not, these parts stand in a list, and the
+//! others in a map. Ballots in hand and open items stand in a map of their own, which `restart` empties. `settled` says how
+//! long the first list is, and `first_not_held` looks there alone.
 //!
 //! ```text
 //! let mut core = Core::<Sha>::new(alloc, 0, 3, start);
@@ -18,12 +23,19 @@
 
 mod held;
 mod node;
+mod receiving;
 mod responding;
-mod second;
+mod seconds;
 mod sending;
+mod settled;
+mod stable;
+mod stables;
 mod step;
+mod volatile;
+mod volatiles;
 
 pub use ksi_imprint::NoMemory;
 pub use ksi_signature::Answer;
+pub use ksi_split::Steps;
 pub use node::Core;
 pub use step::{Send, Step};

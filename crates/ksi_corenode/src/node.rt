@@ -1,10 +1,7 @@
-ghost use Rattle.std.specs.Prelude.{◌≡◌, ℕ, ◌<◌, ◌≤◌, ◌^◌, ◌↔◌, length, IfOk, OnOk, OnErr, IsTrue, IsSome, IsNone, Some, false, option_map};
+ghost use Rattle.std.specs.Prelude.{◌≡◌, ℕ, ◌<◌, ◌≤◌, ◌^◌, ◌↔◌, length, IfOk, OnErr, IfSome, IsTrue, IsSome, IsNone, Some, false, option_map};
 ghost use Rattle.std.specs.Option.{option_copied};
-ghost use Rattle.std.specs.Ordering.{nat_cmp};
-ghost use Rattle.std.specs.BTreeMap.{is_at};
-ghost use Rattle.std.specs.Map.{lookup};
 ghost use Rattle.ksi_corenode.specs.SecondState.{fresh_second};
-ghost use Rattle.ksi_aggtree.specs.Rounds.{most_items, highest_item};
+ghost use Rattle.ksi_aggtree.specs.Rounds.{IsRound, most_items, highest_item};
 ghost use Rattle.ksi_aggtree.specs.Entries.{items_of, has_from, candidate_of};
 ghost use Rattle.ksi_signature.specs.declared.answer.Answer.TheVariants.{Late, Known, Full, Unsealed, Sealed, Undecided, Nothing, Last};
 ghost use Rattle.ksi_synod.specs.Ballots.{last_round};
@@ -13,46 +10,40 @@ ghost use Rattle.ksi_corenode.specs.Rows.{submission_row, seal_row, ballot_answe
 ghost use Rattle.ksi_corenode.specs.CoreState.{state_of, held_by, IsSame, IsTurn};
 ghost use Rattle.ksi_corenode.specs.Kept.{IsCalendarOf};
 
-use crate::second::Second;
+use crate::seconds::Seconds;
 use crate::sending::{push_each, push_told};
 use crate::step::Step;
-use ksi_aggtree::Item;
+use ksi_aggtree::{Entry, Item};
 use ksi_calendar::Calendar;
 use ksi_imprint::{Compress, Imprint, NoMemory};
 use ksi_signature::{Answer, Sends};
 use ksi_synod::{Begun, SynodMessage};
 use std::alloc::Global;
-use std::collections::BTreeMap;
 use std::marker::Model;
 
-/// A core: its number, how many cores there are, the first second, what it keeps for each second, and the calendar of the
-/// first seconds that it holds, once that was asked for. A contract sees all but the calendar.
+/// A core: its seconds, and the calendar of the first of them that it holds, once that was asked for. A contract sees all
+/// but the calendar.
 #[derive(Drop)]
 pub struct Core<C: Compress> {
     alloc: Global,
-    me: u8,
-    members: u8,
-    start: u64,
-    seconds: BTreeMap<u64, Second<C>>,
+    seconds: Seconds<C>,
     calendar: Option<Calendar<C>>,
 }
 
 impl<C: Compress> Model for Core<C> {
-    ghost use Rattle.std.specs.Prelude.{◌<◌, ◌≤◌, IfSome};
+    ghost use Rattle.std.specs.Prelude.{IfSome};
     ghost use Rattle.ksi_corenode.specs.CoreState.{CoreState, held_by};
     ghost use Rattle.ksi_corenode.specs.Kept.{IsCalendarOf};
 
     ghost Value = { CoreState };
 
-    ghost view = { λ c. record { me = c.me; members = c.members; start = c.start; kept = c.seconds.entries } };
+    ghost view = { λ c. c.seconds };
 
-    ghost invariant = { λ c. (c.me < c.members) × (c.members ≤ 9)
-        × IfSome c.calendar (IsCalendarOf (held_by (record { me = c.me; members = c.members; start = c.start; kept = c.seconds.entries })) c.start) };
+    ghost invariant = { λ c. IfSome c.calendar (IsCalendarOf (held_by c.seconds) c.seconds.start) };
 }
 
 impl<C: Compress> Core<C> {
     /// Core `me` of so many, before anything came; the first second is `start`.
-    #[tactic(auto, unfolding(crate::specs::CoreState::state_of))]
     pub fn new(alloc: Global, me: u8, members: u8, start: u64) -> Self
         requires mine { me < members }
         requires few { members ≤ 9 }
@@ -63,65 +54,51 @@ impl<C: Compress> Core<C> {
     {
         Core {
             alloc,
-            me,
-            members,
-            start,
-            seconds: BTreeMap::new(alloc),
+            seconds: Seconds::new(alloc, me, members, start),
             calendar: None,
         }
     }
 
     /// The root that this core holds for a second.
-    #[tactic(auto, unfolding(crate::specs::CoreState::state_of, crate::specs::SecondState::fresh_second, ksi_synod::specs::VoteState::fresh_vote))]
     pub fn held(&self, second: u64) -> Option<Imprint>
         ensures { result ≡ held_by self.now second }
     {
-        match self.seconds.get(&second) {
-            Some(kept) => kept.held(),
-            None => None,
-        }
+        self.seconds.held(second)
     }
 
     /// The candidate of this core for a second: the imprint of the tree of its sealed items, the zero imprint where it
     /// sealed none. None where the second is not sealed.
-    #[tactic(auto, unfolding(crate::specs::CoreState::state_of, crate::specs::SecondState::fresh_second))]
     pub fn candidate(&self, second: u64) -> Option<Imprint>
         ensures { result ≡ option_map (candidate_of C.image) (state_of self.now second).sealed }
     {
-        match self.seconds.get(&second) {
-            Some(kept) => kept.candidate(),
-            None => None,
-        }
+        self.seconds.candidate(second)
     }
 
-    /// The sealed items of a second, in order; none where the second is not sealed.
-    #[tactic(auto, unfolding(crate::specs::CoreState::state_of, crate::specs::SecondState::fresh_second))]
-    pub fn items(&self, second: u64) -> Option<&[Item]>
-        ensures { option_copied result ≡ option_map items_of (state_of self.now second).sealed }
+    /// The sealed items of a second, in order, and where each came from; none where the second is not sealed.
+    pub fn sealed(&self, second: u64) -> Option<&[Entry]>
+        ensures sealed { option_copied result ≡ (state_of self.now second).sealed }
+        ensures round { IfSome result (λ entries. IsRound (items_of entries.now)) }
     {
-        match self.seconds.get(&second) {
-            Some(kept) => kept.items(),
-            None => None,
-        }
+        self.seconds.sealed(second)
     }
 
     /// The first second.
     pub(crate) fn start(&self) -> u64
         ensures { result ≡ self.now.start }
     {
-        self.start
+        self.seconds.start()
+    }
+
+    /// The seconds.
+    pub(crate) fn seconds(&self) -> &Seconds<C>
+        ensures { result.now ≡ self.now }
+    {
+        &self.seconds
     }
 
     /// What the memory is taken from.
     pub(crate) fn alloc(&self) -> Global {
         self.alloc
-    }
-
-    /// What is kept for a second, where something came for it.
-    pub(crate) fn second(&self, second: u64) -> Option<&Second<C>>
-        ensures { option_copied result ≡ lookup (is_at (nat_cmp second)) self.now.kept }
-    {
-        self.seconds.get(&second)
     }
 
     /// The calendar that is kept, in the caller's hands until `keep`; a new one where none is kept.
@@ -132,7 +109,7 @@ impl<C: Compress> Core<C> {
     {
         match self.calendar.take() {
             Some(calendar) => Ok(calendar),
-            None => Calendar::new(self.alloc, self.start),
+            None => Calendar::new(self.alloc, self.seconds.start()),
         }
     }
 
@@ -151,7 +128,7 @@ impl<C: Compress> Core<C> {
     ///
     /// # Errors
     /// `NoMemory`: all is as it was.
-    #[tactic(auto, unfolding(crate::specs::CoreState::state_of, crate::specs::Rows::submission_row))]
+    #[tactic(auto, unfolding(crate::specs::Rows::submission_row))]
     pub fn submission(&mut self, aggregator: u32, second: u64, item: Item) -> Result<Step, NoMemory>
         requires level { item.level ≤ highest_item }
         ensures turn { IfOk result (λ step.
@@ -164,13 +141,8 @@ impl<C: Compress> Core<C> {
             (length (state_of self.old second).open_items ≡ most_items))) }
         ensures unchanged { OnErr result (IsSame self.old self.new) }
     {
-        let alloc = self.alloc;
-        self.make_room(second)?;
-        let answer = match self.seconds.get_mut(&second) {
-            Some(kept) => kept.submission(alloc, aggregator, &item)?,
-            None => unreachable!(),
-        };
-        Ok(Step::without_sends(alloc, answer))
+        let answer = self.seconds.submission(second, aggregator, &item)?;
+        Ok(Step::without_sends(self.alloc, answer))
     }
 
     /// Seals a second: its open items are the sealed ones, and the imprint of their tree is the candidate. The answer is
@@ -178,20 +150,15 @@ impl<C: Compress> Core<C> {
     ///
     /// # Errors
     /// `NoMemory`: all is as it was.
-    #[tactic(auto, unfolding(crate::specs::CoreState::state_of, crate::specs::Rows::seal_row))]
+    #[tactic(auto, unfolding(crate::specs::Rows::seal_row))]
     pub fn seal(&mut self, second: u64) -> Result<Step, NoMemory>
         ensures turn { IfOk result (λ step.
             IsTurn self.old self.new second (seal_row C.image (state_of self.old second)) step) }
         ensures sealed { IfOk result (λ step. (step.answer ≡ Sealed) ↔ IsSome (state_of self.old second).sealed) }
         ensures unchanged { OnErr result (IsSame self.old self.new) }
     {
-        let alloc = self.alloc;
-        self.make_room(second)?;
-        let answer = match self.seconds.get_mut(&second) {
-            Some(kept) => kept.seal(),
-            None => unreachable!(),
-        };
-        Ok(Step::without_sends(alloc, answer))
+        let answer = self.seconds.seal(second)?;
+        Ok(Step::without_sends(self.alloc, answer))
     }
 
     /// Tries this core's next ballot for a second: NextBallot goes to the voters. The answer is Unsealed where the second
@@ -199,7 +166,7 @@ impl<C: Compress> Core<C> {
     ///
     /// # Errors
     /// `NoMemory`: all is as it was.
-    #[tactic(auto, unfolding(crate::specs::CoreState::state_of, crate::specs::Rows::ballot_row))]
+    #[tactic(auto, unfolding(crate::specs::Rows::ballot_row))]
     pub fn ballot(&mut self, second: u64) -> Result<Step, NoMemory>
         ensures turn { IfOk result (λ step. IsTurn self.old self.new second
             (ballot_row self.old.members second self.old.me (state_of self.old second)) step) }
@@ -208,14 +175,11 @@ impl<C: Compress> Core<C> {
             (greater_round (state_of self.old second).vote ≡ last_round))) }
         ensures unchanged { OnErr result (IsSame self.old self.new) }
     {
-        let mut sends = Vec::with_capacity(self.alloc, self.members as usize)?;
-        self.make_room(second)?;
-        let begun = match self.seconds.get_mut(&second) {
-            Some(kept) => kept.ballot(),
-            None => unreachable!(),
-        };
+        let members = self.seconds.members();
+        let mut sends = Vec::with_capacity(self.alloc, members as usize)?;
+        let begun = self.seconds.ballot(second)?;
         let (answer, call) = called(begun);
-        push_told(self.members, second, self.me, &call, &mut sends);
+        push_told(members, second, self.seconds.me(), &call, &mut sends);
         Ok(Step {
             answer,
             sends: Sends::from_vec(sends),
@@ -228,7 +192,7 @@ impl<C: Compress> Core<C> {
     ///
     /// # Errors
     /// `NoMemory`: all is as it was.
-    #[tactic(auto, unfolding(crate::specs::CoreState::state_of, crate::specs::Rows::receive_row))]
+    #[tactic(auto, unfolding(crate::specs::Rows::receive_row))]
     pub fn receive(
         &mut self,
         from: u8,
@@ -243,13 +207,10 @@ impl<C: Compress> Core<C> {
             (is_news (state_of self.old second).vote from message.now ≡ false)) }
         ensures unchanged { OnErr result (IsSame self.old self.new) }
     {
-        let mut sends = Vec::with_capacity(self.alloc, self.members as usize)?;
-        self.make_room(second)?;
-        let (answer, reply) = match self.seconds.get_mut(&second) {
-            Some(kept) => kept.receive(from, message),
-            None => unreachable!(),
-        };
-        push_told(self.members, second, from, &reply, &mut sends);
+        let members = self.seconds.members();
+        let mut sends = Vec::with_capacity(self.alloc, members as usize)?;
+        let (answer, reply) = self.seconds.receive(second, from, message)?;
+        push_told(members, second, from, &reply, &mut sends);
         Ok(Step {
             answer,
             sends: Sends::from_vec(sends),
@@ -261,18 +222,19 @@ impl<C: Compress> Core<C> {
     ///
     /// # Errors
     /// `NoMemory`: all is as it was.
-    #[tactic(auto, unfolding(crate::specs::CoreState::state_of, crate::specs::Rows::tell_row))]
+    #[tactic(auto, unfolding(crate::specs::Rows::tell_row))]
     pub fn tell(&mut self, second: u64) -> Result<Step, NoMemory>
         ensures turn { IfOk result (λ step. IsTurn self.old self.new second
             (tell_row self.old.members second self.old.me (state_of self.old second)) step) }
         ensures undecided { IfOk result (λ step. (step.answer ≡ Undecided second) ↔ IsNone (held_by self.old second)) }
         ensures unchanged { OnErr result (IsSame self.old self.new) }
     {
-        let mut sends = Vec::with_capacity(self.alloc, self.members as usize)?;
+        let members = self.seconds.members();
+        let mut sends = Vec::with_capacity(self.alloc, members as usize)?;
         let answer = match self.held(second) {
             None => Answer::Undecided(second),
             Some(root) => {
-                push_each(self.members, &SynodMessage::Success(root), &mut sends);
+                push_each(members, &SynodMessage::Success(root), &mut sends);
                 Answer::Done
             }
         };
@@ -283,31 +245,13 @@ impl<C: Compress> Core<C> {
     }
 
     /// Forgets every ballot in hand and all open items, as a restart does.
-    #[tactic(auto, unfolding(crate::specs::CoreState::state_of))]
     pub fn restart(&mut self)
         ensures me { self.new.me ≡ self.old.me }
         ensures members { self.new.members ≡ self.old.members }
         ensures start { self.new.start ≡ self.old.start }
         ensures seconds { (t : ℕ) → state_of self.new t ≡ restart_row (state_of self.old t) }
     {
-        self.seconds.retain(|_, kept| {
-            kept.restart();
-            true
-        });
-    }
-
-    /// Makes room for a second, which changes nothing that is seen.
-    #[tactic(auto, unfolding(crate::specs::CoreState::state_of))]
-    fn make_room(&mut self, second: u64) -> Result<(), NoMemory>
-        ensures same { IsSame self.old self.new }
-        ensures there { OnOk result (lookup (is_at (nat_cmp second)) self.new.kept ≡ Some (state_of self.old second)) }
-    {
-        if self.seconds.contains_key(&second) {
-            return Ok(());
-        }
-        let fresh = Second::new(self.alloc, self.me, self.members, second);
-        self.seconds.insert(second, fresh)?;
-        Ok(())
+        self.seconds.restart();
     }
 }
 

@@ -1,22 +1,22 @@
 //! How a core answers the aggregators whose items it sealed.
-ghost use Rattle.std.specs.Prelude.{◌≡◌, ◌↔◌, ℕ, ◌<◌, ◌≤◌, ◌+◌, ◌^◌, ◌++◌, length, IfOk, IfSome, OnOk, IsSome, IsNone, Some, slice_get};
+ghost use Rattle.std.specs.Prelude.{◌≡◌, ◌↔◌, ℕ, ◌<◌, ◌≤◌, ◌+◌, ◌^◌, ◌++◌, ◌∷◌, [], length, IfOk, IfSome, OnOk, IsSome, IsNone, Some, slice_get};
 ghost use Rattle.ksi_aggtree.specs.declared.entries.Entry.{Entry};
 ghost use Rattle.ksi_aggtree.specs.Entries.{items_of};
+ghost use Rattle.ksi_aggtree.specs.Rounds.{IsRound, most_items, highest_item};
 ghost use Rattle.ksi_aggtree.specs.Paths.{chain_of};
 ghost use Rattle.ksi_calendar.specs.Calendar.{Seconds, calendar_path};
 ghost use Rattle.ksi_signature.specs.declared.answer.Answer.TheVariants.{Unsealed, Undecided, NotMine};
 ghost use Rattle.ksi_calendar.specs.Covered.{IsFirstMissing, covered_seconds};
 ghost use Rattle.ksi_corenode.specs.Kept.{IsCalendarOf};
-ghost use Rattle.ksi_corenode.specs.Rows.{respond_row, IsNotMine, responses_from, response_to, above_item};
+ghost use Rattle.ksi_corenode.specs.Rows.{respond_row, is_mine, IsNotMine, responses_from, response_to, above_item};
 ghost use Rattle.ksi_corenode.specs.CoreState.{state_of, held_by, IsTurn};
 
 use crate::node::Core;
-use crate::second::Second;
 use crate::step::{Send, Step};
-use ksi_aggtree::{Entries, Origin, RoundPaths};
+use ksi_aggtree::{AddRefusal, Builder, Entry, Item, Origin, RoundPaths};
 use ksi_calendar::laws::{one_covered, one_first_missing};
 use ksi_calendar::{Calendar, SecondPath};
-use ksi_imprint::{Compress, Imprint, NoMemory};
+use ksi_imprint::{Compress, Imprint, NoMemory, Refused};
 use ksi_signature::{Above, AboveChain, AboveChains, AboveLinks, Answer, CalendarLinks, Sends};
 use std::alloc::Global;
 
@@ -49,7 +49,7 @@ impl<C: Compress> Core<C> {
         Ok(step)
     }
 
-    #[tactic(auto, unfolding(crate::specs::CoreState::state_of, crate::specs::SecondState::fresh_second, crate::specs::Rows::respond_row))]
+    #[tactic(auto, unfolding(crate::specs::Rows::respond_row))]
     fn responded(&self, calendar: &mut Calendar<C>, second: u64) -> Result<Step, NoMemory>
         requires from { self.now.start ≤ second }
         requires below { second < 2 ^ 63 }
@@ -61,77 +61,116 @@ impl<C: Compress> Core<C> {
             (respond_row C.image (held_by self.now) self.now.start second (state_of self.now second)).sends) }
     {
         let alloc = self.alloc();
-        let Some(kept) = self.second(second) else {
+        let Some(entries) = self.sealed(second) else {
             return Ok(Step::without_sends(alloc, Answer::Unsealed));
         };
-        if !kept.is_sealed() {
-            return Ok(Step::without_sends(alloc, Answer::Unsealed));
-        }
         if let Some(missing) = self.take_on(calendar, second)? {
             return Ok(Step::without_sends(alloc, Answer::Undecided(missing)));
         }
-        let Some(root) = kept.held() else {
+        let Some(root) = self.held(second) else {
             return Ok(Step::without_sends(alloc, Answer::Undecided(second)));
         };
-        if !kept.is_mine(&root) {
+        if !self.is_mine(second, &root) {
             return Ok(Step::without_sends(alloc, Answer::NotMine));
         }
-        let sends = self.sends(calendar, second, kept, &root)?;
+        let sends = self.sends(calendar, second, entries, &root)?;
         Ok(Step {
             answer: Answer::Done,
             sends: Sends::from_vec(sends),
         })
     }
 
-    /// The responses for a second, where the calendar covers it.
+    /// Whether the root is the candidate for a second, and no missed second's.
+    fn is_mine(&self, second: u64, root: &Imprint) -> bool
+        ensures { IfSome (state_of self.now second).sealed (λ entries. result ≡ is_mine C.image entries root.now) }
+    {
+        match self.candidate(second) {
+            Some(candidate) => candidate == *root && *root != Imprint::ZERO,
+            None => false,
+        }
+    }
+
+    /// The responses for the items that were sealed for a second, where the calendar covers it.
     fn sends(
         &self,
         calendar: &Calendar<C>,
         second: u64,
-        kept: &Second<C>,
+        entries: &[Entry],
         root: &Imprint,
     ) -> Result<Vec<Send>, NoMemory>
         requires below { second < 2 ^ 63 }
         requires kept { IsCalendarOf (held_by self.now) self.now.start calendar.now }
         requires covered { second < calendar.now.start + length calendar.now.roots }
-        ensures { IfOk result (λ sends. IfSome kept.now.sealed (λ entries. sends.items ≡ responses_from
-            (above_item C.image (covered_seconds (held_by self.now) self.now.start second) second root.now (items_of entries)) 0 entries)) }
+        requires round { IsRound (items_of entries.now) }
+        ensures { IfOk result (λ sends. sends.items ≡ responses_from
+            (above_item C.image (covered_seconds (held_by self.now) self.now.start second) second root.now (items_of entries.now)) 0 entries.now) }
     {
         one_covered();
         let links = calendar.chain_to(second, second)?;
-        match kept.entries() {
-            Some(entries) => {
-                let sends = responses(self.alloc(), entries, root, &links)?;
-                Ok(sends)
-            }
-            None => Ok(Vec::new(self.alloc())),
-        }
+        let sends = responses::<C>(self.alloc(), entries, root, &links)?;
+        Ok(sends)
     }
 }
 
 /// A response for each item that an aggregator submitted, in their order.
 fn responses<C: Compress>(
     alloc: Global,
-    entries: &Entries<C>,
+    entries: &[Entry],
     root: &Imprint,
     links: &SecondPath,
 ) -> Result<Vec<Send>, NoMemory>
+    requires round { IsRound (items_of entries.now) }
     requires few { length links.now ≤ 63 }
     ensures { IfOk result (λ sends. (seconds : Seconds) (second : ℕ) →
         links.now ≡ calendar_path C.image seconds second second →
         sends.items ≡ responses_from (above_item C.image seconds second root.now (items_of entries.now)) 0 entries.now) }
 {
-    if entries.count() == 0 {
+    if entries.is_empty() {
         return Ok(Vec::new(alloc));
     }
-    let paths = entries.paths()?;
+    let round = round_of::<C>(alloc, entries)?;
+    let paths = round.paths()?;
     responses_along(alloc, entries, &paths, root, links)
+}
+
+/// The tree of the items.
+fn round_of<C: Compress>(alloc: Global, entries: &[Entry]) -> Result<Builder<C>, NoMemory>
+    requires { IsRound (items_of entries.now) }
+    ensures { IfOk result (λ round. round ≡ items_of entries.now) }
+{
+    let mut round = Builder::new(alloc)?;
+    'adding: for k in 0..entries.len() {
+        let entry = entry_at(entries, k);
+        add(&mut round, &entry.item)?;
+    }
+    Ok(round)
+}
+
+/// Item `k` with its origin.
+fn entry_at(entries: &[Entry], k: usize) -> Entry
+    requires { k < length entries.now }
+    ensures { slice_get entries.now k ≡ Some result }
+{
+    entries[k]
+}
+
+/// Adds an item, where the round is not full.
+fn add<C: Compress>(round: &mut Builder<C>, item: &Item) -> Result<(), NoMemory>
+    requires level { item.now.level ≤ highest_item }
+    requires few { length round.old < most_items }
+    ensures { OnOk result (round.new ≡ round.old ++ item.now ∷ []) }
+{
+    match round.add(*item) {
+        Ok(_) => Ok(()),
+        Err(Refused::NoMemory) => Err(NoMemory),
+        Err(Refused::Fault(AddRefusal::Full)) => unreachable!(),
+    }
 }
 
 /// The same, with the paths of the items.
 fn responses_along<C: Compress>(
     alloc: Global,
-    entries: &Entries<C>,
+    entries: &[Entry],
     paths: &RoundPaths<'_, C>,
     root: &Imprint,
     links: &SecondPath,
@@ -143,7 +182,7 @@ fn responses_along<C: Compress>(
         sends.items ≡ responses_from (above_item C.image seconds second root.now (items_of entries.now)) 0 entries.now) }
 {
     let mut sends = Vec::new(alloc);
-    'answering: for k in 0..entries.count() {
+    'answering: for k in 0..entries.len() {
         put_response(alloc, entries, paths, k, root, links, &mut sends)?;
     }
     Ok(sends)
@@ -152,7 +191,7 @@ fn responses_along<C: Compress>(
 /// The response for item `k`, where an aggregator submitted it.
 fn put_response<C: Compress>(
     alloc: Global,
-    entries: &Entries<C>,
+    entries: &[Entry],
     paths: &RoundPaths<'_, C>,
     k: usize,
     root: &Imprint,
@@ -166,7 +205,7 @@ fn put_response<C: Compress>(
         links.now ≡ calendar_path C.image seconds second second → sends.new.items ≡
         sends.old.items ++ response_to entry.origin (above_item C.image seconds second root.now (items_of entries.now) k)) }
 {
-    match entries.entry(k).origin {
+    match entry_at(entries, k).origin {
         Origin::Request(_) => Ok(()),
         Origin::Aggregator(from) => {
             let above = above(alloc, entries, paths, k, root, links)?;
@@ -179,7 +218,7 @@ fn put_response<C: Compress>(
 /// What stands above item `k`.
 fn above<C: Compress>(
     alloc: Global,
-    entries: &Entries<C>,
+    entries: &[Entry],
     paths: &RoundPaths<'_, C>,
     k: usize,
     root: &Imprint,
@@ -193,7 +232,7 @@ fn above<C: Compress>(
         above ≡ above_item C.image seconds second root.now (items_of entries.now) k) }
 {
     let chain = AboveChain {
-        input: entries.entry(k).item.imprint,
+        input: entry_at(entries, k).item.imprint,
         links: round_links(paths, k)?,
     };
     let mut chains = Vec::with_capacity(alloc, 1)?;

@@ -3,7 +3,7 @@ use crate::signatures::{S0, joined};
 use ksi_imprint::{Bytes, Imprint, NoMemory, Refused};
 use ksi_signature::{
     Bodies, CalendarChain, CalendarLinks, PublicationRecord, SignatureFault, WithRefusal, check,
-    with_calendar,
+    view, with_calendar,
 };
 use std::alloc::Global;
 use std::process::Abort;
@@ -49,9 +49,22 @@ fn extended(alloc: Global, bytes: &[u8], size: usize) -> Result<Bytes, Refused<W
     with_calendar(alloc, bytes, &calendar(alloc), &published)
 }
 
+/// The same of a view of the bytes.
+fn renewed(alloc: Global, bytes: &[u8]) -> Option<Bytes> {
+    let published = record(alloc, 0).ok()?;
+    let lent = view(bytes).ok()?;
+    lent.is_of_its_bytes();
+    lent.with_calendar(alloc, &calendar(alloc), &published).ok()
+}
+
 fn is_extended_to(rt: &impl Abort, alloc: Global, bytes: &[u8], wanted: &[u8]) {
     let answer = extended(alloc, bytes, 0);
     same(rt, "extended", answer.is_ok(), true);
+    let lent = renewed(alloc, bytes);
+    same(rt, "renewed", lent.is_some(), true);
+    if let Some(text) = lent {
+        same(rt, "text of a view", text.as_slice(), wanted);
+    }
     if let Ok(text) = answer {
         same(rt, "text", text.as_slice(), wanted);
         same(rt, "check", check(text.as_slice()), Ok(()));

@@ -18,4 +18,6 @@ mod schedules;
 #[cfg(test)]
 mod signatures;
 #[cfg(test)]
+mod viewed_signatures;
+#[cfg(test)]
 mod written_signatures;

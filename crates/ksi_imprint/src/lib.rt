@@ -2,7 +2,8 @@
 //!
 //! A contract sees an [`Imprint`] as its 33 bytes and [`Bytes`] as their list. The layers above rely on three things:
 //! reading gives exactly the imprint that the bytes or the hex text are, or the fault that stands; `join` and `of` of a
-//! [`Compress`] are one function on lists of bytes; and what that function gives is an imprint.
+//! [`Compress`] are one function on lists of bytes; and what that function gives is an imprint. That SHA-256's are of bytes
+//! is a law ([`laws`]).
 //!
 //! ```text
 //! let left = Sha::of(b"abc");
@@ -18,6 +19,7 @@ mod clash;
 mod compress;
 mod fault;
 mod imprint;
+pub mod laws;
 mod refused;
 
 pub use bytes::Bytes;

@@ -22,10 +22,10 @@ seconds_told old new whole kept left others is all next =
     ∙ ap (λ (t : List ℕ). old ++ t) (sym (texts-append (kept_elements kept) (seconds_elements others))) ∙ ap (λ (ks : List Second). old ++ texts (seconds_elements ks)) (sym is) ∙ all
 
 -- the parts of a journal
-pub parts_told : (journal : Contents) (a b c d e : List ℕ) → a ≡ canonical (plain 1 (numeral journal.start)) → b ≡ a ++ texts (seconds_elements journal.seconds)
+pub parts_told : (journal : Contents) (o a b c d e : List ℕ) → a ≡ o ++ canonical (plain 1 (numeral journal.start)) → b ≡ a ++ texts (seconds_elements journal.seconds)
     → c ≡ b ++ texts (map issued_element journal.issued) → d ≡ c ++ texts (map publication_element journal.publications) → e ≡ d ++ canonical (plain 6 [])
-    → e ≡ texts (journal_elements journal)
-parts_told journal a b c d e ea eb ec ed ee =
+    → e ≡ o ++ texts (journal_elements journal)
+parts_told journal o a b c d e ea eb ec ed ee =
     let s : List ℕ = texts (seconds_elements journal.seconds) in
     let i : List ℕ = texts (map issued_element journal.issued) in
     let p : List ℕ = texts (map publication_element journal.publications) in
@@ -39,15 +39,15 @@ parts_told journal a b c d e ea eb ec ed ee =
     let three : texts (seconds_elements journal.seconds ++ (map issued_element journal.issued ++ (map publication_element journal.publications ++ plain 6 [] ∷ []))) ≡ s ++ (i ++ (p ++ last)) =
     texts-append (seconds_elements journal.seconds) (map issued_element journal.issued ++ (map publication_element journal.publications ++ plain 6 [] ∷ [])) ∙ ap (λ (t : List ℕ). texts (seconds_elements journal.seconds) ++ t) two in
     ee ∙ ap (λ (x : List ℕ). x ++ last) (ed ∙ ap (λ (x : List ℕ). x ++ p) (ec ∙ ap (λ (x : List ℕ). x ++ i) (eb ∙ ap (λ (x : List ℕ). x ++ s) ea)))
-    ∙ append_assoc ((first ++ s) ++ i) p last ∙ append_assoc (first ++ s) i (p ++ last) ∙ append_assoc first s (i ++ (p ++ last))
-    ∙ ap (λ (x : List ℕ). first ++ x) (sym three)
+    ∙ append_assoc (((o ++ first) ++ s) ++ i) p last ∙ append_assoc ((o ++ first) ++ s) i (p ++ last) ∙ append_assoc (o ++ first) s (i ++ (p ++ last))
+    ∙ ap (λ (x : List ℕ). (o ++ first) ++ x) (sym three) ∙ append_assoc o first _
 
-pub parts_read : (journal : Contents) (start : ℕ) (seconds : List Second) (issued publications : List (ℕ × List ℕ)) (o a b c d e : List ℕ) → o ≡ [] → start ≡ journal.start → seconds ≡ journal.seconds → issued ≡ journal.issued → publications ≡ journal.publications
+pub parts_read : (journal : Contents) (start : ℕ) (seconds : List Second) (issued publications : List (ℕ × List ℕ)) (o a b c d e : List ℕ) → start ≡ journal.start → seconds ≡ journal.seconds → issued ≡ journal.issued → publications ≡ journal.publications
     → a ≡ o ++ canonical (plain 1 (numeral start)) → b ≡ a ++ texts (seconds_elements seconds) → c ≡ b ++ texts (map issued_element issued) → d ≡ c ++ texts (map publication_element publications) → e ≡ d ++ canonical (plain 6 [])
-    → e ≡ texts (journal_elements journal)
-parts_read journal start seconds issued publications o a b c d e none one two three four ea eb ec ed ee =
-    parts_told journal a b c d e
-    (ea ∙ ap (λ (x : List ℕ). x ++ canonical (plain 1 (numeral start))) none ∙ ap (λ (n : ℕ). canonical (plain 1 (numeral n))) one)
+    → e ≡ o ++ texts (journal_elements journal)
+parts_read journal start seconds issued publications o a b c d e one two three four ea eb ec ed ee =
+    parts_told journal o a b c d e
+    (ea ∙ ap (λ (n : ℕ). o ++ canonical (plain 1 (numeral n))) one)
     (eb ∙ ap (λ (x : List Second). a ++ texts (seconds_elements x)) two)
     (ec ∙ ap (λ (x : List (ℕ × List ℕ)). b ++ texts (map issued_element x)) three)
     (ed ∙ ap (λ (x : List (ℕ × List ℕ)). c ++ texts (map publication_element x)) four)

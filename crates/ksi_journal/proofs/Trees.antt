@@ -1,11 +1,11 @@
 -- What is kept for a second: its items make a round, and their tree has its root.
-use Rattle.std.proofs.Common.{◌≡◌, ◌≢◌, ◌⊎◌, inl, inr, ℕ, zero, suc, ◌+◌, ◌≤◌, Bool, true, false, cond, eqb, List, [], ◌∷◌, length, Option, Some, None, refl, sym, ap, ◌∙◌, arith}
+use Rattle.std.proofs.Common.{◌≡◌, ◌⊎◌, inl, inr, ℕ, zero, suc, ◌≤◌, Bool, true, false, cond, eqb, List, [], ◌∷◌, Option, Some, None, refl, sym, ap, arith}
 use Rattle.std.specs.Prelude.{◌↔◌, IfSome}
 use Rattle.std.specs.List.{AllByRecursion}
 use Rattle.ksi_imprint.specs.Imprints.{zero_imprint}
 use Rattle.ksi_aggtree.specs.declared.item.Item.{Item}
 use Rattle.ksi_aggtree.specs.declared.second.Second.{Second}
-use Rattle.ksi_aggtree.specs.Rounds.{most_items, highest_item, item_at, some_items, tree_of, IsRound}
+use Rattle.ksi_aggtree.specs.Rounds.{highest_item, item_at, some_items, tree_of, IsRound}
 use Rattle.ksi_journal.specs.Journal.{Contents, IsItem, IsRootOf, IsSecond, IsJournal, kept_among, root_kept, root_at, items_of, items_at, tree_at}
 
 low_items : (items : List Item) (k : ℕ) → AllByRecursion IsItem items → (item_at items k).level ≤ highest_item

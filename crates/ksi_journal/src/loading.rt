@@ -176,13 +176,14 @@ impl<C: Compress> Loading<C> {
             return Err(Refused::Fault(JournalFault::Count(second)));
         }
         let count = count as usize;
-        let items = match Vec::with_capacity(self.alloc, count) {
+        if count == 0 {
+            return self.close(second, root, Items::from_vec(Vec::new(self.alloc)));
+        }
+        // the last item is not put behind the others before the tree has the root, and needs no room where it is alone
+        let items = match Vec::with_capacity(self.alloc, if count == 1 { 0 } else { count }) {
             Ok(items) => items,
             Err(_) => return Err(Refused::NoMemory),
         };
-        if count == 0 {
-            return self.close(second, root, items);
-        }
         self.stage = Stage::Items;
         self.second = second;
         self.root = root;
@@ -196,12 +197,11 @@ impl<C: Compress> Loading<C> {
         &mut self,
         second: u64,
         root: Imprint,
-        items: Vec<Item>,
+        items: Items,
     ) -> Result<(), Refused<JournalFault>>
         requires { second < 2 ^ 63 }
-        ensures { Steps (Ok (closed self.old (record { second = second; root = root; items = items.items }))) self.new result }
+        ensures { Steps (Ok (closed self.old (record { second = second; root = root; items = items }))) self.new result }
     {
-        let items = Items::from_vec(items);
         let kept = Second {
             second,
             root,
@@ -249,11 +249,14 @@ impl<C: Compress> Loading<C> {
         if !is_same(&computed, &self.root) {
             return Err(Refused::Fault(JournalFault::TreeRoot(self.second, self.root, computed)));
         }
+        if self.items.is_empty() {
+            return self.close(self.second, self.root, Items::one(item));
+        }
         let mut items = mem::replace(&mut self.items, Vec::new(self.alloc));
         if items.push(item).is_err() {
             return Err(Refused::NoMemory);
         }
-        self.close(self.second, self.root, items)
+        self.close(self.second, self.root, Items::from_vec(items))
     }
 
     #[tactic(auto, unfolding(crate::specs::Elements::issued_at))]

@@ -30,26 +30,36 @@ pub fn write<C: Compress>(alloc: Global, journal: &Journal<C>) -> Result<Bytes, 
 
 fn written<C: Compress>(alloc: Global, journal: &Journal<C>) -> Result<Bytes, NoMemory>
     ensures text { IfOk result (λ text. text ≡ journal_text journal.now) }
-    ensures journal { IsJournal C.image journal.now }
+    ensures journal { IfOk result (λ _. IsJournal C.image journal.now) }
 {
-    let writer = elements(alloc, journal)?;
-    let mut text = Vec::new(alloc);
-    text.extend_from_slice(MAGIC)?;
-    text.extend_from_slice(writer.bytes())?;
-    Ok(Bytes::from_vec(text))
+    let mut magic = Vec::new(alloc);
+    magic.extend_from_slice(MAGIC)?;
+    let mut writer = Writer::behind(magic);
+    put_elements(&mut writer, alloc, journal)?;
+    Ok(Bytes::from_vec(writer.into_vec()))
 }
 
-fn elements<C: Compress>(alloc: Global, journal: &Journal<C>) -> Result<Writer, NoMemory>
-    ensures text { IfOk result (λ writer. writer ≡ texts (journal_elements journal.now)) }
-    ensures journal { IsJournal C.image journal.now }
+fn put_elements<C: Compress>(
+    writer: &mut Writer,
+    alloc: Global,
+    journal: &Journal<C>,
+) -> Result<(), NoMemory>
+    ensures text { OnOk result (writer.new ≡ writer.old ++ texts (journal_elements journal.now)) }
+    ensures journal { OnOk result (IsJournal C.image journal.now) }
 {
-    let mut writer = Writer::new(alloc);
     writer.put_number(START, journal.start())?;
-    put_seconds(&mut writer, alloc, journal.seconds())?;
-    put_issued(&mut writer, alloc, journal.issued())?;
-    put_publications(&mut writer, alloc, journal.publications())?;
-    put_short(&mut writer, END, &[])?;
-    Ok(writer)
+    put_seconds(writer, alloc, journal.seconds())?;
+    put_issued(writer, alloc, journal.issued())?;
+    put_publications(writer, alloc, journal.publications())?;
+    put_short(writer, END, &[])?;
+    Ok(())
+}
+
+/// A writer of nothing yet, with room for so many bytes.
+fn body_of(alloc: Global, room: usize) -> Result<Writer, NoMemory>
+    ensures { IfOk result (λ body. body ≡ []) }
+{
+    Ok(Writer::behind(Vec::with_capacity(alloc, room)?))
 }
 
 fn put_seconds(writer: &mut Writer, alloc: Global, seconds: &[Second]) -> Result<(), NoMemory>
@@ -100,7 +110,7 @@ fn head_body(alloc: Global, kept: &Second) -> Result<Writer, NoMemory>
     ensures short { IfOk result (λ body. length body ≤ 65535) }
 {
     numeral_is_read();
-    let mut body = Writer::new(alloc);
+    let mut body = body_of(alloc, 64)?;
     body.put_number(0x01, kept.second)?;
     put_short(&mut body, 0x02, kept.root.bytes())?;
     body.put_number(0x03, kept.items.as_slice().len() as u64)?;
@@ -135,7 +145,7 @@ fn signature_body(alloc: Global, signature: &(u64, Bytes)) -> Result<Writer, NoM
     ensures short { IfOk result (λ body. length body ≤ 65535) }
 {
     numeral_is_read();
-    let mut body = Writer::new(alloc);
+    let mut body = body_of(alloc, signature.1.as_slice().len() + 16)?;
     body.put_number(0x01, signature.0)?;
     put_short(&mut body, 0x02, signature.1.as_slice())?;
     Ok(body)
@@ -170,7 +180,7 @@ fn publication_body(alloc: Global, publication: &(u64, Imprint)) -> Result<Write
     ensures short { IfOk result (λ body. length body ≤ 65535) }
 {
     numeral_is_read();
-    let mut body = Writer::new(alloc);
+    let mut body = body_of(alloc, 64)?;
     body.put_number(0x01, publication.0)?;
     put_short(&mut body, 0x02, publication.1.bytes())?;
     Ok(body)

@@ -1,7 +1,10 @@
+ghost use Rattle.std.specs.Prelude.{◌≤◌, length};
+
 use crate::same::same;
 use ksi_imprint::{Bytes, NoMemory};
 use ksi_ports::{
     Files, HostFiles, HostSink, LoadRefusal, MemFiles, MemSink, SaveRefusal, Sink, SinkFailed,
+    SureFiles, SureSink,
 };
 use std::alloc::Global;
 use std::fs;
@@ -38,10 +41,10 @@ fn save(
     }
 }
 
-fn put(rt: &impl Abort, out: &mut impl Sink, rows: &[(&[u8], Result<(), SinkFailed>)]) {
-    for (piece, want) in rows {
-        same(rt, piece.len(), out.put(piece), *want);
-    }
+fn put<K: Sink>(rt: &impl Abort, out: &mut K, piece: &[u8], want: Result<(), SinkFailed>)
+    requires { length piece.now ≤ K.free out.old }
+{
+    same(rt, piece.len(), out.put(piece), want);
 }
 
 fn held_twice(alloc: Global) -> Result<MemFiles, NoMemory> {
@@ -100,19 +103,55 @@ fn listed_calls_fail_and_are_counted(rt: HostRuntime) -> Result<(), Fail> {
     Ok(())
 }
 
+// Room for five bytes, of which the second and the fourth put fail, the latter after a byte.
+fn two_are_cut(alloc: Global) -> Result<MemSink, NoMemory> {
+    let mut out = MemSink::new(alloc, 5)?;
+    out.cut(1, 0)?;
+    out.cut(3, 1)?;
+    Ok(out)
+}
+
 #[test]
-fn puts_append_but_for_those_listed_or_past_the_room(rt: HostRuntime) -> Result<(), Fail> {
-    const PUTS: [(&[u8], Result<(), SinkFailed>); 5] = [
+fn puts_append_but_for_those_cut_or_past_the_room(rt: HostRuntime) -> Result<(), Fail> {
+    const PUTS: [(&[u8], Result<(), SinkFailed>); 6] = [
         (b"ab", Ok(())),
         (b"c", Err(SinkFailed)),
         (b"cdef", Err(SinkFailed)),
-        (b"cde", Ok(())),
+        (b"cd", Err(SinkFailed)),
+        (b"de", Ok(())),
         (b"", Ok(())),
     ];
-    let mut out = MemSink::new(rt.alloc(), 5, [1].to_vec(rt.alloc())?)?;
-    put(&rt, &mut out, &PUTS);
-    same(&rt, "counts", [out.puts(), out.faults()], [5, 2]);
+    let mut out = two_are_cut(rt.alloc())?;
+    for (piece, want) in PUTS {
+        put(&rt, &mut out, piece, want);
+    }
+    same(&rt, "counts", [out.puts(), out.faults()], [6, 3]);
     same(&rt, "written", out.written(), b"abcde");
+    Ok(())
+}
+
+#[test]
+fn sure_files_read_as_empty_where_nothing_is_held(rt: HostRuntime) -> Result<(), Fail> {
+    const LOADS: [(&str, usize, Result<&[u8], LoadRefusal>); 3] = [
+        ("a", 3, Ok(b"one")),
+        ("a", 2, Err(LoadRefusal::TooLong)),
+        ("b", 0, Ok(b"")),
+    ];
+    let mut files = SureFiles::new(rt.alloc());
+    files.hold("a", b"old")?;
+    save(&rt, rt.alloc(), &mut files, &[("a", b"one", Ok(()))]);
+    load(&rt, rt.alloc(), &mut files, &LOADS);
+    same(&rt, "a", files.bytes("a"), b"one");
+    same(&rt, "calls", files.counts().calls, 4);
+    Ok(())
+}
+
+#[test]
+fn a_sure_sink_takes_what_it_has_room_for(rt: HostRuntime) -> Result<(), Fail> {
+    let mut out = SureSink::new(rt.alloc(), 5)?;
+    put(&rt, &mut out, b"abc", Ok(()));
+    same(&rt, "free", out.free(), 2);
+    same(&rt, "written", out.written(), b"abc");
     Ok(())
 }
 
@@ -171,7 +210,9 @@ fn the_system_writes(rt: HostRuntime) {
     ];
     let mut written = Vec::new(rt.alloc());
     let mut out = HostSink::new(&mut written);
-    put(&rt, &mut out, &PUTS);
+    for (piece, want) in PUTS {
+        put(&rt, &mut out, piece, want);
+    }
     same(&rt, "counts", [out.puts(), out.faults()], [3, 0]);
     same(&rt, "written", written.as_slice(), b"line one");
 }

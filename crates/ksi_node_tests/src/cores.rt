@@ -3,6 +3,7 @@ ghost use Rattle.ksi_synod.specs.Ballots.{IsBallot};
 ghost use Rattle.ksi_synod.specs.Rows.{OfBallot};
 
 use crate::same::same;
+use crate::settled::first_not_held;
 use ksi_aggtree::Item;
 use ksi_calchain::{CalendarLink, climb_calendar};
 use ksi_corenode::{Answer, Core, NoMemory, Send, Step};
@@ -68,7 +69,7 @@ fn last_vote(ballot: u64, vote: Option<Vote>) -> SynodMessage
 
 /// How many sealed items there are.
 fn count(core: &Core<Sha>, second: u64) -> Option<usize> {
-    match core.items(second) {
+    match core.sealed(second) {
         Some(items) => Some(items.len()),
         None => None,
     }
@@ -115,6 +116,26 @@ fn one_core_alone_decides_its_candidate(rt: HostRuntime) {
     seal_one(&rt, &mut core);
     vote_alone(&rt, &mut core, root);
     hold_alone(&rt, &mut core, root);
+}
+
+/// Each row is as before, once the second is settled.
+fn settled_alone(rt: &impl Abort, core: &mut Core<Sha>) {
+    same(rt, "settled", core.settled(), 1);
+    same(rt, "first", first_not_held(core, T + 1), Some(T + 1));
+    same(rt, "first", first_not_held(core, T), None);
+    only(rt, core.submission(1, T, item(b"b")), Answer::Late);
+    only(rt, core.seal(T), Answer::Sealed);
+    sends(rt, core.ballot(T), &[0], &SynodMessage::NextBallot(32));
+}
+
+#[test]
+fn a_settled_second_answers_as_before(rt: HostRuntime) {
+    let mut core = Core::<Sha>::new(rt.alloc(), 0, 1, T);
+    let root = Sha::of(b"");
+    same(&rt, "settled", core.settled(), 0);
+    seal_one(&rt, &mut core);
+    vote_alone(&rt, &mut core, root);
+    settled_alone(&rt, &mut core);
 }
 
 /// A core that holds its candidate, the item alone, for second T.

@@ -14,6 +14,8 @@ mod rounds;
 #[cfg(test)]
 mod same;
 #[cfg(test)]
+mod settled;
+#[cfg(test)]
 mod votes;
 #[cfg(test)]
 mod worlds;

@@ -2,3 +2,4 @@ pub mod Host
 pub mod Memory
 pub mod Outside
 pub mod Stored
+pub mod Sure

@@ -1,12 +1,13 @@
 -- Files and output in memory, and what each call of theirs answers and leaves.
-use Rattle.std.specs.Prelude.{◌≡◌, ℕ, ◌+◌, Bool, IsTrue, IsFalse, IsOk, ◌||◌, nat_le, nat_lt, ◌==◌, List, [], ◌∷◌, ◌++◌, length, Option, Some, None, Result, Ok, Err, if◌then◌else◌, bytes_eq}
+use Rattle.std.specs.Prelude.{◌≡◌, ℕ, ◌+◌, Bool, IsTrue, IsFalse, IsOk, nat_le, nat_lt, ◌==◌, List, [], ◌∷◌, ◌++◌, length, take, Option, Some, None, Result, Ok, Err, if◌then◌else◌, bytes_eq}
 use Rattle.std.specs.List.{list_any}
 use Rattle.ksi_ports.specs.declared.counts.Counts.{Counts}
+use Rattle.ksi_ports.specs.declared.entries.Entry.{Entry}
 use Rattle.ksi_ports.specs.declared.files.LoadRefusal.{LoadRefusal}
 use Rattle.ksi_ports.specs.declared.files.LoadRefusal.TheVariants.{Failed, TooLong, NoMemory}
 use Rattle.ksi_ports.specs.declared.files.SaveRefusal.{SaveRefusal}
 use Rattle.ksi_ports.specs.declared.files.SaveRefusal.TheVariants as saves
-use Rattle.ksi_ports.specs.declared.mem_files.Entry.{Entry}
+use Rattle.ksi_ports.specs.declared.mem_sink.Cut.{Cut}
 use Rattle.ksi_ports.specs.Stored.{Held}
 use Rattle.ksi_ports.specs.Outside.{count_up, no_calls}
 
@@ -77,27 +78,38 @@ after_save files name bytes (Ok u) = record (with_newest files name bytes) { cou
 after_save files name bytes (Err saves.Failed) = record files { counts = record (one_save files.counts) { faults = count_up 1 files.counts.faults } }
 after_save files name bytes (Err saves.NoMemory) = files
 
--- output in memory: what was written; for how many bytes there is room; the numbers of the puts that are to fail,
--- counted from 0; how many puts there were; how many bytes were given to them; how many of them failed
+-- output in memory: what was written; for how many bytes there is room; the cuts, the newest first; how many puts there
+-- were; how many bytes were given to them; how many of them failed
 pub record StoredOutput : Type 0 where
   pub written : List ℕ
   pub room : ℕ
-  pub failing : List ℕ
+  pub cuts : List Cut
   pub puts : ℕ
   pub given : ℕ
   pub faults : ℕ
 
--- nothing written, and no put so far
-abbrev pub no_output : ℕ → List ℕ → StoredOutput
-no_output room failing = record { written = []; room = room; failing = failing; puts = 0; given = 0; faults = 0 }
+-- nothing written, no cut, and no put so far
+abbrev pub no_output : ℕ → StoredOutput
+no_output room = record { written = []; room = room; cuts = []; puts = 0; given = 0; faults = 0 }
 
--- a put fails exactly where it is listed or its piece passes the room
-abbrev pub put_fails : StoredOutput → List ℕ → Bool
-put_fails output piece = is_listed output.failing output.puts || nat_lt output.room (length output.written + length piece)
+-- the same, and the put of this number, counted from 0, is to fail after so many bytes
+abbrev pub with_cut : StoredOutput → ℕ → ℕ → StoredOutput
+with_cut output call after = record output { cuts = record { call = call; after = after } ∷ output.cuts }
 
--- the output after a put: one that fails writes nothing
+-- after how many bytes the put of this number is to fail, by the newest cut of it
+abbrev pub cut_at : List Cut → ℕ → Option ℕ
+cut_at [] call = None
+cut_at (c ∷ cs) call = if c.call == call then Some c.after else cut_at cs call
+
+-- After how many bytes of its piece a put fails: after none where the piece passes the room, else by the newest cut of it.
+abbrev pub put_cut : StoredOutput → List ℕ → Option ℕ
+put_cut output piece = if nat_lt output.room (length output.written + length piece) then Some 0 else cut_at output.cuts output.puts
+
+-- the output after a put that fails after so many bytes of its piece, or does not fail
+abbrev pub put_until : StoredOutput → List ℕ → Option ℕ → StoredOutput
+put_until output piece None = record output { puts = count_up 1 output.puts; given = count_up (length piece) output.given; written = output.written ++ piece }
+put_until output piece (Some k) = record output { puts = count_up 1 output.puts; given = count_up (length piece) output.given; written = output.written ++ take k piece; faults = count_up 1 output.faults }
+
+-- the output after a put
 abbrev pub after_put : StoredOutput → List ℕ → StoredOutput
-after_put output piece =
-    if put_fails output piece
-    then record output { puts = count_up 1 output.puts; given = count_up (length piece) output.given; faults = count_up 1 output.faults }
-    else record output { puts = count_up 1 output.puts; given = count_up (length piece) output.given; written = output.written ++ piece }
+after_put output piece = put_until output piece (put_cut output piece)

@@ -1,4 +1,4 @@
-ghost use Rattle.std.specs.Prelude.{◌≡◌, ◌≤◌, false, [], length, OnOk, OnErr};
+ghost use Rattle.std.specs.Prelude.{◌≡◌, ◌≤◌, ◌^◌, false, [], length, OnOk, OnErr};
 ghost use Rattle.std.specs.Bool.{OnTrue, OnFalse};
 ghost use Rattle.std.specs.Io.KnownBytes.{Appends};
 ghost use Rattle.ksi_ports.specs.Outside.{Raises, count_up};
@@ -70,6 +70,8 @@ impl<W: Write> Sink for HostSink<W> {
     ghost given = { λ sink. sink.given };
 
     ghost faults = { λ sink. sink.faults };
+
+    ghost free = { λ _. 2 ^ 64 };
 
     fn put(&mut self, piece: &[u8]) -> Result<(), SinkFailed>
         ensures later { self.old.puts ≤ self.new.puts }

@@ -8,22 +8,28 @@
 //! one; a load or save that lacks memory may leave it. Saves that did not lack memory are counted by themselves, as are the
 //! bytes given to puts and those that the last load took.
 //!
+//! `MemFiles` and `MemSink` fail where they are told to, `SureFiles` and `SureSink` never do: a name that is not held reads as
+//! empty there, and a piece is at most as long as the sink is free for, which is a condition.
+//!
 //! ```text
 //! let mut files = MemFiles::new(alloc, failing);
 //! files.save(alloc, "name", b"content")?;
 //! let bytes = files.load(alloc, "name", 7)?;
-//! let mut out = MemSink::new(alloc, 32_767, failing_puts)?;
+//! let mut out = MemSink::new(alloc, 32_767)?;
 //! out.put(bytes.as_slice())?;
 //! ```
 #![tactic(auto)]
 
 mod counts;
+mod entries;
 mod files;
 mod host_files;
 mod host_sink;
 mod mem_files;
 mod mem_sink;
 mod sink;
+mod sure_files;
+mod sure_sink;
 
 pub use counts::Counts;
 pub use files::{Files, LoadRefusal, SaveRefusal};
@@ -32,3 +38,5 @@ pub use host_sink::HostSink;
 pub use mem_files::MemFiles;
 pub use mem_sink::MemSink;
 pub use sink::{Sink, SinkFailed};
+pub use sure_files::SureFiles;
+pub use sure_sink::SureSink;

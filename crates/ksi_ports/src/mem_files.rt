@@ -2,17 +2,11 @@ ghost use Rattle.std.specs.Prelude.{◌≡◌, ◌≤◌, OnOk, OnErr, option_co
 ghost use Rattle.ksi_ports.specs.Outside.{LoadCalls, LoadCounts, LoadTakes, SaveCalls, SaveCounts, SavesCounted};
 ghost use Rattle.ksi_ports.specs.Memory.{held_in, no_files, is_listed, load_answer, LoadAnswers, after_load, SaveAnswers, after_save, with_newest};
 
+use crate::entries::{Entry, bytes_at, copied_up_to, put_first};
 use crate::{Counts, Files, LoadRefusal, SaveRefusal};
 use ksi_imprint::{Bytes, NoMemory};
 use std::alloc::Global;
 use std::marker::Model;
-
-/// A file in memory.
-#[derive(Drop)]
-pub(crate) struct Entry {
-    name: Bytes,
-    bytes: Bytes,
-}
 
 /// Files in memory, with a list of the calls that are to fail.
 #[derive(Drop)]
@@ -83,59 +77,9 @@ impl MemFiles {
         }
         match bytes_at(&self.entries, name) {
             None => Err(LoadRefusal::Failed),
-            Some(bytes) if bytes.as_slice().len() > most => Err(LoadRefusal::TooLong),
-            Some(bytes) => Ok(Bytes::copy_of(alloc, bytes.as_slice())?),
+            Some(bytes) => copied_up_to(alloc, bytes.as_slice(), most),
         }
     }
-
-    // Counts a load that gave this answer, and what it took.
-    fn count_load(&mut self, most: usize, answer: &Result<Bytes, LoadRefusal>)
-        ensures later { self.old.counts.calls ≤ self.new.counts.calls }
-        ensures called { LoadCalls self.old.counts.calls self.new.counts.calls answer.now }
-        ensures counted { LoadCounts self.old.counts.faults self.new.counts.faults answer.now }
-        ensures taken { LoadTakes most self.old.counts.taken self.new.counts.taken answer.now }
-        ensures last { LoadTakes most 0 self.new.counts.last_taken answer.now }
-        ensures after { self.new ≡ after_load self.old most answer.now }
-    {
-        let calls = self.counts.calls.saturating_add(1);
-        self.counts.last_taken = 0;
-        match answer {
-            Ok(bytes) => self.counts.last_taken = bytes.as_slice().len() as u64,
-            Err(LoadRefusal::Failed) => self.counts.faults = self.counts.faults.saturating_add(1),
-            Err(LoadRefusal::TooLong) => self.counts.last_taken = (most as u64).saturating_add(1),
-            Err(LoadRefusal::NoMemory) => return,
-        }
-        self.counts.calls = calls;
-        self.counts.taken = self.counts.taken.saturating_add(self.counts.last_taken);
-    }
-}
-
-// The bytes of the first entry of that name.
-fn bytes_at<'a>(entries: &'a [Entry], name: &str) -> Option<&'a Bytes>
-    ensures { option_copied result ≡ held_in entries.now name.now }
-{
-    for entry in entries {
-        if entry.name.as_slice() == name.as_bytes() {
-            return Some(&entry.bytes);
-        }
-    }
-    None
-}
-
-// Puts an entry before the others.
-fn put_first(
-    alloc: Global,
-    entries: &mut Vec<Entry>,
-    name: &str,
-    bytes: &[u8],
-) -> Result<(), NoMemory>
-    ensures ok { OnOk result (entries.new.items ≡ record { name = name.now; bytes = bytes.now } ∷ entries.old.items) }
-    ensures err { OnErr result (entries.new.items ≡ entries.old.items) }
-{
-    let name = Bytes::copy_of(alloc, name.as_bytes())?;
-    let bytes = Bytes::copy_of(alloc, bytes)?;
-    entries.insert(0, Entry { name, bytes })?;
-    Ok(())
 }
 
 impl Files for MemFiles {
@@ -163,7 +107,7 @@ impl Files for MemFiles {
         ensures after { self.new ≡ after_load self.old most result }
     {
         let answer = self.look_up(alloc, name, most);
-        self.count_load(most, &answer);
+        self.counts.count_load(most, &answer);
         answer
     }
 
@@ -175,13 +119,13 @@ impl Files for MemFiles {
         ensures answers { SaveAnswers (is_listed self.old.failing self.old.counts.calls) result }
         ensures after { self.new ≡ after_save self.old name.now bytes.now result }
     {
-        let calls = self.counts.calls.saturating_add(1);
+        let mut counts = self.counts;
+        counts.count_save();
         let fails = self.failing.contains(&self.counts.calls);
         if !fails {
             put_first(alloc, &mut self.entries, name, bytes)?;
         }
-        self.counts.calls = calls;
-        self.counts.saves = self.counts.saves.saturating_add(1);
+        self.counts = counts;
         if fails {
             self.counts.faults = self.counts.faults.saturating_add(1);
             return Err(SaveRefusal::Failed);

@@ -1,18 +1,26 @@
-ghost use Rattle.std.specs.Prelude.{◌≡◌, ◌≤◌, true, length, IfOk, OnErr, is_err};
+ghost use Rattle.std.specs.Prelude.{◌≡◌, ◌≤◌, ◌+◌, ◌++◌, ◌^◌, true, length, take, vec_len, vec_capacity, IfOk, OnErr, OnOk, is_err, is_some};
 ghost use Rattle.ksi_ports.specs.Outside.{count_up, Raises};
-ghost use Rattle.ksi_ports.specs.Memory.{no_output, put_fails, after_put};
+ghost use Rattle.ksi_ports.specs.Memory.{no_output, cut_at, put_cut, after_put, with_cut};
 
 use crate::{Sink, SinkFailed};
 use ksi_imprint::NoMemory;
 use std::alloc::Global;
 use std::marker::Model;
 
+/// The put of this number, counted from 0, is to fail after so many bytes of its piece.
+#[derive(Drop)]
+pub(crate) struct Cut {
+    call: u64,
+    after: usize,
+}
+
 /// Output in memory that has room for so many bytes, with a list of the puts that are to fail.
 #[derive(Drop)]
 pub struct MemSink {
     written: Vec<u8>,
     room: usize,
-    failing: Vec<u64>,
+    // the newest first: it counts
+    cuts: Vec<Cut>,
     puts: u64,
     given: u64,
     faults: u64,
@@ -27,7 +35,7 @@ impl Model for MemSink {
     ghost view = { λ sink. record {
       written = sink.written.items;
       room = sink.room;
-      failing = sink.failing.items;
+      cuts = sink.cuts.items;
       puts = sink.puts;
       given = sink.given;
       faults = sink.faults;
@@ -37,18 +45,28 @@ impl Model for MemSink {
 }
 
 impl MemSink {
-    /// Takes room for so many bytes. The puts of these numbers fail, counted from 0.
-    pub fn new(alloc: Global, room: usize, failing: Vec<u64>) -> Result<Self, NoMemory>
-        ensures { IfOk result (λ sink. sink ≡ no_output room failing.items) }
+    /// Takes room for so many bytes.
+    pub fn new(alloc: Global, room: usize) -> Result<Self, NoMemory>
+        ensures { IfOk result (λ sink. sink ≡ no_output room) }
     {
         Ok(MemSink {
             written: Vec::with_capacity(alloc, room)?,
             room,
-            failing,
+            cuts: Vec::new(alloc),
             puts: 0,
             given: 0,
             faults: 0,
         })
+    }
+
+    /// Lets the put of that number, counted from 0, fail after so many bytes of its piece, or after all where it has fewer.
+    pub fn cut(&mut self, call: usize, after: usize) -> Result<(), NoMemory>
+        ensures ok { OnOk result (self.new ≡ with_cut self.old call after) }
+        ensures no_memory { OnErr result (self.new ≡ self.old) }
+    {
+        let call = call as u64;
+        self.cuts.insert(0, Cut { call, after })?;
+        Ok(())
     }
 
     /// All that was written.
@@ -79,11 +97,50 @@ impl MemSink {
         self.faults
     }
 
-    // Whether the next put is to fail.
-    fn is_to_fail(&self, piece: &[u8]) -> bool
-        ensures { result ≡ put_fails self.now piece.now }
+    // After how many bytes of this piece the next put fails.
+    fn next_cut(&self, piece: &[u8]) -> Option<usize>
+        ensures { result ≡ put_cut self.now piece.now }
     {
-        self.failing.contains(&self.puts) || self.room - self.written.len() < piece.len()
+        if self.room - self.written.len() < piece.len() {
+            return Some(0);
+        }
+        cut_of(&self.cuts, self.puts)
+    }
+}
+
+// After how many bytes the put of that number is to fail.
+fn cut_of(cuts: &[Cut], call: u64) -> Option<usize>
+    ensures { result ≡ cut_at cuts.now call }
+{
+    for cut in cuts {
+        if cut.call == call {
+            return Some(cut.after);
+        }
+    }
+    None
+}
+
+/// The first bytes of the piece, all where it has fewer.
+#[tactic(auto, using(std::proofs::lemmas::List::take_all))]
+pub(crate) fn front(piece: &[u8], count: usize) -> &[u8]
+    ensures value { result.now ≡ take count piece.now }
+    ensures within { length result.now ≤ length piece.now }
+{
+    if count < piece.len() {
+        return &piece[..count];
+    }
+    piece
+}
+
+/// Writes a piece for which there is room.
+pub(crate) fn append(written: &mut Vec<u8>, piece: &[u8])
+    requires { vec_len written.old + length piece.now ≤ vec_capacity written.old }
+    ensures items { written.new.items ≡ written.old.items ++ piece.now }
+    ensures room { vec_capacity written.old ≤ vec_capacity written.new }
+{
+    match written.extend_from_slice(piece) {
+        Ok(()) => {}
+        Err(_) => unreachable!(),
     }
 }
 
@@ -98,24 +155,29 @@ impl Sink for MemSink {
 
     ghost faults = { λ sink. sink.faults };
 
+    ghost free = { λ _. 2 ^ 64 };
+
     fn put(&mut self, piece: &[u8]) -> Result<(), SinkFailed>
         ensures later { self.old.puts ≤ self.new.puts }
         ensures called { self.new.puts ≡ count_up 1 self.old.puts }
         ensures given { self.new.given ≡ count_up (length piece.now) self.old.given }
         ensures failed { OnErr result (Raises self.old.faults self.new.faults) }
-        ensures answers { is_err result ≡ put_fails self.old piece.now }
+        ensures answers { is_err result ≡ is_some (put_cut self.old piece.now) }
         ensures after { self.new ≡ after_put self.old piece.now }
     {
-        let fails = self.is_to_fail(piece);
+        let cut = self.next_cut(piece);
         self.puts = self.puts.saturating_add(1);
         self.given = self.given.saturating_add(piece.len() as u64);
-        if fails {
-            self.faults = self.faults.saturating_add(1);
-            return Err(SinkFailed);
-        }
-        match self.written.extend_from_slice(piece) {
-            Ok(()) => Ok(()),
-            Err(_) => unreachable!(),
+        match cut {
+            None => {
+                append(&mut self.written, piece);
+                Ok(())
+            }
+            Some(count) => {
+                append(&mut self.written, front(piece, count));
+                self.faults = self.faults.saturating_add(1);
+                Err(SinkFailed)
+            }
         }
     }
 }

@@ -1,4 +1,4 @@
-ghost use Rattle.std.specs.Prelude.{◌≡◌, ℕ, ◌≤◌, Bool, IsTrue, List, length, ◌++◌, OnOk, OnErr};
+ghost use Rattle.std.specs.Prelude.{◌≡◌, ℕ, ◌≤◌, ◌+◌, Bool, IsTrue, List, length, ◌++◌, OnOk, OnErr};
 ghost use Rattle.ksi_ports.specs.Outside.{count_up, Raises, ExtendsByFront};
 
 /// A put failed, and the count of faults rose.
@@ -25,6 +25,9 @@ pub trait Sink {
     /// How often a put failed.
     ghost faults: { Self → ℕ };
 
+    /// How many bytes may still be put. It is 2^64, more than a piece can have, and stays there, where no number is set.
+    ghost free: { Self → ℕ };
+
     /// Writes the piece behind what was written. It takes no memory.
     ///
     /// # Errors
@@ -32,6 +35,8 @@ pub trait Sink {
     /// `SinkFailed` where the piece could not be written: the count of faults rises, and a front of the piece may have been
     /// written.
     fn put(&mut self, piece: &[u8]) -> Result<(), SinkFailed>
+        requires { length piece.now ≤ free self.old }
+        ensures free { free self.old ≤ free self.new + length piece.now }
         ensures later { puts self.old ≤ puts self.new }
         ensures called { puts self.new ≡ count_up 1 (puts self.old) }
         ensures given { given self.new ≡ count_up (length piece.now) (given self.old) }

@@ -9,17 +9,11 @@ ghost use Rattle.ksi_schedule.specs.Spelled.{IsScheduleText};
 ghost use Rattle.ksi_journal.specs.Journal.{IsJournal};
 ghost use Rattle.ksi_replay.specs.Journals.{journal_of};
 
+use ksi_imprint::laws::hashes_are_bytes;
 use ksi_schedule::spelled_is_schedule;
 use ksi_world::laws::{
     history_is_of_bytes, issued_is_short, kept_is_listed, published_is_listed, requests_are_few,
 };
-
-/// The hashes of SHA-256 are imprints, of bytes.
-#[tactic(auto, using(crate::proofs::Digests::hash_is, crate::proofs::Digests::hash_bytes))]
-pub fn hashes_are_bytes()
-    ensures imprints { (text : List ℕ) → IsImprint (imprint_of text) }
-    ensures bytes { (text : List ℕ) → AreBytes (imprint_of text) }
-{}
 
 /// The journal of every history is one, whatever is lost, late or repeated and whoever restarts, where what is hashed are
 /// imprints, of bytes; and so it is of every history that a schedule spells, over SHA-256.

@@ -1,10 +1,10 @@
 -- One walk over a container finds what is said there: where a kind stands once at most, the last is the first.
-use Rattle.std.proofs.Common.{◌≡◌, ℕ, zero, suc, ◌+◌, ◌-◌, ◌<◌, ◌≤◌, Bool, true, false, cond, eqb, List, [], ◌∷◌, length, map, drop, slice_index, Option, Some, None, Result, Ok, Err, refl, sym, ap, ◌∙◌, arith}
+use Rattle.std.proofs.Common.{◌≡◌, ℕ, zero, suc, ◌+◌, ◌-◌, ◌<◌, ◌≤◌, Bool, true, false, cond, eqb, List, [], ◌∷◌, length, map, drop, slice_index, Option, Some, None, Result, Ok, Err, refl, ap, ◌∙◌, arith}
 use Rattle.std.specs.Prelude.{◌||◌, option_map}
 use Rattle.std.proofs.lemmas.List.{length-map}
 use Rattle.ksi_tlv.specs.Spelling.{Tlv}
 use Rattle.ksi_tlv.specs.Front.{element_at}
-use Rattle.ksi_tlv.specs.Walking.{PlacedTlv, Items, items_after, items_within, elements}
+use Rattle.ksi_tlv.specs.Walking.{PlacedTlv, items_after, items_within, elements}
 use Rattle.ksi_tlv.specs.Numerals.{number_of}
 use Rattle.ksi_grammar.specs.Table.{count}
 use Rattle.ksi_grammar.specs.Reading.{inner_verdict}
@@ -13,7 +13,7 @@ use Rattle.ksi_grammar.specs.Published.{number_or_zero, imprint_or_zero}
 use Rattle.ksi_signature.specs.Tables.{chain_table, calendar_table}
 use Rattle.ksi_signature.specs.Contents.{bodies_of, number_or, chain_in, calendar_in}
 use Rattle.ksi_signature.specs.Heads.{last_part, Head, head_of, head_with, head_behind, CalendarHead, calendar_with, calendar_behind, time_or, SaysCalendar}
-use Rattle.ksi_signature.proofs.Limits.{IsHeld, length-bodies, some_index}
+use Rattle.ksi_signature.proofs.Limits.{IsHeld, some_index}
 
 -- ---- there are no more elements than bytes
 

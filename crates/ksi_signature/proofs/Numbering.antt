@@ -1,8 +1,8 @@
 -- The index parts of an accepted chain are numbers.
-use Rattle.std.proofs.Common.{◌≡◌, ℕ, ◌≤◌, Bool, true, false, cond, eqb, ltb, leb, List, [], ◌∷◌, length, Ok, Err, refl, sym, ◌∙◌, arith}
+use Rattle.std.proofs.Common.{◌≡◌, ℕ, Bool, true, false, cond, eqb, ltb, leb, List, [], ◌∷◌, length, Ok, Err, refl}
 use Rattle.std.specs.Prelude.{◌&&◌}
 use Rattle.std.specs.List.{AllByRecursion}
-use Rattle.std.proofs.lemmas.Bool.{eqb-true, ltb-true, ltb-false, leb-true, le-leb}
+use Rattle.std.proofs.lemmas.Bool.{eqb-true, ltb-false, le-leb}
 use Rattle.ksi_tlv.specs.Walking.{PlacedTlv}
 use Rattle.ksi_tlv.specs.Numerals.{number_of}
 use Rattle.ksi_grammar.specs.declared.fault.ElementFault.{ElementFault}
@@ -36,21 +36,3 @@ pass (at ∷ es) all = pass_at (eqb at.element.kind 3) at es refl all.0 (pass es
 
 pub parts_are : IsHeld → (at : PlacedTlv) → inner_verdict chain_table at ≡ Ok tt → parts_pass (inner_elements at) ≡ true
 parts_are held at ok = pass (inner_elements at) (held chain_table at.place at.inside at.element.body refl ok).each
-
--- ---- and so each is read
-
-both : (b c : Bool) → (b && c) ≡ true → (b ≡ true) × (c ≡ true)
-both true c e = (refl, e)
-both false c e = absurd cc
-
-number_if : (b : Bool) (n size : ℕ) (fault : ElementFault) → leb size 8 ≡ true → ltb 8 size ≡ b → passes (cond b (Err fault) (Ok n)) ≡ Ok tt
-number_if true n size fault low is = let le = leb-true _ _ low in let lt = ltb-true _ _ is in absurd (omega (arith, le, lt))
-number_if false n size fault low is = refl
-
-pub number_passes : (at : PlacedTlv) (es : List PlacedTlv) → at.element.kind ≡ 3 → parts_pass (at ∷ es) ≡ true → passes (number_in at) ≡ Ok tt
-number_passes at es is e =
-    let here : (leb (length at.element.body) 8 && parts_pass es) ≡ true = rw is at e in
-    number_if (ltb 8 (length at.element.body)) (number_of at.element.body) (length at.element.body) (faults.Number at.place) (both _ _ here).0 refl
-
-pub rest_passes : (at : PlacedTlv) (es : List PlacedTlv) → parts_pass (at ∷ es) ≡ true → parts_pass es ≡ true
-rest_passes at es e = (both (cond (eqb at.element.kind 3) (leb (length at.element.body) 8) true) (parts_pass es) e).1

@@ -1,15 +1,13 @@
 -- What is answered where a signature is given another calendar chain.
-use Rattle.std.proofs.Common.{◌≡◌, ◌⊎◌, ℕ, ◌-◌, ◌<◌, ◌≤◌, Bool, true, false, cond, ltb, List, [], ◌∷◌, ◌++◌, length, map, Option, Some, Result, Ok, Err, refl, sym, ap, ◌∙◌, inl, inr, arith}
+use Rattle.std.proofs.Common.{◌≡◌, ◌⊎◌, ℕ, ◌<◌, ◌≤◌, Bool, true, false, cond, ltb, List, [], ◌∷◌, ◌++◌, length, map, Option, Some, Result, Ok, Err, refl, sym, ap, ◌∙◌, inl, inr, arith}
 use Rattle.std.specs.Prelude.{◌↔◌}
 use Rattle.std.proofs.lemmas.Bool.{ltb-true}
 use Rattle.std.proofs.lemmas.List.{append-nil, length-append}
 use Rattle.ksi_imprint.specs.declared.refused.Refused.{Refused}
 use Rattle.ksi_imprint.specs.declared.refused.Refused.TheVariants.{Fault, NoMemory}
-use Rattle.ksi_tlv.specs.Spelling.{Tlv, plain, canonical}
-use Rattle.ksi_tlv.specs.Front.{element_at}
-use Rattle.ksi_tlv.specs.Walking.{PlacedTlv, elements}
+use Rattle.ksi_tlv.specs.Spelling.{plain, canonical}
+use Rattle.ksi_tlv.specs.Walking.{PlacedTlv}
 use Rattle.ksi_tlv.specs.Writing.{texts}
-use Rattle.ksi_grammar.specs.Inside.{whole}
 use Rattle.ksi_grammar.specs.Published.{published_elements}
 use Rattle.ksi_signature.specs.declared.fault.SignatureFault.{SignatureFault}
 use Rattle.ksi_signature.specs.declared.refusal.WriteRefusal.{WriteRefusal}
@@ -17,23 +15,33 @@ use Rattle.ksi_signature.specs.declared.refusal.WriteRefusal.TheVariants as unwr
 use Rattle.ksi_signature.specs.declared.extension.WithRefusal.{WithRefusal}
 use Rattle.ksi_signature.specs.declared.extension.WithRefusal.TheVariants as refusals
 use Rattle.ksi_signature.specs.Values.{Calendar, Publishing}
-use Rattle.ksi_signature.specs.File.{Answer}
+use Rattle.ksi_signature.specs.Renewed.{too_long}
 use Rattle.ksi_signature.specs.Lengths.{capped}
 use Rattle.ksi_signature.specs.Written.{publishing_elements, first_long, TellsLong}
-use Rattle.ksi_signature.specs.Reading.{held_by}
+use Rattle.ksi_signature.specs.Reading.{elements_in}
 use Rattle.ksi_signature.specs.Extended.{content_with, extended_content, IsTooLong}
 use Rattle.ksi_signature.proofs.Capped.{size-canonical, length-joined}
 
 -- ---- the clauses, by what reading answers
 
-pub malformed_is : {A : Type 0} (a : Answer) (fault f : SignatureFault) (F : Type 0) (r : Result A (Refused WithRefusal)) → a ≡ Err fault → (a ≡ Err f) ↔ F → r ≡ Err (Fault (refusals.Malformed fault)) → (r ≡ Err (Fault (refusals.Malformed f))) ↔ F
-malformed_is a fault f F r e law is = (λ same. law.0 (let one : fault ≡ f = cc in cc), λ stands. let here = law.1 stands in cc)
+pub malformed_passed : {A B : Type 0} (fault f : SignatureFault) (F : Type 0) → (◌≡◌ {A = Result A SignatureFault} (Err fault) (Err f)) ↔ F
+    → (◌≡◌ {A = Result B (Refused WithRefusal)} (Err (Fault (refusals.Malformed fault))) (Err (Fault (refusals.Malformed f)))) ↔ F
+malformed_passed fault f F law = (
+  λ is. let same : fault ≡ f = cc in law.0 (ap (λ (fault : SignatureFault). Err fault) same),
+  λ stands. let here = law.1 stands in let same : fault ≡ f = cc in ap (λ (fault : SignatureFault). Err (Fault (refusals.Malformed fault))) same,
+)
 
-pub malformed_not : {A : Type 0} (a : Answer) (f : SignatureFault) (F : Type 0) (r : Result A (Refused WithRefusal)) → a ≡ Ok tt → (a ≡ Err f) ↔ F → (r ≡ Err (Fault (refusals.Malformed f)) → ⊥) → (r ≡ Err (Fault (refusals.Malformed f))) ↔ F
-malformed_not a f F r e law never = (λ is. absurd (never is), λ stands. let here = law.1 stands in absurd cc)
+pub long_passed : {A B : Type 0} (refused : Refused WriteRefusal) (refusal : WriteRefusal) (told : WithRefusal) (n : ℕ) (L : Type 0) → refused ≡ Fault refusal → told ≡ too_long refusal
+    → (◌≡◌ {A = Result A (Refused WriteRefusal)} (Err refused) (Err (Fault (unwritten.TooLong n)))) ↔ L
+    → (◌≡◌ {A = Result B (Refused WithRefusal)} (Err (Fault told)) (Err (Fault (refusals.TooLong n)))) ↔ L
+long_passed refused (unwritten.TooLong m) told n L is_refused is_told law = (
+  λ is. let same : m ≡ n = cc in law.0 (ap (λ (refused : Refused WriteRefusal). Err refused) (is_refused ∙ ap (λ (n : ℕ). Fault (unwritten.TooLong n)) same)),
+  λ long. let here = law.1 long in let same : m ≡ n = cc in ap (λ (told : WithRefusal). Err (Fault told)) (is_told ∙ ap (λ (n : ℕ). refusals.TooLong n) same),
+)
 
-pub long_no_signature : {A : Type 0} (a : Answer) (fault : SignatureFault) (S : Type 0) (size n : ℕ) (r : Result A (Refused WithRefusal)) → a ≡ Err fault → (a ≡ Ok tt) ↔ S → r ≡ Err (Fault (refusals.Malformed fault)) → (r ≡ Err (Fault (refusals.TooLong n))) ↔ (S × IsTooLong size n)
-long_no_signature a fault S size n r e law is = (λ long. absurd cc, λ h. let ok = law.1 h.0 in absurd cc)
+pub never_long : {A B : Type 0} (r : Result A (Refused WriteRefusal)) (s : Result B (Refused WithRefusal)) (n : ℕ) (L : Type 0) → (r ≡ Err (Fault (unwritten.TooLong n))) ↔ L
+    → (r ≡ Err (Fault (unwritten.TooLong n)) → ⊥) → (s ≡ Err (Fault (refusals.TooLong n)) → ⊥) → (s ≡ Err (Fault (refusals.TooLong n))) ↔ L
+never_long r s n L law none never = (λ is. absurd (never is), λ long. absurd (none (law.1 long)))
 
 above : (size total : ℕ) → total ≡ capped size → 65535 < total → 65535 < size
 above size total is lt = grind (arith, is, lt)
@@ -41,21 +49,20 @@ above size total is lt = grind (arith, is, lt)
 pub within : (size total : ℕ) → total ≡ capped size → total ≤ 65535 → size ≤ 65535
 within size total is le = grind (arith, is, le)
 
-pub long_is : {A : Type 0} (a : Answer) (S : Type 0) (size total n : ℕ) (r : Result A (Refused WithRefusal)) → a ≡ Ok tt → (a ≡ Ok tt) ↔ S → total ≡ capped size → 65535 < total → r ≡ Err (Fault (refusals.TooLong total)) → (r ≡ Err (Fault (refusals.TooLong n))) ↔ (S × IsTooLong size n)
-long_is a S size total n r e law capped_is lt is = (
-  λ long. let one : total ≡ n = cc in (law.0 e, record { long = above size total capped_is lt; number = sym one ∙ capped_is }),
-  λ h. let number = h.1.number in cc,
+pub renewed_long : {A : Type 0} (size total n : ℕ) (r : Result A (Refused WriteRefusal)) → total ≡ capped size → 65535 < total → r ≡ Err (Fault (unwritten.TooLong total)) → (r ≡ Err (Fault (unwritten.TooLong n))) ↔ IsTooLong size n
+renewed_long size total n r capped_is lt is = (
+  λ long. let one : total ≡ n = cc in record { long = above size total capped_is lt; number = sym one ∙ capped_is },
+  λ h. let number = h.number in cc,
 )
 
-pub long_not : {A : Type 0} (S : Type 0) (size total n : ℕ) (r : Result A (Refused WithRefusal)) → total ≡ capped size → total ≤ 65535 → (r ≡ Err (Fault (refusals.TooLong n)) → ⊥) → (r ≡ Err (Fault (refusals.TooLong n))) ↔ (S × IsTooLong size n)
-long_not S size total n r is le never =
-    (λ long. absurd (never long), λ h. let lt = h.1.long in let short = within size total is le in absurd (omega arith))
+pub renewed_not : {A : Type 0} (size total n : ℕ) (r : Result A (Refused WriteRefusal)) → total ≡ capped size → total ≤ 65535 → (r ≡ Err (Fault (unwritten.TooLong n)) → ⊥) → (r ≡ Err (Fault (unwritten.TooLong n))) ↔ IsTooLong size n
+renewed_not size total n r is le never =
+    (λ long. absurd (never long), λ h. let lt = h.long in let short = within size total is le in absurd (omega arith))
 
 -- the content by the elements that were found
-pub content_same : (bytes : List ℕ) (e : Tlv) (size : ℕ) (chain : Calendar) (published : Publishing) → element_at bytes ≡ Ok (e, size)
-    → extended_content bytes chain published ≡ content_with bytes (whole (elements (size - length e.body) e.body)) chain published
+pub content_found : (bytes : List ℕ) (es : List PlacedTlv) (chain : Calendar) (published : Publishing) → elements_in bytes ≡ es → extended_content bytes chain published ≡ content_with bytes es chain published
 unfolding extended_content
-content_same bytes e size chain published front = ap (λ (es : List PlacedTlv). content_with bytes es chain published) (ap held_by front)
+content_found bytes es chain published found = ap (λ (es : List PlacedTlv). content_with bytes es chain published) found
 
 -- ---- a record that is not too long
 

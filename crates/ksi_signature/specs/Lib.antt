@@ -19,3 +19,4 @@ pub mod PartsSeen
 pub mod PartsLeft
 pub mod Seen
 pub mod Gathered
+pub mod Renewed

@@ -1,4 +1,5 @@
--- What a lent signature shows.
+-- What a lent signature shows, and the bytes that it is lent from.
+use Rattle.std.specs.Prelude.{ℕ, List}
 use Rattle.ksi_tlv.specs.Views.{view_placed}
 use Rattle.ksi_grammar.specs.Inside.{inner_elements}
 use Rattle.ksi_signature.specs.Contents.{signature_of}
@@ -7,3 +8,6 @@ use Rattle.ksi_signature.specs.declared.signature.Signature.{Signature}
 
 abbrev pub seen : SignatureView → Signature
 seen signature = signature_of (inner_elements (view_placed signature.at))
+
+abbrev pub bytes_seen : SignatureView → List ℕ
+bytes_seen signature = signature.bytes.now

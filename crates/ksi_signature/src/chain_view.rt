@@ -18,7 +18,7 @@ use ksi_tlv::{Elements, Placed};
 /// An aggregation chain, lent from the bytes of its signature.
 #[derive(Clone, Copy)]
 pub struct ChainView<'a> {
-    at: Placed<'a>,
+    pub(crate) at: Placed<'a>,
     head: Head<'a>,
     ghost accepted: { inner_verdict chain_table (view_placed at) ≡ Ok tt },
     ghost told: { view_head head ≡ head_of (chain_in (view_placed at)) },

@@ -17,7 +17,7 @@ pub(crate) fn number_of(part: &Placed<'_>) -> u64
 {
     match number(part) {
         Ok(n) => n,
-        Err(_) => 0,
+        Err(_) => unreachable!(),
     }
 }
 
@@ -29,7 +29,7 @@ pub(crate) fn time_of(part: &Placed<'_>) -> u64
 {
     match time(part) {
         Ok(time) => time,
-        Err(_) => 0,
+        Err(_) => unreachable!(),
     }
 }
 
@@ -40,7 +40,7 @@ pub(crate) fn level_of(part: &Placed<'_>) -> u8
 {
     match level(part) {
         Ok(level) => level,
-        Err(_) => 0,
+        Err(_) => unreachable!(),
     }
 }
 
@@ -51,7 +51,7 @@ pub(crate) fn imprint_of(part: &Placed<'_>) -> Imprint
 {
     match imprint(part) {
         Ok(imprint) => imprint,
-        Err(_) => Imprint::ZERO,
+        Err(_) => unreachable!(),
     }
 }
 

@@ -9,23 +9,25 @@ ghost use Rattle.ksi_signature.specs.declared.fault.SignatureFault.{SignatureFau
 ghost use Rattle.ksi_signature.specs.declared.extension.WithRefusal.TheVariants as refusals;
 ghost use Rattle.ksi_signature.specs.declared.signature.Signature.{Signature};
 ghost use Rattle.ksi_signature.specs.File.{IsSignature, IsSignatureFault};
+ghost use Rattle.ksi_signature.specs.Seen.{seen, bytes_seen};
+ghost use Rattle.ksi_signature.specs.Renewed.{too_long};
 ghost use Rattle.ksi_signature.specs.Lengths.{capped};
 ghost use Rattle.ksi_signature.specs.Written.{calendar_element, publishing_element, publishing_elements};
 ghost use Rattle.ksi_signature.specs.Extended.{is_retained, text_in, retained_texts, content_with, extended_content, extended_text, renewed, IsTooLong, StandsIn};
 
 use crate::NoMemory;
-use crate::bodies::{LONGEST, calendar_body, publishing_body};
-use crate::carried::{calendar_is_kept, record_is_kept};
-use crate::checker::accepted;
+use crate::bodies::{calendar_body, publishing_body};
 use crate::fault::SignatureFault;
 use crate::kinds::{CALENDAR, CHAIN, PUBLICATION, SIGNATURE};
-use crate::laws::{extended_is_signature, signature_or_fault};
+use crate::laws::signature_or_fault;
 use crate::lengths::{calendar_size, publishing_size, size_of};
 use crate::refusal::WriteRefusal;
 use crate::signature::{CalendarChain, PublicationRecord};
-use ksi_grammar::{put_short, whole_or_fault};
+use crate::signature_view::SignatureView;
+use crate::viewer::view;
+use ksi_grammar::put_short;
 use ksi_imprint::{Bytes, Refused};
-use ksi_tlv::{Element, Elements, Placed, Writer, front_by_spelling, reading_is_elements};
+use ksi_tlv::{Element, Elements, Placed, Writer};
 use std::alloc::Global;
 
 /// Why there is no signature with another calendar chain.
@@ -68,28 +70,41 @@ pub fn with_calendar(
         × IsSignature text (renewed signature calendar.now publication.now)) }
 {
     signature_or_fault();
-    whole_or_fault();
-    front_by_spelling();
-    reading_is_elements();
-    extended_is_signature();
-    calendar_is_kept(calendar);
-    record_is_kept(publication);
-    let (element, size) = accepted(bytes)?;
-    let at = Placed {
-        place: 0,
-        inside: size - element.body.len(),
-        element,
-    };
-    let total = content_size(bytes, &at, calendar, publication);
-    if total > LONGEST {
-        return Err(Refused::Fault(WithRefusal::TooLong(total)));
+    match view(bytes) {
+        Ok(view) => renewed(alloc, &view, calendar, publication),
+        Err(fault) => Err(Refused::Fault(WithRefusal::Malformed(fault))),
     }
-    let text = text_with(alloc, bytes, &at, calendar, publication)?;
-    Ok(text)
+}
+
+fn renewed(
+    alloc: Global,
+    view: &SignatureView<'_>,
+    calendar: &CalendarChain,
+    publication: &PublicationRecord,
+) -> Result<Bytes, Refused<WithRefusal>>
+    ensures text { IfOk result (λ text. text ≡ extended_text (bytes_seen view.now) calendar.now publication.now) }
+    ensures malformed { (fault : SignatureFault) → result ≡ Err (Fault (refusals.Malformed fault)) → ⊥ }
+    ensures too_long { (n : ℕ) → (result ≡ Err (Fault (refusals.TooLong n))) ↔
+        IsTooLong (length (extended_content (bytes_seen view.now) calendar.now publication.now)) n }
+    ensures again { IfOk result (λ text. IsSignature text (renewed (seen view.now) calendar.now publication.now)) }
+{
+    match view.with_calendar(alloc, calendar, publication) {
+        Ok(text) => Ok(text),
+        Err(Refused::Fault(refusal)) => Err(Refused::Fault(too_long(refusal))),
+        Err(Refused::NoMemory) => Err(Refused::NoMemory),
+    }
+}
+
+fn too_long(refusal: WriteRefusal) -> WithRefusal
+    ensures { result ≡ too_long refusal }
+{
+    match refusal {
+        WriteRefusal::TooLong(size) => WithRefusal::TooLong(size),
+    }
 }
 
 /// The size of the new content.
-fn content_size(
+pub(crate) fn content_size(
     bytes: &[u8],
     at: &Placed<'_>,
     calendar: &CalendarChain,
@@ -140,7 +155,7 @@ fn text_in<'a>(bytes: &'a [u8], at: &Placed<'_>) -> &'a [u8]
 }
 
 /// The new signature.
-fn text_with(
+pub(crate) fn text_with(
     alloc: Global,
     bytes: &[u8],
     at: &Placed<'_>,

@@ -3,10 +3,11 @@
 //! calendar tree, and a record of where that root was published. A file is one TLV element with these inside, in any
 //! order: Guardtime's published format, as docs/FORMATS.md tells it.
 //!
-//! The layer above may rely on this: [`read`] gives exactly the signature that the bytes are, or the first fault in
-//! reading order, which it and [`check`] find without taking memory; for all bytes exactly one of both stands; chains
-//! stand by falling number of index parts; and the types keep what the format limits: 1 to 16 chains, an index of 1 part
-//! or more, at most 63 links, raw siblings of 1 to 4,096 bytes, and times below 2^63. What [`write`] gives is the text of
+//! The layer above may rely on this: [`view`] lends exactly the signature that the bytes are, or gives the first fault in
+//! reading order, and takes no memory; [`read`] is that view copied, and [`check`] whether there is one; for all bytes
+//! exactly one of signature and fault stands; chains stand by falling number of index parts; and the types and the calls
+//! of a view keep what the format limits: 1 to 16 chains, an index of 1 part or more, at most 63 links, raw siblings of 1
+//! to 4,096 bytes, and times below 2^63. What [`write`] gives is the text of
 //! the signature, and is that signature again ([`written_is_signature`]); it refuses the first body, in the order of
 //! writing and an inner one before an outer, that has more than 65,535 bytes.
 //!
@@ -38,6 +39,7 @@ mod chain_view;
 mod checker;
 mod containers;
 mod contents;
+mod copies;
 mod extension;
 mod fault;
 mod gathering;
@@ -52,10 +54,10 @@ mod link_views;
 mod link_walking;
 mod links;
 mod lists;
-mod parts;
 mod reader;
 mod record_view;
 mod refusal;
+mod renewal;
 mod signature;
 mod signature_view;
 mod step;

@@ -3,14 +3,14 @@ ghost use Rattle.ksi_tlv.specs.Views.{view_placed};
 ghost use Rattle.ksi_grammar.specs.Reading.{inner_verdict};
 ghost use Rattle.ksi_grammar.specs.Published.{record_table};
 
-use crate::parts::recorded_below;
+use crate::within::recorded_below;
 use ksi_imprint::Imprint;
 use ksi_tlv::Placed;
 
 /// A publication record, lent from the bytes of its signature.
 #[derive(Clone, Copy)]
 pub struct RecordView<'a> {
-    at: Placed<'a>,
+    pub(crate) at: Placed<'a>,
     ghost accepted: { inner_verdict record_table (view_placed at) ≡ Ok tt },
 }
 

@@ -4,6 +4,8 @@ ghost use Rattle.ksi_grammar.specs.Reading.{inner_verdict};
 ghost use Rattle.ksi_grammar.specs.Inside.{inner_elements};
 ghost use Rattle.ksi_signature.specs.Tables.{signature_table};
 ghost use Rattle.ksi_signature.specs.Contents.{signature_of};
+ghost use Rattle.ksi_signature.specs.File.{answer_of};
+ghost use Rattle.ksi_signature.specs.Reading.{elements_in};
 
 use crate::calendar_view::CalendarView;
 use crate::chain_list::ChainList;
@@ -19,8 +21,11 @@ use ksi_tlv::Placed;
 /// A signature, lent from its bytes.
 #[derive(Drop)]
 pub struct SignatureView<'a> {
-    at: Placed<'a>,
+    pub(crate) bytes: &'a [u8],
+    pub(crate) at: Placed<'a>,
     chains: ChainList<'a>,
+    ghost is_whole: { answer_of bytes.now ≡ Ok tt },
+    ghost elements_are: { elements_in bytes.now ≡ inner_elements (view_placed at) },
     ghost accepted: { inner_verdict signature_table (view_placed at) ≡ Ok tt },
     ghost chains_are: { chains ≡ (signature_of (inner_elements (view_placed at))).chains },
 }
@@ -33,17 +38,26 @@ impl<'a> SignatureView<'a> {
     ghost use Rattle.ksi_signature.specs.Tables.{signature_table};
     ghost use Rattle.ksi_signature.specs.Values.{AreChains};
     ghost use Rattle.ksi_signature.specs.Contents.{signature_of};
+    ghost use Rattle.ksi_signature.specs.File.{answer_of};
+    ghost use Rattle.ksi_signature.specs.Reading.{elements_in};
     ghost use Rattle.ksi_signature.specs.PartsSeen.{chain_seen, calendar_seen, record_seen};
-    ghost use Rattle.ksi_signature.specs.Seen.{seen};
+    ghost use Rattle.ksi_signature.specs.Seen.{seen, bytes_seen};
 
-    /// The signature that an accepted element is.
+    /// The signature that bytes are, all of them one accepted element.
     #[tactic(auto, unfolding(crate::specs::Contents::signature_of))]
-    pub(crate) fn new(at: &Placed<'a>) -> Self
-        requires { inner_verdict signature_table (view_placed at.now) ≡ Ok tt }
-        ensures { seen result ≡ signature_of (inner_elements (view_placed at.now)) }
+    pub(crate) fn new(bytes: &'a [u8], at: &Placed<'a>) -> Self
+        requires accepted { inner_verdict signature_table (view_placed at.now) ≡ Ok tt }
+        requires whole { answer_of bytes.now ≡ Ok tt }
+        requires elements { elements_in bytes.now ≡ inner_elements (view_placed at.now) }
+        ensures value { seen result ≡ signature_of (inner_elements (view_placed at.now)) }
+        ensures bytes { bytes_seen result ≡ bytes.now }
     {
         let chains = chains_in(at);
-        SignatureView { at: *at, chains }
+        SignatureView {
+            bytes,
+            at: *at,
+            chains,
+        }
     }
 
     /// The aggregation chains by falling number of index parts, those of equal number in the order of the bytes.

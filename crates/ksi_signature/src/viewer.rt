@@ -2,7 +2,7 @@ ghost use Rattle.std.specs.Prelude.{◌≡◌, ◌↔◌, Err, IsOk, IfOk};
 ghost use Rattle.ksi_signature.specs.declared.fault.SignatureFault.{SignatureFault};
 ghost use Rattle.ksi_signature.specs.declared.signature.Signature.{Signature};
 ghost use Rattle.ksi_signature.specs.File.{IsSignature, IsSignatureFault};
-ghost use Rattle.ksi_signature.specs.Seen.{seen};
+ghost use Rattle.ksi_signature.specs.Seen.{seen, bytes_seen};
 
 use crate::checker::accepted;
 use crate::fault::SignatureFault;
@@ -14,6 +14,7 @@ use ksi_tlv::{Placed, front_by_spelling};
 /// The signature that bytes are, lent from them, else their first fault in reading order. No memory is taken.
 pub fn view(bytes: &[u8]) -> Result<SignatureView<'_>, SignatureFault>
     ensures signature { IfOk result (λ view. IsSignature bytes.now (seen view)) }
+    ensures bytes { IfOk result (λ view. bytes_seen view ≡ bytes.now) }
     ensures ok { IsOk result ↔ ((signature : Signature) × IsSignature bytes.now signature) }
     ensures fault { (fault : SignatureFault) → (result ≡ Err fault) ↔ IsSignatureFault bytes.now fault }
 {
@@ -29,5 +30,5 @@ pub fn view(bytes: &[u8]) -> Result<SignatureView<'_>, SignatureFault>
         inside: size - element.body.len(),
         element,
     };
-    Ok(SignatureView::new(&at))
+    Ok(SignatureView::new(bytes, &at))
 }

@@ -1,17 +1,19 @@
 //! What an accepted chain is within. The functions without a result only tell it to the proofs.
 
-ghost use Rattle.std.specs.Prelude.{◌≡◌, true, Ok};
+ghost use Rattle.std.specs.Prelude.{◌≡◌, ◌<◌, ◌^◌, true, Ok};
 ghost use Rattle.ksi_imprint.specs.Imprints.{IsImprint};
+ghost use Rattle.ksi_tlv.specs.Spelling.{AreBytes};
 ghost use Rattle.ksi_tlv.specs.Views.{view_placed};
 ghost use Rattle.ksi_grammar.specs.Reading.{inner_verdict};
 ghost use Rattle.ksi_grammar.specs.Inside.{inner_elements};
+ghost use Rattle.ksi_grammar.specs.Published.{record_table, recorded_in};
 ghost use Rattle.ksi_signature.specs.Values.{AreChains};
-ghost use Rattle.ksi_signature.specs.Tables.{chain_table, calendar_table, signature_table};
-ghost use Rattle.ksi_signature.specs.Contents.{chain_in, calendar_in, signature_of};
+ghost use Rattle.ksi_signature.specs.Tables.{link_table, chain_table, calendar_table, signature_table};
+ghost use Rattle.ksi_signature.specs.Contents.{link_in, chain_in, calendar_in, signature_of};
 ghost use Rattle.ksi_signature.specs.Heads.{parts_pass};
-ghost use Rattle.ksi_signature.specs.Kept.{IsLent, IsCalendar};
+ghost use Rattle.ksi_signature.specs.Kept.{IsLink, IsLent, IsCalendar};
 
-use ksi_grammar::inside_is_whole;
+use ksi_grammar::{inside_is_whole, recorded};
 use ksi_imprint::Imprint;
 use ksi_tlv::Placed;
 
@@ -19,6 +21,14 @@ use ksi_tlv::Placed;
 pub(crate) fn chain_is_limited(at: &Placed<'_>)
     requires { inner_verdict chain_table (view_placed at.now) ≡ Ok tt }
     ensures { IsLent (chain_in (view_placed at.now)) }
+{
+    inside_is_whole();
+}
+
+/// The parts of an accepted link are within the limits of their types.
+pub(crate) fn link_is_limited(at: &Placed<'_>)
+    requires { inner_verdict link_table (view_placed at.now) ≡ Ok tt }
+    ensures { IsLink (link_in (view_placed at.now)) }
 {
     inside_is_whole();
 }
@@ -77,3 +87,18 @@ pub(crate) fn parts_are_numbers(at: &Placed<'_>)
 {
     inside_is_whole();
 }
+
+/// What an accepted publication record publishes.
+pub(crate) fn recorded_below(at: &Placed<'_>) -> (u64, Imprint)
+    requires { inner_verdict record_table (view_placed at.now) ≡ Ok tt }
+    ensures value { result ≡ recorded_in (view_placed at.now) }
+    ensures below { result.0 < 2 ^ 63 }
+{
+    inside_is_whole();
+    recorded(at)
+}
+
+/// The members of a slice of bytes are bytes.
+pub(crate) fn are_bytes(bytes: &[u8])
+    ensures { AreBytes bytes.now }
+{}

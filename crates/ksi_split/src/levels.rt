@@ -92,6 +92,9 @@ fn make<N: Copy>(alloc: Global, rows: &mut Vec<Row<N>>, top: usize) -> Result<()
     ensures kept { (k : ℕ) → row_at rows.new.items k ≡ row_at rows.old.items k }
     ensures rows { OnOk result (top < vec_len rows.new) }
 {
+    if rows.is_empty() {
+        rows.reserve_exact(top + 1)?;
+    }
     for _level in rows.len()..top + 1 {
         rows.push(Row::new(alloc))?;
     }

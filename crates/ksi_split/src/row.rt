@@ -47,12 +47,16 @@ impl<N: Copy> Row<N> {
         self.parts[at]
     }
 
-    /// Makes room for one part more.
+    /// Makes room for one part more, and for no other where it is the first: most rows of small trees have one.
     pub(crate) fn grow(&mut self) -> Result<(), NoMemory>
         ensures parts { self.new.parts ≡ self.old.parts }
         ensures room { OnOk result (0 < self.new.room) }
     {
-        self.parts.reserve(1)
+        if self.parts.is_empty() {
+            self.parts.reserve_exact(1)
+        } else {
+            self.parts.reserve(1)
+        }
     }
 
     /// Puts a part behind the others, where there is room.

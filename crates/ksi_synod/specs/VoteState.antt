@@ -25,6 +25,25 @@ pub record VoteState : Type 0 where
   pub held : Option (List ℕ)
   pub hand : Option Hand
 
+-- what of it a restart leaves, but for the core's number and the voters
+pub record StableVote : Type 0 where
+  pub candidate : Option (List ℕ)
+  pub tried : ℕ
+  pub promised : ℕ
+  pub vote : Option Vote
+  pub held : Option (List ℕ)
+
+abbrev pub stable_of : VoteState → StableVote
+stable_of s = record { candidate = s.candidate; tried = s.tried; promised = s.promised; vote = s.vote; held = s.held }
+
+-- the state of a core of a stable part and the ballot in hand
+abbrev pub vote_of : (me : ℕ) → (voters : List ℕ) → StableVote → (hand : Option Hand) → VoteState
+vote_of me voters s hand = record { me = me; voters = voters; candidate = s.candidate; tried = s.tried; promised = s.promised; vote = s.vote; held = s.held; hand = hand }
+
+-- the stable part before anything came
+abbrev pub fresh_stable : StableVote
+fresh_stable = record { candidate = None; tried = 0; promised = 0; vote = None; held = None }
+
 -- the state of a core before anything came
 unfoldable pub fresh_vote : (me : ℕ) (voters : List ℕ) → VoteState
 fresh_vote me voters = record { me = me; voters = voters; candidate = None; tried = 0; promised = 0; vote = None; held = None; hand = None }

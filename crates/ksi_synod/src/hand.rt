@@ -8,7 +8,7 @@ use ksi_imprint::Imprint;
 use std::marker::Model;
 
 /// The ballot in hand: the cores whose LastVote and Voted counted, the greatest vote told, and the decree once begun.
-#[derive(Drop)]
+#[derive(Clone, Copy)]
 pub struct InHand {
     ballot: u64,
     last: [bool; 9],
@@ -18,11 +18,16 @@ pub struct InHand {
 }
 
 impl Model for InHand {
+    ghost use Rattle.std.specs.Prelude.{◌≡◌, length};
     ghost use Rattle.ksi_synod.specs.VoteState.{Hand};
 
     ghost Value = { Hand };
 
     ghost view = { λ hand. record { ballot = hand.ballot; last = hand.last; greatest = hand.greatest; decree = hand.decree; voted = hand.voted } };
+
+    ghost invariant = { λ hand. (length hand.last ≡ 9) × (length hand.voted ≡ 9) };
+
+    ghost inverse = { λ hand. record { ballot = hand.ballot; last = hand.last; greatest = hand.greatest; decree = hand.decree; voted = hand.voted } };
 }
 
 impl InHand {

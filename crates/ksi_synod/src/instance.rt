@@ -3,11 +3,12 @@ ghost use Rattle.ksi_synod.specs.Ballots.{IsBallot, last_round, some_ballot};
 ghost use Rattle.ksi_synod.specs.declared.messages.Begun.TheVariants.{Unsealed, Last, Next};
 ghost use Rattle.ksi_synod.specs.declared.messages.Took.TheVariants.{Nothing};
 ghost use Rattle.ksi_synod.specs.Voters.{cores_below};
-ghost use Rattle.ksi_synod.specs.VoteState.{fresh_vote};
+ghost use Rattle.ksi_synod.specs.VoteState.{fresh_vote, stable_of, vote_of};
 ghost use Rattle.ksi_synod.specs.Rows.{sealed_with, greater_round, try_ballot, on_next, counts_last, on_last, is_older, on_begin, voted_for, on_voted, on_success, restarted, decree_begun, vote_told, decree_told, receive, OfBallot, OfReply};
 
 use crate::hand::InHand;
 use crate::messages::{Begun, LastVote, SynodMessage, Took, Vote};
+use crate::stable::Stable;
 use crate::voters::Voters;
 use ksi_imprint::Imprint;
 use std::marker::Model;
@@ -59,6 +60,48 @@ impl Instance {
             held: None,
             hand: None,
         }
+    }
+
+    /// The part of core `me` where the cores 0 up to the last of the members vote, of its stable part and the ballot in
+    /// hand.
+    #[tactic(auto, unfolding(crate::specs::Instance::state_of))]
+    pub fn of(me: u8, members: u8, stable: &Stable, hand: Option<InHand>) -> Self
+        requires mine { me < members }
+        requires few { members ≤ 9 }
+        ensures { result ≡ vote_of me (cores_below members) stable.now hand }
+    {
+        Instance {
+            me,
+            voters: Voters::all(members),
+            candidate: stable.candidate,
+            tried: stable.tried,
+            promised: stable.promised,
+            vote: stable.vote,
+            held: stable.held,
+            hand,
+        }
+    }
+
+    /// What a restart leaves of it.
+    #[tactic(auto, unfolding(crate::specs::Instance::state_of))]
+    pub fn stable(&self) -> Stable
+        ensures { result ≡ stable_of self.now }
+    {
+        Stable {
+            candidate: self.candidate,
+            tried: self.tried,
+            promised: self.promised,
+            vote: self.vote,
+            held: self.held,
+        }
+    }
+
+    /// The ballot in hand, which a restart forgets.
+    #[tactic(auto, unfolding(crate::specs::Instance::state_of))]
+    pub fn hand(&self) -> Option<InHand>
+        ensures { result ≡ self.now.hand }
+    {
+        self.hand
     }
 
     /// The decree that this core holds.

@@ -19,8 +19,11 @@ mod hand;
 mod instance;
 pub mod laws;
 mod messages;
+mod stable;
 mod voters;
 
+pub use hand::InHand;
 pub use instance::Instance;
 pub use messages::{Begun, LastVote, SynodMessage, Took, Vote};
+pub use stable::Stable;
 pub use voters::Voters;

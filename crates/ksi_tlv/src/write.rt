@@ -41,6 +41,13 @@ impl Writer {
         }
     }
 
+    /// A writer behind bytes that are there, which are not copied.
+    pub fn behind(bytes: Vec<u8>) -> Self
+        ensures { result ≡ bytes.items }
+    {
+        Writer { bytes }
+    }
+
     /// What was written.
     pub fn bytes(&self) -> &[u8]
         ensures { result.now ≡ self.now }

@@ -102,6 +102,7 @@ pub record Puts {K : Type 0} (kind : sinks.Ghosts K) (report : Report) (old new 
   pub one_line : IsTrue kind.tells → (line : List ℕ) × (kind.written new ≡ kind.written old ++ line) × (length line ≤ 32767)
   pub one_put : kind.puts new ≤ kind.puts old + 1
   pub short_put : kind.given new ≤ kind.given old + 32767
+  pub free : kind.free old ≤ kind.free new + 32767
   pub later : kind.faults old ≤ kind.faults new
   pub quiet : result ≢ Fault → kind.faults new ≡ kind.faults old
   pub fault : result ≡ Fault → Rose (kind.faults old) (kind.faults new) × (IsTrue kind.tells → ExtendsByFront (kind.written old) report.line (kind.written new))
@@ -116,6 +117,7 @@ pub record Finished {F K : Type 0} (files_kind : files.Ghosts F) (sink_kind : si
   pub one_line : IsTrue sink_kind.tells → (line : List ℕ) × (sink_kind.written now ≡ sink_kind.written before ++ line) × (length line ≤ 32767)
   pub one_put : sink_kind.puts now ≤ sink_kind.puts before + 1
   pub short_put : sink_kind.given now ≤ sink_kind.given before + 32767
+  pub free : sink_kind.free before ≤ sink_kind.free now + 32767
   pub untouched : report.saved ≡ None → new ≡ old
   pub no_save : result ≡ NoMemory → (report.saved ≢ None) × (files_kind.saves new ≡ files_kind.saves old)
   pub quiet : result ≢ Fault → (files_kind.faults new ≡ files_kind.faults old) × (sink_kind.faults now ≡ sink_kind.faults before)
@@ -123,8 +125,8 @@ pub record Finished {F K : Type 0} (files_kind : files.Ghosts F) (sink_kind : si
   pub taken : files_kind.taken old ≤ files_kind.taken new
   pub fault : result ≡ Fault →
       FaultLeaves files_kind.tells sink_kind.tells report
-      (outside (files_kind.held old) (files_kind.faults old) (sink_kind.written before) (sink_kind.puts before) (sink_kind.faults before))
-      (outside (files_kind.held new) (files_kind.faults new) (sink_kind.written now) (sink_kind.puts now) (sink_kind.faults now))
+      (outside (files_kind.held old) (files_kind.saves old) (files_kind.faults old) (sink_kind.written before) (sink_kind.puts before) (sink_kind.faults before))
+      (outside (files_kind.held new) (files_kind.saves new) (files_kind.faults new) (sink_kind.written now) (sink_kind.puts now) (sink_kind.faults now))
   pub files_fault : files_kind.faults old < files_kind.faults new → result ≡ Fault
   pub sink_fault : sink_kind.faults before < sink_kind.faults now → result ≡ Fault
   pub unsaved : result ≢ Done → result ≢ Fault → IsTrue files_kind.tells → files_kind.held new ≡ files_kind.held old

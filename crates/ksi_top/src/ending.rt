@@ -1,5 +1,6 @@
 // The top call, and how a run ends.
-ghost use Rattle.std.specs.Prelude.{◌≡◌, ◌≢◌, ℕ, ◌+◌, ◌<◌, ◌≤◌, ◌++◌, List, length, IsTrue, IfErr, IfOk, None};
+ghost use Rattle.std.specs.Prelude.{◌≡◌, ◌≢◌, ◌⊎◌, ℕ, ◌+◌, ◌<◌, ◌≤◌, ◌++◌, List, length, IsTrue, IfErr, IfOk, None};
+ghost use Rattle.ksi_ports.specs.Outside.{Rose};
 ghost use Rattle.ksi_top.specs.Endings.{FaultLeaves, TookTooMuch, UnlessCut, WordsLine, WordsStatus, outside};
 ghost use Rattle.ksi_top.specs.Promised.{Finished, Puts, Saves};
 ghost use Rattle.ksi_top.specs.Causes.{counts};
@@ -16,8 +17,11 @@ use std::alloc::Global;
 
 /// Runs the command that the words ask for: loads its files, saves its result, then puts its line.
 ///
-/// The words leave out the program's name. At most one file is saved and one line is put, of at most 32,767 bytes.
+/// The words leave out the program's name. At most one file is saved and one line is put, of at most 32,767 bytes: for so many
+/// the output has to be free.
 pub fn ksi<F: Files, K: Sink>(alloc: Global, words: &[String], files: &mut F, out: &mut K) -> Status
+    requires free { 32767 ≤ K.free out.old }
+
     // Where the files tell what they hold, the run is that of the words and the files held.
     ensures status { IsTrue F.tells →
         UnlessCut result (result ≡ (run (texts words.now) (F.held files.old)).status) }
@@ -44,11 +48,13 @@ pub fn ksi<F: Files, K: Sink>(alloc: Global, words: &[String], files: &mut F, ou
     ensures untouched { IfErr (command_of (texts words.now)) (λ _. F.calls files.new ≡ F.calls files.old) }
 
     // A fault is reported only where a count rose, and always where one is greater at the end. `outside`: what is held,
-    // failed calls on the files, what was written, puts, failed puts.
+    // saves, failed calls on the files, what was written, puts, failed puts.
+    ensures fault_rose { result ≡ Status.Fault →
+        Rose (F.faults files.old) (F.faults files.new) ⊎ Rose (K.faults out.old) (K.faults out.new) }
     ensures fault { result ≡ Status.Fault →
         FaultLeaves F.tells K.tells (run (texts words.now) (F.held files.old))
-        (outside (F.held files.old) (F.faults files.old) (K.written out.old) (K.puts out.old) (K.faults out.old))
-        (outside (F.held files.new) (F.faults files.new) (K.written out.new) (K.puts out.new) (K.faults out.new)) }
+        (outside (F.held files.old) (F.saves files.old) (F.faults files.old) (K.written out.old) (K.puts out.old) (K.faults out.old))
+        (outside (F.held files.new) (F.saves files.new) (F.faults files.new) (K.written out.new) (K.puts out.new) (K.faults out.new)) }
     ensures files_fault { F.faults files.old < F.faults files.new → result ≡ Status.Fault }
     ensures sink_fault { K.faults out.old < K.faults out.new → result ≡ Status.Fault }
 
@@ -77,6 +83,7 @@ pub fn ksi<F: Files, K: Sink>(alloc: Global, words: &[String], files: &mut F, ou
         (line : List ℕ) × (K.written out.new ≡ K.written out.old ++ line) × (length line ≤ 32767) }
     ensures one_put { K.puts out.new ≤ K.puts out.old + 1 }
     ensures short_put { K.given out.new ≤ K.given out.old + 32767 }
+    ensures free { K.free out.old ≤ K.free out.new + 32767 }
     ensures no_save { result ≢ Status.Done → result ≢ Status.Fault → F.saves files.new ≡ F.saves files.old }
 
     // No count falls, and those of faults stay where no fault is reported.
@@ -95,6 +102,7 @@ pub fn ksi<F: Files, K: Sink>(alloc: Global, words: &[String], files: &mut F, ou
 
 /// Saves the result, then puts the line.
 fn finish<F: Files, K: Sink>(alloc: Global, report: &Report, files: &mut F, out: &mut K) -> Status
+    requires free { 32767 ≤ K.free out.old }
     requires no_fault { report.now.status ≢ Status.Fault }
     requires no_want { report.now.status ≢ Status.NoMemory }
     requires unsaved { report.now.status ≢ Status.Done → report.now.saved ≡ None }
@@ -119,6 +127,7 @@ fn save<F: Files>(alloc: Global, report: &Report, files: &mut F) -> Result<(), S
 
 /// Puts the line.
 fn put<K: Sink>(report: &Report, out: &mut K) -> Status
+    requires free { 32767 ≤ K.free out.old }
     requires no_fault { report.now.status ≢ Status.Fault }
     requires no_want { report.now.status ≢ Status.NoMemory }
     ensures { Puts K.Sink report.now out.old out.new result }

@@ -2,6 +2,7 @@
 //!
 //! [`ksi`] loads the files that the words name, computes the command's report, saves its file and puts its line. What a
 //! run reports is the definition `run` of the words and the files held; which counts rose says when it may report a fault.
+//! [`sure_run`] is the same over files and an output in memory that do not fail: there no run ends with a fault.
 //!
 //! ```text
 //! let mut files = HostFiles::new(&rt);
@@ -25,7 +26,9 @@ mod replay;
 mod report;
 mod sign;
 mod status;
+mod sure;
 mod verify;
 
 pub use ending::ksi;
 pub use status::Status;
+pub use sure::sure_run;

@@ -1,8 +1,8 @@
 // Signatures extended to a later second, and audited.
 use crate::same::same;
-use crate::text::{each_ends, hold_each, words};
-use ksi_ports::{MemFiles, MemSink};
-use ksi_top::{Status, ksi};
+use crate::text::{each_ends, hold_each};
+use ksi_ports::MemFiles;
+use ksi_top::Status;
 use std::alloc::Global;
 use std::process::Abort;
 use std::test::Fail;
@@ -43,9 +43,9 @@ beside_b = 8800007f 88010050 0200 030103 052101A 060101 0723022101B 88020027 010
 root_a = 4b53495055424c46 87010005 010101 0200 87030027 1025 0200 042101A
 root_joined = 4b53495055424c46 87010005 010101 0200 87030027 1025 0200 042101ebc92d76a3c945906620f4b6283e127d65881c8a9584e1b6fcd65e55a52332ca";
 
-// The files of these texts, of which calls of these numbers fail.
-fn holding(alloc: Global, failing: &[u64], texts: &[&str]) -> Result<MemFiles, Fail> {
-    let mut files = MemFiles::new(alloc, failing.to_vec(alloc)?);
+// The files of these texts.
+fn holding(alloc: Global, texts: &[&str]) -> Result<MemFiles, Fail> {
+    let mut files = MemFiles::new(alloc, Vec::new(alloc));
     for text in texts {
         hold_each(alloc, &mut files, text)?;
     }
@@ -65,7 +65,7 @@ extend from_8 unlike 9 t = refused V3 0 2 1";
 
 #[test]
 fn each_refusal_of_an_extension_has_its_line(rt: HostRuntime) -> Result<(), Fail> {
-    let mut files = holding(rt.alloc(), &[], &[OF_T, LARGE, OF_8_AND_9, OF_0])?;
+    let mut files = holding(rt.alloc(), &[OF_T, LARGE, OF_8_AND_9, OF_0])?;
     each_ends(&rt, rt.alloc(), &mut files, Status::Refused, NOT_EXTENDED)?;
     same(&rt, "saved", files.bytes("t"), None);
     Ok(())
@@ -80,7 +80,7 @@ fn each_calls(
     rows: &str,
 ) -> Result<(), Fail> {
     for row in rows.lines() {
-        let mut files = holding(alloc, &[], &[JOURNALS_OF_0, OF_0])?;
+        let mut files = holding(alloc, &[JOURNALS_OF_0, OF_0])?;
         each_ends(rt, alloc, &mut files, status, row)?;
         same(
             rt,
@@ -124,7 +124,7 @@ verify u A root_of_9 = accepted 9";
 
 #[test]
 fn an_extended_signature_is_accepted(rt: HostRuntime) -> Result<(), Fail> {
-    let mut files = holding(rt.alloc(), &[], &[OF_8_AND_9])?;
+    let mut files = holding(rt.alloc(), &[OF_8_AND_9])?;
     each_ends(&rt, rt.alloc(), &mut files, Status::Done, EXTENDED)?;
     same(&rt, "again", files.bytes("u"), files.bytes("t"));
     Ok(())
@@ -141,7 +141,7 @@ fn size(files: &MemFiles, name: &str) -> Option<usize> {
 
 #[test]
 fn an_extension_keeps_what_is_to_be_passed_on(rt: HostRuntime) -> Result<(), Fail> {
-    let mut files = holding(rt.alloc(), &[], &[OF_T])?;
+    let mut files = holding(rt.alloc(), &[OF_T])?;
     each_ends(&rt, rt.alloc(), &mut files, Status::Done, KEPT)?;
     for (name, length) in [("t", 662), ("u", 662), ("v", 664)] {
         same(&rt, name, size(&files, name), Some(length));
@@ -171,35 +171,10 @@ audit a of_t B root_a = refused V1 A B";
 
 #[test]
 fn each_answer_of_an_audit_has_its_line(rt: HostRuntime) -> Result<(), Fail> {
-    let mut files = holding(rt.alloc(), &[], &[OF_T, JOURNALS_OF_0, OF_0])?;
+    let mut files = holding(rt.alloc(), &[OF_T, JOURNALS_OF_0, OF_0])?;
     each_ends(&rt, rt.alloc(), &mut files, Status::Done, AUDITED)?;
     for rows in [NOT_AUDITED, OTHERS] {
         each_ends(&rt, rt.alloc(), &mut files, Status::Refused, rows)?;
-    }
-    Ok(())
-}
-
-// An audit whose call of this number fails.
-fn fails(rt: &impl Abort, alloc: Global, failing: u64, calls: u64) -> Result<(), Fail> {
-    let mut files = holding(alloc, &[failing], &[JOURNALS_OF_0, OF_0])?;
-    let words = words(alloc, "audit a alone A root_a")?;
-    let mut out = MemSink::new(alloc, 32_767, Vec::new(alloc))?;
-    let status = ksi(alloc, &words, &mut files, &mut out);
-    same(rt, "status", status, Status::Fault);
-    same(
-        rt,
-        "counts",
-        [files.counts().calls, files.counts().faults],
-        [calls, 1],
-    );
-    same(rt, "written", out.written(), b"");
-    Ok(())
-}
-
-#[test]
-fn an_audit_ends_where_a_load_fails(rt: HostRuntime) -> Result<(), Fail> {
-    for (failing, calls) in [(0, 1), (1, 2), (2, 3)] {
-        fails(&rt, rt.alloc(), failing, calls)?;
     }
     Ok(())
 }

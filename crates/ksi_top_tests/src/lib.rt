@@ -4,7 +4,11 @@
 #![tactic(auto)]
 
 #[cfg(test)]
+mod failing_calls;
+#[cfg(test)]
 mod generated;
+#[cfg(test)]
+mod hostile_bytes;
 #[cfg(test)]
 mod later_files;
 #[cfg(test)]

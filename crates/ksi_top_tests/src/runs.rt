@@ -1,7 +1,7 @@
 use crate::same::same;
-use crate::text::{bytes, ends, sides, words};
-use ksi_ports::{MemFiles, MemSink};
-use ksi_top::{Status, ksi};
+use crate::text::{bytes, ends, sides};
+use ksi_ports::MemFiles;
+use ksi_top::Status;
 use std::alloc::Global;
 use std::process::Abort;
 use std::test::Fail;
@@ -11,14 +11,8 @@ const S0: &str = "8800005a G K";
 
 const P0: &str = "4b53495055424c46 87010005 010101 0200 87030027 1025 0200 042101A";
 
-// Files whose calls of these numbers fail.
-fn held(
-    alloc: Global,
-    failing: &[u64],
-    signature: &str,
-    publications: &str,
-) -> Result<MemFiles, Fail> {
-    let mut files = MemFiles::new(alloc, failing.to_vec(alloc)?);
+fn held(alloc: Global, signature: &str, publications: &str) -> Result<MemFiles, Fail> {
+    let mut files = MemFiles::new(alloc, Vec::new(alloc));
     files.hold("s", &bytes(alloc, signature)?)?;
     files.hold("p", &bytes(alloc, publications)?)?;
     Ok(files)
@@ -35,7 +29,7 @@ fn is_as_said(
     publications: &str,
     said: (Status, &str, u64),
 ) -> Result<(), Fail> {
-    let mut files = held(alloc, &[], signature, publications)?;
+    let mut files = held(alloc, signature, publications)?;
     ends(rt, alloc, &mut files, line, (said.0, said.1))?;
     same(
         rt,
@@ -107,7 +101,11 @@ const SIGNATURES: &str = "= malformed 1 S1 0
 88000000 = malformed 1 S6 2049 0
 8800002b K = malformed 1 S6 2049 0
 88000085 G K K = malformed 1 S7 2050 94
+8800005a 880100ff 0200 030101 052101A 060101 K = malformed 1 S1 4
+8800005a 8801002b 022a 030101 052101A 060101 K = malformed 1 S1 8
 8800005a 8801002b 0200 030101 052102A 060101 K = malformed 1 S8 13
+8800005a 8801002b 0200 030101 052201A 060101 K = malformed 1 S8 13
+8800005a 8801002b 0229 030101 052101A 060101 K = malformed 1 S9 8
 88000063 88010034 0209000000000000000001 030101 052101A 060101 K = malformed 1 S9 8
 8800005a 8801002b 0200 030101 052101A 060102 K = malformed 1 S10 2
 8800099a 8801096b 0200 030101 052101A 060101 64x0723022101A K = malformed 1 S11 2382
@@ -120,7 +118,7 @@ fn each_fault_of_a_signature_has_its_code(rt: HostRuntime) -> Result<(), Fail> {
     each_verifies(&rt, rt.alloc(), Status::Malformed, 1, SIGNATURES)
 }
 
-const PUBLICATIONS: &str = "4b5349505542 = malformed 3 Q1
+const PUBLICATIONS: &str = "4b53495055424c = malformed 3 Q1
 4b53495055424c46 = malformed 3 Q5 1793 0
 4b53495055424c46 87010005 010101 0200 8703 = malformed 3 Q2 17
 4b53495055424c46 87010005 010101 0200 87020000 = malformed 3 Q3 1794 17
@@ -214,37 +212,6 @@ fn a_file_that_passes_its_limit_is_too_long(rt: HostRuntime) -> Result<(), Fail>
     is_as_said(&rt, rt.alloc(), VERIFY, "65539x00", P0, said)?;
     let said = (Status::TooLong, "too long 1", 1);
     is_as_said(&rt, rt.alloc(), VERIFY, "65540x00", P0, said)
-}
-
-// A verification whose load and put of these numbers fail.
-fn fails(
-    rt: &impl Abort,
-    alloc: Global,
-    load: u64,
-    put: u64,
-    counts: [u64; 4],
-) -> Result<(), Fail> {
-    let mut files = held(alloc, &[load], S0, P0)?;
-    let mut out = MemSink::new(alloc, 32_767, vec![in alloc; put]?)?;
-    let words = words(alloc, VERIFY)?;
-    let status = ksi(alloc, &words, &mut files, &mut out);
-    same(rt, "status", status, Status::Fault);
-    let told = [
-        files.counts().faults,
-        files.counts().calls,
-        out.faults(),
-        out.puts(),
-    ];
-    same(rt, "counts", told, counts);
-    same(rt, "written", out.written(), b"");
-    Ok(())
-}
-
-#[test]
-fn each_failing_call_is_a_fault(rt: HostRuntime) -> Result<(), Fail> {
-    fails(&rt, rt.alloc(), 0, 1, [1, 1, 0, 0])?;
-    fails(&rt, rt.alloc(), 1, 1, [1, 2, 0, 0])?;
-    fails(&rt, rt.alloc(), 2, 0, [0, 2, 1, 1])
 }
 
 #[test]

@@ -67,7 +67,7 @@ pub(crate) fn words(alloc: Global, line: &str) -> Result<Vec<String>, Fail> {
 // The status of a run of words, and what it puts.
 fn run(alloc: Global, files: &mut MemFiles, line: &str) -> Result<(Status, MemSink), Fail> {
     let words = words(alloc, line)?;
-    let mut out = MemSink::new(alloc, 32_767, Vec::new(alloc))?;
+    let mut out = MemSink::new(alloc, 32_767)?;
     let status = ksi(alloc, &words, files, &mut out);
     Ok((status, out))
 }

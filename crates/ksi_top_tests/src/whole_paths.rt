@@ -25,7 +25,7 @@ fn scheduled(alloc: Global, schedule: &str) -> Result<MemFiles, Fail> {
 }
 
 // A held file.
-fn held<'a>(files: &'a MemFiles, name: &str) -> Result<&'a [u8], Fail> {
+pub(crate) fn held<'a>(files: &'a MemFiles, name: &str) -> Result<&'a [u8], Fail> {
     match files.bytes(name) {
         Some(held) => Ok(held),
         None => Err(Fail::from("a file is not held")),
@@ -33,7 +33,7 @@ fn held<'a>(files: &'a MemFiles, name: &str) -> Result<&'a [u8], Fail> {
 }
 
 // The file has so many bytes and begins with these.
-fn holds(
+pub(crate) fn holds(
     rt: &impl Abort,
     alloc: Global,
     files: &MemFiles,
@@ -59,7 +59,7 @@ const NOT_SIGNED: &str = "verify s B p = refused V1 A B
 sign j 1 s = not issued 1";
 
 // The file of a schedule, and what is replayed, signed and published of it.
-fn replayed(rt: &impl Abort, alloc: Global) -> Result<MemFiles, Fail> {
+pub(crate) fn replayed(rt: &impl Abort, alloc: Global) -> Result<MemFiles, Fail> {
     let mut files = scheduled(alloc, ONE_REQUEST)?;
     each_ends(rt, alloc, &mut files, Status::Done, REPLAYED)?;
     Ok(files)

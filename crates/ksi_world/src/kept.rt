@@ -1,13 +1,14 @@
 //! The kept seconds: what the cores hold, and whose items it is.
-ghost use Rattle.std.specs.Prelude.{◌≡◌, ◌<◌, [], IfOk};
+ghost use Rattle.std.specs.Prelude.{◌≡◌, ◌<◌, [], IfOk, option_map};
 ghost use Rattle.std.specs.Option.{option_copied};
+ghost use Rattle.ksi_aggtree.specs.Entries.{items_of};
 ghost use Rattle.ksi_corenode.specs.CoreState.{state_of};
 ghost use Rattle.ksi_world.specs.Records.{sealed_as};
 ghost use Rattle.ksi_world.specs.Deciding.{decides, ListsTold};
 ghost use Rattle.ksi_world.specs.Keeping.{root_among, sealed_among, items_among, second_among, kept_listed, AreListed};
 
 use crate::message::{Content, Message};
-use ksi_aggtree::{Item, Items, Second};
+use ksi_aggtree::{Entry, Item, Items, Second};
 use ksi_corenode::Core;
 use ksi_imprint::{Compress, Imprint, NoMemory};
 use ksi_schedule::Plan;
@@ -171,9 +172,20 @@ fn kept_items<C: Compress>(
         return Ok(Items::from_vec(Vec::new(alloc)));
     }
     match sealed_items(cores, second, root) {
-        Some(items) => Ok(Items::from_vec(items.to_vec(alloc)?)),
+        Some(entries) => items_of(alloc, entries),
         None => Ok(Items::from_vec(Vec::new(alloc))),
     }
+}
+
+/// The items without their origins.
+fn items_of(alloc: Global, entries: &[Entry]) -> Result<Items, NoMemory>
+    ensures { IfOk result (λ items. items ≡ items_of entries.now) }
+{
+    let mut items = Vec::with_capacity(alloc, entries.len())?;
+    'taking: for entry in entries {
+        items.push(entry.item)?;
+    }
+    Ok(Items::from_vec(items))
 }
 
 /// The sealed items of the first core whose candidate the root is.
@@ -181,12 +193,12 @@ fn sealed_items<'a, C: Compress>(
     cores: &'a [Core<C>],
     second: u64,
     root: &Imprint,
-) -> Option<&'a [Item]>
-    ensures { option_copied result ≡ sealed_among C.image cores.now second root.now }
+) -> Option<&'a [Entry]>
+    ensures { option_map items_of (option_copied result) ≡ sealed_among C.image cores.now second root.now }
 {
     'asking: for core in cores {
-        if let Some(items) = items_of_root(core, second, root) {
-            return Some(items);
+        if let Some(entries) = items_of_root(core, second, root) {
+            return Some(entries);
         }
     }
     None
@@ -197,11 +209,11 @@ fn items_of_root<'a, C: Compress>(
     core: &'a Core<C>,
     second: u64,
     root: &Imprint,
-) -> Option<&'a [Item]>
-    ensures { option_copied result ≡ sealed_as C.image root.now (state_of core.now second).sealed }
+) -> Option<&'a [Entry]>
+    ensures { option_map items_of (option_copied result) ≡ sealed_as C.image root.now (state_of core.now second).sealed }
 {
     match core.candidate(second) {
-        Some(candidate) if candidate == *root => core.items(second),
+        Some(candidate) if candidate == *root => core.sealed(second),
         _ => None,
     }
 }

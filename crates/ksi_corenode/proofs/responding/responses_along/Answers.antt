@@ -18,7 +18,7 @@ answering-preserved g c = λ seconds second path.
     let k = c.answering.k in
     let above = above_item g.C.Compress.image seconds second c.args.root.now (items_of entries) in
     let entry = get_or entries k no_entry in
-    let is = slice_get-get_or entries k no_entry (rw (← c.count-k-end.ensures) c.answering-test.true) in
+    let is = slice_get-get_or entries k no_entry c.answering-test.true in
     ap (λ (sends : List Send). sends ++ responses_from above (k + 1) (drop (k + 1) entries)) (c.in_ok-put_response.ensures entry seconds second is path)
     ∙ responses_later above c.answering.sends.items entries k entry is
     ∙ c.answering.invariant seconds second path

@@ -1,4 +1,4 @@
-use Rattle.std.proofs.Common.{◌≤◌, ◌+◌, arith}
+use Rattle.std.proofs.Common.{arith}
 use Rattle.ksi_journal.specs.Journal.{root_at}
 use Rattle.ksi_journal.specs.Calendar.{calendar_of}
 use Rattle.ksi_journal.proofs.Run.{before_end, end_before, covered_words, leaves_words, seconds_words, early_words}

@@ -3,8 +3,8 @@ use Rattle.ksi_tlv.specs.Views.{view_placed}
 use Rattle.ksi_signature.proofs.Says.{time_says}
 use Rattle.ksi_signature.proofs.contents.time_of.Goals as goal
 
-pub returns-in-Ok-clause-value : goal.returns-in-Ok-clause-value
-returns-in-Ok-clause-value c = (time_says (view_placed c.args.part.now) c.in-Ok.time (sym c.time.ensures ∙ c.in-Ok.is)).0
+pub returns-clause-value : goal.returns-clause-value
+returns-clause-value c = (time_says (view_placed c.args.part.now) c.in-Ok.time (sym c.time.ensures ∙ c.in-Ok.is)).0
 
-pub returns-in-Ok-clause-below : goal.returns-in-Ok-clause-below
-returns-in-Ok-clause-below c = (time_says (view_placed c.args.part.now) c.in-Ok.time (sym c.time.ensures ∙ c.in-Ok.is)).1
+pub returns-clause-below : goal.returns-clause-below
+returns-clause-below c = (time_says (view_placed c.args.part.now) c.in-Ok.time (sym c.time.ensures ∙ c.in-Ok.is)).1

@@ -1,4 +1,4 @@
-use Rattle.std.proofs.Common.{◌+◌, ◌≤◌, length, refl, arith}
+use Rattle.std.proofs.Common.{◌≤◌, length, refl, arith}
 use Rattle.ksi_tlv.specs.Views.{view_placed}
 use Rattle.ksi_grammar.specs.Inside.{inner_elements}
 use Rattle.ksi_signature.specs.Tables.{chain_table}

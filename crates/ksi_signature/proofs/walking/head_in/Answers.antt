@@ -1,4 +1,4 @@
-use Rattle.std.proofs.Common.{◌+◌, ◌≤◌, length, refl, sym, ap, ◌∙◌, arith}
+use Rattle.std.proofs.Common.{refl, sym, ap, ◌∙◌, arith}
 use Rattle.ksi_tlv.specs.Views.{view_placed}
 use Rattle.ksi_tlv.specs.Walking.{Items}
 use Rattle.ksi_grammar.specs.Inside.{whole}

@@ -1,4 +1,4 @@
-use Rattle.std.proofs.Common.{◌≡◌, ◌+◌, ◌<◌, List, length, ap, ◌∙◌, arith}
+use Rattle.std.proofs.Common.{◌+◌, length, ap, ◌∙◌, arith}
 use Rattle.ksi_aggtree.specs.Rounds.{node_of}
 use Rattle.ksi_aggtree.proofs.Lent.{lent_some, lent_none, count_of}
 use Rattle.ksi_aggtree.proofs.tree.Tree.node.Goals as goal

@@ -1,16 +1,10 @@
-use Rattle.std.proofs.Common.{◌∙◌, sym, ap}
-use Rattle.std.specs.Option.{option_copied_mut}
-use Rattle.ksi_corenode.proofs.Kept.{kept_write}
+use Rattle.ksi_corenode.specs.CoreState.{state_of}
+use Rattle.ksi_synod.specs.Rows.{try_ballot}
+use Rattle.ksi_corenode.proofs.Keeping.{try_keeps}
+use Rattle.ksi_corenode.proofs.Kept.{kept_after}
 use Rattle.ksi_corenode.proofs.node.Core.ballot.Goals as goal
 
-pub invariant_of-self : goal.invariant_of-self
-invariant_of-self g c =
-    let core = c.self-2.inside in
-    let kept = c.self-2.invariant in
-    let step = c.ballot-begun in
-    let there = sym c.get_mut.ensures.value ∙ ap option_copied_mut c.in-Some.is in (
-      kept.0,
-      kept.1,
-      kept_write core.me core.members core.start c.args.second core.seconds.entries (c.get_mut.follows.lender step.new.self).entries core.calendar
-          c.in-Some.kept.now step.new.self there (c.get_mut.follows.holds step.new.self).0 step.ensures.held kept.2,
-    )
+pub invariant_of-self-2 : goal.invariant_of-self-2
+invariant_of-self-2 g c =
+    let old = c.self.inside.seconds in
+    kept_after old c.ballot.new.self c.args.second (record (state_of old c.args.second) { vote = (try_ballot (state_of old c.args.second).vote).0 }) c.ballot.result c.self.inside.calendar c.ballot.ensures.change c.ballot.ensures.unchanged (try_keeps (state_of old c.args.second).vote).held c.self.invariant

@@ -1,16 +1,10 @@
-use Rattle.std.proofs.Common.{◌∙◌, sym, ap}
-use Rattle.std.specs.Option.{option_copied_mut}
-use Rattle.ksi_corenode.proofs.Kept.{kept_write}
+use Rattle.ksi_corenode.specs.CoreState.{state_of}
+use Rattle.ksi_synod.specs.Rows.{receive}
+use Rattle.ksi_corenode.proofs.Keeping.{receive_keeps}
+use Rattle.ksi_corenode.proofs.Kept.{kept_after}
 use Rattle.ksi_corenode.proofs.node.Core.receive.Goals as goal
 
-pub invariant_of-self : goal.invariant_of-self
-invariant_of-self g c =
-    let core = c.self-2.inside in
-    let kept = c.self-2.invariant in
-    let step = c.receive in
-    let there = sym c.get_mut.ensures.value ∙ ap option_copied_mut c.in-Some.is in (
-      kept.0,
-      kept.1,
-      kept_write core.me core.members core.start c.args.second core.seconds.entries (c.get_mut.follows.lender step.new.self).entries core.calendar
-          c.in-Some.kept.now step.new.self there (c.get_mut.follows.holds step.new.self).0 step.ensures.held kept.2,
-    )
+pub invariant_of-self-2 : goal.invariant_of-self-2
+invariant_of-self-2 g c =
+    let old = c.self.inside.seconds in
+    kept_after old c.receive.new.self c.args.second (record (state_of old c.args.second) { vote = (receive (state_of old c.args.second).vote c.args.from c.args.message.now).0 }) c.receive.result c.self.inside.calendar c.receive.ensures.change c.receive.ensures.unchanged (receive_keeps (state_of old c.args.second).vote c.args.from c.args.message.now).held c.self.invariant

@@ -1,4 +1,4 @@
-use Rattle.std.proofs.Common.{◌≡◌, List, subst, sym}
+use Rattle.std.proofs.Common.{subst, sym}
 use Rattle.ksi_aggtree.specs.Rounds.{IsRound}
 use Rattle.ksi_journal.specs.Journal.{IsJournal}
 use Rattle.ksi_journal.proofs.Trees.{kept_round}

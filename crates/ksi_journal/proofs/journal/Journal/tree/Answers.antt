@@ -1,7 +1,7 @@
-use Rattle.std.proofs.Common.{◌≡◌, List, Option, subst, sym, ap, ◌∙◌}
+use Rattle.std.proofs.Common.{List, Option, subst, sym, ap, ◌∙◌}
 use Rattle.ksi_aggtree.specs.declared.item.Item.{Item}
 use Rattle.ksi_aggtree.specs.Rounds.{some_items}
-use Rattle.ksi_journal.specs.Journal.{root_at, tree_at}
+use Rattle.ksi_journal.specs.Journal.{root_at}
 use Rattle.ksi_journal.proofs.Trees.{HasRoot, NoneAtZero, kept_tree}
 use Rattle.ksi_journal.proofs.journal.Journal.tree.Goals as goal
 

@@ -1,0 +1,33 @@
+// A run over files and an output that do not fail.
+ghost use Rattle.std.specs.Prelude.{◌≡◌, ◌≢◌, ℕ, ◌+◌, ◌≤◌, ◌++◌};
+ghost use Rattle.ksi_ports.specs.Sure.{empty_where_none};
+ghost use Rattle.ksi_top.specs.Endings.{UnlessCut};
+ghost use Rattle.ksi_top.specs.Run.{run, saved_into};
+ghost use Rattle.ksi_words.specs.Words.{texts};
+
+use crate::ending::ksi;
+use crate::status::Status;
+use ksi_ports::{SureFiles, SureSink};
+use std::alloc::Global;
+
+/// Runs the command as [`ksi`] does, over files and an output in memory whose calls do not fail. There is no fault, so the run
+/// is that of the words and the files held, or memory was wanting.
+pub fn sure_run(
+    alloc: Global,
+    words: &[String],
+    files: &mut SureFiles,
+    out: &mut SureSink,
+) -> Status
+    requires free { 32767 ≤ out.old.free }
+    ensures no_fault { result ≢ Status.Fault }
+    ensures status { UnlessCut result (result
+        ≡ (run (texts words.now) (empty_where_none files.old.entries)).status) }
+    ensures saved { UnlessCut result (empty_where_none files.new.entries
+        ≡ saved_into (run (texts words.now) (empty_where_none files.old.entries)).saved
+        (empty_where_none files.old.entries)) }
+    ensures put { UnlessCut result (out.new.written
+        ≡ out.old.written ++ (run (texts words.now) (empty_where_none files.old.entries)).line) }
+    ensures free { out.old.free ≤ out.new.free + 32767 }
+{
+    ksi(alloc, words, files, out)
+}
