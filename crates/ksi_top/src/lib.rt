@@ -24,6 +24,7 @@ mod reading;
 mod replay;
 mod report;
 mod sign;
+mod signature_file;
 mod status;
 mod verify;
 
