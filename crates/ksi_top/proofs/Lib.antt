@@ -9,4 +9,3 @@ pub mod Reporting
 pub mod Finishing
 pub mod Extending
 pub mod Replayed
-pub mod Filed

@@ -8,7 +8,7 @@ ghost use Rattle.ksi_signature.specs.File.{IsSignature};
 ghost use Rattle.ksi_top.specs.Loading.{content, loaded, loaded_journal, loaded_publications, loaded_schedule, loaded_signature, file_limit, signature_limit};
 ghost use Rattle.ksi_top.specs.Promised.{IsLoaded};
 
-use crate::reading::{read_journal, read_publications, read_schedule};
+use crate::reading::{keep_signature, read_journal, read_publications, read_schedule};
 use crate::report::{Halt, Report};
 use crate::signature_file::SignatureFile;
 use crate::status::Status;
@@ -38,7 +38,7 @@ pub(crate) fn load_signature<F: Files>(
     ensures is { IsTrue F.tells → IfOk result (IsSignature (content (F.held files.old) name.now)) }
 {
     let bytes = load_file(alloc, files, SIGNATURE_LIMIT, n, name)?;
-    SignatureFile::of(n, bytes)
+    keep_signature(n, bytes)
 }
 
 /// The publications file that file word `n` is.

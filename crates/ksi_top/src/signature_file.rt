@@ -1,51 +1,42 @@
 // Signature files whose bytes are kept.
-ghost use Rattle.std.specs.Prelude.{◌≡◌, IfOk};
-ghost use Rattle.ksi_signature.specs.File.{IsSignature};
+ghost use Rattle.std.specs.Prelude.{◌≡◌, Ok, Err, IfOk, IfErr};
 ghost use Rattle.ksi_signature.specs.Seen.{seen};
-ghost use Rattle.ksi_top.specs.Loading.{signature_or_malformed};
-ghost use Rattle.ksi_top.specs.Reports.{Gives, HaltsMalformed};
+ghost use Rattle.ksi_signature.specs.Contents.{signature_of};
+ghost use Rattle.ksi_signature.specs.File.{IsSignature};
+ghost use Rattle.ksi_signature.specs.Reading.{signature_at, elements_in};
 
-use crate::report::{Halt, Report};
-use crate::status::Status;
 use ksi_imprint::Bytes;
-use ksi_lines::signature_fault_line;
-use ksi_signature::{SignatureView, check, signature_is_read, view};
+use ksi_signature::{SignatureFault, SignatureView, check, signature_is_read, view};
 use std::marker::Model;
 
-/// The bytes of a signature. A contract sees the signature.
+/// The bytes of a signature file. A contract sees the signature.
 #[derive(Drop)]
 pub(crate) struct SignatureFile {
     bytes: Bytes,
 }
 
 impl Model for SignatureFile {
-    ghost use Rattle.std.specs.Prelude.{◌≡◌, Ok};
     ghost use Rattle.ksi_signature.specs.declared.signature.Signature.{Signature};
     ghost use Rattle.ksi_signature.specs.Contents.{signature_of};
-    ghost use Rattle.ksi_signature.specs.File.{answer_of};
+    ghost use Rattle.ksi_signature.specs.File.{IsSignature};
     ghost use Rattle.ksi_signature.specs.Reading.{elements_in};
 
     ghost Value = { Signature };
 
     ghost view = { λ file. signature_of (elements_in file.bytes) };
 
-    ghost invariant = { λ file. answer_of file.bytes ≡ Ok tt };
+    ghost invariant = { λ file. IsSignature file.bytes (signature_of (elements_in file.bytes)) };
 }
 
 impl SignatureFile {
-    /// The file of word `n` with these bytes, or that they are no signature. No memory is taken.
-    pub(crate) fn of(n: usize, bytes: Bytes) -> Result<Self, Halt>
-        ensures told { Gives (signature_or_malformed n bytes) result }
+    /// The file with these bytes, or their first fault. No memory is taken.
+    pub(crate) fn of(bytes: Bytes) -> Result<Self, SignatureFault>
+        ensures told { result ≡ signature_at bytes }
         ensures is { IfOk result (IsSignature bytes) }
-        ensures halts { HaltsMalformed result }
     {
-        signature_is_read();
-        match check(bytes.as_slice()) {
+        match looked_through(bytes.as_slice()) {
             Ok(()) => Ok(SignatureFile { bytes }),
-            Err(fault) => {
-                let line = signature_fault_line(n, fault);
-                Err(Halt::Reported(Report::new(Status::Malformed, line)))
-            }
+            Err(fault) => Err(fault),
         }
     }
 
@@ -59,4 +50,15 @@ impl SignatureFile {
             Err(_) => unreachable!(),
         }
     }
+}
+
+/// Whether bytes are the signature that their elements make, or their first fault.
+#[tactic(auto, unfolding(ksi_signature::specs::Reading::signature_at))]
+fn looked_through(bytes: &[u8]) -> Result<(), SignatureFault>
+    ensures is { IfOk result (λ _. IsSignature bytes.now (signature_of (elements_in bytes.now))) }
+    ensures read { IfOk result (λ _. signature_at bytes.now ≡ Ok (signature_of (elements_in bytes.now))) }
+    ensures fault { IfErr result (λ fault. signature_at bytes.now ≡ Err fault) }
+{
+    signature_is_read();
+    check(bytes)
 }

@@ -11,4 +11,4 @@ returns-in_err-bytes-clause-loaded g c = unloaded g.F.Files signature_fault sign
 
 pub returns-clause-loaded : goal.returns-clause-loaded
 unfolding loaded_signature
-returns-clause-loaded g c = read_after g.F.Files signature_fault signature_at _ _ _ _ _ _ _ _ refl c.in_ok-bytes.ensures.loaded c.of.ensures.told c.of.ensures.halts
+returns-clause-loaded g c = read_after g.F.Files signature_fault signature_at _ _ _ _ _ _ _ _ refl c.in_ok-bytes.ensures.loaded c.keep_signature.ensures.told c.keep_signature.ensures.halts
