@@ -8,15 +8,15 @@ ghost use Rattle.ksi_top.specs.Audit.{IsAnswered, audit_beside, audit_command, a
 
 use crate::loading::{load_journal, load_publications, load_signature};
 use crate::report::{Halt, Report, ended};
+use crate::signature_file::SignatureFile;
 use crate::status::Status;
-use ksi_auditor::Audit;
 use ksi_auditor::laws::decided_tells;
+use ksi_auditor::{Audit, audit_view};
 use ksi_imprint::{Imprint, NoMemory, Sha};
 use ksi_journal::Journal;
 use ksi_lines::audit_line;
 use ksi_ports::Files;
 use ksi_publications::Publications;
-use ksi_signature::Signature;
 use std::alloc::Global;
 
 /// Loads the journal, then the signature, then the publications, and audits the signature for the hash.
@@ -54,7 +54,7 @@ fn audit_over<F: Files>(
     alloc: Global,
     files: &mut F,
     journal: &Journal<Sha>,
-    signature: &Signature,
+    signature: &SignatureFile,
     hash: &Imprint,
     publications: &str,
 ) -> Result<Report, Halt>
@@ -67,7 +67,7 @@ fn audit_over<F: Files>(
 fn answer(
     alloc: Global,
     journal: &Journal<Sha>,
-    signature: &Signature,
+    signature: &SignatureFile,
     hash: &Imprint,
     publications: &Publications,
 ) -> Result<Report, NoMemory>
@@ -76,7 +76,8 @@ fn answer(
 {
     decided_tells();
     let _start = journal.start();
-    let audit = ksi_auditor::audit::<Sha>(alloc, journal, signature, hash, publications)?;
+    let signature = signature.view();
+    let audit = audit_view::<Sha>(alloc, journal, &signature, hash, publications)?;
     audited(alloc, &audit)
 }
 

@@ -25,6 +25,7 @@ mod reading;
 mod replay;
 mod report;
 mod sign;
+mod signature_file;
 mod status;
 mod sure;
 mod verify;

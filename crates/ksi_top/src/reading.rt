@@ -9,8 +9,9 @@ ghost use Rattle.ksi_top.specs.Reports.{Gives, HaltsMalformed};
 ghost use Rattle.ksi_top.specs.Loading.{signature_or_malformed, publications_or_malformed, journal_or_malformed, schedule_or_malformed};
 
 use crate::report::{Halt, Report};
+use crate::signature_file::SignatureFile;
 use crate::status::Status;
-use ksi_imprint::{Refused, Sha};
+use ksi_imprint::{Bytes, Refused, Sha};
 use ksi_journal::Journal;
 use ksi_journal::laws::journal_is_read;
 use ksi_lines::{
@@ -35,6 +36,21 @@ pub(crate) fn read_signature(alloc: Global, n: usize, bytes: &[u8]) -> Result<Si
             Err(Halt::Reported(Report::new(Status::Malformed, line)))
         }
         Err(Refused::NoMemory) => Err(Halt::NoMemory),
+    }
+}
+
+/// The same, with its bytes kept: nothing is copied from them, and no memory is taken.
+pub(crate) fn keep_signature(n: usize, bytes: Bytes) -> Result<SignatureFile, Halt>
+    ensures told { Gives (signature_or_malformed n bytes) result }
+    ensures is { IfOk result (IsSignature bytes) }
+    ensures halts { HaltsMalformed result }
+{
+    match SignatureFile::of(bytes) {
+        Ok(signature) => Ok(signature),
+        Err(fault) => {
+            let line = signature_fault_line(n, fault);
+            Err(Halt::Reported(Report::new(Status::Malformed, line)))
+        }
     }
 }
 

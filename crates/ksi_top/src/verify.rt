@@ -7,14 +7,14 @@ ghost use Rattle.ksi_top.specs.Verify.{judged, verify_command, verify_over};
 
 use crate::loading::{load_publications, load_signature};
 use crate::report::{Halt, Report};
+use crate::signature_file::SignatureFile;
 use crate::status::Status;
 use ksi_imprint::{Imprint, Sha};
 use ksi_lines::Word::{Number, Text};
 use ksi_lines::{print, refusal_line};
 use ksi_ports::Files;
 use ksi_publications::Publications;
-use ksi_signature::Signature;
-use ksi_verifier::Verdict;
+use ksi_verifier::{Verdict, verify_view};
 use std::alloc::Global;
 
 /// Loads the signature, then the publications, and checks the one against the hash and the other.
@@ -35,7 +35,7 @@ pub(crate) fn verify<F: Files>(
 fn verify_over<F: Files>(
     alloc: Global,
     files: &mut F,
-    signature: &Signature,
+    signature: &SignatureFile,
     hash: &Imprint,
     publications: &str,
 ) -> Result<Report, Halt>
@@ -45,10 +45,10 @@ fn verify_over<F: Files>(
     Ok(judge(signature, hash, &publications))
 }
 
-fn judge(signature: &Signature, hash: &Imprint, publications: &Publications) -> Report
+fn judge(signature: &SignatureFile, hash: &Imprint, publications: &Publications) -> Report
     ensures { result ≡ judged (verdict imprint_of signature.now hash.now publications.now) }
 {
-    match ksi_verifier::verify::<Sha>(signature, hash, publications) {
+    match verify_view::<Sha>(&signature.view(), hash, publications) {
         Verdict::Accepted(second) => {
             let line = print(Text("accepted"), &[], &[Number(second)]);
             Report::new(Status::Done, line)

@@ -1,4 +1,4 @@
-use Rattle.std.proofs.Common.{rules}
+use Rattle.std.proofs.Common.{refl, rules}
 use Rattle.ksi_signature.specs.Reading.{signature_at}
 use Rattle.ksi_lines.specs.FaultWords.{signature_fault}
 use Rattle.ksi_top.specs.Loading.{loaded_signature}
@@ -11,4 +11,4 @@ returns-in_err-bytes-clause-loaded g c = unloaded g.F.Files signature_fault sign
 
 pub returns-clause-loaded : goal.returns-clause-loaded
 unfolding loaded_signature
-returns-clause-loaded g c = read_after g.F.Files signature_fault signature_at _ _ _ _ _ _ _ _ c.as_slice.ensures c.in_ok-bytes.ensures.loaded c.read_signature.ensures.told c.read_signature.ensures.halts
+returns-clause-loaded g c = read_after g.F.Files signature_fault signature_at _ _ _ _ _ _ _ _ refl c.in_ok-bytes.ensures.loaded c.keep_signature.ensures.told c.keep_signature.ensures.halts
