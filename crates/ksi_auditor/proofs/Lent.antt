@@ -1,7 +1,7 @@
 -- The links of lent chains.
 use Rattle.std.proofs.Common.{◌≡◌, ◌≤◌, ℕ, List, [], ◌∷◌, map, length, refl, sym, ap, arith}
 use Rattle.std.specs.List.{AllByRecursion}
-use Rattle.ksi_aggchain.specs.Owned.{plain_link, plain_links, sibling_bytes}
+use Rattle.ksi_aggchain.specs.Owned.{plain_links, sibling_bytes}
 use Rattle.ksi_aggchain.specs.declared.link.Link.{Link}
 use Rattle.ksi_aggchain.specs.declared.link.Sibling.{Sibling}
 use Rattle.ksi_aggchain.specs.declared.link.Sibling.TheVariants.{Imprint, Legacy, Metadata}
@@ -10,7 +10,7 @@ use Rattle.ksi_signature.specs.Kept.{HasImprint, IsLink}
 use Rattle.ksi_signature.specs.Values.{HasSize}
 use Rattle.ksi_signature.specs.PartsSeen.{chain_seen}
 use Rattle.ksi_signature.specs.declared.chain_view.ChainView.{ChainView}
-use Rattle.ksi_verifier.specs.Chains.{PlainChain, plain_chain, plain_chains}
+use Rattle.ksi_verifier.specs.Chains.{PlainChain, plain_chains}
 use Rattle.ksi_verifier.specs.Lent.{lent_chain}
 use Rattle.ksi_verifier.specs.Verdict.{verdict}
 use Rattle.ksi_verifier.specs.declared.verdict.Verdict.TheVariants.{Accepted}

@@ -1,11 +1,11 @@
 -- What the walk comes to is what the definition says.
-use Rattle.std.proofs.Common.{◌≡◌, ◌≢◌, ℕ, zero, suc, ◌-◌, ◌<◌, ◌≤◌, List, [], ◌∷◌, ◌++◌, map, take, length, Option, Some, None, refl, sym, ap, subst, ◌∙◌, arith, inl, inr}
+use Rattle.std.proofs.Common.{◌≡◌, ◌≢◌, ℕ, suc, ◌-◌, ◌<◌, ◌≤◌, List, [], ◌∷◌, ◌++◌, map, take, length, Option, Some, None, refl, sym, ap, subst, ◌∙◌, arith, inl, inr}
 use Rattle.std.proofs.lemmas.List.{length-map, length-take-le}
 use Rattle.ksi_imprint.specs.declared.clash.Clash.{Clash}
 use Rattle.ksi_split.specs.declared.side.Side.{Side}
 use Rattle.ksi_aggchain.specs.Links.{PlainLink}
 use Rattle.ksi_aggtree.specs.declared.item.Item.{Item}
-use Rattle.ksi_beside.specs.Beside.{Rung, rung_side, rung_text, rungs_from, Pair, pairs_below, pair_before, differing, ended, laid_from, IsApart, clash_in}
+use Rattle.ksi_beside.specs.Beside.{Rung, rung_side, rungs_from, Pair, pairs_below, pair_before, differing, ended, laid_from, IsApart, clash_in}
 use Rattle.ksi_beside.specs.declared.walk.Walk.{Walk}
 use Rattle.ksi_beside.specs.declared.walk.Walk.TheVariants.{Apart, At, Past}
 use Rattle.ksi_verifier.specs.Chains.{at_level_zero}

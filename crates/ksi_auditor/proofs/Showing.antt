@@ -34,7 +34,7 @@ use Rattle.ksi_journal.specs.Journal.{Contents, IsJournal, root_at, items_at}
 use Rattle.ksi_journal.specs.Calendar.{calendar_of}
 use Rattle.ksi_auditor.specs.declared.answer.Audit.TheVariants as answers
 use Rattle.ksi_beside.specs.Beside.{Rung, rung_side, rungs_from, calendar_rungs_from, Pair, differing}
-use Rattle.ksi_beside.specs.Standing.{Holds, IsTree, Walked, whole}
+use Rattle.ksi_beside.specs.Standing.{Holds, IsTree, whole}
 use Rattle.ksi_auditor.specs.Climbed.{climbed_to}
 use Rattle.ksi_auditor.specs.Kept.{calendar_text, joined_imprints, items_text, joined_items}
 use Rattle.ksi_auditor.specs.Audit.{links_of, link_sides, calendar_pairs, item_pairs, item_named, ends, found, compared, laid_beside, decided, kept_or_not, accepted_or_not, audit}

@@ -4,19 +4,18 @@ use crate::clock::{Timed, now, since};
 use ksi_imprint::{Bytes, Compress, Imprint, Sha};
 use ksi_ports::{Files, HostFiles};
 use ksi_publications::Publications;
-use ksi_verifier::Verdict;
-use std::alloc::Global;
+use ksi_verifier::{BytesVerdict, verify_bytes};
 
 /// The longest file.
 const LIMIT: usize = 67_108_864;
 
-/// Reads a signature of the hash of nothing and verifies it against publications, so many times.
+/// Verifies the bytes of a signature of the hash of nothing against publications, so many times.
 pub(crate) fn verify(rt: &HostRuntime, count: u64, names: &[String]) -> Option<Timed> {
     let signature = file(rt, names.get(0)?.as_str())?;
     let others = file(rt, names.get(1)?.as_str())?;
     let publications = ksi_publications::read(rt.alloc(), others.as_slice()).ok()?;
     let begun = now(rt)?;
-    let byte = accepted(rt.alloc(), count, signature.as_slice(), &publications);
+    let byte = accepted(count, signature.as_slice(), &publications);
     since(rt, begun, byte)
 }
 
@@ -49,21 +48,18 @@ fn file(rt: &HostRuntime, name: &str) -> Option<Bytes> {
 }
 
 /// How often it is accepted, modulo 256.
-fn accepted(alloc: Global, count: u64, signature: &[u8], publications: &Publications) -> u8 {
+fn accepted(count: u64, signature: &[u8], publications: &Publications) -> u8 {
     let hash = Sha::of(b"");
     let mut times: u8 = 0;
     for _ in 0..count {
-        times = times.wrapping_add(accepts(alloc, signature, &hash, publications));
+        times = times.wrapping_add(accepts(signature, &hash, publications));
     }
     times
 }
 
-fn accepts(alloc: Global, signature: &[u8], hash: &Imprint, publications: &Publications) -> u8 {
-    let Ok(signature) = ksi_signature::read(alloc, signature) else {
-        return 0;
-    };
-    match ksi_verifier::verify::<Sha>(&signature, hash, publications) {
-        Verdict::Accepted(_) => 1,
-        Verdict::Refused(_) => 0,
+fn accepts(signature: &[u8], hash: &Imprint, publications: &Publications) -> u8 {
+    match verify_bytes::<Sha>(signature, hash, publications) {
+        BytesVerdict::Accepted(_) => 1,
+        BytesVerdict::Refused(_) | BytesVerdict::Malformed(_) => 0,
     }
 }

@@ -1,5 +1,5 @@
 -- Two indexes, compared part by part.
-use Rattle.std.proofs.Common.{◌≡◌, ◌≢◌, ℕ, zero, suc, ◌+◌, ◌<◌, List, [], ◌∷◌, take, length, Result, Ok, Err, Option, Some, None, MatchOption, refl, sym, ap, ◌∙◌, arith, inl, inr}
+use Rattle.std.proofs.Common.{◌≡◌, ◌≢◌, ℕ, suc, ◌+◌, ◌<◌, List, [], ◌∷◌, take, length, Result, Ok, Err, Option, Some, None, MatchOption, refl, sym, ap, ◌∙◌, arith}
 use Rattle.std.proofs.lemmas.Bool.{eqb-true, eqb-false}
 use Rattle.ksi_split.specs.declared.side.Side.{Side}
 use Rattle.ksi_aggchain.specs.Links.{PlainLink}

@@ -15,8 +15,7 @@ use ksi_imprint::{Compress, Imprint};
 use ksi_publications::Publications;
 use ksi_signature::{signature_is_read, view};
 
-/// Checks the signature that bytes are for a hash against the published roots of the calendar, in one pass over the bytes.
-/// No memory is taken.
+/// Checks the signature that bytes are for a hash against the published roots of the calendar. No memory is taken.
 pub fn verify_bytes<C: Compress>(
     bytes: &[u8],
     hash: &Imprint,

@@ -1,7 +1,6 @@
-use Rattle.std.proofs.Common.{rules, [], map, ◌≡◌, ◌≤◌, List, sym, subst, ap, ◌∙◌}
+use Rattle.std.proofs.Common.{rules, [], map, ◌≤◌, List, sym, subst, ap, ◌∙◌}
 use Rattle.std.specs.List.{AllByRecursion}
 use Rattle.ksi_aggchain.specs.Climbing.{level_after}
-use Rattle.ksi_aggchain.specs.Lent.{lent_link}
 use Rattle.ksi_aggchain.specs.Links.{PlainLink}
 use Rattle.ksi_beside.specs.Beside.{IsApart, IsShortLink, laid_from, laid_on, rungs_from}
 use Rattle.ksi_verifier.specs.Leading.{all_links}

@@ -1,5 +1,5 @@
 use Rattle.std.proofs.lemmas.List.Elements.{All-from_get_or}
-use Rattle.std.proofs.Common.{◌<◌, arith, ◌≡◌, ℕ, List, Result, Ok, Err, refl, sym, ap, ◌∙◌}
+use Rattle.std.proofs.Common.{◌<◌, arith, ◌≡◌, ℕ, List, Result, Ok, Err, sym, ap, ◌∙◌}
 use Rattle.std.specs.Prelude.{◌↔◌}
 use Rattle.ksi_signature.specs.declared.fault.SignatureFault.{SignatureFault}
 use Rattle.ksi_signature.specs.declared.signature.Signature.{Signature}

@@ -1,4 +1,4 @@
-use Rattle.std.proofs.Common.{◌≡◌, ℕ, suc, ◌+◌, ◌-◌, ◌<◌, ◌≤◌, take, length, sym, ap, ◌∙◌, arith, Some, None}
+use Rattle.std.proofs.Common.{ℕ, ◌+◌, ◌-◌, ◌<◌, take, length, sym, ap, ◌∙◌, arith, Some, None}
 use Rattle.ksi_signature.specs.PartsLeft.{parts_left}
 use Rattle.ksi_verifier.specs.ChainChecks.{same_parts}
 use Rattle.ksi_verifier.proofs.Turns.{goes_on, stops, ends, one_fewer, equal, unequal}

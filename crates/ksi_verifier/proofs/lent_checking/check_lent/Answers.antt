@@ -1,4 +1,4 @@
-use Rattle.std.proofs.Common.{◌≡◌, map, Some, None, option_map, sym, ap, ◌∙◌}
+use Rattle.std.proofs.Common.{◌≡◌, map, Some, option_map, sym, ap, ◌∙◌}
 use Rattle.ksi_signature.specs.PartsSeen.{calendar_seen}
 use Rattle.ksi_signature.specs.Seen.{seen}
 use Rattle.ksi_signature.specs.Values.{Calendar}
