@@ -43,7 +43,15 @@ fn is_alone(alloc: Global, journal: &Journal<Sha>, bytes: &[u8]) -> Result<bool,
     let publications = published(alloc, journal, T)?;
     let signature = view(bytes)?;
     let answer = audit_view::<Sha>(alloc, journal, &signature, &Sha::of(b""), &publications)?;
-    Ok(matches!(answer, Audit::Inside(T, way) if way.as_slice().is_empty()))
+    Ok(is_top_of(&answer, T))
+}
+
+/// Whether the hash is the top of the tree of this second.
+fn is_top_of(answer: &Audit, second: u64) -> bool {
+    match answer {
+        Audit::Inside(at, way) => *at == second && way.as_slice().is_empty(),
+        _ => false,
+    }
 }
 
 /// The signature that is issued for the only item of the journal's second: what it is extended to there, without the
