@@ -11,7 +11,7 @@ use ksi_ports::{SureFiles, SureSink};
 use std::alloc::Global;
 
 /// Runs the command as [`ksi`] does, over files and an output in memory whose calls do not fail. There is no fault, so the run
-/// is that of the words and the files held, or memory was wanting.
+/// is that of the words and the files held, or memory was wanting: then nothing is saved and nothing put.
 pub fn sure_run(
     alloc: Global,
     words: &[String],
@@ -27,6 +27,9 @@ pub fn sure_run(
         (empty_where_none files.old.entries)) }
     ensures put { UnlessCut result (out.new.written
         ≡ out.old.written ++ (run (texts words.now) (empty_where_none files.old.entries)).line) }
+    ensures unsaved { result ≢ Status.Done →
+        empty_where_none files.new.entries ≡ empty_where_none files.old.entries }
+    ensures unput { result ≡ Status.NoMemory → out.new.written ≡ out.old.written }
     ensures free { out.old.free ≤ out.new.free + 32767 }
 {
     ksi(alloc, words, files, out)

@@ -84,13 +84,26 @@ fn each_failing_call_ends_the_run(rt: HostRuntime) -> Result<(), Fail> {
     Ok(())
 }
 
+/// Each command over files that hold nothing, and how it ends.
+const SURE: [(&str, Status); 8] = [
+    ("replay s j", Status::Malformed),
+    ("sign j 0 o", Status::Malformed),
+    ("publish j o", Status::Malformed),
+    ("extend j s 5 o", Status::Malformed),
+    ("verify s A p", Status::Malformed),
+    ("audit j s A p", Status::Malformed),
+    ("make 7 m", Status::Done),
+    ("drill 7", Status::Done),
+];
+
 #[test]
 fn over_files_that_do_not_fail_no_run_does(rt: HostRuntime) -> Result<(), Fail> {
     let mut files = SureFiles::new(rt.alloc());
-    let mut out = SureSink::new(rt.alloc(), 32_767)?;
-    let words = words(rt.alloc(), "verify s A p")?;
-    let status = sure_run(rt.alloc(), &words, &mut files, &mut out);
-    same(&rt, "status", status, Status::Malformed);
-    same(&rt, "written", out.written(), b"malformed 1 S1 0\n");
+    for (line, want) in SURE {
+        let mut out = SureSink::new(rt.alloc(), 32_767)?;
+        let words = words(rt.alloc(), line)?;
+        let status = sure_run(rt.alloc(), &words, &mut files, &mut out);
+        same(&rt, line, status, want);
+    }
     Ok(())
 }
