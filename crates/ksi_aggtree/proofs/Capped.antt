@@ -98,13 +98,13 @@ module _ (image : List ℕ → List ℕ) (fits : TreesFit) (leaf : ℕ → Node)
   pub node_low : SplitsFit → (last : ℕ) (sides : List Side) (node : Node) → last < 65536 → node_at (aggregation_join image) leaf last sides ≡ Some node → node.level ≤ 255
   node_low splits last sides node few is = part_low splits 0 (record { first = 0; count = last + 1 }) sides node (omega arith) (omega arith) is
 
-pub last_node : (image : List ℕ → List ℕ) (items : List Item) (sides : List Side) (n last : ℕ) → n ≡ last + 1 → node_at (aggregation_join image) (leaf_of_place items) last sides ≡ node_from image items n sides
+pub last_node : (image : List ℕ → List ℕ) (items : List Item) (sides : List Side) (n last : ℕ) → n ≡ last + 1 → node_at (aggregation_join image) (leaf_of_place image items) last sides ≡ node_from image items n sides
 last_node image items sides zero last e = absurd (omega arith)
-last_node image items sides (suc n) last e = let same : last ≡ n = omega arith in ap (λ (m : ℕ). node_at (aggregation_join image) (leaf_of_place items) m sides) same
+last_node image items sides (suc n) last e = let same : last ≡ n = omega arith in ap (λ (m : ℕ). node_at (aggregation_join image) (leaf_of_place image items) m sides) same
 
 pub node_level : TreesFit → SplitsFit → (image : List ℕ → List ℕ) (items : List Item) (sides : List Side) (node : Node) → IsRound items → node_of image items sides ≡ Some node → node.level ≤ 255
 node_level fits splits image items sides node round is = of (length items) round.few is
   where
     of : (n : ℕ) → n ≤ 65536 → node_from image items n sides ≡ Some node → node.level ≤ 255
     of zero few is = absurd (cc is)
-    of (suc last) few is = node_low image fits (leaf_of_place items) round.low splits last sides node (omega (arith, few)) is
+    of (suc last) few is = node_low image fits (leaf_of_place image items) round.low splits last sides node (omega (arith, few)) is

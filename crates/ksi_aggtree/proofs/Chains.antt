@@ -31,19 +31,19 @@ module _ (image : List ℕ → List ℕ) where
   -- a tree of at most 65,536 items is at most 16 levels above them
   pub tree_rises : TreesFit → (items : List Item) (m : ℕ) → length items ≤ 65536 → ((i : ℕ) → (item_at items i).level ≤ m) → (tree_of image items).level ≤ m + 16
   tree_rises fits items m few low =
-      let e = ap (λ (x : Node). x.level) (fits (aggregation_join image) (leaf_of_place items) 16 0 (length items) few) in
-      omega (arith, e, rises_within (leaf_of_place items) m low 16 0 (length items))
+      let e = ap (λ (x : Node). x.level) (fits (aggregation_join image) (leaf_of_place image items) 16 0 (length items) few) in
+      omega (arith, e, rises_within (leaf_of_place image items) m low 16 0 (length items))
 
   -- the links of item k climb to the item of the round, where the tree's path leads to it, and no level passes 255
   pub item_climbs : (items : List Item) (k : ℕ) → (tree_of image items).level ≤ 255 → k < length items
-      → ((last t : ℕ) → t ≤ last → climb_links (aggregation_join image) (leaf_of_place items t) (path_of (aggregation_join image) (leaf_of_place items) 0 t (last + 1)) ≡ tree (aggregation_join image) (leaf_of_place items) 0 (last + 1))
-      → climbed image 0 (leaf_of_place items k) (plain_links (chain_of image items k)) ≡ Ok (tree_of image items)
+      → ((last t : ℕ) → t ≤ last → climb_links (aggregation_join image) (leaf_of_place image items t) (path_of (aggregation_join image) (leaf_of_place image items) 0 t (last + 1)) ≡ tree (aggregation_join image) (leaf_of_place image items) 0 (last + 1))
+      → climbed image 0 (leaf_of_place image items k) (plain_links (chain_of image items k)) ≡ Ok (tree_of image items)
   item_climbs items k low lt up =
       let n : length items - 1 + 1 ≡ length items = omega arith in
-      let top : climb_links (aggregation_join image) (leaf_of_place items k) (tree_path image items k) ≡ tree_of image items =
-      subst (λ (n : ℕ). climb_links (aggregation_join image) (leaf_of_place items k) (path_of (aggregation_join image) (leaf_of_place items) 0 k n) ≡ tree (aggregation_join image) (leaf_of_place items) 0 n) n (up (length items - 1) k (omega arith)) in
+      let top : climb_links (aggregation_join image) (leaf_of_place image items k) (tree_path image items k) ≡ tree_of image items =
+      subst (λ (n : ℕ). climb_links (aggregation_join image) (leaf_of_place image items k) (path_of (aggregation_join image) (leaf_of_place image items) 0 k n) ≡ tree (aggregation_join image) (leaf_of_place image items) 0 n) n (up (length items - 1) k (omega arith)) in
       let e = ap (λ (x : Node). x.level) top in
-      links_climb image 0 (leaf_of_place items k) (tree_path image items k) (omega arith) ∙ ap reached top
+      links_climb image 0 (leaf_of_place image items k) (tree_path image items k) (omega arith) ∙ ap reached top
 
 pub links_count : (level : ℕ) (path : List (TreeLink Node)) → length (links_from level path) ≡ length path
 links_count level [] = refl

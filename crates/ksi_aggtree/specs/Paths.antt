@@ -1,6 +1,7 @@
 -- The chain of an item: links with the corrections that meet the tree's levels, the lowest first.
-use Rattle.std.specs.Prelude.{ℕ, ◌+◌, ◌-◌, List, [], ◌∷◌, map, reverse, max}
+use Rattle.std.specs.Prelude.{ℕ, ◌+◌, ◌-◌, List, [], ◌∷◌, length, map, reverse, max}
 use Rattle.ksi_split.specs.declared.side.Side.{Side}
+use Rattle.ksi_split.specs.Ways.{way_of}
 use Rattle.ksi_split.specs.declared.tree_link.TreeLink.{TreeLink}
 use Rattle.ksi_aggchain.specs.declared.node.Node.{Node}
 use Rattle.ksi_aggchain.specs.declared.link.Link.{Link}
@@ -19,7 +20,11 @@ links_from level (other ∷ others) = link_beside level other ∷ links_from (ma
 
 -- the chain of item k
 abbrev pub chain_of : (List ℕ → List ℕ) → List Item → ℕ → List Link
-chain_of image items k = links_from (leaf_of_place items k).level (tree_path image items k)
+chain_of image items k = links_from (leaf_of_place image items k).level (tree_path image items k)
+
+-- the way of item k, the sides from the top down to it: for now that of its leaf
+abbrev pub item_way : List Item → ℕ → List Side
+item_way items k = way_of k (length items)
 
 -- the sides of links that stand from the bottom, from the top down
 abbrev pub sides_from_top : List Link → List Side

@@ -25,21 +25,29 @@ no_item = record { imprint = zero_imprint; level = 0 }
 abbrev pub item_at : List Item → ℕ → Item
 item_at items k = slice_index_or items k no_item
 
--- the leaf of an item: for now the same imprint and level
-abbrev pub leaf : Item → Node
-leaf item = record { imprint = item.imprint; level = item.level }
+-- the node of an item's own imprint and level: what its chain climbs from
+abbrev pub as_node : Item → Node
+as_node item = record { imprint = item.imprint; level = item.level }
 
--- the item that a node is submitted as: for now the same imprint and level
+-- the item that a node is submitted as
 abbrev pub as_item : Node → Item
 as_item node = record { imprint = node.imprint; level = node.level }
 
+-- the leaf that stands for an item in a tree: for now its own node
+abbrev pub leaf : (List ℕ → List ℕ) → Item → Node
+leaf image item = as_node item
+
+-- the level of an item's leaf: for now the item's own
+abbrev pub leaf_level : Item → ℕ
+leaf_level item = item.level
+
 -- the leaf of the tree at a place: that of the item there
-abbrev pub leaf_of_place : List Item → ℕ → Node
-leaf_of_place items k = leaf (item_at items k)
+abbrev pub leaf_of_place : (List ℕ → List ℕ) → List Item → ℕ → Node
+leaf_of_place image items k = leaf image (item_at items k)
 
 -- the tree over the n items from lo
 abbrev pub tree_from : (List ℕ → List ℕ) → List Item → ℕ → ℕ → Node
-tree_from image items lo n = tree (aggregation_join image) (leaf_of_place items) lo n
+tree_from image items lo n = tree (aggregation_join image) (leaf_of_place image items) lo n
 
 -- the tree of all items
 abbrev pub tree_of : (List ℕ → List ℕ) → List Item → Node
@@ -61,7 +69,7 @@ root_of image items = root_from (length items) (tree_of image items)
 -- the node that sides from the top lead to in the tree of the items up to the last, where there is one
 abbrev pub node_from : (List ℕ → List ℕ) → List Item → ℕ → List Side → Option Node
 node_from image items zero sides = None
-node_from image items (suc last) sides = node_at (aggregation_join image) (leaf_of_place items) last sides
+node_from image items (suc last) sides = node_at (aggregation_join image) (leaf_of_place image items) last sides
 
 -- the node of the tree that sides from the top lead to, where there is an item and they pass no leaf
 abbrev pub node_of : (List ℕ → List ℕ) → List Item → List Side → Option Node
@@ -69,20 +77,20 @@ node_of image items sides = node_from image items (length items) sides
 
 -- from item k up to the root, each other part with its level
 abbrev pub tree_path : (List ℕ → List ℕ) → List Item → ℕ → List (TreeLink Node)
-tree_path image items k = path_of (aggregation_join image) (leaf_of_place items) 0 k (length items)
+tree_path image items k = path_of (aggregation_join image) (leaf_of_place image items) 0 k (length items)
 
 -- how many items a round may have
 abbrev pub most_items : ℕ
 most_items = 65536
 
--- the highest level that an item may have
+-- the highest level that a leaf may have, and so an item
 abbrev pub highest_item : ℕ
 highest_item = 239
 
--- a round: so many items at most, each of such a level at most
+-- a round: so many items at most, the leaf of each of such a level at most
 pub record IsRound (items : List Item) : Type 0 where
   pub few : length items ≤ most_items
-  pub low : (k : ℕ) → (item_at items k).level ≤ highest_item
+  pub low : (k : ℕ) → leaf_level (item_at items k) ≤ highest_item
 
 -- ---- in the code
 
@@ -91,7 +99,7 @@ abbrev pub capped_join : (List ℕ → List ℕ) → Node → Node → Node
 capped_join image left right = joined_at image left right (min (max left.level right.level + 1) highest_level)
 
 -- what is kept beside the items: their leaves, before which no others stand
-pub record AreLeaves (leaves : Leaves Node) (items : List Item) : Type 0 where
+pub record AreLeaves (image : List ℕ → List ℕ) (leaves : Leaves Node) (items : List Item) : Type 0 where
   pub start : leaves.start ≡ 0
-  pub before : leaves.before ≡ leaf no_item
-  pub nodes : leaves.items ≡ map leaf items
+  pub before : leaves.before ≡ leaf image no_item
+  pub nodes : leaves.items ≡ map (leaf image) items

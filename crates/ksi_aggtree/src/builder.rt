@@ -1,9 +1,8 @@
 ghost use Rattle.std.specs.Prelude.{◌≡◌, ◌++◌, ◌∷◌, [], ◌<◌, ◌≤◌, ◌+◌, ◌↔◌, length, OnErr, IfOk};
-ghost use Rattle.ksi_split.specs.Ways.{way_of};
 ghost use Rattle.ksi_aggchain.specs.Climbing.{Climbs};
 ghost use Rattle.ksi_aggchain.specs.Owned.{plain_links};
-ghost use Rattle.ksi_aggtree.specs.Rounds.{most_items, highest_item, leaf, item_at, tree_of, root_of, node_of};
-ghost use Rattle.ksi_aggtree.specs.Paths.{chain_of, sides_from_top};
+ghost use Rattle.ksi_aggtree.specs.Rounds.{most_items, highest_item, leaf_level, as_node, item_at, tree_of, root_of, node_of};
+ghost use Rattle.ksi_aggtree.specs.Paths.{chain_of, item_way, sides_from_top};
 
 use crate::item::{Item, MOST_ITEMS};
 use crate::item_path::ItemPath;
@@ -41,7 +40,7 @@ impl<C: Compress> Model for Builder<C> {
 
     ghost view = { λ b. b.items.items };
 
-    ghost invariant = { λ b. AreLeaves b.rows b.items.items × IsRound b.items.items };
+    ghost invariant = { λ b. AreLeaves C.image b.rows b.items.items × IsRound b.items.items };
 }
 
 impl<C: Compress> Builder<C> {
@@ -56,7 +55,7 @@ impl<C: Compress> Builder<C> {
             imprint: Imprint::ZERO,
             level: 0,
         };
-        let rows = Rows::new(alloc, 0, none.leaf())?;
+        let rows = Rows::new(alloc, 0, none.leaf::<C>())?;
         Ok(Builder {
             items: Vec::new(alloc),
             rows,
@@ -75,7 +74,7 @@ impl<C: Compress> Builder<C> {
     pub fn item(&self, k: usize) -> Item
         requires { k < length self.now }
         ensures item { result ≡ item_at self.now k }
-        ensures low { result.level ≤ highest_item }
+        ensures low { leaf_level result ≤ highest_item }
     {
         self.items[k]
     }
@@ -106,7 +105,7 @@ impl<C: Compress> Builder<C> {
         }
     }
 
-    /// The links from the leaf of item `k`, which is below the count, up to the root, the lowest first, with the corrections that
+    /// The links from item `k`, which is below the count, up to the root, the lowest first, with the corrections that
     /// meet the tree's levels.
     ///
     /// # Errors
@@ -115,8 +114,8 @@ impl<C: Compress> Builder<C> {
         requires { k < length self.now }
         ensures links { IfOk result (λ links. links ≡ chain_of C.image self.now k) }
         ensures climbs { IfOk result (λ links.
-            Climbs C.image (leaf (item_at self.now k)) (plain_links links) (tree_of C.image self.now)) }
-        ensures way { IfOk result (λ links. sides_from_top links ≡ way_of k (length self.now)) }
+            Climbs C.image (as_node (item_at self.now k)) (plain_links links) (tree_of C.image self.now)) }
+        ensures way { IfOk result (λ links. sides_from_top links ≡ item_way self.now k) }
         ensures few { IfOk result (λ links. length links ≤ 16) }
     {
         path_from::<C, Brand>(self, k, Blank::new(1))
@@ -134,8 +133,8 @@ impl<C: Compress> Builder<C> {
         requires { k < length self.now }
         ensures links { IfOk result (λ links. links ≡ chain_of C.image self.now k) }
         ensures climbs { IfOk result (λ links.
-            Climbs C.image (leaf (item_at self.now k)) (plain_links links) (tree_of C.image self.now)) }
-        ensures way { IfOk result (λ links. sides_from_top links ≡ way_of k (length self.now)) }
+            Climbs C.image (as_node (item_at self.now k)) (plain_links links) (tree_of C.image self.now)) }
+        ensures way { IfOk result (λ links. sides_from_top links ≡ item_way self.now k) }
         ensures few { IfOk result (λ links. length links ≤ 16) }
         ensures most { steps.new ≤ steps.old + 32 }
         ensures least { IfOk result (λ links. steps.old + length links < steps.new) }
@@ -168,7 +167,7 @@ impl<C: Compress> Builder<C> {
     /// # Errors
     /// `Full` exactly where there are 65,536 items, or `NoMemory`: all is as it was.
     pub fn add(&mut self, item: Item) -> Result<usize, Refused<AddRefusal>>
-        requires { item.level ≤ highest_item }
+        requires { leaf_level item ≤ highest_item }
         ensures place { IfOk result (λ k. k ≡ length self.old) }
         ensures added { IfOk result (λ k. self.new ≡ self.old ++ item ∷ []) }
         ensures full { (result ≡ Err (Refused.Fault AddRefusal.Full)) ↔ (length self.old ≡ most_items) }
@@ -179,7 +178,7 @@ impl<C: Compress> Builder<C> {
             return Err(Refused::Fault(AddRefusal::Full));
         }
         reserve_one(&mut self.items)?;
-        self.rows.append(item.leaf())?;
+        self.rows.append(item.leaf::<C>())?;
         put(&mut self.items, item);
         Ok(place)
     }
@@ -196,8 +195,8 @@ fn path_from<C: Compress, L: Ledger>(
     requires there { k < length round.now }
     ensures links { IfOk result (λ links. links ≡ chain_of C.image round.now k) }
     ensures climbs { IfOk result (λ links.
-        Climbs C.image (leaf (item_at round.now k)) (plain_links links) (tree_of C.image round.now)) }
-    ensures way { IfOk result (λ links. sides_from_top links ≡ way_of k (length round.now)) }
+        Climbs C.image (as_node (item_at round.now k)) (plain_links links) (tree_of C.image round.now)) }
+    ensures way { IfOk result (λ links. sides_from_top links ≡ item_way round.now k) }
     ensures few { IfOk result (λ links. length links ≤ 16) }
 {
     let mut steps = Steps::<L>::open(blank);

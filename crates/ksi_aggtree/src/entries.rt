@@ -1,9 +1,8 @@
 ghost use Rattle.std.specs.Prelude.{◌≡◌, ◌++◌, ◌∷◌, [], ◌<◌, ◌≤◌, ◌↔◌, length, slice_get, Some, OnErr, IfOk};
-ghost use Rattle.ksi_split.specs.Ways.{way_of};
 ghost use Rattle.ksi_aggchain.specs.Climbing.{Climbs};
 ghost use Rattle.ksi_aggchain.specs.Owned.{plain_links};
-ghost use Rattle.ksi_aggtree.specs.Rounds.{most_items, highest_item, leaf, item_at, tree_of, root_of};
-ghost use Rattle.ksi_aggtree.specs.Paths.{chain_of, sides_from_top};
+ghost use Rattle.ksi_aggtree.specs.Rounds.{most_items, highest_item, leaf_level, as_node, item_at, tree_of, root_of};
+ghost use Rattle.ksi_aggtree.specs.Paths.{chain_of, item_way, sides_from_top};
 ghost use Rattle.ksi_aggtree.specs.Entries.{items_of, has_from, candidate_of};
 
 use crate::builder::{AddRefusal, Builder};
@@ -113,7 +112,7 @@ impl<C: Compress> Entries<C> {
         }
     }
 
-    /// The links from the leaf of item `k`, which is below the count, up to the root, the lowest first, with the corrections that
+    /// The links from item `k`, which is below the count, up to the root, the lowest first, with the corrections that
     /// meet the tree's levels.
     ///
     /// # Errors
@@ -122,8 +121,8 @@ impl<C: Compress> Entries<C> {
         requires { k < length self.now }
         ensures links { IfOk result (λ links. links ≡ chain_of C.image (items_of self.now) k) }
         ensures climbs { IfOk result (λ links.
-            Climbs C.image (leaf (item_at (items_of self.now) k)) (plain_links links) (tree_of C.image (items_of self.now))) }
-        ensures way { IfOk result (λ links. sides_from_top links ≡ way_of k (length self.now)) }
+            Climbs C.image (as_node (item_at (items_of self.now) k)) (plain_links links) (tree_of C.image (items_of self.now))) }
+        ensures way { IfOk result (λ links. sides_from_top links ≡ item_way (items_of self.now) k) }
         ensures few { IfOk result (λ links. length links ≤ 16) }
     {
         self.round.path(k)
@@ -145,7 +144,7 @@ impl<C: Compress> Entries<C> {
     /// # Errors
     /// `Full` exactly where there are 65,536 items, or `NoMemory`: all is as it was.
     pub fn add(&mut self, entry: Entry) -> Result<usize, Refused<AddRefusal>>
-        requires { entry.item.level ≤ highest_item }
+        requires { leaf_level entry.item ≤ highest_item }
         ensures place { IfOk result (λ k. k ≡ length self.old) }
         ensures added { IfOk result (λ k. self.new ≡ self.old ++ entry ∷ []) }
         ensures full { (result ≡ Err (Refused.Fault AddRefusal.Full)) ↔ (length self.old ≡ most_items) }

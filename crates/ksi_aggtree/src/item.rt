@@ -1,8 +1,8 @@
 ghost use Rattle.std.specs.Prelude.{◌≡◌};
-ghost use Rattle.ksi_aggtree.specs.Rounds.{leaf, as_item};
+ghost use Rattle.ksi_aggtree.specs.Rounds.{leaf, leaf_level, as_item};
 
 use ksi_aggchain::Node;
-use ksi_imprint::Imprint;
+use ksi_imprint::{Compress, Imprint};
 
 /// How many items a round may have.
 pub const MOST_ITEMS: usize = 65536;
@@ -28,9 +28,10 @@ impl Item {
         }
     }
 
-    /// The leaf of a tree that stands for the item.
-    pub fn leaf(&self) -> Node
-        ensures { result ≡ leaf self.now }
+    /// The leaf that stands for the item in a tree.
+    pub(crate) fn leaf<C: Compress>(&self) -> Node
+        ensures leaf { result ≡ leaf C.image self.now }
+        ensures level { result.level ≡ leaf_level self.now }
     {
         Node {
             imprint: self.imprint,

@@ -1,7 +1,7 @@
 //! What holds of the definitions of rounds, for the layers above to cite. None of these functions does anything.
 ghost use Rattle.std.specs.Prelude.{◌≡◌, ◌<◌, ◌≤◌, ◌+◌, ◌-◌, ◌^◌, ℕ, List, [], ◌∷◌, Some, None, length};
 ghost use Rattle.ksi_split.specs.Powers.{IsSplit};
-ghost use Rattle.ksi_split.specs.Ways.{way_of, LeadsTo, PassesLeaf};
+ghost use Rattle.ksi_split.specs.Ways.{LeadsTo, PassesLeaf};
 ghost use Rattle.ksi_split.specs.declared.side.Side.{Side};
 ghost use Rattle.ksi_aggchain.specs.Links.{highest_level};
 ghost use Rattle.ksi_aggchain.specs.Climbing.{Climbs};
@@ -9,41 +9,42 @@ ghost use Rattle.ksi_aggchain.specs.Owned.{plain_links};
 ghost use Rattle.ksi_aggchain.specs.declared.node.Node.{Node};
 ghost use Rattle.ksi_aggtree.specs.declared.item.Item.{Item};
 ghost use Rattle.ksi_split.specs.Trees.{tree, path_of, node_at};
-ghost use Rattle.ksi_aggtree.specs.Rounds.{most_items, IsRound, aggregation_join, capped_join, leaf, leaf_of_place, as_item, item_at, tree_from, tree_of, tree_path, node_of};
-ghost use Rattle.ksi_aggtree.specs.Paths.{chain_of, sides_from_top};
+ghost use Rattle.ksi_aggtree.specs.Rounds.{most_items, IsRound, aggregation_join, capped_join, leaf, leaf_level, leaf_of_place, as_item, as_node, item_at, tree_from, tree_of, tree_path, node_of};
+ghost use Rattle.ksi_aggtree.specs.Paths.{chain_of, item_way, sides_from_top};
 
 use ksi_aggchain::Node;
 use ksi_aggchain::laws::one_climb;
 use ksi_split::laws::one_split;
 use ksi_split::trees::{enough_levels, one_node, one_path, one_tree};
 
-/// A node that is submitted to a round stands in its tree as it is.
+/// A node that is submitted to a round stands in its tree as it is, and its chain climbs from it.
 pub fn one_leaf()
-    ensures submitted { (node : Node) → leaf (as_item node) ≡ node }
+    ensures submitted { (image : List ℕ → List ℕ) (node : Node) → leaf image (as_item node) ≡ node }
+    ensures alone { (node : Node) → as_node (as_item node) ≡ node }
 {}
 
 /// The tree of one item is its leaf. The tree of more is the join of the trees of both parts that they are split into,
-/// one level above the greater of these. In a round its level is at most 16 above the items' levels, so at most 255.
+/// one level above the greater of these. In a round its level is at most 16 above the leaves' levels, so at most 255.
 pub fn one_round()
     ensures one_item { (image : List ℕ → List ℕ) (items : List Item) (lo : ℕ) →
-        tree_from image items lo 1 ≡ leaf (item_at items lo) }
+        tree_from image items lo 1 ≡ leaf image (item_at items lo) }
     ensures cut { (image : List ℕ → List ℕ) (items : List Item) (lo n k : ℕ) → IsSplit n k →
         tree_from image items lo n ≡
         aggregation_join image (tree_from image items lo k) (tree_from image items (lo + k) (n - k)) }
     ensures level { (image : List ℕ → List ℕ) (items : List Item) (most : ℕ) → length items ≤ most_items →
-        ((k : ℕ) → (item_at items k).level ≤ most) → (tree_of image items).level ≤ most + 16 }
+        ((k : ℕ) → leaf_level (item_at items k) ≤ most) → (tree_of image items).level ≤ most + 16 }
 {
     one_tree::<Node>();
     enough_levels::<Node>();
 }
 
-/// In a round the chain of an item climbs from its leaf to the tree of all items. Its sides from the top are the item's
+/// In a round the chain of an item climbs from it to the tree of all items. Its sides from the top are the item's
 /// way, and it has at most 16 links.
 pub fn one_chain()
     ensures climbs { (image : List ℕ → List ℕ) (items : List Item) (k : ℕ) → IsRound items → k < length items →
-        Climbs image (leaf (item_at items k)) (plain_links (chain_of image items k)) (tree_of image items) }
+        Climbs image (as_node (item_at items k)) (plain_links (chain_of image items k)) (tree_of image items) }
     ensures way { (image : List ℕ → List ℕ) (items : List Item) (k : ℕ) →
-        sides_from_top (chain_of image items k) ≡ way_of k (length items) }
+        sides_from_top (chain_of image items k) ≡ item_way items k }
     ensures few { (image : List ℕ → List ℕ) (items : List Item) (k : ℕ) → length items ≤ most_items →
         length (chain_of image items k) ≤ 16 }
 {
@@ -72,12 +73,12 @@ pub fn one_part()
 /// level passes 255.
 pub(crate) fn no_cap()
     ensures root { (image : List ℕ → List ℕ) (items : List Item) → IsRound items →
-        tree (capped_join image) (leaf_of_place items) 0 (length items) ≡ tree_of image items }
+        tree (capped_join image) (leaf_of_place image items) 0 (length items) ≡ tree_of image items }
     ensures node { (image : List ℕ → List ℕ) (items : List Item) (last : ℕ) (sides : List Side) → IsRound items →
         length items ≡ last + 1 →
-        node_at (capped_join image) (leaf_of_place items) last sides ≡ node_of image items sides }
+        node_at (capped_join image) (leaf_of_place image items) last sides ≡ node_of image items sides }
     ensures path { (image : List ℕ → List ℕ) (items : List Item) (k : ℕ) → IsRound items →
-        path_of (capped_join image) (leaf_of_place items) 0 k (length items) ≡ tree_path image items k }
+        path_of (capped_join image) (leaf_of_place image items) 0 k (length items) ≡ tree_path image items k }
 {
     enough_levels::<Node>();
     one_split();

@@ -3,7 +3,7 @@ ghost use Rattle.std.specs.Prelude.{◌≡◌, ◌<◌, ◌≤◌, ◌+◌, ◌-
 ghost use Rattle.ksi_split.specs.Powers.{IsSplit, split_of};
 ghost use Rattle.ksi_split.specs.Parts.{part_at};
 ghost use Rattle.ksi_aggtree.specs.Reached.{reached};
-ghost use Rattle.ksi_aggtree.specs.Rounds.{most_items, highest_item, item_at, tree_from, tree_of, root_of, node_of, IsRound};
+ghost use Rattle.ksi_aggtree.specs.Rounds.{most_items, highest_item, leaf_level, item_at, tree_from, tree_of, root_of, node_of, IsRound};
 
 use crate::item::Item;
 use crate::laws::one_round;
@@ -23,8 +23,8 @@ pub fn node_over<C: Compress>(items: &[Item], sides: &[Side]) -> Option<Node>
 /// The tree of items and a last one behind them, together at most 65,536, of levels to 239.
 pub fn root_with<C: Compress>(items: &[Item], last: &Item) -> Node
     requires few { length items.now < most_items }
-    requires low { (k : ℕ) → (item_at items.now k).level ≤ highest_item }
-    requires last { last.now.level ≤ highest_item }
+    requires low { (k : ℕ) → leaf_level (item_at items.now k) ≤ highest_item }
+    requires last { leaf_level last.now ≤ highest_item }
     ensures { result ≡ tree_of C.image (items.now ++ last.now ∷ []) }
 {
     part::<C>(items, last, 0, items.len() + 1, 16)
@@ -33,8 +33,8 @@ pub fn root_with<C: Compress>(items: &[Item], last: &Item) -> Node
 /// The node of this tree that sides from the top lead to, none where they go past a leaf.
 pub(crate) fn node_with<C: Compress>(items: &[Item], last: &Item, sides: &[Side]) -> Option<Node>
     requires few { length items.now < most_items }
-    requires low { (k : ℕ) → (item_at items.now k).level ≤ highest_item }
-    requires last { last.now.level ≤ highest_item }
+    requires low { (k : ℕ) → leaf_level (item_at items.now k) ≤ highest_item }
+    requires last { leaf_level last.now ≤ highest_item }
     ensures { result ≡ node_of C.image (items.now ++ last.now ∷ []) sides.now }
 {
     let (first, count) = reached(0, items.len() + 1, sides)?;
@@ -47,14 +47,14 @@ fn part<C: Compress>(items: &[Item], last: &Item, first: usize, count: usize, he
     requires within { first + count ≤ length items.now + 1 }
     requires few { count ≤ 2 ^ height }
     requires height { height ≤ 16 }
-    requires low { (k : ℕ) → (item_at items.now k).level ≤ highest_item }
-    requires last { last.now.level ≤ highest_item }
+    requires low { (k : ℕ) → leaf_level (item_at items.now k) ≤ highest_item }
+    requires last { leaf_level last.now ≤ highest_item }
     ensures tree { result ≡ tree_from C.image (items.now ++ last.now ∷ []) first count }
     ensures level { result.level ≤ highest_item + height }
 {
     one_round();
     if count == 1 {
-        return item_or(items, last, first).leaf();
+        return item_or(items, last, first).leaf::<C>();
     }
     let half = left_half(count, height);
     let left = part::<C>(items, last, first, half, height - 1);
@@ -67,10 +67,10 @@ fn part<C: Compress>(items: &[Item], last: &Item, first: usize, count: usize, he
 /// The item at a place, behind the others the last.
 fn item_or(items: &[Item], last: &Item, place: usize) -> Item
     requires within { place ≤ length items.now }
-    requires low { (k : ℕ) → (item_at items.now k).level ≤ highest_item }
-    requires last { last.now.level ≤ highest_item }
+    requires low { (k : ℕ) → leaf_level (item_at items.now k) ≤ highest_item }
+    requires last { leaf_level last.now ≤ highest_item }
     ensures item { result ≡ item_at (items.now ++ last.now ∷ []) place }
-    ensures level { result.level ≤ highest_item }
+    ensures level { leaf_level result ≤ highest_item }
 {
     if place < items.len() {
         items[place]

@@ -1,9 +1,8 @@
 ghost use Rattle.std.specs.Prelude.{◌≡◌, ◌<◌, ◌≤◌, ◌+◌, length, IfOk};
-ghost use Rattle.ksi_split.specs.Ways.{way_of};
 ghost use Rattle.ksi_aggchain.specs.Climbing.{Climbs};
 ghost use Rattle.ksi_aggchain.specs.Owned.{plain_links};
-ghost use Rattle.ksi_aggtree.specs.Paths.{chain_of, sides_from_top};
-ghost use Rattle.ksi_aggtree.specs.Rounds.{item_at, leaf, tree_of};
+ghost use Rattle.ksi_aggtree.specs.Paths.{chain_of, item_way, sides_from_top};
+ghost use Rattle.ksi_aggtree.specs.Rounds.{item_at, as_node, tree_of};
 
 use crate::item::Item;
 use crate::item_path::ItemPath;
@@ -31,11 +30,11 @@ impl<'a, C: Compress> Model for RoundPaths<'a, C> {
 
     ghost view = { λ p. p.items.now };
 
-    ghost invariant = { λ p. AreLeaves p.paths.leaves p.items.now × IsRound p.items.now × (p.paths.last + 1 ≡ length p.items.now) };
+    ghost invariant = { λ p. AreLeaves C.image p.paths.leaves p.items.now × IsRound p.items.now × (p.paths.last + 1 ≡ length p.items.now) };
 }
 
 impl<'a, C: Compress> RoundPaths<'a, C> {
-    /// The links from the leaf of item `k`, as `Builder::path` gives them.
+    /// The links from item `k`, as `Builder::path` gives them.
     ///
     /// # Errors
     /// `NoMemory`: all is as it was.
@@ -43,14 +42,14 @@ impl<'a, C: Compress> RoundPaths<'a, C> {
         requires { k < length self.now }
         ensures links { IfOk result (λ links. links ≡ chain_of C.image self.now k) }
         ensures climbs { IfOk result (λ links.
-            Climbs C.image (leaf (item_at self.now k)) (plain_links links) (tree_of C.image self.now)) }
-        ensures way { IfOk result (λ links. sides_from_top links ≡ way_of k (length self.now)) }
+            Climbs C.image (as_node (item_at self.now k)) (plain_links links) (tree_of C.image self.now)) }
+        ensures way { IfOk result (λ links. sides_from_top links ≡ item_way self.now k) }
         ensures few { IfOk result (λ links. length links ≤ 16) }
     {
         no_cap();
         one_chain();
         let items = self.items;
-        let leaf = items[k].leaf();
+        let leaf = items[k].leaf::<C>();
         let others = self.paths.path(k as u64)?;
         ItemPath::beside(self.paths.alloc(), leaf.level, &others)
     }

@@ -1,7 +1,7 @@
 //! The tree over lent items.
 ghost use Rattle.std.specs.Prelude.{◌≡◌, ◌<◌, ◌≤◌, ◌-◌, ◌↔◌, ◌++◌, ◌∷◌, [], ℕ, Some, None, length};
 ghost use Rattle.ksi_split.specs.Ways.{LeadsTo, PassesLeaf};
-ghost use Rattle.ksi_aggtree.specs.Rounds.{most_items, highest_item, item_at, IsRound, some_items, tree_from, tree_of, node_of};
+ghost use Rattle.ksi_aggtree.specs.Rounds.{most_items, highest_item, leaf_level, item_at, IsRound, some_items, tree_from, tree_of, node_of};
 
 use crate::item::Item;
 use crate::laws::one_part;
@@ -46,8 +46,8 @@ impl<'a, C: Compress> Tree<'a, C> {
     /// The tree over a last item and the others before it.
     fn behind(others: &'a [Item], last: &'a Item) -> Self
         requires few { length others.now < most_items }
-        requires low { (k : ℕ) → (item_at others.now k).level ≤ highest_item }
-        requires last { last.now.level ≤ highest_item }
+        requires low { (k : ℕ) → leaf_level (item_at others.now k) ≤ highest_item }
+        requires last { leaf_level last.now ≤ highest_item }
         ensures { result ≡ others.now ++ last.now ∷ [] }
     {
         Tree {

@@ -9,14 +9,14 @@ use Rattle.ksi_aggtree.proofs.laws.one_chain.Goals as goal
 
 pub returns-clause-climbs : goal.returns-clause-climbs
 returns-clause-climbs c = λ image items k round there.
-    (c.one_climb.ensures.climbs image (leaf_of_place items k) (tree_of image items) (plain_links (chain_of image items k))).0
-    (item_climbs image items k (c.one_round.ensures.level image items 239 round.few round.low) there (c.one_path.ensures.climbs (aggregation_join image) (leaf_of_place items)))
+    (c.one_climb.ensures.climbs image (leaf_of_place image items k) (tree_of image items) (plain_links (chain_of image items k))).0
+    (item_climbs image items k (c.one_round.ensures.level image items 239 round.few round.low) there (c.one_path.ensures.climbs (aggregation_join image) (leaf_of_place image items)))
 
 pub returns-clause-way : goal.returns-clause-way
 returns-clause-way c = λ image items k.
-    ap reverse (links_sides (leaf_of_place items k).level (tree_path image items k) ∙ c.one_path.ensures.sides (aggregation_join image) (leaf_of_place items) 0 k (length items))
+    ap reverse (links_sides (leaf_of_place image items k).level (tree_path image items k) ∙ c.one_path.ensures.sides (aggregation_join image) (leaf_of_place image items) 0 k (length items))
     ∙ reverse-reverse (way_of k (length items))
 
 pub returns-clause-few : goal.returns-clause-few
 returns-clause-few c = λ image items k few.
-    omega (arith, links_count (leaf_of_place items k).level (tree_path image items k), c.one_path.ensures.length (aggregation_join image) (leaf_of_place items) 0 k (length items) 16 few)
+    omega (arith, links_count (leaf_of_place image items k).level (tree_path image items k), c.one_path.ensures.length (aggregation_join image) (leaf_of_place image items) 0 k (length items) 16 few)

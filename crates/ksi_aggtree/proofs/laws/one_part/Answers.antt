@@ -6,11 +6,11 @@ use Rattle.ksi_aggtree.proofs.laws.one_part.Goals as goal
 
 pub returns-clause-some : goal.returns-clause-some
 returns-clause-some c = λ image items last first count sides n leads.
-    sym (last_node image items sides (length items) last n) ∙ c.one_node.ensures.some (aggregation_join image) (leaf_of_place items) last first count sides leads
+    sym (last_node image items sides (length items) last n) ∙ c.one_node.ensures.some (aggregation_join image) (leaf_of_place image items) last first count sides leads
 
 pub returns-clause-none : goal.returns-clause-none
 returns-clause-none c = λ image items last place sides n passes.
-    sym (last_node image items sides (length items) last n) ∙ c.one_node.ensures.none (aggregation_join image) (leaf_of_place items) last place sides passes
+    sym (last_node image items sides (length items) last n) ∙ c.one_node.ensures.none (aggregation_join image) (leaf_of_place image items) last place sides passes
 
 pub returns-clause-level : goal.returns-clause-level
 returns-clause-level c = node_level c.enough_levels.ensures.tree (λ n some. (c.one_split.ensures.split n (split_of n) some).1 refl)

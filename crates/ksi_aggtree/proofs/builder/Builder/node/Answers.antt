@@ -9,7 +9,7 @@ returns-then-count-eq0 g c =
     let inside = c.self.inside in
     let size = ap (λ (items : List Item). length items) c.self.view_is in
     no_node g.C.Compress.image c.args.self.now c.args.sides.now (length c.args.self.now)
-    (omega (arith, size, leaves_count inside.rows inside.items.items c.self.invariant.0, c.count-count.ensures, c.if-count-eq0.true))
+    (omega (arith, size, leaves_count g.C.Compress.image inside.rows inside.items.items c.self.invariant.0, c.count-count.ensures, c.if-count-eq0.true))
 
 pub returns-else-count-eq0 : goal.returns-else-count-eq0
 returns-else-count-eq0 g c =
@@ -18,5 +18,5 @@ returns-else-count-eq0 g c =
     c.node.ensures
     ∙ round_node g.C.Compress.image inside.rows items c.self.invariant.0 (c.count-count.result - 1) c.args.sides.now
     (c.no_cap.ensures.node g.C.Compress.image items (c.count-count.result - 1) c.args.sides.now c.self.invariant.1
-    (omega (arith, leaves_count inside.rows items c.self.invariant.0, c.count-count.ensures, c.if-count-eq0.false)))
+    (omega (arith, leaves_count g.C.Compress.image inside.rows items c.self.invariant.0, c.count-count.ensures, c.if-count-eq0.false)))
     ∙ ap (λ (items : List Item). node_of g.C.Compress.image items c.args.sides.now) c.self.view_is

@@ -5,7 +5,7 @@ use Rattle.ksi_aggchain.specs.declared.link.Link.{Link}
 use Rattle.ksi_aggtree.specs.declared.item.Item.{Item}
 use Rattle.ksi_aggchain.specs.Climbing.{Climbs}
 use Rattle.ksi_aggchain.specs.Owned.{plain_links}
-use Rattle.ksi_aggtree.specs.Rounds.{leaf_of_place, tree_of, tree_path, IsRound}
+use Rattle.ksi_aggtree.specs.Rounds.{as_node, item_at, leaf_of_place, tree_of, tree_path, IsRound}
 use Rattle.ksi_aggtree.specs.Paths.{links_from, chain_of, sides_from_top}
 use Rattle.ksi_aggtree.proofs.Kept.{leaves_are, leaves_count, round_path}
 use Rattle.ksi_aggtree.proofs.Chains.{links_count}
@@ -16,11 +16,11 @@ beside-requires g c =
     let rows = c.self.inside.rows in
     let items = c.self.inside.items.items in
     let size = ap (λ (items : List Item). length items) c.self.view_is in
-    let all = leaves_count rows items c.self.invariant.0 in
+    let all = leaves_count g.C.Compress.image rows items c.self.invariant.0 in
     let path = round_path g.C.Compress.image rows items c.self.invariant.0 c.args.k (c.count-last.result - 1 + 1) (c.no_cap.ensures.path g.C.Compress.image items c.args.k c.self.invariant.1) (omega (arith, all, c.count-last.ensures, size, c.requires)) in
     let count = ap length (c.deref.ensures.value ∙ c.in_ok-others.ensures.path ∙ path) in
     let few = c.self.invariant.1.few in
-    omega (arith, count, links_count (leaf_of_place items c.args.k).level (tree_path g.C.Compress.image items c.args.k), c.one_chain.ensures.few g.C.Compress.image items c.args.k few)
+    omega (arith, count, links_count (leaf_of_place g.C.Compress.image items c.args.k).level (tree_path g.C.Compress.image items c.args.k), c.one_chain.ensures.few g.C.Compress.image items c.args.k few)
 
 pub returns : goal.returns
 returns g c =
@@ -30,21 +30,21 @@ returns g c =
     let rows = c.self.inside.rows in
     let items = c.self.inside.items.items in
     let size = ap (λ (items : List Item). length items) c.self.view_is in
-    let all = leaves_count rows items c.self.invariant.0 in
+    let all = leaves_count g.C.Compress.image rows items c.self.invariant.0 in
     let round : IsRound now = subst IsRound c.self.view_is c.self.invariant.1 in
     let few = round.few in
     let others : c.deref.result.now ≡ tree_path image now k = c.deref.ensures.value ∙ c.in_ok-others.ensures.path
     ∙ round_path image rows items c.self.invariant.0 k (c.count-last.result - 1 + 1) (c.no_cap.ensures.path image items k c.self.invariant.1) (omega (arith, all, c.count-last.ensures, size, c.requires))
     ∙ ap (λ (items : List Item). tree_path image items k) c.self.view_is in
-    let leaf : c.leaf_counted-leaf.result ≡ leaf_of_place now k
-    = c.leaf_counted-leaf.ensures.leaf ∙ ap (λ (leaf : ℕ → Node). leaf k) (leaves_are rows items c.self.invariant.0)
-    ∙ ap (λ (items : List Item). leaf_of_place items k) c.self.view_is in
+    let leaf : c.leaf_counted-leaf.result ≡ leaf_of_place g.C.Compress.image now k
+    = c.leaf_counted-leaf.ensures.leaf ∙ ap (λ (leaf : ℕ → Node). leaf k) (leaves_are g.C.Compress.image rows items c.self.invariant.0)
+    ∙ ap (λ (items : List Item). leaf_of_place g.C.Compress.image items k) c.self.view_is in
     let is : links_from c.leaf_counted-leaf.result.level c.deref.result.now ≡ chain_of image now k
-    = ap (λ (x : Node). links_from x.level c.deref.result.now) leaf ∙ ap (links_from (leaf_of_place now k).level) others in
+    = ap (λ (x : Node). links_from x.level c.deref.result.now) leaf ∙ ap (links_from (leaf_of_place g.C.Compress.image now k).level) others in
     record {
       links = IfOk-weaker c.beside.result _ _ (λ links h. h ∙ is) c.beside.ensures;
       climbs = IfOk-weaker c.beside.result _ _
-          (λ links h. subst (λ (chain : List Link). Climbs image (leaf_of_place now k) (plain_links chain) (tree_of image now)) (sym (h ∙ is)) (c.one_chain.ensures.climbs image now k round c.requires)) c.beside.ensures;
+          (λ links h. subst (λ (chain : List Link). Climbs image (as_node (item_at now k)) (plain_links chain) (tree_of image now)) (sym (h ∙ is)) (c.one_chain.ensures.climbs image now k round c.requires)) c.beside.ensures;
       way = IfOk-weaker c.beside.result _ _ (λ links h. ap sides_from_top (h ∙ is) ∙ c.one_chain.ensures.way image now k) c.beside.ensures;
       few = IfOk-weaker c.beside.result _ _ (λ links h. let n = ap length (h ∙ is) in omega (arith, n, c.one_chain.ensures.few image now k few)) c.beside.ensures;
       most = omega (arith, c.leaf_counted-leaf.ensures.cost, c.path_counted.ensures.cost 16 (omega (arith, c.count-last.ensures, c.requires, all, size, few)));
@@ -58,6 +58,6 @@ returns g c =
 pub returns-in_err-others-clause-most : goal.returns-in_err-others-clause-most
 returns-in_err-others-clause-most g c =
     let size = ap (λ (items : List Item). length items) c.self.view_is in
-    let all = leaves_count c.self.inside.rows c.self.inside.items.items c.self.invariant.0 in
+    let all = leaves_count g.C.Compress.image c.self.inside.rows c.self.inside.items.items c.self.invariant.0 in
     let few = c.self.invariant.1.few in
     omega (arith, c.path_counted.ensures.cost 16 (omega (arith, c.count-last.ensures, c.requires, all, size, few)))

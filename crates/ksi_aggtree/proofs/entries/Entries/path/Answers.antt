@@ -4,9 +4,8 @@ use Rattle.ksi_aggtree.specs.declared.item.Item.{Item}
 use Rattle.ksi_aggtree.specs.declared.entries.Entry.{Entry}
 use Rattle.ksi_aggchain.specs.Climbing.{Climbs}
 use Rattle.ksi_aggchain.specs.Owned.{plain_links}
-use Rattle.ksi_split.specs.Ways.{way_of}
-use Rattle.ksi_aggtree.specs.Rounds.{leaf_of_place, tree_of}
-use Rattle.ksi_aggtree.specs.Paths.{chain_of}
+use Rattle.ksi_aggtree.specs.Rounds.{as_node, item_at, tree_of}
+use Rattle.ksi_aggtree.specs.Paths.{chain_of, item_way}
 use Rattle.ksi_aggtree.specs.Entries.{items_of}
 use Rattle.ksi_aggtree.proofs.Beside.{beside_items, beside_count}
 use Rattle.ksi_aggtree.proofs.entries.Entries.path.Goals as goal
@@ -24,10 +23,9 @@ returns g c =
     let k = c.args.k in
     let now = c.args.self.now in
     let items : inside.round ≡ items_of now = sym (beside_items inside.origins.items inside.round c.self.invariant.count) ∙ ap items_of c.self.view_is in
-    let count : length inside.round ≡ length now = sym (beside_count inside.origins.items inside.round c.self.invariant.count) ∙ ap (λ (entries : List Entry). length entries) c.self.view_is in
     record {
       links = IfOk-weaker c.path.result _ _ (λ links h. h ∙ ap (λ (items : List Item). chain_of image items k) items) c.path.ensures.links;
-      climbs = IfOk-weaker c.path.result _ _ (λ links h. subst (λ (items : List Item). Climbs image (leaf_of_place items k) (plain_links links) (tree_of image items)) items h) c.path.ensures.climbs;
-      way = IfOk-weaker c.path.result _ _ (λ links h. h ∙ ap (way_of k) count) c.path.ensures.way;
+      climbs = IfOk-weaker c.path.result _ _ (λ links h. subst (λ (items : List Item). Climbs image (as_node (item_at items k)) (plain_links links) (tree_of image items)) items h) c.path.ensures.climbs;
+      way = IfOk-weaker c.path.result _ _ (λ links h. h ∙ ap (λ (items : List Item). item_way items k) items) c.path.ensures.way;
       few = c.path.ensures.few;
     }

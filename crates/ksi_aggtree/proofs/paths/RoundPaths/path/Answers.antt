@@ -6,7 +6,7 @@ use Rattle.ksi_aggchain.specs.declared.link.Link.{Link}
 use Rattle.ksi_aggtree.specs.declared.item.Item.{Item}
 use Rattle.ksi_aggchain.specs.Climbing.{Climbs}
 use Rattle.ksi_aggchain.specs.Owned.{plain_links}
-use Rattle.ksi_aggtree.specs.Rounds.{leaf, no_item, leaf_of_place, tree_of, tree_path, IsRound}
+use Rattle.ksi_aggtree.specs.Rounds.{as_node, item_at, leaf, no_item, leaf_of_place, tree_of, tree_path, IsRound}
 use Rattle.ksi_aggtree.specs.Paths.{links_from, chain_of, sides_from_top}
 use Rattle.ksi_aggtree.proofs.Kept.{round_path}
 use Rattle.ksi_aggtree.proofs.Chains.{links_count}
@@ -20,7 +20,7 @@ beside-requires g c =
     let few = c.self.invariant.1.few in
     let path = round_path image paths.leaves items c.self.invariant.0 c.args.k (paths.last + 1) (c.no_cap.ensures.path image items c.args.k c.self.invariant.1) c.self.invariant.2 in
     let count = ap length (c.deref.ensures.value ∙ c.in_ok-others.ensures ∙ path) in
-    omega (arith, count, links_count (leaf_of_place items c.args.k).level (tree_path image items c.args.k), c.one_chain.ensures.few image items c.args.k few)
+    omega (arith, count, links_count (leaf_of_place image items c.args.k).level (tree_path image items c.args.k), c.one_chain.ensures.few image items c.args.k few)
 
 pub returns : goal.returns
 returns g c =
@@ -35,14 +35,14 @@ returns g c =
     ∙ ap (λ (items : List Item). tree_path image items k) c.self.view_is in
     let size = ap (λ (items : List Item). length items) c.self.view_is in
     let item = get_or_read_under items k (length items) c.index-items-k.result no_item c.index-items-k.is (omega (arith, size, c.requires)) refl in
-    let level : c.leaf-leaf.result ≡ leaf_of_place now k
-    = c.leaf-leaf.ensures ∙ ap leaf item ∙ ap (λ (items : List Item). leaf_of_place items k) c.self.view_is in
+    let level : c.leaf-leaf.result ≡ leaf_of_place image now k
+    = c.leaf-leaf.ensures.leaf ∙ ap (leaf image) item ∙ ap (λ (items : List Item). leaf_of_place image items k) c.self.view_is in
     let is : links_from c.leaf-leaf.result.level c.deref.result.now ≡ chain_of image now k
-    = ap (λ (x : Node). links_from x.level c.deref.result.now) level ∙ ap (links_from (leaf_of_place now k).level) others in
+    = ap (λ (x : Node). links_from x.level c.deref.result.now) level ∙ ap (links_from (leaf_of_place image now k).level) others in
     record {
       links = IfOk-weaker c.beside.result _ _ (λ links h. h ∙ is) c.beside.ensures;
       climbs = IfOk-weaker c.beside.result _ _
-          (λ links h. subst (λ (chain : List Link). Climbs image (leaf_of_place now k) (plain_links chain) (tree_of image now)) (sym (h ∙ is)) (c.one_chain.ensures.climbs image now k round c.requires)) c.beside.ensures;
+          (λ links h. subst (λ (chain : List Link). Climbs image (as_node (item_at now k)) (plain_links chain) (tree_of image now)) (sym (h ∙ is)) (c.one_chain.ensures.climbs image now k round c.requires)) c.beside.ensures;
       way = IfOk-weaker c.beside.result _ _ (λ links h. ap sides_from_top (h ∙ is) ∙ c.one_chain.ensures.way image now k) c.beside.ensures;
       few = IfOk-weaker c.beside.result _ _ (λ links h. let n = ap length (h ∙ is) in omega (arith, n, c.one_chain.ensures.few image now k round.few)) c.beside.ensures;
     }
