@@ -9,19 +9,13 @@ ghost use Rattle.ksi_aggchain.specs.Owned.{plain_links};
 ghost use Rattle.ksi_aggchain.specs.declared.node.Node.{Node};
 ghost use Rattle.ksi_aggtree.specs.declared.item.Item.{Item};
 ghost use Rattle.ksi_split.specs.Trees.{tree, path_of, node_at};
-ghost use Rattle.ksi_aggtree.specs.Rounds.{most_items, IsRound, aggregation_join, capped_join, leaf, leaf_level, leaf_of_place, as_item, as_node, item_at, tree_from, tree_of, tree_path, node_of};
+ghost use Rattle.ksi_aggtree.specs.Rounds.{most_items, IsRound, aggregation_join, capped_join, leaf, leaf_level, leaf_of_place, as_node, item_at, tree_from, tree_of, tree_path, node_of};
 ghost use Rattle.ksi_aggtree.specs.Paths.{chain_of, item_way, sides_from_top};
 
 use ksi_aggchain::Node;
 use ksi_aggchain::laws::one_climb;
 use ksi_split::laws::one_split;
 use ksi_split::trees::{enough_levels, one_node, one_path, one_tree};
-
-/// A node that is submitted to a round stands in its tree as it is, and its chain climbs from it.
-pub fn one_leaf()
-    ensures submitted { (image : List ℕ → List ℕ) (node : Node) → leaf image (as_item node) ≡ node }
-    ensures alone { (node : Node) → as_node (as_item node) ≡ node }
-{}
 
 /// The tree of one item is its leaf. The tree of more is the join of the trees of both parts that they are split into,
 /// one level above the greater of these. In a round its level is at most 16 above the leaves' levels, so at most 255.

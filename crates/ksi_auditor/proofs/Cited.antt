@@ -33,7 +33,7 @@ pub record Laws : Type 0 where
   pub second : (p t : ℕ) (sides : List Side) → (second_at p sides ≡ Ok t) ↔ NamesSecond p sides t
   pub calendar_one : (image : List ℕ → List ℕ) (seconds : Seconds) (lo : ℕ) → calendar_tree image seconds lo 1 ≡ calendar_leaf seconds lo
   pub calendar_cut : (image : List ℕ → List ℕ) (seconds : Seconds) (lo n k : ℕ) → IsSplit n k → calendar_tree image seconds lo n ≡ calendar_join image (calendar_tree image seconds lo k) (calendar_tree image seconds (lo + k) (n - k))
-  pub aggregation_one : (image : List ℕ → List ℕ) (items : List Item) (lo : ℕ) → tree_from image items lo 1 ≡ leaf (item_at items lo)
+  pub aggregation_one : (image : List ℕ → List ℕ) (items : List Item) (lo : ℕ) → tree_from image items lo 1 ≡ leaf image (item_at items lo)
   pub aggregation_cut : (image : List ℕ → List ℕ) (items : List Item) (lo n k : ℕ) → IsSplit n k → tree_from image items lo n ≡ aggregation_join image (tree_from image items lo k) (tree_from image items (lo + k) (n - k))
   pub climbs : (image : List ℕ → List ℕ) (start top : Node) (links : List PlainLink) → (climbed image 0 start links ≡ Ok top) ↔ Climbs image start links top
   pub calendar_climbs : (image : List ℕ → List ℕ) (start top : List ℕ) (links : List (TreeLink (List ℕ))) → ClimbsCalendar image start links top ↔ (top ≡ climb_links (calendar_join image) start links)

@@ -114,4 +114,4 @@ module _ (leaves : (n : ℕ) (sides : List Side) (part : Part) → 0 < n → par
     where
       of : (n : ℕ) → n ≤ 65536 → rounds.node_from image items n sides ≡ None
       of zero few = refl
-      of (suc last) few = deep (rounds.aggregation_join image) (rounds.leaf_of_place items) last 63 sides (omega (arith, few)) long
+      of (suc last) few = deep (rounds.aggregation_join image) (rounds.leaf_of_place image items) last 63 sides (omega (arith, few)) long

@@ -19,4 +19,4 @@ module _ (leaves : (n : ℕ) (sides : List Side) (part : Part) → 0 < n → par
     where
       of : (n : ℕ) → node_from image items n (sides ++ Left ∷ []) ≡ Some left → node_from image items n (sides ++ Right ∷ []) ≡ Some right → node_from image items n sides ≡ Some (aggregation_join image left right)
       of zero l r = absurd cc
-      of (suc last) l r = both_join (aggregation_join image) (leaf_of_place items) last leaves split (cut image items) sides left right l r
+      of (suc last) l r = both_join (aggregation_join image) (leaf_of_place image items) last leaves split (cut image items) sides left right l r

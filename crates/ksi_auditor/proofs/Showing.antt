@@ -167,21 +167,21 @@ module _ (laws : Laws) (image : List ℕ → List ℕ) (lawful : (bytes : List �
     aggregation_hashes q more = ap (λ (x : Node). x.imprint) (laws.aggregation_cut image items q.first q.count (split_of q.count) ((laws.split q.count (split_of q.count) more).1 refl))
 
     aggregation_sizes : (q : Part) → length (aggregation_imprint q) ≡ 33
-    aggregation_sizes q = all_of_tree (λ (x : Node). length x.imprint ≡ 33) (rounds.aggregation_join image) (rounds.leaf_of_place items) (λ a b. sizes _) each q.first q.count
+    aggregation_sizes q = all_of_tree (λ (x : Node). length x.imprint ≡ 33) (rounds.aggregation_join image) (rounds.leaf_of_place image items) (λ a b. sizes _) each q.first q.count
 
-    aggregation_open : (sides : List Side) → rounds.node_of image items sides ≡ node_at (rounds.aggregation_join image) (rounds.leaf_of_place items) last sides
+    aggregation_open : (sides : List Side) → rounds.node_of image items sides ≡ node_at (rounds.aggregation_join image) (rounds.leaf_of_place image items) last sides
     aggregation_open sides = ap (λ (n : ℕ). rounds.node_from image items n sides) len
 
     aggregation_one : (sides : List Side) (q : Part) → part_at 0 (whole (last + 1)) sides ≡ Ok q → q.count ≡ 1 → items_text image items sides ≡ None
     aggregation_one sides q e one = ap (λ (o : Option Node). joined_items o (rounds.node_of image items (sides ++ Right ∷ [])))
-        (aggregation_open (sides ++ Left ∷ []) ∙ node_past (rounds.aggregation_join image) (rounds.leaf_of_place items) last laws.parts laws.split (laws.aggregation_cut image items) sides Left q e one)
+        (aggregation_open (sides ++ Left ∷ []) ∙ node_past (rounds.aggregation_join image) (rounds.leaf_of_place image items) last laws.parts laws.split (laws.aggregation_cut image items) sides Left q e one)
 
     aggregation_more : (sides : List Side) (q : Part) → part_at 0 (whole (last + 1)) sides ≡ Ok q → 1 < q.count → items_text image items sides ≡ Some (aggregation_string q)
     aggregation_more sides q e more =
         ap (λ (o : Option Node). joined_items o (rounds.node_of image items (sides ++ Right ∷ [])))
-        (aggregation_open (sides ++ Left ∷ []) ∙ node_below (rounds.aggregation_join image) (rounds.leaf_of_place items) last laws.parts laws.split (laws.aggregation_cut image items) sides Left q e more)
+        (aggregation_open (sides ++ Left ∷ []) ∙ node_below (rounds.aggregation_join image) (rounds.leaf_of_place image items) last laws.parts laws.split (laws.aggregation_cut image items) sides Left q e more)
         ∙ ap (λ (o : Option Node). joined_items (Some (aggregation_at (half_of q Left))) o)
-        (aggregation_open (sides ++ Right ∷ []) ∙ node_below (rounds.aggregation_join image) (rounds.leaf_of_place items) last laws.parts laws.split (laws.aggregation_cut image items) sides Right q e more)
+        (aggregation_open (sides ++ Right ∷ []) ∙ node_below (rounds.aggregation_join image) (rounds.leaf_of_place image items) last laws.parts laws.split (laws.aggregation_cut image items) sides Right q e more)
 
   -- ---- an accepted signature whose publication is decided
 
@@ -279,7 +279,7 @@ module _ (laws : Laws) (image : List ℕ → List ℕ) (lawful : (bytes : List �
             second = names;
             all = refl;
             node = ap (imprint_at image items) sides
-                ∙ ap (option_map (λ (x : Node). x.imprint)) (aggregation_open items each last len (map rung_side passed) ∙ ap (node_in (rounds.aggregation_join image) (rounds.leaf_of_place items)) reached)
+                ∙ ap (option_map (λ (x : Node). x.imprint)) (aggregation_open items each last len (map rung_side passed) ∙ ap (node_in (rounds.aggregation_join image) (rounds.leaf_of_place image items)) reached)
                 ∙ ap (λ (x : List ℕ). Some x) (sym rest);
           }
 

@@ -6,7 +6,7 @@ use Rattle.ksi_split.specs.Ways.{IsWay, NamesSecond}
 use Rattle.ksi_aggchain.specs.Climbing.{Climbs}
 use Rattle.ksi_aggchain.specs.declared.node.Node.{Node}
 use Rattle.ksi_aggtree.specs.declared.item.Item.{Item}
-use Rattle.ksi_aggtree.specs.Rounds.{leaf_of_place, node_of}
+use Rattle.ksi_aggtree.specs.Rounds.{item_at, node_of}
 use Rattle.ksi_beside.specs.Beside.{AreShort}
 use Rattle.ksi_calchain.specs.Sides.{sides_from_top}
 use Rattle.ksi_calendar.specs.Covered.{IsCovered, covered_root}
@@ -34,7 +34,7 @@ pub record IsInside (image : List ℕ → List ℕ) (journal : Contents) (signat
   pub all : way ≡ link_sides signature
   pub node : imprint_at image (items_at journal t) way ≡ Some hash
 
--- the lowest `links` links lead from the hash, at level 0, to the leaf of an item that is kept for the second, and the sides of the
+-- the lowest `links` links lead from the hash, at level 0, to an item that is kept for the second, and the sides of the
 -- other ones are that item's way
 pub record IsBeneath (image : List ℕ → List ℕ) (journal : Contents) (signature : Signature) (hash : List ℕ) (t item links : ℕ) : Type 0 where
   pub second : Names signature t
@@ -43,7 +43,7 @@ pub record IsBeneath (image : List ℕ → List ℕ) (journal : Contents) (signa
   pub within : links ≤ length (links_of signature)
   pub top : Node
   pub climbs : Climbs image (at_level_zero hash) (take links (links_of signature)) top
-  pub imprint : top.imprint ≡ (leaf_of_place (items_at journal t) item).imprint
+  pub imprint : top.imprint ≡ (item_at (items_at journal t) item).imprint
   pub way : IsWay item (length (items_at journal t)) (take (length (links_of signature) - links) (link_sides signature))
 
 -- the signature's publication is decided: all seconds from the start to its time are kept, and its links lead to their root

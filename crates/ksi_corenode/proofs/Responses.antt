@@ -25,7 +25,7 @@ links_nodes (other ∷ others) level = (tt, links_nodes others _)
 pub round_links : (image : List ℕ → List ℕ) (items : List Item) (k : ℕ) (links : List Link) → links ≡ chain_of image items k → length links ≤ 16 → AreRoundLinks links
 round_links image items k links is few = record {
   count = few;
-  nodes = subst (λ (links : List Link). AllByRecursion (λ (link : Link). IsNode link.sibling) links) (sym is) (links_nodes (tree_path image items k) (leaf_of_place items k).level);
+  nodes = subst (λ (links : List Link). AllByRecursion (λ (link : Link). IsNode link.sibling) links) (sym is) (links_nodes (tree_path image items k) (leaf_of_place image items k).level);
 }
 
 -- links and the sides of them are as many

@@ -134,7 +134,7 @@ module _ (P : List ℕ → Type 0) (zero_too : P zero_imprint) (image : List ℕ
   joined_is a b = images (join_text a.imprint b.imprint (max a.level b.level + 1))
 
   pub round_of : (es : List Entry) → OfEntries P es → OfNode P (tree_of image (items_of es))
-  round_of es all = tree_is Node (OfNode P) (aggregation_join image) joined_is (leaf_of_place (items_of es)) (item_of P zero_too es all) 0 (length (items_of es))
+  round_of es all = tree_is Node (OfNode P) (aggregation_join image) joined_is (leaf_of_place image (items_of es)) (item_of P zero_too es all) 0 (length (items_of es))
 
   pub candidate_is : (es : List Entry) → OfEntries P es → P (candidate_of image es)
   candidate_is [] all = zero_too
@@ -146,12 +146,12 @@ module _ (P : List ℕ → Type 0) (zero_too : P zero_imprint) (image : List ℕ
     chain_carried es k round lt all =
         let items = items_of es in
         let top = rises items 239 round.few round.low in
-        let high = sum (leaf_of_place items k) (tree_of image items) (plain_links (chain_of image items k)) (climb items k round lt) in
+        let high = sum (leaf_of_place image items k) (tree_of image items) (plain_links (chain_of image items k)) (climb items k round lt) in
         record {
           input = item_of P zero_too es all k;
-          limits = record { count = few items k round.few; nodes = nodes (leaf_of_place items k).level (tree_path image items k) };
-          links = low_links P (leaf_of_place items k).level (chain_of image items k) (omega (arith, top, high))
-              (beside P (leaf_of_place items k).level (tree_path image items k) (path_is Node (OfNode P) (aggregation_join image) joined_is (leaf_of_place items) (item_of P zero_too es all) 0 k (length items)));
+          limits = record { count = few items k round.few; nodes = nodes (leaf_of_place image items k).level (tree_path image items k) };
+          links = low_links P (leaf_of_place image items k).level (chain_of image items k) (omega (arith, top, high))
+              (beside P (leaf_of_place image items k).level (tree_path image items k) (path_is Node (OfNode P) (aggregation_join image) joined_is (leaf_of_place image items) (item_of P zero_too es all) 0 k (length items)));
         }
 
   -- CALENDARS

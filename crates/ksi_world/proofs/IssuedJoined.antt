@@ -4,7 +4,7 @@ use Rattle.std.specs.Prelude.{slice_get}
 use Rattle.ksi_calendar.specs.Calendar.{Seconds, calendar_path}
 use Rattle.ksi_aggchain.specs.declared.node.Node.{Node}
 use Rattle.ksi_aggtree.specs.declared.item.Item.{Item}
-use Rattle.ksi_aggtree.specs.Rounds.{leaf, item_at, tree_of}
+use Rattle.ksi_aggtree.specs.Rounds.{as_node, item_at, tree_of}
 use Rattle.ksi_aggtree.specs.Paths.{chain_of}
 use Rattle.ksi_aggtree.specs.Entries.{items_of}
 use Rattle.ksi_signature.specs.Issued.{own_chain}
@@ -61,7 +61,7 @@ module _ (image : List ℕ → List ℕ) (plan : PlanState) (is : IsPlan plan) (
       text_is = at.text;
       top = joins.top;
       climbs = subst (λ (start : Node). ChainsClimb image start (own_chain at.item.imprint (chain_of image (items_of at.entries) k) ∷ at.above.chains) joins.top) item_is
-          (subst (λ input. ChainsClimb image (leaf at.item) (own_chain input (chain_of image (items_of at.entries) k) ∷ at.above.chains) joins.top) (ap (λ (x : Item). x.imprint) there.0) joins.climbs);
+          (subst (λ input. ChainsClimb image (as_node at.item) (own_chain input (chain_of image (items_of at.entries) k) ∷ at.above.chains) joins.top) (ap (λ (x : Item). x.imprint) there.0) joins.climbs);
       root_is = joins.root_is;
       kept = kept_holds image plan is law es are joins.core t at.above.root joins.there joins.held;
       real = joins.real;
@@ -90,16 +90,16 @@ module _ (image : List ℕ → List ℕ) (plan : PlanState) (is : IsPlan plan) (
         round : IsRoundAt plan (actors.Aggregator asked.aggregator) (length (after image plan es).requests) at.entries
         round = ((after_sound image plan is rises es are).rounds asked.aggregator t).closed at.entries closed
 
-        tree_is : tree_of image (items_of at.entries) ≡ leaf answer.item
+        tree_is : tree_of image (items_of at.entries) ≡ as_node answer.item
         tree_is =
             let both : Some at.entries ≡ Some answer.closed.entries = sym closed ∙ answer.closed.closed in
             let same : at.entries ≡ answer.closed.entries = cc both in
-            ap (λ es. tree_of image (items_of es)) same ∙ ap leaf answer.closed.item_is
+            ap (λ es. tree_of image (items_of es)) same ∙ ap as_node answer.closed.item_is
 
         there : (item_at (items_of at.entries) k ≡ at.item) × (k < length (items_of at.entries))
         there = entry_at image plan at.entries k (from_request number at.item) at.request
 
-        joins : Joins image plan (after image plan es) t (leaf at.item) (told.below image at.above (items_of at.entries) k)
+        joins : Joins image plan (after image plan es) t (as_node at.item) (told.below image at.above (items_of at.entries) k)
         joins = joins_below image plan climb (after image plan es) t at.above at.entries
             (round_is image plan is (actors.Aggregator asked.aggregator) (length (after image plan es).requests) at.entries round.are round.few)
             (subst (λ (node : Node). Joins image plan (after image plan es) t node at.above) (sym tree_is) answer.joins)
@@ -108,7 +108,7 @@ module _ (image : List ℕ → List ℕ) (plan : PlanState) (is : IsPlan plan) (
         too : HeldToo (held_in (after image plan es) joins.core) (kept_root plan (after image plan es)) plan.start t
         too = kept_too image plan is law es are joins.core t joins.there
 
-        item_is : leaf at.item ≡ record { imprint = at.item.imprint; level = 0 }
+        item_is : as_node at.item ≡ record { imprint = at.item.imprint; level = 0 }
         item_is = let leveled : ℕ → Node = λ level. record { imprint = at.item.imprint; level = level } in ap leveled asked_is.level
 
     pub issued_joined : (number : ℕ) (text : List ℕ) → issued_of image (after image plan es) number ≡ Some text → IsJoined image plan (after image plan es) number text

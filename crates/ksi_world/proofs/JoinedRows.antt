@@ -9,7 +9,7 @@ use Rattle.ksi_calendar.specs.Calendar.{calendar_path}
 use Rattle.ksi_aggchain.specs.declared.node.Node.{Node}
 use Rattle.ksi_aggtree.specs.declared.item.Item.{Item}
 use Rattle.ksi_aggtree.specs.declared.entries.Entry.{Entry}
-use Rattle.ksi_aggtree.specs.Rounds.{IsRound, leaf, tree_of}
+use Rattle.ksi_aggtree.specs.Rounds.{IsRound, as_node, tree_of}
 use Rattle.ksi_aggtree.specs.Entries.{items_of, has_from, is_full, candidate_of}
 use Rattle.ksi_synod.specs.declared.messages.SynodMessage.{SynodMessage}
 use Rattle.ksi_synod.specs.Rows.{try_ballot, ballot_told, receive, held_told}
@@ -242,11 +242,11 @@ module _ (image : List ℕ → List ℕ) (plan : PlanState) (is : IsPlan plan) (
           round : IsRoundAt plan (actors.Aggregator k) (length w.requests) (e ∷ es)
           round = (sound.rounds k t).closed (e ∷ es) closed
 
-          tree_is : tree_of image (items_of (e ∷ es)) ≡ leaf answer.item
+          tree_is : tree_of image (items_of (e ∷ es)) ≡ as_node answer.item
           tree_is =
               let both : Some (e ∷ es) ≡ Some answer.closed.entries = sym closed ∙ answer.closed.closed in
               let same : e ∷ es ≡ answer.closed.entries = cc both in
-              ap (λ es. tree_of image (items_of es)) same ∙ ap leaf answer.closed.item_is
+              ap (λ es. tree_of image (items_of es)) same ∙ ap as_node answer.closed.item_is
 
       by : (closed : Option (List Entry)) → (w.rounds k t).closed ≡ closed → (answered : Option Above) → AllJoined image plan (at_round plan w k t (response_where image above closed answered (w.rounds k t))).world
       by None at answered = round_stays k t answers.Nothing

@@ -5,7 +5,7 @@ use Rattle.ksi_aggtree.specs.declared.item.Item.{Item}
 use Rattle.ksi_aggtree.specs.declared.entries.Entry.{Entry}
 use Rattle.ksi_aggtree.specs.declared.entries.Origin.{Origin}
 use Rattle.ksi_aggtree.specs.declared.entries.Origin.TheVariants as origins
-use Rattle.ksi_aggtree.specs.Rounds.{IsRound, leaf, tree_of}
+use Rattle.ksi_aggtree.specs.Rounds.{IsRound, as_node, tree_of}
 use Rattle.ksi_aggtree.specs.Entries.{items_of}
 use Rattle.ksi_synod.specs.declared.messages.SynodMessage.{SynodMessage}
 use Rattle.ksi_synod.specs.declared.messages.SynodMessage.TheVariants as message
@@ -199,7 +199,7 @@ module _ (image : List ℕ → List ℕ) (plan : PlanState) where
       subst (λ n. IsAnswer image plan w' a t (below image above (items_of entries) n)) (sym (zero-add i)) (record {
         item = item;
         closed = closed_later image plan w w' grew a t item (submitted i a item at);
-        joins = joins_later image plan w w' grew t (leaf item) (below image above (items_of entries) i) (joins_below image plan climb w t above entries round joins i (submitted_entry a item) at);
+        joins = joins_later image plan w w' grew t (as_node item) (below image above (items_of entries) i) (joins_below image plan climb w t above entries round joins i (submitted_entry a item) at);
       })
 
   pub fresh_joined : (w : WorldState) (k t : ℕ) → IsJoinedRound w k t fresh_round

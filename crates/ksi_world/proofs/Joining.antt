@@ -11,7 +11,7 @@ use Rattle.ksi_aggchain.specs.Climbing.{Climbs}
 use Rattle.ksi_aggchain.specs.Owned.{plain_links}
 use Rattle.ksi_aggtree.specs.declared.entries.Entry.{Entry}
 use Rattle.ksi_aggtree.specs.declared.entries.Origin.TheVariants as origins
-use Rattle.ksi_aggtree.specs.Rounds.{IsRound, leaf, as_item, item_at, tree_of}
+use Rattle.ksi_aggtree.specs.Rounds.{IsRound, as_node, as_item, item_at, tree_of}
 use Rattle.ksi_aggtree.specs.Paths.{chain_of}
 use Rattle.ksi_aggtree.specs.Entries.{items_of}
 use Rattle.ksi_signature.specs.declared.above.Above.{Above}
@@ -34,7 +34,7 @@ use Rattle.ksi_world.proofs.Turning.{get_push}
 
 -- the law of chains
 abbrev pub ItemClimbs : (List ℕ → List ℕ) → Type 0
-ItemClimbs image = (items : List Item) (k : ℕ) → IsRound items → k < length items → Climbs image (leaf (item_at items k)) (plain_links (chain_of image items k)) (tree_of image items)
+ItemClimbs image = (items : List Item) (k : ℕ) → IsRound items → k < length items → Climbs image (as_node (item_at items k)) (plain_links (chain_of image items k)) (tree_of image items)
 
 module _ (image : List ℕ → List ℕ) (plan : PlanState) where
   -- the aggregator has closed this round, and submits this item for it
@@ -61,7 +61,7 @@ module _ (image : List ℕ → List ℕ) (plan : PlanState) where
   pub record IsAnswer (w : WorldState) (a t : ℕ) (above : Above) : Type 0 where
     pub item : Item
     pub closed : IsClosedAs w a t item
-    pub joins : Joins w t (leaf item) above
+    pub joins : Joins w t (as_node item) above
 
   -- each item of an aggregator is what it submitted
   abbrev pub AreSubmitted : WorldState → (t : ℕ) → List Entry → Type 0
@@ -112,7 +112,7 @@ module _ (image : List ℕ → List ℕ) (plan : PlanState) where
         }
 
     pub answer_later : (a t : ℕ) (above : Above) → IsAnswer w a t above → IsAnswer w' a t above
-    answer_later a t above is = record { item = is.item; closed = closed_later a t is.item is.closed; joins = joins_later t (leaf is.item) above is.joins }
+    answer_later a t above is = record { item = is.item; closed = closed_later a t is.item is.closed; joins = joins_later t (as_node is.item) above is.joins }
 
     pub submitted_later : (t : ℕ) (entries : List Entry) → AreSubmitted w t entries → AreSubmitted w' t entries
     submitted_later t entries are i a item at = closed_later a t item (are i a item at)
@@ -173,10 +173,10 @@ module _ (image : List ℕ → List ℕ) (plan : PlanState) where
   }
 
   pub joins_below : ItemClimbs image → (w : WorldState) (t : ℕ) (above : Above) (all : List Entry) → IsRound (items_of all) → Joins w t (tree_of image (items_of all)) above → (k : ℕ) (e : Entry) → slice_get all k ≡ Some e →
-      Joins w t (leaf e.item) (below image above (items_of all) k)
+      Joins w t (as_node e.item) (below image above (items_of all) k)
   joins_below climb w t above all round joins k e at =
       let there = entry_at all k e at in
-      let climbs = subst (λ (x : Item). Climbs image (leaf x) (plain_links (chain_of image (items_of all) k)) (tree_of image (items_of all))) there.0 (climb (items_of all) k round there.1) in
+      let climbs = subst (λ (x : Item). Climbs image (as_node x) (plain_links (chain_of image (items_of all) k)) (tree_of image (items_of all))) there.0 (climb (items_of all) k round there.1) in
       record {
         top = joins.top;
         climbs = (tree_of image (items_of all), ap (λ (x : Item). x.imprint) there.0, climbs, joins.climbs);

@@ -8,7 +8,7 @@ use Rattle.ksi_split.specs.declared.tree_link.TreeLink.{TreeLink}
 use Rattle.ksi_calchain.specs.Climbing.{ClimbsCalendar}
 use Rattle.ksi_calendar.specs.Calendar.{Seconds, calendar_leaf, calendar_path, calendar_root}
 use Rattle.ksi_aggchain.specs.declared.node.Node.{Node}
-use Rattle.ksi_aggtree.specs.Rounds.{leaf}
+use Rattle.ksi_aggtree.specs.Rounds.{as_node}
 use Rattle.ksi_signature.specs.declared.above.Above.{Above}
 use Rattle.ksi_signature.specs.declared.above.AboveChain.{AboveChain}
 use Rattle.ksi_calendar.specs.Covered.{Roots, roots_among, covered_seconds, covered_root}
@@ -91,7 +91,7 @@ module _ (image : List ℕ → List ℕ) (plan : PlanState) (is : IsPlan plan) (
         entries = response.1.closed.entries;
         closed = response.1.closed.closed;
         top = joins.top;
-        climbs = subst (λ (node : Node). ChainsClimb image node above.chains joins.top) (sym (ap leaf response.1.closed.item_is)) joins.climbs;
+        climbs = subst (λ (node : Node). ChainsClimb image node above.chains joins.top) (sym (ap as_node response.1.closed.item_is)) joins.climbs;
         root_is = joins.root_is;
         core = joins.core;
         there = joins.there;

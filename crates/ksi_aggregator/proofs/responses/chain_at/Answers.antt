@@ -15,7 +15,7 @@ from_vec-requires g c =
     record {
       count = subst (λ (links : List Link). length links ≤ 16) (sym c.into_vec.ensures) c.in_ok-links.ensures.few;
       nodes = subst (λ (links : List Link). AllByRecursion (λ (link : Link). IsNode link.sibling) links) (sym (c.into_vec.ensures ∙ c.in_ok-links.ensures.links))
-          (nodes_from (leaf_of_place items c.args.k).level (tree_path g.C.Compress.image items c.args.k));
+          (nodes_from (leaf_of_place g.C.Compress.image items c.args.k).level (tree_path g.C.Compress.image items c.args.k));
     }
 
 pub returns : goal.returns

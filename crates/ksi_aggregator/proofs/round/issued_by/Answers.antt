@@ -13,5 +13,5 @@ issue-requires-clause-links g c =
     record {
       count = subst (λ (links : List Link). length links ≤ 16) (sym c.as_slice.ensures) c.in_ok-links.ensures.few;
       nodes = subst (λ (links : List Link). AllByRecursion (λ (link : Link). IsNode link.sibling) links) (sym (c.as_slice.ensures ∙ c.in_ok-links.ensures.links))
-          (nodes_from (leaf_of_place items c.args.place).level (tree_path g.C.Compress.image items c.args.place));
+          (nodes_from (leaf_of_place g.C.Compress.image items c.args.place).level (tree_path g.C.Compress.image items c.args.place));
     }
