@@ -29,7 +29,7 @@ impl Item {
     }
 
     /// The leaf that stands for the item in a tree.
-    pub(crate) fn leaf<C: Compress>(&self) -> Node
+    pub fn leaf<C: Compress>(&self) -> Node
         ensures leaf { result ≡ leaf C.image self.now }
         ensures level { result.level ≡ leaf_level self.now }
     {

@@ -10,6 +10,8 @@ mod cores;
 #[cfg(test)]
 mod entries;
 #[cfg(test)]
+mod names;
+#[cfg(test)]
 mod rounds;
 #[cfg(test)]
 mod same;

@@ -125,7 +125,7 @@ fn has_nodes(rt: &impl Abort, round: &Builder<Sha>) {
     let root = joined(inner.imprint, a, 4);
     same(rt, "root", round.root(), Some(root));
     same(rt, "left", round.node(&[Left]), Some(inner));
-    let right = Some(item(0, b"abc").leaf());
+    let right = Some(item(0, b"abc").leaf::<Sha>());
     same(rt, "left, right", round.node(&[Left, Right]), right);
     same(rt, "right, left", round.node(&[Right, Left]), None);
 }
