@@ -1,21 +1,21 @@
 -- What the steps together answer.
-use Rattle.std.proofs.Common.{◌≡◌, ℕ, List, Result, Ok, Err, refl, sym, ap, subst, ◌∙◌}
+use Rattle.std.proofs.Common.{◌≡◌, ℕ, List, Result, Ok, Err, sym, ap, subst, ◌∙◌}
 use Rattle.std.specs.Prelude.{IfOk}
 use Rattle.ksi_imprint.specs.Refused.{OrNoMemory}
 use Rattle.ksi_imprint.specs.declared.refused.Refused.{Refused}
-use Rattle.ksi_imprint.specs.declared.refused.Refused.TheVariants.{Fault, NoMemory}
 use Rattle.ksi_signature.specs.declared.fault.SignatureFault.{SignatureFault}
 use Rattle.ksi_signature.specs.declared.signature.Signature.{Signature}
 use Rattle.ksi_signature.specs.Values.{Calendar, Publishing}
 use Rattle.ksi_signature.specs.File.{IsSignature}
 use Rattle.ksi_signature.specs.Reading.{signature_at}
 use Rattle.ksi_verifier.specs.declared.aggregated.Aggregated.{Aggregated}
-use Rattle.ksi_verifier.specs.ChainChecks.{aggregated}
 use Rattle.ksi_journal.specs.Journal.{Contents}
 use Rattle.ksi_extender.specs.declared.refusal.ExtendRefusal.{ExtendRefusal}
+use Rattle.ksi_extender.specs.declared.refusal.ExtendRefusal.TheVariants as refusals
 use Rattle.ksi_extender.specs.Checks.{◌>>=◌, ◌>>◌}
 use Rattle.ksi_extender.specs.Accepted.{extended_signature, AcceptedBy, IsExtended}
-use Rattle.ksi_extender.specs.Extended.{or_malformed, or_refused, chains_in, kept_to, chain_to, record_to, fitting, extended}
+use Rattle.ksi_extender.specs.Extended.{chains_in, kept_to, chain_to, record_to, fitting, extended}
+use Rattle.ksi_extender.proofs.Steps.{read_fault}
 
 module _ (image : List ℕ → List ℕ) (journal : Contents) (bytes : List ℕ) (p : ℕ) where
   abbrev next : Aggregated → Result (List ℕ) ExtendRefusal
@@ -26,6 +26,9 @@ module _ (image : List ℕ → List ℕ) (journal : Contents) (bytes : List ℕ)
   pub no_chains : (refusal : ExtendRefusal) → (let r : Result Aggregated ExtendRefusal = Err refusal in r ≡ chains_in image bytes) → (let r : Result (List ℕ) ExtendRefusal = Err refusal in r ≡ extended image journal bytes p)
   unfolding extended
   no_chains refusal is = ap (λ (r : Result Aggregated ExtendRefusal). r >>= next) is
+
+  pub no_signature : (fault : SignatureFault) → signature_at bytes ≡ Err fault → (let r : Result (List ℕ) ExtendRefusal = Err (refusals.Malformed fault) in r ≡ extended image journal bytes p)
+  no_signature fault is = no_chains (refusals.Malformed fault) (read_fault image bytes fault is)
 
   pub then_next : (chains : Aggregated) → chains_in image bytes ≡ Ok chains → next chains ≡ extended image journal bytes p
   unfolding extended

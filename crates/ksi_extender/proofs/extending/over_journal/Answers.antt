@@ -12,6 +12,9 @@ returns-in-Err-clause-answer g c =
     let are = c.requires.chains in
     sym (not_kept g.C.Compress.image c.args.journal.now (bytes_seen c.args.signature.now) c.args.p c.args.chains.now c.in-Err.refusal are c.in-Err.ensures.kept)
 
+pub proof_to-requires-clause-to : goal.proof_to-requires-clause-to
+proof_to-requires-clause-to g c = (is_kept c.args.journal.now c.args.chains.now c.args.p (sym c.in_default.ensures.kept)).to
+
 pub proof_to-requires-clause-covered : goal.proof_to-requires-clause-covered
 proof_to-requires-clause-covered g c =
     let journal = c.args.journal.now in
