@@ -8,8 +8,8 @@ use Rattle.ksi_split.specs.Trees.{climb_links}
 use Rattle.ksi_calchain.specs.Climbing.{ClimbsCalendar, calendar_join}
 use Rattle.ksi_calendar.specs.Calendar.{Seconds, calendar_leaf, calendar_root}
 use Rattle.ksi_signature.specs.declared.fault.SignatureFault.{SignatureFault}
-use Rattle.ksi_signature.specs.declared.extension.WithRefusal.{WithRefusal}
-use Rattle.ksi_signature.specs.declared.extension.WithRefusal.TheVariants as unmade
+use Rattle.ksi_signature.specs.declared.refusal.WriteRefusal.{WriteRefusal}
+use Rattle.ksi_signature.specs.declared.refusal.WriteRefusal.TheVariants as unmade
 use Rattle.ksi_signature.specs.declared.signature.Signature.{Signature}
 use Rattle.ksi_signature.specs.Values.{Calendar, Publishing}
 use Rattle.ksi_signature.specs.Reading.{signature_at}
@@ -19,7 +19,7 @@ use Rattle.ksi_journal.specs.Calendar.{calendar_of}
 use Rattle.ksi_verifier.specs.ChainChecks.{aggregated}
 use Rattle.ksi_extender.specs.declared.refusal.ExtendRefusal.TheVariants as refusals
 use Rattle.ksi_extender.specs.Checks.{◌>>=◌, ◌>>◌, need}
-use Rattle.ksi_extender.specs.Extended.{or_malformed, or_refused, chains_in, fitting, not_renewed}
+use Rattle.ksi_extender.specs.Extended.{or_malformed, or_refused, chains_in, fitting, too_large}
 use Rattle.ksi_extender.proofs.Passing.{le_cases}
 
 -- ---- the chains
@@ -64,15 +64,14 @@ text_is bytes chain published text is fits = elim (le_cases (length (extended_co
   | inr fails ↦ absurd (fits _ (record { long = fails.1; number = refl }))
 ]
 
-pub too_large : (bytes : List ℕ) (chain : Calendar) (published : Publishing) (n : ℕ) → IsTooLong (length (extended_content bytes chain published)) n → Err (refusals.TooLarge n) ≡ fitting bytes chain published
-too_large bytes chain published n long = elim (le_cases (length (extended_content bytes chain published)) 65535) [
+pub long_content : (bytes : List ℕ) (chain : Calendar) (published : Publishing) (n : ℕ) → IsTooLong (length (extended_content bytes chain published)) n → Err (refusals.TooLarge n) ≡ fitting bytes chain published
+long_content bytes chain published n long = elim (le_cases (length (extended_content bytes chain published)) 65535) [
   | inl holds ↦ absurd (let high = long.long in let low = holds.1 in omega arith)
   | inr fails ↦ ap (λ (size : ℕ). Err (refusals.TooLarge size)) long.number ∙ sym (fits_false bytes chain published fails.0)
 ]
 
--- what is answered where the new bytes were not made
-pub no_bytes : {A S : Type 0} (bytes : List ℕ) (chain : Calendar) (published : Publishing) (refusal : WithRefusal) (r : Result A (Refused WithRefusal)) → r ≡ Err (Fault refusal)
-    → ((n : ℕ) → (r ≡ Err (Fault (unmade.TooLong n))) ↔ (S × IsTooLong (length (extended_content bytes chain published)) n))
-    → ((fault : SignatureFault) → r ≡ Err (Fault (unmade.Malformed fault)) → ⊥) → fitting bytes chain published ≡ Err (not_renewed refusal)
-no_bytes bytes chain published (unmade.TooLong n) r is long malformed = sym (too_large bytes chain published n ((long n).0 is).1)
-no_bytes bytes chain published (unmade.Malformed fault) r is long malformed = absurd (malformed fault is)
+-- what is answered where the new content is too long
+pub no_bytes : {A : Type 0} (bytes : List ℕ) (chain : Calendar) (published : Publishing) (refusal : WriteRefusal) (r : Result A (Refused WriteRefusal)) → r ≡ Err (Fault refusal)
+    → ((n : ℕ) → (r ≡ Err (Fault (unmade.TooLong n))) ↔ IsTooLong (length (extended_content bytes chain published)) n)
+    → fitting bytes chain published ≡ Err (too_large refusal)
+no_bytes bytes chain published (unmade.TooLong n) r is long = sym (long_content bytes chain published n ((long n).0 is))

@@ -1,33 +1,21 @@
 -- What the steps together answer.
-use Rattle.std.proofs.Common.{◌≡◌, ℕ, List, Result, Ok, Err, refl, sym, ap, subst, ◌∙◌}
+use Rattle.std.proofs.Common.{◌≡◌, ℕ, List, Result, Ok, Err, sym, ap, subst, ◌∙◌}
 use Rattle.std.specs.Prelude.{IfOk}
 use Rattle.ksi_imprint.specs.Refused.{OrNoMemory}
 use Rattle.ksi_imprint.specs.declared.refused.Refused.{Refused}
-use Rattle.ksi_imprint.specs.declared.refused.Refused.TheVariants.{Fault, NoMemory}
 use Rattle.ksi_signature.specs.declared.fault.SignatureFault.{SignatureFault}
 use Rattle.ksi_signature.specs.declared.signature.Signature.{Signature}
 use Rattle.ksi_signature.specs.Values.{Calendar, Publishing}
 use Rattle.ksi_signature.specs.File.{IsSignature}
 use Rattle.ksi_signature.specs.Reading.{signature_at}
 use Rattle.ksi_verifier.specs.declared.aggregated.Aggregated.{Aggregated}
-use Rattle.ksi_verifier.specs.ChainChecks.{aggregated}
 use Rattle.ksi_journal.specs.Journal.{Contents}
 use Rattle.ksi_extender.specs.declared.refusal.ExtendRefusal.{ExtendRefusal}
+use Rattle.ksi_extender.specs.declared.refusal.ExtendRefusal.TheVariants as refusals
 use Rattle.ksi_extender.specs.Checks.{◌>>=◌, ◌>>◌}
 use Rattle.ksi_extender.specs.Accepted.{extended_signature, AcceptedBy, IsExtended}
-use Rattle.ksi_extender.specs.Extended.{or_malformed, or_refused, chains_in, kept_to, chain_to, record_to, fitting, extended}
-
-read_ok : (r : Result Signature SignatureFault) (signature : Signature) → or_malformed r ≡ Ok signature → r ≡ Ok signature
-read_ok (Ok x) signature e = let is : x ≡ signature = cc in ap (λ (s : Signature). Ok s) is
-read_ok (Err fault) signature e = absurd cc
-
-joined : (image : List ℕ → List ℕ) (r : Result Signature SignatureFault) (chains : Aggregated) → (or_malformed r >>= (λ (s : Signature). or_refused (aggregated image s))) ≡ Ok chains → (signature : Signature) × (r ≡ Ok signature)
-joined image (Ok signature) chains e = (signature, refl)
-joined image (Err fault) chains e = absurd cc
-
--- there is a signature where chains were found
-pub some_signature : (image : List ℕ → List ℕ) (bytes : List ℕ) (chains : Aggregated) → chains_in image bytes ≡ Ok chains → (signature : Signature) × (signature_at bytes ≡ Ok signature)
-some_signature image bytes chains e = joined image (signature_at bytes) chains e
+use Rattle.ksi_extender.specs.Extended.{chains_in, kept_to, chain_to, record_to, fitting, extended}
+use Rattle.ksi_extender.proofs.Steps.{read_fault}
 
 module _ (image : List ℕ → List ℕ) (journal : Contents) (bytes : List ℕ) (p : ℕ) where
   abbrev next : Aggregated → Result (List ℕ) ExtendRefusal
@@ -35,10 +23,12 @@ module _ (image : List ℕ → List ℕ) (journal : Contents) (bytes : List ℕ)
 
   -- ---- a refusal is handed on
 
-  pub no_chains : (refused : Refused ExtendRefusal) → OrNoMemory (chains_in image bytes) (Err refused) → OrNoMemory (extended image journal bytes p) (Err refused)
+  pub no_chains : (refusal : ExtendRefusal) → (let r : Result Aggregated ExtendRefusal = Err refusal in r ≡ chains_in image bytes) → (let r : Result (List ℕ) ExtendRefusal = Err refusal in r ≡ extended image journal bytes p)
   unfolding extended
-  no_chains (Fault refusal) is = ap (λ (r : Result Aggregated ExtendRefusal). r >>= next) is
-  no_chains NoMemory is = tt
+  no_chains refusal is = ap (λ (r : Result Aggregated ExtendRefusal). r >>= next) is
+
+  pub no_signature : (fault : SignatureFault) → signature_at bytes ≡ Err fault → (let r : Result (List ℕ) ExtendRefusal = Err (refusals.Malformed fault) in r ≡ extended image journal bytes p)
+  no_signature fault is = no_chains (refusals.Malformed fault) (read_fault image bytes fault is)
 
   pub then_next : (chains : Aggregated) → chains_in image bytes ≡ Ok chains → next chains ≡ extended image journal bytes p
   unfolding extended
@@ -58,9 +48,9 @@ module _ (image : List ℕ → List ℕ) (journal : Contents) (bytes : List ℕ)
       subst (λ (expected : Result (List ℕ) ExtendRefusal). OrNoMemory expected result) same answer
 
 -- what is answered is accepted where what is defined is
-pub accepted_answer : (image : List ℕ → List ℕ) (journal : Contents) (bytes : List ℕ) (p : ℕ) (result : Result (List ℕ) (Refused ExtendRefusal))
-    → ((text : List ℕ) (signature : Signature) → IsSignature bytes signature → extended image journal bytes p ≡ Ok text → (publications : List (ℕ × List ℕ)) → AcceptedBy image journal signature p publications)
-    → OrNoMemory (extended image journal bytes p) result
-    → IfOk result (λ text. (signature : Signature) × IsSignature bytes signature × IsSignature text (extended_signature image journal signature p)) → IfOk result (IsExtended image journal bytes p)
-accepted_answer image journal bytes p (Ok text) law is again = record { signature = again.0; before = again.1; after = again.2; accepted = law text again.0 again.1 is }
-accepted_answer image journal bytes p (Err refused) law answer again = tt
+pub accepted_answer : (image : List ℕ → List ℕ) (journal : Contents) (bytes : List ℕ) (p : ℕ) (signature : Signature) (result : Result (List ℕ) (Refused ExtendRefusal))
+    → ((text : List ℕ) → extended image journal bytes p ≡ Ok text → (publications : List (ℕ × List ℕ)) → AcceptedBy image journal signature p publications)
+    → IsSignature bytes signature → OrNoMemory (extended image journal bytes p) result
+    → IfOk result (λ text. IsSignature text (extended_signature image journal signature p)) → IfOk result (IsExtended image journal bytes p)
+accepted_answer image journal bytes p signature (Ok text) law before answer after = record { signature = signature; before = before; after = after; accepted = law text answer }
+accepted_answer image journal bytes p signature (Err refused) law before answer after = tt

@@ -1,11 +1,11 @@
 -- A signature extended to a later second, over a journal.
-use Rattle.std.specs.Prelude.{ℕ, ◌-◌, ◌^◌, min, nat_le, not, List, [], length, Option, Some, None, Result, Ok, Err}
+use Rattle.std.specs.Prelude.{◌≡◌, ℕ, ◌-◌, ◌^◌, min, nat_le, not, List, [], length, Option, Some, None, Result, Ok, Err}
 use Rattle.std.specs.Str.{bytes_eq}
 use Rattle.ksi_imprint.specs.Imprints.{zero_imprint}
 use Rattle.ksi_calendar.specs.Covered.{first_missing, covered_root, covered_path, second_leaf}
 use Rattle.ksi_signature.specs.declared.fault.SignatureFault.{SignatureFault}
-use Rattle.ksi_signature.specs.declared.extension.WithRefusal.{WithRefusal}
-use Rattle.ksi_signature.specs.declared.extension.WithRefusal.TheVariants as unmade
+use Rattle.ksi_signature.specs.declared.refusal.WriteRefusal.{WriteRefusal}
+use Rattle.ksi_signature.specs.declared.refusal.WriteRefusal.TheVariants.{TooLong}
 use Rattle.ksi_signature.specs.declared.signature.Signature.{Signature}
 use Rattle.ksi_signature.specs.Values.{Calendar, Publishing}
 use Rattle.ksi_signature.specs.Reading.{signature_at}
@@ -75,9 +75,12 @@ extended image journal bytes p = do
   kept_to journal chains p
   fitting bytes (chain_to image journal chains.time p) (record_to image journal p)
 
+-- V2 to V6, V9, E4, E3, E2 and E1 hold of what is a signature: there are new bytes, but for their size
+abbrev pub IsKeptTo : (List ℕ → List ℕ) → Contents → List ℕ → ℕ → Type 0
+IsKeptTo image journal bytes p = (chains : Aggregated) × (chains_in image bytes ≡ Ok chains) × (kept_to journal chains p ≡ Ok tt)
+
 -- ---- in the code
 
--- the refusal where the new bytes were not made
-abbrev pub not_renewed : WithRefusal → ExtendRefusal
-not_renewed (unmade.Malformed fault) = refusals.Malformed fault
-not_renewed (unmade.TooLong size) = refusals.TooLarge size
+-- the refusal where the new content is too long
+abbrev pub too_large : WriteRefusal → ExtendRefusal
+too_large (TooLong size) = refusals.TooLarge size

@@ -4,10 +4,10 @@ ghost use Rattle.ksi_imprint.specs.declared.refused.Refused.TheVariants as refus
 ghost use Rattle.ksi_tlv.specs.Spelling.{AreBytes};
 ghost use Rattle.ksi_calendar.specs.Covered.{IsCovered, second_leaf};
 ghost use Rattle.ksi_journal.specs.Journal.{IsJournal, root_at};
-ghost use Rattle.ksi_signature.specs.declared.signature.Signature.{Signature};
 ghost use Rattle.ksi_signature.specs.File.{IsSignature};
 ghost use Rattle.ksi_signature.specs.Extended.{renewed};
-ghost use Rattle.ksi_extender.specs.Extended.{chains_in, kept_to, chain_to, record_to, fitting, extended, not_renewed};
+ghost use Rattle.ksi_signature.specs.Seen.{seen, bytes_seen};
+ghost use Rattle.ksi_extender.specs.Extended.{chains_in, kept_to, chain_to, record_to, fitting, extended, IsKeptTo, too_large};
 ghost use Rattle.ksi_extender.specs.Accepted.{IsExtended, extended_signature};
 
 use crate::laws::extended_is_accepted;
@@ -20,24 +20,24 @@ use ksi_imprint::{Bytes, Compress, Imprint, NoMemory, Refused};
 use ksi_journal::Journal;
 use ksi_journal::laws::{are_bytes, calendar_is_covered};
 use ksi_signature::{
-    Bodies, CalendarChain, CalendarLinks, PublicationRecord, WithRefusal, read, signature_is_read,
-    signature_or_fault, with_calendar,
+    Bodies, CalendarChain, CalendarLinks, PublicationRecord, SignatureView, WriteRefusal,
+    signature_is_read, view,
 };
 use ksi_verifier::laws::aggregation;
-use ksi_verifier::{Aggregated, Refusal, aggregate};
+use ksi_verifier::{Aggregated, Refusal, aggregate_view};
 use std::alloc::Global;
 use std::marker::Brand;
 use std::sync::ledger::{Blank, Ledger};
 
-/// Takes a signature on to second `p`: its aggregation chains and the unknown elements that are to be passed on, byte
-/// for byte and in their order, with the calendar chain from the root that they lead to up to the root of the seconds
-/// from 0 to `p`, and the record of that root. What it had of both is not looked at beyond its grammar.
+/// The bytes of a signature extended to second `p`: its aggregation chains and the unknown elements that are to be passed
+/// on, byte for byte and in their order, with the calendar chain from the root that they lead to up to the root of the
+/// seconds from 0 to `p`, and the record of that root. What it had of both is not looked at beyond its grammar.
 ///
 /// # Errors
 /// The first of these that stands: the bytes are no signature; V2 to V6; the chains lead to the zero imprint (V9); their
 /// time is before the journal's start, or after `p`; a second from the start to `p` is not kept; the root that is kept
 /// for their time is another than the one that they lead to; the new content has more than 65,535 bytes. `NoMemory` may
-/// come where the bytes are a signature: what its chains lead to is known only once it was read.
+/// come only where all of these were looked at but the last.
 pub fn extend<C: Compress>(
     alloc: Global,
     journal: &Journal<C>,
@@ -48,15 +48,38 @@ pub fn extend<C: Compress>(
     ensures answer { OrNoMemory (extended C.image journal.now bytes.now p) result }
     ensures accepted { IfOk result (IsExtended C.image journal.now bytes.now p) }
     ensures bytes { IfOk result AreBytes }
-    ensures wanting { result ≡ Err refused.NoMemory → (signature : Signature) × IsSignature bytes.now signature }
+    ensures wanting { result ≡ Err refused.NoMemory → IsKeptTo C.image journal.now bytes.now p }
 {
-    extend_from::<C, Brand>(alloc, journal, bytes, p, Blank::new(1))
+    signature_is_read();
+    match view(bytes) {
+        Ok(signature) => extend_view(alloc, journal, &signature, p),
+        Err(fault) => Err(Refused::Fault(ExtendRefusal::Malformed(fault))),
+    }
+}
+
+/// The same of a signature that is lent from its bytes.
+///
+/// # Errors
+/// As `extend`, but that the bytes are a signature.
+pub fn extend_view<C: Compress>(
+    alloc: Global,
+    journal: &Journal<C>,
+    signature: &SignatureView<'_>,
+    p: u64,
+) -> Result<Bytes, Refused<ExtendRefusal>>
+    requires { p < 2 ^ 63 }
+    ensures answer { OrNoMemory (extended C.image journal.now (bytes_seen signature.now) p) result }
+    ensures accepted { IfOk result (IsExtended C.image journal.now (bytes_seen signature.now) p) }
+    ensures bytes { IfOk result AreBytes }
+    ensures wanting { result ≡ Err refused.NoMemory → IsKeptTo C.image journal.now (bytes_seen signature.now) p }
+{
+    extend_from::<C, Brand>(alloc, journal, signature, p, Blank::new(1))
 }
 
 fn extend_from<C: Compress, L: Ledger>(
     alloc: Global,
     journal: &Journal<C>,
-    bytes: &[u8],
+    signature: &SignatureView<'_>,
     p: u64,
     blank: Blank,
 ) -> Result<Bytes, Refused<ExtendRefusal>>
@@ -64,17 +87,17 @@ fn extend_from<C: Compress, L: Ledger>(
     requires parts { blank.parts ≡ L.parts }
     requires one { blank.parts ≡ 1 }
     requires early { p < 2 ^ 63 }
-    ensures answer { OrNoMemory (extended C.image journal.now bytes.now p) result }
-    ensures accepted { IfOk result (IsExtended C.image journal.now bytes.now p) }
+    ensures answer { OrNoMemory (extended C.image journal.now (bytes_seen signature.now) p) result }
+    ensures accepted { IfOk result (IsExtended C.image journal.now (bytes_seen signature.now) p) }
     ensures bytes { IfOk result AreBytes }
-    ensures wanting { result ≡ Err refused.NoMemory → (signature : Signature) × IsSignature bytes.now signature }
+    ensures wanting { result ≡ Err refused.NoMemory → IsKeptTo C.image journal.now (bytes_seen signature.now) p }
 {
     let mut steps = Steps::<L>::open(blank);
-    extend_counted(alloc, journal, bytes, p, &mut steps)
+    counted(alloc, journal, signature, p, &mut steps)
 }
 
-/// The same, with its steps: one for the search of the kept root, which the journal counts, and at most 126 for stored
-/// nodes of the calendar.
+/// The same as `extend`, with its steps: one for the search of the kept root, which the journal counts, and at most 126
+/// for stored nodes of the calendar.
 ///
 /// # Errors
 /// As `extend`.
@@ -89,36 +112,57 @@ pub fn extend_counted<C: Compress, L: Ledger>(
     ensures answer { OrNoMemory (extended C.image journal.now bytes.now p) result }
     ensures accepted { IfOk result (IsExtended C.image journal.now bytes.now p) }
     ensures bytes { IfOk result AreBytes }
-    ensures wanting { result ≡ Err refused.NoMemory → (signature : Signature) × IsSignature bytes.now signature }
+    ensures wanting { result ≡ Err refused.NoMemory → IsKeptTo C.image journal.now bytes.now p }
+    ensures most { steps.new ≤ steps.old + 127 }
+    ensures least { IfOk result (λ _. steps.old < steps.new) }
+{
+    signature_is_read();
+    match view(bytes) {
+        Ok(signature) => counted(alloc, journal, &signature, p, steps),
+        Err(fault) => Err(Refused::Fault(ExtendRefusal::Malformed(fault))),
+    }
+}
+
+/// The same of a lent signature.
+fn counted<C: Compress, L: Ledger>(
+    alloc: Global,
+    journal: &Journal<C>,
+    signature: &SignatureView<'_>,
+    p: u64,
+    steps: &mut Steps<L>,
+) -> Result<Bytes, Refused<ExtendRefusal>>
+    requires { p < 2 ^ 63 }
+    ensures answer { OrNoMemory (extended C.image journal.now (bytes_seen signature.now) p) result }
+    ensures accepted { IfOk result (IsExtended C.image journal.now (bytes_seen signature.now) p) }
+    ensures bytes { IfOk result AreBytes }
+    ensures wanting { result ≡ Err refused.NoMemory → IsKeptTo C.image journal.now (bytes_seen signature.now) p }
     ensures most { steps.new ≤ steps.old + 127 }
     ensures least { IfOk result (λ _. steps.old < steps.new) }
 {
     extended_is_accepted();
-    signature_is_read();
-    extended_bytes(alloc, journal, bytes, p, steps)
+    signature.is_of_its_bytes();
+    extended_bytes(alloc, journal, signature, p, steps)
 }
 
 /// What is extended, and what it is read as.
 fn extended_bytes<C: Compress, L: Ledger>(
     alloc: Global,
     journal: &Journal<C>,
-    bytes: &[u8],
+    signature: &SignatureView<'_>,
     p: u64,
     steps: &mut Steps<L>,
 ) -> Result<Bytes, Refused<ExtendRefusal>>
     requires { p < 2 ^ 63 }
-    ensures answer { OrNoMemory (extended C.image journal.now bytes.now p) result }
-    ensures again { IfOk result (λ text. (signature : Signature) × IsSignature bytes.now signature
-        × IsSignature text (extended_signature C.image journal.now signature p)) }
+    ensures answer { OrNoMemory (extended C.image journal.now (bytes_seen signature.now) p) result }
+    ensures again { IfOk result (λ text. IsSignature text (extended_signature C.image journal.now (seen signature.now) p)) }
     ensures bytes { IfOk result AreBytes }
-    ensures wanting { result ≡ Err refused.NoMemory → (signature : Signature) × IsSignature bytes.now signature }
+    ensures wanting { result ≡ Err refused.NoMemory → IsKeptTo C.image journal.now (bytes_seen signature.now) p }
     ensures most { steps.new ≤ steps.old + 127 }
     ensures least { IfOk result (λ _. steps.old < steps.new) }
 {
-    signature_is_read();
-    match chains_in::<C>(alloc, bytes) {
-        Ok(chains) => over_journal(alloc, journal, bytes, &chains, p, steps),
-        Err(refused) => Err(refused),
+    match chains_in::<C>(signature) {
+        Ok(chains) => over_journal(alloc, journal, signature, &chains, p, steps),
+        Err(refusal) => Err(Refused::Fault(refusal)),
     }
 }
 
@@ -126,16 +170,15 @@ fn extended_bytes<C: Compress, L: Ledger>(
 fn over_journal<C: Compress, L: Ledger>(
     alloc: Global,
     journal: &Journal<C>,
-    bytes: &[u8],
+    signature: &SignatureView<'_>,
     chains: &Aggregated,
     p: u64,
     steps: &mut Steps<L>,
 ) -> Result<Bytes, Refused<ExtendRefusal>>
     requires early { p < 2 ^ 63 }
-    requires chains { chains_in C.image bytes.now ≡ Ok chains.now }
-    ensures answer { OrNoMemory (extended C.image journal.now bytes.now p) result }
-    ensures again { IfOk result (λ text. (signature : Signature) × IsSignature bytes.now signature
-        × IsSignature text (extended_signature C.image journal.now signature p)) }
+    requires chains { chains_in C.image (bytes_seen signature.now) ≡ Ok chains.now }
+    ensures answer { OrNoMemory (extended C.image journal.now (bytes_seen signature.now) p) result }
+    ensures again { IfOk result (λ text. IsSignature text (extended_signature C.image journal.now (seen signature.now) p)) }
     ensures bytes { IfOk result AreBytes }
     ensures wanting { result ≡ Err refused.NoMemory → kept_to journal.now chains.now p ≡ Ok tt }
     ensures most { steps.new ≤ steps.old + 127 }
@@ -143,28 +186,23 @@ fn over_journal<C: Compress, L: Ledger>(
 {
     aggregation();
     one_first_missing();
-    signature_is_read();
+    signature.is_of_its_bytes();
     let _start = journal.start();
     if let Err(refusal) = check_kept(journal, chains, p, steps) {
         return Err(Refused::Fault(refusal));
     }
     let (chain, published) = proof_to(alloc, journal, chains, p, steps)?;
-    renewed_with(alloc, bytes, &chain, &published)
+    renewed_with(alloc, signature, &chain, &published)
 }
 
-/// What the aggregation chains of a signature come to.
-fn chains_in<C: Compress>(alloc: Global, bytes: &[u8]) -> Result<Aggregated, Refused<ExtendRefusal>>
-    ensures answer { OrNoMemory (chains_in C.image bytes.now) result }
-    ensures wanting { result ≡ Err refused.NoMemory → (signature : Signature) × IsSignature bytes.now signature }
+/// What the aggregation chains of a signature come to. No memory is taken.
+fn chains_in<C: Compress>(signature: &SignatureView<'_>) -> Result<Aggregated, ExtendRefusal>
+    ensures { result ≡ chains_in C.image (bytes_seen signature.now) }
 {
-    signature_is_read();
-    match read(alloc, bytes) {
-        Ok(signature) => match aggregate::<C>(&signature) {
-            Ok(chains) => Ok(chains),
-            Err(refusal) => Err(Refused::Fault(ExtendRefusal::Refused(refusal))),
-        },
-        Err(Refused::Fault(fault)) => Err(Refused::Fault(ExtendRefusal::Malformed(fault))),
-        Err(Refused::NoMemory) => Err(Refused::NoMemory),
+    signature.is_of_its_bytes();
+    match aggregate_view::<C>(signature) {
+        Ok(chains) => Ok(chains),
+        Err(refusal) => Err(ExtendRefusal::Refused(refusal)),
     }
 }
 
@@ -259,33 +297,29 @@ fn record(alloc: Global, time: u64, hash: Imprint) -> PublicationRecord
 /// The bytes of a signature with this chain and this record.
 fn renewed_with(
     alloc: Global,
-    bytes: &[u8],
+    signature: &SignatureView<'_>,
     chain: &CalendarChain,
     published: &PublicationRecord,
 ) -> Result<Bytes, Refused<ExtendRefusal>>
-    ensures answer { (signature : Signature) → IsSignature bytes.now signature →
-        OrNoMemory (fitting bytes.now chain.now published.now) result }
-    ensures again { IfOk result (λ text. (signature : Signature) × IsSignature bytes.now signature
-        × IsSignature text (renewed signature chain.now published.now)) }
+    ensures answer { OrNoMemory (fitting (bytes_seen signature.now) chain.now published.now) result }
+    ensures again { IfOk result (λ text. IsSignature text (renewed (seen signature.now) chain.now published.now)) }
     ensures bytes { IfOk result AreBytes }
 {
-    signature_or_fault();
-    match with_calendar(alloc, bytes, chain, published) {
+    match signature.with_calendar(alloc, chain, published) {
         Ok(text) => {
             are_bytes(text.as_slice());
             Ok(text)
         }
-        Err(Refused::Fault(refusal)) => Err(Refused::Fault(not_renewed(refusal))),
+        Err(Refused::Fault(refusal)) => Err(Refused::Fault(too_large(refusal))),
         Err(Refused::NoMemory) => Err(Refused::NoMemory),
     }
 }
 
-/// The refusal where the new bytes were not made.
-fn not_renewed(refusal: WithRefusal) -> ExtendRefusal
-    ensures { result ≡ not_renewed refusal }
+/// The refusal where the new content is too long.
+fn too_large(refusal: WriteRefusal) -> ExtendRefusal
+    ensures { result ≡ too_large refusal }
 {
     match refusal {
-        WithRefusal::TooLong(size) => ExtendRefusal::TooLarge(size),
-        WithRefusal::Malformed(fault) => ExtendRefusal::Malformed(fault),
+        WriteRefusal::TooLong(size) => ExtendRefusal::TooLarge(size),
     }
 }

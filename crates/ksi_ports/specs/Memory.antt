@@ -43,7 +43,7 @@ load_answer files name most = if is_listed files.failing files.counts.calls then
 -- the counts after a load with this answer: where memory is wanting, no call is counted and nothing is taken
 abbrev pub counts_after_load : Counts → ℕ → Result (List ℕ) LoadRefusal → Counts
 counts_after_load c most (Ok bytes) = record c { calls = count_up 1 c.calls; taken = count_up (length bytes) c.taken; last_taken = length bytes }
-counts_after_load c most (Err Failed) = record c { calls = count_up 1 c.calls; faults = count_up 1 c.faults; last_taken = 0 }
+counts_after_load c most (Err Failed) = record c { calls = count_up 1 c.calls; faults = count_up 1 c.faults; load_faults = count_up 1 c.load_faults; last_taken = 0 }
 counts_after_load c most (Err TooLong) = record c { calls = count_up 1 c.calls; taken = count_up (most + 1) c.taken; last_taken = count_up (most + 1) 0 }
 counts_after_load c most (Err NoMemory) = record c { last_taken = 0 }
 

@@ -13,7 +13,7 @@ count_up n before = min (before + n) (2 ^ 64 - 1)
 
 -- no call so far
 abbrev pub no_calls : Counts
-no_calls = record { calls = 0; saves = 0; faults = 0; taken = 0; last_taken = 0 }
+no_calls = record { calls = 0; saves = 0; faults = 0; load_faults = 0; taken = 0; last_taken = 0 }
 
 -- A count has risen by so much or more. One that stands at 2 ^ 64 - 1 counts as risen by any number.
 abbrev pub RoseBy : ℕ → ℕ → ℕ → Type 0
@@ -35,7 +35,7 @@ LoadCalls before now (Err Failed) = now ≡ count_up 1 before
 LoadCalls before now (Err TooLong) = now ≡ count_up 1 before
 LoadCalls before now (Err NoMemory) = now ≤ count_up 1 before
 
--- a load's count of faults: it rises where the load failed, and stays where it did not
+-- a load's count of faults or of failed loads: it rises where the load failed, and stays where it did not
 abbrev pub LoadCounts : {T : Type 0} → ℕ → ℕ → Result T LoadRefusal → Type 0
 LoadCounts before now (Ok bytes) = now ≡ before
 LoadCounts before now (Err Failed) = Raises before now

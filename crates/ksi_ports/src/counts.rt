@@ -14,6 +14,8 @@ pub struct Counts {
     pub saves: u64,
     /// How many of them failed.
     pub faults: u64,
+    /// How many loads failed.
+    pub load_faults: u64,
     /// How many bytes were taken by loads.
     pub taken: u64,
     /// How many of them by the last load.
@@ -26,6 +28,7 @@ impl Counts {
         calls: 0,
         saves: 0,
         faults: 0,
+        load_faults: 0,
         taken: 0,
         last_taken: 0,
     };
@@ -35,6 +38,7 @@ impl Counts {
         ensures later { self.old.calls ≤ self.new.calls }
         ensures called { LoadCalls self.old.calls self.new.calls answer.now }
         ensures counted { LoadCounts self.old.faults self.new.faults answer.now }
+        ensures failed { LoadCounts self.old.load_faults self.new.load_faults answer.now }
         ensures taken { LoadTakes most self.old.taken self.new.taken answer.now }
         ensures last { LoadTakes most 0 self.new.last_taken answer.now }
         ensures after { self.new ≡ counts_after_load self.old most answer.now }
@@ -43,7 +47,10 @@ impl Counts {
         self.last_taken = 0;
         match answer {
             Ok(bytes) => self.last_taken = bytes.as_slice().len() as u64,
-            Err(LoadRefusal::Failed) => self.faults = self.faults.saturating_add(1),
+            Err(LoadRefusal::Failed) => {
+                self.faults = self.faults.saturating_add(1);
+                self.load_faults = self.load_faults.saturating_add(1);
+            }
             Err(LoadRefusal::TooLong) => self.last_taken = (most as u64).saturating_add(1),
             Err(LoadRefusal::NoMemory) => return,
         }

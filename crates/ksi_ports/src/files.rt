@@ -49,8 +49,8 @@ impl From<NoMemory> for SaveRefusal {
 
 /// Files by their names.
 ///
-/// The counts of calls, of saves and of faults and the tally of bytes never fall. They stop at 2^64 - 1, where one counts as risen by
-/// any number.
+/// The counts of calls, of saves and of faults and the tally of bytes never fall. They stop at 2^64 - 1, where one counts
+/// as risen by any number.
 pub trait Files {
     /// Whether this kind of files tells what it holds.
     ghost tells: { Bool };
@@ -67,6 +67,9 @@ pub trait Files {
     /// How often a call failed.
     ghost faults: { Self → ℕ };
 
+    /// How often a load failed.
+    ghost load_faults: { Self → ℕ };
+
     /// How many bytes were taken from files.
     ghost taken: { Self → ℕ };
 
@@ -77,13 +80,14 @@ pub trait Files {
     ///
     /// # Errors
     ///
-    /// `Failed` where the file could not be read: the count of faults rises. `TooLong` where it has more than `most` bytes:
+    /// `Failed` where the file could not be read: the counts of faults and of failed loads rise. `TooLong` where it has more than `most` bytes:
     /// `most + 1` were taken. `NoMemory` where memory was wanting: the call may be left out of the count of calls. No load
     /// takes more than `most + 1` bytes.
     fn load(&mut self, alloc: Global, name: &str, most: usize) -> Result<Bytes, LoadRefusal>
         ensures later { calls self.old ≤ calls self.new }
         ensures called { LoadCalls (calls self.old) (calls self.new) result }
         ensures counted { LoadCounts (faults self.old) (faults self.new) result }
+        ensures failed { LoadCounts (load_faults self.old) (load_faults self.new) result }
         ensures unsaved { saves self.new ≡ saves self.old }
         ensures taken { LoadTakes most (taken self.old) (taken self.new) result }
         ensures last { LoadTakes most 0 (last_taken self.new) result }
@@ -103,6 +107,7 @@ pub trait Files {
         ensures called { SaveCalls (calls self.old) (calls self.new) result }
         ensures saved { SavesCounted (saves self.old) (saves self.new) result }
         ensures counted { SaveCounts (faults self.old) (faults self.new) result }
+        ensures unloaded { load_faults self.new ≡ load_faults self.old }
         ensures taken { taken self.new ≡ taken self.old }
         ensures last { last_taken self.new ≡ last_taken self.old }
         ensures leaves { IsTrue tells → SaveLeaves name.now bytes.now (held self.old) (held self.new) result };

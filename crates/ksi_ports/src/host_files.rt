@@ -51,6 +51,7 @@ impl<'a, R: rt::Files> HostFiles<'a, R> {
         ensures once { OnTrue failed (self.new.faults ≡ count_up 1 self.old.faults) }
         ensures passed { OnFalse failed (self.new.faults ≡ self.old.faults) }
         ensures saves { self.new.saves ≡ self.old.saves }
+        ensures loads { self.new.load_faults ≡ self.old.load_faults }
         ensures taken { self.new.taken ≡ self.old.taken }
         ensures last { self.new.last_taken ≡ self.old.last_taken }
     {
@@ -72,6 +73,8 @@ impl<R: rt::Files> Files for HostFiles<'_, R> {
 
     ghost faults = { λ files. files.faults };
 
+    ghost load_faults = { λ files. files.load_faults };
+
     ghost taken = { λ files. files.taken };
 
     ghost last_taken = { λ files. files.last_taken };
@@ -81,6 +84,7 @@ impl<R: rt::Files> Files for HostFiles<'_, R> {
         ensures called { LoadCalls self.old.calls self.new.calls result }
         ensures calls { self.new.calls ≡ count_up 1 self.old.calls }
         ensures counted { LoadCounts self.old.faults self.new.faults result }
+        ensures failed { LoadCounts self.old.load_faults self.new.load_faults result }
         ensures within { IfOk result (λ bytes. length bytes ≤ most) }
         ensures faults { self.new.faults ≡ faults_after self.old.faults result }
         ensures saves { self.new.saves ≡ self.old.saves }
@@ -90,7 +94,11 @@ impl<R: rt::Files> Files for HostFiles<'_, R> {
         let opened = fs::open(self.runtime, name);
         let mut taken = 0;
         let result = read_opened(alloc, opened, most, &mut taken);
-        self.count(matches!(&result, Err(LoadRefusal::Failed)));
+        let failed = matches!(&result, Err(LoadRefusal::Failed));
+        self.count(failed);
+        if failed {
+            self.counts.load_faults = self.counts.load_faults.saturating_add(1);
+        }
         self.counts.taken = self.counts.taken.saturating_add(taken);
         self.counts.last_taken = taken;
         result
@@ -102,6 +110,7 @@ impl<R: rt::Files> Files for HostFiles<'_, R> {
         ensures calls { self.new.calls ≡ count_up 1 self.old.calls }
         ensures counted { SaveCounts self.old.faults self.new.faults result }
         ensures faults { self.new.faults ≡ (if is_ok result then self.old.faults else count_up 1 self.old.faults) }
+        ensures unloaded { self.new.load_faults ≡ self.old.load_faults }
         ensures saved { SavesCounted self.old.saves self.new.saves result }
         ensures saves { self.new.saves ≡ count_up 1 self.old.saves }
         ensures taken { self.new.taken ≡ self.old.taken }

@@ -93,6 +93,8 @@ impl Files for MemFiles {
 
     ghost faults = { λ files. files.counts.faults };
 
+    ghost load_faults = { λ files. files.counts.load_faults };
+
     ghost taken = { λ files. files.counts.taken };
 
     ghost last_taken = { λ files. files.counts.last_taken };
@@ -101,6 +103,7 @@ impl Files for MemFiles {
         ensures later { self.old.counts.calls ≤ self.new.counts.calls }
         ensures called { LoadCalls self.old.counts.calls self.new.counts.calls result }
         ensures counted { LoadCounts self.old.counts.faults self.new.counts.faults result }
+        ensures failed { LoadCounts self.old.counts.load_faults self.new.counts.load_faults result }
         ensures taken { LoadTakes most self.old.counts.taken self.new.counts.taken result }
         ensures last { LoadTakes most 0 self.new.counts.last_taken result }
         ensures answers { LoadAnswers (load_answer self.old name.now most) result }

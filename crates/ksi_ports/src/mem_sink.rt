@@ -14,7 +14,8 @@ pub(crate) struct Cut {
     after: usize,
 }
 
-/// Output in memory that has room for so many bytes, with a list of the puts that are to fail.
+/// Output in memory that has room for so many bytes, with a list of the puts that are to fail. A put that passes the room
+/// fails too, and writes nothing.
 #[derive(Drop)]
 pub struct MemSink {
     written: Vec<u8>,
@@ -60,6 +61,7 @@ impl MemSink {
     }
 
     /// Lets the put of that number, counted from 0, fail after so many bytes of its piece, or after all where it has fewer.
+    /// Of cuts of one number the newest counts. Where memory is wanting, nothing changes.
     pub fn cut(&mut self, call: usize, after: usize) -> Result<(), NoMemory>
         ensures ok { OnOk result (self.new ≡ with_cut self.old call after) }
         ensures no_memory { OnErr result (self.new ≡ self.old) }
@@ -97,7 +99,7 @@ impl MemSink {
         self.faults
     }
 
-    // After how many bytes of this piece the next put fails.
+    // After how many bytes of this piece the next put fails, if it is to fail.
     fn next_cut(&self, piece: &[u8]) -> Option<usize>
         ensures { result ≡ put_cut self.now piece.now }
     {
@@ -108,7 +110,7 @@ impl MemSink {
     }
 }
 
-// After how many bytes the put of that number is to fail.
+// After how many bytes the put of that number is to fail, by the first cut of it.
 fn cut_of(cuts: &[Cut], call: u64) -> Option<usize>
     ensures { result ≡ cut_at cuts.now call }
 {
@@ -132,7 +134,7 @@ pub(crate) fn front(piece: &[u8], count: usize) -> &[u8]
     piece
 }
 
-/// Writes a piece for which there is room.
+/// Writes a piece for which room was taken: no memory is.
 pub(crate) fn append(written: &mut Vec<u8>, piece: &[u8])
     requires { vec_len written.old + length piece.now ≤ vec_capacity written.old }
     ensures items { written.new.items ≡ written.old.items ++ piece.now }

@@ -77,6 +77,8 @@ impl Files for SureFiles {
 
     ghost faults = { λ _. 0 };
 
+    ghost load_faults = { λ _. 0 };
+
     ghost taken = { λ files. files.counts.taken };
 
     ghost last_taken = { λ files. files.counts.last_taken };

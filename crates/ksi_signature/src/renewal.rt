@@ -1,9 +1,11 @@
 //! A lent signature with another calendar chain, and the law that it is the signature of its bytes.
 
-ghost use Rattle.std.specs.Prelude.{◌≡◌, ◌↔◌, ℕ, Err, IfOk, length};
-ghost use Rattle.ksi_imprint.specs.declared.refused.Refused.TheVariants.{Fault};
+ghost use Rattle.std.specs.Prelude.{◌≡◌, ◌↔◌, ◌≤◌, ℕ, Ok, Err, IfOk, length};
+ghost use Rattle.ksi_imprint.specs.declared.refused.Refused.TheVariants as refused;
 ghost use Rattle.ksi_signature.specs.declared.refusal.WriteRefusal.TheVariants as refusals;
 ghost use Rattle.ksi_signature.specs.File.{IsSignature};
+ghost use Rattle.ksi_tlv.specs.Spelling.{AreBytes};
+ghost use Rattle.ksi_signature.specs.Reading.{signature_at};
 ghost use Rattle.ksi_signature.specs.Extended.{extended_content, extended_text, renewed, IsTooLong};
 ghost use Rattle.ksi_signature.specs.Seen.{seen, bytes_seen};
 
@@ -22,11 +24,10 @@ use std::alloc::Global;
 
 impl SignatureView<'_> {
     /// The bytes of the signature with this calendar chain and this publication record in place of what it has of both,
-    /// as [`crate::with_calendar`] gives them, and they are looked through no second time.
+    /// as [`crate::with_calendar`] gives them of bytes that are read first.
     ///
     /// # Errors
-    ///
-    /// `TooLong` with the size of the new content where that is above 65,535 bytes.
+    /// `TooLong` with the size of the new content where that is above 65,535 bytes. `NoMemory` only where it is not.
     pub fn with_calendar(
         &self,
         alloc: Global,
@@ -34,8 +35,9 @@ impl SignatureView<'_> {
         publication: &PublicationRecord,
     ) -> Result<Bytes, Refused<WriteRefusal>>
         ensures text { IfOk result (λ text. text ≡ extended_text (bytes_seen self.now) calendar.now publication.now) }
-        ensures too_long { (n : ℕ) → (result ≡ Err (Fault (refusals.TooLong n))) ↔
+        ensures too_long { (n : ℕ) → (result ≡ Err (refused.Fault (refusals.TooLong n))) ↔
             IsTooLong (length (extended_content (bytes_seen self.now) calendar.now publication.now)) n }
+        ensures wanting { result ≡ Err refused.NoMemory → length (extended_content (bytes_seen self.now) calendar.now publication.now) ≤ 65535 }
         ensures again { IfOk result (λ text. IsSignature text (renewed (seen self.now) calendar.now publication.now)) }
     {
         whole_or_fault();
@@ -58,7 +60,9 @@ impl SignatureView<'_> {
 
     /// What is shown is the signature that the bytes are. This does nothing.
     pub fn is_of_its_bytes(&self)
-        ensures { IsSignature (bytes_seen self.now) (seen self.now) }
+        ensures signature { IsSignature (bytes_seen self.now) (seen self.now) }
+        ensures read { signature_at (bytes_seen self.now) ≡ Ok (seen self.now) }
+        ensures bytes { AreBytes (bytes_seen self.now) }
     {
         signature_is_read();
         are_bytes(self.bytes);

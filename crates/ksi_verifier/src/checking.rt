@@ -1,7 +1,6 @@
 ghost use Rattle.std.specs.Prelude.{◌≡◌, ◌↔◌, ◌<◌, ℕ, length, map, option_map};
 ghost use Rattle.ksi_verifier.specs.declared.verdict.Verdict.TheVariants as verdicts;
 ghost use Rattle.ksi_verifier.specs.Accepted.{IsAccepted};
-ghost use Rattle.ksi_verifier.specs.ChainChecks.{aggregated};
 ghost use Rattle.ksi_verifier.specs.Lent.{calendar_of};
 ghost use Rattle.ksi_verifier.specs.Verdict.{calendar_checked, checked, or_refused, verdict};
 
@@ -19,16 +18,6 @@ use ksi_calchain::climb_calendar;
 use ksi_imprint::{Compress, Imprint};
 use ksi_publications::Publications;
 use ksi_signature::{AggregationChain, Signature};
-
-/// What the aggregation chains of a signature come to.
-///
-/// # Errors
-/// The first of the checks V2 to V6 that fails.
-pub fn aggregate<C: Compress>(signature: &Signature) -> Result<Aggregated, Refusal>
-    ensures { result ≡ aggregated C.image signature.now }
-{
-    check_chains::<C, AggregationChain>(signature.chains.as_slice())
-}
 
 /// Checks a signature for a hash against the published roots of the calendar: the first of V1 to V14 that fails, or the
 /// second that the sides of the calendar chain name.

@@ -4,10 +4,13 @@ ghost use Rattle.ksi_signature.specs.PartsSeen.{calendar_seen, record_seen};
 ghost use Rattle.ksi_signature.specs.Seen.{seen};
 ghost use Rattle.ksi_verifier.specs.declared.verdict.Verdict.TheVariants as verdicts;
 ghost use Rattle.ksi_verifier.specs.Accepted.{IsAccepted};
+ghost use Rattle.ksi_verifier.specs.ChainChecks.{aggregated};
 ghost use Rattle.ksi_verifier.specs.Chains.{plain_chains};
 ghost use Rattle.ksi_verifier.specs.Lent.{calendar_of, record_of};
 ghost use Rattle.ksi_verifier.specs.Verdict.{checked, verdict};
 
+use crate::aggregated::Aggregated;
+use crate::chains::check_chains;
 use crate::checking::{check, verdict_of};
 use crate::laws::accepted;
 use crate::lent::{CalendarPart, RecordPart};
@@ -16,6 +19,16 @@ use crate::verdict::Verdict;
 use ksi_imprint::{Compress, Imprint};
 use ksi_publications::Publications;
 use ksi_signature::{CalendarLinkViews, CalendarView, ChainView, RecordView, SignatureView};
+
+/// What the aggregation chains of a lent signature come to.
+///
+/// # Errors
+/// The first of the checks V2 to V6 that fails.
+pub fn aggregate_view<C: Compress>(signature: &SignatureView<'_>) -> Result<Aggregated, Refusal>
+    ensures { result ≡ aggregated C.image (seen signature.now) }
+{
+    check_chains::<C, ChainView<'_>>(signature.chains())
+}
 
 /// Checks a lent signature for a hash against the published roots of the calendar, as [`verify`](crate::verify) does an
 /// owned one.

@@ -1,16 +1,19 @@
-use Rattle.std.proofs.Common.{◌<◌, ◌∙◌, sym, arith}
-use Rattle.std.proofs.lemmas.List.Elements.{All-from_get_or}
+use Rattle.std.proofs.Common.{◌∙◌, sym, arith}
 use Rattle.std.proofs.lemmas.Result.{IfOk-weaker}
 use Rattle.ksi_journal.specs.Journal.{root_at}
 use Rattle.ksi_extender.proofs.Kept.{is_kept}
-use Rattle.ksi_extender.proofs.Told.{some_signature, not_kept, all_passed}
+use Rattle.ksi_signature.specs.Seen.{seen, bytes_seen}
+use Rattle.ksi_extender.proofs.Told.{not_kept, all_passed}
 use Rattle.ksi_extender.proofs.Whole.{read_again}
 use Rattle.ksi_extender.proofs.extending.over_journal.Goals as goal
 
 pub returns-in-Err-clause-answer : goal.returns-in-Err-clause-answer
 returns-in-Err-clause-answer g c =
     let are = c.requires.chains in
-    sym (not_kept g.C.Compress.image c.args.journal.now c.args.bytes.now c.args.p c.args.chains.now c.in-Err.refusal are c.in-Err.ensures.kept)
+    sym (not_kept g.C.Compress.image c.args.journal.now (bytes_seen c.args.signature.now) c.args.p c.args.chains.now c.in-Err.refusal are c.in-Err.ensures.kept)
+
+pub proof_to-requires-clause-to : goal.proof_to-requires-clause-to
+proof_to-requires-clause-to g c = (is_kept c.args.journal.now c.args.chains.now c.args.p (sym c.in_default.ensures.kept)).to
 
 pub proof_to-requires-clause-covered : goal.proof_to-requires-clause-covered
 proof_to-requires-clause-covered g c =
@@ -23,20 +26,13 @@ proof_to-requires-clause-root g c = (is_kept c.args.journal.now c.args.chains.no
 
 pub returns-clause-answer : goal.returns-clause-answer
 returns-clause-answer g c =
-    let fits = All-from_get_or (λ b. b < 256) c.args.bytes.now 0 (λ i lt. omega (arith, c.type_inv.bytes i)) in
-    let are = c.requires.chains in
-    let some = some_signature g.C.Compress.image c.args.bytes.now c.args.chains.now are in
-    let is = (c.signature_is_read.ensures.signature c.args.bytes.now some.0 fits).0 some.1 in
-    all_passed g.C.Compress.image c.args.journal.now c.args.bytes.now c.args.p c.args.chains.now _ _ c.renewed_with.result are c.in_default.ensures.kept c.in_ok-chain.ensures.chain c.in_ok-chain.ensures.published (c.renewed_with.ensures.answer some.0 is)
+    all_passed g.C.Compress.image c.args.journal.now (bytes_seen c.args.signature.now) c.args.p c.args.chains.now _ _ c.renewed_with.result
+    c.requires.chains c.in_default.ensures.kept c.in_ok-chain.ensures.chain c.in_ok-chain.ensures.published c.renewed_with.ensures.answer
 
 pub returns-clause-again : goal.returns-clause-again
 returns-clause-again g c =
-    let fits = All-from_get_or (λ b. b < 256) c.args.bytes.now 0 (λ i lt. omega (arith, c.type_inv.bytes i)) in
-    let are = c.requires.chains in
     let kept = is_kept c.args.journal.now c.args.chains.now c.args.p (sym c.in_default.ensures.kept) in
-    IfOk-weaker c.renewed_with.result _ _ (λ text h. (
-      h.0,
-      h.1,
-      read_again g.C.Compress.image (λ signature chains some. c.aggregation.ensures g.C.Compress.image signature chains some) c.args.journal.now c.args.bytes.now text c.args.p c.args.chains.now _ _ h.0
-          ((c.signature_is_read.ensures.signature c.args.bytes.now h.0 fits).1 h.1) are kept.some c.in_ok-chain.ensures.chain c.in_ok-chain.ensures.published h.2,
-    )) c.renewed_with.ensures.again
+    IfOk-weaker c.renewed_with.result _ _ (λ text again.
+      read_again g.C.Compress.image (λ signature chains some. c.aggregation.ensures g.C.Compress.image signature chains some) c.args.journal.now (bytes_seen c.args.signature.now) text c.args.p c.args.chains.now _ _
+          (seen c.args.signature.now) c.is_of_its_bytes.ensures.read c.requires.chains kept.some c.in_ok-chain.ensures.chain c.in_ok-chain.ensures.published again
+    ) c.renewed_with.ensures.again

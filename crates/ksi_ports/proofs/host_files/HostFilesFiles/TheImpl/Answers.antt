@@ -9,6 +9,7 @@ load-tells g c = record {
   called = c.ensures.called;
   unsaved = c.ensures.saves;
   counted = c.ensures.counted;
+  failed = c.ensures.failed;
   taken = load_takes c.args.most c.args.self.now.taken c.new.self.now.taken c.result c.ensures.takes;
   last = load_takes c.args.most 0 c.new.self.now.last_taken c.result c.ensures.last;
   within = c.ensures.within;
@@ -18,4 +19,4 @@ load-tells g c = record {
 }
 
 pub save-tells : goal.save-tells
-save-tells g c = record { later = c.ensures.later; called = c.ensures.called; saved = c.ensures.saved; counted = c.ensures.counted; taken = c.ensures.taken; last = c.ensures.last; leaves = λ told. cc }
+save-tells g c = record { later = c.ensures.later; called = c.ensures.called; saved = c.ensures.saved; counted = c.ensures.counted; unloaded = c.ensures.unloaded; taken = c.ensures.taken; last = c.ensures.last; leaves = λ told. cc }
