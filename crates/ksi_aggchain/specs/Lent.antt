@@ -4,7 +4,7 @@ use Rattle.ksi_aggchain.specs.Links.{PlainLink}
 use Rattle.ksi_aggchain.specs.declared.link_view.LinkView.{LinkView}
 
 abbrev pub lent_link : LinkView → PlainLink
-lent_link link = record { side = link.side; correction = link.correction; sibling = link.sibling.now }
+lent_link link = record { side = link.side; correction = link.correction; sibling = link.sibling.now; raw = link.raw }
 
 abbrev pub lent_links : List LinkView → List PlainLink
 lent_links links = map lent_link links

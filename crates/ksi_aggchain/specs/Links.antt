@@ -1,14 +1,16 @@
 -- Links of an aggregation chain as climbing sees them, whoever owns their siblings.
-use Rattle.std.specs.Prelude.{ℕ, ◌+◌, List}
+use Rattle.std.specs.Prelude.{ℕ, ◌+◌, Bool, List}
 use Rattle.ksi_imprint.specs.Imprints.{join_text}
 use Rattle.ksi_split.specs.declared.side.Side.{Side}
 use Rattle.ksi_split.specs.declared.side.Side.TheVariants.{Left, Right}
 
--- the side that a node has in its join, the levels more than one to go up, and the bytes of the other part
+-- the side that a node has in its join, the levels more than one to go up, the bytes of the other part, and whether they
+-- stand raw, as a name or metadata, and are no node's imprint
 pub record PlainLink : Type 0 where
   pub side : Side
   pub correction : ℕ
   pub sibling : List ℕ
+  pub raw : Bool
 
 -- what is hashed where a node on a side is joined with its sibling at a level
 abbrev pub side_text : Side → List ℕ → List ℕ → ℕ → List ℕ

@@ -23,6 +23,10 @@ pub trait ChainLink {
     /// The bytes that the join has of the other part.
     fn sibling(&self) -> &[u8]
         ensures { result.now ≡ (plain self.now).sibling };
+
+    /// Whether these are raw bytes, of a name in the old form or of metadata.
+    fn is_raw(&self) -> bool
+        ensures { result ≡ (plain self.now).raw };
 }
 
 impl ChainLink for Link {
@@ -39,6 +43,10 @@ impl ChainLink for Link {
     fn sibling(&self) -> &[u8] {
         self.sibling.bytes()
     }
+
+    fn is_raw(&self) -> bool {
+        self.sibling.is_raw()
+    }
 }
 
 impl ChainLink for LinkView<'_> {
@@ -54,5 +62,9 @@ impl ChainLink for LinkView<'_> {
 
     fn sibling(&self) -> &[u8] {
         self.sibling
+    }
+
+    fn is_raw(&self) -> bool {
+        self.raw
     }
 }

@@ -1,5 +1,5 @@
 ghost use Rattle.std.specs.Prelude.{◌≡◌};
-ghost use Rattle.ksi_aggchain.specs.Owned.{sibling_bytes};
+ghost use Rattle.ksi_aggchain.specs.Owned.{sibling_bytes, is_raw};
 
 use ksi_imprint::{Bytes, Imprint};
 use ksi_split::Side;
@@ -34,6 +34,16 @@ impl Sibling {
         match self {
             Sibling::Imprint(imprint) => imprint.bytes(),
             Sibling::Legacy(bytes) | Sibling::Metadata(bytes) => bytes.as_slice(),
+        }
+    }
+
+    /// Whether these are raw bytes.
+    pub fn is_raw(&self) -> bool
+        ensures { result ≡ is_raw self.now }
+    {
+        match self {
+            Sibling::Imprint(_) => false,
+            Sibling::Legacy(_) | Sibling::Metadata(_) => true,
         }
     }
 }

@@ -9,4 +9,6 @@ pub struct LinkView<'a> {
     pub correction: u8,
     /// The other part: the 33 bytes of an imprint, or raw bytes.
     pub sibling: &'a [u8],
+    /// Whether these are raw bytes, of a name in the old form or of metadata.
+    pub raw: bool,
 }

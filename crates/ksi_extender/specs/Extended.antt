@@ -29,7 +29,7 @@ abbrev pub or_refused : Result Aggregated Refusal → Result Aggregated ExtendRe
 or_refused (Ok chains) = Ok chains
 or_refused (Err refusal) = Err (refusals.Refused refusal)
 
--- the time of the aggregation chains and the item that they lead to, of what is a signature and passes V2 to V6
+-- the time of the aggregation chains and the item that they lead to, of what is a signature and passes V2 to V6 and V15
 abbrev pub chains_in : (List ℕ → List ℕ) → List ℕ → Result Aggregated ExtendRefusal
 chains_in image bytes = do
   signature ← or_malformed (signature_at bytes)
@@ -75,7 +75,7 @@ extended image journal bytes p = do
   kept_to journal chains p
   fitting bytes (chain_to image journal chains.time p) (record_to image journal p)
 
--- V2 to V6, V9, E4, E3, E2 and E1 hold of what is a signature: there are new bytes, but for their size
+-- V2 to V6, V15, V9, E4, E3, E2 and E1 hold of what is a signature: there are new bytes, but for their size
 abbrev pub IsKeptTo : (List ℕ → List ℕ) → Contents → List ℕ → ℕ → Type 0
 IsKeptTo image journal bytes p = (chains : Aggregated) × (chains_in image bytes ≡ Ok chains) × (kept_to journal chains p ≡ Ok tt)
 

@@ -7,7 +7,7 @@ use ksi_verifier::Refusal;
 pub enum ExtendRefusal {
     /// The bytes are no signature: the first fault in reading order.
     Malformed(SignatureFault),
-    /// The first of the checks V2 to V6 that fails, or V9 where the chains lead to the zero imprint.
+    /// The first of the checks V2 to V6 and V15 that fails, or V9 where the chains lead to the zero imprint.
     Refused(Refusal),
     /// E4: the chains' time is before the journal's start.
     BeforeStart(u64),

@@ -31,7 +31,8 @@ use Rattle.ksi_world.specs.declared.outcome.Asked.{Asked}
 use Rattle.ksi_world.specs.Histories.{WorldState}
 use Rattle.ksi_world.specs.Records.{kept_root}
 use Rattle.ksi_world.specs.Joined.{ChainsClimb, IsJoined}
-use Rattle.ksi_history.specs.Lasting.{KeepsRoots, Publish, LastsTo}
+use Rattle.ksi_history.specs.Lasting.{AreOfNodes, KeepsRoots, Publish, LastsTo}
+use Rattle.ksi_history.proofs.Chaining.{carried_nodes}
 
 -- the first chain of what is issued
 first_is : (second : ℕ) (input : List ℕ) (links : List Link) (above : Above) → (first_input (issued second input links above) ≡ input) × (first_time (issued second input links above) ≡ second)
@@ -44,7 +45,7 @@ More = (roots more : Roots) (start p : ℕ) → IsCovered roots start p → ((t 
 
 -- the laws below
 pub record Laws (image : List ℕ → List ℕ) (journal : Contents) : Type 0 where
-  pub aggregates : (second : ℕ) (input : List ℕ) (links : List Link) (above : Above) (top : Node) → ChainsClimb image (record { imprint = input; level = 0 }) (own_chain input links ∷ above.chains) top → aggregated image (issued second input links above) ≡ Ok (record { time = second; item = top })
+  pub aggregates : (second : ℕ) (input : List ℕ) (links : List Link) (above : Above) (top : Node) → AreOfNodes (own_chain input links ∷ above.chains) → ChainsClimb image (record { imprint = input; level = 0 }) (own_chain input links ∷ above.chains) top → aggregated image (issued second input links above) ≡ Ok (record { time = second; item = top })
   pub whole : (second : ℕ) (input : List ℕ) (links : List Link) (above : Above) → MayBeIssued second input links above → IsSignature (signature_text (issued second input links above)) (issued second input links above)
   pub short : (second : ℕ) (input : List ℕ) (links : List Link) (above : Above) → MayBeIssued second input links above → length (signature_text (issued second input links above)) ≤ 10000
   pub early : (p : ℕ) → IsCovered (root_at journal) journal.start p → p < 2 ^ 63
@@ -97,7 +98,7 @@ module _ (plan : PlanState) (w : WorldState) (journal : Contents) (keeps : Keeps
       leads p to covered = record {
         whole = subst (λ (x : List ℕ). IsSignature x (issued joined.asked.second joined.asked.imprint joined.links joined.above)) (sym joined.text_is) (laws.whole joined.asked.second joined.asked.imprint joined.links joined.above may);
         short = omega (arith, ap (λ (x : List ℕ). length x) joined.text_is, laws.short joined.asked.second joined.asked.imprint joined.links joined.above may);
-        aggregation = laws.aggregates joined.asked.second joined.asked.imprint joined.links joined.above joined.top joined.climbs;
+        aggregation = laws.aggregates joined.asked.second joined.asked.imprint joined.links joined.above joined.top (carried_nodes joined.asked.second joined.asked.imprint joined.links joined.above may) joined.climbs;
         real = λ zero. joined.real (sym joined.root_is ∙ zero);
         from = subst (λ start. start ≤ joined.asked.second) (sym keeps.start) joined.covered.from;
         root = keeps.roots joined.asked.second ∙ joined.kept ∙ ap (λ (root : List ℕ). Some root) (sym joined.root_is);

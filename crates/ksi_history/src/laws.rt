@@ -23,7 +23,7 @@ ghost use Rattle.ksi_world.specs.Joined.{ChainsClimb};
 ghost use Rattle.ksi_world.specs.Records.{issued_of, kept_root};
 ghost use Rattle.ksi_replay.specs.Journals.{journal_of};
 ghost use Rattle.ksi_history.specs.Joined.{IsPublished, Joined};
-ghost use Rattle.ksi_history.specs.Lasting.{KeepsRoots, LastsTo, Publish};
+ghost use Rattle.ksi_history.specs.Lasting.{AreOfNodes, KeepsRoots, LastsTo, Publish};
 
 use ksi_auditor::laws::{audit_shows, decided_tells};
 use ksi_calchain::laws::one_climb;
@@ -40,10 +40,11 @@ use ksi_world::laws::{
     validity,
 };
 
-/// Chains that climb from an imprint at level 0 to an item pass the checks of aggregation chains, as they are issued: they
+/// Chains of nodes that climb from an imprint at level 0 to an item pass the checks of aggregation chains, as they are issued: they
 /// lead to this item, in the second that they were issued for.
 pub fn issued_is_aggregated()
     ensures { (image : List ℕ → List ℕ) (second : ℕ) (input : List ℕ) (links : List Link) (above : Above) (top : Node) →
+        AreOfNodes (own_chain input links ∷ above.chains) →
         ChainsClimb image (record { imprint = input; level = 0 }) (own_chain input links ∷ above.chains) top →
         aggregated image (issued second input links above) ≡ Ok (record { time = second; item = top }) }
 {

@@ -7,7 +7,7 @@ use Rattle.ksi_split.specs.declared.fault.ShapeFault.TheVariants.{TooMany, TooFe
 use Rattle.ksi_verifier.specs.declared.difference.RecordDifference.{RecordDifference}
 use Rattle.ksi_verifier.specs.declared.difference.RecordDifference.TheVariants as differences
 use Rattle.ksi_verifier.specs.declared.refusal.Refusal.{Refusal}
-use Rattle.ksi_verifier.specs.declared.refusal.Refusal.TheVariants.{WrongHash, IndexOrder, IndexShape, Level, ChainBreak, AggregationTimes, NoCalendar, CalendarInput, MissedSecond, CalendarShape, TimeField, RecordDiffers, NoPublication, PublicationDiffers}
+use Rattle.ksi_verifier.specs.declared.refusal.Refusal.TheVariants.{WrongHash, IndexOrder, IndexShape, Level, ChainBreak, AggregationTimes, BareMetadata, NoCalendar, CalendarInput, MissedSecond, CalendarShape, TimeField, RecordDiffers, NoPublication, PublicationDiffers}
 
 abbrev pub line_text : List (List ℕ) → List ℕ
 line_text words = line_of words ++ (10 ∷ [])
@@ -42,6 +42,7 @@ refusal_words (IndexShape chain part shape) = codes "V3" ∷ decimal chain ∷ d
 refusal_words (Level chain link level) = codes "V4" ∷ decimal chain ∷ decimal link ∷ decimal level ∷ []
 refusal_words (ChainBreak chain computed stated) = codes "V5" ∷ decimal chain ∷ hex_of computed ∷ hex_of stated ∷ []
 refusal_words (AggregationTimes chain first this) = codes "V6" ∷ decimal chain ∷ decimal first ∷ decimal this ∷ []
+refusal_words (BareMetadata chain link) = codes "V15" ∷ decimal chain ∷ decimal link ∷ []
 refusal_words NoCalendar = codes "V7" ∷ []
 refusal_words (CalendarInput computed stated) = codes "V8" ∷ hex_of computed ∷ hex_of stated ∷ []
 refusal_words MissedSecond = codes "V9" ∷ []

@@ -44,6 +44,9 @@ pub fn refusal_line(refusal: &Refusal) -> Line
         Refusal::AggregationTimes { chain, first, this } => {
             refused("V6", &[Number(*chain), Number(*first), Number(*this)])
         }
+        Refusal::BareMetadata { chain, link } => {
+            refused("V15", &[Number(*chain), Number(*link)])
+        }
         Refusal::NoCalendar => refused("V7", &[]),
         Refusal::CalendarInput { computed, stated } => {
             refused("V8", &[Digest(computed), Digest(stated)])

@@ -35,6 +35,7 @@ impl<'a> LinkViews<'a> {
             side: Side::Left,
             correction: 0,
             sibling: &[],
+            raw: false,
         };
         LinkViews {
             links: [blank; 63],

@@ -48,6 +48,7 @@ fn link_at<'a>(at: &Placed<'a>) -> LinkView<'a>
         side: side_of(at),
         correction: parts.correction,
         sibling: parts.sibling.bytes(),
+        raw: parts.sibling.is_raw(),
     }
 }
 
@@ -89,7 +90,7 @@ impl<'a> LinkParts<'a> {
 
 impl<'a> SiblingView<'a> {
     ghost use Rattle.std.specs.Prelude.{◌≡◌};
-    ghost use Rattle.ksi_aggchain.specs.Owned.{sibling_bytes};
+    ghost use Rattle.ksi_aggchain.specs.Owned.{sibling_bytes, is_raw};
     ghost use Rattle.ksi_signature.specs.LinkParts.{view_sibling};
 
     /// The bytes that a join has of it.
@@ -100,6 +101,16 @@ impl<'a> SiblingView<'a> {
             SiblingView::Imprint(bytes)
             | SiblingView::Legacy(bytes)
             | SiblingView::Metadata(bytes) => bytes,
+        }
+    }
+
+    /// Whether these are raw bytes.
+    fn is_raw(&self) -> bool
+        ensures { result ≡ is_raw (view_sibling self.now) }
+    {
+        match self {
+            SiblingView::Imprint(_) => false,
+            SiblingView::Legacy(_) | SiblingView::Metadata(_) => true,
         }
     }
 }

@@ -1,6 +1,6 @@
 -- What it means that the checks of aggregation chains pass.
 use Rattle.std.proofs.Common.{◌≡◌, ◌↔◌, ℕ, ◌+◌, ◌<◌, Bool, true, false, List, [], ◌∷◌, length, Result, Ok, Err, Some, None, refl, sym, ap, ◌∙◌, subst, arith}
-use Rattle.std.specs.Prelude.{◌==◌, if◌then◌else◌}
+use Rattle.std.specs.Prelude.{◌==◌, not, if◌then◌else◌}
 use Rattle.std.specs.List.{AllByRecursion}
 use Rattle.std.specs.Str.{bytes_eq}
 use Rattle.std.proofs.lemmas.Bool.Decides.{Decides-eqb}
@@ -16,7 +16,7 @@ use Rattle.ksi_verifier.specs.declared.refusal.Refusal.{Refusal}
 use Rattle.ksi_verifier.specs.declared.refusal.Refusal.TheVariants.{IndexOrder, ChainBreak}
 use Rattle.ksi_verifier.specs.Checks.{◌>>=◌, ◌>>◌, need}
 use Rattle.ksi_verifier.specs.Chains.{PlainChain, plain_chain, plain_chains, first_chain, higher_chains, at_level_zero, last_part, without_last, chain_shape}
-use Rattle.ksi_verifier.specs.ChainChecks.{same_parts, index_order, index_shape, index_shapes, or_level, top_of, tops, unbroken, last_item, joined_chains, same_time, same_times, chains_checked}
+use Rattle.ksi_verifier.specs.ChainChecks.{same_parts, index_order, index_shape, index_shapes, or_level, top_of, tops, unbroken, last_item, joined_chains, same_time, same_times, is_bare, not_bare, none_bare, no_bare_links, chains_checked}
 use Rattle.ksi_verifier.specs.Accepted.{AreNested, ChainsLead, IsAggregated}
 use Rattle.ksi_verifier.proofs.Passing.{Passes, good, ok_is, bind_both, then_both, need_same, need_equal, each_both}
 use Rattle.ksi_verifier.proofs.Loops.{links_from, start_joins}
@@ -53,6 +53,18 @@ shapes_both chains = each_both index_shape (λ chain. last_part chain.index ≡ 
 
 pub times_both : (first : ℕ) (chains : List PlainChain) → Passes (same_times first 0 chains) ↔ AllByRecursion (λ chain. chain.time ≡ first) chains
 times_both first chains = each_both (same_time first) (λ chain. chain.time ≡ first) (λ k chain. need_equal chain.time first _) 0 chains
+
+-- ---- V15
+
+need_not : (b : Bool) (refusal : Refusal) → Passes (need (not b) refusal) ↔ (b ≡ false)
+need_not true refusal = (λ e. absurd cc, λ e. absurd cc)
+need_not false refusal = (λ e. refl, λ e. refl)
+
+pub none_bare_both : (k : ℕ) (chain : PlainChain) → Passes (none_bare k chain) ↔ AllByRecursion (λ link. is_bare link ≡ false) chain.links
+none_bare_both k chain = each_both (not_bare k) (λ link. is_bare link ≡ false) (λ place link. need_not (is_bare link) _) 0 chain.links
+
+pub bare_both : (chains : List PlainChain) → Passes (no_bare_links 0 chains) ↔ AllByRecursion (λ chain. AllByRecursion (λ link. is_bare link ≡ false) chain.links) chains
+bare_both chains = each_both none_bare (λ chain. AllByRecursion (λ link. is_bare link ≡ false) chain.links) none_bare_both 0 chains
 
 -- ---- V4 and V5
 
@@ -153,22 +165,27 @@ module _ (image : List ℕ → List ℕ) (climbs : (start top : Node) (links : L
       order : Result (Unit {0}) Refusal
       order = index_order 0 chain chains
 
+      named : Node → Result Aggregated Refusal
+      named item = no_bare_links 0 all >> Ok (record { time = chain.time; item = item })
+
       timed : Node → Result Aggregated Refusal
-      timed item = same_times chain.time 0 all >> Ok (record { time = chain.time; item = item })
+      timed item = same_times chain.time 0 all >> named item
 
       forward : chains_checked image all ≡ Ok aggregation → IsAggregated image all chain.input aggregation.time aggregation.item
       forward e =
           let first = (then_both order (index_shapes 0 all >> (joined_chains image all >>= timed)) aggregation).0 e in
           let second = (then_both (index_shapes 0 all) (joined_chains image all >>= timed) aggregation).0 first.1 in
           let third = (bind_both (joined_chains image all) timed aggregation).0 second.1 in
-          let last = (then_both (same_times chain.time 0 all) (good (record { time = chain.time; item = third.0 })) aggregation).0 third.2 in
+          let fourth = (then_both (same_times chain.time 0 all) (named third.0) aggregation).0 third.2 in
+          let last = (then_both (no_bare_links 0 all) (good (record { time = chain.time; item = third.0 })) aggregation).0 fourth.1 in
           let is : record { time = chain.time; item = third.0 } ≡ aggregation = ok_is _ aggregation last.1 in
           subst (λ (a : Aggregated). IsAggregated image all chain.input a.time a.item) is (record {
             some = some;
             order = (order_both 0 chain chains).0 first.0;
             shapes = (shapes_both all).0 second.0;
             lead = (joined_both chain chains third.0).0 third.1;
-            times = (times_both chain.time all).0 last.0;
+            times = (times_both chain.time all).0 fourth.0;
+            named = (bare_both all).0 last.0;
           })
 
       backward : IsAggregated image all chain.input aggregation.time aggregation.item → chains_checked image all ≡ Ok aggregation
@@ -176,7 +193,8 @@ module _ (image : List ℕ → List ℕ) (climbs : (start top : Node) (links : L
           let time : chain.time ≡ aggregation.time = h.times.0 in
           let times = (times_both chain.time all).1 (subst (λ (first : ℕ). AllByRecursion (λ (c : PlainChain). c.time ≡ first) all) (sym time) h.times) in
           let is : record { time = chain.time; item = aggregation.item } ≡ aggregation = ap (λ (first : ℕ). record { time = first; item = aggregation.item }) time in
-          let last = (then_both (same_times chain.time 0 all) (good (record { time = chain.time; item = aggregation.item })) aggregation).1 (times, ap good is) in
-          let third = (bind_both (joined_chains image all) timed aggregation).1 (aggregation.item, (joined_both chain chains aggregation.item).1 h.lead, last) in
+          let last = (then_both (no_bare_links 0 all) (good (record { time = chain.time; item = aggregation.item })) aggregation).1 ((bare_both all).1 h.named, ap good is) in
+          let fourth = (then_both (same_times chain.time 0 all) (named aggregation.item) aggregation).1 (times, last) in
+          let third = (bind_both (joined_chains image all) timed aggregation).1 (aggregation.item, (joined_both chain chains aggregation.item).1 h.lead, fourth) in
           let second = (then_both (index_shapes 0 all) (joined_chains image all >>= timed) aggregation).1 ((shapes_both all).1 h.shapes, third) in
           (then_both order (index_shapes 0 all >> (joined_chains image all >>= timed)) aggregation).1 ((order_both 0 chain chains).1 h.order, second)

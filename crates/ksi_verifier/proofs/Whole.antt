@@ -125,7 +125,7 @@ module _ (image : List ℕ → List ℕ) (aggregation : Aggregated) (calendar : 
       let last = (then_both listed (good t) t).1 ((published_both published publications calendar.publication (chain_root image calendar)).1 h.found, refl) in
       (bind_both (calendar_second aggregation.item calendar) timed t).1 (t, named, (then_both (same_second calendar.time aggregation.time t) (listed >> good t) t).1 (times, last))
 
--- ---- V1 to V14
+-- ---- V1 to V15, in the order V1 to V6, V15, V7 to V14
 
 first_is : (image : List ℕ → List ℕ) (chains : List PlainChain) (hash : List ℕ) (time : ℕ) (item : Node) → IsAggregated image chains hash time item → (first_chain chains).input ≡ hash
 first_is image [] hash time item h = absurd (let some = h.some in omega arith)

@@ -1,5 +1,5 @@
 -- What it is that a signature is accepted, without an order of checks.
-use Rattle.std.specs.Prelude.{◌≡◌, ◌≢◌, ℕ, ◌<◌, List, [], ◌∷◌, length, Some, IfSome}
+use Rattle.std.specs.Prelude.{◌≡◌, ◌≢◌, ℕ, ◌<◌, false, List, [], ◌∷◌, length, Some, IfSome}
 use Rattle.std.specs.List.{AllByRecursion}
 use Rattle.ksi_imprint.specs.Imprints.{zero_imprint}
 use Rattle.ksi_split.specs.Ways.{NamesSecond}
@@ -10,6 +10,7 @@ use Rattle.ksi_calchain.specs.Sides.{sides_from_top}
 use Rattle.ksi_publications.specs.Finding.{find}
 use Rattle.ksi_signature.specs.Values.{Calendar, Publishing}
 use Rattle.ksi_signature.specs.declared.signature.Signature.{Signature}
+use Rattle.ksi_verifier.specs.ChainChecks.{is_bare}
 use Rattle.ksi_verifier.specs.Chains.{PlainChain, plain_chains, at_level_zero, last_part, without_last, chain_shape}
 
 -- each next chain's index is that of the chain below it without its last part
@@ -24,13 +25,15 @@ abbrev pub ChainsLead : (List ℕ → List ℕ) → Node → List PlainChain →
 ChainsLead image start [] top = start ≡ top
 ChainsLead image start (chain ∷ chains) top = (next : Node) × (chain.input ≡ start.imprint) × Climbs image start chain.links next × ChainsLead image next chains top
 
--- the chains hold together, are of one time, and lead from a hash at level 0 to an item
+-- the chains hold together, are of one time, lead from a hash at level 0 to an item, and have no raw sibling on the left that
+-- begins as an imprint does
 pub record IsAggregated (image : List ℕ → List ℕ) (chains : List PlainChain) (hash : List ℕ) (time : ℕ) (item : Node) : Type 0 where
   pub some : 0 < length chains
   pub order : AreNested chains
   pub shapes : AllByRecursion (λ chain. last_part chain.index ≡ chain_shape chain) chains
   pub lead : ChainsLead image (at_level_zero hash) chains item
   pub times : AllByRecursion (λ chain. chain.time ≡ time) chains
+  pub named : AllByRecursion (λ chain. AllByRecursion (λ link. is_bare link ≡ false) chain.links) chains
 
 -- a publication record of a time and a root
 abbrev pub IsRecord : ℕ → List ℕ → Publishing → Type 0

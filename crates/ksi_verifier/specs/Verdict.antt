@@ -89,7 +89,7 @@ calendar_checked image aggregation calendar published publications = do
   published_checks published publications calendar.publication (chain_root image calendar)
   Ok second
 
--- ---- V1 to V14
+-- ---- V1 to V15, in the order V1 to V6, V15, V7 to V14
 
 -- of chains, a calendar chain and what a publication record states
 abbrev pub checked : (List ℕ → List ℕ) → List PlainChain → Option Calendar → Option RecordPart → List ℕ → List (ℕ × List ℕ) → Result ℕ Refusal

@@ -1,8 +1,9 @@
 ghost use Rattle.std.specs.Prelude.{◌≡◌};
 ghost use Rattle.ksi_aggchain.specs.Climbing.{climbed};
 ghost use Rattle.ksi_verifier.specs.Chains.{PlainChain, plain_chain, chain_shape, last_part, without_last};
-ghost use Rattle.ksi_verifier.specs.ChainChecks.{same_parts};
+ghost use Rattle.ksi_verifier.specs.ChainChecks.{same_parts, none_bare};
 
+use crate::bare::find_bare;
 use crate::index::compare_parts;
 use crate::refusal::Refusal;
 use ksi_aggchain::{LevelFault, Link, Node, climb, shape};
@@ -43,6 +44,13 @@ pub trait AnyChain {
     /// `Over` with the first link whose level passes 255.
     fn climb<C: Compress>(&self, start: Node) -> Result<Node, LevelFault>
         ensures { result ≡ climbed C.image 0 start (plain self.now).links };
+
+    /// Looks for a raw sibling of a right link that begins as an imprint does, this one being chain `k`.
+    ///
+    /// # Errors
+    /// `BareMetadata` with the first such link.
+    fn check_metadata(&self, k: u64) -> Result<(), Refusal>
+        ensures { result ≡ none_bare k (plain self.now) };
 }
 
 impl AnyChain for AggregationChain {
@@ -72,5 +80,9 @@ impl AnyChain for AggregationChain {
 
     fn climb<C: Compress>(&self, start: Node) -> Result<Node, LevelFault> {
         climb::<C, Link>(start.imprint, start.level, self.links.as_slice())
+    }
+
+    fn check_metadata(&self, k: u64) -> Result<(), Refusal> {
+        find_bare::<Link>(k, self.links.as_slice())
     }
 }

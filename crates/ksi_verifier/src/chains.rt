@@ -2,7 +2,7 @@
 // `?` here.
 ghost use Rattle.std.specs.Prelude.{◌≡◌, ◌<◌, length, map};
 ghost use Rattle.ksi_verifier.specs.Chains.{first_chain, higher_chains};
-ghost use Rattle.ksi_verifier.specs.ChainChecks.{chains_checked, index_order, index_shapes, joined_chains, same_times, top_of};
+ghost use Rattle.ksi_verifier.specs.ChainChecks.{chains_checked, index_order, index_shapes, joined_chains, same_times, no_bare_links, top_of};
 ghost use Rattle.ksi_verifier.specs.Folding.{or_break};
 
 use crate::aggregated::Aggregated;
@@ -11,7 +11,7 @@ use crate::refusal::Refusal;
 use ksi_aggchain::{LevelFault, Node};
 use ksi_imprint::{Compress, Imprint};
 
-/// V2 to V6: the time of the chains and the item that they lead to.
+/// V2 to V6 and V15: the time of the chains and the item that they lead to.
 pub(crate) fn check_chains<C: Compress, T: AnyChain>(chains: &[T]) -> Result<Aggregated, Refusal>
     requires { 0 < length chains.now }
     ensures { result ≡ chains_checked C.image (map T.plain chains.now) }
@@ -27,7 +27,10 @@ pub(crate) fn check_chains<C: Compress, T: AnyChain>(chains: &[T]) -> Result<Agg
         Err(refusal) => return Err(refusal),
     };
     let time = chains[0].time();
-    match check_times(time, chains) {
+    if let Err(refusal) = check_times(time, chains) {
+        return Err(refusal);
+    }
+    match check_metadata(chains) {
         Ok(()) => Ok(Aggregated { time, item }),
         Err(refusal) => Err(refusal),
     }
@@ -138,6 +141,18 @@ fn check_times<T: AnyChain>(first: u64, chains: &[T]) -> Result<(), Refusal>
                 first,
                 this,
             });
+        }
+    }
+    Ok(())
+}
+
+fn check_metadata<T: AnyChain>(chains: &[T]) -> Result<(), Refusal>
+    ensures { result ≡ no_bare_links 0 (map T.plain chains.now) }
+{
+    for (k, chain) in chains.iter().enumerate() {
+        match chain.check_metadata(k as u64) {
+            Ok(()) => (),
+            Err(refusal) => return Err(refusal),
         }
     }
     Ok(())

@@ -27,8 +27,9 @@ pub fn accepted()
     ksi_split::laws::one_answer();
 }
 
-/// V2 to V6 hold exactly where the chains lead from the first one's input hash to the item and are of one time, each index
-/// is the one below it without its last part, and each last part the chain's shape.
+/// V2 to V6 and V15 hold exactly where the chains lead from the first one's input hash to the item and are of one time, each
+/// index is the one below it without its last part, each last part the chain's shape, and no raw sibling of a right link
+/// begins as an imprint does.
 pub fn aggregation()
     ensures { (image : List ℕ → List ℕ) (signature : Signature) (aggregation : Aggregated) → 0 < length signature.chains →
         (aggregated image signature ≡ Ok aggregation) ↔

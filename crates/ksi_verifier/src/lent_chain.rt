@@ -2,6 +2,7 @@ ghost use Rattle.std.specs.Prelude.{◌≡◌};
 ghost use Rattle.ksi_verifier.specs.Lent.{lent_chain};
 
 use crate::any_chain::AnyChain;
+use crate::bare::find_bare;
 use crate::index::compare_lent;
 use crate::refusal::Refusal;
 use ksi_aggchain::{LevelFault, LinkView, Node, climb, shape};
@@ -33,5 +34,9 @@ impl AnyChain for ChainView<'_> {
 
     fn climb<C: Compress>(&self, start: Node) -> Result<Node, LevelFault> {
         climb::<C, LinkView<'_>>(start.imprint, start.level, self.links().as_slice())
+    }
+
+    fn check_metadata(&self, k: u64) -> Result<(), Refusal> {
+        find_bare::<LinkView<'_>>(k, self.links().as_slice())
     }
 }

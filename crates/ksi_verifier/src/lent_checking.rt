@@ -23,7 +23,7 @@ use ksi_signature::{CalendarLinkViews, CalendarView, ChainView, RecordView, Sign
 /// What the aggregation chains of a lent signature come to.
 ///
 /// # Errors
-/// The first of the checks V2 to V6 that fails.
+/// The first of the checks V2 to V6 and V15 that fails.
 pub fn aggregate_view<C: Compress>(signature: &SignatureView<'_>) -> Result<Aggregated, Refusal>
     ensures { result ≡ aggregated C.image (seen signature.now) }
 {

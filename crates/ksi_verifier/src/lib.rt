@@ -1,18 +1,18 @@
 //! The checks of a signature of Keyless Signatures' Infrastructure (Buldas, Kroonmaa, Laanoja, "Keyless Signatures'
 //! Infrastructure", 2013) against a hash and the published roots of the calendar.
 //!
-//! Fourteen checks, V1 to V14, stand in an order: the hash, the indexes of the aggregation chains, their shapes, levels,
-//! joints and times; then the calendar chain, its input, its sides and the stated times; then what was published. Inside
-//! one check the lowest chain, then the lowest link, counts. The second that a signature proves is the one that the sides
-//! of its calendar chain name: the stated times are only compared with it.
+//! Fifteen checks stand in an order, V1 to V6, V15, V7 to V14: the hash, the indexes of the aggregation chains, their
+//! shapes, levels, joints, times and raw siblings; then the calendar chain, its input, its sides and the stated times; then
+//! what was published. Inside one check the lowest chain, then the lowest link, counts. The second that a signature proves
+//! is the one that the sides of its calendar chain name: the stated times are only compared with it.
 //!
 //! The layer above may rely on this: [`verify`] gives the verdict, which is the first check that fails, with its values, or
 //! the second that the signature proves, and its clause `accepted` says what an accepted signature is, without an order of
 //! checks; [`verify_view`] does the same for a lent signature, by the same body, and [`verify_bytes`] for bytes, whose
-//! first fault it gives where they are no signature; [`aggregate_view`] does V2 to V6 of a lent signature alone, and gives
-//! the chains' time and the item that they lead to. No call takes memory, so that none may want it. In [`laws`] stands
-//! what the checks mean whatever their order: `accepted` turns an accepted signature into the facts that make it one, and
-//! back.
+//! first fault it gives where they are no signature; [`aggregate_view`] does V2 to V6 and V15 of a lent signature
+//! alone, and gives the chains' time and the item that they lead to. No call takes memory, so that none may want it. In
+//! [`laws`] stands what the checks mean whatever their order: `accepted` turns an accepted signature into the facts that
+//! make it one, and back.
 //!
 //! ```text
 //! let publications = ksi_publications::read(alloc, file)?;
@@ -26,6 +26,7 @@
 
 mod aggregated;
 mod any_chain;
+mod bare;
 mod bytes_checking;
 mod bytes_verdict;
 mod calendar;

@@ -43,6 +43,11 @@ pub enum Refusal {
         first: u64,
         this: u64,
     },
+    /// V15, which stands behind V6: the raw sibling of a right link begins with 0x01, as an imprint does.
+    BareMetadata {
+        chain: u64,
+        link: u64,
+    },
     /// V7: there is no calendar chain.
     NoCalendar,
     /// V8: the calendar chain's input hash is not what the last chain leads to.
