@@ -4,9 +4,9 @@ use crate::signatures::{
 };
 use ksi_aggchain::Node;
 use ksi_imprint::{NoMemory, Refused, Tiny};
-use ksi_signature::{Signature, SignatureFault, read};
+use ksi_signature::{Signature, SignatureFault, read, view};
 use ksi_split::{ShapeFault, Side};
-use ksi_verifier::{Aggregated, RecordDifference, Refusal, Verdict, aggregate, verify};
+use ksi_verifier::{Aggregated, RecordDifference, Refusal, Verdict, aggregate_view, verify};
 use std::alloc::Global;
 use std::process::Abort;
 
@@ -53,8 +53,8 @@ fn leads_to(
     to: Aggregated,
 ) -> Result<bool, Refused<SignatureFault>> {
     let bytes = bytes_of(alloc, row)?;
-    let signature = read(alloc, bytes.as_slice())?;
-    Ok(aggregate::<Tiny>(&signature) == Ok(to))
+    let signature = view(bytes.as_slice())?;
+    Ok(aggregate_view::<Tiny>(&signature) == Ok(to))
 }
 
 #[test]

@@ -26,11 +26,12 @@ caused_by_judgement files before now report quiet judged = record {
 }
 
 pub quiet_alone : (before : Counts) → Quiet before before
-quiet_alone before = record { faults = refl; saves = refl; taken = omega arith }
+quiet_alone before = record { faults = refl; load_faults = refl; saves = refl; taken = omega arith }
 
 quiet_twice : (before mid now : Counts) → Quiet before mid → Quiet mid now → Quiet before now
 quiet_twice before mid now one two = record {
   faults = omega (arith, one.faults, two.faults);
+  load_faults = omega (arith, one.load_faults, two.load_faults);
   saves = omega (arith, one.saves, two.saves);
   taken = omega (arith, one.taken, two.taken);
 }
@@ -98,6 +99,7 @@ report_caused_behind file files before mid now (Ok report) one two = caused_behi
 report_caused_behind file files before mid now (Err (halts.Reported report)) one two = caused_behind file files before mid now report one two
 report_caused_behind file files before mid now (Err halts.Fault) one two = record {
   faults = record { later = omega (arith, one.quiet.faults, two.faults.later); rose = omega (arith, one.quiet.faults, two.faults.rose) };
+  load_faults = record { later = omega (arith, one.quiet.load_faults, two.load_faults.later); rose = omega (arith, one.quiet.load_faults, two.load_faults.rose) };
   saves = omega (arith, one.quiet.saves, two.saves);
   taken = omega (arith, one.quiet.taken, two.taken);
 }

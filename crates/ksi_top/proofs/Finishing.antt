@@ -62,7 +62,7 @@ finished_put files_kind sink_kind report old new before now result unsaved one t
   quiet = λ quiet. (one.counted, two.quiet quiet);
   later = (omega (arith, one.counted), two.later);
   taken = one.taken;
-  fault = λ is. at_put (two.fault is).0 one.leaves (λ files_tell sink_tells. (two.fault is).1 sink_tells);
+  fault = λ is. at_put (two.fault is).0 one.counted one.leaves (λ files_tell sink_tells. (two.fault is).1 sink_tells);
   files_fault = λ rose. absurd (omega (arith, one.counted, rose));
   sink_fault = risen (sink_kind.faults before) (sink_kind.faults now) result two.quiet;
   unsaved = λ other quiet tells. ap (λ it. files_kind.held it) (one.untouched (unsaved (λ done. other (as_reported report result two.status quiet two.some ∙ done))));
@@ -86,7 +86,7 @@ finished_failed files_kind sink_kind report old new before one = record {
   quiet = λ quiet. absurd (quiet refl);
   later = (one.counted.later, omega arith);
   taken = one.taken;
-  fault = λ is. at_save one.counted.rose one.leaves (λ tells. refl) refl;
+  fault = λ is. at_save one.counted.rose one.unloaded one.leaves (λ tells. refl) refl;
   files_fault = λ rose. refl;
   sink_fault = λ rose. refl;
   unsaved = λ other quiet tells. absurd (quiet refl);

@@ -10,31 +10,34 @@ use Rattle.ksi_top.specs.declared.report.Halt.TheVariants as halts
 use Rattle.ksi_top.specs.declared.status.Status.{Status}
 use Rattle.ksi_top.specs.declared.status.Status.TheVariants.{Done, Refused, Words, Malformed, Fault, NoMemory, Clash, TooLong}
 
--- the counts of files at a moment: how often they were called on, how often a file was saved, how often a call failed, how
--- many bytes were taken, and how many of them by the last load
+-- the counts of files at a moment: how often they were called on, how often a file was saved, how often a call failed and how
+-- often a load did, how many bytes were taken, and how many of them by the last load
 pub record Counts : Type 0 where
   pub calls : ℕ
   pub saves : ℕ
   pub faults : ℕ
+  pub load_faults : ℕ
   pub taken : ℕ
   pub last_taken : ℕ
 
-abbrev pub counts : (calls saves faults taken last_taken : ℕ) → Counts
-counts calls saves faults taken last_taken = record { calls = calls; saves = saves; faults = faults; taken = taken; last_taken = last_taken }
+abbrev pub counts : (calls saves faults load_faults taken last_taken : ℕ) → Counts
+counts calls saves faults load_faults taken last_taken = record { calls = calls; saves = saves; faults = faults; load_faults = load_faults; taken = taken; last_taken = last_taken }
 
 -- those of files of any kind
 abbrev pub counts_of : {F : Type 0} → files.Ghosts F → F → Counts
-counts_of kind it = counts (kind.calls it) (kind.saves it) (kind.faults it) (kind.taken it) (kind.last_taken it)
+counts_of kind it = counts (kind.calls it) (kind.saves it) (kind.faults it) (kind.load_faults it) (kind.taken it) (kind.last_taken it)
 
 -- no call failed, and nothing was saved
 pub record Quiet (before now : Counts) : Type 0 where
   pub faults : now.faults ≡ before.faults
+  pub load_faults : now.load_faults ≡ before.load_faults
   pub saves : now.saves ≡ before.saves
   pub taken : before.taken ≤ now.taken
 
--- a call failed, and nothing was saved
+-- a load failed, and nothing was saved
 pub record Faulty (before now : Counts) : Type 0 where
   pub faults : Raises before.faults now.faults
+  pub load_faults : Raises before.load_faults now.load_faults
   pub saves : now.saves ≡ before.saves
   pub taken : before.taken ≤ now.taken
 

@@ -26,24 +26,26 @@ abbrev pub NamesStay : Option (List ℕ × List ℕ) → Held → Held → Type 
 NamesStay None old new = new ≡ old
 NamesStay (Some file) old new = OthersStay file.0 old new
 
--- files and output at a moment: what is held, how often a file was saved, how often a call on the files failed, what was
--- written, how often something was put, and how often a put failed
+-- files and output at a moment: what is held, how often a file was saved, how often a call on the files failed and how often
+-- a load did, what was written, how often something was put, and how often a put failed
 pub record Outside : Type 0 where
   pub held : Held
   pub saves : ℕ
   pub faults : ℕ
+  pub load_faults : ℕ
   pub written : List ℕ
   pub puts : ℕ
   pub failed_puts : ℕ
 
-abbrev pub outside : Held → (saves faults : ℕ) → List ℕ → (puts failed_puts : ℕ) → Outside
-outside held saves faults written puts failed_puts = record { held = held; saves = saves; faults = faults; written = written; puts = puts; failed_puts = failed_puts }
+abbrev pub outside : Held → (saves faults load_faults : ℕ) → List ℕ → (puts failed_puts : ℕ) → Outside
+outside held saves faults load_faults written puts failed_puts = record { held = held; saves = saves; faults = faults; load_faults = load_faults; written = written; puts = puts; failed_puts = failed_puts }
 
--- What a fault leaves: nothing saved and nothing put; or the one name unknown and nothing put; or the file saved and a front of the line put.
+-- What a fault leaves. Where a load failed: nothing saved and nothing put. Where no load but a save failed: the one name unknown
+-- and nothing put. Where no call on the files but a put failed: the file saved and a front of the line put.
 pub data FaultLeaves (files_tell sink_tells : Bool) (ran : Report) (old new : Outside) : Type 0 where
-  at_load : Rose old.faults new.faults → new.saves ≡ old.saves → (IsTrue files_tell → new.held ≡ old.held) → (IsTrue sink_tells → new.written ≡ old.written) → new.puts ≡ old.puts → FaultLeaves files_tell sink_tells ran old new
-  at_save : Rose old.faults new.faults → (IsTrue files_tell → NamesStay ran.saved old.held new.held) → (IsTrue sink_tells → new.written ≡ old.written) → new.puts ≡ old.puts → FaultLeaves files_tell sink_tells ran old new
-  at_put : Rose old.failed_puts new.failed_puts → (IsTrue files_tell → new.held ≡ saved_into ran.saved old.held) → (IsTrue files_tell → IsTrue sink_tells → ExtendsByFront old.written ran.line new.written) → FaultLeaves files_tell sink_tells ran old new
+  at_load : Rose old.load_faults new.load_faults → new.saves ≡ old.saves → (IsTrue files_tell → new.held ≡ old.held) → (IsTrue sink_tells → new.written ≡ old.written) → new.puts ≡ old.puts → FaultLeaves files_tell sink_tells ran old new
+  at_save : Rose old.faults new.faults → new.load_faults ≡ old.load_faults → (IsTrue files_tell → NamesStay ran.saved old.held new.held) → (IsTrue sink_tells → new.written ≡ old.written) → new.puts ≡ old.puts → FaultLeaves files_tell sink_tells ran old new
+  at_put : Rose old.failed_puts new.failed_puts → new.faults ≡ old.faults → (IsTrue files_tell → new.held ≡ saved_into ran.saved old.held) → (IsTrue files_tell → IsTrue sink_tells → ExtendsByFront old.written ran.line new.written) → FaultLeaves files_tell sink_tells ran old new
 
 -- `Words` is reported exactly where the words are no command
 abbrev pub WordsStatus : Result Asked WordsRefusal → Status → Type 0

@@ -3,7 +3,9 @@ use Rattle.std.specs.Prelude.{ℕ, List, [], ◌∷◌, codes, length, unwrap_or
 use Rattle.std.specs.Fmt.{decimal}
 use Rattle.ksi_ports.specs.Stored.{Held}
 use Rattle.ksi_signature.specs.declared.signature.Signature.{Signature}
+use Rattle.ksi_signature.specs.declared.signature_view.SignatureView.{SignatureView}
 use Rattle.ksi_signature.specs.Reading.{signature_at}
+use Rattle.ksi_signature.specs.Seen.{seen}
 use Rattle.ksi_publications.specs.Reading.{publications_at}
 use Rattle.ksi_imprint.specs.Imprints.{imprint_of}
 use Rattle.ksi_journal.specs.Journal.{Contents}
@@ -11,6 +13,7 @@ use Rattle.ksi_journal.specs.Reading.{journal_at}
 use Rattle.ksi_schedule.specs.Events.{History}
 use Rattle.ksi_schedule.specs.Reading.{schedule_at}
 use Rattle.ksi_top.specs.declared.report.Report.{Report}
+use Rattle.ksi_top.specs.declared.report.Halt.{Halt}
 use Rattle.ksi_top.specs.declared.status.Status.TheVariants.{Malformed, TooLong}
 use Rattle.ksi_top.specs.Reports.{report, and_then}
 use Rattle.ksi_lines.specs.FaultWords.{signature_fault, publications_fault, journal_fault, schedule_fault}
@@ -45,6 +48,11 @@ or_malformed words_of n (Err fault) = Err (report Malformed (malformed_line n (w
 
 abbrev pub signature_or_malformed : ℕ → List ℕ → Result Signature Report
 signature_or_malformed n bytes = or_malformed signature_fault n (signature_at bytes)
+
+-- what a lent signature shows, or the halt in its place
+abbrev pub seen_or_halt : Result SignatureView Halt → Result Signature Halt
+seen_or_halt (Ok view) = Ok (seen view)
+seen_or_halt (Err halt) = Err halt
 
 abbrev pub publications_or_malformed : ℕ → List ℕ → Result (List (ℕ × List ℕ)) Report
 publications_or_malformed n bytes = or_malformed publications_fault n (publications_at bytes)

@@ -91,6 +91,7 @@ pub record Saves {F : Type 0} (kind : files.Ghosts F) (saved : Option (List ℕ 
   pub later_calls : kind.calls old ≤ kind.calls new
   pub calls : kind.calls new ≤ kind.calls old + saves_of saved
   pub counted : SaveCounts (kind.faults old) (kind.faults new) result
+  pub unloaded : kind.load_faults new ≡ kind.load_faults old
   pub taken : kind.taken old ≤ kind.taken new
   pub untouched : saved ≡ None → new ≡ old
   pub no_save : result ≡ Err saves.NoMemory → (saved ≢ None) × (kind.saves new ≡ kind.saves old)
@@ -125,8 +126,8 @@ pub record Finished {F K : Type 0} (files_kind : files.Ghosts F) (sink_kind : si
   pub taken : files_kind.taken old ≤ files_kind.taken new
   pub fault : result ≡ Fault →
       FaultLeaves files_kind.tells sink_kind.tells report
-      (outside (files_kind.held old) (files_kind.saves old) (files_kind.faults old) (sink_kind.written before) (sink_kind.puts before) (sink_kind.faults before))
-      (outside (files_kind.held new) (files_kind.saves new) (files_kind.faults new) (sink_kind.written now) (sink_kind.puts now) (sink_kind.faults now))
+      (outside (files_kind.held old) (files_kind.saves old) (files_kind.faults old) (files_kind.load_faults old) (sink_kind.written before) (sink_kind.puts before) (sink_kind.faults before))
+      (outside (files_kind.held new) (files_kind.saves new) (files_kind.faults new) (files_kind.load_faults new) (sink_kind.written now) (sink_kind.puts now) (sink_kind.faults now))
   pub files_fault : files_kind.faults old < files_kind.faults new → result ≡ Fault
   pub sink_fault : sink_kind.faults before < sink_kind.faults now → result ≡ Fault
   pub unsaved : result ≢ Done → result ≢ Fault → IsTrue files_kind.tells → files_kind.held new ≡ files_kind.held old

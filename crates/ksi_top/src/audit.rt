@@ -1,14 +1,15 @@
 // The command `audit`.
 ghost use Rattle.std.specs.Prelude.{◌≡◌, IfOk};
 ghost use Rattle.ksi_imprint.specs.Imprints.{imprint_of};
+ghost use Rattle.ksi_signature.specs.Seen.{seen};
 ghost use Rattle.ksi_auditor.specs.Audit as audits;
 ghost use Rattle.ksi_auditor.specs.Shown.{IsShort};
 ghost use Rattle.ksi_top.specs.Promised.{Performed};
 ghost use Rattle.ksi_top.specs.Audit.{IsAnswered, audit_beside, audit_command, audit_over, audit_status, audited};
 
-use crate::loading::{load_journal, load_publications, load_signature};
+use crate::loading::{SIGNATURE_LIMIT, load_file, load_journal, load_publications};
+use crate::reading::view_signature;
 use crate::report::{Halt, Report, ended};
-use crate::signature_file::SignatureFile;
 use crate::status::Status;
 use ksi_auditor::laws::decided_tells;
 use ksi_auditor::{Audit, audit_view};
@@ -17,6 +18,7 @@ use ksi_journal::Journal;
 use ksi_lines::audit_line;
 use ksi_ports::Files;
 use ksi_publications::Publications;
+use ksi_signature::SignatureView;
 use std::alloc::Global;
 
 /// Loads the journal, then the signature, then the publications, and audits the signature for the hash.
@@ -45,7 +47,8 @@ fn audit_beside<F: Files>(
 ) -> Result<Report, Halt>
     ensures { Performed F.Files (audit_beside journal.now signature.now hash.now publications.now) files.old files.new result }
 {
-    let signature = load_signature(alloc, files, 2, signature)?;
+    let bytes = load_file(alloc, files, SIGNATURE_LIMIT, 2, signature)?;
+    let signature = view_signature(2, bytes.as_slice())?;
     audit_over(alloc, files, journal, &signature, hash, publications)
 }
 
@@ -54,11 +57,11 @@ fn audit_over<F: Files>(
     alloc: Global,
     files: &mut F,
     journal: &Journal<Sha>,
-    signature: &SignatureFile,
+    signature: &SignatureView<'_>,
     hash: &Imprint,
     publications: &str,
 ) -> Result<Report, Halt>
-    ensures { Performed F.Files (audit_over journal.now signature.now hash.now publications.now) files.old files.new result }
+    ensures { Performed F.Files (audit_over journal.now (seen signature.now) hash.now publications.now) files.old files.new result }
 {
     let publications = load_publications(alloc, files, 4, publications)?;
     ended(answer(alloc, journal, signature, hash, &publications))
@@ -67,17 +70,16 @@ fn audit_over<F: Files>(
 fn answer(
     alloc: Global,
     journal: &Journal<Sha>,
-    signature: &SignatureFile,
+    signature: &SignatureView<'_>,
     hash: &Imprint,
     publications: &Publications,
 ) -> Result<Report, NoMemory>
-    ensures answer { IfOk result (λ report. report ≡ audited (audits.audit imprint_of journal.now signature.now hash.now publications.now)) }
-    ensures answered { IfOk result (IsAnswered journal.now signature.now hash.now publications.now) }
+    ensures answer { IfOk result (λ report. report ≡ audited (audits.audit imprint_of journal.now (seen signature.now) hash.now publications.now)) }
+    ensures answered { IfOk result (IsAnswered journal.now (seen signature.now) hash.now publications.now) }
 {
     decided_tells();
     let _start = journal.start();
-    let signature = signature.view();
-    let audit = audit_view::<Sha>(alloc, journal, &signature, hash, publications)?;
+    let audit = audit_view::<Sha>(alloc, journal, signature, hash, publications)?;
     audited(alloc, &audit)
 }
 

@@ -48,13 +48,13 @@ pub fn ksi<F: Files, K: Sink>(alloc: Global, words: &[String], files: &mut F, ou
     ensures untouched { IfErr (command_of (texts words.now)) (λ _. F.calls files.new ≡ F.calls files.old) }
 
     // A fault is reported only where a count rose, and always where one is greater at the end. `outside`: what is held,
-    // saves, failed calls on the files, what was written, puts, failed puts.
+    // saves, failed calls on the files, failed loads, what was written, puts, failed puts.
     ensures fault_rose { result ≡ Status.Fault →
         Rose (F.faults files.old) (F.faults files.new) ⊎ Rose (K.faults out.old) (K.faults out.new) }
     ensures fault { result ≡ Status.Fault →
         FaultLeaves F.tells K.tells (run (texts words.now) (F.held files.old))
-        (outside (F.held files.old) (F.saves files.old) (F.faults files.old) (K.written out.old) (K.puts out.old) (K.faults out.old))
-        (outside (F.held files.new) (F.saves files.new) (F.faults files.new) (K.written out.new) (K.puts out.new) (K.faults out.new)) }
+        (outside (F.held files.old) (F.saves files.old) (F.faults files.old) (F.load_faults files.old) (K.written out.old) (K.puts out.old) (K.faults out.old))
+        (outside (F.held files.new) (F.saves files.new) (F.faults files.new) (F.load_faults files.new) (K.written out.new) (K.puts out.new) (K.faults out.new)) }
     ensures files_fault { F.faults files.old < F.faults files.new → result ≡ Status.Fault }
     ensures sink_fault { K.faults out.old < K.faults out.new → result ≡ Status.Fault }
 
@@ -77,8 +77,8 @@ pub fn ksi<F: Files, K: Sink>(alloc: Global, words: &[String], files: &mut F, ou
     ensures too_long { result ≡ Status.TooLong →
         (line : List ℕ) × (IsTrue K.tells → K.written out.new ≡ K.written out.old ++ line)
         × TookTooMuch (command_of (texts words.now))
-        (counts (F.calls files.old) (F.saves files.old) (F.faults files.old) (F.taken files.old) (F.last_taken files.old))
-        (counts (F.calls files.new) (F.saves files.new) (F.faults files.new) (F.taken files.new) (F.last_taken files.new)) line }
+        (counts (F.calls files.old) (F.saves files.old) (F.faults files.old) (F.load_faults files.old) (F.taken files.old) (F.last_taken files.old))
+        (counts (F.calls files.new) (F.saves files.new) (F.faults files.new) (F.load_faults files.new) (F.taken files.new) (F.last_taken files.new)) line }
     ensures one_line { IsTrue K.tells →
         (line : List ℕ) × (K.written out.new ≡ K.written out.old ++ line) × (length line ≤ 32767) }
     ensures one_put { K.puts out.new ≤ K.puts out.old + 1 }

@@ -1,6 +1,7 @@
 // The command `extend`.
 ghost use Rattle.std.specs.Prelude.{◌≡◌, ◌<◌, ◌^◌, IfOk};
 ghost use Rattle.ksi_imprint.specs.Imprints.{imprint_of};
+ghost use Rattle.ksi_signature.specs.Seen.{seen, bytes_seen};
 ghost use Rattle.ksi_extender.specs.Accepted.{first_time};
 ghost use Rattle.ksi_extender.specs.Extended.{extended};
 ghost use Rattle.ksi_top.specs.declared.status.Status.TheVariants as statuses;
@@ -10,16 +11,16 @@ ghost use Rattle.ksi_lines.specs.Answers.{not_extended_line};
 ghost use Rattle.ksi_top.specs.Extend.{SavesExtension, extend_command, extend_over, extended_report, refusal_status};
 
 use crate::loading::{SIGNATURE_LIMIT, load_file, load_journal};
-use crate::reading::read_signature;
+use crate::reading::view_signature;
 use crate::report::{Halt, Report, Saved, ended};
 use crate::status::Status;
-use ksi_extender::ExtendRefusal;
+use ksi_extender::{ExtendRefusal, extend_view};
 use ksi_imprint::{NoMemory, Refused, Sha};
 use ksi_journal::Journal;
 use ksi_lines::Word::{Number, Text};
 use ksi_lines::{not_extended_line, print};
 use ksi_ports::Files;
-use ksi_signature::Signature;
+use ksi_signature::SignatureView;
 use std::alloc::Global;
 
 /// Loads the journal, then the signature, and saves it extended to the second.
@@ -51,36 +52,35 @@ fn extend_over<F: Files>(
     ensures { Performed F.Files (extend_over journal.now signature.now second out.now) files.old files.new result }
 {
     let bytes = load_file(alloc, files, SIGNATURE_LIMIT, 2, signature)?;
-    let signature = read_signature(alloc, 2, bytes.as_slice())?;
-    let first = first_time(&signature);
-    ended(extended_report(alloc, journal, bytes.as_slice(), first, second, out))
+    let signature = view_signature(2, bytes.as_slice())?;
+    ended(extended_report(alloc, journal, &signature, second, out))
 }
 
-/// The time of the aggregation chains.
-fn first_time(signature: &Signature) -> u64
-    ensures { result ≡ first_time signature.now }
+/// The time of the first aggregation chain.
+fn first_time(signature: &SignatureView<'_>) -> u64
+    ensures { result ≡ first_time (seen signature.now) }
 {
-    match signature.chains.as_slice().first() {
-        Some(chain) => chain.time,
-        None => 0,
-    }
+    let chains = signature.chains();
+    chains[0].time()
 }
 
-/// The bytes of a signature of a second, extended to a publication time.
+/// A signature, extended to a publication time.
 fn extended_report(
     alloc: Global,
     journal: &Journal<Sha>,
-    bytes: &[u8],
-    second: u64,
+    signature: &SignatureView<'_>,
     publication: u64,
     out: &str,
 ) -> Result<Report, NoMemory>
     requires { publication < 2 ^ 63 }
-    ensures taken { IfOk result (λ report. report ≡ extended_report second publication out.now (extended imprint_of journal.now bytes.now publication)) }
-    ensures extended { IfOk result (λ report. report.status ≡ statuses.Done → SavesExtension journal.now bytes.now publication out.now report) }
+    ensures taken { IfOk result (λ report. report ≡ extended_report (first_time (seen signature.now)) publication out.now
+        (extended imprint_of journal.now (bytes_seen signature.now) publication)) }
+    ensures extended { IfOk result (λ report. report.status ≡ statuses.Done →
+        SavesExtension journal.now (bytes_seen signature.now) publication out.now report) }
 {
-    match ksi_extender::extend::<Sha>(alloc, journal, bytes, publication) {
+    match extend_view::<Sha>(alloc, journal, signature, publication) {
         Ok(text) => {
+            let second = first_time(signature);
             let line = print(
                 Text("extended"),
                 &[],

@@ -25,7 +25,6 @@ mod reading;
 mod replay;
 mod report;
 mod sign;
-mod signature_file;
 mod status;
 mod sure;
 mod verify;

@@ -4,13 +4,11 @@ ghost use Rattle.ksi_imprint.specs.Imprints.{imprint_of};
 ghost use Rattle.ksi_journal.specs.File.{IsJournalFile};
 ghost use Rattle.ksi_publications.specs.File.{IsPublications};
 ghost use Rattle.ksi_schedule.specs.Spelled.{IsScheduleText};
-ghost use Rattle.ksi_signature.specs.File.{IsSignature};
-ghost use Rattle.ksi_top.specs.Loading.{content, loaded, loaded_journal, loaded_publications, loaded_schedule, loaded_signature, file_limit, signature_limit};
+ghost use Rattle.ksi_top.specs.Loading.{content, loaded, loaded_journal, loaded_publications, loaded_schedule, file_limit};
 ghost use Rattle.ksi_top.specs.Promised.{IsLoaded};
 
-use crate::reading::{keep_signature, read_journal, read_publications, read_schedule};
+use crate::reading::{read_journal, read_publications, read_schedule};
 use crate::report::{Halt, Report};
-use crate::signature_file::SignatureFile;
 use crate::status::Status;
 use ksi_imprint::{Bytes, Sha};
 use ksi_journal::Journal;
@@ -26,20 +24,6 @@ pub(crate) const SIGNATURE_LIMIT: usize = 65_539;
 
 /// The most bytes that any other file may have.
 const FILE_LIMIT: usize = 67_108_864;
-
-/// The signature that file word `n` is. Its bytes are kept, and nothing is copied from them.
-pub(crate) fn load_signature<F: Files>(
-    alloc: Global,
-    files: &mut F,
-    n: usize,
-    name: &str,
-) -> Result<SignatureFile, Halt>
-    ensures loaded { IsLoaded F.Files n signature_limit (loaded_signature n (F.held files.old) name.now) files.old files.new result }
-    ensures is { IsTrue F.tells → IfOk result (IsSignature (content (F.held files.old) name.now)) }
-{
-    let bytes = load_file(alloc, files, SIGNATURE_LIMIT, n, name)?;
-    keep_signature(n, bytes)
-}
 
 /// The publications file that file word `n` is.
 pub(crate) fn load_publications<F: Files>(

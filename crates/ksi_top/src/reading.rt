@@ -5,13 +5,13 @@ ghost use Rattle.ksi_journal.specs.File.{IsJournalFile};
 ghost use Rattle.ksi_publications.specs.File.{IsPublications};
 ghost use Rattle.ksi_schedule.specs.Spelled.{IsScheduleText};
 ghost use Rattle.ksi_signature.specs.File.{IsSignature};
+ghost use Rattle.ksi_signature.specs.Seen.{seen, bytes_seen};
 ghost use Rattle.ksi_top.specs.Reports.{Gives, HaltsMalformed};
-ghost use Rattle.ksi_top.specs.Loading.{signature_or_malformed, publications_or_malformed, journal_or_malformed, schedule_or_malformed};
+ghost use Rattle.ksi_top.specs.Loading.{seen_or_halt, signature_or_malformed, publications_or_malformed, journal_or_malformed, schedule_or_malformed};
 
 use crate::report::{Halt, Report};
-use crate::signature_file::SignatureFile;
 use crate::status::Status;
-use ksi_imprint::{Bytes, Refused, Sha};
+use ksi_imprint::{Refused, Sha};
 use ksi_journal::Journal;
 use ksi_journal::laws::journal_is_read;
 use ksi_lines::{
@@ -19,33 +19,18 @@ use ksi_lines::{
 };
 use ksi_publications::{Publications, publications_are_read};
 use ksi_schedule::{Schedule, schedule_is_read};
-use ksi_signature::{Signature, signature_is_read};
+use ksi_signature::{SignatureView, signature_is_read, view};
 use std::alloc::Global;
 
-/// The signature that file word `n` is, or that it is none.
-pub(crate) fn read_signature(alloc: Global, n: usize, bytes: &[u8]) -> Result<Signature, Halt>
-    ensures told { Gives (signature_or_malformed n bytes.now) result }
-    ensures is { IfOk result (IsSignature bytes.now) }
-    ensures halts { HaltsMalformed result }
+/// The signature that file word `n` is, lent from its bytes, or that it is none. No memory is taken.
+pub(crate) fn view_signature(n: usize, bytes: &[u8]) -> Result<SignatureView<'_>, Halt>
+    ensures told { Gives (signature_or_malformed n bytes.now) (seen_or_halt result) }
+    ensures is { IfOk result (λ view. IsSignature bytes.now (seen view)) }
+    ensures bytes { IfOk result (λ view. bytes_seen view ≡ bytes.now) }
+    ensures halts { HaltsMalformed (seen_or_halt result) }
 {
     signature_is_read();
-    match ksi_signature::read(alloc, bytes) {
-        Ok(signature) => Ok(signature),
-        Err(Refused::Fault(fault)) => {
-            let line = signature_fault_line(n, fault);
-            Err(Halt::Reported(Report::new(Status::Malformed, line)))
-        }
-        Err(Refused::NoMemory) => Err(Halt::NoMemory),
-    }
-}
-
-/// The same, with its bytes kept: nothing is copied from them, and no memory is taken.
-pub(crate) fn keep_signature(n: usize, bytes: Bytes) -> Result<SignatureFile, Halt>
-    ensures told { Gives (signature_or_malformed n bytes) result }
-    ensures is { IfOk result (IsSignature bytes) }
-    ensures halts { HaltsMalformed result }
-{
-    match SignatureFile::of(bytes) {
+    match view(bytes) {
         Ok(signature) => Ok(signature),
         Err(fault) => {
             let line = signature_fault_line(n, fault);

@@ -1,15 +1,11 @@
-use Rattle.std.proofs.Common.{subst, IfOk}
 use Rattle.ksi_imprint.specs.Imprints.{imprint_of}
 use Rattle.ksi_signature.specs.Seen.{seen}
-use Rattle.ksi_signature.specs.declared.signature.Signature.{Signature}
-use Rattle.ksi_top.specs.Audit.{IsAnswered}
 use Rattle.ksi_top.proofs.Answered.{answered}
 use Rattle.ksi_top.proofs.audit.answer.Goals as goal
 
 pub returns-clause-answered : goal.returns-clause-answered
 returns-clause-answered c =
-    let lent = seen c.view-signature.result in
-    subst (λ (signature : Signature). IfOk c.audited.result (IsAnswered c.args.journal.now signature c.args.hash.now c.args.publications.now)) c.view-signature.ensures
-    (answered c.args.journal.now lent c.args.hash.now c.args.publications.now c.in_ok-audit.audit c.audited.result
+    let lent = seen c.args.signature.now in
+    answered c.args.journal.now lent c.args.hash.now c.args.publications.now c.in_ok-audit.audit c.audited.result
     c.audited.ensures c.in_ok-audit.ensures.answer c.in_ok-audit.ensures.shown
-    (λ t accepted decided. c.decided_tells.ensures imprint_of c.args.journal.now lent c.args.hash.now c.args.publications.now t c.start-start.ensures.journal accepted decided))
+    (λ t accepted decided. c.decided_tells.ensures imprint_of c.args.journal.now lent c.args.hash.now c.args.publications.now t c.start-start.ensures.journal accepted decided)

@@ -37,5 +37,5 @@ returns g c =
     performed_last g.F.Files _ _ _ _ (λ s held. extended_report (first_time s) c.args.second c.args.out.now (extended imprint_of c.args.journal.now (content held c.args.signature.now) c.args.second)) _ _ _ _ c.extended_report.result _
     (extended_ends _ _ _ _) (read_after g.F.Files signature_fault signature_at _ _ _ _ _ _ _ _ c.as_slice.ensures c.in_ok-bytes.ensures.loaded c.in_ok-signature.ensures.told c.in_ok-signature.ensures.halts)
     c.ended.ensures (ends_as 1 _ _ c.extended_report.ensures.taken (extended_ends _ _ _ _))
-    (λ tells. extended_same _ _ _ _ _ _ _ _ c.first_time-first.ensures (c.as_slice-2.ensures ∙ c.in_ok-bytes.ensures.whole tells) c.extended_report.ensures.taken)
-    (λ tells. extension_means _ _ _ _ _ _ (c.as_slice-2.ensures ∙ c.in_ok-bytes.ensures.whole tells) c.extended_report.ensures.extended)
+    (λ tells. extended_same _ _ _ _ _ _ _ (c.in_ok-signature.ensures.bytes ∙ c.as_slice.ensures ∙ c.in_ok-bytes.ensures.whole tells) c.extended_report.ensures.taken)
+    (λ tells. extension_means _ _ _ _ _ _ (c.in_ok-signature.ensures.bytes ∙ c.as_slice.ensures ∙ c.in_ok-bytes.ensures.whole tells) c.extended_report.ensures.extended)
