@@ -1,6 +1,7 @@
-ghost use Rattle.std.specs.Prelude.{◌≡◌, ◌<◌, ◌≤◌, ◌+◌, ◌-◌, ◌^◌, ℕ, List, [], length};
-ghost use Rattle.std.specs.List.{AllByRecursion, filter};
+ghost use Rattle.std.specs.Prelude.{◌≡◌, ◌<◌, ◌≤◌, ◌+◌, ◌-◌, ◌^◌, ℕ, List, [], length, true, nat_lt};
+ghost use Rattle.std.specs.List.{filter, list_all};
 ghost use Rattle.ksi_synod.specs.Voters.{cores_below, is_voter};
+ghost use Rattle.ksi_synod.specs.CorePlanFields.{padded};
 ghost use Rattle.ksi_synod.specs.CorePlans.{CorePlanState, voters_of, AreVoters, IsCorePlan, has_room, with_voters};
 
 use crate::voters::Voters;
@@ -52,16 +53,11 @@ impl CorePlan {
         requires early { start ≤ 2 ^ 63 - 2 ^ 24 }
         ensures { result ≡ record { cores = cores; start = start; voters = [] } }
     {
-        let none = VotersFrom {
-            second: 0,
-            voters: Voters::none(),
-        };
-        let voters = [none; 256];
         CorePlan {
             cores,
             start,
             count: 0,
-            voters,
+            voters: no_pairs(),
         }
     }
 
@@ -108,7 +104,7 @@ impl CorePlan {
     pub fn has_room(&self, second: u64) -> bool
         ensures { result ≡ has_room self.now second }
     {
-        self.count < PAIRS && self.voters().iter().all(|pair| pair.second < second)
+        self.count < PAIRS && are_before(self.voters(), second)
     }
 
     /// From the second on these vote.
@@ -125,6 +121,22 @@ impl CorePlan {
         };
         self.count += 1;
     }
+}
+
+fn no_pairs() -> [VotersFrom; 256]
+    ensures { result ≡ padded 256 [] }
+{
+    let none = VotersFrom {
+        second: 0,
+        voters: Voters::none(),
+    };
+    [none; 256]
+}
+
+fn are_before(pairs: &[VotersFrom], second: u64) -> bool
+    ensures { result ≡ list_all (λ pair. nat_lt pair.second second) pairs.now }
+{
+    pairs.iter().all(|pair| pair.second < second)
 }
 
 /// Who votes on a second is at least one core, and no core that is not there. What holds of voters, for the layers above

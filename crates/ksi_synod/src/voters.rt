@@ -62,7 +62,12 @@ impl Voters {
     pub fn are_below(&self, core: u8) -> bool
         ensures { result ≡ list_all (λ voter. nat_lt voter core) self.now }
     {
-        (core.min(9)..9).all(|other| !self.flags[other as usize])
+        for other in 0..9u8 {
+            if self.flags[other as usize] && other >= core {
+                return false;
+            }
+        }
+        true
     }
 
     /// They rise, and are at most the cores 0 to 8. This does nothing.
