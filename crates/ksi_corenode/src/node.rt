@@ -186,7 +186,13 @@ impl<C: Compress> Core<C> {
         let mut sends = self.room()?;
         let begun = self.seconds.ballot(second)?;
         let (answer, call) = called(begun);
-        push_told(self.seconds.plan(), second, self.seconds.me(), &call, &mut sends);
+        push_told(
+            self.seconds.plan(),
+            second,
+            self.seconds.me(),
+            &call,
+            &mut sends,
+        );
         Ok(Step {
             answer,
             sends: Sends::from_vec(sends),
@@ -239,7 +245,11 @@ impl<C: Compress> Core<C> {
         let answer = match self.held(second) {
             None => Answer::Undecided(second),
             Some(root) => {
-                push_all(self.seconds.plan().cores(), &SynodMessage::Success(root), &mut sends);
+                push_all(
+                    self.seconds.plan().cores(),
+                    &SynodMessage::Success(root),
+                    &mut sends,
+                );
                 Answer::Done
             }
         };
