@@ -141,4 +141,3 @@ fn counts(root: &Imprint, count: u64) -> bool
         1 <= count && count <= MOST_ITEMS as u64
     }
 }
-
