@@ -1,7 +1,7 @@
 use crate::same::same;
 use ksi_aggchain::Node;
 use ksi_imprint::{Compress, Imprint, Tiny};
-use ksi_journal::{Journal, JournalFault, Refused, load, write};
+use ksi_journal::{Journal, Parts, JournalFault, Refused, load, write};
 use ksi_split::Side;
 use ksi_split::Side::{Left, Right};
 use std::alloc::Global;
@@ -178,14 +178,13 @@ fn what_is_loaded_is_written_again(rt: HostRuntime) -> Result<(), Fail> {
 }
 
 fn of_nothing(alloc: Global) -> Result<Journal<Tiny>, Fail> {
-    let journal = Journal::<Tiny>::new(
-        alloc,
-        5,
-        Vec::new(alloc),
-        Vec::new(alloc),
-        Vec::new(alloc),
-    )?;
-    Ok(journal)
+    let parts = Parts {
+        start: 5,
+        seconds: Vec::new(alloc),
+        issued: Vec::new(alloc),
+        publications: Vec::new(alloc),
+    };
+    Ok(Journal::new(alloc, parts)?)
 }
 
 #[test]

@@ -6,6 +6,7 @@ use Rattle.ksi_tlv.specs.Spelling.{AreBytes}
 use Rattle.ksi_aggtree.specs.declared.item.Item.{Item}
 use Rattle.ksi_aggtree.specs.Rounds.{most_items, highest_item, some_items, tree_of}
 use Rattle.ksi_aggtree.specs.declared.second.Second.{Second}
+use Rattle.ksi_journal.specs.declared.parts.Parts.{Parts}
 
 -- The first second of the calendar; the kept seconds, each with its root and the items of its tree; the number and the
 -- bytes of each issued signature; and each published time with the root of the calendar to it.
@@ -15,8 +16,9 @@ pub record Contents : Type 0 where
   pub issued : List (ℕ × List ℕ)
   pub publications : List (ℕ × List ℕ)
 
-abbrev pub contents : ℕ → List Second → List (ℕ × List ℕ) → List (ℕ × List ℕ) → Contents
-contents start seconds issued publications = record { start = start; seconds = seconds; issued = issued; publications = publications }
+-- what it is made of, as a record of lists
+abbrev pub contents : Parts → Contents
+contents parts = record { start = parts.start; seconds = parts.seconds.items; issued = parts.issued.items; publications = parts.publications.items }
 
 -- ---- what every journal keeps
 

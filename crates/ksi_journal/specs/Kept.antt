@@ -5,14 +5,8 @@ use Rattle.std.specs.List.{AllByRecursion}
 use Rattle.ksi_tlv.specs.Spelling.{AreBytes}
 use Rattle.ksi_order.specs.declared.fault.OrderFault.{OrderFault}
 use Rattle.ksi_aggtree.specs.declared.item.Item.{Item}
-use Rattle.ksi_journal.specs.declared.loading.Parts.{Parts}
 use Rattle.ksi_aggtree.specs.declared.second.Second.{Second}
-use Rattle.ksi_journal.specs.Journal.{Contents, contents}
 use Rattle.ksi_aggtree.specs.Rounds.{most_items, highest_item, item_at}
-
--- what a journal is made of, as a record of lists
-abbrev pub parts_of : Parts → Contents
-parts_of parts = contents parts.start parts.seconds.items parts.issued.items parts.publications.items
 
 -- a second whose items come is below 2^63, those that are there and to come make a round, numbers have 64 bits, and what
 -- stands behind them are bytes

@@ -7,6 +7,7 @@ ghost use Rattle.ksi_journal.specs.Calendar.{calendar_of};
 
 use crate::calendar::calendar;
 use crate::finding::find;
+use crate::parts::Parts;
 use ksi_aggtree::{Item, Second, Tree};
 use ksi_calendar::laws::one_first_missing;
 use ksi_calendar::{Calendar, Steps};
@@ -19,10 +20,7 @@ use std::sync::ledger::{Blank, Ledger};
 /// publications. A contract sees a record of lists; the tree of each second has its root.
 #[derive(Drop)]
 pub struct Journal<C: Compress> {
-    start: u64,
-    seconds: Vec<Second>,
-    issued: Vec<(u64, Bytes)>,
-    publications: Vec<(u64, Imprint)>,
+    parts: Parts,
     // of the covered seconds
     calendar: Calendar<C>,
 }
@@ -34,38 +32,24 @@ impl<C: Compress> Model for Journal<C> {
 
     ghost Value = { Contents };
 
-    ghost view = { λ j. contents j.start j.seconds.items j.issued.items j.publications.items };
+    ghost view = { λ j. contents j.parts };
 
-    ghost invariant = { λ j. IsJournal C.image (contents j.start j.seconds.items j.issued.items j.publications.items)
-        × (j.calendar ≡ calendar_of (contents j.start j.seconds.items j.issued.items j.publications.items)) };
+    ghost invariant = { λ j. IsJournal C.image (contents j.parts) × (j.calendar ≡ calendar_of (contents j.parts)) };
 }
 
 impl<C: Compress> Journal<C> {
-    /// The journal of a start, kept seconds, issued signatures, each with its number, and publications, which are not
-    /// copied. All times are below 2^63, seconds, numbers and published times rise, and the tree of each second has
-    /// its root.
+    /// The journal of these parts, which are not copied. All times are below 2^63, seconds, numbers and published times
+    /// rise, and the tree of each second has its root.
     ///
     /// # Errors
     /// `NoMemory`: no journal is made.
     #[tactic(auto, unfolding(crate::specs::Calendar::calendar_of))]
-    pub fn new(
-        alloc: Global,
-        start: u64,
-        seconds: Vec<Second>,
-        issued: Vec<(u64, Bytes)>,
-        publications: Vec<(u64, Imprint)>,
-    ) -> Result<Self, NoMemory>
-        requires { IsJournal C.image (contents start seconds.items issued.items publications.items) }
-        ensures { IfOk result (λ journal. journal ≡ contents start seconds.items issued.items publications.items) }
+    pub fn new(alloc: Global, parts: Parts) -> Result<Self, NoMemory>
+        requires { IsJournal C.image (contents parts) }
+        ensures { IfOk result (λ journal. journal ≡ contents parts) }
     {
-        let calendar = calendar(alloc, start, &seconds)?;
-        Ok(Journal {
-            start,
-            seconds,
-            issued,
-            publications,
-            calendar,
-        })
+        let calendar = calendar(alloc, parts.start, &parts.seconds)?;
+        Ok(Journal { parts, calendar })
     }
 
     /// The first second of the calendar.
@@ -73,28 +57,28 @@ impl<C: Compress> Journal<C> {
         ensures start { result ≡ self.now.start }
         ensures journal { IsJournal C.image self.now }
     {
-        self.start
+        self.parts.start
     }
 
     /// The kept seconds, in order.
     pub fn seconds(&self) -> &[Second]
         ensures { result.now ≡ self.now.seconds }
     {
-        &self.seconds
+        &self.parts.seconds
     }
 
     /// The number and the bytes of each issued signature, in order.
     pub fn issued(&self) -> &[(u64, Bytes)]
         ensures { result.now ≡ self.now.issued }
     {
-        &self.issued
+        &self.parts.issued
     }
 
     /// Each published time with the root of the calendar to it, in order.
     pub fn publications(&self) -> &[(u64, Imprint)]
         ensures { result.now ≡ self.now.publications }
     {
-        &self.publications
+        &self.parts.publications
     }
 
     /// The calendar of the seconds from the start up to the first one that is not kept.
@@ -117,7 +101,7 @@ impl<C: Compress> Journal<C> {
         ensures root { result ≡ root_at self.now second }
         ensures step { steps.new ≡ steps.old + 1 }
     {
-        match find(self.start, &self.seconds, second, steps) {
+        match find(self.parts.start, &self.parts.seconds, second, steps) {
             Some(kept) => Some(kept.root),
             None => None,
         }
@@ -136,7 +120,7 @@ impl<C: Compress> Journal<C> {
         ensures items { result.now ≡ items_at self.now second }
         ensures step { steps.new ≡ steps.old + 1 }
     {
-        match find(self.start, &self.seconds, second, steps) {
+        match find(self.parts.start, &self.parts.seconds, second, steps) {
             Some(kept) => kept.items.as_slice(),
             None => &[],
         }
@@ -182,7 +166,7 @@ impl<C: Compress> Journal<C> {
         ensures none { IsNone result → p < self.now.start + length (calendar_of self.now).roots }
         ensures journal { IsJournal C.image self.now }
     {
-        let behind = self.start + self.calendar.count();
+        let behind = self.parts.start + self.calendar.count();
         if behind <= p { Some(behind) } else { None }
     }
 }

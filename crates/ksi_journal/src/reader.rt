@@ -4,14 +4,14 @@ ghost use Rattle.ksi_imprint.specs.declared.refused.Refused.TheVariants.{Fault};
 ghost use Rattle.ksi_tlv.specs.Walking.{elements};
 ghost use Rattle.ksi_order.specs.Sequence.{IsWhole, IsFirstFault, IsWanting};
 ghost use Rattle.ksi_journal.specs.declared.fault.JournalFault.TheVariants.{Magic};
-ghost use Rattle.ksi_journal.specs.Journal.{Contents, IsJournal};
+ghost use Rattle.ksi_journal.specs.Journal.{Contents, contents, IsJournal};
 ghost use Rattle.ksi_journal.specs.Elements.{Loaded, WantsFor, journal_order, nothing_yet};
 ghost use Rattle.ksi_journal.specs.File.{magic, IsJournalFile, IsJournalFault, IsWantingInside};
-ghost use Rattle.ksi_journal.specs.Kept.{parts_of};
 
 use crate::fault::JournalFault;
 use crate::journal::Journal;
-use crate::loading::{Loading, Parts};
+use crate::loading::Loading;
+use crate::parts::Parts;
 use ksi_imprint::{Compress, Refused};
 use ksi_order::{values_are_bounded, walk};
 use ksi_tlv::after_magic;
@@ -35,22 +35,16 @@ pub fn load<C: Compress>(alloc: Global, bytes: &[u8]) -> Result<Journal<C>, Refu
         return Err(Refused::Fault(JournalFault::Magic));
     };
     let parts = parts_in::<C>(alloc, rest)?;
-    let journal = Journal::new(
-        alloc,
-        parts.start,
-        parts.seconds,
-        parts.issued,
-        parts.publications,
-    )?;
+    let journal = Journal::new(alloc, parts)?;
     Ok(journal)
 }
 
 /// What the elements behind the magic say.
 fn parts_in<C: Compress>(alloc: Global, rest: &[u8]) -> Result<Parts, Refused<JournalFault>>
     requires { 8 + length rest.now < 2 ^ 64 }
-    ensures journal { IfOk result (λ parts. IsJournal C.image (parts_of parts)) }
+    ensures journal { IfOk result (λ parts. IsJournal C.image (contents parts)) }
     ensures whole { IfOk result (λ parts. (said : Loaded) ×
-        IsWhole (journal_order C.image) (elements 8 rest.now) nothing_yet said × (parts_of parts ≡ said.contents)) }
+        IsWhole (journal_order C.image) (elements 8 rest.now) nothing_yet said × (contents parts ≡ said.contents)) }
     ensures refused { IfRefused result
         (IsFirstFault (journal_order C.image) (8 + length rest.now) (elements 8 rest.now) nothing_yet)
         (IsWanting (journal_order C.image) (WantsFor C.image) (elements 8 rest.now) nothing_yet) }

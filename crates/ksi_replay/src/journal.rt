@@ -9,7 +9,7 @@ ghost use Rattle.ksi_replay.specs.Journals.{journal_of};
 
 use ksi_aggtree::{Item, Second};
 use ksi_imprint::{Bytes, Compress, Imprint, NoMemory};
-use ksi_journal::Journal;
+use ksi_journal::{Journal, Parts};
 use ksi_journal::laws::are_bytes;
 use ksi_world::World;
 use std::alloc::Global;
@@ -30,7 +30,13 @@ pub fn journal_of<C: Compress>(alloc: Global, world: &World<C>) -> Result<Journa
     imprints_of(&seconds);
     let issued = issued(alloc, world)?;
     let publications = publications_of(alloc, world.published())?;
-    Journal::new(alloc, start, seconds, issued, publications)
+    let parts = Parts {
+        start,
+        seconds,
+        issued,
+        publications,
+    };
+    Journal::new(alloc, parts)
 }
 
 /// The signatures of all requests that have one, each behind the number of its request.

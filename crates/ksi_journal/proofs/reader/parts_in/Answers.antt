@@ -6,7 +6,7 @@ use Rattle.ksi_tlv.specs.Walking.{PlacedTlv, Items, elements}
 use Rattle.ksi_order.specs.Order.{Order}
 use Rattle.ksi_order.specs.Sequence.{IsWhole, IsFirstFault, IsWanting, Tells}
 use Rattle.ksi_journal.specs.Journal.{IsJournal}
-use Rattle.ksi_journal.specs.declared.loading.Parts.{Parts}
+use Rattle.ksi_journal.specs.declared.parts.Parts.{Parts}
 use Rattle.ksi_journal.specs.Elements.{Loaded, journal_order}
 use Rattle.ksi_journal.proofs.Sound.{whole_journal}
 use Rattle.ksi_journal.proofs.reader.parts_in.Goals as goal
