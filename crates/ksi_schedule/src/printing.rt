@@ -2,7 +2,8 @@
 ghost use Rattle.std.specs.Prelude.{◌≡◌, ◌<◌, ◌^◌, ◌++◌, ◌∷◌, [], OnOk, IfOk, map};
 ghost use Rattle.std.specs.List.{AllByRecursion};
 ghost use Rattle.ksi_schedule.specs.Spelled.{IsScheduleText};
-ghost use Rattle.ksi_schedule.specs.Printed.{IsTyped, piece_text, line_of, event_words, parent_words, text_of_lines, schedule_text};
+ghost use Rattle.ksi_schedule.specs.Printed.{IsTyped, piece_text, line_of, core_word, members_words, version_word, event_words, parent_words, spaced, text_of_lines, schedule_text};
+ghost use Rattle.ksi_synod.specs.CorePlans.{AreVoters};
 ghost use Rattle.std.specs.Fmt.{decimal};
 ghost use Rattle.ksi_schedule.specs.declared.printing.Piece.TheVariants as pieces;
 ghost use Rattle.ksi_schedule.specs.declared.event.Event.TheVariants as events;
@@ -12,6 +13,7 @@ use crate::event::Event;
 use crate::schedule::Schedule;
 use itoa::Buffer;
 use ksi_imprint::{Bytes, Imprint, NoMemory};
+use ksi_synod::{Voters, VotersFrom};
 use std::alloc::Global;
 
 // A word of a line.
@@ -31,24 +33,60 @@ pub fn print(alloc: Global, schedule: &Schedule) -> Result<Bytes, NoMemory>
     ensures read_again { IfOk result (λ text. IsScheduleText text schedule.now) }
 {
     let mut text = Vec::new(alloc);
+    let voters = schedule.plan().core_plan().voters();
     put_line(
         &mut text,
-        &[Piece::Text(b"ksi-schedule"), Piece::Text(b"1")],
+        &[Piece::Text(b"ksi-schedule"), Piece::Text(version_word(voters))],
     )?;
     put_line(
         &mut text,
         &[
             Piece::Text(b"cores"),
-            number(u64::from(schedule.plan().cores)),
+            number(u64::from(schedule.plan().cores())),
         ],
     )?;
     put_line(
         &mut text,
-        &[Piece::Text(b"start"), number(schedule.plan().start)],
+        &[Piece::Text(b"start"), number(schedule.plan().start())],
     )?;
+    put_voters(&mut text, schedule.plan().cores(), voters)?;
     put_parents(&mut text, schedule.plan().parents.as_slice())?;
     put_events(&mut text, schedule.events())?;
     Ok(Bytes::from_vec(text))
+}
+
+// Version 2 where a line says who votes.
+fn version_word(voters: &[VotersFrom]) -> &'static [u8]
+    ensures { result.now ≡ version_word voters.now }
+{
+    if voters.is_empty() { b"1" } else { b"2" }
+}
+
+fn put_voters(text: &mut Vec<u8>, cores: u8, pairs: &[VotersFrom]) -> Result<(), NoMemory>
+    requires { AllByRecursion (λ pair. AreVoters cores pair.voters) pairs.now }
+    ensures { OnOk result (text.new.items ≡ text.old.items ++ text_of_lines (map members_words pairs.now)) }
+{
+    for pair in pairs {
+        text.extend_from_slice(b"members ")?;
+        put_number(text, pair.second)?;
+        put_cores(text, cores, &pair.voters)?;
+        text.push(b'\n')?;
+    }
+    Ok(())
+}
+
+// A space and the core's word for each of the cores that votes.
+fn put_cores(text: &mut Vec<u8>, cores: u8, voters: &Voters) -> Result<(), NoMemory>
+    requires { AreVoters cores voters.now }
+    ensures { OnOk result (text.new.items ≡ text.old.items ++ spaced (map core_word voters.now)) }
+{
+    for core in 0..cores {
+        if voters.contains(core) {
+            text.push(b' ')?;
+            put_piece(text, Piece::Named(Actor::Core(core)))?;
+        }
+    }
+    Ok(())
 }
 
 fn put_parents(text: &mut Vec<u8>, parents: &[Actor]) -> Result<(), NoMemory>

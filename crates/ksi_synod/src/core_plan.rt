@@ -51,7 +51,8 @@ impl CorePlan {
         requires some { 1 ≤ cores }
         requires few { cores ≤ 9 }
         requires early { start ≤ 2 ^ 63 - 2 ^ 24 }
-        ensures { result ≡ record { cores = cores; start = start; voters = [] } }
+        ensures plan { result ≡ record { cores = cores; start = start; voters = [] } }
+        ensures limits { IsCorePlan result }
     {
         CorePlan {
             cores,
@@ -113,7 +114,8 @@ impl CorePlan {
         requires early { self.old.start ≤ second }
         requires late { second < self.old.start + 2 ^ 24 }
         requires cores { AreVoters self.old.cores voters.now }
-        ensures { self.new ≡ with_voters self.old second voters.now }
+        ensures plan { self.new ≡ with_voters self.old second voters.now }
+        ensures limits { IsCorePlan self.new }
     {
         self.voters[self.count] = VotersFrom {
             second,
