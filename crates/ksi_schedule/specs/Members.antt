@@ -58,6 +58,12 @@ abbrev pub rising_from : PlanState → Option (List ℕ) → List Text → Resul
 rising_from plan cores [] = Ok cores
 rising_from plan cores (word ∷ words) = value_at plan core_actor word >>= λ j. rising_from plan (with_core cores j) words
 
+abbrev pub second_and_cores : PlanState → Text → List Text → Result (ℕ × Option (List ℕ)) LineFault
+second_and_cores plan word words = value_at plan second word >>= λ t. rising_from plan (Some []) words >>= λ cores. Ok (t, cores)
+
+abbrev pub taken_members : History → List Text → Result History LineFault
+taken_members h words = members_at h.plan words >>= next_members h
+
 abbrev pub if_rising : List ℕ → Option (List ℕ)
 if_rising cores = if rises cores then Some cores else None
 
@@ -69,6 +75,11 @@ rising_at plan words = members_at plan words >>= λ pair. Ok (pair.second, if_ri
 abbrev pub AreSaid : PlanState → ℕ × Option (List ℕ) → Type 0
 AreSaid plan said = InRange plan said.0 × IfSome said.1 (AreVoters plan.cores)
 
+abbrev pub next_risen : History → ℕ → Option (List ℕ) → Result History LineFault
+next_risen h t None = Err Header
+next_risen h t (Some voters) =
+    if has_room (core_plan_of h.plan) t
+    then Ok (record { plan = with_members h.plan (record { second = t; voters = voters }); events = h.events }) else Err Header
+
 abbrev pub next_rising : History → ℕ × Option (List ℕ) → Result History LineFault
-next_rising h (second, None) = Err Header
-next_rising h (second, Some voters) = next_members h (record { second = second; voters = voters })
+next_rising h said = next_risen h said.0 said.1

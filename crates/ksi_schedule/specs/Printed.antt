@@ -4,6 +4,7 @@ use Rattle.std.specs.Fmt.{decimal}
 use Rattle.hex.specs.Hex.{encode_lower}
 use Rattle.ksi_imprint.specs.Reading.{hex_at}
 use Rattle.ksi_schedule.specs.Pieces.{Text}
+use Rattle.ksi_schedule.specs.Plans.{PlanState}
 use Rattle.ksi_schedule.specs.Events.{History}
 use Rattle.ksi_schedule.specs.Members.{members_name}
 use Rattle.ksi_synod.specs.declared.core_plan.VotersFrom.{VotersFrom}
@@ -52,11 +53,13 @@ abbrev pub version_word : List VotersFrom → Text
 version_word [] = codes "1"
 version_word (pair ∷ pairs) = codes "2"
 
+-- the words of the first three lines
+abbrev pub header_words : PlanState → List (List Text)
+header_words plan = (codes "ksi-schedule" ∷ version_word plan.voters ∷ []) ∷ (codes "cores" ∷ decimal plan.cores ∷ []) ∷ (codes "start" ∷ decimal plan.start ∷ []) ∷ []
+
 -- the words of all lines
 abbrev pub all_words : History → List (List Text)
-all_words h =
-    (codes "ksi-schedule" ∷ version_word h.plan.voters ∷ []) ∷ (codes "cores" ∷ decimal h.plan.cores ∷ []) ∷ (codes "start" ∷ decimal h.plan.start ∷ [])
-    ∷ (map members_words h.plan.voters ++ (parent_words 0 h.plan.parents ++ map event_words h.events))
+all_words h = header_words h.plan ++ (map members_words h.plan.voters ++ (parent_words 0 h.plan.parents ++ map event_words h.events))
 
 -- a space before each word
 abbrev pub spaced : List Text → Text

@@ -2,7 +2,7 @@
 ghost use Rattle.std.specs.Prelude.{◌≡◌, ◌<◌, true, length, OnOk, OnErr};
 ghost use Rattle.std.specs.Prelude.{[]};
 ghost use Rattle.ksi_synod.specs.CorePlans.{has_room, AreVoters};
-ghost use Rattle.ksi_schedule.specs.Plans.{IsParent, InRange, core_plan_of, parent_of};
+ghost use Rattle.ksi_schedule.specs.Plans.{IsPlan, IsParent, InRange, core_plan_of, parent_of};
 ghost use Rattle.ksi_schedule.specs.Members.{with_members};
 ghost use Rattle.ksi_schedule.specs.Lines.{reaches_core, with_parent};
 
@@ -48,7 +48,8 @@ pub(crate) fn add_voters(plan: &mut Plan, second: u64, voters: &Voters)
     requires room { has_room (core_plan_of plan.old) second ≡ true }
     requires second { InRange plan.old second }
     requires voters { AreVoters plan.old.cores voters.now }
-    ensures { plan.new ≡ with_members plan.old (record { second = second; voters = voters.now }) }
+    ensures plan { plan.new ≡ with_members plan.old (record { second = second; voters = voters.now }) }
+    ensures limits { IsPlan plan.new }
 {
     plan.core_plan.add_voters(second, voters);
 }

@@ -1,7 +1,7 @@
 // The lines that say who votes, word by word.
 ghost use Rattle.std.specs.Prelude.{◌≡◌, ◌<◌, IfOk};
 ghost use Rattle.ksi_schedule.specs.Words.{core_actor, looks_like, behind_letter};
-ghost use Rattle.ksi_schedule.specs.Members.{name_cores, with_core, rising_from, rising_at, AreSaid};
+ghost use Rattle.ksi_schedule.specs.Members.{name_cores, with_core, rising_from, second_and_cores, rising_at, AreSaid};
 ghost use Rattle.ksi_schedule.specs.Reading.{words_left};
 ghost use Rattle.std.specs.Prelude.{Some, []};
 
@@ -23,6 +23,16 @@ pub(crate) fn members(plan: &Plan, words: Words<'_>) -> Result<(u64, Option<Vote
     if !name_cores(cores) {
         return Err(LineFault::Word);
     }
+    second_and_cores(plan, word, cores)
+}
+
+fn second_and_cores(
+    plan: &Plan,
+    word: &[u8],
+    cores: Words<'_>,
+) -> Result<(u64, Option<Voters>), LineFault>
+    ensures { result ≡ second_and_cores plan.now word.now (words_left cores.entry) }
+{
     Ok((second(plan, word)?, rising(plan, cores)?))
 }
 

@@ -80,7 +80,8 @@ impl Model for Plan {
 impl Plan {
     /// How many cores there are.
     pub fn cores(&self) -> u8
-        ensures { result ≡ self.now.cores }
+        ensures cores { result ≡ self.now.cores }
+        ensures few { result ≤ 9 }
     {
         self.core_plan.cores()
     }

@@ -4,7 +4,7 @@ ghost use Rattle.ksi_imprint.specs.declared.refused.Refused.TheVariants as refus
 ghost use Rattle.ksi_schedule.specs.Pieces.{lines, words};
 ghost use Rattle.ksi_schedule.specs.Plans.{IsParent};
 ghost use Rattle.ksi_schedule.specs.Events.{History};
-ghost use Rattle.ksi_schedule.specs.Members.{AreSaid, next_rising};
+ghost use Rattle.ksi_schedule.specs.Members.{AreSaid, taken_members, next_rising};
 ghost use Rattle.ksi_schedule.specs.Lines.{history, nothing, version_in, takes_members, next_in, next_parent, within, number_behind, bare};
 ghost use Rattle.ksi_schedule.specs.Spelled.{IsScheduleText, IsScheduleFault, IsWanting, IsWantingFrom, Tells, Gives, Refuses};
 ghost use Rattle.ksi_schedule.specs.Reading.{Goes, Reads, on_line, read_from, schedule_at, words_left};
@@ -185,10 +185,7 @@ fn take_line(
         };
     }
     if is(name, b"members") && takes_members(version, schedule) {
-        return match members(schedule.plan(), words) {
-            Ok((second, voters)) => take_members(schedule, second, voters),
-            Err(fault) => Err(Refused::Fault(fault)),
-        };
+        return take_members(schedule, words);
     }
     match event(schedule.plan(), name, words) {
         Ok(event) => match schedule.push_event(event) {
@@ -211,9 +208,22 @@ fn takes_members(version: Version, schedule: &Schedule) -> bool
     }
 }
 
+// Who votes from a second on.
+#[tactic(auto, using(crate::proofs::Rising::next_said))]
+fn take_members(schedule: &mut Schedule, words: Words<'_>) -> Result<(), Refused<LineFault>>
+    requires none { schedule.old.events ≡ [] }
+    requires alone { schedule.old.plan.parents ≡ [] }
+    ensures read { Goes (taken_members schedule.old (words_left words.entry)) schedule.new result }
+    ensures memory { result ≡ Err refused.NoMemory → ⊥ }
+{
+    match members(schedule.plan(), words) {
+        Ok((second, voters)) => take_rising(schedule, second, voters),
+        Err(fault) => Err(Refused::Fault(fault)),
+    }
+}
+
 // These vote from the second on, where they rise.
-#[tactic(auto, unfolding(crate::specs::Members::next_members))]
-fn take_members(
+fn take_rising(
     schedule: &mut Schedule,
     second: u64,
     voters: Option<Voters>,

@@ -14,6 +14,7 @@ const SECONDS: u64 = 0x100_0000;
 pub(crate) fn core(plan: &Plan, word: &[u8]) -> Result<u8, LineFault>
     ensures value { result ≡ core_at plan.now word.now }
     ensures there { IfOk result (λ j. j < plan.now.cores) }
+    ensures few { IfOk result (λ j. j < 9) }
 {
     let n = number(word)?;
     if n < u64::from(plan.cores()) {
