@@ -13,7 +13,7 @@
 //! long the first list is, and `first_not_held` looks there alone.
 //!
 //! ```text
-//! let mut core = Core::<Sha>::new(alloc, 0, 3, start);
+//! let mut core = Core::<Sha>::new(alloc, 0, &CorePlan::new(3, start));
 //! core.submission(aggregator, second, item)?;
 //! core.seal(second)?;
 //! for send in core.ballot(second)?.sends.as_slice() { deliver(send) }
@@ -37,5 +37,6 @@ mod volatiles;
 pub use ksi_imprint::NoMemory;
 pub use ksi_signature::Answer;
 pub use ksi_split::Steps;
+pub use ksi_synod::{CorePlan, Voters};
 pub use node::Core;
 pub use step::{Send, Step};

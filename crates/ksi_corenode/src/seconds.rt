@@ -23,19 +23,19 @@ use ksi_aggtree::{Entry, Item};
 use ksi_imprint::{Compress, Imprint, NoMemory};
 use ksi_signature::Answer;
 use ksi_split::Steps;
-use ksi_synod::{Begun, Instance, SynodMessage};
+use ksi_synod::{Begun, CorePlan, Instance, SynodMessage};
 use std::alloc::Global;
 use std::collections::BTreeMap;
 use std::marker::Model;
 use std::sync::ledger::Ledger;
 
-/// The seconds of core `me` of so many: the stable parts, all sealed items, and the volatile parts of those seconds that
+/// The seconds of core `me` of a plan: the stable parts, all sealed items, and the volatile parts of those seconds that
 /// have a ballot in hand or open items.
 #[derive(Drop)]
 pub(crate) struct Seconds<C: Compress> {
     alloc: Global,
     me: u8,
-    members: u8,
+    plan: CorePlan,
     stables: Stables,
     items: Vec<Entry>,
     volatiles: BTreeMap<u64, VolatileSecond<C>>,
@@ -48,28 +48,27 @@ impl<C: Compress> Model for Seconds<C> {
 
     ghost Value = { CoreState };
 
-    ghost view = { λ s. record { me = s.me; members = s.members; start = s.stables.start; settled = s.stables.settled; others = s.stables.others; items = s.items.items; volatiles = s.volatiles.entries } };
+    ghost view = { λ s. record { me = s.me; plan = s.plan; start = s.stables.start; settled = s.stables.settled; others = s.stables.others; items = s.items.items; volatiles = s.volatiles.entries } };
 
-    ghost invariant = { λ s. (s.me < s.members) × (s.members ≤ 9)
+    ghost invariant = { λ s. (s.me < s.plan.cores) × (s.plan.cores ≤ 9)
         × ((t : ℕ) → IsSealedWell C.image s.items.items (part_of s.stables t)) };
 }
 
 impl<C: Compress> Seconds<C> {
     /// The seconds before anything came.
     #[tactic(auto, unfolding(crate::specs::CoreState::state_of, crate::specs::Stored::second_of, crate::specs::Stored::volatile_at, crate::specs::SecondState::fresh_second, ksi_synod::specs::VoteState::fresh_vote))]
-    pub fn new(alloc: Global, me: u8, members: u8, start: u64) -> Self
-        requires mine { me < members }
-        requires few { members ≤ 9 }
+    pub fn new(alloc: Global, me: u8, plan: &CorePlan) -> Self
+        requires { me < plan.now.cores }
         ensures me { result.me ≡ me }
-        ensures members { result.members ≡ members }
-        ensures start { result.start ≡ start }
-        ensures seconds { (t : ℕ) → state_of result t ≡ fresh_second me members t }
+        ensures plan { result.plan ≡ plan.now }
+        ensures start { result.start ≡ plan.now.start }
+        ensures seconds { (t : ℕ) → state_of result t ≡ fresh_second me plan.now t }
     {
         Seconds {
             alloc,
             me,
-            members,
-            stables: Stables::new(alloc, start),
+            plan: *plan,
+            stables: Stables::new(alloc, plan.start()),
             items: Vec::new(alloc),
             volatiles: BTreeMap::new(alloc),
         }
@@ -78,18 +77,16 @@ impl<C: Compress> Seconds<C> {
     /// The core's number.
     pub fn me(&self) -> u8
         ensures me { result ≡ self.now.me }
-        ensures mine { result < self.now.members }
+        ensures mine { result < self.now.plan.cores }
     {
         self.me
     }
 
-    /// How many cores there are.
-    pub fn members(&self) -> u8
-        ensures members { result ≡ self.now.members }
-        ensures some { 0 < result }
-        ensures few { result ≤ 9 }
+    /// The plan of the cores.
+    pub fn plan(&self) -> &CorePlan
+        ensures { result.now ≡ self.now.plan }
     {
-        self.members
+        &self.plan
     }
 
     /// The first second.
@@ -221,7 +218,7 @@ impl<C: Compress> Seconds<C> {
     #[tactic(auto, unfolding(crate::specs::CoreState::state_of, crate::specs::Stored::second_of, crate::specs::Stored::volatile_at))]
     pub fn restart(&mut self)
         ensures me { self.new.me ≡ self.old.me }
-        ensures members { self.new.members ≡ self.old.members }
+        ensures plan { self.new.plan ≡ self.old.plan }
         ensures start { self.new.start ≡ self.old.start }
         ensures seconds { (t : ℕ) → state_of self.new t ≡ restart_row (state_of self.old t) }
     {
@@ -235,7 +232,7 @@ impl<C: Compress> Seconds<C> {
     {
         let hand = hand_of(&self.volatiles, second);
         let part = self.stables.get(second);
-        Instance::of(self.me, self.members, &part.vote, hand)
+        Instance::of(self.me, self.plan.voters_of(second), &part.vote, hand)
     }
 
     /// Takes an item of an aggregator among the open ones, where there is a place.

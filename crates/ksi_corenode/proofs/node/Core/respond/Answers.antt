@@ -13,7 +13,7 @@ returns-clause-turn g c =
     let same = c.keep.ensures ∙ c.take_calendar.ensures.same in
     record {
       me = ap (λ (core : CoreState). core.me) same;
-      members = ap (λ (core : CoreState). core.members) same;
+      plan = ap (λ (core : CoreState). core.plan) same;
       start = ap (λ (core : CoreState). core.start) same;
       seconds = λ u. ap (λ (core : CoreState). state_of core u) same ∙ stays now t row.after (respond_after g.C.Compress.image (held_by now) now.start t (state_of now t)) u;
       answer = subst (λ (core : CoreState). c.in_ok-step.step.answer ≡ (respond_row g.C.Compress.image (held_by core) core.start t (state_of core t)).answer) c.take_calendar.ensures.same c.in_ok-step.ensures.answer;

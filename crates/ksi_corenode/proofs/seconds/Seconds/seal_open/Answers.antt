@@ -15,8 +15,8 @@ returns-clause-change g c =
     let image = g.C.Compress.image in
     let inside = c.self.inside in
     let t = c.args.second in
-    let old : CoreState = record { me = inside.me; members = inside.members; start = inside.stables.start; settled = inside.stables.settled; others = inside.stables.others; items = inside.items.items; volatiles = inside.volatiles.entries } in
-    let new : CoreState = record { me = inside.me; members = inside.members; start = c.put.new.self.start; settled = c.put.new.self.settled; others = c.put.new.self.others; items = c.move_items.new.items.items; volatiles = c.move_items.new.volatiles.entries } in
+    let old : CoreState = record { me = inside.me; plan = inside.plan; start = inside.stables.start; settled = inside.stables.settled; others = inside.stables.others; items = inside.items.items; volatiles = inside.volatiles.entries } in
+    let new : CoreState = record { me = inside.me; plan = inside.plan; start = c.put.new.self.start; settled = c.put.new.self.settled; others = c.put.new.self.others; items = c.move_items.new.items.items; volatiles = c.move_items.new.volatiles.entries } in
     let more : List Entry = (volatile_at old.volatiles t).open_items in
     let part : StableSecond = record { vote = c.sealed_with.result; first = c.len-first.result; count = c.len.result - c.len-first.result } in
     let first : c.len-first.result ≡ length old.items = search rules in

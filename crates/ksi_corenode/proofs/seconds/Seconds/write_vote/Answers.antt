@@ -32,8 +32,8 @@ returns g c =
     let inside = c.self.inside in
     let t = c.args.second in
     let vote = c.args.vote.now in
-    let old : CoreState = record { me = inside.me; members = inside.members; start = inside.stables.start; settled = inside.stables.settled; others = inside.stables.others; items = inside.items.items; volatiles = inside.volatiles.entries } in
-    let new : CoreState = record { me = inside.me; members = inside.members; start = c.put.new.self.start; settled = c.put.new.self.settled; others = c.put.new.self.others; items = inside.items.items; volatiles = c.put_hand.new.volatiles.entries } in
+    let old : CoreState = record { me = inside.me; plan = inside.plan; start = inside.stables.start; settled = inside.stables.settled; others = inside.stables.others; items = inside.items.items; volatiles = inside.volatiles.entries } in
+    let new : CoreState = record { me = inside.me; plan = inside.plan; start = c.put.new.self.start; settled = c.put.new.self.settled; others = c.put.new.self.others; items = inside.items.items; volatiles = c.put_hand.new.volatiles.entries } in
     let part : StableSecond = record { vote = c.stable.result; first = c.get-old.result.first; count = c.get-old.result.count } in
     let volatile : VolatileState = record (volatile_at inside.volatiles.entries t) { hand = c.hand.result } in
     let keeps = subst (λ (core : CoreState). Keeps (state_of core t).vote vote) (sym c.self.view_is) c.requires.keeps in
