@@ -4,9 +4,9 @@ ghost use Rattle.ksi_synod.specs.Rows.{OfBallot};
 
 use crate::same::same;
 use ksi_aggtree::{Entries, Entry, Item, Origin};
-use ksi_corenode::{Answer, Core, NoMemory, Step, Steps};
+use ksi_corenode::{Answer, Core, CorePlan, NoMemory, Step, Steps};
 use ksi_imprint::{Compress, Imprint, Sha};
-use ksi_synod::{Begun, Instance, LastVote, SynodMessage, Took, Vote};
+use ksi_synod::{Begun, Instance, LastVote, SynodMessage, Took, Vote, Voters};
 use std::alloc::Global;
 use std::marker::Brand;
 use std::process::Abort;
@@ -54,12 +54,12 @@ struct Plain {
     sealed: Option<usize>,
 }
 
-fn nothing_came(me: u8, members: u8) -> Plain
-    requires mine { me < members }
-    requires few { members ≤ 9 }
+fn nothing_came(me: u8, cores: u8) -> Plain
+    requires mine { me ≤ 8 }
+    requires few { cores ≤ 9 }
 {
     Plain {
-        vote: Instance::new(me, members),
+        vote: Instance::new(me, Voters::all(cores)),
         items: None,
         open: 0,
         sealed: None,
@@ -275,7 +275,7 @@ fn settled_alike(rt: &impl Abort, core: &Core<Sha>, plains: &[Plain]) {
 #[test]
 fn a_thousand_events_of_a_core_and_a_plain_one(rt: HostRuntime) {
     let alloc = rt.alloc();
-    let mut core = Core::<Sha>::new(alloc, 0, 3, T);
+    let mut core = Core::<Sha>::new(alloc, 0, &CorePlan::new(3, T));
     let mut plains = [
         nothing_came(0, 3),
         nothing_came(0, 3),
