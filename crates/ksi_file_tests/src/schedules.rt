@@ -4,6 +4,7 @@ use ksi_schedule::{
     Actor, Event, Events, LineFault, NoMemory, Parents, Plan, Refused, Schedule, ScheduleFault,
     print, read_schedule,
 };
+use ksi_synod::CorePlan;
 use std::alloc::Global;
 use std::process::Abort;
 use std::slice;
@@ -84,8 +85,9 @@ fn are_twelve(rt: &impl Abort, events: &[Event]) {
 
 fn is_one_below_one(rt: &impl Abort, plan: &Plan) {
     const PARENTS: [Actor; 1] = [Actor::Core(0)];
-    same(rt, "cores", plan.cores, 1);
-    same(rt, "start", plan.start, T);
+    same(rt, "cores", plan.cores(), 1);
+    same(rt, "start", plan.start(), T);
+    same(rt, "voters", plan.core_plan().voters().len(), 0);
     same(rt, "parents", plan.parents.as_slice(), &PARENTS);
 }
 
@@ -107,10 +109,18 @@ fn is_printed_as(rt: &impl Abort, alloc: Global, text: &str, again: &str) -> Res
 
 #[test]
 fn each_text_is_printed_in_one_way(rt: HostRuntime) -> Result<(), Fail> {
-    const ROWS: [(&str, &str); 3] = [
+    const ROWS: [(&str, &str); 5] = [
         (
             "ksi-schedule 1|cores 1|start 0",
             "ksi-schedule 1|cores 1|start 0|",
+        ),
+        (
+            "ksi-schedule 2|cores 1|start 0",
+            "ksi-schedule 1|cores 1|start 0|",
+        ),
+        (
+            "ksi-schedule 2|cores 03|start 7|members 007 c00 c2|members 16777222 c1|aggregator 0 parent c1|seal 1 8",
+            "ksi-schedule 2|cores 3|start 7|members 7 c0 c2|members 16777222 c1|aggregator 0 parent c1|seal 1 8|",
         ),
         (
             "ksi-schedule 1|cores 009|start 09223372036837998592|deliver 18446744073709551615",
@@ -212,12 +222,96 @@ fn each_line_behind_the_header_has_its_fault(rt: HostRuntime) -> Result<(), Fail
     Ok(())
 }
 
+// The lines behind `ksi-schedule 2`, `cores 3` and `start 100`, of which the first is line 4.
+#[test]
+fn each_line_that_says_who_votes_has_its_fault(rt: HostRuntime) -> Result<(), Fail> {
+    const HEADER: &str = "ksi-schedule 2|cores 3|start 100|";
+    const ROWS: [(&str, Option<ScheduleFault>); 9] = [
+        (
+            ";members 100 c0;members 100 c0 c1 c2|members 16777315 c1|aggregator 0 parent c0|seal 0 100;seal 0 100",
+            None,
+        ),
+        (
+            "members;members 100;members 100 c0 ;members  100 c0;members 100 0;members x c9 a1;members 99 c1 C1;Members 100 c0; members 100 c0",
+            Some(ScheduleFault::Line(LineFault::Word, 4)),
+        ),
+        (
+            "aggregator 0 parent c0|members 100 c0;deliver 0|members x;members 100 c0|member 101 c0",
+            Some(ScheduleFault::Line(LineFault::Word, 5)),
+        ),
+        (
+            "members x c9;members 18446744073709551616 c1 c0;members 100 c;members 100 cx c9;members 100 c1 c1 c-1",
+            Some(ScheduleFault::Line(LineFault::Number, 4)),
+        ),
+        (
+            "members 99 cx;members 16777316 c9;members 99 c1 c1",
+            Some(ScheduleFault::Line(LineFault::SecondOutOfRange, 4)),
+        ),
+        (
+            "members 100 c3;members 100 c3 cx;members 100 c1 c1 c3",
+            Some(ScheduleFault::Line(LineFault::NoSuchActor, 4)),
+        ),
+        (
+            "members 101 c0|members 100 c3",
+            Some(ScheduleFault::Line(LineFault::NoSuchActor, 5)),
+        ),
+        (
+            "members 100 c1 c1;members 100 c1 c0;members 100 c0 c2 c1",
+            Some(ScheduleFault::Line(LineFault::Header, 4)),
+        ),
+        (
+            "members 100 c0|members 100 c1;members 101 c0|members 100 c1",
+            Some(ScheduleFault::Line(LineFault::Header, 5)),
+        ),
+    ];
+    for (texts, fault) in ROWS {
+        have_fault(&rt, rt.alloc(), HEADER, texts, fault)?;
+    }
+    has_fault(
+        &rt,
+        rt.alloc(),
+        "ksi-schedule 1|cores 3|start 100|",
+        "members 100 c0",
+        Some(ScheduleFault::Line(LineFault::Word, 4)),
+    )?;
+    Ok(())
+}
+
+// So many lines that say who votes, a second apart.
+fn say_who_votes(alloc: Global, text: &mut Vec<u8>, lines: u64) -> Result<(), Fail> {
+    for second in 0..lines {
+        let line = format!(in alloc; "members {second} c0\n")?;
+        text.extend_from_slice(line.as_bytes())?;
+    }
+    Ok(())
+}
+
+#[test]
+fn two_hundred_and_fifty_six_lines_may_say_who_votes(rt: HostRuntime) -> Result<(), Fail> {
+    const LINES: [(u64, Option<ScheduleFault>); 3] = [
+        (255, None),
+        (256, None),
+        (257, Some(ScheduleFault::Line(LineFault::Header, 260))),
+    ];
+    for (lines, want) in LINES {
+        let mut text = expanded(rt.alloc(), "ksi-schedule 2|cores 1|start 0|")?;
+        say_who_votes(rt.alloc(), &mut text, lines)?;
+        let read = read_schedule(rt.alloc(), text.as_slice());
+        let fault = match read {
+            Err(Refused::Fault(fault)) => Some(fault),
+            _ => None,
+        };
+        same(&rt, "fault", fault, want);
+    }
+    Ok(())
+}
+
 #[test]
 fn each_line_of_the_header_has_its_fault(rt: HostRuntime) -> Result<(), Fail> {
     const ROWS: [(&str, &str, Option<ScheduleFault>); 4] = [
         (
             "",
-            ";|;ksi-schedule 2|cores 1|start 0;ksi-schedule  1|cores 1|start 0;ksi-schedule 01|cores 1|start 0;cores 1|start 0",
+            ";|;ksi-schedule 3|cores 1|start 0;ksi-schedule 2 |cores 1|start 0;ksi-schedule  1|cores 1|start 0;ksi-schedule 01|cores 1|start 0;cores 1|start 0",
             Some(ScheduleFault::Line(LineFault::Header, 1)),
         ),
         (
@@ -270,12 +364,11 @@ fn bytes_that_are_no_text_are_no_digest(rt: HostRuntime) -> Result<(), Fail> {
 #[test]
 fn a_schedule_is_made_of_its_parts(rt: HostRuntime) {
     let plan = Plan {
-        cores: 1,
-        start: 5,
+        core_plan: CorePlan::new(1, 5),
         parents: Parents::from_vec(Vec::new(rt.alloc())),
     };
     let events = Events::from_vec(Vec::new(rt.alloc()));
     let (plan, events) = Schedule::new(plan, events).into_parts();
-    same(&rt, "start", plan.start, 5);
+    same(&rt, "start", plan.start(), 5);
     same(&rt, "events", events.as_slice().len(), 0);
 }

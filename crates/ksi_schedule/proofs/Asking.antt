@@ -5,14 +5,19 @@ use Rattle.std.specs.Str.{bytes_eq}
 use Rattle.ksi_schedule.specs.declared.event.Event.{Event}
 use Rattle.ksi_schedule.specs.declared.fault.LineFault.TheVariants.{Header, TooManyEvents}
 use Rattle.ksi_schedule.specs.Pieces.{Text, lines, words}
-use Rattle.ksi_schedule.specs.Plans.{PlanState}
+use Rattle.ksi_synod.specs.CorePlans.{has_room}
+use Rattle.ksi_schedule.specs.declared.version.Version.{Version}
+use Rattle.ksi_schedule.specs.Plans.{PlanState, core_plan_of}
 use Rattle.ksi_schedule.specs.Events.{History, AsksForImprint, AskForImprints, AsksForBytes, with_event}
 use Rattle.ksi_schedule.specs.Schedules.{IsHistory}
-use Rattle.ksi_schedule.specs.Words.{form_at, kind_at, ◌>>=◌}
+use Rattle.ksi_schedule.specs.Words.{or_fault, form_at, kind_at, ◌>>=◌}
 use Rattle.ksi_schedule.specs.Forms.{event_kinds, aggregator_line}
-use Rattle.ksi_schedule.specs.Lines.{Said, nothing, title, cores, history, bare, with_parent, reaches_core, is_empty, next_parent, next_in, number_in, with_line}
+use Rattle.ksi_schedule.specs.Members.{members_name, members_at, rises, with_members, next_members}
+use Rattle.ksi_schedule.specs.Lines.{Said, nothing, title, cores, history, bare, version_in, with_parent, reaches_core, is_empty, takes_members, next_parent, next_in, number_in, with_line}
 use Rattle.ksi_schedule.specs.Spelled.{Says, IsScheduleText}
-use Rattle.ksi_schedule.proofs.Within.{same, bind_ok, picked, GoodKinds, kind_holds, Either, spelled_within}
+use Rattle.ksi_schedule.proofs.Holding.{same, bind_ok, picked, GoodKinds, kind_holds}
+use Rattle.ksi_schedule.proofs.Rising.{Grows}
+use Rattle.ksi_schedule.proofs.Within.{Either, spelled_within}
 
 module _ (Asking : Event → Type 0) (good : (plan : PlanState) → GoodKinds plan Asking event_kinds) where
   asks_more : (es : List Event) (e : Event) → AllByRecursion Asking es → Asking e → AllByRecursion Asking (es ++ e ∷ [])
@@ -34,42 +39,53 @@ module _ (Asking : Event → Type 0) (good : (plan : PlanState) → GoodKinds pl
       let event = bind_ok (kind_at h.plan event_kinds name ws) (λ event. Ok (with_event h event)) g is in
       subst Asks (same (with_event h event.0) g event.2) (asks_more h.events event.0 asks (kind_holds h.plan Asking event_kinds name ws event.0 (good h.plan) event.1))
 
-  either_asks : (h g : History) (name : Text) (ws : List Text) (b : Bool) → Either h name ws b ≡ Ok g → Asks h → Asks g
-  either_asks h g name ws true is asks = parent_asks h g ws is asks
-  either_asks h g name ws false is asks = event_asks h g name ws is asks
+  members_asks : (h g : History) (ws : List Text) → (members_at h.plan ws >>= next_members h) ≡ Ok g → Asks h → Asks g
+  unfolding next_members
+  members_asks h g ws is asks =
+      let pair = bind_ok (members_at h.plan ws) (next_members h) g is in
+      let p = picked (has_room (core_plan_of h.plan) pair.0.second && rises pair.0.voters) (record { plan = with_members h.plan pair.0; events = h.events }) g Header pair.2 in
+      subst Asks p.1 asks
 
-  full_asks : (h g : History) (name : Text) (ws : List Text) (full : Bool) → cond full (Err TooManyEvents) (Either h name ws (bytes_eq name aggregator_line.name && is_empty h.events)) ≡ Ok g → Asks h → Asks g
-  full_asks h g name ws true is asks = absurd cc
-  full_asks h g name ws false is asks = either_asks h g name ws (bytes_eq name aggregator_line.name && is_empty h.events) is asks
+  either_asks : (version : Version) (h g : History) (name : Text) (ws : List Text) (a m : Bool) → Either version h name ws a m ≡ Ok g → Asks h → Asks g
+  either_asks version h g name ws true m is asks = parent_asks h g ws is asks
+  either_asks version h g name ws false true is asks = members_asks h g ws is asks
+  either_asks version h g name ws false false is asks = event_asks h g name ws is asks
 
-  next_asks : (h g : History) (ws : List Text) → next_in h ws ≡ Ok g → Asks h → Asks g
+  full_asks : (version : Version) (h g : History) (name : Text) (ws : List Text) (full : Bool)
+      → cond full (Err TooManyEvents) (Either version h name ws (bytes_eq name aggregator_line.name && is_empty h.events) (bytes_eq name members_name && takes_members version h)) ≡ Ok g → Asks h → Asks g
+  full_asks version h g name ws true is asks = absurd cc
+  full_asks version h g name ws false is asks = either_asks version h g name ws (bytes_eq name aggregator_line.name && is_empty h.events) (bytes_eq name members_name && takes_members version h) is asks
+
+  next_asks : (version : Version) (h g : History) (ws : List Text) → next_in version h ws ≡ Ok g → Asks h → Asks g
   unfolding next_in
-  next_asks h g [] is asks = absurd cc
-  next_asks h g (name ∷ ws) is asks = full_asks h g name ws (leb 1000000 (length h.events)) is asks
+  next_asks version h g [] is asks = absurd cc
+  next_asks version h g (name ∷ ws) is asks = full_asks version h g name ws (leb 1000000 (length h.events)) is asks
 
   abbrev SaidAsks : Said → Type 0
-  SaidAsks (history h) = Asks h
+  SaidAsks (history version h) = Asks h
   SaidAsks _ = Unit {0}
 
   line_asks : (a b : Said) (line : Text) → with_line a line ≡ Ok b → SaidAsks a → SaidAsks b
   unfolding with_line
-  line_asks nothing b line is asks = let p = picked (bytes_eq line (codes "ksi-schedule 1")) title b Header is in subst SaidAsks p.1 tt
-  line_asks title b line is asks =
-      let n = bind_ok (number_in (codes "cores") 1 9 line) (λ n. Ok (cores n)) b is in
-      subst SaidAsks (same (cores n.0) b n.2) tt
-  line_asks (cores n) b line is asks =
-      let start = bind_ok (number_in (codes "start") 0 (2 ^ 63 - 2 ^ 24) line) (λ start. Ok (history (bare n start))) b is in
-      subst SaidAsks (same (history (bare n start.0)) b start.2) tt
-  line_asks (history h) b line is asks =
-      let next = bind_ok (next_in h (words line)) (λ next. Ok (history next)) b is in
-      subst SaidAsks (same (history next.0) b next.2) (next_asks h next.0 (words line) next.1 asks)
+  line_asks nothing b line is asks =
+      let version = bind_ok (or_fault Header (version_in line)) (λ version. Ok (title version)) b is in
+      subst SaidAsks (same (title version.0) b version.2) tt
+  line_asks (title version) b line is asks =
+      let n = bind_ok (number_in (codes "cores") 1 9 line) (λ n. Ok (cores version n)) b is in
+      subst SaidAsks (same (cores version n.0) b n.2) tt
+  line_asks (cores version n) b line is asks =
+      let start = bind_ok (number_in (codes "start") 0 (2 ^ 63 - 2 ^ 24) line) (λ start. Ok (history version (bare n start))) b is in
+      subst SaidAsks (same (history version (bare n start.0)) b start.2) tt
+  line_asks (history version h) b line is asks =
+      let next = bind_ok (next_in version h (words line)) (λ next. Ok (history version next)) b is in
+      subst SaidAsks (same (history version next.0) b next.2) (next_asks version h next.0 (words line) next.1 asks)
 
   says_asks : (a b : Said) (ls : List Text) → Says a ls b → SaidAsks a → SaidAsks b
   says_asks a b [] says asks = subst SaidAsks says asks
   says_asks a b (line ∷ ls) says asks = says_asks says.0 b ls says.2 (line_asks a says.0 line says.1 asks)
 
   spelled : (text : Text) (h : History) → IsScheduleText text h → AllByRecursion Asking h.events
-  spelled text h says = says_asks nothing (history h) (lines text) says tt
+  spelled text h says = says_asks nothing (history says.0 h) (lines text) says.1 tt
 
 for_imprints : (plan : PlanState) → GoodKinds plan AsksForImprint event_kinds
 for_imprints plan =
@@ -83,7 +99,7 @@ pub spelled_asks : (text : Text) (h : History) → IsScheduleText text h → Ask
 spelled_asks = spelled AsksForImprint for_imprints
 
 -- so what a text spells follows the rules
-pub spelled_history : (text : Text) (h : History) → IsScheduleText text h → IsHistory h
-spelled_history text h is =
-    let within = spelled_within text h is in
+pub spelled_history : Grows → (text : Text) (h : History) → IsScheduleText text h → IsHistory h
+spelled_history grows text h is =
+    let within = spelled_within grows text h is in
     record { plan = within.plan; events = within.events; few = omega (arith, within.few); imprints = spelled_asks text h is; bytes = spelled AsksForBytes for_bytes text h is }

@@ -7,6 +7,7 @@ use Rattle.ksi_schedule.specs.Events.{History}
 use Rattle.ksi_schedule.specs.Lines.{Said, nothing, title, cores, history, with_line}
 use Rattle.ksi_schedule.specs.Spelled.{Says, IsPlanned, IsScheduleText, IsScheduleFault, Tells, Gives, Refuses}
 use Rattle.ksi_schedule.specs.Reading.{Fault, ended, behind, read_from, schedule_at, Reads}
+use Rattle.ksi_schedule.specs.declared.version.Version.{Version}
 use Rattle.ksi_schedule.specs.declared.fault.LineFault.{LineFault}
 use Rattle.ksi_schedule.specs.declared.fault.LineFault.TheVariants.{Header}
 use Rattle.ksi_schedule.specs.declared.fault.ScheduleFault.{ScheduleFault}
@@ -32,22 +33,23 @@ differ h x e = absurd cc
 
 -- ---- lines that say a history
 
-ended_ok : (n : ℕ) (said : Said) (h : History) → ended n said ≡ Ok h → said ≡ history h
+ended_ok : (n : ℕ) (said : Said) (h : History) → ended n said ≡ Ok h → (version : Version) × (said ≡ history version h)
 ended_ok n nothing h is = absurd cc
-ended_ok n title h is = absurd cc
-ended_ok n (cores c) h is = absurd cc
-ended_ok n (history g) h is = ap history (same_history g h is)
+ended_ok n (title version) h is = absurd cc
+ended_ok n (cores version c) h is = absurd cc
+ended_ok n (history version g) h is = (version, ap (history version) (same_history g h is))
 
 behind_ok : (others : Said → Answer) (n : ℕ) (r : Result Said LineFault) (h : History) → behind others n r ≡ Ok h → (said : Said) × (r ≡ Ok said) × (others said ≡ Ok h)
 behind_ok others n (Ok said) h is = (said, refl, is)
 behind_ok others n (Err fault) h is = absurd cc
 
-read_says : (n : ℕ) (ls : List Text) (said : Said) (h : History) → read_from n ls said ≡ Ok h → Says said ls (history h)
+read_says : (n : ℕ) (ls : List Text) (said : Said) (h : History) → read_from n ls said ≡ Ok h → (version : Version) × Says said ls (history version h)
 unfolding read_from
 read_says n [] said h is = ended_ok n said h is
 read_says n (line ∷ others) said h is =
     let b = behind_ok (read_from (n + 1) others) n (with_line said line) h is in
-    (b.0, b.1, read_says (n + 1) others b.0 h b.2)
+    let rest = read_says (n + 1) others b.0 h b.2 in
+    (rest.0, (b.0, b.1, rest.1))
 
 -- going on behind lines that say something
 says_on : (n : ℕ) (before others : List Text) (one two : Said) → Says one before two → read_from n (before ++ others) one ≡ read_from (n + length before) others two
@@ -88,9 +90,9 @@ IsFrom ls from one fault n = IsFaultFrom ls from one fault n ⊎ IsShortFrom ls 
 
 ended_err : (from n : ℕ) (said : Said) (fault : LineFault) → ended from said ≡ Err (fault, n) → (¬ IsPlanned said) × (fault ≡ Header) × (n ≡ from)
 ended_err from n nothing fault is = let e = same_fault (Header, from) (fault, n) is in ((λ x. x), sym (ap (λ (x : Fault). x.0) e), sym (ap (λ (x : Fault). x.1) e))
-ended_err from n title fault is = let e = same_fault (Header, from) (fault, n) is in ((λ x. x), sym (ap (λ (x : Fault). x.0) e), sym (ap (λ (x : Fault). x.1) e))
-ended_err from n (cores c) fault is = let e = same_fault (Header, from) (fault, n) is in ((λ x. x), sym (ap (λ (x : Fault). x.0) e), sym (ap (λ (x : Fault). x.1) e))
-ended_err from n (history h) fault is = differ h (fault, n) is
+ended_err from n (title version) fault is = let e = same_fault (Header, from) (fault, n) is in ((λ x. x), sym (ap (λ (x : Fault). x.0) e), sym (ap (λ (x : Fault). x.1) e))
+ended_err from n (cores version c) fault is = let e = same_fault (Header, from) (fault, n) is in ((λ x. x), sym (ap (λ (x : Fault). x.0) e), sym (ap (λ (x : Fault). x.1) e))
+ended_err from n (history version h) fault is = differ h (fault, n) is
 
 at_end : (from n : ℕ) (said : Said) (fault : LineFault) → ended from said ≡ Err (fault, n) → IsFrom [] from said fault n
 at_end from n said fault is =
@@ -137,15 +139,15 @@ stands_there n line others said fault is = rw is refl
 
 ended_short : (n : ℕ) (said : Said) → ¬ IsPlanned said → ended n said ≡ Err (Header, n)
 ended_short n nothing short = refl
-ended_short n title short = refl
-ended_short n (cores c) short = refl
-ended_short n (history h) short = absurd (short tt)
+ended_short n (title version) short = refl
+ended_short n (cores version c) short = refl
+ended_short n (history version h) short = absurd (short tt)
 
 -- ---- the whole text
 
 pub spelled_read : (text : Text) (h : History) → IsScheduleText text h → schedule_at text ≡ Ok h
 unfolding schedule_at
-spelled_read text h says = says_whole 1 (lines text) nothing (history h) says
+spelled_read text h says = says_whole 1 (lines text) nothing (history says.0 h) says.1
 
 pub read_spelled : (text : Text) (h : History) → schedule_at text ≡ Ok h → IsScheduleText text h
 unfolding schedule_at

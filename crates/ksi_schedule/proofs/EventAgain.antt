@@ -25,13 +25,13 @@ pub record IsSmall (plan : PlanState) : Type 0 where
   pub parents : length plan.parents ≤ 4096
   pub start : plan.start ≤ 2 ^ 63 - 2 ^ 24
 
-core_again : (plan : PlanState) (j : ℕ) → IsSmall plan → j < plan.cores → core_at plan (decimal j) ≡ Ok j
+pub core_again : (plan : PlanState) (j : ℕ) → IsSmall plan → j < plan.cores → core_at plan (decimal j) ≡ Ok j
 core_again plan j h lt = rw (number_again j (omega (arith, h.cores)), lt-ltb _ _ lt) refl
 
 aggregator_again : (plan : PlanState) (k : ℕ) → IsSmall plan → k < length plan.parents → aggregator_at plan (decimal k) ≡ Ok k
 aggregator_again plan k h lt = rw (number_again k (omega (arith, h.parents)), lt-ltb _ _ lt) refl
 
-second_again : (plan : PlanState) (t : ℕ) → IsSmall plan → InRange plan t → time_word plan (decimal t) ≡ Ok t
+pub second_again : (plan : PlanState) (t : ℕ) → IsSmall plan → InRange plan t → time_word plan (decimal t) ≡ Ok t
 second_again plan t h is = rw (number_again t (omega (arith, h.start, is.1)), le-leb _ _ is.0, lt-ltb _ _ is.1) refl
 
 digest_again : (imprint : List ℕ) → hex_at (hex_of imprint) ≡ Ok imprint → digest_at (hex_of imprint) ≡ Ok imprint
@@ -63,13 +63,13 @@ parent_again plan k (actors.Aggregator i) h small there = rw (number_again k sma
 
 -- ---- clean words
 
-core-clean : (plan : PlanState) (j : ℕ) → IsSmall plan → j < plan.cores → IsCleanWord (decimal j)
+pub core-clean : (plan : PlanState) (j : ℕ) → IsSmall plan → j < plan.cores → IsCleanWord (decimal j)
 core-clean plan j h lt = number-clean j (omega (arith, h.cores))
 
 aggregator-clean : (plan : PlanState) (k : ℕ) → IsSmall plan → k < length plan.parents → IsCleanWord (decimal k)
 aggregator-clean plan k h lt = number-clean k (omega (arith, h.parents))
 
-second-clean : (plan : PlanState) (t : ℕ) → IsSmall plan → InRange plan t → IsCleanWord (decimal t)
+pub second-clean : (plan : PlanState) (t : ℕ) → IsSmall plan → InRange plan t → IsCleanWord (decimal t)
 second-clean plan t h is = number-clean t (omega (arith, h.start, is.1))
 
 digest-clean : (imprint : List ℕ) → hex_at (hex_of imprint) ≡ Ok imprint → IsCleanWord (hex_of imprint)

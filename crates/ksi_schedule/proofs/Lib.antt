@@ -7,7 +7,11 @@ pub mod Both
 pub mod Texts
 pub mod Again
 pub mod EventAgain
+pub mod MembersAgain
 pub mod Whole
+pub mod Holding
+pub mod Rising
+pub mod Taking
 pub mod Within
 pub mod Asking
 pub mod Wanting

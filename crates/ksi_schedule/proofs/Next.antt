@@ -9,7 +9,10 @@ use Rattle.std.proofs.lemmas.Option.{slice_get_within, get_or_from_slice_get, sl
 use Rattle.ksi_schedule.specs.declared.actor.Actor.{Actor}
 use Rattle.ksi_schedule.specs.declared.actor.Actor.TheVariants as actors
 use Rattle.ksi_schedule.specs.declared.event.Event.{Event}
-use Rattle.ksi_schedule.specs.Plans.{PlanState, IsPlan, IsParent, ReachesCore, parent_of}
+use Rattle.ksi_synod.specs.declared.core_plan.VotersFrom.{VotersFrom}
+use Rattle.ksi_synod.specs.CorePlans.{IsCorePlan}
+use Rattle.ksi_schedule.specs.Plans.{PlanState, IsPlan, IsParent, ReachesCore, parent_of, core_plan_of}
+use Rattle.ksi_schedule.specs.Members.{with_members}
 use Rattle.ksi_schedule.specs.Events.{IsEvent, AreEvents}
 use Rattle.ksi_schedule.specs.Lines.{reaches_core, with_parent}
 
@@ -18,7 +21,7 @@ core_0 = actors.Core 0
 
 -- a plan whose first parents are these
 abbrev pub begun : PlanState → List Actor → PlanState
-begun plan parents = record { cores = plan.cores; start = plan.start; parents = parents }
+begun plan parents = record { cores = plan.cores; start = plan.start; voters = plan.voters; parents = parents }
 
 pub reached : (plan : PlanState) (steps : ℕ) (a : Actor) → reaches_core plan steps a ≡ true → ReachesCore plan steps a
 unfolding reaches_core ReachesCore
@@ -91,12 +94,19 @@ low_next plan p is there low k within =
 -- a plan with one aggregator more
 pub plan_next : (plan : PlanState) (p : Actor) → IsPlan plan → length plan.parents < 4096 → IsParent plan.cores (length plan.parents) p → reaches_core plan 7 p ≡ true → IsPlan (with_parent plan p)
 plan_next plan p is room there low = record {
-  some = is.some;
-  few = is.few;
-  early = is.early;
+  core_plan = is.core_plan;
   many = omega (arith, length-append plan.parents (p ∷ []));
   parents = parent_next plan p is there;
   low = low_next plan p is there (reached plan 7 p low);
+}
+
+-- a plan of no aggregators in which others vote
+pub plan_voting : (plan : PlanState) (pair : VotersFrom) → plan.parents ≡ [] → IsPlan plan → IsCorePlan (core_plan_of (with_members plan pair)) → IsPlan (with_members plan pair)
+plan_voting plan pair none is core_plan = record {
+  core_plan = core_plan;
+  many = is.many;
+  parents = is.parents;
+  low = λ k lt. absurd (omega (arith, lt, ap length none));
 }
 
 -- a list of events with one more

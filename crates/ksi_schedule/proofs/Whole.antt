@@ -14,58 +14,63 @@ use Rattle.ksi_schedule.specs.Plans.{PlanState, IsPlan, IsParent, ReachesCore, p
 use Rattle.ksi_schedule.specs.Events.{History, IsEvent, AreEvents, with_event}
 use Rattle.ksi_schedule.specs.Schedules.{IsSchedule}
 use Rattle.ksi_schedule.specs.Forms.{event_kinds}
+use Rattle.ksi_synod.specs.declared.core_plan.VotersFrom.{VotersFrom}
+use Rattle.ksi_synod.specs.CorePlans.{IsCorePlan}
+use Rattle.ksi_schedule.specs.declared.version.Version.{Version}
+use Rattle.ksi_schedule.specs.declared.version.Version.TheVariants.{One, Two}
 use Rattle.ksi_schedule.specs.Lines.{Said, nothing, title, cores, history, bare, reaches_core, next_parent, next_in, number_in, with_line}
 use Rattle.ksi_schedule.specs.Spelled.{Says, IsScheduleText}
-use Rattle.ksi_schedule.specs.Printed.{event_words, actor_word, parent_words, line_of, text_of_lines, schedule_text, IsTyped}
+use Rattle.ksi_schedule.specs.Printed.{core_word, members_words, version_word, event_words, actor_word, parent_words, line_of, text_of_lines, schedule_text, IsTyped}
 use Rattle.ksi_schedule.proofs.Next.{Agree, core_0, begun, parent_there, reaching, same_way, weaker}
 use Rattle.ksi_schedule.proofs.Again.{IsClean, words-line_of, lines-text, number_again, number-clean, plain, two, four}
+use Rattle.ksi_schedule.proofs.MembersAgain.{voting, members-clean, pair_there, members_next}
 use Rattle.ksi_schedule.proofs.EventAgain.{IsSmall, line_at, event_again, parent_again, actor-clean, event-clean}
 
 -- a text whose lines say something, behind one line more
 one_line : (a b d : Said) (ws : List Text) (others : List (List Text)) → IsClean ws → with_line a (line_of ws) ≡ Ok b → Says b (lines (text_of_lines others)) d → Says a (lines (text_of_lines (ws ∷ others))) d
 one_line a b d ws others clean is says = subst (λ (ls : List Text). Says a ls d) (sym (lines-text ws others clean)) (b, is, says)
 
-next_line : (h next : History) (line : Text) → next_in h (words line) ≡ Ok next → with_line (history h) line ≡ Ok (history next)
+next_line : (version : Version) (h next : History) (line : Text) → next_in version h (words line) ≡ Ok next → with_line (history version h) line ≡ Ok (history version next)
 unfolding with_line
-next_line h next line is = rw is refl
+next_line version h next line is = rw is refl
 
 -- ---- events
 
-next_event : (h : History) (name : Text) (ws : List Text) (e : Event) → leb 1000000 (length h.events) ≡ false → bytes_eq name (codes "aggregator") ≡ false → IsClean (name ∷ ws) → line_at h.plan event_kinds (name ∷ ws) ≡ Ok e
-    → with_line (history h) (line_of (name ∷ ws)) ≡ Ok (history (with_event h e))
+next_event : (version : Version) (h : History) (name : Text) (ws : List Text) (e : Event) → leb 1000000 (length h.events) ≡ false → bytes_eq name (codes "aggregator") ≡ false → bytes_eq name (codes "members") ≡ false → IsClean (name ∷ ws) → line_at h.plan event_kinds (name ∷ ws) ≡ Ok e
+    → with_line (history version h) (line_of (name ∷ ws)) ≡ Ok (history version (with_event h e))
 unfolding with_line next_in
-next_event h name ws e room other clean is = rw (words-line_of name ws clean, room, other, is) refl
+next_event version h name ws e room other quiet clean is = rw (words-line_of name ws clean, room, other, quiet, is) refl
 
-event_line : (h : History) (e : Event) → IsSmall h.plan → length h.events < 1000000 → IsEvent h.plan e → IsTyped e → with_line (history h) (line_of (event_words e)) ≡ Ok (history (with_event h e))
-event_line h e small lt is typed = by_event e (lt-leb _ _ lt) (event-clean h.plan e small is typed) (event_again h.plan e small is typed)
+event_line : (version : Version) (h : History) (e : Event) → IsSmall h.plan → length h.events < 1000000 → IsEvent h.plan e → IsTyped e → with_line (history version h) (line_of (event_words e)) ≡ Ok (history version (with_event h e))
+event_line version h e small lt is typed = by_event e (lt-leb _ _ lt) (event-clean h.plan e small is typed) (event_again h.plan e small is typed)
   where
-    by_event : (e : Event) → leb 1000000 (length h.events) ≡ false → IsClean (event_words e) → line_at h.plan event_kinds (event_words e) ≡ Ok e → with_line (history h) (line_of (event_words e)) ≡ Ok (history (with_event h e))
-    by_event (events.Request k t imprint) room clean again = next_event h (codes "request") _ _ room refl clean again
-    by_event (events.Close k t) room clean again = next_event h (codes "close") _ _ room refl clean again
-    by_event (events.Seal j t) room clean again = next_event h (codes "seal") _ _ room refl clean again
-    by_event (events.Ballot j t) room clean again = next_event h (codes "ballot") _ _ room refl clean again
-    by_event (events.Deliver number) room clean again = next_event h (codes "deliver") _ _ room refl clean again
-    by_event (events.Tell j t) room clean again = next_event h (codes "tell") _ _ room refl clean again
-    by_event (events.Respond j t) room clean again = next_event h (codes "respond") _ _ room refl clean again
-    by_event (events.Publish j p) room clean again = next_event h (codes "publish") _ _ room refl clean again
-    by_event (events.RestartCore j) room clean again = next_event h (codes "restart") _ _ room refl clean again
-    by_event (events.RestartAggregator k) room clean again = next_event h (codes "restart") _ _ room refl clean again
+    by_event : (e : Event) → leb 1000000 (length h.events) ≡ false → IsClean (event_words e) → line_at h.plan event_kinds (event_words e) ≡ Ok e → with_line (history version h) (line_of (event_words e)) ≡ Ok (history version (with_event h e))
+    by_event (events.Request k t imprint) room clean again = next_event version h (codes "request") _ _ room refl refl clean again
+    by_event (events.Close k t) room clean again = next_event version h (codes "close") _ _ room refl refl clean again
+    by_event (events.Seal j t) room clean again = next_event version h (codes "seal") _ _ room refl refl clean again
+    by_event (events.Ballot j t) room clean again = next_event version h (codes "ballot") _ _ room refl refl clean again
+    by_event (events.Deliver number) room clean again = next_event version h (codes "deliver") _ _ room refl refl clean again
+    by_event (events.Tell j t) room clean again = next_event version h (codes "tell") _ _ room refl refl clean again
+    by_event (events.Respond j t) room clean again = next_event version h (codes "respond") _ _ room refl refl clean again
+    by_event (events.Publish j p) room clean again = next_event version h (codes "publish") _ _ room refl refl clean again
+    by_event (events.RestartCore j) room clean again = next_event version h (codes "restart") _ _ room refl refl clean again
+    by_event (events.RestartAggregator k) room clean again = next_event version h (codes "restart") _ _ room refl refl clean again
 
 abbrev with_events : History → List Event → History
 with_events h es = record { plan = h.plan; events = h.events ++ es }
 
-abbrev of_events : PlanState → List Event → Said
-of_events plan es = history (record { plan = plan; events = es })
+abbrev of_events : Version → PlanState → List Event → Said
+of_events version plan es = history version (record { plan = plan; events = es })
 
-events_again : (h : History) (es : List Event) → IsSmall h.plan → AreEvents h.plan es → AllByRecursion IsTyped es → length h.events + length es ≤ 1000000
-    → Says (history h) (lines (text_of_lines (map event_words es))) (history (with_events h es))
-events_again h [] small are typed few = ap (of_events h.plan) (sym (append-nil h.events))
-events_again h (e ∷ es) small are typed few =
+events_again : (version : Version) (h : History) (es : List Event) → IsSmall h.plan → AreEvents h.plan es → AllByRecursion IsTyped es → length h.events + length es ≤ 1000000
+    → Says (history version h) (lines (text_of_lines (map event_words es))) (history version (with_events h es))
+events_again version h [] small are typed few = ap (of_events version h.plan) (sym (append-nil h.events))
+events_again version h (e ∷ es) small are typed few =
     let room : length h.events < 1000000 = omega arith in
     let next : length (with_event h e).events + length es ≤ 1000000 = omega (arith, length-append h.events (e ∷ [])) in
-    let rest = events_again (with_event h e) es small are.1 typed.1 next in
-    one_line (history h) (history (with_event h e)) (history (with_events h (e ∷ es))) (event_words e) (map event_words es) (event-clean h.plan e small are.0 typed.0) (event_line h e small room are.0 typed.0)
-    (subst (λ (all : List Event). Says (history (with_event h e)) (lines (text_of_lines (map event_words es))) (of_events h.plan all)) (append_assoc h.events (e ∷ []) es) rest)
+    let rest = events_again version (with_event h e) es small are.1 typed.1 next in
+    one_line (history version h) (history version (with_event h e)) (history version (with_events h (e ∷ es))) (event_words e) (map event_words es) (event-clean h.plan e small are.0 typed.0) (event_line version h e small room are.0 typed.0)
+    (subst (λ (all : List Event). Says (history version (with_event h e)) (lines (text_of_lines (map event_words es))) (of_events version h.plan all)) (append_assoc h.events (e ∷ []) es) rest)
 
 -- ---- aggregators
 
@@ -75,17 +80,17 @@ tree plan parents = record { plan = begun plan parents; events = [] }
 abbrev aggregator_words : ℕ → Actor → List Text
 aggregator_words k p = codes "aggregator" ∷ decimal k ∷ codes "parent" ∷ actor_word p ∷ []
 
-parent_step : (plan : PlanState) (before : List Actor) (p : Actor) → IsSmall (begun plan before) → length before < 4096 → IsParent plan.cores (length before) p → reaches_core (begun plan before) 7 p ≡ true
-    → next_in (tree plan before) (aggregator_words (length before) p) ≡ Ok (tree plan (before ++ p ∷ []))
+parent_step : (version : Version) (plan : PlanState) (before : List Actor) (p : Actor) → IsSmall (begun plan before) → length before < 4096 → IsParent plan.cores (length before) p → reaches_core (begun plan before) 7 p ≡ true
+    → next_in version (tree plan before) (aggregator_words (length before) p) ≡ Ok (tree plan (before ++ p ∷ []))
 unfolding next_in next_parent
-parent_step plan before p small room there low =
+parent_step version plan before p small room there low =
     rw (parent_again (begun plan before) (length before) p small (omega arith) there, eq-eqb (length before) (length before) refl, lt-ltb _ _ room, low) refl
 
-parent_line : (plan : PlanState) (before : List Actor) (p : Actor) → IsSmall (begun plan before) → IsClean (aggregator_words (length before) p) → length before < 4096 → IsParent plan.cores (length before) p → reaches_core (begun plan before) 7 p ≡ true
-    → with_line (history (tree plan before)) (line_of (aggregator_words (length before) p)) ≡ Ok (history (tree plan (before ++ p ∷ [])))
-parent_line plan before p small clean room there low =
-    next_line (tree plan before) (tree plan (before ++ p ∷ [])) (line_of (aggregator_words (length before) p))
-    (ap (next_in (tree plan before)) (words-line_of (codes "aggregator") (decimal (length before) ∷ codes "parent" ∷ actor_word p ∷ []) clean) ∙ parent_step plan before p small room there low)
+parent_line : (version : Version) (plan : PlanState) (before : List Actor) (p : Actor) → IsSmall (begun plan before) → IsClean (aggregator_words (length before) p) → length before < 4096 → IsParent plan.cores (length before) p → reaches_core (begun plan before) 7 p ≡ true
+    → with_line (history version (tree plan before)) (line_of (aggregator_words (length before) p)) ≡ Ok (history version (tree plan (before ++ p ∷ [])))
+parent_line version plan before p small clean room there low =
+    next_line version (tree plan before) (tree plan (before ++ p ∷ [])) (line_of (aggregator_words (length before) p))
+    (ap (next_in version (tree plan before)) (words-line_of (codes "aggregator") (decimal (length before) ∷ codes "parent" ∷ actor_word p ∷ []) clean) ∙ parent_step version plan before p small room there low)
 
 -- the first parents of a plan
 agree_before : (plan : PlanState) (before ps : List Actor) → IsPlan (begun plan (before ++ ps)) → Agree (begun plan (before ++ ps)) (begun plan before) (length before)
@@ -107,13 +112,13 @@ unfolding ReachesCore
 low_there plan before ps p is =
     subst (λ (x : Actor). ReachesCore (begun plan (before ++ p ∷ ps)) 7 x) (seam plan before ps p) (is.low (length before) (omega (arith, length-append before (p ∷ ps))))
 
-parents_again : (plan : PlanState) (before ps : List Actor) (more : List (List Text)) (d : Said) → IsPlan (begun plan (before ++ ps))
-    → Says (history (tree plan (before ++ ps))) (lines (text_of_lines more)) d
-    → Says (history (tree plan before)) (lines (text_of_lines (parent_words (length before) ps ++ more))) d
-parents_again plan before [] more d is says = subst (λ (parents : List Actor). Says (history (tree plan parents)) (lines (text_of_lines more)) d) (append-nil before) says
-parents_again plan before (p ∷ ps) more d is says =
+parents_again : (version : Version) (plan : PlanState) (before ps : List Actor) (more : List (List Text)) (d : Said) → IsPlan (begun plan (before ++ ps))
+    → Says (history version (tree plan (before ++ ps))) (lines (text_of_lines more)) d
+    → Says (history version (tree plan before)) (lines (text_of_lines (parent_words (length before) ps ++ more))) d
+parents_again version plan before [] more d is says = subst (λ (parents : List Actor). Says (history version (tree plan parents)) (lines (text_of_lines more)) d) (append-nil before) says
+parents_again version plan before (p ∷ ps) more d is says =
     let count : length before + 1 ≤ 4096 = omega (arith, is.many, length-append before (p ∷ ps)) in
-    let small : IsSmall (begun plan before) = record { cores = is.few; parents = omega arith; start = is.early } in
+    let small : IsSmall (begun plan before) = record { cores = is.core_plan.few; parents = omega arith; start = is.core_plan.early } in
     let there : IsParent plan.cores (length before) p = fits_there plan before ps p is in
     let low : reaches_core (begun plan before) 7 p ≡ true =
     reaching (begun plan before) 7 p (same_way (begun plan (before ++ p ∷ ps)) (begun plan before) (length before) 7 p (agree_before plan before (p ∷ ps) is) there (low_there plan before ps p is)) in
@@ -121,38 +126,77 @@ parents_again plan before (p ∷ ps) more d is says =
     four (codes "aggregator") (decimal (length before)) (codes "parent") (actor_word p) (plain (codes "aggregator") refl) (number-clean (length before) (omega arith)) (plain (codes "parent") refl) (actor-clean (begun plan before) p small there) in
     let size : length (before ++ p ∷ []) ≡ length before + 1 = omega (arith, length-append before (p ∷ [])) in
     let whole : (before ++ p ∷ []) ++ ps ≡ before ++ (p ∷ ps) = append_assoc before (p ∷ []) ps in
-    let rest = parents_again plan (before ++ p ∷ []) ps more d (subst (λ (parents : List Actor). IsPlan (begun plan parents)) (sym whole) is)
-    (subst (λ (parents : List Actor). Says (history (tree plan parents)) (lines (text_of_lines more)) d) (sym whole) says) in
-    one_line (history (tree plan before)) (history (tree plan (before ++ p ∷ []))) d (aggregator_words (length before) p) (parent_words (length before + 1) ps ++ more) clean (parent_line plan before p small clean (omega arith) there low)
-    (subst (λ (k : ℕ). Says (history (tree plan (before ++ p ∷ []))) (lines (text_of_lines (parent_words k ps ++ more))) d) size rest)
+    let rest = parents_again version plan (before ++ p ∷ []) ps more d (subst (λ (parents : List Actor). IsPlan (begun plan parents)) (sym whole) is)
+    (subst (λ (parents : List Actor). Says (history version (tree plan parents)) (lines (text_of_lines more)) d) (sym whole) says) in
+    one_line (history version (tree plan before)) (history version (tree plan (before ++ p ∷ []))) d (aggregator_words (length before) p) (parent_words (length before + 1) ps ++ more) clean (parent_line version plan before p small clean (omega arith) there low)
+    (subst (λ (k : ℕ). Says (history version (tree plan (before ++ p ∷ []))) (lines (text_of_lines (parent_words k ps ++ more))) d) size rest)
+
+-- ---- who votes
+
+voters_again : (plan : PlanState) (before pairs : List VotersFrom) (more : List (List Text)) (d : Said) → IsCorePlan (record { cores = plan.cores; start = plan.start; voters = before ++ pairs })
+    → Says (history Two (voting plan (before ++ pairs))) (lines (text_of_lines more)) d
+    → Says (history Two (voting plan before)) (lines (text_of_lines (map members_words pairs ++ more))) d
+voters_again plan before [] more d is says = subst (λ (pairs : List VotersFrom). Says (history Two (voting plan pairs)) (lines (text_of_lines more)) d) (append-nil before) says
+voters_again plan before (pair ∷ pairs) more d is says =
+    let small : IsSmall (voting plan before).plan = record { cores = is.few; parents = omega arith; start = is.early } in
+    let clean : IsClean (members_words pair) = members-clean (voting plan before).plan pair small (pair_there plan before pairs pair is) in
+    let whole : (before ++ pair ∷ []) ++ pairs ≡ before ++ (pair ∷ pairs) = append_assoc before (pair ∷ []) pairs in
+    let rest = voters_again plan (before ++ pair ∷ []) pairs more d (subst (λ (pairs : List VotersFrom). IsCorePlan (record { cores = plan.cores; start = plan.start; voters = pairs })) (sym whole) is)
+    (subst (λ (pairs : List VotersFrom). Says (history Two (voting plan pairs)) (lines (text_of_lines more)) d) (sym whole) says) in
+    one_line (history Two (voting plan before)) (history Two (voting plan (before ++ pair ∷ []))) d (members_words pair) (map members_words pairs ++ more) clean
+    (next_line Two (voting plan before) (voting plan (before ++ pair ∷ [])) (line_of (members_words pair))
+    (ap (next_in Two (voting plan before)) (words-line_of (codes "members") (decimal pair.second ∷ map core_word pair.voters) clean) ∙ members_next plan before pairs pair small is))
+    rest
+
+-- the version that is printed
+printed : List VotersFrom → Version
+printed [] = One
+printed (pair ∷ pairs) = Two
+
+said_again : (plan : PlanState) (pairs : List VotersFrom) (more : List (List Text)) (d : Said) → IsCorePlan (record { cores = plan.cores; start = plan.start; voters = pairs })
+    → Says (history (printed pairs) (voting plan pairs)) (lines (text_of_lines more)) d
+    → Says (history (printed pairs) (voting plan [])) (lines (text_of_lines (map members_words pairs ++ more))) d
+unfolding printed
+said_again plan [] more d is says = says
+said_again plan (pair ∷ pairs) more d is says = voters_again plan [] (pair ∷ pairs) more d is says
 
 -- ---- the whole text
 
-title_again : with_line nothing (line_of (codes "ksi-schedule" ∷ codes "1" ∷ [])) ≡ Ok title
-unfolding with_line
-title_again = refl
+title_again : (pairs : List VotersFrom) → with_line nothing (line_of (codes "ksi-schedule" ∷ version_word pairs ∷ [])) ≡ Ok (title (printed pairs))
+unfolding with_line printed
+title_again [] = refl
+title_again (pair ∷ pairs) = refl
 
-cores_again : (n : ℕ) → 1 ≤ n → n ≤ 9 → with_line title (line_of (codes "cores" ∷ decimal n ∷ [])) ≡ Ok (cores n)
+title-clean : (pairs : List VotersFrom) → IsClean (codes "ksi-schedule" ∷ version_word pairs ∷ [])
+title-clean [] = two (codes "ksi-schedule") (codes "1") (plain (codes "ksi-schedule") refl) (plain (codes "1") refl)
+title-clean (pair ∷ pairs) = two (codes "ksi-schedule") (codes "2") (plain (codes "ksi-schedule") refl) (plain (codes "2") refl)
+
+cores_again : (version : Version) (n : ℕ) → 1 ≤ n → n ≤ 9 → with_line (title version) (line_of (codes "cores" ∷ decimal n ∷ [])) ≡ Ok (cores version n)
 unfolding with_line number_in
-cores_again n low high =
+cores_again version n low high =
     rw (words-line_of (codes "cores") (decimal n ∷ []) (two (codes "cores") (decimal n) (plain (codes "cores") refl) (number-clean n (omega arith))), number_again n (omega arith), le-leb _ _ low, le-leb _ _ high) refl
 
-start_again : (n start : ℕ) → start ≤ 2 ^ 63 - 2 ^ 24 → with_line (cores n) (line_of (codes "start" ∷ decimal start ∷ [])) ≡ Ok (history (bare n start))
+start_again : (version : Version) (n start : ℕ) → start ≤ 2 ^ 63 - 2 ^ 24 → with_line (cores version n) (line_of (codes "start" ∷ decimal start ∷ [])) ≡ Ok (history version (bare n start))
 unfolding with_line number_in
-start_again n start high =
+start_again version n start high =
     rw (words-line_of (codes "start") (decimal start ∷ []) (two (codes "start") (decimal start) (plain (codes "start") refl) (number-clean start (omega arith))), number_again start (omega arith), le-leb 0 start (omega arith), le-leb _ _ high) refl
 
 -- what is printed says the schedule
 pub text_again : (h : History) → IsSchedule h → AllByRecursion IsTyped h.events → IsScheduleText (schedule_text h) h
 text_again h is typed =
     let plan = is.plan in
-    let small : IsSmall h.plan = record { cores = plan.few; parents = plan.many; start = plan.early } in
-    let behind : List (List Text) = parent_words 0 h.plan.parents ++ map event_words h.events in
-    one_line nothing title (history h) (codes "ksi-schedule" ∷ codes "1" ∷ []) ((codes "cores" ∷ decimal h.plan.cores ∷ []) ∷ (codes "start" ∷ decimal h.plan.start ∷ []) ∷ (parent_words 0 h.plan.parents ++ map event_words h.events))
-    (two (codes "ksi-schedule") (codes "1") (plain (codes "ksi-schedule") refl) (plain (codes "1") refl)) title_again
-    (one_line title (cores h.plan.cores) (history h) (codes "cores" ∷ decimal h.plan.cores ∷ []) ((codes "start" ∷ decimal h.plan.start ∷ []) ∷ (parent_words 0 h.plan.parents ++ map event_words h.events))
-    (two (codes "cores") (decimal h.plan.cores) (plain (codes "cores") refl) (number-clean h.plan.cores (omega arith))) (cores_again h.plan.cores plan.some plan.few)
-    (one_line (cores h.plan.cores) (history (bare h.plan.cores h.plan.start)) (history h) (codes "start" ∷ decimal h.plan.start ∷ []) (parent_words 0 h.plan.parents ++ map event_words h.events)
-    (two (codes "start") (decimal h.plan.start) (plain (codes "start") refl) (number-clean h.plan.start (omega arith))) (start_again h.plan.cores h.plan.start plan.early)
-    (parents_again h.plan [] h.plan.parents (map event_words h.events) (history h) plan
-    (events_again (tree h.plan h.plan.parents) h.events small is.events typed (omega (arith, is.few))))))
+    let cores_are = plan.core_plan in
+    let version : Version = printed h.plan.voters in
+    let small : IsSmall h.plan = record { cores = cores_are.few; parents = plan.many; start = cores_are.early } in
+    let behind : List (List Text) = map members_words h.plan.voters ++ (parent_words 0 h.plan.parents ++ map event_words h.events) in (
+      version,
+      one_line nothing (title version) (history version h) (codes "ksi-schedule" ∷ version_word h.plan.voters ∷ []) ((codes "cores" ∷ decimal h.plan.cores ∷ []) ∷ (codes "start" ∷ decimal h.plan.start ∷ []) ∷ behind)
+          (title-clean h.plan.voters) (title_again h.plan.voters)
+          (one_line (title version) (cores version h.plan.cores) (history version h) (codes "cores" ∷ decimal h.plan.cores ∷ []) ((codes "start" ∷ decimal h.plan.start ∷ []) ∷ behind)
+          (two (codes "cores") (decimal h.plan.cores) (plain (codes "cores") refl) (number-clean h.plan.cores (omega arith))) (cores_again version h.plan.cores cores_are.some cores_are.few)
+          (one_line (cores version h.plan.cores) (history version (bare h.plan.cores h.plan.start)) (history version h) (codes "start" ∷ decimal h.plan.start ∷ []) behind
+          (two (codes "start") (decimal h.plan.start) (plain (codes "start") refl) (number-clean h.plan.start (omega arith))) (start_again version h.plan.cores h.plan.start cores_are.early)
+          (said_again h.plan h.plan.voters (parent_words 0 h.plan.parents ++ map event_words h.events) (history version h) cores_are
+          (parents_again version h.plan [] h.plan.parents (map event_words h.events) (history version h) plan
+          (events_again version (tree h.plan h.plan.parents) h.events small is.events typed (omega (arith, is.few))))))),
+    )

@@ -1,10 +1,12 @@
 pub mod Plans
+pub mod PlanFields
 pub mod Events
 pub mod Schedules
 pub mod Pieces
 pub mod Decimal
 pub mod Words
 pub mod Forms
+pub mod Members
 pub mod Lines
 pub mod Spelled
 pub mod Reading

@@ -1,13 +1,21 @@
--- Plans: how many cores there are, the first second, and whom each aggregator submits to.
-use Rattle.std.specs.Prelude.{◌≡◌, ℕ, zero, suc, ◌+◌, ◌-◌, ◌^◌, ◌<◌, ◌≤◌, List, length, slice_get, slice_index_or, Some}
+-- Plans: how many cores there are, the first second, who votes on which second, and whom each aggregator submits to.
+use Rattle.std.specs.Prelude.{◌≡◌, ℕ, zero, suc, ◌+◌, ◌^◌, ◌<◌, ◌≤◌, List, length, slice_get, slice_index_or, Some}
+use Rattle.ksi_synod.specs.declared.core_plan.VotersFrom.{VotersFrom}
+use Rattle.ksi_synod.specs.CorePlans.{CorePlanState, IsCorePlan}
 use Rattle.ksi_schedule.specs.declared.actor.Actor.{Actor}
 use Rattle.ksi_schedule.specs.declared.actor.Actor.TheVariants as actors
 
--- the number of cores, the first second, and the parent of each aggregator, that of aggregator 0 first
+-- the number of cores, the first second, from which second on which cores vote, and the parent of each aggregator, that of
+-- aggregator 0 first
 pub record PlanState : Type 0 where
   pub cores : ℕ
   pub start : ℕ
+  pub voters : List VotersFrom
   pub parents : List Actor
+
+-- what of it the cores know
+abbrev pub core_plan_of : PlanState → CorePlanState
+core_plan_of plan = record { cores = plan.cores; start = plan.start; voters = plan.voters }
 
 abbrev pub parent_of : PlanState → (aggregator : ℕ) → Actor
 parent_of plan k = slice_index_or plan.parents k (actors.Core 0)
@@ -23,12 +31,10 @@ ReachesCore plan steps (actors.Core j) = j < plan.cores
 ReachesCore plan zero (actors.Aggregator k) = ⊥
 ReachesCore plan (suc steps) (actors.Aggregator k) = ReachesCore plan steps (parent_of plan k)
 
--- one to nine cores, a start that leaves room for 2^24 seconds below 2^63, and at most 4,096 aggregators, at most eight of
--- them above one another
+-- what the cores know is within its limits, and there are at most 4,096 aggregators, at most eight of them above one
+-- another
 pub record IsPlan (plan : PlanState) : Type 0 where
-  pub some : 1 ≤ plan.cores
-  pub few : plan.cores ≤ 9
-  pub early : plan.start ≤ 2 ^ 63 - 2 ^ 24
+  pub core_plan : IsCorePlan (core_plan_of plan)
   pub many : length plan.parents ≤ 4096
   pub parents : (k : ℕ) (parent : Actor) → slice_get plan.parents k ≡ Some parent → IsParent plan.cores k parent
   pub low : (k : ℕ) → k < length plan.parents → ReachesCore plan 8 (actors.Aggregator k)

@@ -4,7 +4,10 @@ use Rattle.std.specs.Fmt.{decimal}
 use Rattle.hex.specs.Hex.{encode_lower}
 use Rattle.ksi_imprint.specs.Reading.{hex_at}
 use Rattle.ksi_schedule.specs.Pieces.{Text}
+use Rattle.ksi_schedule.specs.Plans.{PlanState}
 use Rattle.ksi_schedule.specs.Events.{History}
+use Rattle.ksi_schedule.specs.Members.{members_name}
+use Rattle.ksi_synod.specs.declared.core_plan.VotersFrom.{VotersFrom}
 use Rattle.ksi_schedule.specs.declared.actor.Actor.{Actor}
 use Rattle.ksi_schedule.specs.declared.actor.Actor.TheVariants as actors
 use Rattle.ksi_schedule.specs.declared.event.Event.{Event}
@@ -19,6 +22,13 @@ hex_of imprint = encode_lower (drop 1 imprint)
 abbrev pub actor_word : Actor → Text
 actor_word (actors.Core j) = 99 ∷ decimal j
 actor_word (actors.Aggregator k) = 97 ∷ decimal k
+
+abbrev pub core_word : ℕ → Text
+core_word core = actor_word (actors.Core core)
+
+-- the words of the line of a second and its voters
+abbrev pub members_words : VotersFrom → List Text
+members_words pair = members_name ∷ decimal pair.second ∷ map core_word pair.voters
 
 -- the words of the aggregators' lines, the first of them of number k
 abbrev pub parent_words : (k : ℕ) → List Actor → List (List Text)
@@ -38,11 +48,18 @@ event_words (events.Publish j p) = codes "publish" ∷ decimal j ∷ decimal p �
 event_words (events.RestartCore j) = codes "restart" ∷ actor_word (actors.Core j) ∷ []
 event_words (events.RestartAggregator k) = codes "restart" ∷ actor_word (actors.Aggregator k) ∷ []
 
+-- version 2 where a line says who votes
+abbrev pub version_word : List VotersFrom → Text
+version_word [] = codes "1"
+version_word (pair ∷ pairs) = codes "2"
+
+-- the words of the first three lines
+abbrev pub header_words : PlanState → List (List Text)
+header_words plan = (codes "ksi-schedule" ∷ version_word plan.voters ∷ []) ∷ (codes "cores" ∷ decimal plan.cores ∷ []) ∷ (codes "start" ∷ decimal plan.start ∷ []) ∷ []
+
 -- the words of all lines
 abbrev pub all_words : History → List (List Text)
-all_words h =
-    (codes "ksi-schedule" ∷ codes "1" ∷ []) ∷ (codes "cores" ∷ decimal h.plan.cores ∷ []) ∷ (codes "start" ∷ decimal h.plan.start ∷ [])
-    ∷ (parent_words 0 h.plan.parents ++ map event_words h.events)
+all_words h = header_words h.plan ++ (map members_words h.plan.voters ++ (parent_words 0 h.plan.parents ++ map event_words h.events))
 
 -- a space before each word
 abbrev pub spaced : List Text → Text

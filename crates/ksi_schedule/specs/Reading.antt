@@ -17,7 +17,7 @@ abbrev pub Fault : Type 0
 Fault = LineFault × ℕ
 
 abbrev pub ended : ℕ → Said → Result History Fault
-ended n (history h) = Ok h
+ended n (history version h) = Ok h
 ended n _ = Err (Header, n)
 
 abbrev pub behind : (Said → Result History Fault) → ℕ → Result Said LineFault → Result History Fault

@@ -5,6 +5,7 @@ use Rattle.ksi_imprint.specs.declared.refused.Refused.TheVariants as refused
 use Rattle.ksi_schedule.specs.Pieces.{Text, lines, words}
 use Rattle.ksi_schedule.specs.Events.{History}
 use Rattle.ksi_schedule.specs.Lines.{Said, nothing, history, next_in, with_line}
+use Rattle.ksi_schedule.specs.declared.version.Version.{Version}
 use Rattle.ksi_schedule.specs.declared.fault.LineFault.{LineFault}
 use Rattle.ksi_schedule.specs.declared.fault.LineFault.TheVariants.{Header}
 use Rattle.ksi_schedule.specs.declared.fault.ScheduleFault.{ScheduleFault}
@@ -15,9 +16,9 @@ abbrev pub Says : Said → List Text → Said → Type 0
 Says before [] after = before ≡ after
 Says before (line ∷ others) after = (said : Said) × (with_line before line ≡ Ok said) × Says said others after
 
--- the lines of the text say the plan and the events
+-- the lines of the text say the plan and the events, in one of the versions
 abbrev pub IsScheduleText : Text → History → Type 0
-IsScheduleText text h = Says nothing (lines text) (history h)
+IsScheduleText text h = (version : Version) × Says nothing (lines text) (history version h)
 
 -- the lines before line n, counted from 1, say something, and it has the fault
 pub record IsFaultyLine (text : Text) (fault : LineFault) (n : ℕ) : Type 0 where
@@ -31,7 +32,7 @@ pub record IsFaultyLine (text : Text) (fault : LineFault) (n : ℕ) : Type 0 whe
   pub stands : with_line said line ≡ Err fault
 
 abbrev pub IsPlanned : Said → Type 0
-IsPlanned (history h) = Unit {0}
+IsPlanned (history version h) = Unit {0}
 IsPlanned _ = ⊥
 
 -- the text has fewer than three lines, and the fault stands on the line after the last
@@ -51,9 +52,10 @@ pub record IsWantingFrom (said : Said) (ls : List Text) : Type 0 where
   pub line : Text
   pub others : List Text
   pub split : ls ≡ before ++ line ∷ others
+  pub version : Version
   pub h : History
-  pub says : Says said before (history h)
-  pub fine : IsOk (next_in h (words line))
+  pub says : Says said before (history version h)
+  pub fine : IsOk (next_in version h (words line))
 
 abbrev pub IsWanting : Text → Type 0
 IsWanting text = IsWantingFrom nothing (lines text)

@@ -1,18 +1,22 @@
 // Plans while their lines are read.
 ghost use Rattle.std.specs.Prelude.{◌≡◌, ◌<◌, true, length, OnOk, OnErr};
-ghost use Rattle.ksi_schedule.specs.Plans.{IsParent, parent_of};
+ghost use Rattle.std.specs.Prelude.{[]};
+ghost use Rattle.ksi_synod.specs.CorePlans.{has_room, AreVoters};
+ghost use Rattle.ksi_schedule.specs.Plans.{IsPlan, IsParent, InRange, core_plan_of, parent_of};
+ghost use Rattle.ksi_schedule.specs.Members.{with_members};
 ghost use Rattle.ksi_schedule.specs.Lines.{reaches_core, with_parent};
 
 use crate::actor::Actor;
 use crate::plan::Plan;
 use ksi_imprint::NoMemory;
+use ksi_synod::Voters;
 
 // Whether a core is reached from the actor in so many steps up, or fewer.
 pub(crate) fn reaches_core(plan: &Plan, steps: usize, actor: Actor) -> bool
     ensures { result ≡ reaches_core plan.now steps actor }
 {
     match actor {
-        Actor::Core(j) => j < plan.cores,
+        Actor::Core(j) => j < plan.cores(),
         Actor::Aggregator(k) => steps > 0 && reaches_core(plan, steps - 1, parent_of(plan, k)),
     }
 }
@@ -36,4 +40,16 @@ pub(crate) fn push_parent(plan: &mut Plan, parent: Actor) -> Result<(), NoMemory
     ensures err { OnErr result (plan.new ≡ plan.old) }
 {
     plan.parents.push(parent)
+}
+
+// From the second on these vote.
+pub(crate) fn add_voters(plan: &mut Plan, second: u64, voters: &Voters)
+    requires none { plan.old.parents ≡ [] }
+    requires room { has_room (core_plan_of plan.old) second ≡ true }
+    requires second { InRange plan.old second }
+    requires voters { AreVoters plan.old.cores voters.now }
+    ensures plan { plan.new ≡ with_members plan.old (record { second = second; voters = voters.now }) }
+    ensures limits { IsPlan plan.new }
+{
+    plan.core_plan.add_voters(second, voters);
 }

@@ -6,6 +6,8 @@ ghost use Rattle.ksi_schedule.specs.Schedules.{IsSchedule, IsHistory};
 ghost use Rattle.ksi_schedule.specs.Spelled.{IsScheduleText, IsScheduleFault};
 ghost use Rattle.ksi_schedule.specs.Reading.{schedule_at};
 
+use ksi_synod::voters_are_cores;
+
 /// A text is a schedule or has a first fault, and not both; it is one schedule, and it has one first fault.
 pub fn schedule_or_fault()
     ensures one { (text : List ℕ) → ((h : History) × IsScheduleText text h) ⊎ ((fault : LineFault) × (n : ℕ) × IsScheduleFault text fault n) }
@@ -22,9 +24,10 @@ pub fn schedule_is_read()
 
 /// What a text spells is within the limits of a schedule, and each request in it is for an imprint, whose numbers are
 /// bytes.
-#[tactic(auto, using(crate::proofs::Within::spelled_within, crate::proofs::Asking::spelled_asks, crate::proofs::Asking::spelled_history))]
 pub fn spelled_is_schedule()
     ensures schedule { (text : List ℕ) (h : History) → IsScheduleText text h → IsSchedule h }
     ensures imprints { (text : List ℕ) (h : History) → IsScheduleText text h → AskForImprints h.events }
     ensures history { (text : List ℕ) (h : History) → IsScheduleText text h → IsHistory h }
-{}
+{
+    voters_are_cores();
+}

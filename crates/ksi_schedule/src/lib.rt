@@ -1,4 +1,4 @@
-//! Schedules: a plan of cores and aggregators, and the events that are to happen, as values and as texts.
+//! Schedules: a plan of cores, their voters and aggregators, and the events that are to happen, as values and as texts.
 //!
 //! A contract sees a [`Schedule`] as its plan and its list of events, and its type keeps the limits: at most a million
 //! events, each with an actor and a second of the plan. The layers above may rely on this: [`read_schedule`] gives exactly
@@ -24,11 +24,13 @@ mod event;
 mod fault;
 mod growing;
 mod laws;
+mod members;
 mod plan;
 mod printing;
 mod reading;
 mod rows;
 mod schedule;
+mod version;
 mod word;
 
 pub use actor::Actor;

@@ -1,8 +1,9 @@
 ghost use Rattle.std.specs.Prelude.{◌≡◌, ◌≤◌, ◌<◌, ◌++◌, ◌∷◌, [], length, IfOk, OnOk, OnErr};
-ghost use Rattle.ksi_schedule.specs.Plans.{IsPlan, parent_of};
+ghost use Rattle.ksi_schedule.specs.Plans.{IsPlan, core_plan_of, parent_of};
 
 use crate::actor::Actor;
 use ksi_imprint::NoMemory;
+use ksi_synod::CorePlan;
 use std::alloc::Global;
 use std::marker::Model;
 
@@ -54,15 +55,13 @@ impl Parents {
     }
 }
 
-/// How many cores there are, the first second, and whom each aggregator submits to.
+/// How many cores there are, the first second and who votes on which second, and whom each aggregator submits to.
 ///
-/// There are 1 to 9 cores, the start is at most 2^63 - 2^24, and there are at most 4,096 aggregators. The parent of an
-/// aggregator is a core of the plan or an aggregator with a smaller number, and at most eight aggregators stand above one
-/// another.
+/// There are at most 4,096 aggregators. The parent of an aggregator is a core of the plan or an aggregator with a smaller
+/// number, and at most eight aggregators stand above one another.
 #[derive(Drop)]
 pub struct Plan {
-    pub cores: u8,
-    pub start: u64,
+    pub core_plan: CorePlan,
     pub parents: Parents,
 }
 
@@ -71,12 +70,37 @@ impl Model for Plan {
 
     ghost Value = { PlanState };
 
-    ghost view = { λ plan. record { cores = plan.cores; start = plan.start; parents = plan.parents } };
+    ghost use Rattle.ksi_schedule.specs.PlanFields.{plan_of};
 
-    ghost invariant = { λ plan. IsPlan (record { cores = plan.cores; start = plan.start; parents = plan.parents }) };
+    ghost view = { plan_of };
+
+    ghost invariant = { λ plan. IsPlan (plan_of plan) };
 }
 
 impl Plan {
+    /// How many cores there are.
+    pub fn cores(&self) -> u8
+        ensures cores { result ≡ self.now.cores }
+        ensures few { result ≤ 9 }
+    {
+        self.core_plan.cores()
+    }
+
+    /// The first second.
+    pub fn start(&self) -> u64
+        ensures { result ≡ self.now.start }
+    {
+        self.core_plan.start()
+    }
+
+    /// What the cores know of it.
+    pub fn core_plan(&self) -> &CorePlan
+        ensures plan { result.now ≡ core_plan_of self.now }
+        ensures limits { IsPlan self.now }
+    {
+        &self.core_plan
+    }
+
     /// How many aggregators there are.
     pub fn aggregators(&self) -> usize
         ensures count { result ≡ length self.now.parents }
@@ -103,8 +127,7 @@ impl Plan {
     {
         let parents = self.parents.as_slice().to_vec(alloc)?;
         Ok(Plan {
-            cores: self.cores,
-            start: self.start,
+            core_plan: self.core_plan,
             parents: Parents::from_vec(parents),
         })
     }

@@ -2,16 +2,19 @@
 ghost use Rattle.std.specs.Prelude.{◌≡◌, ◌<◌, ◌^◌, ◌++◌, ◌∷◌, [], OnOk, IfOk, map};
 ghost use Rattle.std.specs.List.{AllByRecursion};
 ghost use Rattle.ksi_schedule.specs.Spelled.{IsScheduleText};
-ghost use Rattle.ksi_schedule.specs.Printed.{IsTyped, piece_text, line_of, event_words, parent_words, text_of_lines, schedule_text};
+ghost use Rattle.ksi_schedule.specs.Printed.{IsTyped, piece_text, line_of, core_word, header_words, members_words, version_word, event_words, parent_words, spaced, text_of_lines, schedule_text};
+ghost use Rattle.ksi_synod.specs.CorePlans.{AreVoters};
 ghost use Rattle.std.specs.Fmt.{decimal};
 ghost use Rattle.ksi_schedule.specs.declared.printing.Piece.TheVariants as pieces;
 ghost use Rattle.ksi_schedule.specs.declared.event.Event.TheVariants as events;
 
 use crate::actor::Actor;
 use crate::event::Event;
+use crate::plan::Plan;
 use crate::schedule::Schedule;
 use itoa::Buffer;
 use ksi_imprint::{Bytes, Imprint, NoMemory};
+use ksi_synod::{CorePlan, Voters, VotersFrom, voters_are_cores};
 use std::alloc::Global;
 
 // A word of a line.
@@ -31,24 +34,80 @@ pub fn print(alloc: Global, schedule: &Schedule) -> Result<Bytes, NoMemory>
     ensures read_again { IfOk result (λ text. IsScheduleText text schedule.now) }
 {
     let mut text = Vec::new(alloc);
-    put_line(
-        &mut text,
-        &[Piece::Text(b"ksi-schedule"), Piece::Text(b"1")],
-    )?;
-    put_line(
-        &mut text,
-        &[
-            Piece::Text(b"cores"),
-            number(u64::from(schedule.plan().cores)),
-        ],
-    )?;
-    put_line(
-        &mut text,
-        &[Piece::Text(b"start"), number(schedule.plan().start)],
-    )?;
+    put_header(&mut text, schedule.plan())?;
+    put_voters(&mut text, schedule.plan().core_plan())?;
     put_parents(&mut text, schedule.plan().parents.as_slice())?;
     put_events(&mut text, schedule.events())?;
     Ok(Bytes::from_vec(text))
+}
+
+fn put_header(text: &mut Vec<u8>, plan: &Plan) -> Result<(), NoMemory>
+    ensures { OnOk result (text.new.items ≡ text.old.items ++ text_of_lines (header_words plan.now)) }
+{
+    put_word(
+        text,
+        b"ksi-schedule",
+        version_word(plan.core_plan().voters()),
+    )?;
+    put_count(text, b"cores", u64::from(plan.cores()))?;
+    put_count(text, b"start", plan.start())?;
+    Ok(())
+}
+
+fn put_word(text: &mut Vec<u8>, name: &[u8], word: &[u8]) -> Result<(), NoMemory>
+    ensures { OnOk result (text.new.items ≡ text.old.items ++ (line_of (name.now ∷ word.now ∷ []) ++ 10 ∷ [])) }
+{
+    put_line(text, &[Piece::Text(name), Piece::Text(word)])
+}
+
+fn put_count(text: &mut Vec<u8>, name: &[u8], count: u64) -> Result<(), NoMemory>
+    ensures { OnOk result (text.new.items ≡ text.old.items ++ (line_of (name.now ∷ decimal count ∷ []) ++ 10 ∷ [])) }
+{
+    put_line(text, &[Piece::Text(name), number(count)])
+}
+
+// Version 2 where a line says who votes.
+fn version_word(voters: &[VotersFrom]) -> &'static [u8]
+    ensures { result.now ≡ version_word voters.now }
+{
+    if voters.is_empty() { b"1" } else { b"2" }
+}
+
+fn put_voters(text: &mut Vec<u8>, plan: &CorePlan) -> Result<(), NoMemory>
+    ensures { OnOk result (text.new.items ≡ text.old.items ++ text_of_lines (map members_words plan.now.voters)) }
+{
+    let cores = plan.cores();
+    for pair in plan.voters() {
+        put_members(text, cores, pair)?;
+    }
+    Ok(())
+}
+
+fn put_members(text: &mut Vec<u8>, cores: u8, pair: &VotersFrom) -> Result<(), NoMemory>
+    requires { AreVoters cores pair.now.voters }
+    ensures { OnOk result (text.new.items ≡ text.old.items ++ (line_of (members_words pair.now) ++ 10 ∷ [])) }
+{
+    put_piece(text, Piece::Text(b"members"))?;
+    text.push(b' ')?;
+    put_piece(text, number(pair.second))?;
+    put_cores(text, cores, &pair.voters)?;
+    text.push(b'\n')?;
+    Ok(())
+}
+
+// A space and the core's word for each of the cores that votes.
+fn put_cores(text: &mut Vec<u8>, cores: u8, voters: &Voters) -> Result<(), NoMemory>
+    requires { AreVoters cores voters.now }
+    ensures { OnOk result (text.new.items ≡ text.old.items ++ spaced (map core_word voters.now)) }
+{
+    voters_are_cores();
+    for core in 0..cores {
+        if voters.contains(core) {
+            text.push(b' ')?;
+            put_piece(text, Piece::Named(Actor::Core(core)))?;
+        }
+    }
+    Ok(())
 }
 
 fn put_parents(text: &mut Vec<u8>, parents: &[Actor]) -> Result<(), NoMemory>

@@ -4,7 +4,8 @@ ghost use Rattle.ksi_imprint.specs.declared.refused.Refused.TheVariants as refus
 ghost use Rattle.ksi_schedule.specs.Pieces.{lines, words};
 ghost use Rattle.ksi_schedule.specs.Plans.{IsParent};
 ghost use Rattle.ksi_schedule.specs.Events.{History};
-ghost use Rattle.ksi_schedule.specs.Lines.{history, nothing, next_in, next_parent, within, number_behind, bare};
+ghost use Rattle.ksi_schedule.specs.Members.{AreSaid, taken_members, next_rising};
+ghost use Rattle.ksi_schedule.specs.Lines.{history, nothing, version_in, takes_members, next_in, next_parent, within, number_behind, bare};
 ghost use Rattle.ksi_schedule.specs.Spelled.{IsScheduleText, IsScheduleFault, IsWanting, IsWantingFrom, Tells, Gives, Refuses};
 ghost use Rattle.ksi_schedule.specs.Reading.{Goes, Reads, on_line, read_from, schedule_at, words_left};
 ghost use Rattle.ksi_schedule.specs.declared.fault.LineFault.{LineFault as TheLineFault};
@@ -15,10 +16,13 @@ use crate::cut::{Words, cut, next_line, one};
 use crate::decimal::read_number;
 use crate::fault::{LineFault, ScheduleFault};
 use crate::growing::reaches_core;
+use crate::members::members;
 use crate::plan::{Parents, Plan};
 use crate::rows::{event, is, parent};
 use crate::schedule::{Events, Schedule};
+use crate::version::Version;
 use ksi_imprint::Refused;
+use ksi_synod::{CorePlan, Voters};
 use std::alloc::Global;
 
 const AGGREGATORS: usize = 4096;
@@ -51,9 +55,9 @@ fn read(alloc: Global, text: &[u8]) -> Result<Schedule, Refused<ScheduleFault>>
     let Some((line, text)) = next_line(text) else {
         return Err(faulty(LineFault::Header, 1))
     };
-    if !is(line, b"ksi-schedule 1") {
-        return Err(faulty(LineFault::Header, 1));
-    }
+    let Some(version) = version(line) else {
+        return Err(faulty(LineFault::Header, 1))
+    };
     let Some((line, text)) = next_line(text) else {
         return Err(faulty(LineFault::Header, 2))
     };
@@ -66,7 +70,19 @@ fn read(alloc: Global, text: &[u8]) -> Result<Schedule, Refused<ScheduleFault>>
     let Some(start) = number_line(b"start", 0, LAST_START, line) else {
         return Err(faulty(LineFault::Header, 3))
     };
-    read_rest(bare(alloc, cores as u8, start), text)
+    read_rest(version, bare(alloc, cores as u8, start), text)
+}
+
+fn version(line: &[u8]) -> Option<Version>
+    ensures { result ≡ version_in line.now }
+{
+    if is(line, b"ksi-schedule 1") {
+        Some(Version::One)
+    } else if is(line, b"ksi-schedule 2") {
+        Some(Version::Two)
+    } else {
+        None
+    }
 }
 
 // The number of a line of a name and a number that lies between both bounds.
@@ -95,7 +111,7 @@ fn number_after(name: &[u8], first: &[u8], words: Words<'_>) -> Option<u64>
     }
 }
 
-// The plan of no aggregators, and no events.
+// The plan of these cores, all of which vote, and no aggregators; and no events.
 fn bare(alloc: Global, cores: u8, start: u64) -> Schedule
     requires some { 1 ≤ cores }
     requires few { cores ≤ 9 }
@@ -104,23 +120,26 @@ fn bare(alloc: Global, cores: u8, start: u64) -> Schedule
 {
     let parents = Parents::from_vec(Vec::new(alloc));
     let plan = Plan {
-        cores,
-        start,
+        core_plan: CorePlan::new(cores, start),
         parents,
     };
     Schedule::new(plan, Events::from_vec(Vec::new(alloc)))
 }
 
 // The lines behind the first three.
-fn read_rest(schedule: Schedule, text: &[u8]) -> Result<Schedule, Refused<ScheduleFault>>
-    ensures read { Reads (read_from 4 (lines text.now) (history schedule)) result }
-    ensures memory { result ≡ Err refused.NoMemory → IsWantingFrom (history schedule) (lines text.now) }
+fn read_rest(
+    version: Version,
+    schedule: Schedule,
+    text: &[u8],
+) -> Result<Schedule, Refused<ScheduleFault>>
+    ensures read { Reads (read_from 4 (lines text.now) (history version schedule)) result }
+    ensures memory { result ≡ Err refused.NoMemory → IsWantingFrom (history version schedule) (lines text.now) }
 {
     let mut schedule = schedule;
     let mut rest = text;
     let mut number: u64 = 4;
     'reading: while let Some((line, others)) = next_line(rest) {
-        match take_line(&mut schedule, line) {
+        match take_line(version, &mut schedule, line) {
             Ok(()) => {}
             Err(refused) => return Err(on_line(number, refused)),
         }
@@ -147,9 +166,13 @@ fn faulty(fault: LineFault, number: u64) -> Refused<ScheduleFault>
 
 // One line more.
 #[tactic(auto, unfolding(crate::specs::Lines::next_in))]
-fn take_line(schedule: &mut Schedule, line: &[u8]) -> Result<(), Refused<LineFault>>
-    ensures read { Goes (next_in schedule.old (words line.now)) schedule.new result }
-    ensures memory { result ≡ Err refused.NoMemory → IsOk (next_in schedule.old (words line.now)) }
+fn take_line(
+    version: Version,
+    schedule: &mut Schedule,
+    line: &[u8],
+) -> Result<(), Refused<LineFault>>
+    ensures read { Goes (next_in version schedule.old (words line.now)) schedule.new result }
+    ensures memory { result ≡ Err refused.NoMemory → IsOk (next_in version schedule.old (words line.now)) }
 {
     let (name, words) = cut(b' ', line);
     if schedule.events().len() >= EVENTS {
@@ -161,6 +184,9 @@ fn take_line(schedule: &mut Schedule, line: &[u8]) -> Result<(), Refused<LineFau
             Err(fault) => Err(Refused::Fault(fault)),
         };
     }
+    if is(name, b"members") && takes_members(version, schedule) {
+        return take_members(schedule, words);
+    }
     match event(schedule.plan(), name, words) {
         Ok(event) => match schedule.push_event(event) {
             Ok(()) => Ok(()),
@@ -168,6 +194,54 @@ fn take_line(schedule: &mut Schedule, line: &[u8]) -> Result<(), Refused<LineFau
         },
         Err(fault) => Err(Refused::Fault(fault)),
     }
+}
+
+// Whether a line may say who votes.
+fn takes_members(version: Version, schedule: &Schedule) -> bool
+    ensures { result ≡ takes_members version schedule.now }
+{
+    match version {
+        Version::One => false,
+        Version::Two => {
+            schedule.plan().parents.as_slice().is_empty() && schedule.events().is_empty()
+        }
+    }
+}
+
+// Who votes from a second on.
+#[tactic(auto, using(crate::proofs::Rising::next_said))]
+fn take_members(schedule: &mut Schedule, words: Words<'_>) -> Result<(), Refused<LineFault>>
+    requires none { schedule.old.events ≡ [] }
+    requires alone { schedule.old.plan.parents ≡ [] }
+    ensures read { Goes (taken_members schedule.old (words_left words.entry)) schedule.new result }
+    ensures memory { result ≡ Err refused.NoMemory → ⊥ }
+{
+    match members(schedule.plan(), words) {
+        Ok((second, voters)) => take_rising(schedule, second, voters),
+        Err(fault) => Err(Refused::Fault(fault)),
+    }
+}
+
+// These vote from the second on, where they rise.
+fn take_rising(
+    schedule: &mut Schedule,
+    second: u64,
+    voters: Option<Voters>,
+) -> Result<(), Refused<LineFault>>
+    requires none { schedule.old.events ≡ [] }
+    requires alone { schedule.old.plan.parents ≡ [] }
+    requires there { AreSaid schedule.old.plan (second, voters) }
+    ensures read { Goes (next_rising schedule.old (second, voters)) schedule.new result }
+    ensures memory { result ≡ Err refused.NoMemory → ⊥ }
+{
+    let Some(voters) = voters else {
+        return Err(Refused::Fault(LineFault::Header))
+    };
+    if !schedule.plan().core_plan().has_room(second) {
+        return Err(Refused::Fault(LineFault::Header));
+    }
+    schedule.add_voters(second, &voters);
+    Ok(())
 }
 
 // One aggregator more, of this number.

@@ -1,14 +1,17 @@
 ghost use Rattle.std.specs.Prelude.{◌≡◌, ◌<◌, ◌≤◌, ◌++◌, ◌∷◌, [], true, length, OnOk, OnErr};
-ghost use Rattle.ksi_schedule.specs.Plans.{IsParent};
+ghost use Rattle.ksi_synod.specs.CorePlans.{has_room, AreVoters};
+ghost use Rattle.ksi_schedule.specs.Plans.{IsParent, InRange, core_plan_of};
+ghost use Rattle.ksi_schedule.specs.Members.{with_members};
 ghost use Rattle.ksi_schedule.specs.Events.{IsEvent, AreEvents, with_event};
 ghost use Rattle.ksi_schedule.specs.Schedules.{IsSchedule};
 ghost use Rattle.ksi_schedule.specs.Lines.{reaches_core, with_parent};
 
 use crate::actor::Actor;
 use crate::event::Event;
-use crate::growing::push_parent;
+use crate::growing::{add_voters, push_parent};
 use crate::plan::Plan;
 use ksi_imprint::NoMemory;
+use ksi_synod::Voters;
 use std::marker::Model;
 
 /// Events in order. A contract sees the list.
@@ -112,6 +115,18 @@ impl Schedule {
     {
         let Schedule { plan, events } = self;
         (plan, events)
+    }
+
+    /// From the second on these vote.
+    pub(crate) fn add_voters(&mut self, second: u64, voters: &Voters)
+        requires none { self.old.events ≡ [] }
+        requires alone { self.old.plan.parents ≡ [] }
+        requires room { has_room (core_plan_of self.old.plan) second ≡ true }
+        requires second { InRange self.old.plan second }
+        requires voters { AreVoters self.old.plan.cores voters.now }
+        ensures { self.new ≡ record { plan = with_members self.old.plan (record { second = second; voters = voters.now }); events = self.old.events } }
+    {
+        add_voters(&mut self.plan, second, voters);
     }
 
     /// One aggregator more.

@@ -14,9 +14,10 @@ const SECONDS: u64 = 0x100_0000;
 pub(crate) fn core(plan: &Plan, word: &[u8]) -> Result<u8, LineFault>
     ensures value { result ≡ core_at plan.now word.now }
     ensures there { IfOk result (λ j. j < plan.now.cores) }
+    ensures few { IfOk result (λ j. j < 9) }
 {
     let n = number(word)?;
-    if n < u64::from(plan.cores) {
+    if n < u64::from(plan.cores()) {
         Ok(n as u8)
     } else {
         Err(LineFault::NoSuchActor)
@@ -40,7 +41,7 @@ pub(crate) fn second(plan: &Plan, word: &[u8]) -> Result<u64, LineFault>
     ensures there { IfOk result (λ t. InRange plan.now t) }
 {
     let n = number(word)?;
-    if plan.start <= n && n - plan.start < SECONDS {
+    if plan.start() <= n && n - plan.start() < SECONDS {
         Ok(n)
     } else {
         Err(LineFault::SecondOutOfRange)

@@ -9,7 +9,7 @@ use Rattle.std.proofs.Math.ListN.{set}
 use Rattle.ksi_synod.specs.Voters.{cores_below, is_voter, is_flagged}
 use Rattle.ksi_synod.specs.Flags.{flagged_below, flagged_cores}
 use Rattle.ksi_synod.specs.declared.core_plan.VotersFrom.{VotersFrom}
-use Rattle.ksi_synod.specs.CorePlans.{CorePlanState, voters_among, voters_of, AreRising, AreVoters, IsPair, IsCorePlan, has_room}
+use Rattle.ksi_synod.specs.CorePlans.{CorePlanState, voters_among, voters_of, AreRising, AreVoters, IsPair, IsCorePlan, has_room, with_voters}
 use Rattle.ksi_synod.specs.declared.core_plan.CorePlan.TheInside.{Inside}
 use Rattle.ksi_synod.specs.CorePlanFields.{no_pair, padded, plan_of, IsFilled}
 
@@ -284,32 +284,21 @@ placed a is =
     record { few = omega (arith, is.count); places = ap length is.padded ∙ length-padded 256 (take a.count a.voters) few }
 
 -- one pair more
-pub filled_more : (a : Inside) (pair : VotersFrom) → IsFilled a → a.count < 256 → list_all (λ p. ltb p.second pair.second) (take a.count a.voters) ≡ true → IsPair a.cores a.start pair
-    → IsFilled (record a { count = a.count + 1; voters = set a.voters a.count pair })
-filled_more a pair is room above here =
-    let at : IsPlaced a = placed a is in
-    let more : take (a.count + 1) (set a.voters a.count pair) ≡ take a.count a.voters ++ pair ∷ [] = take_more_set a.voters a.count pair (omega (arith, at.places)) in
-    let count : length (take a.count a.voters ++ pair ∷ []) ≡ a.count + 1 = omega (arith, length-append (take a.count a.voters) (pair ∷ []), is.count) in
-    let placed_so : set a.voters a.count pair ≡ padded 256 (take a.count a.voters ++ pair ∷ []) =
-    ap (λ (pairs : List VotersFrom). set pairs a.count pair) is.padded ∙ ap (λ n. set (padded 256 (take a.count a.voters)) n pair) (sym is.count)
-    ∙ padded-more 256 (take a.count a.voters) pair (omega (arith, is.count)) in
+pub more_pairs : (plan : CorePlanState) (second : ℕ) (voters : List ℕ) → IsCorePlan plan → has_room plan second ≡ true
+    → plan.start ≤ second → second < plan.start + 2 ^ 24 → AreVoters plan.cores voters → IsCorePlan (with_voters plan second voters)
+more_pairs plan second voters is room early late there =
+    let e = both (ltb (length plan.voters) 256) (list_all (λ p. ltb p.second second) plan.voters) room in
+    let few : length plan.voters < 256 = ltb-true _ _ e.0 in
     record {
-      plan = record {
-        some = is.plan.some;
-        few = is.plan.few;
-        early = is.plan.early;
-        many = omega (arith, ap length more, count);
-        rising = subst (λ (pairs : List VotersFrom). AreRising (map (λ p. p.second) pairs)) (sym more) (rising_pairs (take a.count a.voters) pair is.plan.rising above);
-        pairs = subst (λ (pairs : List VotersFrom). AllByRecursion (IsPair a.cores a.start) pairs) (sym more) (all_append (IsPair a.cores a.start) (take a.count a.voters) (pair ∷ []) is.plan.pairs (here, tt));
-      };
-      count = ap length more ∙ count;
-      padded = placed_so ∙ ap (padded 256) (sym more);
+      some = is.some;
+      few = is.few;
+      early = is.early;
+      many = omega (arith, length-append plan.voters (record { second = second; voters = voters } ∷ []));
+      rising =
+          subst AreRising (sym (map-append (λ (p : VotersFrom). p.second) plan.voters (record { second = second; voters = voters } ∷ [])))
+          (rising-more (map (λ p. p.second) plan.voters) second is.rising (below-from_test second (map (λ p. p.second) plan.voters) (list_all-map (λ x. ltb x second) (λ (p : VotersFrom). p.second) plan.voters ∙ e.1)));
+      pairs = all_append (IsPair plan.cores plan.start) plan.voters (record { second = second; voters = voters } ∷ []) is.pairs (record { early = early; late = late; voters = there }, tt);
     }
-  where
-    rising_pairs : (pairs : List VotersFrom) (pair : VotersFrom) → AreRising (map (λ p. p.second) pairs) → list_all (λ p. ltb p.second pair.second) pairs ≡ true → AreRising (map (λ p. p.second) (pairs ++ pair ∷ []))
-    rising_pairs pairs pair rise above =
-        subst AreRising (sym (map-append (λ (p : VotersFrom). p.second) pairs (pair ∷ [])))
-        (rising-more (map (λ p. p.second) pairs) pair.second rise (below-from_test pair.second (map (λ p. p.second) pairs) (list_all-map (λ x. ltb x pair.second) (λ (p : VotersFrom). p.second) pairs ∙ above)))
 
 pub filled_with : (a : Inside) (plan : CorePlanState) (second : ℕ) (voters : List ℕ) → plan_of a ≡ plan → IsFilled a
     → has_room plan second ≡ true → plan.start ≤ second → second < plan.start + 2 ^ 24 → AreVoters plan.cores voters
@@ -324,9 +313,18 @@ filled_with a plan second voters view is = subst (λ (p : CorePlanState). Fits p
 
     by : Fits (plan_of a)
     by room early late there =
-        let e = both (ltb (length (take a.count a.voters)) 256) (list_all (λ p. ltb p.second second) (take a.count a.voters)) room in
-        let few : length (take a.count a.voters) < 256 = ltb-true _ _ e.0 in
-        filled_more a pair is (omega (arith, is.count)) e.1 (record { early = early; late = late; voters = there })
+        let more_is = more_pairs (plan_of a) second voters is.plan room early late there in
+        let many : length (take a.count a.voters ++ pair ∷ []) ≤ 256 = more_is.many in
+        let at : IsPlaced a = placed a is in
+        let count : length (take a.count a.voters ++ pair ∷ []) ≡ a.count + 1 = omega (arith, length-append (take a.count a.voters) (pair ∷ []), is.count) in
+        let more : take (a.count + 1) (set a.voters a.count pair) ≡ take a.count a.voters ++ pair ∷ [] = take_more_set a.voters a.count pair (omega (arith, at.places)) in
+        record {
+          plan = subst (λ (pairs : List VotersFrom). IsCorePlan (record { cores = a.cores; start = a.start; voters = pairs })) (sym more) more_is;
+          count = ap length more ∙ count;
+          padded =
+              ap (λ (pairs : List VotersFrom). set pairs a.count pair) is.padded ∙ ap (λ n. set (padded 256 (take a.count a.voters)) n pair) (sym is.count)
+              ∙ padded-more 256 (take a.count a.voters) pair (omega (arith, is.count)) ∙ ap (padded 256) (sym more);
+        }
 
 -- the pair before the k-th, and those before it
 pub looked_back : (a : Inside) (others : List ℕ) (k : ℕ) (d : VotersFrom) (second : ℕ) → IsFilled a → 0 < k → k ≤ a.count

@@ -51,7 +51,8 @@ impl CorePlan {
         requires some { 1 ≤ cores }
         requires few { cores ≤ 9 }
         requires early { start ≤ 2 ^ 63 - 2 ^ 24 }
-        ensures { result ≡ record { cores = cores; start = start; voters = [] } }
+        ensures plan { result ≡ record { cores = cores; start = start; voters = [] } }
+        ensures limits { IsCorePlan result }
     {
         CorePlan {
             cores,
@@ -113,7 +114,8 @@ impl CorePlan {
         requires early { self.old.start ≤ second }
         requires late { second < self.old.start + 2 ^ 24 }
         requires cores { AreVoters self.old.cores voters.now }
-        ensures { self.new ≡ with_voters self.old second voters.now }
+        ensures plan { self.new ≡ with_voters self.old second voters.now }
+        ensures limits { IsCorePlan self.new }
     {
         self.voters[self.count] = VotersFrom {
             second,
@@ -139,10 +141,12 @@ fn are_before(pairs: &[VotersFrom], second: u64) -> bool
     pairs.iter().all(|pair| pair.second < second)
 }
 
-/// Who votes on a second is at least one core, and no core that is not there. What holds of voters, for the layers above
-/// to cite; this does nothing.
+/// What holds of plans and voters, for the layers above to cite; this does nothing. Who votes on a second is at least one
+/// core, and no core that is not there.
 pub fn voters_are_cores()
     ensures voters { (plan : CorePlanState) (second : ℕ) → IsCorePlan plan → AreVoters plan.cores (voters_of plan second) }
     ensures listed { (cores : ℕ) (voters : List ℕ) → AreVoters cores voters → filter (is_voter voters) (cores_below cores) ≡ voters }
     ensures few { (cores : ℕ) (voters : List ℕ) → AreVoters cores voters → length voters ≤ cores }
+    ensures more { (plan : CorePlanState) (second : ℕ) (voters : List ℕ) → IsCorePlan plan → has_room plan second ≡ true →
+        plan.start ≤ second → second < plan.start + 2 ^ 24 → AreVoters plan.cores voters → IsCorePlan (with_voters plan second voters) }
 {}

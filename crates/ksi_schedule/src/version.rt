@@ -1,0 +1,8 @@
+/// The versions of the text, by its first line.
+#[derive(Clone, Copy)]
+pub(crate) enum Version {
+    /// All cores vote on every second.
+    One,
+    /// Lines may say who votes.
+    Two,
+}
