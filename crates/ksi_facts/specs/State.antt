@@ -1,5 +1,5 @@
 -- What every actor keeps, and what is on the wire, as it is read off what was seen: off facts, and off what came since.
-use Rattle.ksi_world.specs.CorePlanning.{core_plan_of}
+use Rattle.ksi_schedule.specs.Plans.{core_plan_of}
 use Rattle.std.specs.Prelude.{ℕ, Bool, List, [], ◌∷◌, ◌++◌, map, option_map, Option}
 use Rattle.ksi_aggtree.specs.Entries.{candidate_of}
 use Rattle.ksi_synod.specs.Voters.{cores_below, is_voter}

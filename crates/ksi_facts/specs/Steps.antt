@@ -1,6 +1,6 @@
 -- The step table over what was seen: the answer, the new facts and the messages of an event are those of its row, for the
 -- state that is read off facts and what came since. No state is handed from one event to the next.
-use Rattle.ksi_world.specs.CorePlanning.{core_plan_of}
+use Rattle.ksi_schedule.specs.Plans.{core_plan_of}
 use Rattle.std.specs.Prelude.{◌≡◌, ℕ, nat_lt, if◌then◌else◌, List, [], ◌∷◌, ◌++◌, length, map, slice_get, Option, Some, None}
 use Rattle.ksi_synod.specs.declared.messages.Vote.{Vote}
 use Rattle.ksi_synod.specs.Rows.{is_older}

@@ -1,5 +1,5 @@
 //! The laws. None of these functions does anything.
-ghost use Rattle.ksi_world.specs.CorePlanning.{core_plan_of};
+ghost use Rattle.ksi_schedule.specs.Plans.{core_plan_of};
 ghost use Rattle.std.specs.Prelude.{◌≡◌, ◌++◌, ◌∷◌, [], ℕ, List, Some};
 ghost use Rattle.ksi_aggtree.specs.declared.entries.Entry.{Entry};
 ghost use Rattle.ksi_synod.specs.VoteState.{Hand};

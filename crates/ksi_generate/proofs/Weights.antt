@@ -1,5 +1,5 @@
 -- Weights: how many deliveries a message leads to at most, itself among them, where each message is delivered twice.
-use Rattle.ksi_world.specs.CorePlanning.{core_plan_of}
+use Rattle.ksi_schedule.specs.Plans.{core_plan_of}
 use Rattle.ksi_generate.specs.Generate.{header}
 use Rattle.std.proofs.Common.{◌≡◌, ℕ, zero, suc, ◌+◌, ◌*◌, ◌≤◌, Bool, true, false, List, [], ◌∷◌, ◌++◌, map, Option, Some, None, refl, arith}
 use Rattle.ksi_synod.specs.declared.messages.LastVote.{LastVote}

@@ -1,6 +1,6 @@
 -- What holds of the zero imprint, of each hash and of what each request asks for holds of all items and of all that is
 -- carried down.
-use Rattle.ksi_world.specs.CorePlanning.{core_plan_of}
+use Rattle.ksi_schedule.specs.Plans.{core_plan_of}
 use Rattle.std.proofs.Common.{◌≡◌, ℕ, zero, suc, ◌+◌, ◌<◌, ◌≤◌, eqb, List, [], ◌∷◌, ◌++◌, length, refl, subst, arith, inl, inr, is_some, Option, Some, None}
 use Rattle.std.specs.Prelude.{slice_get, map}
 use Rattle.std.specs.List.{AllByRecursion}
@@ -374,7 +374,7 @@ module _ (P : List ℕ → Type 0) where
     run_all : (es : List Event) (w : WorldState) → AreEvents plan es → AskFor es → IsSound plan w → Voted image plan w → AllOf w → AllOf (run image plan w es)
     run_all [] w are ask sound voted all = all
     run_all (e ∷ es) w are ask sound voted all =
-        run_all es (happens image plan w e).world are.1 ask.1 (happens_sound image plan is laws.rises w e are.0 sound) (happens_voted image plan w voted e is.few are.0) (happens_all w sound voted all e ask.0)
+        run_all es (happens image plan w e).world are.1 ask.1 (happens_sound image plan is laws.rises w e are.0 sound) (happens_voted image plan w voted e is.core_plan.few are.0) (happens_all w sound voted all e ask.0)
 
     first_all : AllOf (first_world plan)
     unfolding first_world fresh_second

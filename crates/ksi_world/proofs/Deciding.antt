@@ -1,5 +1,5 @@
 -- What is held was sealed, and so is what is kept.
-use Rattle.ksi_world.specs.CorePlanning.{core_plan_of}
+use Rattle.ksi_schedule.specs.Plans.{core_plan_of}
 use Rattle.std.proofs.Common.{◌≡◌, ◌≢◌, ℕ, ◌-◌, ◌^◌, ◌<◌, ◌≤◌, Bool, true, false, cond, List, [], ◌∷◌, length, refl, sym, ap, subst, ◌∙◌, arith, inl, inr, Option, Some, None}
 use Rattle.std.specs.Prelude.{option_map, unwrap_or}
 use Rattle.std.specs.Str.{bytes_eq}
@@ -154,5 +154,5 @@ module _ (image : List ℕ → List ℕ) (plan : PlanState) (is : IsPlan plan) w
     pub kept_early : EachKept (λ one. one.second < 2 ^ 63) (kept_seconds image plan w)
     unfolding kept_seconds
     kept_early = among_each (kept_at image plan w) (λ one. one.second < 2 ^ 63) plan.start (2 ^ 24) (λ t one le lt at.
-        let early : plan.start ≤ 2 ^ 63 - 2 ^ 24 = is.early in
+        let early : plan.start ≤ 2 ^ 63 - 2 ^ 24 = is.core_plan.early in
         omega (arith, second_is t one at, lt, early))

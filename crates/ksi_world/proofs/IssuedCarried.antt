@@ -99,14 +99,14 @@ module _ (P : List ℕ → Type 0) (image : List ℕ → List ℕ) (plan : PlanS
   carried_at w w_is number text asked accepted t k at = (
     joined,
     record {
-      early = omega (arith, range.1, is.early);
+      early = omega (arith, range.1, is.core_plan.early);
       imprint = get_all P at.entries k (from_request number at.item) at.request have;
       limits = own.limits;
       are = own.links;
       root = kept_is t at.above.root joined.kept;
       count = down.few;
       chains = down.chains;
-      few = subst (λ (links : List (TreeLink (List ℕ))). length links ≤ 63) (sym joined.calendar) (short (covered_seconds (kept_root plan (after image plan es)) plan.start t) t t (omega (arith, range.1, is.early)));
+      few = subst (λ (links : List (TreeLink (List ℕ))). length links ≤ 63) (sym joined.calendar) (short (covered_seconds (kept_root plan (after image plan es)) plan.start t) t t (omega (arith, range.1, is.core_plan.early)));
       calendar = subst (EachSibling P) (sym joined.calendar) (calendar_siblings P laws.zero_too image laws.images (kept_root plan (after image plan es)) kept_is plan.start t t t);
     },
   )

@@ -36,7 +36,7 @@ module _ (image : List ℕ → List ℕ) (plan : PlanState) (is : IsPlan plan) (
   run_joined : (es : List Event) (w : WorldState) → AreEvents plan es → IsSound plan w → Voted image plan w → AllJoined image plan w → AllJoined image plan (run image plan w es)
   run_joined [] w are sound voted joined = joined
   run_joined (e ∷ es) w are sound voted joined = run_joined es (happens image plan w e).world are.1
-      (happens_sound image plan is rises w e are.0 sound) (happens_voted image plan w voted e is.few are.0) (happens_joined image plan is rises climb w sound voted joined e are.0)
+      (happens_sound image plan is rises w e are.0 sound) (happens_voted image plan w voted e is.core_plan.few are.0) (happens_joined image plan is rises climb w sound voted joined e are.0)
 
   first_joined : AllJoined image plan (first_world plan)
   unfolding first_world fresh_second

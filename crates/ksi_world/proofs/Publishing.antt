@@ -69,5 +69,5 @@ module _ (image : List ℕ → List ℕ) (plan : PlanState) where
   pub after_times : IsPlan plan → (es : List Event) → AreEvents plan es → AreTimes plan.start (2 ^ 63) (after image plan es).published
   unfolding after first_world
   after_times is es all =
-      let early : plan.start ≤ 2 ^ 63 - 2 ^ 24 = is.early in
+      let early : plan.start ≤ 2 ^ 63 - 2 ^ 24 = is.core_plan.early in
       earlier plan.start (plan.start + 2 ^ 24) (2 ^ 63) (run image plan (first_world plan) es).published (omega (arith, early)) (run_times es (first_world plan) all tt)

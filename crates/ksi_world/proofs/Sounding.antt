@@ -1,5 +1,5 @@
 -- Whatever happens, what always holds of the world goes on to hold.
-use Rattle.ksi_world.specs.CorePlanning.{core_plan_of}
+use Rattle.ksi_schedule.specs.Plans.{core_plan_of}
 use Rattle.std.proofs.Common.{◌≡◌, ℕ, suc, ◌<◌, ◌≤◌, true, ◌&&◌, eqb, List, [], ◌∷◌, ◌++◌, length, refl, sym, subst, arith, is_some, Option, Some, None, length-append, lit<}
 use Rattle.std.specs.Prelude.{slice_get, map}
 use Rattle.std.proofs.lemmas.Bool.{cond_both, eqb-true, and_parts}
@@ -33,7 +33,6 @@ use Rattle.ksi_world.specs.Histories as histories
 use Rattle.ksi_world.specs.Sound.{depth_of, IsSmall, IsSent, AreOf, IsRoundAt, IsRoundState, IsSound}
 use Rattle.ksi_world.proofs.Small.{fine_receive, fine_try, fine_held, as_small}
 use Rattle.ksi_world.proofs.Depths.{core_parent, aggregator_parent}
-use Rattle.ksi_world.proofs.Voters.{core_planned}
 use Rattle.ksi_world.proofs.Sending.{TreeRises, both_posts, FineSends, fine_told, core_posts, FineOuts, round_posts, are_more, are_push, round_more, no_round, round_push, request_push, tree_low, core_responses, round_responses}
 
 module _ (image : List ℕ → List ℕ) (plan : PlanState) (is : IsPlan plan) (rises : TreeRises image) where
@@ -98,7 +97,7 @@ module _ (image : List ℕ → List ℕ) (plan : PlanState) (is : IsPlan plan) (
       let s = w.seconds j t in
       let old = second_of w j t lt sound in
       let fine = fine_try s.vote old.small in
-      core_sound w j t (ballot_row (core_plan_of plan) t j s) lt range (record { small = fine.0; open_items = old.open_items; sealed = old.sealed }) (fine_told plan (core_planned plan is) j t j (ballot_told (try_ballot s.vote).1) lt fine.1) sound
+      core_sound w j t (ballot_row (core_plan_of plan) t j s) lt range (record { small = fine.0; open_items = old.open_items; sealed = old.sealed }) (fine_told plan is.core_plan j t j (ballot_told (try_ballot s.vote).1) lt fine.1) sound
 
   receive_sound : (w : WorldState) (j t from : ℕ) (m : SynodMessage) → InRange plan t → IsSent plan (actors.Core from) (actors.Core j) (contents.Synod m) → IsSound plan w → IsSound plan (at_core w j t (receive_row (core_plan_of plan) t from m (w.seconds j t))).world
   unfolding receive_row
@@ -106,14 +105,14 @@ module _ (image : List ℕ → List ℕ) (plan : PlanState) (is : IsPlan plan) (
       let s = w.seconds j t in
       let old = second_of w j t sent.1 sound in
       let fine = fine_receive s.vote old.small from m sent.2 in
-      core_sound w j t (receive_row (core_plan_of plan) t from m s) sent.1 range (record { small = fine.0; open_items = old.open_items; sealed = old.sealed }) (fine_told plan (core_planned plan is) j t from (receive s.vote from m).1 sent.0 fine.1) sound
+      core_sound w j t (receive_row (core_plan_of plan) t from m s) sent.1 range (record { small = fine.0; open_items = old.open_items; sealed = old.sealed }) (fine_told plan is.core_plan j t from (receive s.vote from m).1 sent.0 fine.1) sound
 
   tell_sound : (w : WorldState) (j t : ℕ) → j < plan.cores → InRange plan t → IsSound plan w → IsSound plan (at_core w j t (tell_row (core_plan_of plan) t j (w.seconds j t))).world
   unfolding tell_row
   tell_sound w j t lt range sound =
       let s = w.seconds j t in
       let old = second_of w j t lt sound in
-      core_sound w j t (tell_row (core_plan_of plan) t j s) lt range (record { small = old.small; open_items = old.open_items; sealed = old.sealed }) (fine_told plan (core_planned plan is) j t j (held_told s.vote.held) lt (fine_held s.vote.held)) sound
+      core_sound w j t (tell_row (core_plan_of plan) t j s) lt range (record { small = old.small; open_items = old.open_items; sealed = old.sealed }) (fine_told plan is.core_plan j t j (held_told s.vote.held) lt (fine_held s.vote.held)) sound
 
   respond_sound : (w : WorldState) (j t : ℕ) (held : Roots) → j < plan.cores → InRange plan t → IsSound plan w → IsSound plan (at_core w j t (respond_row image held plan.start t (w.seconds j t))).world
   unfolding respond_row
@@ -276,7 +275,7 @@ module _ (image : List ℕ → List ℕ) (plan : PlanState) (is : IsPlan plan) (
 pub first_sound : (plan : PlanState) → IsPlan plan → IsSound plan (first_world plan)
 unfolding first_world fresh_second fresh_vote
 first_sound plan is = record {
-  small = λ j t lt. record { tried = lit< tt; promised = lit< tt; me = omega (arith, is.few, lt) };
+  small = λ j t lt. record { tried = lit< tt; promised = lit< tt; me = omega (arith, is.core_plan.few, lt) };
   open_items = λ j t. tt;
   sealed = λ j t entries at. absurd (cc at);
   rounds = λ k t. record { open_items = no_round plan (actors.Aggregator k) 0; closed = λ entries at. absurd (cc at) };

@@ -1,5 +1,5 @@
 -- Whatever happens, what always holds of the vote on each second goes on to hold.
-use Rattle.ksi_world.specs.CorePlanning.{core_plan_of}
+use Rattle.ksi_schedule.specs.Plans.{core_plan_of}
 use Rattle.std.proofs.Common.{◌≡◌, ℕ, ◌<◌, ◌≤◌, false, cond, eqb, is_some, List, [], ◌∷◌, ◌++◌, length, refl, sym, ap, subst, ◌∙◌, arith, inl, inr, Option, Some, None, length-append}
 use Rattle.std.specs.Prelude.{slice_get, option_map}
 use Rattle.std.proofs.lemmas.Bool.{cond_both, cond-true, cond-false, eq-eqb, eqb-false, ne_eqb}
@@ -197,4 +197,4 @@ module _ (image : List ℕ → List ℕ) (plan : PlanState) where
 
   pub after_voted : IsPlan plan → (es : List Event) → AreEvents plan es → Voted (after image plan es)
   unfolding after
-  after_voted is es are = run_voted is.few es (first_world plan) are first_voted
+  after_voted is es are = run_voted is.core_plan.few es (first_world plan) are first_voted

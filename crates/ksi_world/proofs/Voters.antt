@@ -1,5 +1,5 @@
 -- The voters of a second are cores of the plan.
-use Rattle.ksi_world.specs.CorePlanning.{core_plan_of}
+use Rattle.ksi_schedule.specs.Plans.{core_plan_of}
 use Rattle.std.proofs.Common.{ℕ, zero, suc, ◌+◌, ◌<◌, ◌≤◌, leb, cond, List, [], ◌∷◌, ◌++◌, length, arith}
 use Rattle.std.specs.List.{AllByRecursion}
 use Rattle.std.proofs.lemmas.Bool.{cond_both}
@@ -7,10 +7,6 @@ use Rattle.ksi_synod.specs.Voters.{cores_below}
 use Rattle.ksi_schedule.specs.Plans.{PlanState, IsPlan}
 use Rattle.ksi_synod.specs.declared.core_plan.VotersFrom.{VotersFrom}
 use Rattle.ksi_synod.specs.CorePlans.{CorePlanState, AreVoters, IsPair, IsCorePlan, voters_among, voters_of}
-
--- Provisional.
-pub core_planned : (plan : PlanState) → IsPlan plan → IsCorePlan (core_plan_of plan)
-core_planned plan is = record { some = is.some; few = is.few; early = is.early; many = omega arith; rising = tt; pairs = tt }
 
 -- the law of voters
 abbrev pub VotersAreFew : Type 0

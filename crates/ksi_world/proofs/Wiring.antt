@@ -106,7 +106,7 @@ module _ (image : List ℕ → List ℕ) (plan : PlanState) (is : IsPlan plan) (
         few = omega (arith, to.3, depth_most plan (actors.Aggregator to.0));
         short = short_chains above.chains carried;
         low = joins.low;
-        brief = subst (λ (links : List (TreeLink (List ℕ))). length links ≤ 63) (sym joins.calendar) (brief (covered_seconds (held_in w joins.core) plan.start t) t t (omega (arith, range.1, is.early)));
+        brief = subst (λ (links : List (TreeLink (List ℕ))). length links ≤ 63) (sym joins.calendar) (brief (covered_seconds (held_in w joins.core) plan.start t) t t (omega (arith, range.1, is.core_plan.early)));
       }
 
   pub all_linked : ResponsesClimb image plan (after image plan es)

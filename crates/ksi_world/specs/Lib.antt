@@ -1,4 +1,3 @@
-pub mod CorePlanning
 pub mod Histories
 pub mod Records
 pub mod Sound

@@ -1,5 +1,5 @@
 //! The turns of cores.
-ghost use Rattle.ksi_world.specs.CorePlanning.{core_plan_of};
+ghost use Rattle.ksi_schedule.specs.Plans.{core_plan_of};
 ghost use Rattle.std.specs.Prelude.{◌≡◌, ◌≤◌, ◌<◌, ◌+◌, ◌^◌, length, slice_get, Some, IfOk, OnErr};
 ghost use Rattle.ksi_synod.specs.CorePlans.{IsCorePlan};
 ghost use Rattle.ksi_synod.specs.Rows.{OfBallot};
@@ -13,7 +13,7 @@ use crate::message::Message;
 use crate::outcome::Outcome;
 use crate::posting::post_core;
 use ksi_aggtree::Item;
-use ksi_corenode::{Answer, Core, CorePlan, NoMemory};
+use ksi_corenode::{Answer, Core, NoMemory};
 use ksi_imprint::Compress;
 use ksi_schedule::Plan;
 use ksi_synod::{SynodMessage, voters_are_cores};
@@ -24,9 +24,8 @@ pub(crate) fn new<C: Compress>(alloc: Global, plan: &Plan) -> Result<Vec<Core<C>
     ensures { IfOk result (λ cores. AreCores plan.now (λ j t. fresh_second j (core_plan_of plan.now) t) cores.items) }
 {
     let mut cores = Vec::new(alloc);
-    let core_plan = CorePlan::new(plan.cores, plan.start);
-    'adding: for me in 0..plan.cores {
-        cores.push(Core::new(alloc, me, &core_plan))?;
+    'adding: for me in 0..plan.cores() {
+        cores.push(Core::new(alloc, me, plan.core_plan()))?;
     }
     Ok(cores)
 }

@@ -69,7 +69,7 @@ pub(crate) fn kept_under(plan: &Plan, seconds: Vec<Second>) -> Kept
     ensures seconds { result.seconds ≡ seconds.items }
 {
     Kept {
-        start: plan.start,
+        start: plan.start(),
         seconds: Seconds::from_vec(seconds),
     }
 }

@@ -117,7 +117,7 @@ impl<C: Compress> World<C> {
         ensures { result ≡ held_in (world_of C.image self.now) core second }
     {
         one_round();
-        if core >= self.plan.cores {
+        if core >= self.plan.cores() {
             return None;
         }
         self.nodes.core(core).held(second)

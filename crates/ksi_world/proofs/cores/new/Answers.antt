@@ -1,4 +1,4 @@
-use Rattle.ksi_world.specs.CorePlanning.{core_plan_of}
+use Rattle.ksi_schedule.specs.Plans.{core_plan_of}
 use Rattle.std.proofs.Common.{[], ◌∷◌, length, length-append, sym, ap, ◌∙◌, arith, inl, inr}
 use Rattle.std.specs.Prelude.{slice_get}
 use Rattle.ksi_synod.specs.CorePlans.{CorePlanState}
@@ -12,7 +12,7 @@ pub adding-preserved : goal.adding-preserved
 adding-preserved g c =
     let items = c.in_ok-push.ensures.items in
     let old = c.adding.invariant in
-    let core_plan = c.new-core_plan.ensures ∙ ap core_plan_of c.plan.view_is in
+    let core_plan = c.core_plan.ensures.plan in
     record {
       many = omega (arith, ap length items, length-append c.adding.cores.items (c.new.result ∷ []), old.many);
       each = λ j core at. elim (get_push c.adding.cores.items c.new.result j core (ap (λ xs. slice_get xs j) (sym items) ∙ at)) [

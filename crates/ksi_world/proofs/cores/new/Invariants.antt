@@ -1,4 +1,4 @@
-use Rattle.ksi_world.specs.CorePlanning.{core_plan_of}
+use Rattle.ksi_schedule.specs.Plans.{core_plan_of}
 use Rattle.std.proofs.Common.{◌≡◌, ℕ, Some, length}
 use Rattle.std.specs.Prelude.{slice_get}
 use Rattle.ksi_corenode.specs.SecondState.{fresh_second}
