@@ -4,7 +4,7 @@ use Rattle.std.proofs.Common.{arith}
 use Rattle.ksi_synod.specs.VoteState.{fresh_vote}
 use Rattle.ksi_synod.specs.Rows.{try_ballot, on_next, on_last, on_begin, on_voted, receive, seal}
 use Rattle.ksi_synod.specs.History.{Event, Seal, Ballot, Deliver, Restart, Moment, happens, first_moment, after, IsHistory, held_by, candidate_of}
-use Rattle.ksi_synod.specs.Runs.{three, taken_over}
+use Rattle.ksi_synod.specs.Runs.{three, taken_over, one_of_three, one_votes}
 
 -- what the three cores hold, and how many messages were sent
 record Seen : Type 0 where
@@ -40,6 +40,19 @@ candidate_is a b = refl
 pub history_is : (a b : List ℕ) → IsHistory three (taken_over a b)
 unfolding taken_over
 history_is a b = record { few = omega arith; theirs = refl }
+
+-- a core that does not vote comes to hold its candidate by the one that does
+pub one_history_is : (a : List ℕ) → IsHistory one_of_three (one_votes a)
+unfolding one_votes
+one_history_is a = record { few = omega arith; theirs = refl }
+
+pub one_holds : (a : List ℕ) → held_by (after one_of_three (one_votes a)) 0 ≡ Some a
+unfolding one_votes happens first_moment fresh_vote seal try_ballot on_next on_last on_begin on_voted receive
+one_holds a = refl
+
+pub one_sends : (a : List ℕ) → length (after one_of_three (one_votes a)).wire ≡ 7
+unfolding one_votes happens first_moment fresh_vote seal try_ballot on_next on_last on_begin on_voted receive
+one_sends a = refl
 
 repeated_is : seen repeated ≡ record { held = None ∷ None ∷ None ∷ []; messages = 4 }
 unfolding happens first_moment fresh_vote seal try_ballot on_next on_last on_begin on_voted receive

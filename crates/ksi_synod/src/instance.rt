@@ -2,7 +2,6 @@ ghost use Rattle.std.specs.Prelude.{◌≡◌, ℕ, ◌<◌, ◌≤◌, ◌↔�
 ghost use Rattle.ksi_synod.specs.Ballots.{IsBallot, last_round, some_ballot};
 ghost use Rattle.ksi_synod.specs.declared.messages.Begun.TheVariants.{Unsealed, Last, Next};
 ghost use Rattle.ksi_synod.specs.declared.messages.Took.TheVariants.{Nothing};
-ghost use Rattle.ksi_synod.specs.Voters.{cores_below};
 ghost use Rattle.ksi_synod.specs.VoteState.{fresh_vote, stable_of, vote_of};
 ghost use Rattle.ksi_synod.specs.Rows.{sealed_with, greater_round, try_ballot, on_next, counts_last, on_last, is_older, on_begin, voted_for, on_voted, on_success, restarted, decree_begun, vote_told, decree_told, receive, OfBallot, OfReply};
 
@@ -43,16 +42,15 @@ impl Model for Instance {
 }
 
 impl Instance {
-    /// The part of core `me` where the cores 0 up to the last of the members vote, before anything came.
+    /// The part of core `me`, which may be no voter, where these cores vote, before anything came.
     #[tactic(auto, unfolding(crate::specs::Instance::state_of, crate::specs::VoteState::fresh_vote))]
-    pub fn new(me: u8, members: u8) -> Self
-        requires mine { me < members }
-        requires few { members ≤ 9 }
-        ensures { result ≡ fresh_vote me (cores_below members) }
+    pub fn new(me: u8, voters: Voters) -> Self
+        requires { me ≤ 8 }
+        ensures { result ≡ fresh_vote me voters }
     {
         Instance {
             me,
-            voters: Voters::all(members),
+            voters,
             candidate: None,
             tried: 0,
             promised: 0,
@@ -62,17 +60,15 @@ impl Instance {
         }
     }
 
-    /// The part of core `me` where the cores 0 up to the last of the members vote, of its stable part and the ballot in
-    /// hand.
+    /// The part of core `me` where these cores vote, of its stable part and the ballot in hand.
     #[tactic(auto, unfolding(crate::specs::Instance::state_of))]
-    pub fn of(me: u8, members: u8, stable: &Stable, hand: Option<InHand>) -> Self
-        requires mine { me < members }
-        requires few { members ≤ 9 }
-        ensures { result ≡ vote_of me (cores_below members) stable.now hand }
+    pub fn of(me: u8, voters: Voters, stable: &Stable, hand: Option<InHand>) -> Self
+        requires { me ≤ 8 }
+        ensures { result ≡ vote_of me voters stable.now hand }
     {
         Instance {
             me,
-            voters: Voters::all(members),
+            voters,
             candidate: stable.candidate,
             tried: stable.tried,
             promised: stable.promised,

@@ -1,12 +1,12 @@
 //! What holds of the vote on one second after every history: whichever messages are lost, repeated, late or out of order,
 //! and whichever cores restart, at any moment. Each law is the contract of a function that does nothing.
 
-ghost use Rattle.std.specs.Prelude.{◌≡◌, ℕ, ◌<◌, ◌++◌, List, Bool, IsTrue, Some};
+ghost use Rattle.std.specs.Prelude.{◌≡◌, ℕ, ◌<◌, ◌++◌, List, length, Bool, IsTrue, Some};
 ghost use Rattle.ksi_synod.specs.Voters.{is_voter, is_flagged, is_majority};
 ghost use Rattle.ksi_synod.specs.VoteState.{VoteState};
 ghost use Rattle.ksi_synod.specs.Reached.{Said, Reached};
 ghost use Rattle.ksi_synod.specs.History.{SetUp, Event, IsHistory, after, held_by, candidate_of};
-ghost use Rattle.ksi_synod.specs.Runs.{three, taken_over};
+ghost use Rattle.ksi_synod.specs.Runs.{three, taken_over, one_of_three, one_votes};
 
 /// Agreement: two cores that hold a decree hold the same.
 pub fn agreement()
@@ -52,4 +52,12 @@ pub fn decrees_are_taken_over()
     ensures candidate { (a b : List ℕ) → candidate_of (after three (taken_over a b)) 2 ≡ Some b }
     ensures first { (a b : List ℕ) → held_by (after three (taken_over a b)) 0 ≡ Some a }
     ensures second { (a b : List ℕ) → held_by (after three (taken_over a b)) 2 ≡ Some a }
+{}
+
+/// A core that does not vote may bring about the decree: in this history of three cores, of which core 1 alone votes, core 0
+/// seals, tries a ballot and comes to hold its candidate. Seven messages are sent, the last three of them to all cores.
+pub fn one_voter_decides()
+    ensures history { (a : List ℕ) → IsHistory one_of_three (one_votes a) }
+    ensures held { (a : List ℕ) → held_by (after one_of_three (one_votes a)) 0 ≡ Some a }
+    ensures messages { (a : List ℕ) → length (after one_of_three (one_votes a)).wire ≡ 7 }
 {}

@@ -7,10 +7,10 @@
 //! laws of [`laws`], over every history of steps: agreement, validity and stability.
 //!
 //! ```text
-//! let mut core = Instance::new(0, 3);
+//! let mut core = Instance::new(0, Voters::all(3));
 //! core.candidate(root);
 //! let Begun::Next(ballot) = core.try_ballot() else { return };
-//! send_to_all(SynodMessage::NextBallot(ballot));
+//! send_to_voters(SynodMessage::NextBallot(ballot));
 //! if let Some(reply) = core.receive(from, &message) { send(reply) }
 //! ```
 #![tactic(auto)]
