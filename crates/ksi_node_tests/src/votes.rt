@@ -20,7 +20,7 @@ fn sealed(me: u8, members: u8, candidate: Imprint) -> Instance
     requires mine { me < members }
     requires few { members ≤ 9 }
 {
-    let mut core = Instance::new(me, members);
+    let mut core = Instance::new(me, Voters::all(members));
     if core.sealed().is_none() {
         core.candidate(candidate);
     }
@@ -95,7 +95,7 @@ fn repeats_do_not_count(rt: HostRuntime) {
 
 #[test]
 fn what_is_not_sealed_begins_no_ballot(rt: HostRuntime) {
-    let mut core = Instance::new(0, 3);
+    let mut core = Instance::new(0, Voters::all(3));
     try_ballot(&rt, &mut core, Begun::Unsealed);
 }
 
@@ -114,7 +114,7 @@ fn a_restart_forgets_the_ballot_in_hand(rt: HostRuntime) {
 
 /// What core 1 replies to core 2 after its vote in ballot 16.
 fn reported(rt: &impl Abort, decree: Imprint) -> Option<SynodMessage> {
-    let mut voter = Instance::new(1, 3);
+    let mut voter = Instance::new(1, Voters::all(3));
     same(rt, "next", voter.on_next(16), reply(16, None));
     same(rt, "begin", voter.on_begin(16, decree), true);
     voter.receive(2, &SynodMessage::NextBallot(18))
