@@ -1,7 +1,7 @@
 -- The calendar of what is held: its leaves, what it leaves out, and how it grows.
-use Rattle.std.proofs.Common.{◌≡◌, ◌≢◌, ◌∙◌, ℕ, zero, suc, ◌+◌, ◌-◌, ◌^◌, ◌<◌, ◌≤◌, List, [], ◌∷◌, ◌++◌, length, get_or, slice_get, Option, Some, None, true, false, Bool, ◌&&◌, refl, sym, ap, subst, arith, inl, inr, ltb, leb, le-leb, lt-ltb, length-append}
+use Rattle.std.proofs.Common.{◌≡◌, ◌≢◌, ◌∙◌, ℕ, zero, suc, ◌+◌, ◌-◌, ◌^◌, ◌<◌, ◌≤◌, List, [], ◌∷◌, ◌++◌, length, get_or, slice_get, Option, Some, None, true, false, Bool, refl, sym, ap, subst, arith, inl, inr, ltb, leb, le-leb, lt-ltb, length-append}
 use Rattle.std.specs.Prelude.{◌==◌, if◌then◌else◌, is_some, IsSome, unwrap_or, Result, Ok, Err, OnOk, OnErr}
-use Rattle.std.proofs.lemmas.Bool.{le-ltb, ltb-true, cond-true, cond-false, cond_both, eqb-true, cases_lt, eq-eqb, ne_eqb}
+use Rattle.std.proofs.lemmas.Bool.{le-ltb, cond-true, cond-false, cond_both, eqb-true, cases_lt, eq-eqb, ne_eqb}
 use Rattle.std.proofs.lemmas.Option.{slice_get-get_or, slice_get_past}
 use Rattle.ksi_imprint.specs.Imprints.{zero_imprint}
 use Rattle.ksi_calendar.specs.Calendar.{Seconds, calendar_leaf, calendar_root, root_to}

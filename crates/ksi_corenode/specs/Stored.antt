@@ -1,5 +1,5 @@
 -- What a core stores of its seconds: of each a stable part, which a restart leaves, and a volatile one.
-use Rattle.std.specs.Prelude.{◌≡◌, ℕ, ◌+◌, ◌-◌, ◌^◌, ◌<◌, ◌≤◌, Bool, nat_le, nat_lt, ◌&&◌, if◌then◌else◌, List, [], length, take, drop, slice_index_or, option_map, is_some, unwrap_or, IsSome, IfSome, Option, None}
+use Rattle.std.specs.Prelude.{◌≡◌, ℕ, ◌+◌, ◌-◌, ◌≤◌, Bool, nat_le, nat_lt, ◌&&◌, if◌then◌else◌, List, [], length, take, drop, slice_index_or, option_map, is_some, unwrap_or, IfSome, Option, None}
 use Rattle.std.specs.Ordering.{nat_cmp}
 use Rattle.std.specs.BTreeMap.{is_at}
 use Rattle.std.specs.Map.{lookup}

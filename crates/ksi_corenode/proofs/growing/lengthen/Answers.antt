@@ -1,4 +1,4 @@
-use Rattle.std.proofs.Common.{◌≡◌, ◌∙◌, ℕ, ◌+◌, ◌++◌, List, length, Option, Some, refl, sym, ap, subst}
+use Rattle.std.proofs.Common.{◌∙◌, ℕ, ◌+◌, ◌++◌, List, length, Option, Some, refl, sym, ap, subst}
 use Rattle.ksi_calendar.specs.Calendar.{Seconds}
 use Rattle.ksi_corenode.specs.CoreState.{held_by}
 use Rattle.ksi_corenode.specs.Kept.{held_with}

@@ -1,4 +1,4 @@
-use Rattle.std.proofs.Common.{◌≡◌, ◌∙◌, ℕ, ◌+◌, ◌<◌, ◌∷◌, [], length, rules, Some, sym, ap, arith, length-append}
+use Rattle.std.proofs.Common.{◌≡◌, ◌∙◌, ◌∷◌, [], length, rules, Some, sym, ap, arith, length-append}
 use Rattle.ksi_corenode.specs.CoreState.{held_by}
 use Rattle.ksi_corenode.specs.Kept.{held_with}
 use Rattle.ksi_corenode.proofs.Kept.{run_first, run_more, run_ends, held_behind}

@@ -1,4 +1,4 @@
-use Rattle.std.proofs.Common.{◌∙◌, ◌≡◌, ◌+◌, length, refl, sym, ap, arith}
+use Rattle.std.proofs.Common.{◌≡◌, ◌+◌, length, refl, ap, arith}
 use Rattle.ksi_calendar.specs.Calendar.{Seconds}
 use Rattle.ksi_corenode.specs.CoreState.{held_by}
 use Rattle.ksi_corenode.proofs.Kept.{kept_first, kept_all}

@@ -1,4 +1,4 @@
-use Rattle.std.proofs.Common.{◌∙◌, ◌≡◌, ℕ, Option, sym, ap}
+use Rattle.std.proofs.Common.{◌∙◌, ℕ, Option, sym, ap}
 use Rattle.ksi_corenode.specs.CoreState.{held_by}
 use Rattle.ksi_corenode.specs.Rows.{publish_answer, publish_where}
 use Rattle.ksi_corenode.proofs.Kept.{published_root}

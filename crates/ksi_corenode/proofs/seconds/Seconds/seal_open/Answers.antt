@@ -1,8 +1,7 @@
-use Rattle.std.proofs.Common.{◌≡◌, ◌∙◌, ℕ, ◌++◌, List, length, Some, rules, refl, sym, ap, subst, arith}
+use Rattle.std.proofs.Common.{◌≡◌, ◌∙◌, ℕ, ◌++◌, List, length, Some, rules, refl, sym, ap, subst}
 use Rattle.std.specs.Prelude.{◌==◌, if◌then◌else◌, is_some, IsNone}
 use Rattle.ksi_aggtree.specs.declared.entries.Entry.{Entry}
 use Rattle.ksi_synod.specs.VoteState.{VoteState, StableVote, stable_of}
-use Rattle.ksi_synod.specs.Rows.{sealed_with}
 use Rattle.ksi_corenode.specs.declared.stable.StablePart.{StablePart}
 use Rattle.ksi_corenode.specs.Rows.{sealed_now}
 use Rattle.ksi_corenode.specs.Stored.{volatile_at, part_of, IsSealedWell}
