@@ -7,7 +7,8 @@ use Rattle.ksi_aggtree.specs.Entries.{candidate_of}
 use Rattle.ksi_synod.specs.VoteState.{VoteState, stable_of}
 use Rattle.ksi_corenode.specs.Kept.{Keeps}
 use Rattle.ksi_corenode.specs.declared.stable.StablePart.{StablePart}
-use Rattle.ksi_corenode.specs.SecondState.{SecondState, voters_of}
+use Rattle.ksi_synod.specs.CorePlans.{CorePlanState, voters_of}
+use Rattle.ksi_corenode.specs.SecondState.{SecondState}
 use Rattle.ksi_corenode.specs.Stored.{VolatileState, volatile_at, items_from, second_of, AreSealed, IsSealedWell}
 use Rattle.ksi_corenode.specs.CoreState.{CoreState, stable_at, state_of, IsSame, IsChange}
 
@@ -37,7 +38,7 @@ is_sealed me voters items s v = by s.vote.candidate
 pub change_later : (a b c : CoreState) (t : ℕ) (row : SecondState → SecondState) → IsSame a b → IsChange b c t (row (state_of b t)) → IsChange a c t (row (state_of a t))
 change_later a b c t row same change = record {
   me = change.me ∙ same.me;
-  members = change.members ∙ same.members;
+  plan = change.plan ∙ same.plan;
   start = change.start ∙ same.start;
   seconds = λ u. change.seconds u
       ∙ ap (λ (s : SecondState). if u == t then row s else state_of b u) (same.seconds t)
@@ -48,7 +49,7 @@ change_later a b c t row same change = record {
 pub no_change : (core : CoreState) (t : ℕ) (after : SecondState) → after ≡ state_of core t → IsChange core core t after
 no_change core t after is = record {
   me = refl;
-  members = refl;
+  plan = refl;
   start = refl;
   seconds = λ u. cond_both (u == t) after (state_of core u) (λ (s : SecondState). state_of core u ≡ s) (λ here. ap (state_of core) (eqb-true u t here) ∙ sym is) (λ _. refl);
 }
@@ -58,35 +59,35 @@ pub written : {A : Type 0} (old new : ℕ → A) (t : ℕ) (a : A) → ((u : ℕ
 written old new t a is P each here u = subst (λ x. P u x) (sym (is u)) (cond_both (u == t) a (old u) (λ x. P u x) (λ same. subst (λ n. P n a) (sym (eqb-true u t same)) here) (λ _. each u))
 
 -- both parts of a second change
-pub parts_change : (old new : CoreState) (t : ℕ) (part : StablePart) (volatile : VolatileState) → new.me ≡ old.me → new.members ≡ old.members → new.items ≡ old.items →
+pub parts_change : (old new : CoreState) (t : ℕ) (part : StablePart) (volatile : VolatileState) → new.me ≡ old.me → new.plan ≡ old.plan → new.items ≡ old.items →
     ((u : ℕ) → stable_at new u ≡ (if u == t then part else stable_at old u)) →
     ((u : ℕ) → volatile_at new.volatile_parts u ≡ (if u == t then volatile else volatile_at old.volatile_parts u)) →
-    (u : ℕ) → state_of new u ≡ (if u == t then second_of old.me (voters_of old.members t) old.items part volatile else state_of old u)
+    (u : ℕ) → state_of new u ≡ (if u == t then second_of old.me (voters_of old.plan t) old.items part volatile else state_of old u)
 unfolding state_of
-parts_change old new t part volatile me members items stable_parts volatile_parts u =
-    ap (λ (n : ℕ). second_of n (voters_of new.members u) new.items (stable_at new u) (volatile_at new.volatile_parts u)) me
-    ∙ ap (λ (n : ℕ). second_of old.me (voters_of n u) new.items (stable_at new u) (volatile_at new.volatile_parts u)) members
-    ∙ ap (λ (es : List Entry). second_of old.me (voters_of old.members u) es (stable_at new u) (volatile_at new.volatile_parts u)) items
-    ∙ ap (λ (s : StablePart). second_of old.me (voters_of old.members u) old.items s (volatile_at new.volatile_parts u)) (stable_parts u)
-    ∙ ap (λ (v : VolatileState). second_of old.me (voters_of old.members u) old.items (if u == t then part else stable_at old u) v) (volatile_parts u)
-    ∙ by (u == t)
+parts_change old new t part volatile me plan items stable_parts volatile_parts u =
+    ap (λ (n : ℕ). second_of n (voters_of new.plan u) new.items (stable_at new u) (volatile_at new.volatile_parts u)) me
+    ∙ ap (λ (p : CorePlanState). second_of old.me (voters_of p u) new.items (stable_at new u) (volatile_at new.volatile_parts u)) plan
+    ∙ ap (λ (es : List Entry). second_of old.me (voters_of old.plan u) es (stable_at new u) (volatile_at new.volatile_parts u)) items
+    ∙ ap (λ (s : StablePart). second_of old.me (voters_of old.plan u) old.items s (volatile_at new.volatile_parts u)) (stable_parts u)
+    ∙ ap (λ (v : VolatileState). second_of old.me (voters_of old.plan u) old.items (if u == t then part else stable_at old u) v) (volatile_parts u)
+    ∙ by (u == t) refl
   where
-    by : (b : Bool) → second_of old.me (voters_of old.members u) old.items (if b then part else stable_at old u) (if b then volatile else volatile_at old.volatile_parts u)
-        ≡ (if b then second_of old.me (voters_of old.members t) old.items part volatile else second_of old.me (voters_of old.members u) old.items (stable_at old u) (volatile_at old.volatile_parts u))
-    by true = refl
-    by false = refl
+    by : (b : Bool) → (u == t) ≡ b → second_of old.me (voters_of old.plan u) old.items (if b then part else stable_at old u) (if b then volatile else volatile_at old.volatile_parts u)
+        ≡ (if b then second_of old.me (voters_of old.plan t) old.items part volatile else second_of old.me (voters_of old.plan u) old.items (stable_at old u) (volatile_at old.volatile_parts u))
+    by true same = ap (λ (n : ℕ). second_of old.me (voters_of old.plan n) old.items part volatile) (eqb-true u t same)
+    by false other = refl
 
 -- so the second is one of these parts, and all else is as it was
-pub change_of : (old new : CoreState) (t : ℕ) (part : StablePart) (volatile : VolatileState) (after : SecondState) → new.me ≡ old.me → new.members ≡ old.members → new.start ≡ old.start → new.items ≡ old.items →
+pub change_of : (old new : CoreState) (t : ℕ) (part : StablePart) (volatile : VolatileState) (after : SecondState) → new.me ≡ old.me → new.plan ≡ old.plan → new.start ≡ old.start → new.items ≡ old.items →
     ((u : ℕ) → stable_at new u ≡ (if u == t then part else stable_at old u)) →
     ((u : ℕ) → volatile_at new.volatile_parts u ≡ (if u == t then volatile else volatile_at old.volatile_parts u)) →
-    second_of old.me (voters_of old.members t) old.items part volatile ≡ after →
+    second_of old.me (voters_of old.plan t) old.items part volatile ≡ after →
     IsChange old new t after
-change_of old new t part volatile after me members start items stable_parts volatile_parts is = record {
+change_of old new t part volatile after me plan start items stable_parts volatile_parts is = record {
   me = me;
-  members = members;
+  plan = plan;
   start = start;
-  seconds = λ u. parts_change old new t part volatile me members items stable_parts volatile_parts u ∙ ap (λ (s : SecondState). if u == t then s else state_of old u) is;
+  seconds = λ u. parts_change old new t part volatile me plan items stable_parts volatile_parts u ∙ ap (λ (s : SecondState). if u == t then s else state_of old u) is;
 }
 
 -- THE VOTE
@@ -95,16 +96,16 @@ change_of old new t part volatile after me members start items stable_parts vola
 pub vote_put : (core : CoreState) (t : ℕ) (part : StablePart) (volatile : VolatileState) (vote : VoteState) → Keeps (state_of core t).vote vote →
     part ≡ record { vote = stable_of vote; first = (stable_at core t).first; count = (stable_at core t).count } →
     volatile ≡ record (volatile_at core.volatile_parts t) { hand = vote.hand } →
-    second_of core.me (voters_of core.members t) core.items part volatile ≡ record (state_of core t) { vote = vote }
+    second_of core.me (voters_of core.plan t) core.items part volatile ≡ record (state_of core t) { vote = vote }
 unfolding state_of second_of
 vote_put core t part volatile vote keeps part_is volatile_is =
     let s = stable_at core t in
     let v = volatile_at core.volatile_parts t in
     let own : StablePart = record { vote = stable_of vote; first = s.first; count = s.count } in
     let hand : VolatileState = record v { hand = vote.hand } in
-    ap (λ (x : StablePart). second_of core.me (voters_of core.members t) core.items x volatile) part_is
-    ∙ ap (λ (x : VolatileState). second_of core.me (voters_of core.members t) core.items own x) volatile_is
-    ∙ ap (λ (n : ℕ). second_of n (voters_of core.members t) core.items own hand) (sym keeps.me)
+    ap (λ (x : StablePart). second_of core.me (voters_of core.plan t) core.items x volatile) part_is
+    ∙ ap (λ (x : VolatileState). second_of core.me (voters_of core.plan t) core.items own x) volatile_is
+    ∙ ap (λ (n : ℕ). second_of n (voters_of core.plan t) core.items own hand) (sym keeps.me)
     ∙ ap (λ (vs : List ℕ). second_of vote.me vs core.items own hand) (sym keeps.voters)
     ∙ ap (λ (o : Option (List ℕ)). with_sealed (option_map (λ (candidate : List ℕ). items_from core.items s.first s.count) o)) keeps.candidate
   where
@@ -122,7 +123,7 @@ well_same image items old part candidate first count well =
 -- THE OPEN ITEMS
 
 pub items_put : (core : CoreState) (t : ℕ) (items : List Entry) →
-    second_of core.me (voters_of core.members t) core.items (stable_at core t) (record (volatile_at core.volatile_parts t) { open_items = items }) ≡ record (state_of core t) { open_items = items }
+    second_of core.me (voters_of core.plan t) core.items (stable_at core t) (record (volatile_at core.volatile_parts t) { open_items = items }) ≡ record (state_of core t) { open_items = items }
 unfolding state_of second_of
 items_put core t items = refl
 
@@ -139,9 +140,9 @@ pub same_volatile_parts : (core : CoreState) (volatile_parts : List (ℕ × Vola
 unfolding state_of
 same_volatile_parts core volatile_parts same = record {
   me = refl;
-  members = refl;
+  plan = refl;
   start = refl;
-  seconds = λ u. ap (λ (v : VolatileState). second_of core.me (voters_of core.members u) core.items (stable_at core u) v) (same u);
+  seconds = λ u. ap (λ (v : VolatileState). second_of core.me (voters_of core.plan u) core.items (stable_at core u) v) (same u);
 }
 
 pub on_err : {T E : Type 0} (r : Result T E) (P : Type 0) → P → OnErr r P

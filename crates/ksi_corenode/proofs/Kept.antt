@@ -5,6 +5,7 @@ use Rattle.std.proofs.lemmas.Bool.{le-ltb, cond-true, cond-false, cond_both, eqb
 use Rattle.std.proofs.lemmas.Option.{slice_get-get_or, slice_get_past}
 use Rattle.ksi_imprint.specs.Imprints.{zero_imprint}
 use Rattle.ksi_calendar.specs.Calendar.{Seconds, calendar_leaf, calendar_root, root_to}
+use Rattle.ksi_synod.specs.CorePlans.{CorePlanState}
 use Rattle.ksi_corenode.specs.SecondState.{SecondState, fresh_second}
 use Rattle.ksi_calendar.specs.Covered.{Roots, IsFirstMissing, covered_root, first_missing, second_leaf}
 use Rattle.ksi_synod.specs.VoteState.{VoteState, fresh_vote}
@@ -71,9 +72,9 @@ kept_same old new start start2 calendar same begins kept = subst (λ (n : ℕ). 
 })
 
 -- nothing is held yet
-pub kept_fresh : (core : CoreState) (me members start : ℕ) → core.start ≡ start → ((t : ℕ) → state_of core t ≡ fresh_second me members t) → IsCalendarOf (held_by core) core.start (record { start = start; roots = [] })
+pub kept_fresh : (core : CoreState) (me : ℕ) (plan : CorePlanState) (start : ℕ) → core.start ≡ start → ((t : ℕ) → state_of core t ≡ fresh_second me plan t) → IsCalendarOf (held_by core) core.start (record { start = start; roots = [] })
 unfolding fresh_second fresh_vote
-kept_fresh core me members start begins fresh = subst (λ (n : ℕ). IsCalendarOf (held_by core) n (record { start = start; roots = [] })) (sym begins) (record {
+kept_fresh core me plan start begins fresh = subst (λ (n : ℕ). IsCalendarOf (held_by core) n (record { start = start; roots = [] })) (sym begins) (record {
   begins = refl;
   most = λ k within. absurd (omega (arith, within));
   roots = λ k to below. ap (λ (s : SecondState). s.vote.held) (fresh (start + k));

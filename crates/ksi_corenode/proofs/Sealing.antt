@@ -10,7 +10,8 @@ use Rattle.ksi_aggtree.specs.Entries.{items_of, candidate_of}
 use Rattle.ksi_synod.specs.VoteState.{VoteState, stable_of, vote_of}
 use Rattle.ksi_synod.specs.Rows.{seal, sealed_with}
 use Rattle.ksi_corenode.specs.declared.stable.StablePart.{StablePart}
-use Rattle.ksi_corenode.specs.SecondState.{SecondState, voters_of}
+use Rattle.ksi_synod.specs.CorePlans.{CorePlanState, voters_of}
+use Rattle.ksi_corenode.specs.SecondState.{SecondState}
 use Rattle.ksi_corenode.specs.Rows.{sealed_now}
 use Rattle.ksi_corenode.specs.Stored.{VolatileState, volatile_at, items_from, second_of, AreSealed, IsSealedWell}
 use Rattle.ksi_corenode.specs.CoreState.{CoreState, stable_at, state_of, IsChange}
@@ -78,7 +79,7 @@ well_sealed image items more s candidate is round = record {
 -- the second, once it has them
 sealed_second : (image : List ℕ → List ℕ) (core : CoreState) (t : ℕ) (candidate : List ℕ) → is_some (state_of core t).sealed ≡ false →
     candidate ≡ candidate_of image (volatile_at core.volatile_parts t).open_items →
-    second_of core.me (voters_of core.members t) (core.items ++ (volatile_at core.volatile_parts t).open_items)
+    second_of core.me (voters_of core.plan t) (core.items ++ (volatile_at core.volatile_parts t).open_items)
     (sealed_part (stable_at core t) candidate core.items (volatile_at core.volatile_parts t).open_items) (record (volatile_at core.volatile_parts t) { open_items = [] })
     ≡ (sealed_now image (state_of core t)).after
 unfolding state_of second_of seal
@@ -91,7 +92,7 @@ sealed_second image core t candidate unsealed is = by (stable_at core t).vote.ca
     v = volatile_at core.volatile_parts t
 
     vote_with : Option (List ℕ) → VoteState
-    vote_with o = vote_of core.me (voters_of core.members t) (record s.vote { candidate = o }) v.hand
+    vote_with o = vote_of core.me (voters_of core.plan t) (record s.vote { candidate = o }) v.hand
 
     of : (candidate : List ℕ) → List Entry → SecondState
     of c es = record { vote = vote_with (Some c); open_items = []; sealed = Some es }
@@ -103,22 +104,22 @@ sealed_second image core t candidate unsealed is = by (stable_at core t).vote.ca
     by (Some c) none = absurd (cc none)
 
 pub seal_change : (image : List ℕ → List ℕ) (old new : CoreState) (t : ℕ) (part : StablePart) (candidate : List ℕ) → is_some (state_of old t).sealed ≡ false → ((u : ℕ) → IsSealedWell image old.items (stable_at old u)) →
-    new.me ≡ old.me → new.members ≡ old.members → new.start ≡ old.start → new.items ≡ old.items ++ (volatile_at old.volatile_parts t).open_items →
+    new.me ≡ old.me → new.plan ≡ old.plan → new.start ≡ old.start → new.items ≡ old.items ++ (volatile_at old.volatile_parts t).open_items →
     ((u : ℕ) → stable_at new u ≡ (if u == t then part else stable_at old u)) →
     ((u : ℕ) → volatile_at new.volatile_parts u ≡ (if u == t then record (volatile_at old.volatile_parts t) { open_items = [] } else volatile_at old.volatile_parts u)) →
     part ≡ sealed_part (stable_at old t) candidate old.items (volatile_at old.volatile_parts t).open_items →
     candidate ≡ candidate_of image (volatile_at old.volatile_parts t).open_items →
     IsChange old new t (sealed_now image (state_of old t)).after
 unfolding state_of
-seal_change image old new t part candidate unsealed well me members start items stable_parts volatile_parts part_is is = record {
+seal_change image old new t part candidate unsealed well me plan start items stable_parts volatile_parts part_is is = record {
   me = me;
-  members = members;
+  plan = plan;
   start = start;
-  seconds = λ u. parts_change grown new t part emptied me members items stable_parts volatile_parts u
+  seconds = λ u. parts_change grown new t part emptied me plan items stable_parts volatile_parts u
       ∙ ap (λ (s : SecondState). if u == t then s else state_of grown u)
-      (ap (λ (x : StablePart). second_of old.me (voters_of old.members t) (old.items ++ more) x emptied) part_is ∙ sealed_second image old t candidate unsealed is)
+      (ap (λ (x : StablePart). second_of old.me (voters_of old.plan t) (old.items ++ more) x emptied) part_is ∙ sealed_second image old t candidate unsealed is)
       ∙ ap (λ (s : SecondState). if u == t then (sealed_now image (state_of old t)).after else s)
-      (second_grown image old.me (voters_of old.members u) old.items more (stable_at old u) (volatile_at old.volatile_parts u) (well u));
+      (second_grown image old.me (voters_of old.plan u) old.items more (stable_at old u) (volatile_at old.volatile_parts u) (well u));
 }
   where
     more : List Entry

@@ -4,16 +4,17 @@ use Rattle.ksi_aggtree.specs.declared.entries.Entry.{Entry}
 use Rattle.ksi_signature.specs.declared.step.Step.{Step}
 use Rattle.ksi_corenode.specs.declared.stable.StablePart.{StablePart}
 use Rattle.ksi_corenode.specs.declared.step.Send.{Send}
-use Rattle.ksi_corenode.specs.SecondState.{SecondState, voters_of}
+use Rattle.ksi_synod.specs.CorePlans.{CorePlanState, voters_of}
+use Rattle.ksi_corenode.specs.SecondState.{SecondState}
 use Rattle.ksi_corenode.specs.Stored.{VolatileState, part_at, volatile_at, second_of}
 use Rattle.ksi_calendar.specs.Covered.{Roots}
 use Rattle.ksi_corenode.specs.Turns.{Turn}
 
--- its number, how many cores there are, the first second, and what is stored of the seconds that something came for: the
+-- its number, the plan of the cores, the first second, and what is stored of the seconds that something came for: the
 -- stable parts of the settled seconds and of the unsettled, all sealed items, and the volatile parts
 pub record CoreState : Type 0 where
   pub me : ℕ
-  pub members : ℕ
+  pub plan : CorePlanState
   pub start : ℕ
   pub settled : List StablePart
   pub unsettled : List (ℕ × StablePart)
@@ -26,7 +27,7 @@ stable_at core second = part_at core.start core.settled core.unsettled second
 
 -- a second of the core; where nothing came, one before anything came
 unfoldable pub state_of : CoreState → (second : ℕ) → SecondState
-state_of core second = second_of core.me (voters_of core.members second) core.items (stable_at core second) (volatile_at core.volatile_parts second)
+state_of core second = second_of core.me (voters_of core.plan second) core.items (stable_at core second) (volatile_at core.volatile_parts second)
 
 -- what the core holds for each second
 abbrev pub held_by : CoreState → Roots
@@ -35,21 +36,21 @@ held_by core second = (state_of core second).vote.held
 -- the core is as it was
 pub record IsSame (old new : CoreState) : Type 0 where
   pub me : new.me ≡ old.me
-  pub members : new.members ≡ old.members
+  pub plan : new.plan ≡ old.plan
   pub start : new.start ≡ old.start
   pub seconds : (t : ℕ) → state_of new t ≡ state_of old t
 
 -- a second is another, and all else is as it was
 pub record IsChange (old new : CoreState) (second : ℕ) (after : SecondState) : Type 0 where
   pub me : new.me ≡ old.me
-  pub members : new.members ≡ old.members
+  pub plan : new.plan ≡ old.plan
   pub start : new.start ≡ old.start
   pub seconds : (t : ℕ) → state_of new t ≡ (if t == second then after else state_of old t)
 
 -- the step is this turn of the second, and all else is as it was
 pub record IsTurn (old new : CoreState) (second : ℕ) (turn : Turn) (step : Step Send) : Type 0 where
   pub me : new.me ≡ old.me
-  pub members : new.members ≡ old.members
+  pub plan : new.plan ≡ old.plan
   pub start : new.start ≡ old.start
   pub seconds : (t : ℕ) → state_of new t ≡ (if t == second then turn.after else state_of old t)
   pub answer : step.answer ≡ turn.answer

@@ -16,6 +16,7 @@ use Rattle.ksi_synod.specs.declared.messages.Begun.{Begun}
 use Rattle.ksi_synod.specs.declared.messages.Begun.TheVariants as begun
 use Rattle.ksi_synod.specs.declared.messages.Took.{Took}
 use Rattle.ksi_synod.specs.declared.messages.Took.TheVariants as took
+use Rattle.ksi_synod.specs.CorePlans.{CorePlanState}
 use Rattle.ksi_synod.specs.VoteState.{VoteState}
 use Rattle.ksi_synod.specs.Rows.{seal, try_ballot, ballot_told, held_told, on_next, on_last, on_begin, on_voted, on_success, receive, restarted}
 use Rattle.ksi_calendar.specs.Calendar.{Seconds, calendar_path}
@@ -66,8 +67,8 @@ ballot_answer begun.Last = Last
 ballot_answer (begun.Next b) = Done
 
 -- Unsealed without a candidate; Last where no round is left; else Done
-unfoldable pub ballot_row : (members second me : ℕ) → SecondState → Turn
-ballot_row members second me s = voted_with members second me s ((try_ballot s.vote).0, ballot_told (try_ballot s.vote).1) (ballot_answer (try_ballot s.vote).1)
+unfoldable pub ballot_row : CorePlanState → (second me : ℕ) → SecondState → Turn
+ballot_row plan second me s = voted_with plan second me s ((try_ballot s.vote).0, ballot_told (try_ballot s.vote).1) (ballot_answer (try_ballot s.vote).1)
 
 -- THE FIVE MESSAGES OF THE VOTE: what Synod's step says
 
@@ -90,8 +91,8 @@ abbrev pub news_answer : Bool → Answer
 news_answer true = Done
 news_answer false = Nothing
 
-unfoldable pub receive_row : (members second from : ℕ) → SynodMessage → SecondState → Turn
-receive_row members second from m s = voted_with members second from s (receive s.vote from m) (news_answer (is_news s.vote from m))
+unfoldable pub receive_row : CorePlanState → (second from : ℕ) → SynodMessage → SecondState → Turn
+receive_row plan second from m s = voted_with plan second from s (receive s.vote from m) (news_answer (is_news s.vote from m))
 
 -- TELL: Success with what is held goes to all cores
 
@@ -100,8 +101,8 @@ abbrev pub tell_answer : (second : ℕ) → (held : Option (List ℕ)) → Answe
 tell_answer second None = Undecided second
 tell_answer second (Some root) = Done
 
-unfoldable pub tell_row : (members second me : ℕ) → SecondState → Turn
-tell_row members second me s = voted_with members second me s (s.vote, held_told s.vote.held) (tell_answer second s.vote.held)
+unfoldable pub tell_row : CorePlanState → (second me : ℕ) → SecondState → Turn
+tell_row plan second me s = voted_with plan second me s (s.vote, held_told s.vote.held) (tell_answer second s.vote.held)
 
 -- RESPOND: each aggregator whose item was sealed is told the way from its item to the calendar of this second
 

@@ -1,7 +1,7 @@
 -- What a core keeps for one second.
 use Rattle.std.specs.Prelude.{ℕ, List, [], Option, None}
 use Rattle.ksi_aggtree.specs.declared.entries.Entry.{Entry}
-use Rattle.ksi_synod.specs.Voters.{cores_below}
+use Rattle.ksi_synod.specs.CorePlans.{CorePlanState, voters_of}
 use Rattle.ksi_synod.specs.VoteState.{VoteState, fresh_vote}
 
 -- its part in the vote, the items that are not sealed yet, and those that are
@@ -10,10 +10,6 @@ pub record SecondState : Type 0 where
   pub open_items : List Entry
   pub sealed : Option (List Entry)
 
--- who votes on a second: all cores, for now
-abbrev pub voters_of : (members second : ℕ) → List ℕ
-voters_of members second = cores_below members
-
 -- a second before anything came
-unfoldable pub fresh_second : (me members second : ℕ) → SecondState
-fresh_second me members second = record { vote = fresh_vote me (voters_of members second); open_items = []; sealed = None }
+unfoldable pub fresh_second : (me : ℕ) → CorePlanState → (second : ℕ) → SecondState
+fresh_second me plan second = record { vote = fresh_vote me (voters_of plan second); open_items = []; sealed = None }

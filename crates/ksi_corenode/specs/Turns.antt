@@ -3,11 +3,12 @@ use Rattle.std.specs.Prelude.{ℕ, List, [], ◌∷◌, map, Option, Some, None}
 use Rattle.ksi_synod.specs.declared.messages.SynodMessage.{SynodMessage}
 use Rattle.ksi_synod.specs.declared.messages.SynodMessage.TheVariants as message
 use Rattle.ksi_synod.specs.Voters.{cores_below}
+use Rattle.ksi_synod.specs.CorePlans.{CorePlanState, voters_of}
 use Rattle.ksi_synod.specs.VoteState.{VoteState}
 use Rattle.ksi_signature.specs.declared.answer.Answer.{Answer}
 use Rattle.ksi_corenode.specs.declared.step.Send.{Send}
 use Rattle.ksi_corenode.specs.declared.step.Send.TheVariants as sends
-use Rattle.ksi_corenode.specs.SecondState.{SecondState, voters_of}
+use Rattle.ksi_corenode.specs.SecondState.{SecondState}
 
 -- the second after a row, its answer, and what is sent in order
 pub record Turn : Type 0 where
@@ -24,18 +25,18 @@ abbrev pub to_each : List ℕ → SynodMessage → List Send
 to_each cores m = map (λ core. sends.Synod core m) cores
 
 -- LastVote and Voted go to the sender, NextBallot and BeginBallot to the voters of the second, Success to all cores
-abbrev pub addressed : (members second from : ℕ) → SynodMessage → List Send
-addressed members second from (message.NextBallot b) = to_each (voters_of members second) (message.NextBallot b)
-addressed members second from (message.LastVote l) = sends.Synod from (message.LastVote l) ∷ []
-addressed members second from (message.BeginBallot b d) = to_each (voters_of members second) (message.BeginBallot b d)
-addressed members second from (message.Voted b) = sends.Synod from (message.Voted b) ∷ []
-addressed members second from (message.Success d) = to_each (cores_below members) (message.Success d)
+abbrev pub addressed : CorePlanState → (second from : ℕ) → SynodMessage → List Send
+addressed plan second from (message.NextBallot b) = to_each (voters_of plan second) (message.NextBallot b)
+addressed plan second from (message.LastVote l) = sends.Synod from (message.LastVote l) ∷ []
+addressed plan second from (message.BeginBallot b d) = to_each (voters_of plan second) (message.BeginBallot b d)
+addressed plan second from (message.Voted b) = sends.Synod from (message.Voted b) ∷ []
+addressed plan second from (message.Success d) = to_each (cores_below plan.cores) (message.Success d)
 
 -- what goes out where a message is to be sent
-abbrev pub told : (members second from : ℕ) → Option SynodMessage → List Send
-told members second from None = []
-told members second from (Some m) = addressed members second from m
+abbrev pub told : CorePlanState → (second from : ℕ) → Option SynodMessage → List Send
+told plan second from None = []
+told plan second from (Some m) = addressed plan second from m
 
 -- the vote after a row, the message that is to be sent, and the answer
-abbrev pub voted_with : (members second from : ℕ) → SecondState → VoteState × Option SynodMessage → Answer → Turn
-voted_with members second from s row answer = record { after = record s { vote = row.0 }; answer = answer; sends = told members second from row.1 }
+abbrev pub voted_with : CorePlanState → (second from : ℕ) → SecondState → VoteState × Option SynodMessage → Answer → Turn
+voted_with plan second from s row answer = record { after = record s { vote = row.0 }; answer = answer; sends = told plan second from row.1 }

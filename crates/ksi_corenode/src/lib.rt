@@ -14,7 +14,7 @@
 //! looks there alone. A ballot in hand stays until a restart, also for a second that is held.
 //!
 //! ```text
-//! let mut core = Core::<Sha>::new(alloc, 0, 3, start);
+//! let mut core = Core::<Sha>::new(alloc, 0, &CorePlan::new(3, start));
 //! core.submission(aggregator, second, item)?;
 //! core.seal(second)?;
 //! for send in core.ballot(second)?.sends.as_slice() { deliver(send) }
@@ -40,5 +40,6 @@ mod volatile_parts;
 pub use ksi_imprint::NoMemory;
 pub use ksi_signature::Answer;
 pub use ksi_split::Steps;
+pub use ksi_synod::{CorePlan, Voters};
 pub use node::Core;
 pub use step::{Send, Step};

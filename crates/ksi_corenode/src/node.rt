@@ -1,4 +1,4 @@
-ghost use Rattle.std.specs.Prelude.{◌≡◌, ℕ, ◌<◌, ◌≤◌, ◌↔◌, length, IfOk, OnOk, OnErr, IfSome, IsTrue, IsSome, IsNone, Some, false, option_map};
+ghost use Rattle.std.specs.Prelude.{◌≡◌, ℕ, ◌<◌, ◌≤◌, ◌↔◌, [], length, vec_capacity, IfOk, OnOk, OnErr, IfSome, IsTrue, IsSome, IsNone, Some, false, option_map};
 ghost use Rattle.std.specs.Option.{option_copied};
 ghost use Rattle.ksi_corenode.specs.SecondState.{fresh_second};
 ghost use Rattle.ksi_aggtree.specs.Rounds.{IsRound, most_items, highest_item};
@@ -15,12 +15,12 @@ use crate::growing::lengthen;
 use crate::lazy_calendar::LazyCalendar;
 use crate::receiving::receive;
 use crate::seconds::Seconds;
-use crate::sending::{push_each, push_told};
-use crate::step::Step;
+use crate::sending::{push_all, push_told};
+use crate::step::{Send, Step};
 use ksi_aggtree::{Entry, Item};
 use ksi_imprint::{Compress, Imprint, NoMemory};
 use ksi_signature::{Answer, Sends};
-use ksi_synod::{Begun, Instance, SynodMessage};
+use ksi_synod::{Begun, CorePlan, Instance, SynodMessage};
 use std::alloc::Global;
 use std::marker::Model;
 
@@ -44,19 +44,18 @@ impl<C: Compress> Model for Core<C> {
 }
 
 impl<C: Compress> Core<C> {
-    /// Core `me` of so many, before anything came; the first second is `start`.
-    pub fn new(alloc: Global, me: u8, members: u8, start: u64) -> Self
-        requires mine { me < members }
-        requires few { members ≤ 9 }
+    /// Core `me` of a plan, before anything came.
+    pub fn new(alloc: Global, me: u8, plan: &CorePlan) -> Self
+        requires { me < plan.now.cores }
         ensures me { result.me ≡ me }
-        ensures members { result.members ≡ members }
-        ensures start { result.start ≡ start }
-        ensures seconds { (t : ℕ) → state_of result t ≡ fresh_second me members t }
+        ensures plan { result.plan ≡ plan.now }
+        ensures start { result.start ≡ plan.now.start }
+        ensures seconds { (t : ℕ) → state_of result t ≡ fresh_second me plan.now t }
     {
         Core {
             alloc,
-            seconds: Seconds::new(alloc, me, members, start),
-            calendar: LazyCalendar::new(start),
+            seconds: Seconds::new(alloc, me, plan),
+            calendar: LazyCalendar::new(plan.start()),
         }
     }
 
@@ -95,6 +94,15 @@ impl<C: Compress> Core<C> {
         ensures { result.now ≡ self.now }
     {
         &self.seconds
+    }
+
+    /// Room for a message to each core.
+    fn room(&self) -> Result<Vec<Send>, NoMemory>
+        ensures none { IfOk result (λ sends. sends.items ≡ []) }
+        ensures room { IfOk result (λ sends. self.now.plan.cores ≤ vec_capacity sends) }
+        ensures some { 1 ≤ self.now.plan.cores }
+    {
+        Vec::with_capacity(self.alloc, self.seconds.plan().cores() as usize)
     }
 
     /// What the memory is taken from.
@@ -157,18 +165,23 @@ impl<C: Compress> Core<C> {
     #[tactic(auto, unfolding(crate::specs::Rows::ballot_row), using(crate::proofs::Keeping::try_keeps))]
     pub fn ballot(&mut self, second: u64) -> Result<Step, NoMemory>
         ensures turn { IfOk result (λ step. IsTurn self.old self.new second
-            (ballot_row self.old.members second self.old.me (state_of self.old second)) step) }
+            (ballot_row self.old.plan second self.old.me (state_of self.old second)) step) }
         ensures unsealed { IfOk result (λ step. (step.answer ≡ Unsealed) ↔ IsNone (state_of self.old second).sealed) }
         ensures last { IfOk result (λ step. (step.answer ≡ Last) ↔ (IsSome (state_of self.old second).sealed ×
             (greater_round (state_of self.old second).vote ≡ last_round))) }
         ensures unchanged { OnErr result (IsSame self.old self.new) }
     {
-        let members = self.seconds.members();
-        let mut sends = Vec::with_capacity(self.alloc, members as usize)?;
+        let mut sends = self.room()?;
         let mut vote = self.seconds.vote(second);
         let (answer, call) = called(vote.try_ballot());
         self.put_vote(second, &vote)?;
-        push_told(members, second, self.seconds.me(), &call, &mut sends);
+        push_told(
+            self.seconds.plan(),
+            second,
+            self.seconds.me(),
+            &call,
+            &mut sends,
+        );
         Ok(Step {
             answer,
             sends: Sends::from_vec(sends),
@@ -191,17 +204,16 @@ impl<C: Compress> Core<C> {
         requires member { from < 9 }
         requires ballot { OfBallot message.now }
         ensures turn { IfOk result (λ step. IsTurn self.old self.new second
-            (receive_row self.old.members second from message.now (state_of self.old second)) step) }
+            (receive_row self.old.plan second from message.now (state_of self.old second)) step) }
         ensures nothing { IfOk result (λ step. (step.answer ≡ Nothing) ↔
             (is_news (state_of self.old second).vote from message.now ≡ false)) }
         ensures unchanged { OnErr result (IsSame self.old self.new) }
     {
-        let members = self.seconds.members();
-        let mut sends = Vec::with_capacity(self.alloc, members as usize)?;
+        let mut sends = self.room()?;
         let mut vote = self.seconds.vote(second);
         let (answer, reply) = receive(&mut vote, from, message);
         self.put_vote(second, &vote)?;
-        push_told(members, second, from, &reply, &mut sends);
+        push_told(self.seconds.plan(), second, from, &reply, &mut sends);
         Ok(Step {
             answer,
             sends: Sends::from_vec(sends),
@@ -234,15 +246,18 @@ impl<C: Compress> Core<C> {
     #[tactic(auto, unfolding(crate::specs::Rows::tell_row))]
     pub fn tell(&self, second: u64) -> Result<Step, NoMemory>
         ensures turn { IfOk result (λ step. IsTurn self.now self.now second
-            (tell_row self.now.members second self.now.me (state_of self.now second)) step) }
+            (tell_row self.now.plan second self.now.me (state_of self.now second)) step) }
         ensures undecided { IfOk result (λ step. (step.answer ≡ Undecided second) ↔ IsNone (held_by self.now second)) }
     {
-        let members = self.seconds.members();
-        let mut sends = Vec::with_capacity(self.alloc, members as usize)?;
+        let mut sends = self.room()?;
         let answer = match self.held(second) {
             None => Answer::Undecided(second),
             Some(root) => {
-                push_each(members, &SynodMessage::Success(root), &mut sends);
+                push_all(
+                    self.seconds.plan().cores(),
+                    &SynodMessage::Success(root),
+                    &mut sends,
+                );
                 Answer::Done
             }
         };
@@ -255,7 +270,7 @@ impl<C: Compress> Core<C> {
     /// Forgets every ballot in hand and all open items, as a restart does.
     pub fn restart(&mut self)
         ensures me { self.new.me ≡ self.old.me }
-        ensures members { self.new.members ≡ self.old.members }
+        ensures plan { self.new.plan ≡ self.old.plan }
         ensures start { self.new.start ≡ self.old.start }
         ensures seconds { (t : ℕ) → state_of self.new t ≡ restart_row (state_of self.old t) }
     {

@@ -21,19 +21,19 @@ use ksi_aggtree::{Entry, Item};
 use ksi_imprint::{Compress, Imprint, NoMemory};
 use ksi_signature::Answer;
 use ksi_split::Steps;
-use ksi_synod::{Instance, Voters};
+use ksi_synod::{CorePlan, Instance};
 use std::alloc::Global;
 use std::collections::BTreeMap;
 use std::marker::{Brand, Model};
 use std::sync::ledger::{Blank, Ledger};
 
-/// The seconds of core `me` of so many: the stable parts, all sealed items, and the volatile parts of those seconds that
+/// The seconds of core `me` of a plan: the stable parts, all sealed items, and the volatile parts of those seconds that
 /// have a ballot in hand or open items.
 #[derive(Drop)]
 pub(crate) struct Seconds<C: Compress> {
     alloc: Global,
     me: u8,
-    members: u8,
+    plan: CorePlan,
     stable_parts: StableParts,
     items: Vec<Entry>,
     volatile_parts: BTreeMap<u64, VolatilePart<C>>,
@@ -46,28 +46,27 @@ impl<C: Compress> Model for Seconds<C> {
 
     ghost Value = { CoreState };
 
-    ghost view = { λ s. record { me = s.me; members = s.members; start = s.stable_parts.start; settled = s.stable_parts.settled; unsettled = s.stable_parts.unsettled; items = s.items.items; volatile_parts = s.volatile_parts.entries } };
+    ghost view = { λ s. record { me = s.me; plan = s.plan; start = s.stable_parts.start; settled = s.stable_parts.settled; unsettled = s.stable_parts.unsettled; items = s.items.items; volatile_parts = s.volatile_parts.entries } };
 
-    ghost invariant = { λ s. (s.me < s.members) × (s.members ≤ 9)
+    ghost invariant = { λ s. (s.me < s.plan.cores) × (s.plan.cores ≤ 9)
         × ((t : ℕ) → IsSealedWell C.image s.items.items (part_of s.stable_parts t)) };
 }
 
 impl<C: Compress> Seconds<C> {
     /// The seconds before anything came.
     #[tactic(auto, unfolding(crate::specs::CoreState::state_of, crate::specs::Stored::second_of, crate::specs::Stored::volatile_at, crate::specs::SecondState::fresh_second, ksi_synod::specs::VoteState::fresh_vote))]
-    pub fn new(alloc: Global, me: u8, members: u8, start: u64) -> Self
-        requires mine { me < members }
-        requires few { members ≤ 9 }
+    pub fn new(alloc: Global, me: u8, plan: &CorePlan) -> Self
+        requires { me < plan.now.cores }
         ensures me { result.me ≡ me }
-        ensures members { result.members ≡ members }
-        ensures start { result.start ≡ start }
-        ensures seconds { (t : ℕ) → state_of result t ≡ fresh_second me members t }
+        ensures plan { result.plan ≡ plan.now }
+        ensures start { result.start ≡ plan.now.start }
+        ensures seconds { (t : ℕ) → state_of result t ≡ fresh_second me plan.now t }
     {
         Seconds {
             alloc,
             me,
-            members,
-            stable_parts: StableParts::new(alloc, start),
+            plan: *plan,
+            stable_parts: StableParts::new(alloc, plan.start()),
             items: Vec::new(alloc),
             volatile_parts: BTreeMap::new(alloc),
         }
@@ -76,18 +75,16 @@ impl<C: Compress> Seconds<C> {
     /// The core's number.
     pub fn me(&self) -> u8
         ensures me { result ≡ self.now.me }
-        ensures mine { result < self.now.members }
+        ensures mine { result < self.now.plan.cores }
     {
         self.me
     }
 
-    /// How many cores there are.
-    pub fn members(&self) -> u8
-        ensures members { result ≡ self.now.members }
-        ensures some { 0 < result }
-        ensures few { result ≤ 9 }
+    /// The plan of the cores.
+    pub fn plan(&self) -> &CorePlan
+        ensures { result.now ≡ self.now.plan }
     {
-        self.members
+        &self.plan
     }
 
     /// The first second.
@@ -183,7 +180,7 @@ impl<C: Compress> Seconds<C> {
     #[tactic(auto, unfolding(crate::specs::CoreState::state_of, crate::specs::Stored::second_of, crate::specs::Stored::volatile_at))]
     pub fn restart(&mut self)
         ensures me { self.new.me ≡ self.old.me }
-        ensures members { self.new.members ≡ self.old.members }
+        ensures plan { self.new.plan ≡ self.old.plan }
         ensures start { self.new.start ≡ self.old.start }
         ensures seconds { (t : ℕ) → state_of self.new t ≡ restart_row (state_of self.old t) }
     {
@@ -204,7 +201,7 @@ impl<C: Compress> Seconds<C> {
     {
         let hand = hand_of(&self.volatile_parts, second);
         let part = self.part(second);
-        Instance::of(self.me, Voters::all(self.members), &part.vote, hand)
+        Instance::of(self.me, self.plan.voters_of(second), &part.vote, hand)
     }
 
     /// Takes an item of an aggregator among the open ones, where there is a place.

@@ -1,39 +1,57 @@
 //! To whom a message of the vote goes.
 ghost use Rattle.std.specs.Prelude.{◌≡◌, ◌<◌, ◌≤◌, ◌+◌, ◌++◌, ◌∷◌, [], vec_len, vec_capacity};
 ghost use Rattle.ksi_synod.specs.Voters.{cores_below};
+ghost use Rattle.ksi_synod.specs.CorePlans.{AreVoters};
 ghost use Rattle.ksi_corenode.specs.Turns.{to_each, told};
 
 use crate::step::Send;
-use ksi_synod::SynodMessage;
+use ksi_synod::{CorePlan, SynodMessage, Voters, voters_are_cores};
 
-/// The message to each of the members, where there is room.
-pub(crate) fn push_each(members: u8, message: &SynodMessage, sends: &mut Vec<Send>)
-    requires room { vec_len sends.old + members ≤ vec_capacity sends.old }
-    ensures { sends.new.items ≡ sends.old.items ++ to_each (cores_below members) message.now }
+/// The message to each of so many cores, where there is room.
+pub(crate) fn push_all(cores: u8, message: &SynodMessage, sends: &mut Vec<Send>)
+    requires room { vec_len sends.old + cores ≤ vec_capacity sends.old }
+    ensures { sends.new.items ≡ sends.old.items ++ to_each (cores_below cores) message.now }
 {
-    for core in 0..members {
+    for core in 0..cores {
         put(sends, core, message);
+    }
+}
+
+/// The message to each of the voters, which are of so many cores, where there is room.
+fn push_voters(cores: u8, voters: &Voters, message: &SynodMessage, sends: &mut Vec<Send>)
+    requires cores { AreVoters cores voters.now }
+    requires room { vec_len sends.old + cores ≤ vec_capacity sends.old }
+    ensures { sends.new.items ≡ sends.old.items ++ to_each voters.now message.now }
+{
+    voters_are_cores();
+    for core in 0..cores {
+        if voters.contains(core) {
+            put(sends, core, message);
+        }
     }
 }
 
 /// A message to whom it goes, where there is room.
 pub(crate) fn push_told(
-    members: u8,
+    plan: &CorePlan,
     second: u64,
     from: u8,
     reply: &Option<SynodMessage>,
     sends: &mut Vec<Send>,
 )
-    requires some { 0 < members }
-    requires room { vec_len sends.old + members ≤ vec_capacity sends.old }
-    ensures { sends.new.items ≡ sends.old.items ++ told members second from reply.now }
+    requires room { vec_len sends.old + plan.now.cores ≤ vec_capacity sends.old }
+    ensures { sends.new.items ≡ sends.old.items ++ told plan.now second from reply.now }
 {
     let Some(message) = reply else {
         return;
     };
+    let cores = plan.cores();
     match message {
         SynodMessage::LastVote(_) | SynodMessage::Voted(_) => put(sends, from, message),
-        _ => push_each(members, message, sends),
+        SynodMessage::NextBallot(_) | SynodMessage::BeginBallot(_, _) => {
+            push_voters(cores, &plan.voters_of(second), message, sends);
+        }
+        SynodMessage::Success(_) => push_all(cores, message, sends),
     }
 }
 

@@ -1,5 +1,5 @@
 -- Each step of a core is what is seen of it.
-use Rattle.std.proofs.Common.{◌≡◌, ℕ, ◌<◌, ◌≤◌, Bool, true, false, is_some, ◌&&◌, eqb, ltb, List, [], ◌∷◌, ◌++◌, map, suc, zero, refl, sym, ap, subst, ◌∙◌, arith, inl, inr, Option, Some, None}
+use Rattle.std.proofs.Common.{◌<◌, length, ◌≡◌, ℕ, ◌<◌, ◌≤◌, Bool, true, false, is_some, ◌&&◌, eqb, ltb, List, [], ◌∷◌, ◌++◌, map, suc, zero, refl, sym, ap, subst, ◌∙◌, arith, inl, inr, Option, Some, None}
 use Rattle.std.specs.Prelude.{option_map, unwrap_or}
 use Rattle.std.proofs.Math.Nat.{max-eq_left}
 use Rattle.std.proofs.lemmas.Bool.{cond_both, cases_lt, cond-true, and_parts, ltb-true}
@@ -14,6 +14,7 @@ use Rattle.ksi_synod.specs.declared.messages.SynodMessage.TheVariants as votes
 use Rattle.ksi_synod.specs.declared.messages.Begun.{Begun}
 use Rattle.ksi_synod.specs.declared.messages.Took.{Took}
 use Rattle.ksi_synod.specs.declared.messages.Took.TheVariants.{Decree}
+use Rattle.ksi_synod.specs.CorePlans.{CorePlanState, voters_of}
 use Rattle.ksi_synod.specs.Voters.{cores_below, is_voter, is_flagged, no_flags}
 use Rattle.ksi_synod.specs.Ballots.{last_round}
 use Rattle.ksi_synod.specs.VoteState.{VoteState, Hand, new_hand}
@@ -38,8 +39,9 @@ first_core zero some = absurd (omega (arith, some))
 first_core (suc zero) some = (0, [], refl)
 first_core (suc (suc n)) some = let before = first_core (suc n) (omega arith) in (before.0, before.1 ++ suc n ∷ [], ap (λ (xs : List ℕ). xs ++ suc n ∷ []) before.2)
 
-pub ballot_asked : (n i t b : ℕ) → 1 ≤ n → tries (first (map (core_message i t) (to_each (cores_below n) (votes.NextBallot b)))) ≡ Tried b ∷ []
-ballot_asked n i t b some = ap (λ (cores : List ℕ). tries (first (map (core_message i t) (to_each cores (votes.NextBallot b))))) (first_core n some).2
+pub ballot_asked : (to : List ℕ) (i t b : ℕ) → 0 < length to → tries (first (map (core_message i t) (to_each to (votes.NextBallot b)))) ≡ Tried b ∷ []
+ballot_asked [] i t b some = absurd (omega (arith, some))
+ballot_asked (core ∷ others) i t b some = refl
 
 -- a root that is held where nothing was
 abbrev pub held_now : (root : List ℕ) → (held : Option (List ℕ)) → List What
@@ -139,9 +141,9 @@ module _ (image : List ℕ → List ℕ) (voters : List ℕ) {me : ℕ} (small :
 
   -- TELL, RESPOND AND RESTART
 
-  pub tell_so : (n t i : ℕ) → IsSo image voters me ds (tell_row n t i s).after
+  pub tell_so : (core_plan : CorePlanState) (t i : ℕ) → IsSo image voters me ds (tell_row core_plan t i s).after
   unfolding tell_row
-  tell_so n t i = so
+  tell_so core_plan t i = so
 
   pub respond_so : (held : Roots) (start t : ℕ) → IsSo image voters me ds (respond_row image held start t s).after
   unfolding respond_row
@@ -168,14 +170,14 @@ module _ (image : List ℕ → List ℕ) (voters : List ℕ) {me : ℕ} (small :
 
   -- BALLOT
 
-  module _ (n i : ℕ) (some : 1 ≤ n) where
+  module _ (core_plan : CorePlanState) (i : ℕ) (some : 0 < length (voters_of core_plan t)) where
     abbrev Trying : VoteState × Begun → Type 0
-    Trying r = After (tries (first (map (core_message i t) (told n t i (ballot_told r.1))))) (record s { vote = r.0 })
+    Trying r = After (tries (first (map (core_message i t) (told core_plan t i (ballot_told r.1))))) (record s { vote = r.0 })
 
     trying : (candidate : Option (List ℕ)) → s.vote.candidate ≡ candidate → Trying (try_ballot_of candidate s.vote)
     trying None is = so
     trying (Some own) is = cond_both (eqb (greater_round s.vote) last_round) _ _ Trying (λ _. so)
-        (λ _. subst (λ (whats : List What). After whats (record s { vote = record s.vote { tried = next_ballot s.vote; hand = Some (new_hand (next_ballot s.vote)) } })) (sym (ballot_asked n i t (next_ballot s.vote) some)) (record {
+        (λ _. subst (λ (whats : List What). After whats (record s { vote = record s.vote { tried = next_ballot s.vote; hand = Some (new_hand (next_ballot s.vote)) } })) (sym (ballot_asked (voters_of core_plan t) i t (next_ballot s.vote) some)) (record {
           kept = record { sealed = so.kept.sealed; candidate = so.kept.candidate; tried = refl; promised = so.kept.promised; vote = so.kept.vote; held = so.kept.held };
           open_is = so.open_is;
           shut = so.shut;
@@ -184,7 +186,7 @@ module _ (image : List ℕ → List ℕ) (voters : List ℕ) {me : ℕ} (small :
           hand = fresh_hand s.vote.voters s.vote.candidate own is (next_ballot s.vote);
         }))
 
-    pub ballot_so : After (tries (first (map (core_message i t) (ballot_row n t i s).sends))) (ballot_row n t i s).after
+    pub ballot_so : After (tries (first (map (core_message i t) (ballot_row core_plan t i s).sends))) (ballot_row core_plan t i s).after
     unfolding ballot_row try_ballot
     ballot_so = trying s.vote.candidate refl
 
@@ -305,13 +307,13 @@ module _ (image : List ℕ → List ℕ) (voters : List ℕ) {me : ℕ} (small :
           (λ unmet. idle_so from (votes.LastVote l) (subst (Hears from (votes.LastVote l)) (sym is)
           (heard_by from (votes.LastVote l) h h is (λ sn has. last_idle s.vote.voters small_here s.vote.candidate sn h has from l unmet))))
 
-  module _ (n i : ℕ) (some : 1 ≤ n) where
-    voted_so : (from b : ℕ) → Takes (Heard from (votes.Voted b) ∷ decides (first (map (core_message i t) (told n t from (decree_told (on_voted s.vote from b).1)))) (held_root (facts_of ds))) (on_voted s.vote from b).0
+  module _ (core_plan : CorePlanState) (i : ℕ) (some : 1 ≤ core_plan.cores) where
+    voted_so : (from b : ℕ) → Takes (Heard from (votes.Voted b) ∷ decides (first (map (core_message i t) (told core_plan t from (decree_told (on_voted s.vote from b).1)))) (held_root (facts_of ds))) (on_voted s.vote from b).0
     unfolding on_voted
     voted_so from b = by s.vote.hand refl
       where
         P : VoteState × Took → Type 0
-        P r = Takes (Heard from (votes.Voted b) ∷ decides (first (map (core_message i t) (told n t from (decree_told r.1)))) (held_root (facts_of ds))) r.0
+        P r = Takes (Heard from (votes.Voted b) ∷ decides (first (map (core_message i t) (told core_plan t from (decree_told r.1)))) (held_root (facts_of ds))) r.0
 
         holds : (h : Hand) (d : List ℕ) → Hears from (votes.Voted b) (Some h) → (held : Option (List ℕ)) → s.vote.held ≡ held
             → Takes (Heard from (votes.Voted b) ∷ held_now d held) (record s.vote { held = Some (unwrap_or held d); hand = Some h })
@@ -334,7 +336,7 @@ module _ (image : List ℕ → List ℕ) (voters : List ℕ) {me : ℕ} (small :
 
         decided : (h : Hand) (d : List ℕ) → Hears from (votes.Voted b) (Some h) → P (record s.vote { held = Some (unwrap_or s.vote.held d); hand = Some h }, Decree d)
         decided h d has =
-            subst (λ (whats : List What). Takes (Heard from (votes.Voted b) ∷ whats) (record s.vote { held = Some (unwrap_or s.vote.held d); hand = Some h })) (sym (root_sent n i t d (held_root (facts_of ds)) some))
+            subst (λ (whats : List What). Takes (Heard from (votes.Voted b) ∷ whats) (record s.vote { held = Some (unwrap_or s.vote.held d); hand = Some h })) (sym (root_sent core_plan.cores i t d (held_root (facts_of ds)) some))
             (subst (λ (o : Option (List ℕ)). Takes (Heard from (votes.Voted b) ∷ held_now d o) (record s.vote { held = Some (unwrap_or s.vote.held d); hand = Some h })) so.kept.held
             (holds h d has s.vote.held refl))
 
@@ -351,7 +353,7 @@ module _ (image : List ℕ → List ℕ) (voters : List ℕ) {me : ℕ} (small :
         by None is = idle_so from (votes.Voted b) (unheard from (votes.Voted b) is)
         by (Some h) is = for_it h is (voted_for s.vote.voters (Some h) from b) refl
 
-    pub receive_so : (from : ℕ) (m : SynodMessage) → After (takes (actors.Core from) (contents.Synod m) (receive_row n t from m s).answer (map (core_message i t) (receive_row n t from m s).sends) (held_root (facts_of ds))) (receive_row n t from m s).after
+    pub receive_so : (from : ℕ) (m : SynodMessage) → After (takes (actors.Core from) (contents.Synod m) (receive_row core_plan t from m s).answer (map (core_message i t) (receive_row core_plan t from m s).sends) (held_root (facts_of ds))) (receive_row core_plan t from m s).after
     unfolding receive_row receive
     receive_so from (votes.NextBallot b) = next_so b
     receive_so from (votes.LastVote l) = last_so from l

@@ -1,3 +1,4 @@
+pub mod Voters
 pub mod Standing
 pub mod Hands
 pub mod CoreRows

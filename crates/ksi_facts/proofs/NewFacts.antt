@@ -1,5 +1,5 @@
 -- Each row's deeds have the facts that the row adds to what is kept.
-use Rattle.std.proofs.Common.{◌≡◌, ℕ, ◌+◌, ◌*◌, ◌/◌, ◌≤◌, Bool, true, false, cond, is_some, ◌&&◌, eqb, ltb, max, List, [], ◌∷◌, ◌++◌, map, refl, sym, ap, ◌∙◌, arith, Option, Some, None}
+use Rattle.std.proofs.Common.{◌<◌, length, ◌≡◌, ℕ, ◌+◌, ◌*◌, ◌/◌, ◌≤◌, Bool, true, false, cond, is_some, ◌&&◌, eqb, ltb, max, List, [], ◌∷◌, ◌++◌, map, refl, sym, ap, ◌∙◌, arith, Option, Some, None}
 use Rattle.std.specs.Prelude.{unwrap_or}
 use Rattle.std.proofs.lemmas.Bool.{cond_both, and_parts, le-ltb, lt-ltb, eqb-true, false≢true}
 use Rattle.ksi_aggtree.specs.declared.item.Item.{Item}
@@ -12,6 +12,7 @@ use Rattle.ksi_synod.specs.declared.messages.SynodMessage.TheVariants as votes
 use Rattle.ksi_synod.specs.declared.messages.Begun.{Begun}
 use Rattle.ksi_synod.specs.declared.messages.Took.{Took}
 use Rattle.ksi_synod.specs.declared.messages.Took.TheVariants as took
+use Rattle.ksi_synod.specs.CorePlans.{CorePlanState, voters_of}
 use Rattle.ksi_synod.specs.Voters.{cores_below}
 use Rattle.ksi_synod.specs.Ballots.{last_round}
 use Rattle.ksi_synod.specs.VoteState.{VoteState, Hand, new_hand}
@@ -124,12 +125,12 @@ module _ (t : ℕ) (s : SecondState) where
   greater : (tried promised me : ℕ) → ltb tried (16 * (max (tried / 16) (promised / 16) + 1) + me) ≡ true
   greater tried promised me = lt-ltb tried (16 * (max (tried / 16) (promised / 16) + 1) + me) (omega arith)
 
-  pub ballot_adds : (n i : ℕ) → 1 ≤ n → Adds (tries (first (map (core_message i t) (ballot_row n t i s).sends))) (ballot_row n t i s).after
+  pub ballot_adds : (core_plan : CorePlanState) (i : ℕ) → 0 < length (voters_of core_plan t) → Adds (tries (first (map (core_message i t) (ballot_row core_plan t i s).sends))) (ballot_row core_plan t i s).after
   unfolding ballot_row try_ballot
-  ballot_adds n i some = by s.vote.candidate
+  ballot_adds core_plan i some = by s.vote.candidate
     where
       P : VoteState × Begun → Type 0
-      P r = Adds (tries (first (map (core_message i t) (told n t i (ballot_told r.1))))) (with_vote s r.0)
+      P r = Adds (tries (first (map (core_message i t) (told core_plan t i (ballot_told r.1))))) (with_vote s r.0)
 
       trying : VoteState
       trying = record s.vote { tried = next_ballot s.vote; hand = Some (new_hand (next_ballot s.vote)) }
@@ -137,9 +138,9 @@ module _ (t : ℕ) (s : SecondState) where
       by : (o : Option (List ℕ)) → P (try_ballot_of o s.vote)
       by None = still_adds
       by (Some own) = cond_both (eqb (greater_round s.vote) last_round) _ _ P (λ _. still_adds)
-          (λ _. added (tries (first (map (core_message i t) (to_each (cores_below n) (votes.NextBallot (next_ballot s.vote)))))) (with_vote s trying) (Tried (next_ballot s.vote) ∷ [])
+          (λ _. added (tries (first (map (core_message i t) (to_each (voters_of core_plan t) (votes.NextBallot (next_ballot s.vote)))))) (with_vote s trying) (Tried (next_ballot s.vote) ∷ [])
           (parts s (with_vote s trying) (sealed_stays s) (ap (λ (b : Bool). cond b (Tried (next_ballot s.vote) ∷ []) []) (greater s.vote.tried s.vote.promised s.vote.me)) (promise_stays s) (vote_stays s) (root_stays s))
-          (ap (λ (whats : List What). facts_of (did t whats)) (ballot_asked n i t (next_ballot s.vote) some)))
+          (ap (λ (whats : List What). facts_of (did t whats)) (ballot_asked (voters_of core_plan t) i t (next_ballot s.vote) some)))
 
   -- THE MESSAGES OF THE VOTE
 
@@ -198,16 +199,16 @@ module _ (t : ℕ) (s : SecondState) where
           (λ _. heard_adds from (votes.LastVote l) (record (with_last h from l.vote) { decree = decree_now s.vote.voters s.vote.candidate (with_last h from l.vote) }))
           (λ _. idle_adds from (votes.LastVote l))
 
-  module _ (n i : ℕ) (some : 1 ≤ n) where
+  module _ (core_plan : CorePlanState) (i : ℕ) (some : 1 ≤ core_plan.cores) where
     abbrev holding : List ℕ → Hand → VoteState
     holding d h = record s.vote { held = Some (unwrap_or s.vote.held d); hand = Some h }
 
-    voted_adds : (from b : ℕ) → Adds (Heard from (votes.Voted b) ∷ decides (first (map (core_message i t) (told n t from (decree_told (on_voted s.vote from b).1)))) s.vote.held) (with_vote s (on_voted s.vote from b).0)
+    voted_adds : (from b : ℕ) → Adds (Heard from (votes.Voted b) ∷ decides (first (map (core_message i t) (told core_plan t from (decree_told (on_voted s.vote from b).1)))) s.vote.held) (with_vote s (on_voted s.vote from b).0)
     unfolding on_voted
     voted_adds from b = by s.vote.hand
       where
         P : VoteState × Took → Type 0
-        P r = Adds (Heard from (votes.Voted b) ∷ decides (first (map (core_message i t) (told n t from (decree_told r.1)))) s.vote.held) (with_vote s r.0)
+        P r = Adds (Heard from (votes.Voted b) ∷ decides (first (map (core_message i t) (told core_plan t from (decree_told r.1)))) s.vote.held) (with_vote s r.0)
 
         holds : (h : Hand) (d : List ℕ) (held : Option (List ℕ)) → s.vote.held ≡ held → came Holds s.vote.held (Some (unwrap_or s.vote.held d)) ≡ held_now d held
         holds h d None is = ap (λ (o : Option (List ℕ)). came Holds o (Some (unwrap_or o d))) is
@@ -218,9 +219,9 @@ module _ (t : ℕ) (s : SecondState) where
         heard_away d (Some root) = refl
 
         decided : (h : Hand) (d : List ℕ) → P (holding d h, took.Decree d)
-        decided h d = added (Heard from (votes.Voted b) ∷ decides (first (map (core_message i t) (to_each (cores_below n) (votes.Success d)))) s.vote.held) (with_vote s (holding d h)) (held_now d s.vote.held)
+        decided h d = added (Heard from (votes.Voted b) ∷ decides (first (map (core_message i t) (to_each (cores_below core_plan.cores) (votes.Success d)))) s.vote.held) (with_vote s (holding d h)) (held_now d s.vote.held)
             (parts s (with_vote s (holding d h)) (sealed_stays s) (tried_stays s) (promise_stays s) (vote_stays s) (holds h d s.vote.held refl))
-            (ap (λ (whats : List What). facts_of (did t (Heard from (votes.Voted b) ∷ whats))) (root_sent n i t d s.vote.held some) ∙ heard_away d s.vote.held)
+            (ap (λ (whats : List What). facts_of (did t (Heard from (votes.Voted b) ∷ whats))) (root_sent core_plan.cores i t d s.vote.held some) ∙ heard_away d s.vote.held)
 
         for_it : (h : Hand) (o : Option (List ℕ)) → P (on_voted_for o h s.vote from)
         for_it h None = idle_adds from (votes.Voted b)
@@ -230,7 +231,7 @@ module _ (t : ℕ) (s : SecondState) where
         by None = idle_adds from (votes.Voted b)
         by (Some h) = for_it h (voted_for s.vote.voters (Some h) from b)
 
-    pub receive_adds : (from : ℕ) (m : SynodMessage) → Adds (takes (actors.Core from) (contents.Synod m) (receive_row n t from m s).answer (map (core_message i t) (receive_row n t from m s).sends) s.vote.held) (receive_row n t from m s).after
+    pub receive_adds : (from : ℕ) (m : SynodMessage) → Adds (takes (actors.Core from) (contents.Synod m) (receive_row core_plan t from m s).answer (map (core_message i t) (receive_row core_plan t from m s).sends) s.vote.held) (receive_row core_plan t from m s).after
     unfolding receive_row receive
     receive_adds from (votes.NextBallot b) = next_adds b
     receive_adds from (votes.LastVote l) = last_adds from l

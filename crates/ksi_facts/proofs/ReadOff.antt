@@ -1,4 +1,5 @@
 -- The world after a history is the one that is read off what was seen.
+use Rattle.ksi_world.specs.CorePlanning.{core_plan_of}
 use Rattle.std.proofs.Common.{◌≡◌, ℕ, ◌<◌, Bool, false, zero, suc, List, [], ◌∷◌, ◌++◌, map, length, get_or, drop, refl, sym, ap, ◌∙◌, arith, inl, inr, Option, Some, None}
 use Rattle.std.specs.Prelude.{option_map, slice_get}
 use Rattle.std.proofs.Math.Seq.{drop-append_seam, get_or-append_seam}
@@ -8,7 +9,8 @@ use Rattle.std.proofs.lemmas.List.{length-append}
 use Rattle.ksi_synod.specs.Voters.{cores_below, is_flagged, is_voter}
 use Rattle.ksi_synod.specs.VoteState.{Hand}
 use Rattle.ksi_signature.specs.declared.answer.Answer.TheVariants as answers
-use Rattle.ksi_corenode.specs.SecondState.{SecondState, voters_of}
+use Rattle.ksi_synod.specs.CorePlans.{voters_of}
+use Rattle.ksi_corenode.specs.SecondState.{SecondState}
 use Rattle.ksi_corenode.specs.Turns.{Turn}
 use Rattle.ksi_corenode.specs.Rows.{submission_row, seal_row, ballot_row, receive_row, tell_row, respond_row}
 use Rattle.ksi_aggregator.specs.Rows.{RoundState, RoundTurn, round_request, round_submission, round_close, round_response}
@@ -16,7 +18,8 @@ use Rattle.ksi_schedule.specs.declared.actor.Actor.{Actor}
 use Rattle.ksi_schedule.specs.declared.actor.Actor.TheVariants as actors
 use Rattle.ksi_schedule.specs.declared.event.Event.{Event}
 use Rattle.ksi_schedule.specs.declared.event.Event.TheVariants as events
-use Rattle.ksi_schedule.specs.Plans.{PlanState, IsPlan}
+use Rattle.ksi_schedule.specs.Plans.{PlanState}
+use Rattle.ksi_facts.proofs.Voters.{IsPlanned}
 use Rattle.ksi_world.specs.declared.outcome.Asked.{Asked}
 use Rattle.ksi_world.specs.declared.message.Content.{Content}
 use Rattle.ksi_world.specs.declared.message.Content.TheVariants as contents
@@ -66,7 +69,7 @@ in_hand_is voters candidate (Some s) (Some h) so = ap (λ (h : Hand). Some h) (h
 in_hand_is voters candidate None (Some h) so = absurd so
 in_hand_is voters candidate (Some s) None so = absurd so
 
-second_is : (image : List ℕ → List ℕ) (plan : PlanState) (past : List Seen) (core second : ℕ) (s : SecondState) → IsRecalledSecond image past plan.cores core second s → s ≡ second_seen image plan past core second
+second_is : (image : List ℕ → List ℕ) (plan : PlanState) (past : List Seen) (core second : ℕ) (s : SecondState) → IsRecalledSecond image past (core_plan_of plan) core second s → s ≡ second_seen image plan past core second
 second_is image plan past core second s so = λ i. record {
   vote = record {
     me = so.me i;
@@ -76,7 +79,7 @@ second_is image plan past core second s so = λ i. record {
     promised = so.kept.promised i;
     vote = so.kept.vote i;
     held = so.kept.held i;
-    hand = in_hand_is (voters_of plan.cores second) (own_candidate image (of_second second (facts (actors.Core core) past))) (since (of_second second (deeds (actors.Core core) past))) s.vote.hand so.hand i;
+    hand = in_hand_is (voters_of (core_plan_of plan) second) (own_candidate image (of_second second (facts (actors.Core core) past))) (since (of_second second (deeds (actors.Core core) past))) s.vote.hand so.hand i;
   };
   open_items = so.open_items i;
   sealed = so.kept.sealed i;
@@ -109,7 +112,7 @@ module _ (image : List ℕ → List ℕ) (plan : PlanState) where
     none_posted = record { more = []; wire = sym (append-nil w.wire); requests = refl; published = refl }
 
     taken_posted : (s a : Actor) (t : ℕ) (c : Content) → Posted (histories.taken image plan w s a t c)
-    taken_posted (actors.Core from) (actors.Core j) t (contents.Synod m) = core_posted j t (receive_row plan.cores t from m (w.seconds j t))
+    taken_posted (actors.Core from) (actors.Core j) t (contents.Synod m) = core_posted j t (receive_row (core_plan_of plan) t from m (w.seconds j t))
     taken_posted (actors.Aggregator from) (actors.Core j) t (contents.Submission item) = core_posted j t (submission_row from item (w.seconds j t))
     taken_posted (actors.Aggregator from) (actors.Aggregator k) t (contents.Submission item) = round_posted k t (round_submission from item (w.rounds k t))
     taken_posted (actors.Core from) (actors.Aggregator k) t (contents.Response above) = round_posted k t (round_response image above (w.rounds k t))
@@ -131,9 +134,9 @@ module _ (image : List ℕ → List ℕ) (plan : PlanState) where
   grew w (events.Request k t imprint) = record { more = map (round_message plan k t) (round_request (length w.requests) imprint (w.rounds k t)).sends; wire = refl; requests = refl; published = refl }
   grew w (events.Close k t) = record { more = map (round_message plan k t) (round_close image (w.rounds k t)).sends; wire = refl; requests = refl; published = refl }
   grew w (events.Seal j t) = record { more = map (core_message j t) (seal_row image (w.seconds j t)).sends; wire = refl; requests = refl; published = refl }
-  grew w (events.Ballot j t) = record { more = map (core_message j t) (ballot_row plan.cores t j (w.seconds j t)).sends; wire = refl; requests = refl; published = refl }
+  grew w (events.Ballot j t) = record { more = map (core_message j t) (ballot_row (core_plan_of plan) t j (w.seconds j t)).sends; wire = refl; requests = refl; published = refl }
   grew w (events.Deliver number) = delivery_posted w number (slice_get w.wire number)
-  grew w (events.Tell j t) = record { more = map (core_message j t) (tell_row plan.cores t j (w.seconds j t)).sends; wire = refl; requests = refl; published = refl }
+  grew w (events.Tell j t) = record { more = map (core_message j t) (tell_row (core_plan_of plan) t j (w.seconds j t)).sends; wire = refl; requests = refl; published = refl }
   grew w (events.Respond j t) = record { more = map (core_message j t) (respond_row image (held_in w j) plan.start t (w.seconds j t)).sends; wire = refl; requests = refl; published = refl }
   grew w (events.Publish j p) = record { more = []; wire = sym (append-nil w.wire); requests = refl; published = refl }
   grew w (events.RestartCore j) = record { more = []; wire = sym (append-nil w.wire); requests = refl; published = refl }
@@ -163,7 +166,7 @@ module _ (image : List ℕ → List ℕ) (plan : PlanState) where
   unfolding after seen first_world wire_seen requests_seen published_seen
   posted es = posted_all es (first_world plan) [] (record { wire = refl; requests = refl; published = refl })
 
-  pub world_is : IsPlan plan → (es : List Event) → after image plan es ≡ world_seen image plan (seen image plan es)
+  pub world_is : IsPlanned plan → (es : List Event) → after image plan es ≡ world_seen image plan (seen image plan es)
   world_is is es =
       let w = after image plan es in
       let past = seen image plan es in

@@ -1,4 +1,5 @@
 -- After every history, every second and every round is what was seen of it.
+use Rattle.ksi_world.specs.CorePlanning.{core_plan_of}
 use Rattle.std.proofs.Common.{◌≡◌, ℕ, ◌<◌, Bool, true, false, cond, ◌&&◌, eqb, List, [], ◌∷◌, ◌++◌, map, length, drop, zero, suc, refl, sym, ap, subst, ◌∙◌, arith, inl, inr, Option, Some, None}
 use Rattle.std.specs.Prelude.{slice_get}
 use Rattle.std.proofs.Math.Seq.{drop-append_seam}
@@ -13,6 +14,7 @@ use Rattle.ksi_synod.specs.VoteState.{Hand, fresh_vote}
 use Rattle.ksi_signature.specs.declared.above.Above.{Above}
 use Rattle.ksi_signature.specs.declared.answer.Answer.{Answer}
 use Rattle.ksi_signature.specs.declared.answer.Answer.TheVariants as answers
+use Rattle.ksi_synod.specs.CorePlans.{voters_of}
 use Rattle.ksi_corenode.specs.SecondState.{SecondState, fresh_second}
 use Rattle.ksi_corenode.specs.Turns.{Turn}
 use Rattle.ksi_corenode.specs.Rows.{submitted, submission_row, seal_row, ballot_row, receive_row, tell_row, respond_row, restart_row, publish_answer}
@@ -32,6 +34,7 @@ use Rattle.ksi_facts.specs.Deeds.{What, Deed, Accepted, Sealed, Closed, Answered
 use Rattle.ksi_facts.specs.Since.{Since, since}
 use Rattle.ksi_facts.specs.State.{own_candidate}
 use Rattle.ksi_facts.specs.Recalled.{IsStableState, IsStableRound, IsInHand, IsRecalledSecond, IsRecalledRound}
+use Rattle.ksi_facts.proofs.Voters.{IsPlanned, below_is}
 use Rattle.ksi_facts.proofs.Standing.{IsInHandSo, IsSo, IsRoundSo, facts_for, since_tried, did, observed, round_observed}
 use Rattle.ksi_facts.proofs.CoreRows.{submission_so, seal_so, ballot_so, receive_so, tell_so, respond_so, restart_so}
 use Rattle.ksi_facts.proofs.RoundRows as rows
@@ -39,14 +42,6 @@ use Rattle.ksi_facts.proofs.RoundRows as rows
 cond_same : {A : Type 0} (b : Bool) (x : A) → cond b x x ≡ x
 cond_same true x = refl
 cond_same false x = refl
-
--- the cores below n are below n
-below_is : (n y : ℕ) → is_voter (cores_below n) y ≡ true → y < n
-below_is zero y e = absurd (false≢true e)
-below_is (suc n) y e = elim (or_cases _ _ (sym (list_any-append (λ voter. eqb voter y) (cores_below n) (n ∷ [])) ∙ e)) [
-  | inl there ↦ let lt = below_is n y there in omega (arith, lt)
-  | inr here ↦ elim (or_cases _ _ here) [ inl same ↦ let is = eqb-true n y same in omega (arith, is) | inr none ↦ absurd (false≢true none) ]
-]
 
 put_same : {A : Type 0} (f : ℕ → ℕ → A) (k t i u : ℕ) → cond (eqb i k && eqb u t) (f k t) (f i u) ≡ f i u
 put_same {A} f k t i u = by (eqb i k && eqb u t) refl
@@ -62,12 +57,12 @@ plain e answer sent = record { event = e; taken = None; answer = answer; sent = 
 abbrev post : (number : ℕ) → (sender addressee : Actor) (second : ℕ) → Content → Answer → List Message → Seen
 post number s a t c answer sent = record { event = events.Deliver number; taken = Some (message_of s a t c); answer = answer; sent = sent }
 
-module _ (image : List ℕ → List ℕ) (plan : PlanState) (is : IsPlan plan) where
+module _ (image : List ℕ → List ℕ) (plan : PlanState) (is : IsPlanned plan) where
   abbrev pub Ds : (past : List Seen) (a : Actor) (t : ℕ) → List Deed
   Ds past a t = of_second t (deeds a past)
 
   abbrev pub SoAt : (past : List Seen) (j t : ℕ) → SecondState → Type 0
-  SoAt past j t s = IsSo image (cores_below plan.cores) j (Ds past (actors.Core j) t) s
+  SoAt past j t s = IsSo image (voters_of (core_plan_of plan) t) j (Ds past (actors.Core j) t) s
 
   abbrev pub RoundAt : (past : List Seen) (k t : ℕ) → RoundState → Type 0
   RoundAt past k t r = IsRoundSo (Ds past (actors.Aggregator k) t) r
@@ -76,8 +71,8 @@ module _ (image : List ℕ → List ℕ) (plan : PlanState) (is : IsPlan plan) w
     pub seconds : (j t : ℕ) → SoAt past j t (w.seconds j t)
     pub rounds : (k t : ℕ) → RoundAt past k t (w.rounds k t)
 
-  small : (y : ℕ) → is_voter (cores_below plan.cores) y ≡ true → y < 9
-  small y e = let lt = below_is plan.cores y e in let few = is.few in omega (arith, lt, few)
+  small : (t y : ℕ) → is_voter (voters_of (core_plan_of plan) t) y ≡ true → y < 9
+  small t y e = let lt = below_is plan.cores (voters_of (core_plan_of plan) t) y (is.voters t).there e in let few = is.core_plan.few in omega (arith, lt, few)
 
   -- A TURN OF ONE ACTOR'S SECOND
 
@@ -86,7 +81,7 @@ module _ (image : List ℕ → List ℕ) (plan : PlanState) (is : IsPlan plan) w
     Does x a u whats = (b : Actor) → does b x.event x.taken x.answer x.sent (deeds b past) ≡ own b a u (whats b)
 
     abbrev CoreAfter : (i u : ℕ) → List What → SecondState → Type 0
-    CoreAfter i u whats s = IsSo image (cores_below plan.cores) i (did u whats ++ Ds past (actors.Core i) u) s
+    CoreAfter i u whats s = IsSo image (voters_of (core_plan_of plan) u) i (did u whats ++ Ds past (actors.Core i) u) s
 
     abbrev RoundAfter : (k u : ℕ) → List What → RoundState → Type 0
     RoundAfter k u whats r = IsRoundSo (did u whats ++ Ds past (actors.Aggregator k) u) r
@@ -94,17 +89,17 @@ module _ (image : List ℕ → List ℕ) (plan : PlanState) (is : IsPlan plan) w
     module _ (x : Seen) (i u : ℕ) (whats : Actor → List What) where
       core_turned : Does x (actors.Core i) u whats → (turn : Turn) → CoreAfter i u (whats (actors.Core i)) turn.after → All (at_core w i u turn).world (x ∷ past)
       core_turned does_it turn row = record {
-        seconds = λ j t. observed past x (actors.Core i) u whats does_it image (cores_below plan.cores) j t (w.seconds j t) turn.after (eqb j i && eqb t u) refl
+        seconds = λ j t. observed past x (actors.Core i) u whats does_it image (voters_of (core_plan_of plan) t) j t (w.seconds j t) turn.after (eqb j i && eqb t u) refl
             (λ e. let parts = and_parts _ _ e in
-            subst (λ (j : ℕ). IsSo image (cores_below plan.cores) j (did u (whats (actors.Core j)) ++ Ds past (actors.Core j) t) turn.after) (sym (eqb-true j i parts.0))
-            (subst (λ (t : ℕ). IsSo image (cores_below plan.cores) i (did u (whats (actors.Core i)) ++ Ds past (actors.Core i) t) turn.after) (sym (eqb-true t u parts.1)) row))
+            subst (λ (j : ℕ). IsSo image (voters_of (core_plan_of plan) t) j (did u (whats (actors.Core j)) ++ Ds past (actors.Core j) t) turn.after) (sym (eqb-true j i parts.0))
+            (subst (λ (t : ℕ). IsSo image (voters_of (core_plan_of plan) t) i (did u (whats (actors.Core i)) ++ Ds past (actors.Core i) t) turn.after) (sym (eqb-true t u parts.1)) row))
             (all.seconds j t);
         rounds = λ k t. round_observed past x (actors.Core i) u whats does_it k t (w.rounds k t) (w.rounds k t) false refl (λ e. absurd (false≢true e)) (all.rounds k t);
       }
 
       round_turned : Does x (actors.Aggregator i) u whats → (turn : RoundTurn) → RoundAfter i u (whats (actors.Aggregator i)) turn.after → All (at_round plan w i u turn).world (x ∷ past)
       round_turned does_it turn row = record {
-        seconds = λ j t. observed past x (actors.Aggregator i) u whats does_it image (cores_below plan.cores) j t (w.seconds j t) (w.seconds j t) false refl (λ e. absurd (false≢true e)) (all.seconds j t);
+        seconds = λ j t. observed past x (actors.Aggregator i) u whats does_it image (voters_of (core_plan_of plan) t) j t (w.seconds j t) (w.seconds j t) false refl (λ e. absurd (false≢true e)) (all.seconds j t);
         rounds = λ k t. round_observed past x (actors.Aggregator i) u whats does_it k t (w.rounds k t) turn.after (eqb k i && eqb t u) refl
             (λ e. let parts = and_parts _ _ e in
             subst (λ (k : ℕ). IsRoundSo (did u (whats (actors.Aggregator k)) ++ Ds past (actors.Aggregator k) t) turn.after) (sym (eqb-true k i parts.0))
@@ -120,7 +115,7 @@ module _ (image : List ℕ → List ℕ) (plan : PlanState) (is : IsPlan plan) w
 
       nothing_done : (w' : WorldState) → ((j t : ℕ) → SoAt past j t (w'.seconds j t)) → w'.rounds ≡ w.rounds → All w' (x ∷ past)
       nothing_done w' seconds rounds = record {
-        seconds = λ j t. subst (λ (ds : List Deed). IsSo image (cores_below plan.cores) j ds (w'.seconds j t)) (same_deeds (actors.Core j) t) (seconds j t);
+        seconds = λ j t. subst (λ (ds : List Deed). IsSo image (voters_of (core_plan_of plan) t) j ds (w'.seconds j t)) (same_deeds (actors.Core j) t) (seconds j t);
         rounds = λ k t. subst (λ (f : ℕ → ℕ → RoundState). RoundAt (x ∷ past) k t (f k t)) (sym rounds) (subst (λ (ds : List Deed). IsRoundSo ds (w.rounds k t)) (same_deeds (actors.Aggregator k) t) (all.rounds k t));
       }
 
@@ -148,15 +143,15 @@ module _ (image : List ℕ → List ℕ) (plan : PlanState) (is : IsPlan plan) w
         let turn = seal_row image (w.seconds i u) in
         let so = all.seconds i u in
         core_turned (plain (events.Seal i u) turn.answer sent) i u (λ b. where_done turn.answer (Sealed (open_items (Ds past b u)))) (λ b. refl) turn
-        (seal_so image (cores_below plan.cores) small u (Ds past (actors.Core i) u) (w.seconds i u) so (open_items (Ds past (actors.Core i) u)) so.open_is)
+        (seal_so image (voters_of (core_plan_of plan) u) (small u) u (Ds past (actors.Core i) u) (w.seconds i u) so (open_items (Ds past (actors.Core i) u)) so.open_is)
 
-    ballot_step : (i u : ℕ) → All (at_core w i u (ballot_row plan.cores u i (w.seconds i u))).world (plain (events.Ballot i u) (ballot_row plan.cores u i (w.seconds i u)).answer (behind (w.wire ++ map (core_message i u) (ballot_row plan.cores u i (w.seconds i u)).sends)) ∷ past)
+    ballot_step : (i u : ℕ) → All (at_core w i u (ballot_row (core_plan_of plan) u i (w.seconds i u))).world (plain (events.Ballot i u) (ballot_row (core_plan_of plan) u i (w.seconds i u)).answer (behind (w.wire ++ map (core_message i u) (ballot_row (core_plan_of plan) u i (w.seconds i u)).sends)) ∷ past)
     ballot_step i u =
-        let turn = ballot_row plan.cores u i (w.seconds i u) in
+        let turn = ballot_row (core_plan_of plan) u i (w.seconds i u) in
         let sent : List Message = map (core_message i u) turn.sends in
-        subst (λ (sent : List Message). All (at_core w i u (ballot_row plan.cores u i (w.seconds i u))).world (plain (events.Ballot i u) (ballot_row plan.cores u i (w.seconds i u)).answer sent ∷ past)) (sym (behind_is sent))
+        subst (λ (sent : List Message). All (at_core w i u (ballot_row (core_plan_of plan) u i (w.seconds i u))).world (plain (events.Ballot i u) (ballot_row (core_plan_of plan) u i (w.seconds i u)).answer sent ∷ past)) (sym (behind_is sent))
         (core_turned (plain (events.Ballot i u) turn.answer sent) i u (λ b. tries (first sent)) (λ b. refl) turn
-        (ballot_so image (cores_below plan.cores) small u (Ds past (actors.Core i) u) (w.seconds i u) (all.seconds i u) plan.cores i is.some))
+        (ballot_so image (voters_of (core_plan_of plan) u) (small u) u (Ds past (actors.Core i) u) (w.seconds i u) (all.seconds i u) (core_plan_of plan) i (is.voters u).some))
 
     request_step : (k u : ℕ) (imprint : List ℕ) (sent : List Message) → All (request_happens plan w k u imprint).world (plain (events.Request k u imprint) (round_request (length w.requests) imprint (w.rounds k u)).answer sent ∷ past)
     request_step k u imprint sent =
@@ -182,12 +177,12 @@ module _ (image : List ℕ → List ℕ) (plan : PlanState) (is : IsPlan plan) w
       abbrev Old : (b : Actor) (t : ℕ) → Option (List ℕ)
       Old b t = held_root (facts_of (Ds past b t))
 
-      vote_step : (from i t : ℕ) (m : SynodMessage) → Posts (actors.Core from) (actors.Core i) t (contents.Synod m) (at_core w i t (receive_row plan.cores t from m (w.seconds i t)))
+      vote_step : (from i t : ℕ) (m : SynodMessage) → Posts (actors.Core from) (actors.Core i) t (contents.Synod m) (at_core w i t (receive_row (core_plan_of plan) t from m (w.seconds i t)))
       vote_step from i t m =
-          let turn = receive_row plan.cores t from m (w.seconds i t) in
+          let turn = receive_row (core_plan_of plan) t from m (w.seconds i t) in
           let sent : List Message = map (core_message i t) turn.sends in
-          let row = receive_so image (cores_below plan.cores) small t (Ds past (actors.Core i) t) (w.seconds i t) (all.seconds i t) plan.cores i is.some from m in
-          subst (λ (sent : List Message). All (at_core w i t (receive_row plan.cores t from m (w.seconds i t))).world (post number (actors.Core from) (actors.Core i) t (contents.Synod m) (receive_row plan.cores t from m (w.seconds i t)).answer sent ∷ past)) (sym (behind_is sent))
+          let row = receive_so image (voters_of (core_plan_of plan) t) (small t) t (Ds past (actors.Core i) t) (w.seconds i t) (all.seconds i t) (core_plan_of plan) i is.core_plan.some from m in
+          subst (λ (sent : List Message). All (at_core w i t (receive_row (core_plan_of plan) t from m (w.seconds i t))).world (post number (actors.Core from) (actors.Core i) t (contents.Synod m) (receive_row (core_plan_of plan) t from m (w.seconds i t)).answer sent ∷ past)) (sym (behind_is sent))
           (core_turned (post number (actors.Core from) (actors.Core i) t (contents.Synod m) turn.answer sent) i t (λ b. takes (actors.Core from) (contents.Synod m) turn.answer sent (Old b t)) (λ b. refl) turn
           row)
 
@@ -196,7 +191,7 @@ module _ (image : List ℕ → List ℕ) (plan : PlanState) (is : IsPlan plan) w
           let turn = submission_row from item (w.seconds i t) in
           let sent : List Message = behind (w.wire ++ map (core_message i t) turn.sends) in
           core_turned (post number (actors.Aggregator from) (actors.Core i) t (contents.Submission item) turn.answer sent) i t (λ b. where_done turn.answer (Accepted (submitted from item))) (λ b. refl) turn
-          (submission_so image (cores_below plan.cores) small t (Ds past (actors.Core i) t) (w.seconds i t) (all.seconds i t) from item)
+          (submission_so image (voters_of (core_plan_of plan) t) (small t) t (Ds past (actors.Core i) t) (w.seconds i t) (all.seconds i t) from item)
 
       lower_item_step : (from k t : ℕ) (item : Item) → Posts (actors.Aggregator from) (actors.Aggregator k) t (contents.Submission item) (at_round plan w k t (round_submission from item (w.rounds k t)))
       lower_item_step from k t item =
@@ -269,10 +264,10 @@ module _ (image : List ℕ → List ℕ) (plan : PlanState) (is : IsPlan plan) w
           by false = refl
 
       core_restarted : (j t : ℕ) (mine : Bool) → is_actor (actors.Core j) a ≡ mine → SoAt (x ∷ past) j t (cond mine (restart_row (w.seconds j t)) (w.seconds j t))
-      core_restarted j t mine is_mine = subst (λ (ds : List Deed). IsSo image (cores_below plan.cores) j ds (cond mine (restart_row (w.seconds j t)) (w.seconds j t))) (sym (deeds_now (actors.Core j) t mine is_mine)) (by mine)
+      core_restarted j t mine is_mine = subst (λ (ds : List Deed). IsSo image (voters_of (core_plan_of plan) t) j ds (cond mine (restart_row (w.seconds j t)) (w.seconds j t))) (sym (deeds_now (actors.Core j) t mine is_mine)) (by mine)
         where
-          by : (mine : Bool) → IsSo image (cores_below plan.cores) j (cond mine (Restarted ∷ Ds past (actors.Core j) t) (Ds past (actors.Core j) t)) (cond mine (restart_row (w.seconds j t)) (w.seconds j t))
-          by true = restart_so image (cores_below plan.cores) small t (Ds past (actors.Core j) t) (w.seconds j t) (all.seconds j t)
+          by : (mine : Bool) → IsSo image (voters_of (core_plan_of plan) t) j (cond mine (Restarted ∷ Ds past (actors.Core j) t) (Ds past (actors.Core j) t)) (cond mine (restart_row (w.seconds j t)) (w.seconds j t))
+          by true = restart_so image (voters_of (core_plan_of plan) t) (small t) t (Ds past (actors.Core j) t) (w.seconds j t) (all.seconds j t)
           by false = all.seconds j t
 
       round_restarted_so : (k t : ℕ) (mine : Bool) → is_actor (actors.Aggregator k) a ≡ mine → RoundAt (x ∷ past) k t (cond mine (round_restarted (w.rounds k t)) (w.rounds k t))
@@ -301,10 +296,10 @@ module _ (image : List ℕ → List ℕ) (plan : PlanState) (is : IsPlan plan) w
     step (events.Seal i u) = seal_step i u (behind (w.wire ++ map (core_message i u) (seal_row image (w.seconds i u)).sends))
     step (events.Ballot i u) = ballot_step i u
     step (events.Deliver number) = delivered_step number (slice_get w.wire number)
-    step (events.Tell i u) = still_turned (plain (events.Tell i u) (tell_row plan.cores u i (w.seconds i u)).answer (behind (w.wire ++ map (core_message i u) (tell_row plan.cores u i (w.seconds i u)).sends))) (λ b. refl) i u (tell_row plan.cores u i (w.seconds i u))
-        (tell_so image (cores_below plan.cores) small u (Ds past (actors.Core i) u) (w.seconds i u) (all.seconds i u) plan.cores u i)
+    step (events.Tell i u) = still_turned (plain (events.Tell i u) (tell_row (core_plan_of plan) u i (w.seconds i u)).answer (behind (w.wire ++ map (core_message i u) (tell_row (core_plan_of plan) u i (w.seconds i u)).sends))) (λ b. refl) i u (tell_row (core_plan_of plan) u i (w.seconds i u))
+        (tell_so image (voters_of (core_plan_of plan) u) (small u) u (Ds past (actors.Core i) u) (w.seconds i u) (all.seconds i u) (core_plan_of plan) u i)
     step (events.Respond i u) = still_turned (plain (events.Respond i u) (respond_row image (held_in w i) plan.start u (w.seconds i u)).answer (behind (w.wire ++ map (core_message i u) (respond_row image (held_in w i) plan.start u (w.seconds i u)).sends))) (λ b. refl) i u (respond_row image (held_in w i) plan.start u (w.seconds i u))
-        (respond_so image (cores_below plan.cores) small u (Ds past (actors.Core i) u) (w.seconds i u) (all.seconds i u) (held_in w i) plan.start u)
+        (respond_so image (voters_of (core_plan_of plan) u) (small u) u (Ds past (actors.Core i) u) (w.seconds i u) (all.seconds i u) (held_in w i) plan.start u)
     step (events.Publish i p) = nothing_done (plain (events.Publish i p) (publish_answer image (held_in w i) plan.start p) (behind w.wire)) (λ b. refl) (publish_happens w p (publish_answer image (held_in w i) plan.start p)).world all.seconds refl
     step (events.RestartCore i) = core_restart_step i (behind w.wire)
     step (events.RestartAggregator i) = aggregator_restart_step i (behind w.wire)
@@ -356,7 +351,7 @@ module _ (image : List ℕ → List ℕ) (plan : PlanState) (is : IsPlan plan) w
   ballot_is voters candidate ds (Some s) e None so h is = absurd so
   ballot_is voters candidate ds (Some s) e (Some g) so h is = let same : g ≡ h = cc is in ap (λ (h : Hand). h.ballot) (sym same) ∙ so.ballot ∙ since_tried ds s e
 
-  pub after_seconds : (es : List Event) (j t : ℕ) → IsRecalledSecond image (seen image plan es) plan.cores j t ((after image plan es).seconds j t)
+  pub after_seconds : (es : List Event) (j t : ℕ) → IsRecalledSecond image (seen image plan es) (core_plan_of plan) j t ((after image plan es).seconds j t)
   after_seconds es j t =
       let so = (after_all es).seconds j t in
       let s = (after image plan es).seconds j t in
@@ -367,9 +362,9 @@ module _ (image : List ℕ → List ℕ) (plan : PlanState) (is : IsPlan plan) w
         kept = kept;
         open_items = so.open_is;
         shut = so.shut;
-        ballot = λ h is. ballot_is (cores_below plan.cores) (own_candidate image (of_second t (facts_of (deeds (actors.Core j) (seen image plan es))))) (Ds (seen image plan es) (actors.Core j) t) (since (Ds (seen image plan es) (actors.Core j) t)) refl s.vote.hand
-            (in_words (cores_below plan.cores) s.vote.voters _ s.vote.candidate so.voters_are kept.candidate (since (Ds (seen image plan es) (actors.Core j) t)) s.vote.hand so.hand) h is ∙ sym so.kept.tried;
-        hand = in_words (cores_below plan.cores) s.vote.voters _ s.vote.candidate so.voters_are kept.candidate (since (Ds (seen image plan es) (actors.Core j) t)) s.vote.hand so.hand;
+        ballot = λ h is. ballot_is (voters_of (core_plan_of plan) t) (own_candidate image (of_second t (facts_of (deeds (actors.Core j) (seen image plan es))))) (Ds (seen image plan es) (actors.Core j) t) (since (Ds (seen image plan es) (actors.Core j) t)) refl s.vote.hand
+            (in_words (voters_of (core_plan_of plan) t) s.vote.voters _ s.vote.candidate so.voters_are kept.candidate (since (Ds (seen image plan es) (actors.Core j) t)) s.vote.hand so.hand) h is ∙ sym so.kept.tried;
+        hand = in_words (voters_of (core_plan_of plan) t) s.vote.voters _ s.vote.candidate so.voters_are kept.candidate (since (Ds (seen image plan es) (actors.Core j) t)) s.vote.hand so.hand;
       }
 
   pub after_rounds : (es : List Event) (k t : ℕ) → IsRecalledRound (seen image plan es) k t ((after image plan es).rounds k t)

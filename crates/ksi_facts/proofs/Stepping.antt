@@ -1,4 +1,5 @@
 -- Each step is the one of the table over what was seen.
+use Rattle.ksi_world.specs.CorePlanning.{core_plan_of}
 use Rattle.std.proofs.Common.{◌≡◌, ℕ, Bool, true, false, cond, List, [], ◌∷◌, ◌++◌, map, length, drop, refl, sym, ap, subst, ◌∙◌, Option, Some, None}
 use Rattle.std.specs.Prelude.{slice_get}
 use Rattle.std.proofs.Math.Seq.{drop-append_seam}
@@ -9,6 +10,7 @@ use Rattle.ksi_synod.specs.declared.messages.SynodMessage.{SynodMessage}
 use Rattle.ksi_synod.specs.declared.messages.SynodMessage.TheVariants as votes
 use Rattle.ksi_signature.specs.declared.above.Above.{Above}
 use Rattle.ksi_signature.specs.declared.answer.Answer.TheVariants as answers
+use Rattle.ksi_synod.specs.CorePlans.{CorePlanState}
 use Rattle.ksi_corenode.specs.SecondState.{SecondState}
 use Rattle.ksi_corenode.specs.Turns.{Turn}
 use Rattle.ksi_corenode.specs.Rows.{submitted, submission_row, seal_row, ballot_row, receive_row, tell_row, respond_row, respond_where, is_mine}
@@ -29,6 +31,7 @@ use Rattle.ksi_facts.specs.Seen.{Seen, taken_from, seen_of, seen}
 use Rattle.ksi_facts.specs.Deeds.{What, Deed, Accepted, Sealed, Closed, Answered, Restarted, of_second, facts_of, facts, open_items, held_root, numbered, where_done, first, tries, takes, is_actor, own, receives, does, deeds}
 use Rattle.ksi_facts.specs.State.{second_seen, held_seen, round_seen, wire_seen, requests_seen, world_seen}
 use Rattle.ksi_facts.specs.Steps.{new_facts, new_round_facts, Step, idle, by_core, by_round, by_message, by_delivery, step_by_facts, IsStepByFacts}
+use Rattle.ksi_facts.proofs.Voters.{IsPlanned}
 use Rattle.ksi_facts.proofs.Standing.{facts_for, did}
 use Rattle.ksi_facts.proofs.Growing as growing
 use Rattle.ksi_facts.proofs.NewFacts.{submission_adds, seal_adds, ballot_adds, receive_adds, same_adds, request_adds, item_adds, close_adds, response_adds, own_adds, none_adds}
@@ -46,9 +49,9 @@ restart_adds : (mine : Bool) → facts_of (cond mine (Restarted ∷ []) []) ≡ 
 restart_adds true = refl
 restart_adds false = refl
 
-told_after : (n t j : ℕ) (s : SecondState) → (tell_row n t j s).after ≡ s
+told_after : (core_plan : CorePlanState) (t j : ℕ) (s : SecondState) → (tell_row core_plan t j s).after ≡ s
 unfolding tell_row
-told_after n t j s = refl
+told_after core_plan t j s = refl
 
 responded_after : (image : List ℕ → List ℕ) (held : Roots) (start t : ℕ) (s : SecondState) → (respond_row image held start t s).after ≡ s
 unfolding respond_row
@@ -60,7 +63,7 @@ responded_after image held start t s = by s.sealed (first_missing held start t) 
     by (Some items) None None = refl
     by (Some items) None (Some root) = cond_both (is_mine image items root) _ _ (λ (turn : Turn). turn.after ≡ s) (λ _. refl) (λ _. refl)
 
-module _ (image : List ℕ → List ℕ) (plan : PlanState) (is : IsPlan plan) where
+module _ (image : List ℕ → List ℕ) (plan : PlanState) (is : IsPlanned plan) where
   module _ (past : List Seen) where
     abbrev w : WorldState
     w = world_seen image plan past
@@ -83,7 +86,7 @@ module _ (image : List ℕ → List ℕ) (plan : PlanState) (is : IsPlan plan) w
     none_told = record { answer = refl; sends = sym (append-nil (wire_seen past)) }
 
     taken_told : (s a : Actor) (t : ℕ) (c : Content) → IsTold (histories.taken image plan w s a t c) (by_message image plan past s a t c)
-    taken_told (actors.Core from) (actors.Core j) t (contents.Synod m) = core_told j t (receive_row plan.cores t from m)
+    taken_told (actors.Core from) (actors.Core j) t (contents.Synod m) = core_told j t (receive_row (core_plan_of plan) t from m)
     taken_told (actors.Aggregator from) (actors.Core j) t (contents.Submission item) = core_told j t (submission_row from item)
     taken_told (actors.Aggregator from) (actors.Aggregator k) t (contents.Submission item) = round_told k t (round_submission from item)
     taken_told (actors.Core from) (actors.Aggregator k) t (contents.Response above) = round_told k t (round_response image above)
@@ -105,9 +108,9 @@ module _ (image : List ℕ → List ℕ) (plan : PlanState) (is : IsPlan plan) w
     table_told (events.Request k t imprint) = let told = round_told k t (round_request (length (requests_seen past)) imprint) in record { answer = told.answer; sends = told.sends }
     table_told (events.Close k t) = round_told k t (round_close image)
     table_told (events.Seal j t) = core_told j t (seal_row image)
-    table_told (events.Ballot j t) = core_told j t (ballot_row plan.cores t j)
+    table_told (events.Ballot j t) = core_told j t (ballot_row (core_plan_of plan) t j)
     table_told (events.Deliver number) = delivery_told (slice_get (wire_seen past) number)
-    table_told (events.Tell j t) = core_told j t (tell_row plan.cores t j)
+    table_told (events.Tell j t) = core_told j t (tell_row (core_plan_of plan) t j)
     table_told (events.Respond j t) = core_told j t (respond_row image (held_seen past j) plan.start t)
     table_told (events.Publish j p) = record { answer = refl; sends = sym (append-nil (wire_seen past)) }
     table_told (events.RestartCore j) = record { answer = refl; sends = sym (append-nil (wire_seen past)) }
@@ -126,12 +129,12 @@ module _ (image : List ℕ → List ℕ) (plan : PlanState) (is : IsPlan plan) w
       abbrev Takes : (s a : Actor) (t : ℕ) (c : Content) → Step → Type 0
       Takes s a t c step = facts_of (own b a t (takes s c step.answer step.sends (Old b t))) ≡ step.facts b
 
-      vote_added : (from j t : ℕ) (m : SynodMessage) → Takes (actors.Core from) (actors.Core j) t (contents.Synod m) (by_core image plan past j t (receive_row plan.cores t from m))
+      vote_added : (from j t : ℕ) (m : SynodMessage) → Takes (actors.Core from) (actors.Core j) t (contents.Synod m) (by_core image plan past j t (receive_row (core_plan_of plan) t from m))
       vote_added from j t m =
-          let turn = receive_row plan.cores t from m (At j t) in
+          let turn = receive_row (core_plan_of plan) t from m (At j t) in
           let sent : List Message = map (core_message j t) turn.sends in
           own_adds b (actors.Core j) t (λ b. takes (actors.Core from) (contents.Synod m) turn.answer sent (Old b t)) (new_facts (At j t) turn.after)
-          (subst (λ (o : Option (List ℕ)). facts_of (did t (takes (actors.Core from) (contents.Synod m) turn.answer sent o)) ≡ did t (new_facts (At j t) turn.after)) (old_is j t) (receive_adds t (At j t) plan.cores j is.some from m))
+          (subst (λ (o : Option (List ℕ)). facts_of (did t (takes (actors.Core from) (contents.Synod m) turn.answer sent o)) ≡ did t (new_facts (At j t) turn.after)) (old_is j t) (receive_adds t (At j t) (core_plan_of plan) j is.core_plan.some from m))
 
       item_added : (from j t : ℕ) (item : Item) → Takes (actors.Aggregator from) (actors.Core j) t (contents.Submission item) (by_core image plan past j t (submission_row from item))
       item_added from j t item =
@@ -188,10 +191,10 @@ module _ (image : List ℕ → List ℕ) (plan : PlanState) (is : IsPlan plan) w
           let turn = seal_row image (At j t) in
           own_adds b (actors.Core j) t (λ b. where_done turn.answer (Sealed (open_items (of_second t (deeds b past))))) (new_facts (At j t) turn.after) (seal_adds t (At j t) image)
       table_added (events.Ballot j t) =
-          let turn = ballot_row plan.cores t j (At j t) in
-          own_adds b (actors.Core j) t (λ b. tries (first (map (core_message j t) turn.sends))) (new_facts (At j t) turn.after) (ballot_adds t (At j t) plan.cores j is.some)
+          let turn = ballot_row (core_plan_of plan) t j (At j t) in
+          own_adds b (actors.Core j) t (λ b. tries (first (map (core_message j t) turn.sends))) (new_facts (At j t) turn.after) (ballot_adds t (At j t) (core_plan_of plan) j (is.voters t).some)
       table_added (events.Deliver number) = delivery_added (slice_get (wire_seen past) number)
-      table_added (events.Tell j t) = nothing_added j t (tell_row plan.cores t j) (told_after plan.cores t j (At j t))
+      table_added (events.Tell j t) = nothing_added j t (tell_row (core_plan_of plan) t j) (told_after (core_plan_of plan) t j (At j t))
       table_added (events.Respond j t) = nothing_added j t (respond_row image (held_seen past j) plan.start t) (responded_after image (held_seen past j) plan.start t (At j t))
       table_added (events.Publish j p) = refl
       table_added (events.RestartCore j) = restart_adds (is_actor b (actors.Core j))

@@ -1,9 +1,11 @@
 -- What a world keeps, as a history has it.
+use Rattle.ksi_world.specs.CorePlanning.{core_plan_of}
 use Rattle.std.specs.Prelude.{◌≡◌, ◌++◌, ◌∷◌, ℕ, List, [], length, Option, Some, None}
 use Rattle.ksi_aggtree.specs.declared.entries.Entry.{Entry}
 use Rattle.ksi_synod.specs.Voters.{is_voter, is_flagged}
 use Rattle.ksi_synod.specs.VoteState.{Hand}
-use Rattle.ksi_corenode.specs.SecondState.{SecondState, voters_of}
+use Rattle.ksi_synod.specs.CorePlans.{CorePlanState, voters_of}
+use Rattle.ksi_corenode.specs.SecondState.{SecondState}
 use Rattle.ksi_aggregator.specs.Rows.{RoundState}
 use Rattle.ksi_schedule.specs.declared.actor.Actor.{Actor}
 use Rattle.ksi_schedule.specs.declared.actor.Actor.TheVariants as actors
@@ -49,14 +51,14 @@ IsInHand voters candidate _ _ = ⊥
 
 -- a core's second is what was seen of it. The core votes under its number, with the voters of the second; nothing is open
 -- once it is sealed; the ballot in hand is the one tried last
-pub record IsRecalledSecond (image : List ℕ → List ℕ) (past : List Seen) (cores core second : ℕ) (s : SecondState) : Type 0 where
+pub record IsRecalledSecond (image : List ℕ → List ℕ) (past : List Seen) (core_plan : CorePlanState) (core second : ℕ) (s : SecondState) : Type 0 where
   pub me : s.vote.me ≡ core
-  pub voters : s.vote.voters ≡ voters_of cores second
+  pub voters : s.vote.voters ≡ voters_of core_plan second
   pub kept : IsStableState image (of_second second (facts (actors.Core core) past)) s
   pub open_items : s.open_items ≡ open_items (of_second second (deeds (actors.Core core) past))
   pub shut : (items : List Entry) → s.sealed ≡ Some items → s.open_items ≡ []
   pub ballot : (h : Hand) → s.vote.hand ≡ Some h → h.ballot ≡ s.vote.tried
-  pub hand : IsInHand (voters_of cores second) (own_candidate image (of_second second (facts (actors.Core core) past))) (since (of_second second (deeds (actors.Core core) past))) s.vote.hand
+  pub hand : IsInHand (voters_of core_plan second) (own_candidate image (of_second second (facts (actors.Core core) past))) (since (of_second second (deeds (actors.Core core) past))) s.vote.hand
 
 -- an aggregator's round is what was seen of it; nothing is open once it is closed
 pub record IsRecalledRound (past : List Seen) (aggregator second : ℕ) (r : RoundState) : Type 0 where
@@ -68,7 +70,7 @@ pub record IsRecalledRound (past : List Seen) (aggregator second : ℕ) (r : Rou
 -- the next event has the answer, the new facts and the messages of the step table over it. Of an actor's facts none is lost,
 -- and a restart adds none
 pub record IsRecalled (image : List ℕ → List ℕ) (history : History) : Type 0 where
-  pub seconds : (core second : ℕ) → IsRecalledSecond image (seen image history.plan history.events) history.plan.cores core second ((world_of image history).seconds core second)
+  pub seconds : (core second : ℕ) → IsRecalledSecond image (seen image history.plan history.events) (core_plan_of history.plan) core second ((world_of image history).seconds core second)
   pub rounds : (aggregator second : ℕ) → IsRecalledRound (seen image history.plan history.events) aggregator second ((world_of image history).rounds aggregator second)
   pub world : (before later : List Event) → history.events ≡ before ++ later → after image history.plan before ≡ world_seen image history.plan (seen image history.plan before)
   pub steps : (before later : List Event) (event : Event) → history.events ≡ before ++ event ∷ later → IsStepByFacts image history.plan before event

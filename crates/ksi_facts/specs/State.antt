@@ -1,10 +1,12 @@
 -- What every actor keeps, and what is on the wire, as it is read off what was seen: off facts, and off what came since.
+use Rattle.ksi_world.specs.CorePlanning.{core_plan_of}
 use Rattle.std.specs.Prelude.{ℕ, Bool, List, [], ◌∷◌, ◌++◌, map, option_map, Option}
 use Rattle.ksi_aggtree.specs.Entries.{candidate_of}
 use Rattle.ksi_synod.specs.Voters.{cores_below, is_voter}
 use Rattle.ksi_synod.specs.VoteState.{Hand}
 use Rattle.ksi_signature.specs.declared.answer.Answer.{Answer}
-use Rattle.ksi_corenode.specs.SecondState.{SecondState, voters_of}
+use Rattle.ksi_synod.specs.CorePlans.{CorePlanState, voters_of}
+use Rattle.ksi_corenode.specs.SecondState.{SecondState}
 use Rattle.ksi_calendar.specs.Covered.{Roots}
 use Rattle.ksi_aggregator.specs.Rows.{RoundState}
 use Rattle.ksi_schedule.specs.declared.actor.Actor.TheVariants as actors
@@ -39,24 +41,24 @@ hand_since voters candidate s = record {
 }
 
 -- by the core's facts and deeds for the second
-abbrev pub second_by : (List ℕ → List ℕ) → (cores core second : ℕ) → (facts deeds : List Deed) → SecondState
-second_by image cores core second facts deeds = record {
+abbrev pub second_by : (List ℕ → List ℕ) → CorePlanState → (core second : ℕ) → (facts deeds : List Deed) → SecondState
+second_by image core_plan core second facts deeds = record {
   vote = record {
     me = core;
-    voters = voters_of cores second;
+    voters = voters_of core_plan second;
     candidate = own_candidate image facts;
     tried = tried_ballot facts;
     promised = greatest_promise facts;
     vote = greatest_vote facts;
     held = held_root facts;
-    hand = option_map (hand_since (voters_of cores second) (own_candidate image facts)) (since deeds);
+    hand = option_map (hand_since (voters_of core_plan second) (own_candidate image facts)) (since deeds);
   };
   open_items = open_items deeds;
   sealed = sealed_items facts;
 }
 
 abbrev pub second_seen : (List ℕ → List ℕ) → PlanState → List Seen → (core second : ℕ) → SecondState
-second_seen image plan past core second = second_by image plan.cores core second
+second_seen image plan past core second = second_by image (core_plan_of plan) core second
     (of_second second (facts (actors.Core core) past)) (of_second second (deeds (actors.Core core) past))
 
 -- what a core holds for each second

@@ -1,5 +1,6 @@
 -- The step table over what was seen: the answer, the new facts and the messages of an event are those of its row, for the
 -- state that is read off facts and what came since. No state is handed from one event to the next.
+use Rattle.ksi_world.specs.CorePlanning.{core_plan_of}
 use Rattle.std.specs.Prelude.{◌≡◌, ℕ, nat_lt, if◌then◌else◌, List, [], ◌∷◌, ◌++◌, length, map, slice_get, Option, Some, None}
 use Rattle.ksi_synod.specs.declared.messages.Vote.{Vote}
 use Rattle.ksi_synod.specs.Rows.{is_older}
@@ -74,7 +75,7 @@ module _ (image : List ℕ → List ℕ) (plan : PlanState) (past : List Seen) w
 
   -- a message is taken by its addressee
   abbrev pub by_message : (sender addressee : Actor) (second : ℕ) → Content → Step
-  by_message (actors.Core from) (actors.Core j) t (contents.Synod m) = by_core j t (receive_row plan.cores t from m)
+  by_message (actors.Core from) (actors.Core j) t (contents.Synod m) = by_core j t (receive_row (core_plan_of plan) t from m)
   by_message (actors.Aggregator from) (actors.Core j) t (contents.Submission item) = by_core j t (submission_row from item)
   by_message (actors.Aggregator from) (actors.Aggregator k) t (contents.Submission item) = by_round k t (round_submission from item)
   by_message sender (actors.Aggregator k) t (contents.Response above) = by_round k t (round_response image above)
@@ -89,9 +90,9 @@ module _ (image : List ℕ → List ℕ) (plan : PlanState) (past : List Seen) w
   step_by_facts (events.Request k t imprint) = by_round k t (round_request (length (requests_seen past)) imprint)
   step_by_facts (events.Close k t) = by_round k t (round_close image)
   step_by_facts (events.Seal j t) = by_core j t (seal_row image)
-  step_by_facts (events.Ballot j t) = by_core j t (ballot_row plan.cores t j)
+  step_by_facts (events.Ballot j t) = by_core j t (ballot_row (core_plan_of plan) t j)
   step_by_facts (events.Deliver number) = by_delivery (slice_get (wire_seen past) number)
-  step_by_facts (events.Tell j t) = by_core j t (tell_row plan.cores t j)
+  step_by_facts (events.Tell j t) = by_core j t (tell_row (core_plan_of plan) t j)
   step_by_facts (events.Respond j t) = by_core j t (respond_row image (held_seen past j) plan.start t)
   step_by_facts (events.Publish j p) = idle (publish_answer image (held_seen past j) plan.start p)
   step_by_facts (events.RestartCore j) = idle answers.Done

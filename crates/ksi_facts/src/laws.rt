@@ -1,8 +1,9 @@
 //! The laws. None of these functions does anything.
+ghost use Rattle.ksi_world.specs.CorePlanning.{core_plan_of};
 ghost use Rattle.std.specs.Prelude.{◌≡◌, ◌++◌, ◌∷◌, [], ℕ, List, Some};
 ghost use Rattle.ksi_aggtree.specs.declared.entries.Entry.{Entry};
 ghost use Rattle.ksi_synod.specs.VoteState.{Hand};
-ghost use Rattle.ksi_corenode.specs.SecondState.{voters_of};
+ghost use Rattle.ksi_synod.specs.CorePlans.{voters_of};
 ghost use Rattle.ksi_schedule.specs.declared.actor.Actor.{Actor};
 ghost use Rattle.ksi_schedule.specs.declared.actor.Actor.TheVariants as actors;
 ghost use Rattle.ksi_schedule.specs.declared.event.Event.{Event};
@@ -16,6 +17,8 @@ ghost use Rattle.ksi_facts.specs.Since.{since};
 ghost use Rattle.ksi_facts.specs.State.{own_candidate, world_seen};
 ghost use Rattle.ksi_facts.specs.Steps.{IsStepByFacts};
 ghost use Rattle.ksi_facts.specs.Recalled.{IsStableState, IsStableRound, IsInHand, IsRecalled};
+
+use ksi_synod::voters_are_cores;
 
 /// Facts are only added, whatever happens later, and a restart adds none.
 pub fn facts_only_grow()
@@ -35,7 +38,9 @@ pub fn state_is_facts()
     ensures rounds { (image : List ℕ → List ℕ) (history : History) → IsPlan history.plan → (aggregator second : ℕ) →
         IsStableRound (of_second second (facts (actors.Aggregator aggregator) (seen image history.plan history.events)))
         ((world_of image history).rounds aggregator second) }
-{}
+{
+    voters_are_cores();
+}
 
 /// The open items are those that were accepted since the second was sealed or closed, or its actor was restarted. There are
 /// none once it is sealed or closed.
@@ -50,7 +55,9 @@ pub fn open_is_accepted()
         ((world_of image history).seconds core second).sealed ≡ Some items → ((world_of image history).seconds core second).open_items ≡ [] }
     ensures closed { (image : List ℕ → List ℕ) (history : History) → IsPlan history.plan → (aggregator second : ℕ) (items : List Entry) →
         ((world_of image history).rounds aggregator second).closed ≡ Some items → ((world_of image history).rounds aggregator second).open_items ≡ [] }
-{}
+{
+    voters_are_cores();
+}
 
 /// The ballot in hand has what came since the core tried it, and is the one that it tried last. There is none where it tried
 /// none, or was restarted after it.
@@ -59,28 +66,36 @@ pub fn hand_is_since()
         ((world_of image history).seconds core second).vote.hand ≡ Some hand →
         hand.ballot ≡ tried_ballot (of_second second (facts (actors.Core core) (seen image history.plan history.events))) }
     ensures hand { (image : List ℕ → List ℕ) (history : History) → IsPlan history.plan → (core second : ℕ) →
-        IsInHand (voters_of history.plan.cores second)
+        IsInHand (voters_of (core_plan_of history.plan) second)
         (own_candidate image (of_second second (facts (actors.Core core) (seen image history.plan history.events))))
         (since (of_second second (deeds (actors.Core core) (seen image history.plan history.events))))
         ((world_of image history).seconds core second).vote.hand }
-{}
+{
+    voters_are_cores();
+}
 
 /// At each moment the world is the one that is read off what was seen by then: each second and each round, the wire, the
 /// requests and the publications.
 pub fn world_is_seen()
     ensures { (image : List ℕ → List ℕ) (plan : PlanState) → IsPlan plan → (events : List Event) →
         after image plan events ≡ world_seen image plan (seen image plan events) }
-{}
+{
+    voters_are_cores();
+}
 
 /// The answer of each event, the facts that it adds and the messages that it sends are those of its row of the step table,
 /// for the state that is read off the facts before it and what came since.
 pub fn step_is_by_facts()
     ensures { (image : List ℕ → List ℕ) (plan : PlanState) → IsPlan plan → (before : List Event) (event : Event) →
         IsStepByFacts image plan before event }
-{}
+{
+    voters_are_cores();
+}
 
 /// All of these together: whatever an actor keeps after a history is what was seen of it, each step is the one of the table
 /// over what was seen before it, and an actor's facts are those of each earlier moment and more.
 pub fn history_is_recalled()
     ensures { (image : List ℕ → List ℕ) (history : History) → IsPlan history.plan → IsRecalled image history }
-{}
+{
+    voters_are_cores();
+}

@@ -1,4 +1,5 @@
 -- What one event leads to, in a world of this plan.
+use Rattle.ksi_world.specs.CorePlanning.{core_plan_of}
 use Rattle.std.proofs.Common.{◌≡◌, ℕ, zero, suc, ◌<◌, ◌≤◌, ◌&&◌, eqb, List, [], ◌∷◌, ◌++◌, map, Option, Some, None, refl, sym, subst, arith, is_some, slice_get, append-nil, length}
 use Rattle.std.proofs.lemmas.Bool.{cond_both, eqb-true, and_parts}
 use Rattle.ksi_aggtree.specs.declared.item.Item.{Item}
@@ -125,27 +126,27 @@ seal_goes image w j t thin =
     cond_both (is_some s.sealed) _ _ (λ (turn : Turn). Goes 0 w (at_core w j t turn).world) (λ _. still_goes w j t answers.Sealed thin)
     (λ _. core_goes 0 w j t (sealed_now image s) (record { open_items = thin_none (actors.Core j); sealed = λ entries at. let same : s.open_items ≡ entries = cc at in subst (λ es. IsThin (actors.Core j) es) same old.open_items }) (omega arith) thin)
 
-ballot_goes : (w : WorldState) (j t : ℕ) → IsThinWorld w → Goes 549 w (at_core w j t (ballot_row 3 t j (w.seconds j t))).world
+ballot_goes : (w : WorldState) (j t : ℕ) → IsThinWorld w → Goes 549 w (at_core w j t (ballot_row (core_plan_of header) t j (w.seconds j t))).world
 unfolding ballot_row
 ballot_goes w j t thin =
     let s = w.seconds j t in
     let old = thin.seconds j t in
     let o = ballot_told (try_ballot s.vote).1 in
-    core_goes 549 w j t (ballot_row 3 t j s) (record { open_items = old.open_items; sealed = old.sealed }) (omega (arith, heavy_told j t j o, led_by_ballot (try_ballot s.vote).1)) thin
+    core_goes 549 w j t (ballot_row (core_plan_of header) t j s) (record { open_items = old.open_items; sealed = old.sealed }) (omega (arith, heavy_told j t j o, led_by_ballot (try_ballot s.vote).1)) thin
 
-receive_goes : (w : WorldState) (j t from : ℕ) (m : SynodMessage) → IsThinWorld w → Goes (led_by_vote m) w (at_core w j t (receive_row 3 t from m (w.seconds j t))).world
+receive_goes : (w : WorldState) (j t from : ℕ) (m : SynodMessage) → IsThinWorld w → Goes (led_by_vote m) w (at_core w j t (receive_row (core_plan_of header) t from m (w.seconds j t))).world
 unfolding receive_row
 receive_goes w j t from m thin =
     let s = w.seconds j t in
     let old = thin.seconds j t in
-    core_goes (led_by_vote m) w j t (receive_row 3 t from m s) (record { open_items = old.open_items; sealed = old.sealed }) (omega (arith, heavy_told j t from (receive s.vote from m).1, led_by_received s.vote from m)) thin
+    core_goes (led_by_vote m) w j t (receive_row (core_plan_of header) t from m s) (record { open_items = old.open_items; sealed = old.sealed }) (omega (arith, heavy_told j t from (receive s.vote from m).1, led_by_received s.vote from m)) thin
 
-tell_goes : (w : WorldState) (j t : ℕ) → IsThinWorld w → Goes 3 w (at_core w j t (tell_row 3 t j (w.seconds j t))).world
+tell_goes : (w : WorldState) (j t : ℕ) → IsThinWorld w → Goes 3 w (at_core w j t (tell_row (core_plan_of header) t j (w.seconds j t))).world
 unfolding tell_row
 tell_goes w j t thin =
     let s = w.seconds j t in
     let old = thin.seconds j t in
-    core_goes 3 w j t (tell_row 3 t j s) (record { open_items = old.open_items; sealed = old.sealed }) (omega (arith, heavy_told j t j (held_told s.vote.held), led_by_tell s.vote.held)) thin
+    core_goes 3 w j t (tell_row (core_plan_of header) t j s) (record { open_items = old.open_items; sealed = old.sealed }) (omega (arith, heavy_told j t j (held_told s.vote.held), led_by_tell s.vote.held)) thin
 
 respond_goes : (image : List ℕ → List ℕ) (w : WorldState) (j t start : ℕ) (held : Roots) → IsThinWorld w → Goes 7 w (at_core w j t (respond_row image held start t (w.seconds j t))).world
 unfolding respond_row

@@ -1,4 +1,6 @@
 -- Weights: how many deliveries a message leads to at most, itself among them, where each message is delivered twice.
+use Rattle.ksi_world.specs.CorePlanning.{core_plan_of}
+use Rattle.ksi_generate.specs.Generate.{header}
 use Rattle.std.proofs.Common.{◌≡◌, ℕ, zero, suc, ◌+◌, ◌*◌, ◌≤◌, Bool, true, false, List, [], ◌∷◌, ◌++◌, map, Option, Some, None, refl, arith}
 use Rattle.ksi_synod.specs.declared.messages.LastVote.{LastVote}
 use Rattle.ksi_synod.specs.declared.messages.SynodMessage.{SynodMessage}
@@ -77,7 +79,7 @@ sent_by (Some (message.BeginBallot b d)) = 45
 sent_by (Some (message.Voted b)) = 7
 sent_by (Some (message.Success d)) = 3
 
-pub heavy_told : (j t from : ℕ) (o : Option SynodMessage) → heavy (map (core_message j t) (told 3 t from o)) ≡ sent_by o
+pub heavy_told : (j t from : ℕ) (o : Option SynodMessage) → heavy (map (core_message j t) (told (core_plan_of header) t from o)) ≡ sent_by o
 heavy_told j t from None = refl
 heavy_told j t from (Some (message.NextBallot b)) = refl
 heavy_told j t from (Some (message.LastVote l)) = refl

@@ -6,7 +6,7 @@ use crate::same::same;
 use crate::settled::first_not_held;
 use ksi_aggtree::Item;
 use ksi_calchain::{CalendarLink, climb_calendar};
-use ksi_corenode::{Answer, Core, NoMemory, Send, Step};
+use ksi_corenode::{Answer, Core, CorePlan, NoMemory, Send, Step};
 use ksi_imprint::{Compress, Imprint, Sha};
 use ksi_signature::Above;
 use ksi_split::Side;
@@ -111,7 +111,7 @@ fn hold_alone(rt: &impl Abort, core: &mut Core<Sha>, root: Imprint) {
 
 #[test]
 fn one_core_alone_decides_its_candidate(rt: HostRuntime) {
-    let mut core = Core::<Sha>::new(rt.alloc(), 0, 1, T);
+    let mut core = Core::<Sha>::new(rt.alloc(), 0, &CorePlan::new(1, T));
     let root = Sha::of(b"");
     seal_one(&rt, &mut core);
     vote_alone(&rt, &mut core, root);
@@ -130,7 +130,7 @@ fn settled_alone(rt: &impl Abort, core: &mut Core<Sha>) {
 
 #[test]
 fn a_settled_second_answers_as_before(rt: HostRuntime) {
-    let mut core = Core::<Sha>::new(rt.alloc(), 0, 1, T);
+    let mut core = Core::<Sha>::new(rt.alloc(), 0, &CorePlan::new(1, T));
     let root = Sha::of(b"");
     same(&rt, "settled", core.settled(), 0);
     seal_one(&rt, &mut core);
@@ -143,7 +143,7 @@ fn decided(rt: &impl Abort, alloc: Global, a: &Item) -> Core<Sha>
     requires { a.now.level ≡ 0 }
     ensures { result.start ≡ 1700000000 }
 {
-    let mut core = Core::new(alloc, 0, 1, T);
+    let mut core = Core::new(alloc, 0, &CorePlan::new(1, T));
     only(rt, core.submission(7, T, *a), Answer::Done);
     only(rt, core.seal(T), Answer::Done);
     let success = SynodMessage::Success(a.imprint);
@@ -262,7 +262,7 @@ fn submit(rt: &impl Abort, core: &mut Core<Sha>, aggregator: u32, bytes: &[u8], 
 
 #[test]
 fn an_aggregator_submits_once_and_before_the_seal(rt: HostRuntime) {
-    let mut core = Core::<Sha>::new(rt.alloc(), 0, 1, T);
+    let mut core = Core::<Sha>::new(rt.alloc(), 0, &CorePlan::new(1, T));
     submit(&rt, &mut core, 3, b"", Answer::Done);
     submit(&rt, &mut core, 3, b"abc", Answer::Known);
     submit(&rt, &mut core, 4, b"abc", Answer::Done);
@@ -307,7 +307,7 @@ fn end_ballots(rt: &impl Abort, core: &mut Core<Sha>) {
 
 #[test]
 fn a_restart_forgets_what_is_open(rt: HostRuntime) {
-    let mut core = Core::<Sha>::new(rt.alloc(), 0, 3, T);
+    let mut core = Core::<Sha>::new(rt.alloc(), 0, &CorePlan::new(3, T));
     restart_unsealed(&rt, &mut core);
     restart_in_ballot(&rt, &mut core);
     end_ballots(&rt, &mut core);

@@ -4,7 +4,7 @@ ghost use Rattle.ksi_synod.specs.Rows.{OfBallot};
 
 use crate::same::same;
 use ksi_aggtree::{Entries, Entry, Item, Origin};
-use ksi_corenode::{Answer, Core, NoMemory, Send, Step, Steps};
+use ksi_corenode::{Answer, Core, CorePlan, NoMemory, Send, Step, Steps};
 use ksi_imprint::{Compress, Imprint, Sha};
 use ksi_synod::{Begun, Instance, LastVote, SynodMessage, Took, Vote, Voters};
 use std::alloc::Global;
@@ -466,7 +466,7 @@ fn all_occurred(rt: &impl Abort, counts: &Counts) {
 #[test]
 fn a_thousand_events_of_a_core_and_a_plain_one(rt: HostRuntime) {
     let alloc = rt.alloc();
-    let mut core = Core::<Sha>::new(alloc, 0, 3, T);
+    let mut core = Core::<Sha>::new(alloc, 0, &CorePlan::new(3, T));
     let mut plains = [
         nothing_came(),
         nothing_came(),

@@ -16,11 +16,10 @@ fn vote(ballot: u64, byte: u8) -> Option<Vote> {
     })
 }
 
-fn sealed(me: u8, members: u8, candidate: Imprint) -> Instance
-    requires mine { me < members }
-    requires few { members ≤ 9 }
+fn sealed(me: u8, voters: Voters, candidate: Imprint) -> Instance
+    requires { me ≤ 8 }
 {
-    let mut core = Instance::new(me, Voters::all(members));
+    let mut core = Instance::new(me, voters);
     if core.sealed().is_none() {
         core.candidate(candidate);
     }
@@ -70,7 +69,7 @@ fn decide_alone(rt: &impl Abort, core: &mut Instance, d: Imprint) {
 #[test]
 fn one_core_decides_alone(rt: HostRuntime) {
     let d = imprint(7);
-    let mut core = sealed(0, 1, d);
+    let mut core = sealed(0, Voters::all(1), d);
     same(&rt, "sealed", core.sealed(), Some(d));
     promise_alone(&rt, &mut core, d);
     decide_alone(&rt, &mut core, d);
@@ -82,7 +81,7 @@ fn one_core_decides_alone(rt: HostRuntime) {
 #[test]
 fn repeats_do_not_count(rt: HostRuntime) {
     let d = imprint(1);
-    let mut core = sealed(0, 3, d);
+    let mut core = sealed(0, Voters::all(3), d);
     try_ballot(&rt, &mut core, Begun::Next(16));
     last(&rt, &mut core, 1, Took::Added);
     last(&rt, &mut core, 1, Took::Nothing);
@@ -101,7 +100,7 @@ fn what_is_not_sealed_begins_no_ballot(rt: HostRuntime) {
 
 #[test]
 fn a_restart_forgets_the_ballot_in_hand(rt: HostRuntime) {
-    let mut core = sealed(0, 3, imprint(1));
+    let mut core = sealed(0, Voters::all(3), imprint(1));
     try_ballot(&rt, &mut core, Begun::Next(16));
     core.restart();
     last(&rt, &mut core, 1, Took::Nothing);
@@ -128,7 +127,7 @@ fn a_reported_vote_is_taken_over(rt: HostRuntime) {
         vote: vote(16, 1),
     });
     same(&rt, "reply", reported(&rt, a), Some(told));
-    let mut late = sealed(2, 3, imprint(2));
+    let mut late = sealed(2, Voters::all(3), imprint(2));
     try_ballot(&rt, &mut late, Begun::Next(18));
     same(&rt, 1, late.on_last(1, 18, vote(16, 1)), Took::Added);
     same(&rt, 2, late.on_last(2, 18, None), Took::Decree(a));
@@ -139,4 +138,22 @@ fn members_are_the_first_cores(rt: HostRuntime) {
     let voters = Voters::all(3);
     let members = [voters.contains(2), voters.contains(3)];
     same(&rt, "members", members, [true, false]);
+}
+
+/// Each core's LastVote, then each core's Voted, where core 1 alone votes and the candidate is this one.
+fn counts_one(rt: &impl Abort, core: &mut Instance, root: Imprint) {
+    last(rt, core, 0, Took::Nothing);
+    last(rt, core, 2, Took::Nothing);
+    last(rt, core, 1, Took::Decree(root));
+    voted(rt, core, 0, Took::Nothing);
+    voted(rt, core, 1, Took::Decree(root));
+}
+
+#[test]
+fn voters_alone_count(rt: HostRuntime) {
+    let root = imprint(5);
+    let mut core = sealed(0, Voters::none().with(1), root);
+    try_ballot(&rt, &mut core, Begun::Next(16));
+    counts_one(&rt, &mut core, root);
+    same(&rt, "held", core.held(), Some(root));
 }

@@ -1,4 +1,5 @@
 pub mod FlagLemmas
+pub mod Planning
 pub mod Majorities
 pub mod Invariant
 pub mod Keeping

@@ -1,5 +1,7 @@
 pub mod Voters
 pub mod Flags
+pub mod CorePlans
+pub mod CorePlanFields
 pub mod Ballots
 pub mod VoteState
 pub mod Rows

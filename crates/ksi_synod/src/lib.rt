@@ -15,6 +15,7 @@
 //! ```
 #![tactic(auto)]
 
+mod core_plan;
 mod hand;
 mod instance;
 pub mod laws;
@@ -22,6 +23,7 @@ mod messages;
 mod stable;
 mod voters;
 
+pub use core_plan::{CorePlan, VotersFrom, voters_are_cores};
 pub use hand::InHand;
 pub use instance::Instance;
 pub use messages::{Begun, LastVote, SynodMessage, Took, Vote};

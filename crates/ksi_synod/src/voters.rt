@@ -1,5 +1,7 @@
-ghost use Rattle.std.specs.Prelude.{◌≡◌, ◌≤◌};
+ghost use Rattle.std.specs.Prelude.{◌≡◌, ◌<◌, ◌≤◌, nat_lt, [], ◌∷◌, ◌++◌};
+ghost use Rattle.std.specs.List.{AllByRecursion, list_all};
 ghost use Rattle.ksi_synod.specs.Voters.{cores_below, is_voter, is_majority};
+ghost use Rattle.ksi_synod.specs.CorePlans.{AreRising};
 
 use std::marker::Model;
 
@@ -36,6 +38,44 @@ impl Voters {
             flags[core as usize] = true;
         }
         Voters { flags }
+    }
+
+    /// No core.
+    pub fn none() -> Self
+        ensures { result ≡ [] }
+    {
+        Voters { flags: [false; 9] }
+    }
+
+    /// These and a core above them.
+    pub fn with(&self, core: u8) -> Self
+        requires few { core < 9 }
+        requires above { AllByRecursion (λ voter. voter < core) self.now }
+        ensures { result ≡ self.now ++ core ∷ [] }
+    {
+        let mut flags = self.flags;
+        flags[core as usize] = true;
+        Voters { flags }
+    }
+
+    /// Whether each of them is below a core.
+    pub fn are_below(&self, core: u8) -> bool
+        ensures { result ≡ list_all (λ voter. nat_lt voter core) self.now }
+    {
+        for other in 0..9u8 {
+            if self.flags[other as usize] && other >= core {
+                return false;
+            }
+        }
+        true
+    }
+
+    /// They rise, and are at most the cores 0 to 8. This does nothing.
+    pub fn rise(&self)
+        ensures rising { AreRising self.now }
+        ensures few { AllByRecursion (λ voter. voter < 9) self.now }
+    {
+        let _ = &self.flags;
     }
 
     /// Whether a core votes.

@@ -1,4 +1,5 @@
 -- A core that is none of the plan's holds nothing.
+use Rattle.ksi_world.specs.CorePlanning.{core_plan_of}
 use Rattle.std.proofs.Common.{◌≡◌, ℕ, ◌<◌, ◌≤◌, eqb, List, [], ◌∷◌, refl, arith, Option, Some, None}
 use Rattle.std.specs.Prelude.{slice_get}
 use Rattle.std.proofs.lemmas.Bool.{cond_both}
@@ -32,7 +33,7 @@ module _ (image : List ℕ → List ℕ) (plan : PlanState) where
 
   module _ (is : IsPlan plan) where
     taken_beyond : (w : WorldState) (sender addressee : Actor) (t : ℕ) (content : Content) → IsSent plan sender addressee content → NoneBeyond w → NoneBeyond (histories.taken image plan w sender addressee t content).world
-    taken_beyond w (actors.Core from) (actors.Core j) t (contents.Synod m) sent none = turned w j t (receive_row plan.cores t from m (w.seconds j t)) sent.1 none
+    taken_beyond w (actors.Core from) (actors.Core j) t (contents.Synod m) sent none = turned w j t (receive_row (core_plan_of plan) t from m (w.seconds j t)) sent.1 none
     taken_beyond w (actors.Core from) (actors.Core j) t (contents.Submission item) sent none = none
     taken_beyond w (actors.Core from) (actors.Core j) t (contents.Response above) sent none = none
     taken_beyond w (actors.Core from) (actors.Aggregator k) t (contents.Synod m) sent none = none
@@ -54,9 +55,9 @@ module _ (image : List ℕ → List ℕ) (plan : PlanState) where
     happens_beyond w (events.Request k t imprint) at sound none = none
     happens_beyond w (events.Close k t) at sound none = none
     happens_beyond w (events.Seal j t) at sound none = turned w j t (seal_row image (w.seconds j t)) at.0 none
-    happens_beyond w (events.Ballot j t) at sound none = turned w j t (ballot_row plan.cores t j (w.seconds j t)) at.0 none
+    happens_beyond w (events.Ballot j t) at sound none = turned w j t (ballot_row (core_plan_of plan) t j (w.seconds j t)) at.0 none
     happens_beyond w (events.Deliver number) at sound none = delivered_beyond w number (slice_get w.wire number) refl sound none
-    happens_beyond w (events.Tell j t) at sound none = turned w j t (tell_row plan.cores t j (w.seconds j t)) at.0 none
+    happens_beyond w (events.Tell j t) at sound none = turned w j t (tell_row (core_plan_of plan) t j (w.seconds j t)) at.0 none
     happens_beyond w (events.Respond j t) at sound none = turned w j t (respond_row image (held_in w j) plan.start t (w.seconds j t)) at.0 none
     happens_beyond w (events.Publish j p) at sound none = none
     happens_beyond w (events.RestartCore j) at sound none = λ i u le. cond_both (eqb i j) (restart_row (w.seconds i u)) (w.seconds i u) (λ s. s.vote.held ≡ None) (λ _. none i u le) (λ _. none i u le)

@@ -1,5 +1,6 @@
 -- What holds of the zero imprint, of each hash and of what each request asks for holds of all items and of all that is
 -- carried down.
+use Rattle.ksi_world.specs.CorePlanning.{core_plan_of}
 use Rattle.std.proofs.Common.{◌≡◌, ℕ, zero, suc, ◌+◌, ◌<◌, ◌≤◌, eqb, List, [], ◌∷◌, ◌++◌, length, refl, subst, arith, inl, inr, is_some, Option, Some, None}
 use Rattle.std.specs.Prelude.{slice_get, map}
 use Rattle.std.specs.List.{AllByRecursion}
@@ -19,6 +20,7 @@ use Rattle.ksi_aggtree.specs.Entries.{items_of, has_from, is_full}
 use Rattle.ksi_synod.specs.declared.messages.SynodMessage.{SynodMessage}
 use Rattle.ksi_synod.specs.declared.messages.SynodMessage.TheVariants as message
 use Rattle.ksi_synod.specs.Voters.{cores_below}
+use Rattle.ksi_synod.specs.CorePlans.{CorePlanState, voters_of}
 use Rattle.ksi_synod.specs.Rows.{try_ballot, ballot_told, receive, held_told}
 use Rattle.ksi_signature.specs.declared.above.Above.{Above}
 use Rattle.ksi_signature.specs.declared.answer.Answer.{Answer}
@@ -116,13 +118,13 @@ module _ (P : List ℕ → Type 0) where
   each_to m [] = tt
   each_to m (core ∷ to) = (tt, each_to m to)
 
-  each_told : (members second from : ℕ) (o : Option SynodMessage) → EachCore (told members second from o)
-  each_told members second from None = tt
-  each_told members second from (Some (message.NextBallot b)) = each_to (message.NextBallot b) (cores_below members)
-  each_told members second from (Some (message.LastVote l)) = (tt, tt)
-  each_told members second from (Some (message.BeginBallot b d)) = each_to (message.BeginBallot b d) (cores_below members)
-  each_told members second from (Some (message.Voted b)) = (tt, tt)
-  each_told members second from (Some (message.Success d)) = each_to (message.Success d) (cores_below members)
+  each_told : (core_plan : CorePlanState) (second from : ℕ) (o : Option SynodMessage) → EachCore (told core_plan second from o)
+  each_told core_plan second from None = tt
+  each_told core_plan second from (Some (message.NextBallot b)) = each_to (message.NextBallot b) (voters_of core_plan second)
+  each_told core_plan second from (Some (message.LastVote l)) = (tt, tt)
+  each_told core_plan second from (Some (message.BeginBallot b d)) = each_to (message.BeginBallot b d) (voters_of core_plan second)
+  each_told core_plan second from (Some (message.Voted b)) = (tt, tt)
+  each_told core_plan second from (Some (message.Success d)) = each_to (message.Success d) (cores_below core_plan.cores)
 
   each_both : {A : Type 0} (P : A → Type 0) (xs ys : List A) → AllByRecursion P xs → AllByRecursion P ys → AllByRecursion P (xs ++ ys)
   each_both P [] ys one other = other
@@ -217,26 +219,26 @@ module _ (P : List ℕ → Type 0) where
           cond_both (is_some s.sealed) _ _ (λ turn. AllOf (at_core w j t turn).world) (λ _. still_all j t answers.Sealed)
           (λ _. core_turned w j t (sealed_now image s) (record { open_items = tt; sealed = λ entries at. let same : s.open_items ≡ entries = cc at in subst (OfEntries P) same old.open_items }) tt all)
 
-      ballot_all : (j t : ℕ) → AllOf (at_core w j t (ballot_row plan.cores t j (w.seconds j t))).world
+      ballot_all : (j t : ℕ) → AllOf (at_core w j t (ballot_row (core_plan_of plan) t j (w.seconds j t))).world
       unfolding ballot_row
       ballot_all j t =
           let s = w.seconds j t in
           let old = all.seconds j t in
-          core_turned w j t (ballot_row plan.cores t j s) (record { open_items = old.open_items; sealed = old.sealed }) (each_told plan.cores t j (ballot_told (try_ballot s.vote).1)) all
+          core_turned w j t (ballot_row (core_plan_of plan) t j s) (record { open_items = old.open_items; sealed = old.sealed }) (each_told (core_plan_of plan) t j (ballot_told (try_ballot s.vote).1)) all
 
-      receive_all : (j t from : ℕ) (m : SynodMessage) → AllOf (at_core w j t (receive_row plan.cores t from m (w.seconds j t))).world
+      receive_all : (j t from : ℕ) (m : SynodMessage) → AllOf (at_core w j t (receive_row (core_plan_of plan) t from m (w.seconds j t))).world
       unfolding receive_row
       receive_all j t from m =
           let s = w.seconds j t in
           let old = all.seconds j t in
-          core_turned w j t (receive_row plan.cores t from m s) (record { open_items = old.open_items; sealed = old.sealed }) (each_told plan.cores t from (receive s.vote from m).1) all
+          core_turned w j t (receive_row (core_plan_of plan) t from m s) (record { open_items = old.open_items; sealed = old.sealed }) (each_told (core_plan_of plan) t from (receive s.vote from m).1) all
 
-      tell_all : (j t : ℕ) → AllOf (at_core w j t (tell_row plan.cores t j (w.seconds j t))).world
+      tell_all : (j t : ℕ) → AllOf (at_core w j t (tell_row (core_plan_of plan) t j (w.seconds j t))).world
       unfolding tell_row
       tell_all j t =
           let s = w.seconds j t in
           let old = all.seconds j t in
-          core_turned w j t (tell_row plan.cores t j s) (record { open_items = old.open_items; sealed = old.sealed }) (each_told plan.cores t j (held_told s.vote.held)) all
+          core_turned w j t (tell_row (core_plan_of plan) t j s) (record { open_items = old.open_items; sealed = old.sealed }) (each_told (core_plan_of plan) t j (held_told s.vote.held)) all
 
       respond_all : (j t : ℕ) (held : Roots) → AllOf (at_core w j t (respond_row image held plan.start t (w.seconds j t))).world
       unfolding respond_row

@@ -1,4 +1,5 @@
 -- What is held was sealed, and so is what is kept.
+use Rattle.ksi_world.specs.CorePlanning.{core_plan_of}
 use Rattle.std.proofs.Common.{◌≡◌, ◌≢◌, ℕ, ◌-◌, ◌^◌, ◌<◌, ◌≤◌, Bool, true, false, cond, List, [], ◌∷◌, length, refl, sym, ap, subst, ◌∙◌, arith, inl, inr, Option, Some, None}
 use Rattle.std.specs.Prelude.{option_map, unwrap_or}
 use Rattle.std.specs.Str.{bytes_eq}
@@ -12,7 +13,7 @@ use Rattle.ksi_aggtree.specs.Rounds.{IsRound, tree_of}
 use Rattle.ksi_aggtree.specs.Entries.{items_of, candidate_of}
 use Rattle.ksi_synod.specs.VoteState.{VoteState}
 use Rattle.ksi_synod.specs.Reached.{Said, Reached}
-use Rattle.ksi_corenode.specs.SecondState.{voters_of}
+use Rattle.ksi_synod.specs.CorePlans.{voters_of}
 use Rattle.ksi_schedule.specs.declared.actor.Actor.TheVariants as actors
 use Rattle.ksi_schedule.specs.declared.event.Event.{Event}
 use Rattle.ksi_schedule.specs.Plans.{PlanState, IsPlan}
@@ -55,7 +56,7 @@ module _ (image : List ℕ → List ℕ) (plan : PlanState) (is : IsPlan plan) w
       held_in (after image plan es) one t ≡ Some d → held_in (after image plan es) other t ≡ Some e → d ≡ e
   after_agrees law es are one other t d e =
       let vote = (after_voted image plan is es are).vote t in
-      law (voters_of plan.cores t) (votes_at (after image plan es).seconds t) vote.said vote.reached one other d e
+      law (voters_of (core_plan_of plan) t) (votes_at (after image plan es).seconds t) vote.said vote.reached one other d e
 
   module _ (law : StepsValid) (w : WorldState) (sound : IsSound plan w) (voted : IsVoted image plan w.seconds w.wire) where
     round_is : (j t : ℕ) (entries : List Entry) → (w.seconds j t).sealed ≡ Some entries → IsRound (items_of entries)
@@ -71,7 +72,7 @@ module _ (image : List ℕ → List ℕ) (plan : PlanState) (is : IsPlan plan) w
     pub proposed : (j t : ℕ) (root : List ℕ) → held_in w j t ≡ Some root → root ≢ zero_imprint → IsProposed image plan w t root
     proposed j t root held real =
         let vote = voted.vote t in
-        let owner = law (voters_of plan.cores t) (votes_at w.seconds t) vote.said vote.reached j root held in
+        let owner = law (voters_of (core_plan_of plan) t) (votes_at w.seconds t) vote.said vote.reached j root held in
         let sealed = voted.sealed owner.0 t in
         let by = mapped (candidate_of image) (w.seconds owner.0 t).sealed root (sym sealed.candidate ∙ owner.1) in
         record {

@@ -1,4 +1,5 @@
 -- The nodes after a turn are those of the world after it.
+use Rattle.ksi_world.specs.CorePlanning.{core_plan_of}
 use Rattle.std.proofs.Common.{◌≡◌, ℕ, zero, suc, ◌<◌, cond, eqb, List, [], ◌∷◌, ◌++◌, length, refl, sym, ap, subst, ◌∙◌, arith, inl, inr, Some, length-set}
 use Rattle.std.specs.Prelude.{slice_get, map, OnErr, Result, Ok, Err}
 use Rattle.std.proofs.lemmas.Bool.{cond-true, cond-false, eq-eqb, ne_eqb}
@@ -73,7 +74,7 @@ module _ (plan : PlanState) (w : WorldState) (cores cores' : List CoreState) (ag
     many = length-set cores j step.new ∙ fits.cores.many;
     each = λ k c here. elim (get_set cores j k step.new c here) [
       | inl is ↦ subst (λ c. IsCore plan (after k) k c) (sym is.1) (subst (λ k. IsCore plan (after k) k step.new) (sym is.0) new_core)
-      | inr other ↦ let is = fits.cores.each k c other.1 in record { me = is.me; members = is.members; start = is.start; keeps = λ u. is.keeps u ∙ sym (cond-false (eqb k j) (row (w.seconds k u)) (w.seconds k u) (ne_eqb k j other.0)) }
+      | inr other ↦ let is = fits.cores.each k c other.1 in record { me = is.me; core_plan = is.core_plan; start = is.start; keeps = λ u. is.keeps u ∙ sym (cond-false (eqb k j) (row (w.seconds k u)) (w.seconds k u) (ne_eqb k j other.0)) }
     ];
   })
     where
@@ -86,7 +87,7 @@ module _ (plan : PlanState) (w : WorldState) (cores cores' : List CoreState) (ag
       new_core : IsCore plan (after j) j step.new
       new_core = record {
         me = step.me ∙ old_core.me;
-        members = step.members ∙ old_core.members;
+        core_plan = step.plan ∙ old_core.core_plan;
         start = step.start ∙ old_core.start;
         keeps = λ u. step.seconds u ∙ ap row (old_core.keeps u) ∙ sym (cond-true (eqb j j) (row (w.seconds j u)) (w.seconds j u) (eq-eqb j j refl));
       }
@@ -152,14 +153,14 @@ get_there (x ∷ xs) (suc i) lt = get_there xs i (omega (arith, lt))
 -- THE ROWS OF A CORE are those of its second in the world
 
 module _ (plan : PlanState) (w : WorldState) (j : ℕ) (core : CoreState) (is : IsCore plan (w.seconds j) j core) (t : ℕ) where
-  pub ballot_same : ballot_row core.members t core.me (state_of core t) ≡ ballot_row plan.cores t j (w.seconds j t)
-  ballot_same = ap (λ n. ballot_row n t core.me (state_of core t)) is.members ∙ ap (λ me. ballot_row plan.cores t me (state_of core t)) is.me ∙ ap (λ s. ballot_row plan.cores t j s) (is.keeps t)
+  pub ballot_same : ballot_row core.plan t core.me (state_of core t) ≡ ballot_row (core_plan_of plan) t j (w.seconds j t)
+  ballot_same = ap (λ n. ballot_row n t core.me (state_of core t)) is.core_plan ∙ ap (λ me. ballot_row (core_plan_of plan) t me (state_of core t)) is.me ∙ ap (λ s. ballot_row (core_plan_of plan) t j s) (is.keeps t)
 
-  pub tell_same : tell_row core.members t core.me (state_of core t) ≡ tell_row plan.cores t j (w.seconds j t)
-  tell_same = ap (λ n. tell_row n t core.me (state_of core t)) is.members ∙ ap (λ me. tell_row plan.cores t me (state_of core t)) is.me ∙ ap (λ s. tell_row plan.cores t j s) (is.keeps t)
+  pub tell_same : tell_row core.plan t core.me (state_of core t) ≡ tell_row (core_plan_of plan) t j (w.seconds j t)
+  tell_same = ap (λ n. tell_row n t core.me (state_of core t)) is.core_plan ∙ ap (λ me. tell_row (core_plan_of plan) t me (state_of core t)) is.me ∙ ap (λ s. tell_row (core_plan_of plan) t j s) (is.keeps t)
 
-  pub receive_same : (from : ℕ) (m : SynodMessage) → receive_row core.members t from m (state_of core t) ≡ receive_row plan.cores t from m (w.seconds j t)
-  receive_same from m = ap (λ n. receive_row n t from m (state_of core t)) is.members ∙ ap (λ s. receive_row plan.cores t from m s) (is.keeps t)
+  pub receive_same : (from : ℕ) (m : SynodMessage) → receive_row core.plan t from m (state_of core t) ≡ receive_row (core_plan_of plan) t from m (w.seconds j t)
+  receive_same from m = ap (λ n. receive_row n t from m (state_of core t)) is.core_plan ∙ ap (λ s. receive_row (core_plan_of plan) t from m s) (is.keeps t)
 
   held_same : held_by core ≡ held_in w j
   held_same = same_function (held_by core) (held_in w j) (λ u. ap (λ (s : SecondState). s.vote.held) (is.keeps u))

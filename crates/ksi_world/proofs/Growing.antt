@@ -1,4 +1,5 @@
 -- Whatever happens, what is held stays held, and what is closed stays closed.
+use Rattle.ksi_world.specs.CorePlanning.{core_plan_of}
 use Rattle.std.proofs.Common.{◌≡◌, ℕ, ◌&&◌, eqb, List, [], ◌∷◌, ◌++◌, length, refl, sym, ap, subst, ◌∙◌, is_some, Option, Some, None}
 use Rattle.std.specs.Prelude.{slice_get}
 use Rattle.std.proofs.lemmas.Bool.{cond_both, eqb-true, and_parts}
@@ -10,6 +11,7 @@ use Rattle.ksi_signature.specs.declared.above.Above.{Above}
 use Rattle.ksi_corenode.specs.SecondState.{SecondState}
 use Rattle.ksi_corenode.specs.Turns.{Turn}
 use Rattle.ksi_calendar.specs.Covered.{Roots, first_missing}
+use Rattle.ksi_synod.specs.CorePlans.{CorePlanState}
 use Rattle.ksi_corenode.specs.Rows.{submission_row, seal_row, ballot_row, receive_row, tell_row, respond_row, respond_where, is_mine, restart_row}
 use Rattle.ksi_aggregator.specs.Rows.{RoundState, RoundTurn, fresh_round, round_request, round_submission, round_close, round_response, response_where, round_restarted}
 use Rattle.ksi_schedule.specs.declared.actor.Actor.{Actor}
@@ -73,17 +75,17 @@ pub seal_row_holds : (image : List ℕ → List ℕ) (s : SecondState) → Holds
 unfolding seal_row
 seal_row_holds image s d is = cond_both (is_some s.sealed) _ _ (λ (turn : Turn). turn.after.vote.held ≡ Some d) (λ _. is) (λ _. seal_holds s.vote (candidate_of image s.open_items) ∙ is)
 
-pub ballot_holds : (members t j : ℕ) (s : SecondState) → Holds s (ballot_row members t j s).after
+pub ballot_holds : (core_plan : CorePlanState) (t j : ℕ) (s : SecondState) → Holds s (ballot_row core_plan t j s).after
 unfolding ballot_row
-ballot_holds members t j s d is = (try_leaves s.vote).held ∙ is
+ballot_holds core_plan t j s d is = (try_leaves s.vote).held ∙ is
 
-pub receive_holds : (members t from : ℕ) (m : SynodMessage) (s : SecondState) → Holds s (receive_row members t from m s).after
+pub receive_holds : (core_plan : CorePlanState) (t from : ℕ) (m : SynodMessage) (s : SecondState) → Holds s (receive_row core_plan t from m s).after
 unfolding receive_row
-receive_holds members t from m s d is = (receive_leaves s.vote from m).stays d is
+receive_holds core_plan t from m s d is = (receive_leaves s.vote from m).stays d is
 
-pub tell_holds : (members t j : ℕ) (s : SecondState) → Holds s (tell_row members t j s).after
+pub tell_holds : (core_plan : CorePlanState) (t j : ℕ) (s : SecondState) → Holds s (tell_row core_plan t j s).after
 unfolding tell_row
-tell_holds members t j s d is = is
+tell_holds core_plan t j s d is = is
 
 pub respond_after : (image : List ℕ → List ℕ) (held : Roots) (start t : ℕ) (s : SecondState) → (respond_row image held start t s).after ≡ s
 unfolding respond_row
@@ -136,7 +138,7 @@ module _ (image : List ℕ → List ℕ) (plan : PlanState) where
   -- AN EVENT
 
   taken_grew : (w : WorldState) (sender addressee : Actor) (t : ℕ) (content : Content) → Grew w (histories.taken image plan w sender addressee t content).world
-  taken_grew w (actors.Core from) (actors.Core j) t (contents.Synod m) = core_grew w j t (receive_row plan.cores t from m (w.seconds j t)) (receive_holds plan.cores t from m (w.seconds j t))
+  taken_grew w (actors.Core from) (actors.Core j) t (contents.Synod m) = core_grew w j t (receive_row (core_plan_of plan) t from m (w.seconds j t)) (receive_holds (core_plan_of plan) t from m (w.seconds j t))
   taken_grew w (actors.Core from) (actors.Core j) t (contents.Submission item) = grew_same w
   taken_grew w (actors.Core from) (actors.Core j) t (contents.Response above) = grew_same w
   taken_grew w (actors.Core from) (actors.Aggregator k) t (contents.Synod m) = grew_same w
@@ -160,9 +162,9 @@ module _ (image : List ℕ → List ℕ) (plan : PlanState) where
       record { held = grew.held; closed = grew.closed }
   happens_grew w (events.Close k t) = round_grew plan w k t (round_close image (w.rounds k t)) (close_keeps image (w.rounds k t))
   happens_grew w (events.Seal j t) = core_grew w j t (seal_row image (w.seconds j t)) (seal_row_holds image (w.seconds j t))
-  happens_grew w (events.Ballot j t) = core_grew w j t (ballot_row plan.cores t j (w.seconds j t)) (ballot_holds plan.cores t j (w.seconds j t))
+  happens_grew w (events.Ballot j t) = core_grew w j t (ballot_row (core_plan_of plan) t j (w.seconds j t)) (ballot_holds (core_plan_of plan) t j (w.seconds j t))
   happens_grew w (events.Deliver number) = delivered_grew w (slice_get w.wire number)
-  happens_grew w (events.Tell j t) = core_grew w j t (tell_row plan.cores t j (w.seconds j t)) (tell_holds plan.cores t j (w.seconds j t))
+  happens_grew w (events.Tell j t) = core_grew w j t (tell_row (core_plan_of plan) t j (w.seconds j t)) (tell_holds (core_plan_of plan) t j (w.seconds j t))
   happens_grew w (events.Respond j t) = core_grew w j t (respond_row image (held_in w j) plan.start t (w.seconds j t)) (respond_holds image (held_in w j) plan.start t (w.seconds j t))
   happens_grew w (events.Publish j p) = record { held = λ j t d is. is; closed = λ k t entries is. is }
   happens_grew w (events.RestartCore j) = record {

@@ -1,4 +1,5 @@
 -- Each event keeps that what is told is so.
+use Rattle.ksi_world.specs.CorePlanning.{core_plan_of}
 use Rattle.std.proofs.Common.{◌≡◌, ◌≢◌, ℕ, suc, ◌-◌, ◌*◌, ◌<◌, ◌≤◌, arith, true, not, eqb, List, [], ◌∷◌, ◌++◌, length, refl, sym, ap, subst, ◌∙◌, is_some, Option, Some, None}
 use Rattle.std.specs.Prelude.{slice_get}
 use Rattle.std.specs.Str.{bytes_eq}
@@ -77,20 +78,20 @@ module _ (image : List ℕ → List ℕ) (plan : PlanState) (is : IsPlan plan) (
       })
       (nothing_sent image plan (at_core w j t (sealed_now image (w.seconds j t))).world) joined)
 
-  ballot_joined : (j t : ℕ) → AllJoined image plan (at_core w j t (ballot_row plan.cores t j (w.seconds j t))).world
+  ballot_joined : (j t : ℕ) → AllJoined image plan (at_core w j t (ballot_row (core_plan_of plan) t j (w.seconds j t))).world
   unfolding ballot_row
-  ballot_joined j t = same_items j t (ballot_row plan.cores t j (w.seconds j t)) (ballot_holds plan.cores t j (w.seconds j t)) refl refl
-      (each_told image plan (at_core w j t (ballot_row plan.cores t j (w.seconds j t))).world j t plan.cores t j (ballot_told (try_ballot (w.seconds j t).vote).1))
+  ballot_joined j t = same_items j t (ballot_row (core_plan_of plan) t j (w.seconds j t)) (ballot_holds (core_plan_of plan) t j (w.seconds j t)) refl refl
+      (each_told image plan (at_core w j t (ballot_row (core_plan_of plan) t j (w.seconds j t))).world j t (core_plan_of plan) t j (ballot_told (try_ballot (w.seconds j t).vote).1))
 
-  tell_joined : (j t : ℕ) → AllJoined image plan (at_core w j t (tell_row plan.cores t j (w.seconds j t))).world
+  tell_joined : (j t : ℕ) → AllJoined image plan (at_core w j t (tell_row (core_plan_of plan) t j (w.seconds j t))).world
   unfolding tell_row
-  tell_joined j t = same_items j t (tell_row plan.cores t j (w.seconds j t)) (λ d held. held) refl refl
-      (each_told image plan (at_core w j t (tell_row plan.cores t j (w.seconds j t))).world j t plan.cores t j (held_told (w.seconds j t).vote.held))
+  tell_joined j t = same_items j t (tell_row (core_plan_of plan) t j (w.seconds j t)) (λ d held. held) refl refl
+      (each_told image plan (at_core w j t (tell_row (core_plan_of plan) t j (w.seconds j t))).world j t (core_plan_of plan) t j (held_told (w.seconds j t).vote.held))
 
-  receive_joined : (j t from : ℕ) (m : SynodMessage) → AllJoined image plan (at_core w j t (receive_row plan.cores t from m (w.seconds j t))).world
+  receive_joined : (j t from : ℕ) (m : SynodMessage) → AllJoined image plan (at_core w j t (receive_row (core_plan_of plan) t from m (w.seconds j t))).world
   unfolding receive_row
-  receive_joined j t from m = same_items j t (receive_row plan.cores t from m (w.seconds j t)) (receive_holds plan.cores t from m (w.seconds j t)) refl refl
-      (each_told image plan (at_core w j t (receive_row plan.cores t from m (w.seconds j t))).world j t plan.cores t from (receive (w.seconds j t).vote from m).1)
+  receive_joined j t from m = same_items j t (receive_row (core_plan_of plan) t from m (w.seconds j t)) (receive_holds (core_plan_of plan) t from m (w.seconds j t)) refl refl
+      (each_told image plan (at_core w j t (receive_row (core_plan_of plan) t from m (w.seconds j t))).world j t (core_plan_of plan) t from (receive (w.seconds j t).vote from m).1)
 
   tree_root : (entries : List Entry) (root : List ℕ) → candidate_of image entries ≡ root → root ≢ zero_imprint → (tree_of image (items_of entries)).imprint ≡ root
   tree_root [] root same real = absurd (real (sym same))

@@ -10,6 +10,7 @@ use Rattle.ksi_aggtree.specs.Entries.{items_of}
 use Rattle.ksi_synod.specs.declared.messages.SynodMessage.{SynodMessage}
 use Rattle.ksi_synod.specs.declared.messages.SynodMessage.TheVariants as message
 use Rattle.ksi_synod.specs.Voters.{cores_below}
+use Rattle.ksi_synod.specs.CorePlans.{CorePlanState, voters_of}
 use Rattle.ksi_signature.specs.declared.above.Above.{Above}
 use Rattle.ksi_corenode.specs.declared.step.Send as core_step
 use Rattle.ksi_corenode.specs.declared.step.Send.TheVariants as core_sends
@@ -135,13 +136,13 @@ module _ (image : List ℕ → List ℕ) (plan : PlanState) where
   each_to w j t m [] = tt
   each_to w j t m (k ∷ ks) = (tt, each_to w j t m ks)
 
-  pub each_told : (w : WorldState) (j t members second from : ℕ) (o : Option SynodMessage) → EachCoreSo w j t (turns.told members second from o)
-  each_told w j t members second from None = tt
-  each_told w j t members second from (Some (message.LastVote l)) = (tt, tt)
-  each_told w j t members second from (Some (message.Voted b)) = (tt, tt)
-  each_told w j t members second from (Some (message.NextBallot b)) = each_to w j t (message.NextBallot b) (cores_below members)
-  each_told w j t members second from (Some (message.BeginBallot b d)) = each_to w j t (message.BeginBallot b d) (cores_below members)
-  each_told w j t members second from (Some (message.Success d)) = each_to w j t (message.Success d) (cores_below members)
+  pub each_told : (w : WorldState) (j t : ℕ) (core_plan : CorePlanState) (second from : ℕ) (o : Option SynodMessage) → EachCoreSo w j t (turns.told core_plan second from o)
+  each_told w j t core_plan second from None = tt
+  each_told w j t core_plan second from (Some (message.LastVote l)) = (tt, tt)
+  each_told w j t core_plan second from (Some (message.Voted b)) = (tt, tt)
+  each_told w j t core_plan second from (Some (message.NextBallot b)) = each_to w j t (message.NextBallot b) (voters_of core_plan second)
+  each_told w j t core_plan second from (Some (message.BeginBallot b d)) = each_to w j t (message.BeginBallot b d) (voters_of core_plan second)
+  each_told w j t core_plan second from (Some (message.Success d)) = each_to w j t (message.Success d) (cores_below core_plan.cores)
 
   -- where each item of an aggregator from place k on is answered, so is what is sent
   abbrev pub AreAnswered : WorldState → (t : ℕ) (above : ℕ → Above) (k : ℕ) → List Entry → Type 0

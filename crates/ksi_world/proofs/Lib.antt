@@ -1,3 +1,4 @@
+pub mod Voters
 pub mod Turning
 pub mod RoundTurning
 pub mod Small

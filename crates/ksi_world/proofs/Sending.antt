@@ -1,4 +1,5 @@
 -- What is sent, and the items that came in, are as they always are.
+use Rattle.ksi_world.specs.CorePlanning.{core_plan_of}
 use Rattle.std.proofs.Common.{◌≡◌, ℕ, zero, suc, ◌+◌, ◌-◌, ◌*◌, ◌<◌, ◌≤◌, false, cond, eqb, List, [], ◌∷◌, ◌++◌, length, refl, ap, subst, arith, ◌⊎◌, inl, inr, Option, Some, None, length-append}
 use Rattle.std.specs.Prelude.{slice_get, map}
 use Rattle.std.proofs.lemmas.Bool.{cond_both, cond-false, eqb-true, eqb-false, or_parts}
@@ -12,6 +13,7 @@ use Rattle.ksi_aggtree.specs.Entries.{items_of, is_from, has_from, is_full}
 use Rattle.ksi_synod.specs.declared.messages.SynodMessage.{SynodMessage}
 use Rattle.ksi_synod.specs.declared.messages.SynodMessage.TheVariants as message
 use Rattle.ksi_synod.specs.Voters.{cores_below}
+use Rattle.ksi_synod.specs.CorePlans.{IsCorePlan, voters_of}
 use Rattle.ksi_synod.specs.Rows.{OfBallot, OfReply}
 use Rattle.ksi_signature.specs.declared.above.Above.{Above}
 use Rattle.ksi_corenode.specs.declared.step.Send as core_step
@@ -29,6 +31,7 @@ use Rattle.ksi_world.specs.declared.message.Message.{Message}
 use Rattle.ksi_schedule.specs.Plans.{PlanState, IsPlan, InRange}
 use Rattle.ksi_world.specs.Histories.{core_message, round_message}
 use Rattle.ksi_world.specs.Sound.{depth_of, IsLow, IsPost, IsOf, AreOf, count_from, IsRoundAt}
+use Rattle.ksi_world.proofs.Voters.{AreCoresOf, below_of, voters_of-there}
 use Rattle.ksi_world.proofs.Depths.{depth_most, depth_child}
 
 -- LISTS
@@ -71,21 +74,17 @@ module _ (plan : PlanState) where
   fine_both j [] ys h k = k
   fine_both j (x ∷ xs) ys h k = (h.0, fine_both j xs ys h.1 k)
 
-  pub each_both : (j : ℕ) (m : SynodMessage) (xs ys : List ℕ) → FineSends j (to_each xs m) → FineSends j (to_each ys m) → FineSends j (to_each (xs ++ ys) m)
-  each_both j m [] ys h k = k
-  each_both j m (x ∷ xs) ys h k = (h.0, each_both j m xs ys h.1 k)
+  pub fine_each : (j : ℕ) (to : List ℕ) (m : SynodMessage) → AreCoresOf plan.cores to → OfBallot m → FineSends j (to_each to m)
+  fine_each j [] m are is = tt
+  fine_each j (core ∷ to) m are is = ((are.0, is), fine_each j to m are.1 is)
 
-  pub fine_each : (j n : ℕ) (m : SynodMessage) → n ≤ plan.cores → OfBallot m → FineSends j (to_each (cores_below n) m)
-  fine_each j zero m le is = tt
-  fine_each j (suc n) m le is = each_both j m (cores_below n) (n ∷ []) (fine_each j n m (omega arith) is) ((omega arith, is), tt)
-
-  pub fine_told : (j second from : ℕ) (o : Option SynodMessage) → from < plan.cores → OfReply o → FineSends j (turns.told plan.cores second from o)
-  fine_told j second from None lt is = tt
-  fine_told j second from (Some (message.LastVote l)) lt is = ((lt, is), tt)
-  fine_told j second from (Some (message.Voted b)) lt is = ((lt, is), tt)
-  fine_told j second from (Some (message.NextBallot b)) lt is = fine_each j plan.cores (message.NextBallot b) (omega arith) is
-  fine_told j second from (Some (message.BeginBallot b d)) lt is = fine_each j plan.cores (message.BeginBallot b d) (omega arith) is
-  fine_told j second from (Some (message.Success d)) lt is = fine_each j plan.cores (message.Success d) (omega arith) is
+  pub fine_told : IsCorePlan (core_plan_of plan) → (j second from : ℕ) (o : Option SynodMessage) → from < plan.cores → OfReply o → FineSends j (turns.told (core_plan_of plan) second from o)
+  fine_told planned j second from None lt is = tt
+  fine_told planned j second from (Some (message.LastVote l)) lt is = ((lt, is), tt)
+  fine_told planned j second from (Some (message.Voted b)) lt is = ((lt, is), tt)
+  fine_told planned j second from (Some (message.NextBallot b)) lt is = fine_each j (voters_of (core_plan_of plan) second) (message.NextBallot b) (voters_of-there (core_plan_of plan) second planned) is
+  fine_told planned j second from (Some (message.BeginBallot b d)) lt is = fine_each j (voters_of (core_plan_of plan) second) (message.BeginBallot b d) (voters_of-there (core_plan_of plan) second planned) is
+  fine_told planned j second from (Some (message.Success d)) lt is = fine_each j (cores_below plan.cores) (message.Success d) (below_of plan.cores plan.cores (omega arith)) is
 
   pub core_posts : (j t : ℕ) (sends : List core_step.Send) → j < plan.cores → InRange plan t → FineSends j sends → ArePosts plan (map (core_message j t) sends)
   core_posts j t [] lt range fine = no_posts

@@ -1,4 +1,5 @@
 -- Whatever happens, what always holds of the world goes on to hold.
+use Rattle.ksi_world.specs.CorePlanning.{core_plan_of}
 use Rattle.std.proofs.Common.{◌≡◌, ℕ, suc, ◌<◌, ◌≤◌, true, ◌&&◌, eqb, List, [], ◌∷◌, ◌++◌, length, refl, sym, subst, arith, is_some, Option, Some, None, length-append, lit<}
 use Rattle.std.specs.Prelude.{slice_get, map}
 use Rattle.std.proofs.lemmas.Bool.{cond_both, eqb-true, and_parts}
@@ -32,6 +33,7 @@ use Rattle.ksi_world.specs.Histories as histories
 use Rattle.ksi_world.specs.Sound.{depth_of, IsSmall, IsSent, AreOf, IsRoundAt, IsRoundState, IsSound}
 use Rattle.ksi_world.proofs.Small.{fine_receive, fine_try, fine_held, as_small}
 use Rattle.ksi_world.proofs.Depths.{core_parent, aggregator_parent}
+use Rattle.ksi_world.proofs.Voters.{core_planned}
 use Rattle.ksi_world.proofs.Sending.{TreeRises, both_posts, FineSends, fine_told, core_posts, FineOuts, round_posts, are_more, are_push, round_more, no_round, round_push, request_push, tree_low, core_responses, round_responses}
 
 module _ (image : List ℕ → List ℕ) (plan : PlanState) (is : IsPlan plan) (rises : TreeRises image) where
@@ -90,28 +92,28 @@ module _ (image : List ℕ → List ℕ) (plan : PlanState) (is : IsPlan plan) (
       cond_both (is_some s.sealed) _ _ (λ turn. IsSound plan (at_core w j t turn).world) (λ _. still_sound w j t answers.Sealed lt range sound)
       (λ _. core_sound w j t (sealed_now image s) lt range (record { small = seal_small s.vote (candidate_of image s.open_items) old.small; open_items = tt; sealed = λ entries at. let same : s.open_items ≡ entries = cc at in subst (λ es. AreOf plan (actors.Core j) (length w.requests) es) same old.open_items }) tt sound)
 
-  ballot_sound : (w : WorldState) (j t : ℕ) → j < plan.cores → InRange plan t → IsSound plan w → IsSound plan (at_core w j t (ballot_row plan.cores t j (w.seconds j t))).world
+  ballot_sound : (w : WorldState) (j t : ℕ) → j < plan.cores → InRange plan t → IsSound plan w → IsSound plan (at_core w j t (ballot_row (core_plan_of plan) t j (w.seconds j t))).world
   unfolding ballot_row
   ballot_sound w j t lt range sound =
       let s = w.seconds j t in
       let old = second_of w j t lt sound in
       let fine = fine_try s.vote old.small in
-      core_sound w j t (ballot_row plan.cores t j s) lt range (record { small = fine.0; open_items = old.open_items; sealed = old.sealed }) (fine_told plan j t j (ballot_told (try_ballot s.vote).1) lt fine.1) sound
+      core_sound w j t (ballot_row (core_plan_of plan) t j s) lt range (record { small = fine.0; open_items = old.open_items; sealed = old.sealed }) (fine_told plan (core_planned plan is) j t j (ballot_told (try_ballot s.vote).1) lt fine.1) sound
 
-  receive_sound : (w : WorldState) (j t from : ℕ) (m : SynodMessage) → InRange plan t → IsSent plan (actors.Core from) (actors.Core j) (contents.Synod m) → IsSound plan w → IsSound plan (at_core w j t (receive_row plan.cores t from m (w.seconds j t))).world
+  receive_sound : (w : WorldState) (j t from : ℕ) (m : SynodMessage) → InRange plan t → IsSent plan (actors.Core from) (actors.Core j) (contents.Synod m) → IsSound plan w → IsSound plan (at_core w j t (receive_row (core_plan_of plan) t from m (w.seconds j t))).world
   unfolding receive_row
   receive_sound w j t from m range sent sound =
       let s = w.seconds j t in
       let old = second_of w j t sent.1 sound in
       let fine = fine_receive s.vote old.small from m sent.2 in
-      core_sound w j t (receive_row plan.cores t from m s) sent.1 range (record { small = fine.0; open_items = old.open_items; sealed = old.sealed }) (fine_told plan j t from (receive s.vote from m).1 sent.0 fine.1) sound
+      core_sound w j t (receive_row (core_plan_of plan) t from m s) sent.1 range (record { small = fine.0; open_items = old.open_items; sealed = old.sealed }) (fine_told plan (core_planned plan is) j t from (receive s.vote from m).1 sent.0 fine.1) sound
 
-  tell_sound : (w : WorldState) (j t : ℕ) → j < plan.cores → InRange plan t → IsSound plan w → IsSound plan (at_core w j t (tell_row plan.cores t j (w.seconds j t))).world
+  tell_sound : (w : WorldState) (j t : ℕ) → j < plan.cores → InRange plan t → IsSound plan w → IsSound plan (at_core w j t (tell_row (core_plan_of plan) t j (w.seconds j t))).world
   unfolding tell_row
   tell_sound w j t lt range sound =
       let s = w.seconds j t in
       let old = second_of w j t lt sound in
-      core_sound w j t (tell_row plan.cores t j s) lt range (record { small = old.small; open_items = old.open_items; sealed = old.sealed }) (fine_told plan j t j (held_told s.vote.held) lt (fine_held s.vote.held)) sound
+      core_sound w j t (tell_row (core_plan_of plan) t j s) lt range (record { small = old.small; open_items = old.open_items; sealed = old.sealed }) (fine_told plan (core_planned plan is) j t j (held_told s.vote.held) lt (fine_held s.vote.held)) sound
 
   respond_sound : (w : WorldState) (j t : ℕ) (held : Roots) → j < plan.cores → InRange plan t → IsSound plan w → IsSound plan (at_core w j t (respond_row image held plan.start t (w.seconds j t))).world
   unfolding respond_row

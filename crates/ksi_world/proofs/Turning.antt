@@ -6,6 +6,7 @@ use Rattle.std.proofs.lemmas.List.{length-map}
 use Rattle.ksi_synod.specs.declared.messages.SynodMessage.{SynodMessage}
 use Rattle.ksi_synod.specs.declared.messages.SynodMessage.TheVariants as message
 use Rattle.ksi_synod.specs.Voters.{cores_below}
+use Rattle.ksi_synod.specs.CorePlans.{CorePlanState, IsCorePlan, voters_of}
 use Rattle.ksi_corenode.specs.declared.step.Send as core_step
 use Rattle.ksi_corenode.specs.declared.step.Send.TheVariants as core_sends
 use Rattle.ksi_signature.specs.declared.step.Step.{Step}
@@ -19,6 +20,7 @@ use Rattle.ksi_world.specs.declared.message.Message.{Message}
 use Rattle.ksi_schedule.specs.Plans.{PlanState}
 use Rattle.ksi_world.specs.Histories.{put_at, core_message, outcome_of}
 use Rattle.ksi_world.specs.Nodes.{IsCore, AreCores, CoreStep, CoresStay}
+use Rattle.ksi_world.proofs.Voters.{VotersAreFew, VotersAreThere}
 
 -- an element after one was set is that one or was there
 pub get_set : {A : Type 0} (xs : List A) (i j : ℕ) (x y : A) → slice_get (set xs i x) j ≡ Some y → ((j ≡ i) × (y ≡ x)) ⊎ ((j ≢ i) × (slice_get xs j ≡ Some y))
@@ -57,7 +59,7 @@ core_turned row j t cores wire wire' old new step outcome at is posted told = re
   at = at;
   after = refl;
   me = is.me;
-  members = is.members;
+  plan = is.plan;
   start = is.start;
   seconds = is.seconds;
   posted = posted ∙ ap (λ sends. wire ++ map (core_message j t) sends) is.sends;
@@ -80,7 +82,7 @@ core_told row j t cores wire wire' old step outcome at is posted told =
 pub core_same : (plan : PlanState) (seconds : ℕ → SecondState) (j : ℕ) (old new : CoreState) → IsSame old new → IsCore plan seconds j old → IsCore plan seconds j new
 core_same plan seconds j old new same is = record {
   me = same.me ∙ is.me;
-  members = same.members ∙ is.members;
+  core_plan = same.plan ∙ is.core_plan;
   start = same.start ∙ is.start;
   keeps = λ t. same.seconds t ∙ is.keeps t;
 }
@@ -103,25 +105,35 @@ length-cores_below (suc n) = omega (arith, length-append (cores_below n) (n ∷ 
 pub length-to_each : (n : ℕ) (m : SynodMessage) → length (to_each (cores_below n) m) ≡ n
 length-to_each n m = let f : ℕ → core_step.Send = λ core. core_sends.Synod core m in length-map (cores_below n) f ∙ length-cores_below n
 
-few_told : (n second from : ℕ) (o : Option SynodMessage) → n ≤ 9 → length (told n second from o) ≤ 9
-few_told n second from None few = omega arith
-few_told n second from (Some (message.LastVote l)) few = omega arith
-few_told n second from (Some (message.Voted b)) few = omega arith
-few_told n second from (Some (message.NextBallot b)) few = omega (arith, length-to_each n (message.NextBallot b))
-few_told n second from (Some (message.BeginBallot b d)) few = omega (arith, length-to_each n (message.BeginBallot b d))
-few_told n second from (Some (message.Success d)) few = omega (arith, length-to_each n (message.Success d))
+-- by the laws of voters
+module _ (there : VotersAreThere) (few : VotersAreFew) (core_plan : CorePlanState) (is : IsCorePlan core_plan) where
+  few_voters : (second : ℕ) (m : SynodMessage) → length (to_each (voters_of core_plan second) m) ≤ 9
+  few_voters second m =
+      let send : ℕ → core_step.Send = λ core. core_sends.Synod core m in
+      omega (arith, length-map (voters_of core_plan second) send, few core_plan.cores (voters_of core_plan second) (there core_plan second is), is.few)
 
-pub few_ballot : (n second me : ℕ) (s : SecondState) → n ≤ 9 → length (ballot_row n second me s).sends ≤ 9
-unfolding ballot_row
-few_ballot n second me s few = few_told n second me _ few
+  few_cores : (m : SynodMessage) → length (to_each (cores_below core_plan.cores) m) ≤ 9
+  few_cores m = omega (arith, length-to_each core_plan.cores m, is.few)
 
-pub few_receive : (n second from : ℕ) (m : SynodMessage) (s : SecondState) → n ≤ 9 → length (receive_row n second from m s).sends ≤ 9
-unfolding receive_row
-few_receive n second from m s few = few_told n second from _ few
+  few_told : (second from : ℕ) (o : Option SynodMessage) → length (told core_plan second from o) ≤ 9
+  few_told second from None = omega arith
+  few_told second from (Some (message.LastVote l)) = omega arith
+  few_told second from (Some (message.Voted b)) = omega arith
+  few_told second from (Some (message.NextBallot b)) = few_voters second (message.NextBallot b)
+  few_told second from (Some (message.BeginBallot b d)) = few_voters second (message.BeginBallot b d)
+  few_told second from (Some (message.Success d)) = few_cores (message.Success d)
 
-pub few_tell : (n second me : ℕ) (s : SecondState) → n ≤ 9 → length (tell_row n second me s).sends ≤ 9
-unfolding tell_row
-few_tell n second me s few = few_told n second me _ few
+  pub few_ballot : (second me : ℕ) (s : SecondState) → length (ballot_row core_plan second me s).sends ≤ 9
+  unfolding ballot_row
+  few_ballot second me s = few_told second me _
+
+  pub few_receive : (second from : ℕ) (m : SynodMessage) (s : SecondState) → length (receive_row core_plan second from m s).sends ≤ 9
+  unfolding receive_row
+  few_receive second from m s = few_told second from _
+
+  pub few_tell : (second me : ℕ) (s : SecondState) → length (tell_row core_plan second me s).sends ≤ 9
+  unfolding tell_row
+  few_tell second me s = few_told second me _
 
 pub none_sealed : (image : List ℕ → List ℕ) (s : SecondState) → (seal_row image s).sends ≡ []
 unfolding seal_row
@@ -139,7 +151,7 @@ cores_turned plan seconds row j t cores cores' wire wire' outcome turn step same
   many = length-set cores j step.new ∙ r.many;
   each = λ k c here. elim (get_set cores j k step.new c here) [
     | inl is ↦ subst (λ c. IsCore plan (put_at seconds j t turn.after k) k c) (sym is.1) (subst (λ k. IsCore plan (put_at seconds j t turn.after k) k step.new) (sym is.0) new_core)
-    | inr other ↦ let is = r.each k c other.1 in record { me = is.me; members = is.members; start = is.start; keeps = λ u. is.keeps u ∙ put_other seconds j t turn.after k u other.0 }
+    | inr other ↦ let is = r.each k c other.1 in record { me = is.me; core_plan = is.core_plan; start = is.start; keeps = λ u. is.keeps u ∙ put_other seconds j t turn.after k u other.0 }
   ];
 })
   where
@@ -149,7 +161,7 @@ cores_turned plan seconds row j t cores cores' wire wire' outcome turn step same
     new_core : IsCore plan (put_at seconds j t turn.after j) j step.new
     new_core = record {
       me = step.me ∙ old_core.me;
-      members = step.members ∙ old_core.members;
+      core_plan = step.plan ∙ old_core.core_plan;
       start = step.start ∙ old_core.start;
       keeps = λ u. step.seconds u ∙ ap (λ (z : Turn). cond (eqb u t) z.after (state_of step.old u)) same ∙ ap (λ s. cond (eqb u t) turn.after s) (old_core.keeps u) ∙ put_here seconds j t turn.after u;
     }

@@ -1,4 +1,5 @@
 -- Whatever happens, what always holds of the vote on each second goes on to hold.
+use Rattle.ksi_world.specs.CorePlanning.{core_plan_of}
 use Rattle.std.proofs.Common.{◌≡◌, ℕ, ◌<◌, ◌≤◌, false, cond, eqb, is_some, List, [], ◌∷◌, ◌++◌, length, refl, sym, ap, subst, ◌∙◌, arith, inl, inr, Option, Some, None, length-append}
 use Rattle.std.specs.Prelude.{slice_get, option_map}
 use Rattle.std.proofs.lemmas.Bool.{cond_both, cond-true, cond-false, eq-eqb, eqb-false, ne_eqb}
@@ -71,28 +72,28 @@ module _ (image : List ℕ → List ℕ) (plan : PlanState) where
           told = λ d is. inl (sym (seal_holds s.vote (candidate_of image s.open_items)) ∙ is);
         }))
 
-    ballot_voted : (j u : ℕ) → j < 16 → Voted (at_core w j u (ballot_row plan.cores u j (w.seconds j u))).world
+    ballot_voted : (j u : ℕ) → j < 16 → Voted (at_core w j u (ballot_row (core_plan_of plan) u j (w.seconds j u))).world
     unfolding ballot_row
     ballot_voted j u lt =
         let s = w.seconds j u in
         let old = voted.sealed j u in
         let quiet = try_leaves s.vote in
-        turn_voted image plan w.seconds w.wire voted j u (ballot_row plan.cores u j s) ((try_ballot s.vote).0, ballot_told (try_ballot s.vote).1) (record {
+        turn_voted image plan w.seconds w.wire voted j u (ballot_row (core_plan_of plan) u j s) ((try_ballot s.vote).0, ballot_told (try_ballot s.vote).1) (record {
           state = refl;
-          only = only_told plan.cores u j (ballot_told (try_ballot s.vote).1);
+          only = only_told (core_plan_of plan) u j (ballot_told (try_ballot s.vote).1);
           moves = λ said heard. inl (tries lt refl);
           sealed = record { candidate = quiet.candidate ∙ old.candidate; mine = old.mine; few = old.few; open_few = old.open_few };
           told = λ d is. inl (sym quiet.held ∙ is);
         })
 
-    tell_voted : (j u : ℕ) → Voted (at_core w j u (tell_row plan.cores u j (w.seconds j u))).world
+    tell_voted : (j u : ℕ) → Voted (at_core w j u (tell_row (core_plan_of plan) u j (w.seconds j u))).world
     unfolding tell_row
     tell_voted j u =
         let s = w.seconds j u in
         let old = voted.sealed j u in
-        turn_voted image plan w.seconds w.wire voted j u (tell_row plan.cores u j s) (s.vote, held_told s.vote.held) (record {
+        turn_voted image plan w.seconds w.wire voted j u (tell_row (core_plan_of plan) u j s) (s.vote, held_told s.vote.held) (record {
           state = refl;
-          only = only_told plan.cores u j (held_told s.vote.held);
+          only = only_told (core_plan_of plan) u j (held_told s.vote.held);
           moves = λ said heard. inl (tells refl);
           sealed = record { candidate = old.candidate; mine = old.mine; few = old.few; open_few = old.open_few };
           told = λ d is. inl is;
@@ -116,15 +117,15 @@ module _ (image : List ℕ → List ℕ) (plan : PlanState) where
 
     -- a message of the vote that is in the wire
     receive_voted : (j u from : ℕ) (m : SynodMessage) (number : ℕ) (x : Message) → slice_get w.wire number ≡ Some x → x.second ≡ u → x.sender ≡ actors.Core from → x.content ≡ contents.Synod m →
-        Voted (at_core w j u (receive_row plan.cores u from m (w.seconds j u))).world
+        Voted (at_core w j u (receive_row (core_plan_of plan) u from m (w.seconds j u))).world
     unfolding receive_row
     receive_voted j u from m number x at second sender content =
         let s = w.seconds j u in
         let old = voted.sealed j u in
         let leaves = receive_leaves s.vote from m in
-        turn_voted image plan w.seconds w.wire voted j u (receive_row plan.cores u from m s) (receive s.vote from m) (record {
+        turn_voted image plan w.seconds w.wire voted j u (receive_row (core_plan_of plan) u from m s) (receive s.vote from m) (record {
           state = refl;
-          only = only_told plan.cores u from (receive s.vote from m).1;
+          only = only_told (core_plan_of plan) u from (receive s.vote from m).1;
           moves = λ said heard. inl (takes from m (heard number x at second from sender m content) refl);
           sealed = record { candidate = leaves.candidate ∙ old.candidate; mine = old.mine; few = old.few; open_few = old.open_few };
           told = λ d is. elim (leaves.held d is) [

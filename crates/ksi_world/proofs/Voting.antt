@@ -1,4 +1,5 @@
 -- What always holds of the vote on each second, whatever happens.
+use Rattle.ksi_world.specs.CorePlanning.{core_plan_of}
 use Rattle.std.proofs.Common.{◌≡◌, ◌≢◌, ℕ, zero, suc, ◌<◌, ◌≤◌, ◌&&◌, eqb, List, [], ◌∷◌, ◌++◌, length, refl, sym, ap, subst, ◌∙◌, ◌⊎◌, inl, inr, Option, Some, None}
 use Rattle.std.specs.Prelude.{slice_get, map, option_map}
 use Rattle.std.proofs.lemmas.Bool.{cond_both, cond-true, cases_eq, eq-eqb, eqb-true, and_parts}
@@ -9,13 +10,14 @@ use Rattle.ksi_aggtree.specs.Entries.{candidate_of}
 use Rattle.ksi_synod.specs.declared.messages.SynodMessage.{SynodMessage}
 use Rattle.ksi_synod.specs.declared.messages.SynodMessage.TheVariants as message
 use Rattle.ksi_synod.specs.Voters.{cores_below}
+use Rattle.ksi_synod.specs.CorePlans.{CorePlanState, voters_of}
 use Rattle.ksi_synod.specs.VoteState.{VoteState}
 use Rattle.ksi_synod.specs.Reached.{Said, says, Has, here, there, more, IsStep, Reached, step}
 use Rattle.ksi_signature.specs.declared.above.Above.{Above}
 use Rattle.ksi_signature.specs.declared.answer.Answer.{Answer}
 use Rattle.ksi_corenode.specs.declared.step.Send as core_step
 use Rattle.ksi_corenode.specs.declared.step.Send.TheVariants as core_sends
-use Rattle.ksi_corenode.specs.SecondState.{SecondState, voters_of}
+use Rattle.ksi_corenode.specs.SecondState.{SecondState}
 use Rattle.ksi_corenode.specs.Turns.{Turn, still, to_each}
 use Rattle.ksi_corenode.specs.Turns as turns
 use Rattle.ksi_corenode.specs.Rows.{responses_from, response_to}
@@ -57,13 +59,13 @@ only_each : (m : SynodMessage) (to : List ℕ) → Only (to_each to m) (Some m)
 only_each m [] = tt
 only_each m (k ∷ ks) = (refl, only_each m ks)
 
-pub only_told : (members second from : ℕ) (o : Option SynodMessage) → Only (turns.told members second from o) o
-only_told members second from None = tt
-only_told members second from (Some (message.LastVote l)) = (refl, tt)
-only_told members second from (Some (message.Voted b)) = (refl, tt)
-only_told members second from (Some (message.NextBallot b)) = only_each (message.NextBallot b) (cores_below members)
-only_told members second from (Some (message.BeginBallot b d)) = only_each (message.BeginBallot b d) (cores_below members)
-only_told members second from (Some (message.Success d)) = only_each (message.Success d) (cores_below members)
+pub only_told : (core_plan : CorePlanState) (second from : ℕ) (o : Option SynodMessage) → Only (turns.told core_plan second from o) o
+only_told core_plan second from None = tt
+only_told core_plan second from (Some (message.LastVote l)) = (refl, tt)
+only_told core_plan second from (Some (message.Voted b)) = (refl, tt)
+only_told core_plan second from (Some (message.NextBallot b)) = only_each (message.NextBallot b) (voters_of core_plan second)
+only_told core_plan second from (Some (message.BeginBallot b d)) = only_each (message.BeginBallot b d) (voters_of core_plan second)
+only_told core_plan second from (Some (message.Success d)) = only_each (message.Success d) (cores_below core_plan.cores)
 
 pub only_responses : (above : ℕ → Above) (k : ℕ) (entries : List Entry) (o : Option SynodMessage) → Only (responses_from above k entries) o
 only_responses above k [] o = tt
@@ -132,7 +134,7 @@ module _ (image : List ℕ → List ℕ) (plan : PlanState) where
   -- the vote on a second came about by steps
   pub record IsVote (seconds : Seconds) (wire : List Message) (t : ℕ) : Type 0 where
     pub said : List Said
-    pub reached : Reached (voters_of plan.cores t) (votes_at seconds t) said
+    pub reached : Reached (voters_of (core_plan_of plan) t) (votes_at seconds t) said
     pub heard : Heard wire t said
 
   -- a core of the plan has a candidate where it sealed items, and it is theirs
@@ -180,12 +182,12 @@ module _ (image : List ℕ → List ℕ) (plan : PlanState) where
       mine_here : votes_at seconds' u j ≡ r.0
       mine_here = ap (λ (s : SecondState). s.vote) (put_same seconds j u turn.after) ∙ move.state
 
-      reached_here : Reached (voters_of plan.cores u) (votes_at seconds' u) (more r.1 j (voted.vote u).said)
+      reached_here : Reached (voters_of (core_plan_of plan) u) (votes_at seconds' u) (more r.1 j (voted.vote u).said)
       reached_here = elim (move.moves (voted.vote u).said (voted.vote u).heard) [
         | inl s ↦ step j (voted.vote u).reached s others_here mine_here
         | inr quiet ↦
-            subst (λ o. Reached (voters_of plan.cores u) (votes_at seconds' u) (more o j (voted.vote u).said)) (sym (ap (λ (z : VoteState × Option SynodMessage). z.1) quiet))
-            (subst (λ (states : ℕ → VoteState). Reached (voters_of plan.cores u) states (voted.vote u).said) (same_function (votes_at seconds u) (votes_at seconds' u) (same quiet)) (voted.vote u).reached)
+            subst (λ o. Reached (voters_of (core_plan_of plan) u) (votes_at seconds' u) (more o j (voted.vote u).said)) (sym (ap (λ (z : VoteState × Option SynodMessage). z.1) quiet))
+            (subst (λ (states : ℕ → VoteState). Reached (voters_of (core_plan_of plan) u) states (voted.vote u).said) (same_function (votes_at seconds u) (votes_at seconds' u) (same quiet)) (voted.vote u).reached)
       ]
         where
           same : r ≡ ((seconds j u).vote, None) → (k : ℕ) → votes_at seconds u k ≡ votes_at seconds' u k
@@ -197,7 +199,7 @@ module _ (image : List ℕ → List ℕ) (plan : PlanState) where
       vote_there : (t : ℕ) → (t ≡ u → ⊥) → IsVote seconds' wire' t
       vote_there t other = record {
         said = (voted.vote t).said;
-        reached = subst (λ (states : ℕ → VoteState). Reached (voters_of plan.cores t) states (voted.vote t).said)
+        reached = subst (λ (states : ℕ → VoteState). Reached (voters_of (core_plan_of plan) t) states (voted.vote t).said)
             (same_function (votes_at seconds t) (votes_at seconds' t) (λ k. ap (λ (s : SecondState). s.vote) (sym (put_elsewhere seconds j u turn.after k t other)))) (voted.vote t).reached;
         heard = λ k x at second from sender m content. elim (get_in_either wire (map (core_message j u) turn.sends) k x at) [
           | inl old ↦ (voted.vote t).heard k x old second from sender m content

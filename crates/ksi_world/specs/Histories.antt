@@ -1,4 +1,5 @@
 -- Histories: what every actor keeps, and what was ever sent, after any list of events.
+use Rattle.ksi_world.specs.CorePlanning.{core_plan_of}
 use Rattle.std.specs.Prelude.{ℕ, ◌&&◌, ◌==◌, nat_lt, if◌then◌else◌, List, [], ◌∷◌, ◌++◌, length, map, slice_get, Option, Some, None}
 use Rattle.ksi_signature.specs.declared.answer.Answer.{Answer}
 use Rattle.ksi_signature.specs.declared.answer.Answer.TheVariants as answers
@@ -124,12 +125,12 @@ aggregator_restarts w aggregator = record {
 
 -- the world before anything happened
 unfoldable pub first_world : PlanState → WorldState
-first_world plan = record { seconds = λ j t. fresh_second j plan.cores t; rounds = λ k t. fresh_round; wire = []; requests = []; published = [] }
+first_world plan = record { seconds = λ j t. fresh_second j (core_plan_of plan) t; rounds = λ k t. fresh_round; wire = []; requests = []; published = [] }
 
 module _ (image : List ℕ → List ℕ) (plan : PlanState) where
   -- A MESSAGE IS TAKEN, by its addressee and what it is
   abbrev pub taken : WorldState → (sender addressee : Actor) (second : ℕ) → Content → Happening
-  taken w (actors.Core from) (actors.Core j) t (contents.Synod m) = at_core w j t (receive_row plan.cores t from m (w.seconds j t))
+  taken w (actors.Core from) (actors.Core j) t (contents.Synod m) = at_core w j t (receive_row (core_plan_of plan) t from m (w.seconds j t))
   taken w (actors.Aggregator from) (actors.Core j) t (contents.Submission item) = at_core w j t (submission_row from item (w.seconds j t))
   taken w (actors.Aggregator from) (actors.Aggregator k) t (contents.Submission item) = at_round plan w k t (round_submission from item (w.rounds k t))
   taken w sender (actors.Aggregator k) t (contents.Response above) = at_round plan w k t (round_response image above (w.rounds k t))
@@ -144,9 +145,9 @@ module _ (image : List ℕ → List ℕ) (plan : PlanState) where
   happens w (events.Request k t imprint) = request_happens plan w k t imprint
   happens w (events.Close k t) = at_round plan w k t (round_close image (w.rounds k t))
   happens w (events.Seal j t) = at_core w j t (seal_row image (w.seconds j t))
-  happens w (events.Ballot j t) = at_core w j t (ballot_row plan.cores t j (w.seconds j t))
+  happens w (events.Ballot j t) = at_core w j t (ballot_row (core_plan_of plan) t j (w.seconds j t))
   happens w (events.Deliver number) = delivered w (slice_get w.wire number)
-  happens w (events.Tell j t) = at_core w j t (tell_row plan.cores t j (w.seconds j t))
+  happens w (events.Tell j t) = at_core w j t (tell_row (core_plan_of plan) t j (w.seconds j t))
   happens w (events.Respond j t) = at_core w j t (respond_row image (held_in w j) plan.start t (w.seconds j t))
   happens w (events.Publish j p) = publish_happens w p (publish_answer image (held_in w j) plan.start p)
   happens w (events.RestartCore j) = core_restarts w j

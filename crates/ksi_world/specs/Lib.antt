@@ -1,3 +1,4 @@
+pub mod CorePlanning
 pub mod Histories
 pub mod Records
 pub mod Sound

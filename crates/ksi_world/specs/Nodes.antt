@@ -1,4 +1,5 @@
 -- What the nodes and the wire of a world are, and what one turn makes of them.
+use Rattle.ksi_world.specs.CorePlanning.{core_plan_of}
 use Rattle.std.specs.Prelude.{◌≡◌, ℕ, ◌≤◌, ◌==◌, if◌then◌else◌, List, ◌++◌, length, map, slice_get, slice_set, Some}
 use Rattle.ksi_corenode.specs.SecondState.{SecondState}
 use Rattle.ksi_corenode.specs.Turns.{Turn}
@@ -31,7 +32,7 @@ pub record NodesState : Type 0 where
 -- core j of the plan, which keeps this for each second
 pub record IsCore (plan : PlanState) (seconds : ℕ → SecondState) (j : ℕ) (core : CoreState) : Type 0 where
   pub me : core.me ≡ j
-  pub members : core.members ≡ plan.cores
+  pub core_plan : core.plan ≡ core_plan_of plan
   pub start : core.start ≡ plan.start
   pub keeps : (t : ℕ) → state_of core t ≡ seconds t
 
@@ -65,7 +66,7 @@ pub record CoreStep (row : CoreState → Turn) (j second : ℕ) (cores cores' : 
   pub at : slice_get cores j ≡ Some old
   pub after : cores' ≡ slice_set cores j new
   pub me : new.me ≡ old.me
-  pub members : new.members ≡ old.members
+  pub plan : new.plan ≡ old.plan
   pub start : new.start ≡ old.start
   pub seconds : (t : ℕ) → state_of new t ≡ (if t == second then (row old).after else state_of old t)
   pub posted : wire' ≡ wire ++ map (core_message j second) (row old).sends
@@ -89,7 +90,7 @@ pub record CoreRestart (row : SecondState → SecondState) (j : ℕ) (cores core
   pub at : slice_get cores j ≡ Some old
   pub after : cores' ≡ slice_set cores j new
   pub me : new.me ≡ old.me
-  pub members : new.members ≡ old.members
+  pub plan : new.plan ≡ old.plan
   pub start : new.start ≡ old.start
   pub seconds : (t : ℕ) → state_of new t ≡ row (state_of old t)
 

@@ -1,5 +1,7 @@
 //! The turns of cores.
+ghost use Rattle.ksi_world.specs.CorePlanning.{core_plan_of};
 ghost use Rattle.std.specs.Prelude.{◌≡◌, ◌≤◌, ◌<◌, ◌+◌, ◌^◌, length, slice_get, Some, IfOk, OnErr};
+ghost use Rattle.ksi_synod.specs.CorePlans.{IsCorePlan};
 ghost use Rattle.ksi_synod.specs.Rows.{OfBallot};
 ghost use Rattle.ksi_corenode.specs.Rows.{submission_row, seal_row, ballot_row, receive_row, tell_row, respond_row, publish_answer, restart_row};
 ghost use Rattle.ksi_corenode.specs.SecondState.{fresh_second};
@@ -11,19 +13,20 @@ use crate::message::Message;
 use crate::outcome::Outcome;
 use crate::posting::post_core;
 use ksi_aggtree::Item;
-use ksi_corenode::{Answer, Core, NoMemory};
+use ksi_corenode::{Answer, Core, CorePlan, NoMemory};
 use ksi_imprint::Compress;
 use ksi_schedule::Plan;
-use ksi_synod::SynodMessage;
+use ksi_synod::{SynodMessage, voters_are_cores};
 use std::alloc::Global;
 
 /// The cores of a plan before anything came.
 pub(crate) fn new<C: Compress>(alloc: Global, plan: &Plan) -> Result<Vec<Core<C>>, NoMemory>
-    ensures { IfOk result (λ cores. AreCores plan.now (λ j t. fresh_second j plan.now.cores t) cores.items) }
+    ensures { IfOk result (λ cores. AreCores plan.now (λ j t. fresh_second j (core_plan_of plan.now) t) cores.items) }
 {
     let mut cores = Vec::new(alloc);
+    let core_plan = CorePlan::new(plan.cores, plan.start);
     'adding: for me in 0..plan.cores {
-        cores.push(Core::new(alloc, me, plan.cores, plan.start))?;
+        cores.push(Core::new(alloc, me, &core_plan))?;
     }
     Ok(cores)
 }
@@ -52,11 +55,12 @@ pub(crate) fn ballot<C: Compress>(
     second: u64,
 ) -> Result<Outcome, NoMemory>
     requires there { core < length cores.old.items }
-    requires few { EachCore (λ c. c.members ≤ 9) cores.old.items }
-    ensures ok { IfOk result (CoreStep (λ c. ballot_row c.members second c.me (state_of c second)) core second cores.old.items cores.new.items wire.old.items wire.new.items) }
+    requires plan { EachCore (λ c. IsCorePlan c.plan) cores.old.items }
+    ensures ok { IfOk result (CoreStep (λ c. ballot_row c.plan second c.me (state_of c second)) core second cores.old.items cores.new.items wire.old.items wire.new.items) }
     ensures cores { OnErr result (CoresStay cores.old.items cores.new.items) }
     ensures wire { OnErr result (wire.new.items ≡ wire.old.items) }
 {
+    voters_are_cores();
     wire.reserve(9)?;
     let step = cores[core as usize].ballot(second)?;
     Ok(post_core(wire, core, second, step))
@@ -72,13 +76,14 @@ pub(crate) fn receive<C: Compress>(
     message: &SynodMessage,
 ) -> Result<Outcome, NoMemory>
     requires there { core < length cores.old.items }
-    requires few { EachCore (λ c. c.members ≤ 9) cores.old.items }
+    requires plan { EachCore (λ c. IsCorePlan c.plan) cores.old.items }
     requires member { from < 9 }
     requires ballot { OfBallot message.now }
-    ensures ok { IfOk result (CoreStep (λ c. receive_row c.members second from message.now (state_of c second)) core second cores.old.items cores.new.items wire.old.items wire.new.items) }
+    ensures ok { IfOk result (CoreStep (λ c. receive_row c.plan second from message.now (state_of c second)) core second cores.old.items cores.new.items wire.old.items wire.new.items) }
     ensures cores { OnErr result (CoresStay cores.old.items cores.new.items) }
     ensures wire { OnErr result (wire.new.items ≡ wire.old.items) }
 {
+    voters_are_cores();
     wire.reserve(9)?;
     let step = cores[core as usize].receive(from, second, message)?;
     Ok(post_core(wire, core, second, step))
@@ -92,10 +97,11 @@ pub(crate) fn tell<C: Compress>(
     second: u64,
 ) -> Result<Outcome, NoMemory>
     requires there { core < length cores.now.items }
-    requires few { EachCore (λ c. c.members ≤ 9) cores.now.items }
-    ensures ok { IfOk result (CoreStep (λ c. tell_row c.members second c.me (state_of c second)) core second cores.now.items cores.now.items wire.old.items wire.new.items) }
+    requires plan { EachCore (λ c. IsCorePlan c.plan) cores.now.items }
+    ensures ok { IfOk result (CoreStep (λ c. tell_row c.plan second c.me (state_of c second)) core second cores.now.items cores.now.items wire.old.items wire.new.items) }
     ensures wire { OnErr result (wire.new.items ≡ wire.old.items) }
 {
+    voters_are_cores();
     wire.reserve(9)?;
     let step = cores[core as usize].tell(second)?;
     Ok(post_core(wire, core, second, step))

@@ -12,7 +12,7 @@ returns-clause-turn g c =
     let row = respond_row g.C.Compress.image (held_by now) now.start t (state_of now t) in
     record {
       me = refl;
-      members = refl;
+      plan = refl;
       start = refl;
       seconds = stays now t row.after (respond_after g.C.Compress.image (held_by now) now.start t (state_of now t));
       answer = c.in_ok-step.ensures.answer;

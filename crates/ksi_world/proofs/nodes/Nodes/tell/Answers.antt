@@ -1,3 +1,4 @@
+use Rattle.ksi_world.specs.CorePlanning.{core_plan_of}
 use Rattle.std.proofs.Common.{sym, subst}
 use Rattle.std.proofs.lemmas.Result.{IfOk-weaker, on_err_weaker}
 use Rattle.ksi_corenode.specs.CoreState.{state_of}
@@ -14,7 +15,7 @@ returns-clause-ok g c = IfOk-weaker c.tell.result _ _
     let fits' = subst (λ (n : NodesState). Fits plan w n) (sym c.self.view_is) fits in
     let is = fits'.cores.each c.args.core step.old step.at in
     core_fits plan w c.self.inside.cores.items c.self.inside.cores.items c.self.inside.aggregators.items c.self.inside.aggregators.items c.self.inside.wire.items c.tell.new.wire.items c.self.inside.requests.items c.self.inside.requests.items c.self.inside.published.items c.self.inside.published.items
-    fits' (λ core. tell_row core.members c.args.second core.me (state_of core c.args.second)) c.args.core c.args.second outcome (tell_row plan.cores c.args.second c.args.core (w.seconds c.args.core c.args.second)) step (tell_same plan w c.args.core step.old is c.args.second))
+    fits' (λ core. tell_row core.plan c.args.second core.me (state_of core c.args.second)) c.args.core c.args.second outcome (tell_row (core_plan_of plan) c.args.second c.args.core (w.seconds c.args.core c.args.second)) step (tell_same plan w c.args.core step.old is c.args.second))
     c.tell.ensures.ok
 
 pub returns-clause-err : goal.returns-clause-err

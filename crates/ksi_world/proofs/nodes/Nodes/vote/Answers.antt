@@ -1,3 +1,4 @@
+use Rattle.ksi_world.specs.CorePlanning.{core_plan_of}
 use Rattle.std.proofs.Common.{sym, subst}
 use Rattle.std.proofs.lemmas.Result.{IfOk-weaker, on_err_weaker}
 use Rattle.ksi_corenode.specs.CoreState.{state_of}
@@ -12,7 +13,7 @@ returns-clause-ok g c = IfOk-weaker c.receive.result _ _
     let fits' = subst (λ (n : NodesState). Fits plan w n) (sym c.self.view_is) fits in
     let is = fits'.cores.each c.args.to step.old step.at in
     core_fits plan w c.self.inside.cores.items c.receive.new.cores.items c.self.inside.aggregators.items c.self.inside.aggregators.items c.self.inside.wire.items c.receive.new.wire.items c.self.inside.requests.items c.self.inside.requests.items c.self.inside.published.items c.self.inside.published.items
-    fits' (λ core. receive_row core.members c.args.second c.args.from c.args.vote.now (state_of core c.args.second)) c.args.to c.args.second outcome (receive_row plan.cores c.args.second c.args.from c.args.vote.now (w.seconds c.args.to c.args.second)) step (receive_same plan w c.args.to step.old is c.args.second c.args.from c.args.vote.now))
+    fits' (λ core. receive_row core.plan c.args.second c.args.from c.args.vote.now (state_of core c.args.second)) c.args.to c.args.second outcome (receive_row (core_plan_of plan) c.args.second c.args.from c.args.vote.now (w.seconds c.args.to c.args.second)) step (receive_same plan w c.args.to step.old is c.args.second c.args.from c.args.vote.now))
     c.receive.ensures.ok
 
 pub returns-clause-err : goal.returns-clause-err

@@ -5,7 +5,7 @@ use Rattle.ksi_synod.specs.declared.messages.SynodMessage.{SynodMessage}
 use Rattle.ksi_corenode.specs.declared.step.Send.{Send}
 use Rattle.ksi_corenode.specs.declared.step.Send.TheVariants as sends
 use Rattle.ksi_corenode.specs.Turns.{to_each}
-use Rattle.ksi_corenode.proofs.sending.push_each.Goals as goal
+use Rattle.ksi_corenode.proofs.sending.push_all.Goals as goal
 
 to_one_more : (n : ℕ) (m : SynodMessage) → to_each (cores_below (n + 1)) m ≡ to_each (cores_below n) m ++ sends.Synod n m ∷ []
 to_one_more n m = rw add-one (map_push (λ core. sends.Synod core m) (cores_below n) n)

@@ -2,7 +2,7 @@ use Rattle.std.proofs.Common.{◌≡◌, ◌≤◌, ◌+◌, ◌++◌, vec_len}
 use Rattle.std.specs.Prelude.{vec_capacity}
 use Rattle.ksi_synod.specs.Voters.{cores_below}
 use Rattle.ksi_corenode.specs.Turns.{to_each}
-use Rattle.ksi_corenode.proofs.sending.push_each.Given as goal
+use Rattle.ksi_corenode.proofs.sending.push_all.Given as goal
 
 abbrev pub invariant-loop-core : goal.invariant-loop-core
 invariant-loop-core l = record {
