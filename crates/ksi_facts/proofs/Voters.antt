@@ -17,7 +17,7 @@ pub record IsPlanned (plan : PlanState) : Type 0 where
   pub voters : (t : ℕ) → AreVoters plan.cores (voters_of (core_plan_of plan) t)
 
 pub planned : VotersAreThere → (plan : PlanState) → IsPlan plan → IsPlanned plan
-planned there plan is = let core_plan : IsCorePlan (core_plan_of plan) = record { some = is.some; few = is.few; early = is.early; many = omega arith; rising = tt; pairs = tt } in record { core_plan = core_plan; voters = λ t. there (core_plan_of plan) t core_plan }
+planned there plan is = record { core_plan = is.core_plan; voters = λ t. there (core_plan_of plan) t is.core_plan }
 
 -- who votes is below a number that all voters are below
 pub below_is : (n : ℕ) (voters : List ℕ) (y : ℕ) → AllByRecursion (λ core. core < n) voters → is_voter voters y ≡ true → y < n

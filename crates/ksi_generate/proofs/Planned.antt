@@ -26,4 +26,4 @@ reach (suc (suc (suc (suc (suc zero))))) lt = omega arith
 reach (suc (suc (suc (suc (suc (suc k)))))) lt = absurd (omega (arith, lt))
 
 pub is_plan : IsPlan header
-is_plan = record { some = omega arith; few = omega arith; early = omega arith; many = omega arith; parents = parents_are; low = reach }
+is_plan = record { core_plan = record { some = omega arith; few = omega arith; early = omega arith; many = omega arith; rising = tt; pairs = tt }; many = omega arith; parents = parents_are; low = reach }

@@ -19,7 +19,7 @@ abbrev pub parents : List Actor
 parents = actors.Core 0 ∷ actors.Core 1 ∷ actors.Core 2 ∷ actors.Aggregator 0 ∷ actors.Aggregator 1 ∷ actors.Aggregator 3 ∷ []
 
 abbrev pub header : PlanState
-header = record { cores = 3; start = 1700000000; parents = parents }
+header = record { cores = 3; start = 1700000000; voters = []; parents = parents }
 
 -- ---- deliveries
 

@@ -3,6 +3,7 @@ ghost use Rattle.ksi_generate.specs.Generate.{header};
 
 use ksi_imprint::NoMemory;
 use ksi_schedule::{Actor, Parents, Plan};
+use ksi_synod::CorePlan;
 use std::alloc::Global;
 
 /// The first second.
@@ -32,8 +33,7 @@ fn planned(parents: Parents) -> Plan
     ensures { result ≡ header }
 {
     Plan {
-        cores: 3,
-        start: START,
+        core_plan: CorePlan::new(3, START),
         parents,
     }
 }

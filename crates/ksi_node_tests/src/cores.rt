@@ -34,7 +34,7 @@ fn told(step: &Result<Step, NoMemory>) -> Option<(Answer, usize)> {
 }
 
 /// The step is this answer and sends nothing.
-fn only(rt: &impl Abort, step: Result<Step, NoMemory>, answer: Answer) {
+pub(crate) fn only(rt: &impl Abort, step: Result<Step, NoMemory>, answer: Answer) {
     same(rt, "the answer", told(&step), Some((answer, 0)));
 }
 
@@ -53,14 +53,19 @@ fn are_messages(rt: &impl Abort, step: &Step, cores: &[u8], sent: &SynodMessage)
 }
 
 /// The step is done and sends the message to these cores alone.
-fn sends(rt: &impl Abort, step: Result<Step, NoMemory>, cores: &[u8], sent: &SynodMessage) {
+pub(crate) fn sends(
+    rt: &impl Abort,
+    step: Result<Step, NoMemory>,
+    cores: &[u8],
+    sent: &SynodMessage,
+) {
     same(rt, "sends", told(&step), Some((Answer::Done, cores.len())));
     if let Ok(step) = step {
         are_messages(rt, &step, cores, sent);
     }
 }
 
-fn last_vote(ballot: u64, vote: Option<Vote>) -> SynodMessage
+pub(crate) fn last_vote(ballot: u64, vote: Option<Vote>) -> SynodMessage
     requires { IsBallot ballot }
     ensures { OfBallot result }
 {

@@ -16,6 +16,8 @@ mod same;
 #[cfg(test)]
 mod settled;
 #[cfg(test)]
+mod voters;
+#[cfg(test)]
 mod votes;
 #[cfg(test)]
 mod worlds;

@@ -21,7 +21,7 @@ const THREE: &str =
     "ksi-schedule 1\ncores 3\nstart 1700000000\naggregator 0 parent c0\naggregator 1 parent a0\n";
 
 /// No event yet, of a plan of one core or three, and of two aggregators: 0 submits to core 0, and 1 to aggregator 0.
-fn world(alloc: Global, text: &str) -> Result<World<Sha>, Fail> {
+pub(crate) fn world(alloc: Global, text: &str) -> Result<World<Sha>, Fail> {
     match read_schedule(alloc, text.as_bytes()) {
         Ok(schedule) => Ok(World::new(alloc, schedule.plan())?),
         Err(_) => Err(Fail::from("no schedule")),
@@ -31,16 +31,16 @@ fn world(alloc: Global, text: &str) -> Result<World<Sha>, Fail> {
 fn is_second(plan: &Plan, second: u64) -> bool
     ensures { IsTrue result → InRange plan.now second }
 {
-    if second < plan.start {
+    if second < plan.start() {
         return false;
     }
-    second - plan.start < 16777216
+    second - plan.start() < 16777216
 }
 
 fn of_core(world: &World<Sha>, core: u8, second: u64) -> bool
     ensures { IsTrue result → (core < world.now.plan.cores) × InRange world.now.plan second }
 {
-    if core >= world.plan().cores {
+    if core >= world.plan().cores() {
         return false;
     }
     is_second(world.plan(), second)
@@ -68,7 +68,7 @@ fn is_event(world: &World<Sha>, event: &Event) -> bool
         Event::Tell(j, t) => of_core(world, j, t),
         Event::Respond(j, t) => of_core(world, j, t),
         Event::Publish(j, t) => of_core(world, j, t),
-        Event::RestartCore(j) => j < world.plan().cores,
+        Event::RestartCore(j) => j < world.plan().cores(),
         Event::RestartAggregator(k) => (k as usize) < world.plan().aggregators(),
     }
 }
@@ -90,14 +90,14 @@ fn step(rt: &impl Abort, world: &mut World<Sha>, event: Event, answer: Answer, s
 }
 
 /// The events have these answers and send so many messages each.
-fn go(rt: &impl Abort, world: &mut World<Sha>, rows: &[(Event, Answer, usize)]) {
+pub(crate) fn go(rt: &impl Abort, world: &mut World<Sha>, rows: &[(Event, Answer, usize)]) {
     'going: for (event, answer, sent) in rows {
         step(rt, world, *event, *answer, *sent);
     }
 }
 
 /// A request of the hash of these bytes.
-fn request(
+pub(crate) fn request(
     rt: &impl Abort,
     world: &mut World<Sha>,
     aggregator: u32,
@@ -144,7 +144,7 @@ fn publish(rt: &impl Abort, world: &mut World<Sha>) {
 
 /// What a core holds for the first second.
 fn held(world: &World<Sha>, core: u8) -> Option<Imprint> {
-    if core < world.plan().cores {
+    if core < world.plan().cores() {
         world.held(core, T)
     } else {
         None
@@ -153,7 +153,7 @@ fn held(world: &World<Sha>, core: u8) -> Option<Imprint> {
 
 /// The candidate of a core for the first second.
 fn candidate(world: &World<Sha>, core: u8) -> Option<Imprint> {
-    if core < world.plan().cores {
+    if core < world.plan().cores() {
         world.core(core).candidate(T)
     } else {
         None
@@ -161,7 +161,7 @@ fn candidate(world: &World<Sha>, core: u8) -> Option<Imprint> {
 }
 
 /// How many events, messages and requests there are.
-fn counts(rt: &impl Abort, world: &World<Sha>, want: [usize; 3]) {
+pub(crate) fn counts(rt: &impl Abort, world: &World<Sha>, want: [usize; 3]) {
     let told = [
         world.events().len(),
         world.wire().len(),
@@ -171,7 +171,7 @@ fn counts(rt: &impl Abort, world: &World<Sha>, want: [usize; 3]) {
 }
 
 /// How many bytes the issued signature of a number has.
-fn issued(world: &World<Sha>, number: u64) -> Option<usize> {
+pub(crate) fn issued(world: &World<Sha>, number: u64) -> Option<usize> {
     match world.issued(number) {
         Ok(Some(bytes)) => Some(bytes.as_slice().len()),
         _ => None,
@@ -317,7 +317,7 @@ fn deliver_again(rt: &impl Abort, world: &mut World<Sha>) {
 }
 
 /// How many seconds are kept.
-fn kept(world: &World<Sha>) -> Option<usize> {
+pub(crate) fn kept(world: &World<Sha>) -> Option<usize> {
     match world.kept() {
         Ok(kept) => Some(kept.seconds.as_slice().len()),
         Err(_) => None,

@@ -24,8 +24,9 @@ pub(crate) fn new<C: Compress>(alloc: Global, plan: &Plan) -> Result<Vec<Core<C>
     ensures { IfOk result (λ cores. AreCores plan.now (λ j t. fresh_second j (core_plan_of plan.now) t) cores.items) }
 {
     let mut cores = Vec::new(alloc);
-    'adding: for me in 0..plan.cores() {
-        cores.push(Core::new(alloc, me, plan.core_plan()))?;
+    let core_plan = plan.core_plan();
+    'adding: for me in 0..core_plan.cores() {
+        cores.push(Core::new(alloc, me, core_plan))?;
     }
     Ok(cores)
 }

@@ -4,4 +4,4 @@ use Rattle.ksi_generate.proofs.Planned.{is_plan}
 use Rattle.ksi_generate.proofs.plan.planned.Goals as goal
 
 pub invariant_of-result : goal.invariant_of-result
-invariant_of-result c = subst (λ parents. IsPlan (record { cores = 3; start = 1700000000; parents = parents })) (sym c.requires) is_plan
+invariant_of-result c = subst (λ parents. IsPlan (record { cores = 3; start = 1700000000; voters = []; parents = parents })) (sym c.requires) is_plan

@@ -15,7 +15,7 @@ new-requires g c =
     let published = c.in_ok-publications.ensures.same ∙ c.published.ensures.published in
     let seconds = c.into_vec-seconds.ensures in
     record {
-      start = omega (arith, c.in_ok-kept.ensures.start, c.plan-plan.ensures.limits.early);
+      start = omega (arith, c.in_ok-kept.ensures.start, c.plan-plan.ensures.limits.core_plan.early);
       seconds = subst (AllByRecursion (IsSecond image)) (sym seconds)
           (seconds_are image kept.seconds c.in_ok-kept.ensures.early c.in_ok-kept.ensures.trees
           (each_kept HasImprints kept.seconds (subst (AllByRecursion HasImprints) (c.deref.ensures.value ∙ seconds) c.imprints_of.ensures)));

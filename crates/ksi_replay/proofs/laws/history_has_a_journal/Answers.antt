@@ -10,7 +10,7 @@ unfolding journal_of
 returns-clause-any c = λ image h images bytes is.
     let requests = c.requests_are_few.ensures image h in
     let most = is.few in
-    let early : h.plan.start ≤ 2 ^ 63 - 2 ^ 24 = is.plan.early in
+    let early : h.plan.start ≤ 2 ^ 63 - 2 ^ 24 = is.plan.core_plan.early in
     journal_is image (world_of image h)
     (record {
       few = omega (arith, requests, most);
