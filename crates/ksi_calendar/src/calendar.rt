@@ -131,6 +131,18 @@ impl<C: Compress> Calendar<C> {
         self.rows.append(root)
     }
 
+    /// Adds the roots of the next seconds in order, all of which are below 2^63.
+    ///
+    /// # Errors
+    /// `NoMemory`: all is as it was, and none is added.
+    pub fn append_all(&mut self, roots: &[Imprint]) -> Result<(), NoMemory>
+        requires { self.old.start + length self.old.roots + length roots.now ≤ 2 ^ 63 }
+        ensures added { OnOk result (self.new ≡ record self.old { roots = self.old.roots ++ roots.now }) }
+        ensures unchanged { OnErr result (self.new ≡ self.old) }
+    {
+        self.rows.append_all(roots)
+    }
+
     /// Whether `p` is at or after the start and has a root.
     fn covers(&self, p: u64) -> bool
         ensures { result ≡ is_covered self.now p }

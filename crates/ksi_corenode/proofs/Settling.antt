@@ -2,21 +2,21 @@
 use Rattle.std.proofs.Common.{◌≡◌, ℕ, ◌+◌, ◌^◌, ◌<◌, ◌≤◌, List, length, slice_index_or, refl, subst, arith, inl, inr}
 use Rattle.std.specs.Prelude.{IsSome, ◌-◌}
 use Rattle.std.proofs.lemmas.Bool.{cond_both, cases_lt, and_parts, ltb-true}
-use Rattle.ksi_corenode.specs.declared.stable.StableSecond.{StableSecond}
+use Rattle.ksi_corenode.specs.declared.stable.StablePart.{StablePart}
 use Rattle.ksi_calendar.specs.Covered.{Roots, IsFirstMissing}
-use Rattle.ksi_corenode.specs.CoreState.{IsSettled}
-use Rattle.ksi_corenode.specs.Stored.{fresh_part, is_settled, other_at, part_at}
+use Rattle.ksi_corenode.specs.Settled.{IsSettled}
+use Rattle.ksi_corenode.specs.Stored.{fresh_part, in_list, unsettled_at, part_at}
 
 -- the second behind the settled ones stands in the map, or nowhere
-pub behind : (start : ℕ) (settled : List StableSecond) (others : List (ℕ × StableSecond)) → part_at start settled others (start + length settled) ≡ other_at others (start + length settled)
+pub behind : (start : ℕ) (settled : List StablePart) (unsettled : List (ℕ × StablePart)) → part_at start settled unsettled (start + length settled) ≡ unsettled_at unsettled (start + length settled)
 unfolding part_at
-behind start settled others = cond_both (is_settled start settled (start + length settled)) (slice_index_or settled (start + length settled - start) fresh_part) (other_at others (start + length settled))
-    (λ (part : StableSecond). part ≡ other_at others (start + length settled))
+behind start settled unsettled = cond_both (in_list start settled (start + length settled)) (slice_index_or settled (start + length settled - start) fresh_part) (unsettled_at unsettled (start + length settled))
+    (λ (part : StablePart). part ≡ unsettled_at unsettled (start + length settled))
     (λ both. absurd (omega (arith, ltb-true (start + length settled) (start + length settled) (and_parts _ _ both).1)))
     (λ _. refl)
 
 -- where it is held too, all up to it are
-pub one_more : (at : ℕ → StableSecond) (start count : ℕ) → ((t : ℕ) → start ≤ t → t < start + count → IsSome (at t).vote.held) → IsSome (at (start + count)).vote.held →
+pub one_more : (at : ℕ → StablePart) (start count : ℕ) → ((t : ℕ) → start ≤ t → t < start + count → IsSome (at t).vote.held) → IsSome (at (start + count)).vote.held →
     (t : ℕ) → start ≤ t → t < start + (count + 1) → IsSome (at t).vote.held
 one_more at start count held next t from below = elim (cases_lt t (start + count)) [
   | inl before ↦ held t from before

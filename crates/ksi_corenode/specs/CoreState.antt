@@ -1,8 +1,8 @@
 -- What a contract sees of a core: each of its seconds.
-use Rattle.std.specs.Prelude.{◌≡◌, ℕ, ◌+◌, ◌^◌, ◌<◌, ◌≤◌, ◌==◌, if◌then◌else◌, List, IsSome, None}
+use Rattle.std.specs.Prelude.{◌≡◌, ℕ, ◌==◌, if◌then◌else◌, List}
 use Rattle.ksi_aggtree.specs.declared.entries.Entry.{Entry}
 use Rattle.ksi_signature.specs.declared.step.Step.{Step}
-use Rattle.ksi_corenode.specs.declared.stable.StableSecond.{StableSecond}
+use Rattle.ksi_corenode.specs.declared.stable.StablePart.{StablePart}
 use Rattle.ksi_corenode.specs.declared.step.Send.{Send}
 use Rattle.ksi_synod.specs.CorePlans.{CorePlanState, voters_of}
 use Rattle.ksi_corenode.specs.SecondState.{SecondState}
@@ -11,32 +11,27 @@ use Rattle.ksi_calendar.specs.Covered.{Roots}
 use Rattle.ksi_corenode.specs.Turns.{Turn}
 
 -- its number, the plan of the cores, the first second, and what is stored of the seconds that something came for: the
--- stable parts of the settled seconds and of the others, all sealed items, and the volatile parts
+-- stable parts of the settled seconds and of the unsettled, all sealed items, and the volatile parts
 pub record CoreState : Type 0 where
   pub me : ℕ
   pub plan : CorePlanState
   pub start : ℕ
-  pub settled : List StableSecond
-  pub others : List (ℕ × StableSecond)
+  pub settled : List StablePart
+  pub unsettled : List (ℕ × StablePart)
   pub items : List Entry
-  pub volatiles : List (ℕ × VolatileState)
+  pub volatile_parts : List (ℕ × VolatileState)
 
 -- the stable part of a second
-abbrev pub stable_at : CoreState → (second : ℕ) → StableSecond
-stable_at core second = part_at core.start core.settled core.others second
+abbrev pub stable_at : CoreState → (second : ℕ) → StablePart
+stable_at core second = part_at core.start core.settled core.unsettled second
 
 -- a second of the core; where nothing came, one before anything came
 unfoldable pub state_of : CoreState → (second : ℕ) → SecondState
-state_of core second = second_of core.me (voters_of core.plan second) core.items (stable_at core second) (volatile_at core.volatiles second)
+state_of core second = second_of core.me (voters_of core.plan second) core.items (stable_at core second) (volatile_at core.volatile_parts second)
 
 -- what the core holds for each second
 abbrev pub held_by : CoreState → Roots
 held_by core second = (state_of core second).vote.held
-
--- so many seconds from the start on are held, and the one behind them is not
-pub record IsSettled (held : Roots) (start count : ℕ) : Type 0 where
-  pub each : (t : ℕ) → start ≤ t → t < start + count → IsSome (held t)
-  pub next : start + count < 2 ^ 64 → held (start + count) ≡ None
 
 -- the core is as it was
 pub record IsSame (old new : CoreState) : Type 0 where

@@ -1,4 +1,5 @@
 pub mod SecondState
+pub mod Settled
 pub mod Stored
 pub mod Kept
 pub mod Turns

@@ -1,5 +1,5 @@
 -- What a core stores of its seconds: of each a stable part, which a restart leaves, and a volatile one.
-use Rattle.std.specs.Prelude.{◌≡◌, ℕ, ◌+◌, ◌-◌, ◌^◌, ◌<◌, ◌≤◌, Bool, nat_le, nat_lt, ◌&&◌, if◌then◌else◌, List, [], length, take, drop, slice_index_or, option_map, is_some, unwrap_or, IsSome, IfSome, Option, None}
+use Rattle.std.specs.Prelude.{◌≡◌, ℕ, ◌+◌, ◌-◌, ◌≤◌, Bool, nat_le, nat_lt, ◌&&◌, if◌then◌else◌, List, [], length, take, drop, slice_index_or, option_map, is_some, unwrap_or, IfSome, Option, None}
 use Rattle.std.specs.Ordering.{nat_cmp}
 use Rattle.std.specs.BTreeMap.{is_at}
 use Rattle.std.specs.Map.{lookup}
@@ -7,44 +7,39 @@ use Rattle.ksi_aggtree.specs.declared.entries.Entry.{Entry}
 use Rattle.ksi_aggtree.specs.Entries.{items_of, candidate_of}
 use Rattle.ksi_aggtree.specs.Rounds.{IsRound}
 use Rattle.ksi_synod.specs.VoteState.{Hand, fresh_stable, vote_of}
-use Rattle.ksi_corenode.specs.declared.stable.StableSecond.{StableSecond}
+use Rattle.ksi_corenode.specs.declared.stable.StablePart.{StablePart}
 use Rattle.ksi_corenode.specs.SecondState.{SecondState}
 
 -- THE STABLE PARTS
 
 -- before anything came
-abbrev pub fresh_part : StableSecond
+abbrev pub fresh_part : StablePart
 fresh_part = record { vote = fresh_stable; first = 0; count = 0 }
 
 -- the second stands in the list of the settled ones, which begins at the start
-abbrev pub is_settled : (start : ℕ) → (settled : List StableSecond) → ℕ → Bool
-is_settled start settled t = nat_le start t && nat_lt t (start + length settled)
+abbrev pub in_list : (start : ℕ) → (settled : List StablePart) → ℕ → Bool
+in_list start settled t = nat_le start t && nat_lt t (start + length settled)
 
--- the part of a second that stands in the map, or nowhere
-abbrev pub other_at : (others : List (ℕ × StableSecond)) → ℕ → StableSecond
-other_at others t = unwrap_or (lookup (is_at (nat_cmp t)) others) fresh_part
+-- the part of a second that stands in the map of the others, or nowhere
+abbrev pub unsettled_at : (unsettled : List (ℕ × StablePart)) → ℕ → StablePart
+unsettled_at unsettled t = unwrap_or (lookup (is_at (nat_cmp t)) unsettled) fresh_part
 
 -- the part of a second, wherever it stands
-unfoldable pub part_at : (start : ℕ) → (settled : List StableSecond) → (others : List (ℕ × StableSecond)) → ℕ → StableSecond
-part_at start settled others t = if is_settled start settled t then slice_index_or settled (t - start) fresh_part else other_at others t
+unfoldable pub part_at : (start : ℕ) → (settled : List StablePart) → (unsettled : List (ℕ × StablePart)) → ℕ → StablePart
+part_at start settled unsettled t = if in_list start settled t then slice_index_or settled (t - start) fresh_part else unsettled_at unsettled t
 
 -- there is a place for the part of a second
-unfoldable pub has_place : (start : ℕ) → (settled : List StableSecond) → (others : List (ℕ × StableSecond)) → ℕ → Bool
-has_place start settled others t = if is_settled start settled t then is_settled start settled t else is_some (lookup (is_at (nat_cmp t)) others)
+unfoldable pub has_place : (start : ℕ) → (settled : List StablePart) → (unsettled : List (ℕ × StablePart)) → ℕ → Bool
+has_place start settled unsettled t = if in_list start settled t then in_list start settled t else is_some (lookup (is_at (nat_cmp t)) unsettled)
 
 -- the start, the settled seconds from it on, and the others that something came for
-pub record StablesState : Type 0 where
+pub record StablePartsState : Type 0 where
   pub start : ℕ
-  pub settled : List StableSecond
-  pub others : List (ℕ × StableSecond)
+  pub settled : List StablePart
+  pub unsettled : List (ℕ × StablePart)
 
-abbrev pub part_of : StablesState → ℕ → StableSecond
-part_of s t = part_at s.start s.settled s.others t
-
--- all settled seconds are held, and the one behind them is not
-pub record AreSettled (start settled : ℕ) (at : ℕ → StableSecond) : Type 0 where
-  pub held : (t : ℕ) → start ≤ t → t < start + settled → IsSome (at t).vote.held
-  pub next : start + settled < 2 ^ 64 → (at (start + settled)).vote.held ≡ None
+abbrev pub part_of : StablePartsState → ℕ → StablePart
+part_of s t = part_at s.start s.settled s.unsettled t
 
 -- THE VOLATILE PARTS
 
@@ -58,8 +53,8 @@ abbrev pub fresh_volatile : VolatileState
 fresh_volatile = record { hand = None; open_items = [] }
 
 -- the part of a second, which stands in a map
-unfoldable pub volatile_at : (volatiles : List (ℕ × VolatileState)) → ℕ → VolatileState
-volatile_at volatiles t = unwrap_or (lookup (is_at (nat_cmp t)) volatiles) fresh_volatile
+unfoldable pub volatile_at : (volatile_parts : List (ℕ × VolatileState)) → ℕ → VolatileState
+volatile_at volatile_parts t = unwrap_or (lookup (is_at (nat_cmp t)) volatile_parts) fresh_volatile
 
 -- BOTH
 
@@ -68,7 +63,7 @@ abbrev pub items_from : List Entry → (first count : ℕ) → List Entry
 items_from items first count = take count (drop first items)
 
 -- a second of its parts, where these are all sealed items
-unfoldable pub second_of : (me : ℕ) → (voters : List ℕ) → (items : List Entry) → StableSecond → VolatileState → SecondState
+unfoldable pub second_of : (me : ℕ) → (voters : List ℕ) → (items : List Entry) → StablePart → VolatileState → SecondState
 second_of me voters items s v = record {
   vote = vote_of me voters s.vote v.hand;
   open_items = v.open_items;
@@ -82,5 +77,5 @@ pub record AreSealed (image : List ℕ → List ℕ) (items : List Entry) (first
   pub round : IsRound (items_of (items_from items first count))
 
 -- so it is wherever a second is sealed
-abbrev pub IsSealedWell : (List ℕ → List ℕ) → (items : List Entry) → StableSecond → Type 0
+abbrev pub IsSealedWell : (List ℕ → List ℕ) → (items : List Entry) → StablePart → Type 0
 IsSealedWell image items s = IfSome s.vote.candidate (AreSealed image items s.first s.count)

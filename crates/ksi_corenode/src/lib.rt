@@ -5,12 +5,13 @@
 //! call. Nothing is sent, stored or timed here. A contract sees each second of a core by `state_of`: its part in the vote,
 //! its open items and its sealed ones. The layer above may rely on this: each call's answer, sends and second are those of
 //! its row in `specs/Rows`, all other seconds are as they were, and each refusal comes exactly where its clause says. After
-//! `NoMemory` all is as it was. `restart` and the readers take no memory.
+//! `NoMemory` all is as it was. `publish`, `restart` and the readers take no memory.
 //!
-//! A core of years stays small: what a second keeps for good is of fixed size but for its sealed items, which stand in one
-//! list. Of the seconds from the start on that are held, up to the first that is not, these parts stand in a list, and the
-//! others in a map. Ballots in hand and open items stand in a map of their own, which `restart` empties. `settled` says how
-//! long the first list is, and `first_not_held` looks there alone.
+//! What a second keeps for good is of fixed size but for its sealed items, which stand in one list. Of the seconds from the
+//! start on that are held, up to the first that is not, these parts stand in a list, and the others in a map; the calendar
+//! grows exactly when seconds come to that list, so that `respond` and `publish` change nothing. Ballots in hand and open
+//! items stand in a map of their own, which `restart` empties. `settled` says how long the list is, and `first_not_held`
+//! looks there alone. A ballot in hand stays until a restart, also for a second that is held.
 //!
 //! ```text
 //! let mut core = Core::<Sha>::new(alloc, 0, &CorePlan::new(3, start));
@@ -21,7 +22,9 @@
 //! ```
 #![tactic(auto)]
 
+mod growing;
 mod held;
+mod lazy_calendar;
 mod node;
 mod receiving;
 mod responding;
@@ -29,10 +32,10 @@ mod seconds;
 mod sending;
 mod settled;
 mod stable;
-mod stables;
+mod stable_parts;
 mod step;
 mod volatile;
-mod volatiles;
+mod volatile_parts;
 
 pub use ksi_imprint::NoMemory;
 pub use ksi_signature::Answer;

@@ -1,4 +1,4 @@
-ghost use Rattle.std.specs.Prelude.{◌≡◌, ℕ, ◌<◌, ◌≤◌, ◌^◌, ◌↔◌, [], length, vec_capacity, IfOk, OnErr, IfSome, IsTrue, IsSome, IsNone, Some, false, option_map};
+ghost use Rattle.std.specs.Prelude.{◌≡◌, ℕ, ◌<◌, ◌≤◌, ◌↔◌, [], length, vec_capacity, IfOk, OnOk, OnErr, IfSome, IsTrue, IsSome, IsNone, Some, false, option_map};
 ghost use Rattle.std.specs.Option.{option_copied};
 ghost use Rattle.ksi_corenode.specs.SecondState.{fresh_second};
 ghost use Rattle.ksi_aggtree.specs.Rounds.{IsRound, most_items, highest_item};
@@ -7,39 +7,40 @@ ghost use Rattle.ksi_signature.specs.declared.answer.Answer.TheVariants.{Late, K
 ghost use Rattle.ksi_synod.specs.Ballots.{last_round};
 ghost use Rattle.ksi_synod.specs.Rows.{greater_round, ballot_told, OfBallot};
 ghost use Rattle.ksi_corenode.specs.Rows.{submission_row, seal_row, ballot_answer, ballot_row, receive_row, tell_row, restart_row, is_news};
-ghost use Rattle.ksi_corenode.specs.CoreState.{state_of, held_by, IsSame, IsTurn};
-ghost use Rattle.ksi_corenode.specs.Kept.{IsCalendarOf};
+ghost use Rattle.ksi_corenode.specs.CoreState.{state_of, held_by, IsSame, IsChange, IsTurn};
+ghost use Rattle.ksi_corenode.specs.Kept.{Keeps};
+ghost use Rattle.ksi_corenode.specs.Settled.{IsCalendarOf};
 
+use crate::growing::lengthen;
+use crate::lazy_calendar::LazyCalendar;
+use crate::receiving::receive;
 use crate::seconds::Seconds;
 use crate::sending::{push_all, push_told};
 use crate::step::{Send, Step};
 use ksi_aggtree::{Entry, Item};
-use ksi_calendar::Calendar;
 use ksi_imprint::{Compress, Imprint, NoMemory};
 use ksi_signature::{Answer, Sends};
-use ksi_synod::{Begun, CorePlan, SynodMessage};
+use ksi_synod::{Begun, CorePlan, Instance, SynodMessage};
 use std::alloc::Global;
 use std::marker::Model;
 
-/// A core: its seconds, and the calendar of the first of them that it holds, once that was asked for. A contract sees all
-/// but the calendar.
+/// A core: its seconds, and the calendar of those that are settled. A contract sees all but the calendar.
 #[derive(Drop)]
 pub struct Core<C: Compress> {
     alloc: Global,
     seconds: Seconds<C>,
-    calendar: Option<Calendar<C>>,
+    calendar: LazyCalendar<C>,
 }
 
 impl<C: Compress> Model for Core<C> {
-    ghost use Rattle.std.specs.Prelude.{IfSome};
     ghost use Rattle.ksi_corenode.specs.CoreState.{CoreState, held_by};
-    ghost use Rattle.ksi_corenode.specs.Kept.{IsCalendarOf};
+    ghost use Rattle.ksi_corenode.specs.Settled.{IsCalendarOf};
 
     ghost Value = { CoreState };
 
     ghost view = { λ c. c.seconds };
 
-    ghost invariant = { λ c. IfSome c.calendar (IsCalendarOf (held_by c.seconds) c.seconds.start) };
+    ghost invariant = { λ c. IsCalendarOf (held_by c.seconds) c.seconds.start c.calendar };
 }
 
 impl<C: Compress> Core<C> {
@@ -54,7 +55,7 @@ impl<C: Compress> Core<C> {
         Core {
             alloc,
             seconds: Seconds::new(alloc, me, plan),
-            calendar: None,
+            calendar: LazyCalendar::new(plan.start()),
         }
     }
 
@@ -109,24 +110,11 @@ impl<C: Compress> Core<C> {
         self.alloc
     }
 
-    /// The calendar that is kept, in the caller's hands until `keep`; a new one where none is kept.
-    pub(crate) fn take_calendar(&mut self) -> Result<Calendar<C>, NoMemory>
-        requires { self.old.start ≤ 2 ^ 63 }
-        ensures same { self.new ≡ self.old }
-        ensures kept { IfOk result (λ calendar. IsCalendarOf (held_by self.old) self.old.start calendar) }
+    /// The calendar of the settled seconds.
+    pub(crate) fn calendar(&self) -> &LazyCalendar<C>
+        ensures { IsCalendarOf (held_by self.now) self.now.start result.now }
     {
-        match self.calendar.take() {
-            Some(calendar) => Ok(calendar),
-            None => Calendar::new(self.alloc, self.seconds.start()),
-        }
-    }
-
-    /// Keeps a calendar of the first seconds that are held.
-    pub(crate) fn keep(&mut self, calendar: Calendar<C>)
-        requires { IsCalendarOf (held_by self.old) self.old.start calendar }
-        ensures { self.new ≡ self.old }
-    {
-        self.calendar = Some(calendar);
+        &self.calendar
     }
 
     /// Takes an item of an aggregator for a second; its level is at most 239.
@@ -174,7 +162,7 @@ impl<C: Compress> Core<C> {
     ///
     /// # Errors
     /// `NoMemory`: all is as it was.
-    #[tactic(auto, unfolding(crate::specs::Rows::ballot_row))]
+    #[tactic(auto, unfolding(crate::specs::Rows::ballot_row), using(crate::proofs::Keeping::try_keeps))]
     pub fn ballot(&mut self, second: u64) -> Result<Step, NoMemory>
         ensures turn { IfOk result (λ step. IsTurn self.old self.new second
             (ballot_row self.old.plan second self.old.me (state_of self.old second)) step) }
@@ -184,15 +172,10 @@ impl<C: Compress> Core<C> {
         ensures unchanged { OnErr result (IsSame self.old self.new) }
     {
         let mut sends = self.room()?;
-        let begun = self.seconds.ballot(second)?;
-        let (answer, call) = called(begun);
-        push_told(
-            self.seconds.plan(),
-            second,
-            self.seconds.me(),
-            &call,
-            &mut sends,
-        );
+        let mut vote = self.seconds.vote(second);
+        let (answer, call) = called(vote.try_ballot());
+        self.put_vote(second, &vote)?;
+        push_told(self.seconds.plan(), second, self.seconds.me(), &call, &mut sends);
         Ok(Step {
             answer,
             sends: Sends::from_vec(sends),
@@ -205,7 +188,7 @@ impl<C: Compress> Core<C> {
     ///
     /// # Errors
     /// `NoMemory`: all is as it was.
-    #[tactic(auto, unfolding(crate::specs::Rows::receive_row))]
+    #[tactic(auto, unfolding(crate::specs::Rows::receive_row), using(crate::proofs::Keeping::receive_keeps))]
     pub fn receive(
         &mut self,
         from: u8,
@@ -221,12 +204,32 @@ impl<C: Compress> Core<C> {
         ensures unchanged { OnErr result (IsSame self.old self.new) }
     {
         let mut sends = self.room()?;
-        let (answer, reply) = self.seconds.receive(second, from, message)?;
+        let mut vote = self.seconds.vote(second);
+        let (answer, reply) = receive(&mut vote, from, message);
+        self.put_vote(second, &vote)?;
         push_told(self.seconds.plan(), second, from, &reply, &mut sends);
         Ok(Step {
             answer,
             sends: Sends::from_vec(sends),
         })
+    }
+
+    /// Puts this core's part in the vote on a second, and the roots of the seconds that settle by it into the calendar.
+    fn put_vote(&mut self, second: u64, vote: &Instance) -> Result<(), NoMemory>
+        requires keeps { Keeps (state_of self.old second).vote vote.now }
+        ensures change { OnOk result (IsChange self.old self.new second (record (state_of self.old second) { vote = vote.now })) }
+        ensures unchanged { OnErr result (IsSame self.old self.new) }
+    {
+        self.seconds.make_room(second, vote.hand().is_some())?;
+        lengthen(
+            self.alloc,
+            &self.seconds,
+            &mut self.calendar,
+            second,
+            vote.held(),
+        )?;
+        self.seconds.write_vote(second, vote);
+        Ok(())
     }
 
     /// Tells what is held for a second: Success goes to all cores. The answer is Undecided with the second where nothing
@@ -235,21 +238,16 @@ impl<C: Compress> Core<C> {
     /// # Errors
     /// `NoMemory`: all is as it was.
     #[tactic(auto, unfolding(crate::specs::Rows::tell_row))]
-    pub fn tell(&mut self, second: u64) -> Result<Step, NoMemory>
-        ensures turn { IfOk result (λ step. IsTurn self.old self.new second
-            (tell_row self.old.plan second self.old.me (state_of self.old second)) step) }
-        ensures undecided { IfOk result (λ step. (step.answer ≡ Undecided second) ↔ IsNone (held_by self.old second)) }
-        ensures unchanged { OnErr result (IsSame self.old self.new) }
+    pub fn tell(&self, second: u64) -> Result<Step, NoMemory>
+        ensures turn { IfOk result (λ step. IsTurn self.now self.now second
+            (tell_row self.now.plan second self.now.me (state_of self.now second)) step) }
+        ensures undecided { IfOk result (λ step. (step.answer ≡ Undecided second) ↔ IsNone (held_by self.now second)) }
     {
         let mut sends = self.room()?;
         let answer = match self.held(second) {
             None => Answer::Undecided(second),
             Some(root) => {
-                push_all(
-                    self.seconds.plan().cores(),
-                    &SynodMessage::Success(root),
-                    &mut sends,
-                );
+                push_all(self.seconds.plan().cores(), &SynodMessage::Success(root), &mut sends);
                 Answer::Done
             }
         };

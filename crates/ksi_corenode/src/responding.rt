@@ -7,7 +7,7 @@ ghost use Rattle.ksi_aggtree.specs.Paths.{chain_of};
 ghost use Rattle.ksi_calendar.specs.Calendar.{Seconds, calendar_path};
 ghost use Rattle.ksi_signature.specs.declared.answer.Answer.TheVariants.{Unsealed, Undecided, NotMine};
 ghost use Rattle.ksi_calendar.specs.Covered.{IsFirstMissing, covered_seconds};
-ghost use Rattle.ksi_corenode.specs.Kept.{IsCalendarOf};
+ghost use Rattle.ksi_corenode.specs.Settled.{IsCalendarOf};
 ghost use Rattle.ksi_corenode.specs.Rows.{respond_row, is_mine, IsNotMine, responses_from, response_to, above_item};
 ghost use Rattle.ksi_corenode.specs.CoreState.{state_of, held_by, IsTurn};
 
@@ -29,32 +29,27 @@ impl<C: Compress> Core<C> {
     ///
     /// # Errors
     /// `NoMemory`: all is as it was.
-    pub fn respond(&mut self, second: u64) -> Result<Step, NoMemory>
-        requires from { self.old.start ≤ second }
+    #[tactic(auto, unfolding(crate::specs::Rows::respond_row))]
+    pub fn respond(&self, second: u64) -> Result<Step, NoMemory>
+        requires from { self.now.start ≤ second }
         requires below { second < 2 ^ 63 }
-        ensures turn { IfOk result (λ step. IsTurn self.old self.new second
-            (respond_row C.image (held_by self.old) self.old.start second (state_of self.old second)) step) }
-        ensures unsealed { IfOk result (λ step. (step.answer ≡ Unsealed) ↔ IsNone (state_of self.old second).sealed) }
+        ensures turn { IfOk result (λ step. IsTurn self.now self.now second
+            (respond_row C.image (held_by self.now) self.now.start second (state_of self.now second)) step) }
+        ensures unsealed { IfOk result (λ step. (step.answer ≡ Unsealed) ↔ IsNone (state_of self.now second).sealed) }
         ensures undecided { IfOk result (λ step. (t : ℕ) → (step.answer ≡ Undecided t) ↔
-            (IsSome (state_of self.old second).sealed × IsFirstMissing (held_by self.old) self.old.start second t)) }
+            (IsSome (state_of self.now second).sealed × IsFirstMissing (held_by self.now) self.now.start second t)) }
         ensures not_mine { IfOk result (λ step. (step.answer ≡ NotMine) ↔
-            IsNotMine C.image (held_by self.old) self.old.start second (state_of self.old second)) }
-        ensures same { self.new ≡ self.old }
+            IsNotMine C.image (held_by self.now) self.now.start second (state_of self.now second)) }
     {
         one_first_missing();
-        let mut calendar = self.take_calendar()?;
-        let outcome = self.responded(&mut calendar, second);
-        self.keep(calendar);
-        let step = outcome?;
+        let step = self.responded(second)?;
         Ok(step)
     }
 
     #[tactic(auto, unfolding(crate::specs::Rows::respond_row))]
-    fn responded(&self, calendar: &mut Calendar<C>, second: u64) -> Result<Step, NoMemory>
+    fn responded(&self, second: u64) -> Result<Step, NoMemory>
         requires from { self.now.start ≤ second }
         requires below { second < 2 ^ 63 }
-        requires kept { IsCalendarOf (held_by self.now) self.now.start calendar.old }
-        ensures kept { IsCalendarOf (held_by self.now) self.now.start calendar.new }
         ensures answer { IfOk result (λ step. step.answer ≡
             (respond_row C.image (held_by self.now) self.now.start second (state_of self.now second)).answer) }
         ensures sends { IfOk result (λ step. step.sends ≡
@@ -64,9 +59,10 @@ impl<C: Compress> Core<C> {
         let Some(entries) = self.sealed(second) else {
             return Ok(Step::without_sends(alloc, Answer::Unsealed));
         };
-        if let Some(missing) = self.take_on(calendar, second)? {
-            return Ok(Step::without_sends(alloc, Answer::Undecided(missing)));
-        }
+        let calendar = match self.covering(second) {
+            Ok(calendar) => calendar,
+            Err(missing) => return Ok(Step::without_sends(alloc, Answer::Undecided(missing))),
+        };
         let Some(root) = self.held(second) else {
             return Ok(Step::without_sends(alloc, Answer::Undecided(second)));
         };

@@ -6,28 +6,26 @@ ghost use Rattle.std.specs.BTreeMap.{is_at};
 ghost use Rattle.std.specs.Map.{lookup};
 ghost use Rattle.ksi_aggtree.specs.Rounds.{IsRound, highest_item};
 ghost use Rattle.ksi_aggtree.specs.Entries.{items_of, candidate_of};
-ghost use Rattle.ksi_synod.specs.Ballots.{last_round};
-ghost use Rattle.ksi_synod.specs.Rows.{greater_round, try_ballot, receive, OfBallot};
 ghost use Rattle.ksi_corenode.specs.SecondState.{fresh_second};
-ghost use Rattle.ksi_corenode.specs.Rows.{taken, submission_row, seal_row, sealed_now, restart_row, is_news, news_answer};
-ghost use Rattle.ksi_corenode.specs.Stored.{items_from, has_place, volatile_at};
+ghost use Rattle.ksi_corenode.specs.Rows.{taken, submission_row, seal_row, sealed_now, restart_row};
+ghost use Rattle.ksi_corenode.specs.Stored.{items_from, has_place, volatile_at, part_of};
+ghost use Rattle.ksi_corenode.specs.Settled.{IsSettled};
 ghost use Rattle.ksi_corenode.specs.Kept.{Keeps};
-ghost use Rattle.ksi_corenode.specs.CoreState.{state_of, held_by, IsSettled, IsSame, IsChange};
+ghost use Rattle.ksi_corenode.specs.CoreState.{state_of, stable_at, held_by, IsSame, IsChange};
 
-use crate::receiving::receive;
-use crate::stable::StableSecond;
-use crate::stables::Stables;
-use crate::volatile::VolatileSecond;
-use crate::volatiles::{hand_of, move_items, put_hand, submit};
+use crate::stable::StablePart;
+use crate::stable_parts::StableParts;
+use crate::volatile::VolatilePart;
+use crate::volatile_parts::{forget_items, hand_of, open_items, put_hand, submit};
 use ksi_aggtree::{Entry, Item};
 use ksi_imprint::{Compress, Imprint, NoMemory};
 use ksi_signature::Answer;
 use ksi_split::Steps;
-use ksi_synod::{Begun, CorePlan, Instance, SynodMessage};
+use ksi_synod::{CorePlan, Instance};
 use std::alloc::Global;
 use std::collections::BTreeMap;
-use std::marker::Model;
-use std::sync::ledger::Ledger;
+use std::marker::{Brand, Model};
+use std::sync::ledger::{Blank, Ledger};
 
 /// The seconds of core `me` of a plan: the stable parts, all sealed items, and the volatile parts of those seconds that
 /// have a ballot in hand or open items.
@@ -36,9 +34,9 @@ pub(crate) struct Seconds<C: Compress> {
     alloc: Global,
     me: u8,
     plan: CorePlan,
-    stables: Stables,
+    stable_parts: StableParts,
     items: Vec<Entry>,
-    volatiles: BTreeMap<u64, VolatileSecond<C>>,
+    volatile_parts: BTreeMap<u64, VolatilePart<C>>,
 }
 
 impl<C: Compress> Model for Seconds<C> {
@@ -48,10 +46,10 @@ impl<C: Compress> Model for Seconds<C> {
 
     ghost Value = { CoreState };
 
-    ghost view = { λ s. record { me = s.me; plan = s.plan; start = s.stables.start; settled = s.stables.settled; others = s.stables.others; items = s.items.items; volatiles = s.volatiles.entries } };
+    ghost view = { λ s. record { me = s.me; plan = s.plan; start = s.stable_parts.start; settled = s.stable_parts.settled; unsettled = s.stable_parts.unsettled; items = s.items.items; volatile_parts = s.volatile_parts.entries } };
 
     ghost invariant = { λ s. (s.me < s.plan.cores) × (s.plan.cores ≤ 9)
-        × ((t : ℕ) → IsSealedWell C.image s.items.items (part_of s.stables t)) };
+        × ((t : ℕ) → IsSealedWell C.image s.items.items (part_of s.stable_parts t)) };
 }
 
 impl<C: Compress> Seconds<C> {
@@ -68,9 +66,9 @@ impl<C: Compress> Seconds<C> {
             alloc,
             me,
             plan: *plan,
-            stables: Stables::new(alloc, plan.start()),
+            stable_parts: StableParts::new(alloc, plan.start()),
             items: Vec::new(alloc),
-            volatiles: BTreeMap::new(alloc),
+            volatile_parts: BTreeMap::new(alloc),
         }
     }
 
@@ -93,7 +91,7 @@ impl<C: Compress> Seconds<C> {
     pub fn start(&self) -> u64
         ensures { result ≡ self.now.start }
     {
-        self.stables.start()
+        self.stable_parts.start()
     }
 
     /// How many seconds from the start on are settled, in one step.
@@ -102,7 +100,7 @@ impl<C: Compress> Seconds<C> {
         ensures settled { IsSettled (held_by self.now) self.now.start result }
         ensures step { steps.new ≡ steps.old + 1 }
     {
-        self.stables.settled(steps)
+        self.stable_parts.settled(steps)
     }
 
     /// What is held for a second.
@@ -110,7 +108,7 @@ impl<C: Compress> Seconds<C> {
     pub fn held(&self, second: u64) -> Option<Imprint>
         ensures { result ≡ held_by self.now second }
     {
-        self.stables.get(second).vote.held()
+        self.part(second).vote.held()
     }
 
     /// The candidate, none where the second is not sealed.
@@ -119,7 +117,8 @@ impl<C: Compress> Seconds<C> {
         ensures vote { result ≡ (state_of self.now second).vote.candidate }
         ensures sealed { result ≡ option_map (candidate_of C.image) (state_of self.now second).sealed }
     {
-        self.stables.get(second).vote.candidate()
+        let _ = &self.items;
+        self.part(second).vote.candidate()
     }
 
     /// Whether the second is sealed.
@@ -127,7 +126,7 @@ impl<C: Compress> Seconds<C> {
     pub fn is_sealed(&self, second: u64) -> bool
         ensures { result ≡ is_some (state_of self.now second).sealed }
     {
-        self.stables.get(second).vote.candidate().is_some()
+        self.part(second).vote.candidate().is_some()
     }
 
     /// The sealed items with their origins, none where the second is not sealed.
@@ -136,9 +135,9 @@ impl<C: Compress> Seconds<C> {
         ensures sealed { option_copied result ≡ (state_of self.now second).sealed }
         ensures round { IfSome result (λ entries. IsRound (items_of entries.now)) }
     {
-        let part = self.stables.get(second);
+        let part = self.part(second);
         match part.vote.candidate() {
-            Some(_) => Some(part_of(&self.items, part.first, part.count)),
+            Some(_) => Some(items_at(&self.items, part.first, part.count)),
             None => None,
         }
     }
@@ -163,43 +162,6 @@ impl<C: Compress> Seconds<C> {
         self.add_item(second, aggregator, item)
     }
 
-    /// Tries a ballot.
-    #[tactic(auto, using(crate::proofs::Keeping::try_keeps))]
-    pub fn ballot(&mut self, second: u64) -> Result<Begun, NoMemory>
-        ensures change { OnOk result (IsChange self.old self.new second (record (state_of self.old second) { vote = (try_ballot (state_of self.old second).vote).0 })) }
-        ensures answer { IfOk result (λ begun. begun ≡ (try_ballot (state_of self.old second).vote).1) }
-        ensures unsealed { IfOk result (λ begun. (begun ≡ Begun.Unsealed) ↔ IsNone (state_of self.old second).sealed) }
-        ensures last { IfOk result (λ begun. (begun ≡ Begun.Last) ↔ (IsSome (state_of self.old second).sealed ×
-            (greater_round (state_of self.old second).vote ≡ last_round))) }
-        ensures unchanged { OnErr result (IsSame self.old self.new) }
-    {
-        let mut vote = self.vote(second);
-        let begun = vote.try_ballot();
-        self.put_vote(second, &vote)?;
-        Ok(begun)
-    }
-
-    /// Takes a message of the vote: the answer, and what is to be sent for it.
-    #[tactic(auto, using(crate::proofs::Keeping::receive_keeps))]
-    pub fn receive(
-        &mut self,
-        second: u64,
-        from: u8,
-        message: &SynodMessage,
-    ) -> Result<(Answer, Option<SynodMessage>), NoMemory>
-        requires member { from < 9 }
-        requires ballot { OfBallot message.now }
-        ensures change { OnOk result (IsChange self.old self.new second (record (state_of self.old second) { vote = (receive (state_of self.old second).vote from message.now).0 })) }
-        ensures answer { IfOk result (λ told. told.0 ≡ news_answer (is_news (state_of self.old second).vote from message.now)) }
-        ensures sends { IfOk result (λ told. told.1 ≡ (receive (state_of self.old second).vote from message.now).1) }
-        ensures unchanged { OnErr result (IsSame self.old self.new) }
-    {
-        let mut vote = self.vote(second);
-        let told = receive(&mut vote, from, message);
-        self.put_vote(second, &vote)?;
-        Ok(told)
-    }
-
     /// Seals the open items: the imprint of their tree is the candidate.
     #[tactic(auto, unfolding(crate::specs::Rows::seal_row))]
     pub fn seal(&mut self, second: u64) -> Result<Answer, NoMemory>
@@ -222,89 +184,96 @@ impl<C: Compress> Seconds<C> {
         ensures start { self.new.start ≡ self.old.start }
         ensures seconds { (t : ℕ) → state_of self.new t ≡ restart_row (state_of self.old t) }
     {
-        self.volatiles.clear();
+        self.volatile_parts.clear();
+    }
+
+    /// The stable part of a second.
+    fn part(&self, second: u64) -> StablePart
+        ensures { result ≡ stable_at self.now second }
+    {
+        part_from::<Brand>(&self.stable_parts, second, Blank::new(1))
     }
 
     /// This core's part in the vote on a second.
     #[tactic(auto, unfolding(crate::specs::CoreState::state_of, crate::specs::Stored::second_of))]
-    fn vote(&self, second: u64) -> Instance
+    pub fn vote(&self, second: u64) -> Instance
         ensures { result ≡ (state_of self.now second).vote }
     {
-        let hand = hand_of(&self.volatiles, second);
-        let part = self.stables.get(second);
+        let hand = hand_of(&self.volatile_parts, second);
+        let part = self.part(second);
         Instance::of(self.me, self.plan.voters_of(second), &part.vote, hand)
     }
 
     /// Takes an item of an aggregator among the open ones, where there is a place.
     fn add_item(&mut self, second: u64, aggregator: u32, item: &Item) -> Result<Answer, NoMemory>
         requires level { item.now.level ≤ highest_item }
-        requires there { IsSome (lookup (is_at (nat_cmp second)) self.old.volatiles) }
+        requires there { IsSome (lookup (is_at (nat_cmp second)) self.old.volatile_parts) }
         ensures change { OnOk result (IsChange self.old self.new second (record (state_of self.old second) { open_items = (taken aggregator item.now (state_of self.old second).open_items).0 })) }
         ensures answer { IfOk result (λ answer. answer ≡ (taken aggregator item.now (state_of self.old second).open_items).1) }
         ensures unchanged { OnErr result (IsSame self.old self.new) }
     {
-        let answer = submit(&mut self.volatiles, second, self.alloc, aggregator, item)?;
+        let answer = submit(
+            &mut self.volatile_parts,
+            second,
+            self.alloc,
+            aggregator,
+            item,
+        )?;
         Ok(answer)
     }
 
-    /// Puts this core's part in the vote on a second: the candidate is the same, and what was held is held still.
-    fn put_vote(&mut self, second: u64, vote: &Instance) -> Result<(), NoMemory>
-        requires keeps { Keeps (state_of self.old second).vote vote.now }
-        ensures change { OnOk result (IsChange self.old self.new second (record (state_of self.old second) { vote = vote.now })) }
-        ensures unchanged { OnErr result (IsSame self.old self.new) }
-    {
-        self.make_room(second, vote.hand().is_some())?;
-        self.write_vote(second, vote);
-        Ok(())
-    }
-
-    /// The same, where there is a place for both parts.
+    /// Puts this core's part in the vote on a second, where there is a place for both parts: the candidate is the same, and what
+    /// was held is held still.
     #[tactic(auto, unfolding(crate::specs::CoreState::state_of))]
-    fn write_vote(&mut self, second: u64, vote: &Instance)
+    pub fn write_vote(&mut self, second: u64, vote: &Instance)
         requires keeps { Keeps (state_of self.old second).vote vote.now }
-        requires place { IsTrue (has_place self.old.start self.old.settled self.old.others second) }
-        requires room { IsSome vote.now.hand → IsSome (lookup (is_at (nat_cmp second)) self.old.volatiles) }
+        requires place { IsTrue (has_place self.old.start self.old.settled self.old.unsettled second) }
+        requires room { IsSome vote.now.hand → IsSome (lookup (is_at (nat_cmp second)) self.old.volatile_parts) }
         ensures { IsChange self.old self.new second (record (state_of self.old second) { vote = vote.now }) }
     {
-        let old = self.stables.get(second);
-        let part = StableSecond {
+        let old = self.part(second);
+        let part = StablePart {
             vote: vote.stable(),
             first: old.first,
             count: old.count,
         };
-        self.stables.put(second, &part);
-        put_hand(&mut self.volatiles, second, vote.hand());
+        self.stable_parts.put(second, &part);
+        put_hand(&mut self.volatile_parts, second, vote.hand());
     }
 
-    /// Seals the open items of a second that is not sealed.
+    /// Seals the open items of a second that is not sealed, and gives a copy of them.
     #[tactic(auto, unfolding(crate::specs::CoreState::state_of))]
-    fn seal_open(&mut self, second: u64) -> Result<(), NoMemory>
+    fn seal_open(&mut self, second: u64) -> Result<Vec<Entry>, NoMemory>
         requires { is_some (state_of self.old second).sealed ≡ false }
         ensures change { OnOk result (IsChange self.old self.new second (sealed_now C.image (state_of self.old second)).after) }
+        ensures items { IfOk result (λ items. items.items ≡ (state_of self.old second).open_items) }
         ensures unchanged { OnErr result (IsSame self.old self.new) }
     {
-        self.stables.make_place(second)?;
+        let mut vote = self.vote(second);
+        self.stable_parts.make_place(second)?;
+        let (items, candidate) = open_items(&self.volatile_parts, second, self.alloc)?;
         let first = self.items.len();
-        let candidate = move_items(&mut self.volatiles, second, self.alloc, &mut self.items)?;
-        let old = self.stables.get(second);
-        let part = StableSecond {
-            vote: old.vote.sealed_with(candidate),
+        self.items.extend_from_slice(&items)?;
+        vote.candidate(candidate);
+        let part = StablePart {
+            vote: vote.stable(),
             first,
-            count: self.items.len() - first,
+            count: items.len(),
         };
-        self.stables.put(second, &part);
-        Ok(())
+        self.stable_parts.put(second, &part);
+        forget_items(&mut self.volatile_parts, second);
+        Ok(items)
     }
 
     /// Makes a place for the stable part of a second, and where so asked for its volatile part, which changes nothing that
     /// is seen.
     #[tactic(auto, unfolding(crate::specs::CoreState::state_of))]
-    fn make_room(&mut self, second: u64, volatile: bool) -> Result<(), NoMemory>
+    pub fn make_room(&mut self, second: u64, volatile: bool) -> Result<(), NoMemory>
         ensures same { IsSame self.old self.new }
-        ensures place { OnOk result (IsTrue (has_place self.new.start self.new.settled self.new.others second)) }
-        ensures there { OnOk result (IsTrue volatile → IsSome (lookup (is_at (nat_cmp second)) self.new.volatiles)) }
+        ensures place { OnOk result (IsTrue (has_place self.new.start self.new.settled self.new.unsettled second)) }
+        ensures there { OnOk result (IsTrue volatile → IsSome (lookup (is_at (nat_cmp second)) self.new.volatile_parts)) }
     {
-        self.stables.make_place(second)?;
+        self.stable_parts.make_place(second)?;
         if volatile {
             self.make_volatile(second)?;
         }
@@ -315,20 +284,31 @@ impl<C: Compress> Seconds<C> {
     #[tactic(auto, unfolding(crate::specs::CoreState::state_of, crate::specs::Stored::volatile_at))]
     fn make_volatile(&mut self, second: u64) -> Result<(), NoMemory>
         ensures same { IsSame self.old self.new }
-        ensures others { (t : ℕ) → has_place self.new.start self.new.settled self.new.others t ≡ has_place self.old.start self.old.settled self.old.others t }
-        ensures there { OnOk result (IsSome (lookup (is_at (nat_cmp second)) self.new.volatiles)) }
+        ensures places { (t : ℕ) → has_place self.new.start self.new.settled self.new.unsettled t ≡ has_place self.old.start self.old.settled self.old.unsettled t }
+        ensures there { OnOk result (IsSome (lookup (is_at (nat_cmp second)) self.new.volatile_parts)) }
     {
-        if self.volatiles.contains_key(&second) {
+        if self.volatile_parts.contains_key(&second) {
             return Ok(());
         }
-        let fresh = VolatileSecond::new(self.alloc);
-        self.volatiles.insert(second, fresh)?;
+        let fresh = VolatilePart::new();
+        self.volatile_parts.insert(second, fresh)?;
         Ok(())
     }
 }
 
+/// The stable part of a second, with a count of its own.
+fn part_from<L: Ledger>(stable_parts: &StableParts, second: u64, blank: Blank) -> StablePart
+    requires name { blank.name ≡ L.name }
+    requires parts { blank.parts ≡ L.parts }
+    requires one { blank.parts ≡ 1 }
+    ensures { result ≡ part_of stable_parts.now second }
+{
+    let mut steps = Steps::<L>::open(blank);
+    stable_parts.get(second, &mut steps)
+}
+
 /// So many of the items, from the first on.
-fn part_of(items: &[Entry], first: usize, count: usize) -> &[Entry]
+fn items_at(items: &[Entry], first: usize, count: usize) -> &[Entry]
     requires { first + count ≤ length items.now }
     ensures { result.now ≡ items_from items.now first count }
 {

@@ -1,7 +1,8 @@
 //! The settled seconds: those from the start on that are held, up to the first that is not.
 ghost use Rattle.std.specs.Prelude.{◌≡◌, ◌↔◌, ◌+◌, ◌≤◌, ℕ, IsNone, IsSome};
 ghost use Rattle.ksi_calendar.specs.Covered.{first_missing};
-ghost use Rattle.ksi_corenode.specs.CoreState.{held_by, IsSettled};
+ghost use Rattle.ksi_corenode.specs.Settled.{IsSettled};
+ghost use Rattle.ksi_corenode.specs.CoreState.{held_by};
 
 use crate::node::Core;
 use crate::seconds::Seconds;

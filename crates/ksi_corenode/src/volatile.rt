@@ -1,4 +1,4 @@
-ghost use Rattle.std.specs.Prelude.{◌≡◌, ◌<◌, ◌≤◌, ◌++◌, ◌∷◌, [], IsTrue, IfOk, OnErr, vec_len, vec_capacity, unwrap_or};
+ghost use Rattle.std.specs.Prelude.{◌≡◌, ◌≤◌, ◌++◌, ◌∷◌, [], IsTrue, IfOk, OnErr, unwrap_or, option_map};
 ghost use Rattle.ksi_aggtree.specs.Rounds.{IsRound, highest_item};
 ghost use Rattle.ksi_aggtree.specs.Entries.{items_of, candidate_of};
 ghost use Rattle.ksi_corenode.specs.Rows.{taken};
@@ -11,44 +11,43 @@ use ksi_synod::InHand;
 use std::alloc::Global;
 use std::marker::Model;
 
-/// The volatile part of a second, which a restart forgets: the ballot in hand and the open items, with their tree.
+/// The volatile part of a second, which a restart forgets: the ballot in hand, and the tree of the open items, once there
+/// are any.
 #[derive(Drop)]
-pub(crate) struct VolatileSecond<C: Compress> {
+pub(crate) struct VolatilePart<C: Compress> {
     hand: Option<InHand>,
     tree: Option<Box<Entries<C>>>,
-    items: Vec<Entry>,
 }
 
-impl<C: Compress> Model for VolatileSecond<C> {
-    ghost use Rattle.std.specs.Prelude.{◌≡◌, [], option_map, unwrap_or};
+impl<C: Compress> Model for VolatilePart<C> {
+    ghost use Rattle.std.specs.Prelude.{[], option_map, unwrap_or};
     ghost use Rattle.ksi_aggtree.specs.Rounds.{IsRound};
     ghost use Rattle.ksi_aggtree.specs.Entries.{items_of};
     ghost use Rattle.ksi_corenode.specs.Stored.{VolatileState};
 
     ghost Value = { VolatileState };
 
-    ghost view = { λ v. record { hand = v.hand; open_items = v.items.items } };
+    ghost view = { λ v. record { hand = v.hand; open_items = unwrap_or (option_map (λ tree. tree.value) v.tree) [] } };
 
-    ghost invariant = { λ v. (unwrap_or (option_map (λ tree. tree.value) v.tree) [] ≡ v.items.items) × IsRound (items_of v.items.items) };
+    ghost invariant = { λ v. IsRound (items_of (unwrap_or (option_map (λ tree. tree.value) v.tree) [])) };
 }
 
-impl<C: Compress> VolatileSecond<C> {
+impl<C: Compress> VolatilePart<C> {
     /// The part before anything came.
-    pub fn new(alloc: Global) -> Self
+    pub fn new() -> Self
         ensures { result ≡ fresh_volatile }
     {
-        VolatileSecond {
+        VolatilePart {
             hand: None,
             tree: None,
-            items: Vec::new(alloc),
         }
     }
 
-    /// Whether there is neither a ballot in hand nor an open item.
+    /// Whether there is neither a ballot in hand nor a tree of open items.
     pub fn is_idle(&self) -> bool
         ensures { IsTrue result → self.now ≡ fresh_volatile }
     {
-        self.hand.is_none() && self.items.is_empty()
+        self.hand.is_none() && self.tree.is_none()
     }
 
     /// The ballot in hand.
@@ -58,12 +57,18 @@ impl<C: Compress> VolatileSecond<C> {
         self.hand
     }
 
-    /// The open items in order, which make a round.
-    pub fn items(&self) -> &[Entry]
-        ensures items { result.now ≡ self.now.open_items }
+    /// A copy of the open items in order, which make a round.
+    ///
+    /// # Errors
+    /// `NoMemory`: no copy is made.
+    pub fn items(&self, alloc: Global) -> Result<Vec<Entry>, NoMemory>
+        ensures items { IfOk result (λ items. items.items ≡ self.now.open_items) }
         ensures round { IsRound (items_of self.now.open_items) }
     {
-        self.items.as_slice()
+        match &self.tree {
+            Some(tree) => items_in(alloc, tree),
+            None => Ok(Vec::new(alloc)),
+        }
     }
 
     /// The imprint of the open items' tree, the zero imprint where there are none.
@@ -99,10 +104,10 @@ impl<C: Compress> VolatileSecond<C> {
         ensures unchanged { OnErr result (self.new ≡ self.old) }
     {
         match &mut self.tree {
-            Some(tree) => take(tree, &mut self.items, aggregator, item),
+            Some(tree) => take(tree, aggregator, item),
             None => {
                 let mut tree = Box::new(alloc, Entries::new(alloc)?)?;
-                let answer = take(&mut tree, &mut self.items, aggregator, item)?;
+                let answer = take(&mut tree, aggregator, item)?;
                 self.tree = Some(tree);
                 Ok(answer)
             }
@@ -110,54 +115,46 @@ impl<C: Compress> VolatileSecond<C> {
     }
 
     /// Leaves no item open.
-    pub fn clear(&mut self, alloc: Global)
+    pub fn clear(&mut self)
         ensures { self.new ≡ record self.old { open_items = [] } }
     {
         self.tree = None;
-        self.items = Vec::new(alloc);
     }
 }
 
-/// Takes an item of an aggregator into the tree of the open ones, and behind these.
+/// Takes an item of an aggregator into the tree of the open ones.
 fn take<C: Compress>(
     tree: &mut Entries<C>,
-    items: &mut Vec<Entry>,
     aggregator: u32,
     item: &Item,
 ) -> Result<Answer, NoMemory>
     requires level { item.now.level ≤ highest_item }
-    requires same { tree.old ≡ items.old.items }
-    requires round { IsRound (items_of items.old.items) }
-    ensures taken { IfOk result (λ answer. (items.new.items, answer) ≡ taken aggregator item.now items.old.items) }
-    ensures unchanged { OnErr result (items.new.items ≡ items.old.items) }
-    ensures same { tree.new ≡ items.new.items }
-    ensures round { IsRound (items_of items.new.items) }
+    requires round { IsRound (items_of tree.old) }
+    ensures taken { IfOk result (λ answer. (tree.new, answer) ≡ taken aggregator item.now tree.old) }
+    ensures unchanged { OnErr result (tree.new ≡ tree.old) }
+    ensures round { IsRound (items_of tree.new) }
 {
     if tree.has_from(aggregator) {
         return Ok(Answer::Known);
     }
-    items.reserve(1)?;
     let entry = Entry {
         origin: Origin::Aggregator(aggregator),
         item: *item,
     };
     match tree.add(entry) {
-        Ok(_) => {
-            put(items, &entry);
-            Ok(Answer::Done)
-        }
+        Ok(_) => Ok(Answer::Done),
         Err(Refused::Fault(AddRefusal::Full)) => Ok(Answer::Full),
         Err(Refused::NoMemory) => Err(NoMemory),
     }
 }
 
-/// Puts an item behind the others, where there is room.
-fn put(items: &mut Vec<Entry>, entry: &Entry)
-    requires { vec_len items.old < vec_capacity items.old }
-    ensures { items.new.items ≡ items.old.items ++ entry.now ∷ [] }
+/// A copy of the items of a tree, in order.
+fn items_in<C: Compress>(alloc: Global, tree: &Entries<C>) -> Result<Vec<Entry>, NoMemory>
+    ensures { IfOk result (λ items. items.items ≡ tree.now) }
 {
-    match items.push(*entry) {
-        Ok(()) => {}
-        Err(_) => unreachable!(),
+    let mut items = Vec::with_capacity(alloc, tree.count())?;
+    for k in 0..tree.count() {
+        items.push_reserved(tree.entry(k));
     }
+    Ok(items)
 }

@@ -1,5 +1,5 @@
 -- Powers of two, and where a number is split.
-use Rattle.std.proofs.Common.{◌≡◌, ℕ, zero, suc, ◌+◌, ◌*◌, ◌/◌, ◌%◌, ◌^◌, ◌<◌, ◌≤◌, Bool, true, false, ltb, eqb, ◌≢◌, refl, sym, ap, ◌∙◌, arith, inl, inr, ◌⊎◌, add-one}
+use Rattle.std.proofs.Common.{◌≡◌, ℕ, zero, suc, ◌+◌, ◌*◌, ◌/◌, ◌%◌, ◌^◌, ◌<◌, ◌≤◌, Bool, true, false, ltb, eqb, ◌≢◌, refl, sym, ap, subst, ◌∙◌, arith, inl, inr, ◌⊎◌, add-one}
 use Rattle.std.proofs.lemmas.Bool.{ltb-false, ltb-true, eqb-true, eqb-false}
 use Rattle.std.proofs.lemmas.Nat.{mul-le, shr-shr}
 use Rattle.std.proofs.Math.Nat.{pow-suc, pow-le-pow_right}
@@ -101,6 +101,14 @@ halves_above (suc k) n = rw (doubled k) (half_high (halves k n) (2 ^ k) n (halve
 pub halves_rise : (k m n : ℕ) → m ≤ n → halves k m ≤ halves k n
 halves_rise zero m n le = le
 halves_rise (suc k) m n le = omega (arith, halves_rise k m n le)
+
+-- equal halves stay equal
+pub halves_from : (level m n : ℕ) → halves level m ≡ halves level n → (k : ℕ) → level ≤ k → halves k m ≡ halves k n
+halves_from level m n same zero le = let none : level ≡ 0 = omega arith in subst (λ (i : ℕ). halves i m ≡ halves i n) none same
+halves_from level m n same (suc k) le = elim (le_cases level k) [
+  | inl below ↦ ap (λ (i : ℕ). i / 2) (halves_from level m n same k below)
+  | inr above ↦ let here : level ≡ suc k = omega arith in subst (λ (i : ℕ). halves i m ≡ halves i n) here same
+]
 
 -- one number more, and at most one part more
 pub halves_next : (k n : ℕ) → halves k (n + 1) ≤ halves k n + 1

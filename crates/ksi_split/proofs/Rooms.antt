@@ -54,3 +54,10 @@ unfolding row_at
 row_there [] k j lt = absurd (omega arith)
 row_there (v ∷ rows) zero j lt = omega arith
 row_there (v ∷ rows) (suc k) j lt = omega (arith, row_there rows k j lt)
+
+-- a row that has room is there
+pub room_there : {A : Type 0} (rows : List (Stored A)) (k : ℕ) → 0 < room_at rows k → k < length rows
+unfolding room_at
+room_there [] k lt = absurd (omega arith)
+room_there (v ∷ rows) zero lt = omega arith
+room_there (v ∷ rows) (suc k) lt = omega (arith, room_there rows k lt)

@@ -2,7 +2,7 @@
 ghost use Rattle.std.specs.Prelude.{◌≡◌, ◌≢◌, ◌++◌, ◌∷◌, [], ℕ, ◌<◌, ◌≤◌, ◌%◌, ◌+◌, ◌^◌, length, vec_len, OnOk};
 ghost use Rattle.ksi_split.specs.Upward.{halves};
 ghost use Rattle.ksi_split.specs.Leaves.{leaf_at};
-ghost use Rattle.ksi_split.specs.Stored.{row_at, room_at, kept_part, row_of, EndsAt};
+ghost use Rattle.ksi_split.specs.Stored.{row_at, room_at, kept_part, row_of, EndsAt, AreRows};
 
 use crate::NoMemory;
 use crate::joins::Joins;
@@ -68,48 +68,69 @@ pub(crate) fn completed(n: u64) -> usize
     level
 }
 
-/// Makes the rows up to `top` where they are not there, and room for one part in each of them.
+/// The lowest level from which on `n` leaves have as many complete parts as `end`, which are as many or more.
+fn risen(n: u64, end: u64) -> usize
+    requires rise { n ≤ end }
+    requires many { end ≤ 2 ^ 63 }
+    ensures same { (k : ℕ) → result ≤ k → halves k n ≡ halves k end }
+    ensures few { result ≤ 64 }
+{
+    let mut low = n;
+    let mut high = end;
+    let mut level = 0;
+    while low != high {
+        low /= 2;
+        high /= 2;
+        level += 1;
+    }
+    level
+}
+
+/// Makes room for the parts that are complete with `end` leaves, and were not with `n`, and their rows where they are not
+/// there.
 pub(crate) fn grow<N: Copy>(
     alloc: Global,
     rows: &mut Vec<Row<N>>,
-    top: usize,
+    n: u64,
+    end: u64,
 ) -> Result<(), NoMemory>
-    requires few { top ≤ 63 }
+    requires rise { n ≤ end }
+    requires many { end ≤ 2 ^ 63 }
     ensures kept { (k : ℕ) → row_at rows.new.items k ≡ row_at rows.old.items k }
-    ensures rows { OnOk result (top < vec_len rows.new) }
-    ensures room { OnOk result ((k : ℕ) → k ≤ top → 0 < room_at rows.new.items k) }
+    ensures room { OnOk result ((k : ℕ) → halves k end ≤ halves k n + room_at rows.new.items k) }
 {
-    make(alloc, rows, top)?;
-    for level in 0..top + 1 {
-        grow_one(rows, level)?;
+    let levels = risen(n, end);
+    make(alloc, rows, levels)?;
+    for level in 0..levels {
+        grow_one(rows, level, ((end >> level) - (n >> level)) as usize)?;
     }
     Ok(())
 }
 
-/// Makes the rows up to `top` where they are not there; a row that is made is empty.
-fn make<N: Copy>(alloc: Global, rows: &mut Vec<Row<N>>, top: usize) -> Result<(), NoMemory>
-    requires few { top ≤ 63 }
+/// Makes the rows below `levels` where they are not there; a row that is made is empty.
+fn make<N: Copy>(alloc: Global, rows: &mut Vec<Row<N>>, levels: usize) -> Result<(), NoMemory>
+    requires few { levels ≤ 64 }
     ensures kept { (k : ℕ) → row_at rows.new.items k ≡ row_at rows.old.items k }
-    ensures rows { OnOk result (top < vec_len rows.new) }
+    ensures rows { OnOk result (levels ≤ vec_len rows.new) }
 {
     if rows.is_empty() {
-        rows.reserve_exact(top + 1)?;
+        rows.reserve_exact(levels)?;
     }
-    for _level in rows.len()..top + 1 {
+    for _level in rows.len()..levels {
         rows.push(Row::new(alloc))?;
     }
     Ok(())
 }
 
-/// Makes room for one part in a row.
-fn grow_one<N: Copy>(rows: &mut Vec<Row<N>>, level: usize) -> Result<(), NoMemory>
+/// Makes room for so many parts in a row.
+fn grow_one<N: Copy>(rows: &mut Vec<Row<N>>, level: usize, more: usize) -> Result<(), NoMemory>
     requires { level < vec_len rows.old }
     ensures len { vec_len rows.new ≡ vec_len rows.old }
     ensures kept { (k : ℕ) → row_at rows.new.items k ≡ row_at rows.old.items k }
     ensures others { (k : ℕ) → k ≢ level → room_at rows.new.items k ≡ room_at rows.old.items k }
-    ensures room { OnOk result (0 < room_at rows.new.items level) }
+    ensures room { OnOk result (more ≤ room_at rows.new.items level) }
 {
-    rows[level].grow()
+    rows[level].grow(more)
 }
 
 /// Adds a leaf behind `n` leaves, and the parts that it completes, which stand in the levels up to `top`.
@@ -125,13 +146,13 @@ pub(crate) fn add<N: Copy, J: Joins<N>, L: Ledger>(
     requires many { n < 2 ^ 63 }
     requires top { EndsAt n top }
     requires few { top ≤ 63 }
-    requires rows { top < vec_len rows.old }
     requires row { (k : ℕ) → k < 64 → row_at rows.old.items k ≡
         row_of J.joined (leaf_at zeros.now.start zeros.now.leaf (row_at rows.old.items 0 ++ leaf ∷ [])) zeros.now.start n k }
     requires room { (k : ℕ) → k ≤ top → 0 < room_at rows.old.items k }
     ensures items { row_at rows.new.items 0 ≡ row_at rows.old.items 0 ++ leaf ∷ [] }
     ensures row { (k : ℕ) → k < 64 → row_at rows.new.items k ≡
         row_of J.joined (leaf_at zeros.now.start zeros.now.leaf (row_at rows.old.items 0 ++ leaf ∷ [])) zeros.now.start (n + 1) k }
+    ensures room { (k : ℕ) → halves k n + room_at rows.old.items k ≤ halves k (n + 1) + room_at rows.new.items k }
 {
     let mut node = leaf;
     let mut at = n;
@@ -144,6 +165,46 @@ pub(crate) fn add<N: Copy, J: Joins<N>, L: Ledger>(
     put(rows, top, node);
 }
 
+/// Adds a leaf behind the others, where there is room for the parts that it completes.
+pub(crate) fn add_next<N: Copy, J: Joins<N>, L: Ledger>(
+    zeros: &Zeros<N, J>,
+    rows: &mut Vec<Row<N>>,
+    n: u64,
+    leaf: N,
+    steps: &mut Steps<L>,
+)
+    requires count { n ≡ zeros.now.start + length (row_at rows.old.items 0) }
+    requires many { n < 2 ^ 63 }
+    requires rows { AreRows J.joined zeros.now.start zeros.now.leaf rows.old.items }
+    requires room { (k : ℕ) → halves k (n + 1) ≤ halves k n + room_at rows.old.items k }
+    ensures items { row_at rows.new.items 0 ≡ row_at rows.old.items 0 ++ leaf ∷ [] }
+    ensures rows { AreRows J.joined zeros.now.start zeros.now.leaf rows.new.items }
+    ensures room { (k : ℕ) → halves k n + room_at rows.old.items k ≤ halves k (n + 1) + room_at rows.new.items k }
+{
+    let top = completed(n);
+    add(zeros, rows, n, top, leaf, steps);
+}
+
+/// Adds leaves behind the others, where there is room for the parts that they complete.
+pub(crate) fn add_all<N: Copy, J: Joins<N>, L: Ledger>(
+    zeros: &Zeros<N, J>,
+    rows: &mut Vec<Row<N>>,
+    n: u64,
+    leaves: &[N],
+    steps: &mut Steps<L>,
+)
+    requires count { n ≡ zeros.now.start + length (row_at rows.old.items 0) }
+    requires many { n + length leaves.now ≤ 2 ^ 63 }
+    requires rows { AreRows J.joined zeros.now.start zeros.now.leaf rows.old.items }
+    requires room { (k : ℕ) → halves k (n + length leaves.now) ≤ halves k n + room_at rows.old.items k }
+    ensures items { row_at rows.new.items 0 ≡ row_at rows.old.items 0 ++ leaves.now }
+    ensures rows { AreRows J.joined zeros.now.start zeros.now.leaf rows.new.items }
+{
+    for i in 0..leaves.len() {
+        add_next(zeros, rows, n + i as u64, leaves[i], steps);
+    }
+}
+
 /// Puts a part into a row that has room for it.
 fn put<N: Copy>(rows: &mut Vec<Row<N>>, level: usize, node: N)
     requires at { level < vec_len rows.old }
@@ -152,6 +213,7 @@ fn put<N: Copy>(rows: &mut Vec<Row<N>>, level: usize, node: N)
     ensures added { row_at rows.new.items level ≡ row_at rows.old.items level ++ node ∷ [] }
     ensures others { (k : ℕ) → k ≢ level → row_at rows.new.items k ≡ row_at rows.old.items k }
     ensures rooms { (k : ℕ) → k ≢ level → room_at rows.new.items k ≡ room_at rows.old.items k }
+    ensures room { room_at rows.new.items level + 1 ≡ room_at rows.old.items level }
 {
     rows[level].put(node);
 }

@@ -1,4 +1,4 @@
-ghost use Rattle.std.specs.Prelude.{◌≡◌, ◌<◌, ◌+◌, ◌++◌, ◌∷◌, [], length, slice_index_or, OnOk};
+ghost use Rattle.std.specs.Prelude.{◌≡◌, ◌<◌, ◌≤◌, ◌+◌, ◌++◌, ◌∷◌, [], length, slice_index_or, OnOk};
 
 use crate::NoMemory;
 use crate::steps::Steps;
@@ -47,26 +47,24 @@ impl<N: Copy> Row<N> {
         self.parts[at]
     }
 
-    /// Makes room for one part more, and for no other where it is the first: most rows of small trees have one.
-    pub(crate) fn grow(&mut self) -> Result<(), NoMemory>
+    /// Makes room for so many parts more, and for no other where they are the first: most rows of small trees have one.
+    pub(crate) fn grow(&mut self, more: usize) -> Result<(), NoMemory>
         ensures parts { self.new.parts ≡ self.old.parts }
-        ensures room { OnOk result (0 < self.new.room) }
+        ensures room { OnOk result (more ≤ self.new.room) }
     {
         if self.parts.is_empty() {
-            self.parts.reserve_exact(1)
+            self.parts.reserve_exact(more)
         } else {
-            self.parts.reserve(1)
+            self.parts.reserve(more)
         }
     }
 
     /// Puts a part behind the others, where there is room.
     pub(crate) fn put(&mut self, part: N)
         requires { 0 < self.old.room }
-        ensures { self.new.parts ≡ self.old.parts ++ part ∷ [] }
+        ensures parts { self.new.parts ≡ self.old.parts ++ part ∷ [] }
+        ensures room { self.new.room + 1 ≡ self.old.room }
     {
-        match self.parts.push(part) {
-            Ok(()) => {}
-            Err(_) => unreachable!(),
-        }
+        self.parts.push_reserved(part);
     }
 }

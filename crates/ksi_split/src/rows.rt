@@ -6,14 +6,14 @@ ghost use Rattle.ksi_split.specs.Stored.{AreBorders, maybe_link};
 
 use crate::NoMemory;
 use crate::joins::Joins;
-use crate::levels::{add, completed, count, grow, levels, part};
+use crate::levels::{add_all, add_next, count, grow, levels, part};
 use crate::paths::{Paths, paths_from};
 use crate::power::split;
 use crate::row::Row;
 use crate::side::Side;
 use crate::steps::Steps;
 use crate::tree_link::TreeLink;
-use crate::uncounted::{append_from, leaf_from, node_from, path_from, root_from};
+use crate::uncounted::{append_all_from, append_from, leaf_from, node_from, path_from, root_from};
 use crate::zeros::Zeros;
 use std::alloc::Global;
 use std::marker::{Brand, Model};
@@ -189,10 +189,36 @@ impl<N: Copy, J: Joins<N>> Rows<N, J> {
         ensures unchanged { OnErr result (self.new ≡ self.old) }
     {
         let n = self.zeros.start + count(&self.rows);
-        let top = completed(n);
         // all growths come first, so that a refused one leaves all as it was
-        grow(self.alloc, &mut self.rows, top)?;
-        add(&self.zeros, &mut self.rows, n, top, leaf, steps);
+        grow(self.alloc, &mut self.rows, n, n + 1)?;
+        add_next(&self.zeros, &mut self.rows, n, leaf, steps);
+        Ok(())
+    }
+
+    /// Adds leaves in order behind all others, which are at most 2^63 with these and those before the start.
+    ///
+    /// # Errors
+    /// `NoMemory`: all is as it was.
+    pub fn append_all(&mut self, leaves: &[N]) -> Result<(), NoMemory>
+        requires { self.old.start + length self.old.items + length leaves.now ≤ 2 ^ 63 }
+        ensures added { OnOk result (self.new ≡ record self.old { items = self.old.items ++ leaves.now }) }
+        ensures unchanged { OnErr result (self.new ≡ self.old) }
+    {
+        append_all_from::<N, J, Brand>(self, leaves, Blank::new(1))
+    }
+
+    pub(crate) fn append_all_counted<L: Ledger>(
+        &mut self,
+        leaves: &[N],
+        steps: &mut Steps<L>,
+    ) -> Result<(), NoMemory>
+        requires { self.old.start + length self.old.items + length leaves.now ≤ 2 ^ 63 }
+        ensures added { OnOk result (self.new ≡ record self.old { items = self.old.items ++ leaves.now }) }
+        ensures unchanged { OnErr result (self.new ≡ self.old) }
+    {
+        let n = self.zeros.start + count(&self.rows);
+        grow(self.alloc, &mut self.rows, n, n + leaves.len() as u64)?;
+        add_all(&self.zeros, &mut self.rows, n, leaves, steps);
         Ok(())
     }
 

@@ -89,3 +89,19 @@ pub(crate) fn append_from<N: Copy, J: Joins<N>, L: Ledger>(
     let mut steps = Steps::<L>::open(blank);
     rows.append_counted(leaf, &mut steps)
 }
+
+pub(crate) fn append_all_from<N: Copy, J: Joins<N>, L: Ledger>(
+    rows: &mut Rows<N, J>,
+    leaves: &[N],
+    blank: Blank,
+) -> Result<(), NoMemory>
+    requires name { blank.name ≡ L.name }
+    requires parts { blank.parts ≡ L.parts }
+    requires one { blank.parts ≡ 1 }
+    requires room { rows.old.start + length rows.old.items + length leaves.now ≤ 2 ^ 63 }
+    ensures added { OnOk result (rows.new ≡ record rows.old { items = rows.old.items ++ leaves.now }) }
+    ensures unchanged { OnErr result (rows.new ≡ rows.old) }
+{
+    let mut steps = Steps::<L>::open(blank);
+    rows.append_all_counted(leaves, &mut steps)
+}

@@ -35,7 +35,7 @@ impl<N: Copy, J: Joins<N>> Zeros<N, J> {
             if level > 0 {
                 part = J::join(&part, &part);
             }
-            parts.grow()?;
+            parts.grow(1)?;
             parts.put(part);
         }
         Ok(Zeros {

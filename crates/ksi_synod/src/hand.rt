@@ -32,7 +32,7 @@ impl Model for InHand {
 
 impl InHand {
     /// A ballot of which nothing was heard yet.
-    pub fn new(ballot: u64) -> Self
+    pub(crate) fn new(ballot: u64) -> Self
         ensures { result ≡ new_hand ballot }
     {
         InHand {
@@ -45,7 +45,7 @@ impl InHand {
     }
 
     /// Whether a LastVote of the core in the ballot counts.
-    pub fn counts_last(&self, voters: &Voters, from: u8, ballot: u64) -> bool
+    pub(crate) fn counts_last(&self, voters: &Voters, from: u8, ballot: u64) -> bool
         requires { from < 9 }
         ensures { result ≡ counts_last voters.now (Some self.now) from ballot }
     {
@@ -56,7 +56,7 @@ impl InHand {
     }
 
     /// Counts a LastVote of the core with its vote.
-    pub fn add_last(&mut self, from: u8, vote: &Option<Vote>)
+    pub(crate) fn add_last(&mut self, from: u8, vote: &Option<Vote>)
         requires { from < 9 }
         ensures { self.new ≡ with_last self.old from vote.now }
     {
@@ -65,7 +65,7 @@ impl InHand {
     }
 
     /// Begins the decree, once a majority told its votes.
-    pub fn begin(&mut self, voters: &Voters, candidate: &Option<Imprint>) -> Took
+    pub(crate) fn begin(&mut self, voters: &Voters, candidate: &Option<Imprint>) -> Took
         ensures hand { self.new ≡ record self.old { decree = decree_now voters.now candidate.now self.old } }
         ensures answer { result ≡ took_of (decree_now voters.now candidate.now self.old) }
     {
@@ -81,7 +81,7 @@ impl InHand {
     }
 
     /// The decree that a Voted of the core in the ballot counts for, where it counts.
-    pub fn voted_for(&self, voters: &Voters, from: u8, ballot: u64) -> Option<Imprint>
+    pub(crate) fn voted_for(&self, voters: &Voters, from: u8, ballot: u64) -> Option<Imprint>
         requires { from < 9 }
         ensures { result ≡ voted_for voters.now (Some self.now) from ballot }
     {
@@ -93,7 +93,7 @@ impl InHand {
     }
 
     /// Counts a Voted of the core: whether it completes a majority.
-    pub fn add_voted(&mut self, voters: &Voters, from: u8) -> bool
+    pub(crate) fn add_voted(&mut self, voters: &Voters, from: u8) -> bool
         requires { from < 9 }
         ensures hand { self.new ≡ with_voted self.old from }
         ensures first { result ≡ completes voters.now self.old self.new }

@@ -1,4 +1,4 @@
-ghost use Rattle.std.specs.Prelude.{◌≡◌, Some};
+ghost use Rattle.std.specs.Prelude.{◌≡◌};
 ghost use Rattle.ksi_synod.specs.VoteState.{fresh_stable};
 
 use crate::messages::Vote;
@@ -55,18 +55,5 @@ impl Stable {
         ensures { result ≡ self.now.candidate }
     {
         self.candidate
-    }
-
-    /// The part with this candidate.
-    pub fn sealed_with(&self, candidate: Imprint) -> Self
-        ensures { result ≡ record self.now { candidate = Some candidate } }
-    {
-        Stable {
-            candidate: Some(candidate),
-            tried: self.tried,
-            promised: self.promised,
-            vote: self.vote,
-            held: self.held,
-        }
     }
 }

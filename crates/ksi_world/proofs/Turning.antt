@@ -66,6 +66,19 @@ core_turned row j t cores wire wire' old new step outcome at is posted told = re
   told = told ∙ ap (λ answer. outcome_of answer (length step.sends)) is.answer ∙ ap (λ sends. outcome_of (row old).answer (length sends)) is.sends;
 }
 
+-- an element set to itself
+set_same : {A : Type 0} (xs : List A) (j : ℕ) (x : A) → slice_get xs j ≡ Some x → xs ≡ set xs j x
+set_same [] j x at = refl
+set_same (y ∷ ys) zero x at = let same : y ≡ x = cc at in ap (λ z. z ∷ ys) same
+set_same (y ∷ ys) (suc j) x at = ap (λ zs. y ∷ zs) (set_same ys j x at)
+
+-- one that leaves the core as it was
+pub core_told : (row : CoreState → Turn) (j t : ℕ) (cores : List CoreState) (wire wire' : List Message) (old : CoreState) (step : Step) (outcome : Outcome) →
+    slice_get cores j ≡ Some old → IsTurn old old t (row old) step → wire' ≡ wire ++ map (core_message j t) step.sends → outcome ≡ outcome_of step.answer (length step.sends) →
+    CoreStep row j t cores cores wire wire' outcome
+core_told row j t cores wire wire' old step outcome at is posted told =
+    subst (λ xs. CoreStep row j t cores xs wire wire' outcome) (sym (set_same cores j old at)) (core_turned row j t cores wire wire' old old step outcome at is posted told)
+
 pub core_same : (plan : PlanState) (seconds : ℕ → SecondState) (j : ℕ) (old new : CoreState) → IsSame old new → IsCore plan seconds j old → IsCore plan seconds j new
 core_same plan seconds j old new same is = record {
   me = same.me ∙ is.me;

@@ -91,15 +91,14 @@ pub(crate) fn receive<C: Compress>(
 
 /// A core tells what it holds for a second.
 pub(crate) fn tell<C: Compress>(
-    cores: &mut Vec<Core<C>>,
+    cores: &Vec<Core<C>>,
     wire: &mut Vec<Message>,
     core: u8,
     second: u64,
 ) -> Result<Outcome, NoMemory>
-    requires there { core < length cores.old.items }
-    requires plan { EachCore (λ c. IsCorePlan c.plan) cores.old.items }
-    ensures ok { IfOk result (CoreStep (λ c. tell_row c.plan second c.me (state_of c second)) core second cores.old.items cores.new.items wire.old.items wire.new.items) }
-    ensures cores { OnErr result (CoresStay cores.old.items cores.new.items) }
+    requires there { core < length cores.now.items }
+    requires plan { EachCore (λ c. IsCorePlan c.plan) cores.now.items }
+    ensures ok { IfOk result (CoreStep (λ c. tell_row c.plan second c.me (state_of c second)) core second cores.now.items cores.now.items wire.old.items wire.new.items) }
     ensures wire { OnErr result (wire.new.items ≡ wire.old.items) }
 {
     voters_are_cores();
@@ -129,16 +128,15 @@ pub(crate) fn submission<C: Compress>(
 
 /// A core answers the aggregators whose items it sealed for a second.
 pub(crate) fn respond<C: Compress>(
-    cores: &mut Vec<Core<C>>,
+    cores: &Vec<Core<C>>,
     wire: &mut Vec<Message>,
     core: u8,
     second: u64,
 ) -> Result<Outcome, NoMemory>
-    requires there { core < length cores.old.items }
-    requires from { EachCore (λ c. c.start ≤ second) cores.old.items }
+    requires there { core < length cores.now.items }
+    requires from { EachCore (λ c. c.start ≤ second) cores.now.items }
     requires below { second < 2 ^ 63 }
-    ensures ok { IfOk result (CoreStep (λ c. respond_row C.image (held_by c) c.start second (state_of c second)) core second cores.old.items cores.new.items wire.old.items wire.new.items) }
-    ensures cores { OnErr result (CoresStay cores.old.items cores.new.items) }
+    ensures ok { IfOk result (CoreStep (λ c. respond_row C.image (held_by c) c.start second (state_of c second)) core second cores.now.items cores.now.items wire.old.items wire.new.items) }
     ensures wire { OnErr result (wire.new.items ≡ wire.old.items) }
 {
     let step = cores[core as usize].respond(second)?;
@@ -148,15 +146,14 @@ pub(crate) fn respond<C: Compress>(
 
 /// What a core answers that is to publish the calendar to a second.
 pub(crate) fn publish<C: Compress>(
-    cores: &mut Vec<Core<C>>,
+    cores: &Vec<Core<C>>,
     core: u8,
     second: u64,
 ) -> Result<Answer, NoMemory>
-    requires there { core < length cores.old.items }
-    requires from { EachCore (λ c. c.start ≤ second) cores.old.items }
+    requires there { core < length cores.now.items }
+    requires from { EachCore (λ c. c.start ≤ second) cores.now.items }
     requires below { second < 2 ^ 63 }
-    ensures answer { IfOk result (λ answer. (c : CoreState) → slice_get cores.old.items core ≡ Some c → answer ≡ publish_answer C.image (held_by c) c.start second) }
-    ensures cores { CoresStay cores.old.items cores.new.items }
+    ensures { IfOk result (λ answer. (c : CoreState) → slice_get cores.now.items core ≡ Some c → answer ≡ publish_answer C.image (held_by c) c.start second) }
 {
     let step = cores[core as usize].publish(second)?;
     Ok(step.answer)

@@ -67,7 +67,7 @@ impl<C: Compress> Nodes<C> {
         ensures ok { IfOk result (λ outcome. (plan : PlanState) → Happened C.image plan (Event.Tell core second) self.old self.new outcome) }
         ensures err { OnErr result ((plan : PlanState) → StoodStill plan self.old self.new) }
     {
-        cores::tell(&mut self.cores, &mut self.wire, core, second)
+        cores::tell(&self.cores, &mut self.wire, core, second)
     }
 
     /// A core answers the aggregators whose items it sealed for a second.
@@ -76,7 +76,7 @@ impl<C: Compress> Nodes<C> {
         ensures ok { IfOk result (λ outcome. (plan : PlanState) → Happened C.image plan (Event.Respond core second) self.old self.new outcome) }
         ensures err { OnErr result ((plan : PlanState) → StoodStill plan self.old self.new) }
     {
-        cores::respond(&mut self.cores, &mut self.wire, core, second)
+        cores::respond(&self.cores, &mut self.wire, core, second)
     }
 
     /// A core restarts.
@@ -157,7 +157,7 @@ impl<C: Compress> Nodes<C> {
         ensures err { OnErr result ((plan : PlanState) → StoodStill plan self.old self.new) }
     {
         self.published.reserve(1)?;
-        let answer = cores::publish(&mut self.cores, core, second)?;
+        let answer = cores::publish(&self.cores, core, second)?;
         put_answer(&mut self.published, second, &answer);
         Ok(Outcome { answer, sent: 0 })
     }

@@ -2,9 +2,10 @@ use Rattle.std.proofs.Common.{◌≡◌, inl, inr, ℕ, ◌+◌, ◌-◌, ◌/�
 use Rattle.ksi_split.specs.Upward.{halves, whole}
 use Rattle.ksi_split.proofs.Powers.{lt_cases, eq_cases, halves_rise}
 use Rattle.ksi_split.specs.Leaves.{leaf_at}
-use Rattle.ksi_split.specs.Stored.{row_at, row_of}
+use Rattle.ksi_split.specs.Stored.{row_at, room_at, row_of}
 use Rattle.ksi_split.proofs.Complete.{one_more, no_more, row_more, row_same, length-parts, node_step, leaf_before, leaf_last}
 use Rattle.ksi_split.proofs.Grown.{items_added}
+use Rattle.ksi_split.proofs.Rooms.{room_there}
 use Rattle.ksi_split.proofs.levels.add.Goals as goal
 
 pub loop-level-init : goal.loop-level-init
@@ -12,10 +13,10 @@ unfolding whole
 loop-level-init g c = record {
   at = refl;
   node = sym (leaf_last c.args.zeros.now.start c.args.zeros.now.leaf (row_at c.args.rows.now.items 0) c.args.leaf) ∙ ap (leaf_at c.args.zeros.now.start c.args.zeros.now.leaf (row_at c.args.rows.now.items 0 ++ c.args.leaf ∷ [])) (sym c.requires.count);
-  rows = c.requires.rows;
   done = λ k lt. absurd (omega arith);
   rest = λ k le. refl;
   room = λ k le. refl;
+  taken = λ k lt. absurd (omega arith);
 }
 
 pub part-left-requires-clause-within : goal.part-left-requires-clause-within
@@ -50,10 +51,10 @@ loop-level-preserved g c =
         node_step joined leaf c.args.zeros.now.start c.args.zeros.now.leaf c.put.new.rows.items k c.args.n
             (leaf_before c.args.zeros.now.start c.args.zeros.now.leaf (row_at c.args.rows.now.items 0 ++ c.args.leaf ∷ [])) (omega (arith, c.requires.count)) (c.requires.top.odd k below) row,
       );
-      rows = omega (arith, c.put.ensures.len, c.loop-level.invariant.rows);
       done = below_more _ _ (λ j lt. c.put.ensures.others j (omega arith) ∙ c.loop-level.invariant.done j lt) row;
       rest = λ j le. c.put.ensures.others j (omega arith) ∙ c.loop-level.invariant.rest j (omega arith);
       room = λ j le. c.put.ensures.rooms j (omega arith) ∙ c.loop-level.invariant.room j (omega arith);
+      taken = below_more _ _ (λ j lt. ap (λ (n : ℕ). n + 1) (c.put.ensures.rooms j (omega arith)) ∙ c.loop-level.invariant.taken j lt) (c.put.ensures.room ∙ c.loop-level.invariant.room k (omega arith));
     }
 
 pub returns-clause-row : goal.returns-clause-row
@@ -78,3 +79,34 @@ pub returns-clause-items : goal.returns-clause-items
 returns-clause-items g c =
     items_added g.J.Joins.joined c.args.zeros.now.start c.args.zeros.now.leaf (row_at c.args.rows.now.items 0) c.args.leaf (row_at c.put-2.new.rows.items 0) c.args.n c.requires.count
     (c.requires.row 0 (omega arith)) (returns-clause-row g c 0 (omega arith))
+
+pub put-requires-clause-at : goal.put-requires-clause-at
+put-requires-clause-at g c =
+    let k = c.loop-level.level in
+    let there = room_there c.loop-level.rows.items k (omega (arith, c.loop-level.invariant.room k (omega arith), c.requires.room k (omega arith))) in
+    omega (arith, there, c.loop-level.rows.ok.0)
+
+pub put-requires-2-clause-at : goal.put-requires-2-clause-at
+put-requires-2-clause-at g c =
+    let there = room_there c.loop-level.rows.items c.args.top (omega (arith, c.loop-level.invariant.room c.args.top (omega arith), c.requires.room c.args.top (omega arith))) in
+    omega (arith, there, c.loop-level.rows.ok.0)
+
+pub returns-clause-room : goal.returns-clause-room
+returns-clause-room g c k =
+    let level : c.loop-level.level ≡ c.args.top = omega (arith, c.loop-level.auto.level-end, c.loop-level-test.false) in
+    elim (lt_cases k c.args.top) [
+      | inl t ↦ omega (arith, one_more c.args.n c.args.top k c.requires.top (omega arith), c.put-2.ensures.rooms k (omega arith), c.loop-level.invariant.taken k (omega arith))
+      | inr w ↦ elim (eq_cases k c.args.top) [
+        | inl e ↦ omega (
+          arith,
+          one_more c.args.n c.args.top c.args.top c.requires.top (omega arith),
+          c.put-2.ensures.room,
+          c.loop-level.invariant.room c.args.top (omega arith),
+          ap (λ (i : ℕ). halves i c.args.n) e.1,
+          ap (λ (i : ℕ). halves i (c.args.n + 1)) e.1,
+          ap (room_at c.put-2.new.rows.items) e.1,
+          ap (room_at c.args.rows.now.items) e.1,
+        )
+        | inr f ↦ omega (arith, no_more c.args.n c.args.top k c.requires.top (omega (arith, f.1)), c.put-2.ensures.rooms k f.1, c.loop-level.invariant.room k (omega arith))
+      ]
+    ]

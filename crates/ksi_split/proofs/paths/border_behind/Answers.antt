@@ -1,4 +1,4 @@
-use Rattle.std.proofs.Common.{◌≡◌, arith}
+use Rattle.std.proofs.Common.{arith}
 use Rattle.ksi_split.proofs.Powers.{halves_quotient}
 use Rattle.ksi_split.proofs.paths.border_behind.Goals as goal
 

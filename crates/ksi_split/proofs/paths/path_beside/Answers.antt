@@ -1,4 +1,4 @@
-use Rattle.std.proofs.Common.{◌≡◌, ◌+◌, ◌/◌, ◌≤◌, [], ◌∷◌, ◌++◌, ℕ, Vec, Global, length, refl, sym, ap, ◌∙◌, arith, add-one, append-nil}
+use Rattle.std.proofs.Common.{◌≡◌, ◌+◌, ◌/◌, [], ◌∷◌, ℕ, Vec, Global, length, refl, sym, ap, ◌∙◌, arith, add-one, append-nil}
 use Rattle.ksi_split.specs.Leaves.{leaf_of, TreeTo}
 use Rattle.ksi_split.specs.Trees.{path_of}
 use Rattle.ksi_split.specs.Upward.{halves, links_up}

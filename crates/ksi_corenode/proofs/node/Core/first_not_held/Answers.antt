@@ -1,5 +1,6 @@
 use Rattle.std.proofs.Common.{◌∙◌, ◌+◌, ℕ, Some, sym, ap, subst, arith}
-use Rattle.ksi_corenode.specs.CoreState.{CoreState, held_by, IsSettled}
+use Rattle.ksi_corenode.specs.CoreState.{CoreState, held_by}
+use Rattle.ksi_corenode.specs.Settled.{IsSettled}
 use Rattle.ksi_corenode.proofs.Settling.{first_behind}
 use Rattle.ksi_corenode.proofs.node.Core.first_not_held.Goals as goal
 

@@ -15,5 +15,5 @@ returns g c =
     let path : c.in_ok-links.links ≡ calendar_path image all second second =
     c.in_ok-links.ensures.links
     ∙ c.one_covered.ensures.path image calendar (held_by now) now.start second second
-    (kept_leaves (held_by now) now.start second calendar c.requires.kept (omega (arith, c.requires.covered, c.requires.kept.begins))) in
+    (kept_leaves (held_by now) now.start calendar c.requires.kept second (omega (arith, c.requires.covered, c.requires.kept.begins))) in
     c.in_ok-sends.ensures all second path

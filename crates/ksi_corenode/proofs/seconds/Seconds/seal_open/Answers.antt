@@ -1,38 +1,95 @@
-use Rattle.std.proofs.Common.{◌≡◌, ◌∙◌, ℕ, List, length, Some, rules, refl, ap, subst, arith}
-use Rattle.std.specs.Prelude.{◌-◌, ◌==◌, if◌then◌else◌, is_some}
-use Rattle.std.proofs.lemmas.List.{length-append}
+use Rattle.std.proofs.Common.{◌≡◌, ◌∙◌, ℕ, ◌++◌, List, length, Some, rules, refl, sym, ap, subst}
+use Rattle.std.specs.Prelude.{◌==◌, if◌then◌else◌, is_some, IsNone}
 use Rattle.ksi_aggtree.specs.declared.entries.Entry.{Entry}
-use Rattle.ksi_synod.specs.VoteState.{StableVote}
-use Rattle.ksi_corenode.specs.declared.stable.StableSecond.{StableSecond}
+use Rattle.ksi_synod.specs.VoteState.{VoteState, StableVote, stable_of}
+use Rattle.ksi_corenode.specs.declared.stable.StablePart.{StablePart}
 use Rattle.ksi_corenode.specs.Rows.{sealed_now}
-use Rattle.ksi_corenode.specs.Stored.{volatile_at}
+use Rattle.ksi_corenode.specs.Stored.{volatile_at, part_of, IsSealedWell}
 use Rattle.ksi_corenode.specs.CoreState.{CoreState, state_of, stable_at, IsChange}
-use Rattle.ksi_corenode.proofs.Sealing.{seal_change}
+use Rattle.ksi_corenode.proofs.Changes.{no_some, none_sealed, open_items_are, written}
+use Rattle.ksi_corenode.proofs.Sealing.{seal_change, sealed_part, sealed_stable, well_grown, well_sealed}
 use Rattle.ksi_corenode.proofs.seconds.Seconds.seal_open.Goals as goal
+
+pub candidate-requires : goal.candidate-requires
+candidate-requires g c = record {
+  unsealed = subst (λ (v : VoteState). IsNone v.candidate) (sym c.vote-vote.ensures)
+      ((none_sealed c.args.self.now c.args.second).1 (no_some (state_of c.args.self.now c.args.second).sealed c.requires));
+}
+
+pub put-requires-clause-held : goal.put-requires-clause-held
+put-requires-clause-held g c root is =
+    let inside = c.self.inside in
+    let t = c.args.second in
+    let old : CoreState = record { me = inside.me; plan = inside.plan; start = inside.stable_parts.start; settled = inside.stable_parts.settled; unsettled = inside.stable_parts.unsettled; items = inside.items.items; volatile_parts = inside.volatile_parts.entries } in
+    let vote_is = c.vote-vote.ensures ∙ sym (ap (λ (core : CoreState). (state_of core t).vote) c.self.view_is) in
+    let stable = c.stable.ensures ∙ ap stable_of c.candidate.ensures ∙ sealed_stable old t c.vote-vote.result c.in_ok-items.candidate vote_is in
+    ap (λ (s : StableVote). s.held) stable ∙ sym (ap (λ (s : StablePart). s.vote.held) (c.make_place.ensures.at t)) ∙ is
+
+pub invariant_of-self-2 : goal.invariant_of-self-2
+invariant_of-self-2 g c =
+    let image = g.C.Compress.image in
+    let inside = c.self.inside in
+    let t = c.args.second in
+    let old : CoreState = record { me = inside.me; plan = inside.plan; start = inside.stable_parts.start; settled = inside.stable_parts.settled; unsettled = inside.stable_parts.unsettled; items = inside.items.items; volatile_parts = inside.volatile_parts.entries } in
+    let more : List Entry = (volatile_at inside.volatile_parts.entries t).open_items in
+    let candidate = c.in_ok-items.candidate in
+    let vote_is = c.vote-vote.ensures ∙ sym (ap (λ (core : CoreState). (state_of core t).vote) c.self.view_is) in
+    let stable = c.stable.ensures ∙ ap stable_of c.candidate.ensures ∙ sealed_stable old t c.vote-vote.result candidate vote_is in
+    let part : StablePart = record { vote = c.stable.result; first = c.len-first.result; count = c.len.result } in
+    let items_is : c.extend_from_slice.new.self.items ≡ inside.items.items ++ more = c.in_ok-extend_from_slice.ensures.items ∙ ap (λ (xs : List Entry). inside.items.items ++ xs) (c.deref.ensures.value ∙ c.in_ok-items.ensures.items) in
+    let first : c.len-first.result ≡ length inside.items.items = search rules in
+    let all : c.len.result ≡ length c.in_ok-items.items.items = search rules in
+    let count : c.len.result ≡ length more = all ∙ ap length c.in_ok-items.ensures.items in
+    let part_is : part ≡ sealed_part (stable_at old t) candidate inside.items.items more =
+    ap (λ (v : StableVote). with_parts v c.len-first.result c.len.result) stable
+    ∙ ap (λ (n : ℕ). with_parts (record (stable_at old t).vote { candidate = Some candidate }) n c.len.result) first
+    ∙ ap (λ (n : ℕ). with_parts (record (stable_at old t).vote { candidate = Some candidate }) (length inside.items.items) n) count in (
+      c.self.invariant.0,
+      c.self.invariant.1,
+      written (part_of inside.stable_parts) (part_of c.put.new.self) t part
+          (λ u. c.put.ensures.at u ∙ ap (λ (s : StablePart). if u == t then part else s) (c.make_place.ensures.at u))
+          (λ _ (s : StablePart). IsSealedWell image c.extend_from_slice.new.self.items s)
+          (λ u. subst (λ (xs : List Entry). IsSealedWell image xs (part_of inside.stable_parts u)) (sym items_is) (well_grown image inside.items.items more (part_of inside.stable_parts u) (c.self.invariant.2 u)))
+          (subst (λ (xs : List Entry). IsSealedWell image xs part) (sym items_is) (subst (λ (s : StablePart). IsSealedWell image (inside.items.items ++ more) s) (sym part_is)
+          (well_sealed image inside.items.items more (stable_at old t) candidate c.in_ok-items.ensures.candidate c.in_ok-items.ensures.round))),
+    )
+  where
+    with_parts : StableVote → ℕ → ℕ → StablePart
+    with_parts v first count = record { vote = v; first = first; count = count }
 
 pub returns-clause-change : goal.returns-clause-change
 returns-clause-change g c =
     let image = g.C.Compress.image in
     let inside = c.self.inside in
     let t = c.args.second in
-    let old : CoreState = record { me = inside.me; plan = inside.plan; start = inside.stables.start; settled = inside.stables.settled; others = inside.stables.others; items = inside.items.items; volatiles = inside.volatiles.entries } in
-    let new : CoreState = record { me = inside.me; plan = inside.plan; start = c.put.new.self.start; settled = c.put.new.self.settled; others = c.put.new.self.others; items = c.move_items.new.items.items; volatiles = c.move_items.new.volatiles.entries } in
-    let more : List Entry = (volatile_at old.volatiles t).open_items in
-    let part : StableSecond = record { vote = c.sealed_with.result; first = c.len-first.result; count = c.len.result - c.len-first.result } in
+    let old : CoreState = record { me = inside.me; plan = inside.plan; start = inside.stable_parts.start; settled = inside.stable_parts.settled; unsettled = inside.stable_parts.unsettled; items = inside.items.items; volatile_parts = inside.volatile_parts.entries } in
+    let new : CoreState = record { me = inside.me; plan = inside.plan; start = c.put.new.self.start; settled = c.put.new.self.settled; unsettled = c.put.new.self.unsettled; items = c.extend_from_slice.new.self.items; volatile_parts = c.forget_items.new.volatile_parts.entries } in
+    let more : List Entry = (volatile_at old.volatile_parts t).open_items in
+    let candidate = c.in_ok-items.candidate in
+    let vote_is = c.vote-vote.ensures ∙ sym (ap (λ (core : CoreState). (state_of core t).vote) c.self.view_is) in
+    let stable = c.stable.ensures ∙ ap stable_of c.candidate.ensures ∙ sealed_stable old t c.vote-vote.result candidate vote_is in
+    let part : StablePart = record { vote = c.stable.result; first = c.len-first.result; count = c.len.result } in
+    let items_is : c.extend_from_slice.new.self.items ≡ old.items ++ more = c.in_ok-extend_from_slice.ensures.items ∙ ap (λ (xs : List Entry). old.items ++ xs) (c.deref.ensures.value ∙ c.in_ok-items.ensures.items) in
     let first : c.len-first.result ≡ length old.items = search rules in
-    let all : c.len.result ≡ length c.move_items.new.items.items = search rules in
-    let count : c.len.result - c.len-first.result ≡ length more = omega (arith, first, all, ap length c.in_ok-candidate.ensures.items, length-append old.items more) in
-    let old_part : c.get-old.result ≡ stable_at old t = c.get-old.ensures ∙ c.make_place.ensures.at t in
+    let all : c.len.result ≡ length c.in_ok-items.items.items = search rules in
+    let count : c.len.result ≡ length more = all ∙ ap length c.in_ok-items.ensures.items in
     subst (λ (core : CoreState). IsChange core new t (sealed_now image (state_of core t)).after) c.self.view_is
-    (seal_change image old new t part c.in_ok-candidate.candidate
+    (seal_change image old new t part candidate
     (ap (λ (core : CoreState). is_some (state_of core t).sealed) c.self.view_is ∙ c.requires)
-    c.self.invariant.2 refl refl (c.put.ensures.start ∙ c.make_place.ensures.start) c.in_ok-candidate.ensures.items
-    (λ u. c.put.ensures.at u ∙ ap (λ (s : StableSecond). if u == t then part else s) (c.make_place.ensures.at u))
-    c.in_ok-candidate.ensures.volatiles
-    (ap (λ (v : StableVote). with_parts v c.len-first.result (c.len.result - c.len-first.result)) (c.sealed_with.ensures ∙ ap (λ (s : StableSecond). record s.vote { candidate = Some c.in_ok-candidate.candidate }) old_part)
-    ∙ ap (λ (n : ℕ). with_parts (record (stable_at old t).vote { candidate = Some c.in_ok-candidate.candidate }) n (c.len.result - c.len-first.result)) first
-    ∙ ap (λ (n : ℕ). with_parts (record (stable_at old t).vote { candidate = Some c.in_ok-candidate.candidate }) (length old.items) n) count)
-    c.in_ok-candidate.ensures.candidate)
+    c.self.invariant.2 refl refl (c.put.ensures.start ∙ c.make_place.ensures.start) items_is
+    (λ u. c.put.ensures.at u ∙ ap (λ (s : StablePart). if u == t then part else s) (c.make_place.ensures.at u))
+    c.forget_items.ensures
+    (ap (λ (v : StableVote). with_parts v c.len-first.result c.len.result) stable
+    ∙ ap (λ (n : ℕ). with_parts (record (stable_at old t).vote { candidate = Some candidate }) n c.len.result) first
+    ∙ ap (λ (n : ℕ). with_parts (record (stable_at old t).vote { candidate = Some candidate }) (length old.items) n) count)
+    c.in_ok-items.ensures.candidate)
   where
-    with_parts : StableVote → ℕ → ℕ → StableSecond
+    with_parts : StableVote → ℕ → ℕ → StablePart
     with_parts v first count = record { vote = v; first = first; count = count }
+
+pub returns-clause-items : goal.returns-clause-items
+returns-clause-items g c =
+    let inside = c.self.inside in
+    let t = c.args.second in
+    let old : CoreState = record { me = inside.me; plan = inside.plan; start = inside.stable_parts.start; settled = inside.stable_parts.settled; unsettled = inside.stable_parts.unsettled; items = inside.items.items; volatile_parts = inside.volatile_parts.entries } in
+    c.in_ok-items.ensures.items ∙ open_items_are old t ∙ ap (λ (core : CoreState). (state_of core t).open_items) c.self.view_is

@@ -1,4 +1,4 @@
-use Rattle.std.proofs.Common.{◌≡◌, ◌+◌, ◌∷◌, [], ◌<◌, ℕ, length, ap, ◌∙◌, arith}
+use Rattle.std.proofs.Common.{length, ap, arith}
 use Rattle.ksi_split.specs.Upward.{node, whole}
 use Rattle.ksi_split.proofs.rows.Rows.borders.Goals as goal
 

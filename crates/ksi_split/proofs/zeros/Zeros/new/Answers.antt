@@ -17,7 +17,7 @@ loop-level-preserved g c =
       | then-level-gt0 w ↦ w.part-is ∙ w.join-part.ensures ∙ zero_step g.J.Joins.joined c.args.leaf c.loop-level.part k w.if-level-gt0.true inv.last
       | else-level-gt0 w ↦ w.part-is ∙ inv.last ∙ ap zero_at (omega (arith, w.if-level-gt0.false))
     ] in
-    let row : c.put.new.self.parts ≡ xs ++ more = c.put.ensures ∙ ap (λ (ys : List _). ys ++ more) c.grow.ensures.parts in
+    let row : c.put.new.self.parts ≡ xs ++ more = c.put.ensures.parts ∙ ap (λ (ys : List _). ys ++ more) c.grow.ensures.parts in
     let size = ap length row in
     record {
       whole = below_more _ _

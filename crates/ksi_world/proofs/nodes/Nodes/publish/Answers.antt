@@ -9,7 +9,7 @@ use Rattle.ksi_world.proofs.nodes.Nodes.publish.Goals as goal
 pub returns-in_err-answer-clause-err : goal.returns-in_err-answer-clause-err
 returns-in_err-answer-clause-err g c = at_error c.from_residual-in_err-answer.result (λ plan w fits.
     let fits' = subst (λ (n : NodesState). Fits plan w n) (sym c.self.view_is) fits in
-    record { cores = c.publish.ensures.cores plan w.seconds fits'.cores; aggregators = fits'.aggregators; wire = fits'.wire; requests = fits'.requests; published = c.reserve.ensures.items ∙ fits'.published })
+    record { cores = fits'.cores; aggregators = fits'.aggregators; wire = fits'.wire; requests = fits'.requests; published = c.reserve.ensures.items ∙ fits'.published })
 
 pub returns-clause-ok : goal.returns-clause-ok
 unfolding happens
@@ -19,7 +19,7 @@ returns-clause-ok g c = λ plan w fits.
     let was = subst (λ (n : NodesState). Fits c.requires.0 ready.world n) (sym c.self.view_is) ready.fits in
     let there = get_there c.self.inside.cores.items c.args.core (omega (arith, was.cores.many, ready.event_is.0)) in
     let is = fits'.cores.each c.args.core there.0 there.1 in
-    publish_fits plan w c.self.inside.cores.items c.publish.new.cores.items c.self.inside.aggregators.items c.self.inside.aggregators.items c.self.inside.wire.items c.self.inside.wire.items c.self.inside.requests.items c.self.inside.requests.items c.self.inside.published.items c.put_answer.new.published.items
-    fits' c.args.second c.in_ok-answer.answer (publish_answer g.C.Compress.image (held_in w c.args.core) plan.start c.args.second) c.publish.ensures.cores
+    publish_fits plan w c.self.inside.cores.items c.self.inside.cores.items c.self.inside.aggregators.items c.self.inside.aggregators.items c.self.inside.wire.items c.self.inside.wire.items c.self.inside.requests.items c.self.inside.requests.items c.self.inside.published.items c.put_answer.new.published.items
+    fits' c.args.second c.in_ok-answer.answer (publish_answer g.C.Compress.image (held_in w c.args.core) plan.start c.args.second) (λ _ _ are. are)
     (c.in_ok-answer.ensures.answer there.0 there.1 ∙ publish_same plan w c.args.core there.0 is c.args.second g.C.Compress.image)
     (c.put_answer.ensures ∙ ap (λ xs. published_with xs c.args.second c.in_ok-answer.answer) c.reserve.ensures.items)

@@ -4,7 +4,7 @@ use Rattle.ksi_corenode.specs.CoreState.{state_of, held_by}
 use Rattle.ksi_corenode.specs.Rows.{respond_row}
 use Rattle.ksi_world.specs.Histories.{happens, held_in}
 use Rattle.ksi_world.specs.Nodes.{NodesState, Fits}
-use Rattle.ksi_world.proofs.Fitting.{core_fits, core_stands, both_errors, respond_same}
+use Rattle.ksi_world.proofs.Fitting.{core_fits, core_stands, respond_same}
 use Rattle.ksi_world.proofs.nodes.Nodes.respond.Goals as goal
 
 pub returns-clause-ok : goal.returns-clause-ok
@@ -13,13 +13,13 @@ returns-clause-ok g c = IfOk-weaker c.respond.result _ _
     (λ outcome step plan w fits.
     let fits' = subst (λ (n : NodesState). Fits plan w n) (sym c.self.view_is) fits in
     let is = fits'.cores.each c.args.core step.old step.at in
-    core_fits plan w c.self.inside.cores.items c.respond.new.cores.items c.self.inside.aggregators.items c.self.inside.aggregators.items c.self.inside.wire.items c.respond.new.wire.items c.self.inside.requests.items c.self.inside.requests.items c.self.inside.published.items c.self.inside.published.items
+    core_fits plan w c.self.inside.cores.items c.self.inside.cores.items c.self.inside.aggregators.items c.self.inside.aggregators.items c.self.inside.wire.items c.respond.new.wire.items c.self.inside.requests.items c.self.inside.requests.items c.self.inside.published.items c.self.inside.published.items
     fits' (λ core. respond_row g.C.Compress.image (held_by core) core.start c.args.second (state_of core c.args.second)) c.args.core c.args.second outcome (respond_row g.C.Compress.image (held_in w c.args.core) plan.start c.args.second (w.seconds c.args.core c.args.second)) step (respond_same plan w c.args.core step.old is c.args.second g.C.Compress.image))
     c.respond.ensures.ok
 
 pub returns-clause-err : goal.returns-clause-err
 returns-clause-err g c = on_err_weaker c.respond.result
-    (λ stayed plan w fits.
-    core_stands plan w c.self.inside.cores.items c.respond.new.cores.items c.self.inside.aggregators.items c.self.inside.aggregators.items c.self.inside.wire.items c.respond.new.wire.items c.self.inside.requests.items c.self.inside.requests.items c.self.inside.published.items c.self.inside.published.items
-    (subst (λ (n : NodesState). Fits plan w n) (sym c.self.view_is) fits) stayed.0 stayed.1)
-    (both_errors _ _ c.respond.result c.respond.ensures.cores c.respond.ensures.wire)
+    (λ same plan w fits.
+    core_stands plan w c.self.inside.cores.items c.self.inside.cores.items c.self.inside.aggregators.items c.self.inside.aggregators.items c.self.inside.wire.items c.respond.new.wire.items c.self.inside.requests.items c.self.inside.requests.items c.self.inside.published.items c.self.inside.published.items
+    (subst (λ (n : NodesState). Fits plan w n) (sym c.self.view_is) fits) (λ _ _ are. are) same)
+    c.respond.ensures.wire
