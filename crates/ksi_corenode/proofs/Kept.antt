@@ -3,9 +3,9 @@ use Rattle.std.proofs.Common.{◌≡◌, ◌≢◌, ◌∙◌, ℕ, zero, suc, �
 use Rattle.std.specs.Prelude.{◌==◌, if◌then◌else◌, is_some, IsSome, unwrap_or, Result, Ok, Err, OnOk, OnErr}
 use Rattle.std.proofs.lemmas.Bool.{le-ltb, cond-true, cond-false, cond_both, eqb-true, cases_lt, eq-eqb, ne_eqb}
 use Rattle.std.proofs.lemmas.Option.{slice_get-get_or, slice_get_past}
-use Rattle.ksi_synod.specs.CorePlans.{CorePlanState}
 use Rattle.ksi_imprint.specs.Imprints.{zero_imprint}
 use Rattle.ksi_calendar.specs.Calendar.{Seconds, calendar_leaf, calendar_root, root_to}
+use Rattle.ksi_synod.specs.CorePlans.{CorePlanState}
 use Rattle.ksi_corenode.specs.SecondState.{SecondState, fresh_second}
 use Rattle.ksi_calendar.specs.Covered.{Roots, IsFirstMissing, covered_root, first_missing, second_leaf}
 use Rattle.ksi_synod.specs.VoteState.{VoteState, fresh_vote}

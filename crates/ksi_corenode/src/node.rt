@@ -175,7 +175,13 @@ impl<C: Compress> Core<C> {
         let mut vote = self.seconds.vote(second);
         let (answer, call) = called(vote.try_ballot());
         self.put_vote(second, &vote)?;
-        push_told(self.seconds.plan(), second, self.seconds.me(), &call, &mut sends);
+        push_told(
+            self.seconds.plan(),
+            second,
+            self.seconds.me(),
+            &call,
+            &mut sends,
+        );
         Ok(Step {
             answer,
             sends: Sends::from_vec(sends),
@@ -247,7 +253,11 @@ impl<C: Compress> Core<C> {
         let answer = match self.held(second) {
             None => Answer::Undecided(second),
             Some(root) => {
-                push_all(self.seconds.plan().cores(), &SynodMessage::Success(root), &mut sends);
+                push_all(
+                    self.seconds.plan().cores(),
+                    &SynodMessage::Success(root),
+                    &mut sends,
+                );
                 Answer::Done
             }
         };
