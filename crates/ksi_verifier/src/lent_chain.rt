@@ -4,7 +4,7 @@ ghost use Rattle.ksi_verifier.specs.Lent.{lent_chain};
 use crate::any_chain::AnyChain;
 use crate::index::compare_lent;
 use crate::refusal::Refusal;
-use ksi_aggchain::{LevelFault, LinkView, Node, climb, shape};
+use ksi_aggchain::{LevelFault, LinkView, Node, shape};
 use ksi_imprint::{Compress, Imprint};
 use ksi_signature::ChainView;
 
@@ -32,6 +32,6 @@ impl AnyChain for ChainView<'_> {
     }
 
     fn climb<C: Compress>(&self, start: Node) -> Result<Node, LevelFault> {
-        climb::<C, LinkView<'_>>(start.imprint, start.level, self.links().as_slice())
+        self.climb::<C>(start)
     }
 }
