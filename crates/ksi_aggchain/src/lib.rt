@@ -29,4 +29,4 @@ pub use climbing::{LevelFault, climb, climb_link};
 pub use link::{Link, Sibling};
 pub use link_view::LinkView;
 pub use node::{HIGHEST_LEVEL, Node};
-pub use shapes::shape;
+pub use shapes::{shape, with_leading_one, with_side};
