@@ -25,8 +25,8 @@ mod node;
 mod shapes;
 
 pub use chain_link::ChainLink;
-pub use climbing::{LevelFault, climb};
+pub use climbing::{LevelFault, climb, climb_link};
 pub use link::{Link, Sibling};
 pub use link_view::LinkView;
 pub use node::{HIGHEST_LEVEL, Node};
-pub use shapes::shape;
+pub use shapes::{shape, with_leading_one, with_side};
