@@ -12,7 +12,8 @@ use Rattle.ksi_verifier.specs.declared.aggregated.Aggregated.{Aggregated}
 use Rattle.ksi_verifier.specs.declared.refusal.Refusal.{Refusal}
 use Rattle.ksi_verifier.specs.declared.refusal.Refusal.TheVariants.{IndexOrder, IndexShape, Level, ChainBreak, AggregationTimes}
 use Rattle.ksi_verifier.specs.Checks.{◌>>=◌, ◌>>◌, need, each}
-use Rattle.ksi_verifier.specs.Chains.{PlainChain, plain_chains, first_chain, higher_chains, at_level_zero, last_part, without_last, chain_shape}
+use Rattle.ksi_verifier.specs.Chains.{PlainChain, plain_chains, first_chain, higher_chains, at_level_zero, without_last, chain_shape}
+use Rattle.ksi_signature.specs.Heads.{last_part}
 
 -- ---- V2: the index of each next chain is that of the chain below it without its last part
 

@@ -1,6 +1,7 @@
 ghost use Rattle.std.specs.Prelude.{◌≡◌};
 ghost use Rattle.ksi_aggchain.specs.Climbing.{climbed};
-ghost use Rattle.ksi_verifier.specs.Chains.{PlainChain, plain_chain, chain_shape, last_part, without_last};
+ghost use Rattle.ksi_signature.specs.Heads.{last_part};
+ghost use Rattle.ksi_verifier.specs.Chains.{PlainChain, plain_chain, chain_shape, without_last};
 ghost use Rattle.ksi_verifier.specs.ChainChecks.{same_parts};
 
 use crate::index::compare_parts;
