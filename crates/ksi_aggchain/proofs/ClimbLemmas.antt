@@ -225,33 +225,41 @@ module _ (image : List ℕ → List ℕ) where
   pub not_both : (x top : Node) (links : List PlainLink) (place high : ℕ) → Climbs image x links top → PassesLevels x.level links place high → ⊥
   not_both x top links place high h k = let a = climbs_to 0 x links top h in let b = passes_to 0 x links place high k in cc
 
+  -- ---- along one link
+
+  module _ (place level high : ℕ) (imprint : List ℕ) (link : PlainLink) (up : high ≡ level_above level link) (links : List PlainLink) where
+    pub link_stops : 255 < high → climbed image place (record { imprint = imprint; level = level }) (link ∷ links) ≡ Err (Over place high)
+    link_stops over = elim (lt_cases 255 (level_above level link)) [
+      | inl t ↦ (rw t.0 (ap (λ (n : ℕ). Err (Over place n)) (sym up)))
+      | inr f ↦ absurd (omega arith)
+    ]
+
+    pub link_goes : (side : Side) (node sibling next : List ℕ) → high ≤ 255 → next ≡ image (side_text side node sibling high) → side ≡ link.side → node ≡ imprint → sibling ≡ link.sibling
+        → climbed image place (record { imprint = imprint; level = level }) (link ∷ links) ≡ climbed image (place + 1) (record { imprint = next; level = high }) links
+    link_goes side node sibling next low is_next s n b = elim (lt_cases 255 (level_above level link)) [
+      | inl t ↦ absurd (omega arith)
+      | inr f ↦ (
+          let text : side_text side node sibling high ≡ side_text link.side imprint link.sibling (level_above level link) = λ i. side_text (s i) (n i) (b i) (up i) in
+          let same : next ≡ image (link_text imprint link (level_above level link)) = is_next ∙ ap image text in
+          rw f.0 (ap (λ (x : Node). climbed image (place + 1) x links) (sym (same_item (record { imprint = next; level = high }) (above image (record { imprint = imprint; level = level }) link) same up))))
+    ]
+
   -- ---- as a loop climbs
 
-  module _ (place level high : ℕ) (imprint : List ℕ) (link : PlainLink) (links : List PlainLink) (all : Result Node LevelFault) (lt : place < length links) (is : link ≡ get_or links place link)
-      (so_far : climbed image place (record { imprint = imprint; level = level }) (drop place links) ≡ all) (up : high ≡ level_above level link) where
+  module _ (place : ℕ) (item : Node) (link : PlainLink) (links : List PlainLink) (all : Result Node LevelFault) (lt : place < length links) (is : link ≡ get_or links place link)
+      (so_far : climbed image place item (drop place links) ≡ all) where
     rest_is : drop place links ≡ link ∷ drop (place + 1) links
     rest_is = let s : suc place ≡ place + 1 = omega arith in
         drop-cons links place link lt ∙ ap (λ (l : PlainLink). l ∷ drop (suc place) links) (sym is) ∙ ap (λ (n : ℕ). link ∷ drop n links) s
 
-    here : climbed image place (record { imprint = imprint; level = level }) (link ∷ drop (place + 1) links) ≡ all
-    here = ap (λ (more : List PlainLink). climbed image place (record { imprint = imprint; level = level }) more) (sym rest_is) ∙ so_far
+    here : climbed image place item (link ∷ drop (place + 1) links) ≡ all
+    here = ap (climbed image place item) (sym rest_is) ∙ so_far
 
-    pub loop_stops : 255 < high → Err (Over place high) ≡ all
-    loop_stops over = elim (lt_cases 255 (level_above level link)) [
-      | inl t ↦ (let at = rw t.0 at here in ap (λ (n : ℕ). Err (Over place n)) up ∙ at)
-      | inr f ↦ absurd (omega arith)
-    ]
+    pub loop_stops : (fault : LevelFault) → ((more : List PlainLink) → climbed image place item (link ∷ more) ≡ Err fault) → Err fault ≡ all
+    loop_stops fault stops = sym (stops (drop (place + 1) links)) ∙ here
 
-    pub loop_goes : (side : Side) (node sibling next : List ℕ) → high ≤ 255 → next ≡ image (side_text side node sibling high) → side ≡ link.side → node ≡ imprint → sibling ≡ link.sibling
-        → climbed image (place + 1) (record { imprint = next; level = high }) (drop (place + 1) links) ≡ all
-    loop_goes side node sibling next low is_next s n b = elim (lt_cases 255 (level_above level link)) [
-      | inl t ↦ absurd (omega arith)
-      | inr f ↦ (let at = rw f.0 at here in
-          let text : side_text side node sibling high ≡ side_text link.side imprint link.sibling (level_above level link) = λ i. side_text (s i) (n i) (b i) (up i) in
-          let same : next ≡ image (link_text imprint link (level_above level link)) = is_next ∙ ap image text in
-          ap (λ (x : Node). climbed image (place + 1) x (drop (place + 1) links))
-          (same_item (record { imprint = next; level = high }) (above image (record { imprint = imprint; level = level }) link) same up) ∙ at)
-    ]
+    pub loop_goes : (next : Node) → ((more : List PlainLink) → climbed image place item (link ∷ more) ≡ climbed image (place + 1) next more) → climbed image (place + 1) next (drop (place + 1) links) ≡ all
+    loop_goes next goes = sym (goes (drop (place + 1) links)) ∙ here
 
   pub loop_ends : (place : ℕ) (x : Node) (links : List PlainLink) (all : Result Node LevelFault) → length links ≤ place → climbed image place x (drop place links) ≡ all → Ok x ≡ all
   loop_ends place x links all end so_far =

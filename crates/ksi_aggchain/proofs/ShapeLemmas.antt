@@ -4,7 +4,7 @@ use Rattle.std.specs.List.{slice_get}
 use Rattle.std.specs.Int.{bit_at}
 use Rattle.std.proofs.Math.Nat.{pow-suc, pow-le-pow_right}
 use Rattle.std.proofs.Math.Seq.{drop-cons}
-use Rattle.std.proofs.lemmas.Nat.{shr-shr, one_shl}
+use Rattle.std.proofs.lemmas.Nat.{shr-shr}
 use Rattle.std.proofs.Math.ListN.{drop_of_length-le}
 use Rattle.std.proofs.lemmas.Nat.Bits.{bit_at-suc, bit_at_lowest}
 use Rattle.ksi_split.specs.declared.side.Side.{Side}
@@ -98,34 +98,29 @@ same_sides (x ∷ xs) (y ∷ ys) e =
 
 -- ---- as a loop adds them up
 
-module _ (place : ℕ) (sides : List Side) (side : Side) (few : length sides ≤ 63) (lt : place < length sides) (is : side ≡ get_or sides place side) (shape : ℕ)
-    (so_far : shape + left_powers place (drop place sides) ≡ shape_of sides) where
+pub shape_fits : (sides : List Side) → length sides ≤ 63 → shape_of sides < 2 ^ 64
+shape_fits sides few =
+    let high : 2 ^ suc (length sides) ≤ 2 ^ 64 = (let le : suc (length sides) ≤ 64 = omega arith in pow-le-pow_right {n = 2} (omega arith) le) in
+    omega (arith, shape_below sides, high)
+
+pub first_power : (place : ℕ) (side : Side) (sides : List Side) → left_powers place (side ∷ sides) ≡ left_powers place (side ∷ []) + left_powers (place + 1) sides
+first_power place Left sides = omega arith
+first_power place Right sides = omega arith
+
+module _ (place : ℕ) (sides : List Side) (side : Side) (few : length sides ≤ 63) (lt : place < length sides) (is : side ≡ get_or sides place side) (bits : ℕ)
+    (so_far : bits + left_powers place (drop place sides) ≡ left_powers 0 sides) where
   rest_is : drop place sides ≡ side ∷ drop (place + 1) sides
   rest_is = let s : suc place ≡ place + 1 = omega arith in
       drop-cons sides place side lt ∙ ap (λ (x : Side). x ∷ drop (suc place) sides) (sym is) ∙ ap (λ (n : ℕ). side ∷ drop n sides) s
 
-  here : shape + left_powers place (side ∷ drop (place + 1) sides) ≡ shape_of sides
-  here = ap (λ (more : List Side). shape + left_powers place more) (sym rest_is) ∙ so_far
+  here : bits + left_powers place (side ∷ drop (place + 1) sides) ≡ left_powers 0 sides
+  here = ap (λ (more : List Side). bits + left_powers place more) (sym rest_is) ∙ so_far
 
-  bit_is : (1 * 2 ^ place) % 2 ^ 64 ≡ 2 ^ place
-  bit_is = let small : place < 64 = omega arith in one_shl place 64 small
+  pub side_fits : bits + left_powers place (side ∷ []) < 2 ^ 64
+  side_fits = omega (arith, here, first_power place side (drop (place + 1) sides), shape_fits sides few)
 
-  pub left_fits : side ≡ Left → shape + (1 * 2 ^ place) % 2 ^ 64 < 2 ^ 64
-  left_fits left =
-      let at : shape + left_powers place (Left ∷ drop (place + 1) sides) ≡ shape_of sides = subst (λ (s : Side). shape + left_powers place (s ∷ drop (place + 1) sides) ≡ shape_of sides) left here in
-      let high : 2 ^ suc (length sides) ≤ 2 ^ 64 = (let le : suc (length sides) ≤ 64 = omega arith in pow-le-pow_right {n = 2} (omega arith) le) in
-      omega (arith, at, bit_is, shape_below sides, high)
+  pub side_goes : bits + left_powers place (side ∷ []) + left_powers (place + 1) (drop (place + 1) sides) ≡ left_powers 0 sides
+  side_goes = omega (arith, here, first_power place side (drop (place + 1) sides))
 
-  pub left_goes : side ≡ Left → shape + (1 * 2 ^ place) % 2 ^ 64 + left_powers (place + 1) (drop (place + 1) sides) ≡ shape_of sides
-  left_goes left =
-      let at : shape + left_powers place (Left ∷ drop (place + 1) sides) ≡ shape_of sides = subst (λ (s : Side). shape + left_powers place (s ∷ drop (place + 1) sides) ≡ shape_of sides) left here in
-      omega (arith, at, bit_is)
-
-  pub right_goes : side ≡ Right → shape + left_powers (place + 1) (drop (place + 1) sides) ≡ shape_of sides
-  right_goes right = subst (λ (s : Side). shape + left_powers place (s ∷ drop (place + 1) sides) ≡ shape_of sides) right here
-
-pub shape_begins : (sides : List Side) (n : ℕ) → n ≡ length sides → n ≤ 63 → (1 * 2 ^ n) % 2 ^ 64 + left_powers 0 sides ≡ shape_of sides
-shape_begins sides n is few = let small : n < 64 = omega arith in omega (arith, one_shl n 64 small, ap (λ (k : ℕ). 2 ^ k) is)
-
-pub shape_ends : (place : ℕ) (sides : List Side) (shape : ℕ) → length sides ≤ place → shape + left_powers place (drop place sides) ≡ shape_of sides → shape ≡ shape_of sides
-shape_ends place sides shape end so_far = omega (arith, so_far, ap (left_powers place) (drop_of_length-le sides {i = place} end))
+pub shape_ends : (place : ℕ) (sides : List Side) (bits : ℕ) → length sides ≤ place → bits + left_powers place (drop place sides) ≡ left_powers 0 sides → bits ≡ left_powers 0 sides
+shape_ends place sides bits end so_far = omega (arith, so_far, ap (left_powers place) (drop_of_length-le sides {i = place} end))

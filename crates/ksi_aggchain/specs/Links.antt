@@ -1,5 +1,5 @@
 -- Links of an aggregation chain as climbing sees them, whoever owns their siblings.
-use Rattle.std.specs.Prelude.{ℕ, ◌+◌, Bool, List}
+use Rattle.std.specs.Prelude.{ℕ, ◌+◌, ◌==◌, ◌&&◌, Bool, false, List, [], ◌∷◌, Option, Some, None, if◌then◌else◌}
 use Rattle.ksi_imprint.specs.Imprints.{join_text}
 use Rattle.ksi_split.specs.declared.side.Side.{Side}
 use Rattle.ksi_split.specs.declared.side.Side.TheVariants.{Left, Right}
@@ -28,3 +28,22 @@ highest_level = 255
 -- the level that a link leads to
 abbrev pub level_above : ℕ → PlainLink → ℕ
 level_above level link = level + link.correction + 1
+
+-- ---- raw siblings that begin as an imprint does
+
+abbrev pub begins_as_imprint : List ℕ → Bool
+begins_as_imprint [] = false
+begins_as_imprint (first ∷ rest) = first == 1
+
+abbrev pub on_right : Side → Bool → Bool
+on_right Left bare = false
+on_right Right bare = bare
+
+-- the raw sibling of a right link begins with 0x01, as an imprint does
+abbrev pub is_bare : PlainLink → Bool
+is_bare link = on_right link.side (link.raw && begins_as_imprint link.sibling)
+
+-- the place of the first such link, where there is one; the lowest link has the place given
+abbrev pub first_bare : ℕ → List PlainLink → Option ℕ
+first_bare place [] = None
+first_bare place (link ∷ links) = if is_bare link then Some place else first_bare (place + 1) links

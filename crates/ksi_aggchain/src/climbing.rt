@@ -1,5 +1,5 @@
-ghost use Rattle.std.specs.Prelude.{◌≡◌, ◌≤◌, ◌<◌, ◌+◌, ◌↔◌, ℕ, map};
-ghost use Rattle.ksi_aggchain.specs.Links.{side_text};
+ghost use Rattle.std.specs.Prelude.{◌≡◌, ◌≤◌, ◌<◌, ◌+◌, ◌↔◌, ℕ, List, ◌∷◌, map, Ok, Err, IfOk, IfErr};
+ghost use Rattle.ksi_aggchain.specs.Links.{PlainLink, side_text};
 ghost use Rattle.ksi_aggchain.specs.Climbing.{Climbs, PassesLevels, climbed};
 ghost use Rattle.ksi_aggchain.specs.declared.climbing.LevelFault.TheVariants.{Over};
 ghost use Rattle.ksi_aggchain.specs.declared.node.Node.{Node};
@@ -32,19 +32,39 @@ pub fn climb<C: Compress, L: ChainLink>(
     ensures value { result ≡
         climbed C.image 0 (record { imprint = start; level = level }) (map L.plain links.now) }
 {
-    let mut imprint = start;
-    let mut level = level;
+    let mut item = Node {
+        imprint: start,
+        level,
+    };
     for (place, link) in links.iter().enumerate() {
-        let above = level as u16 + link.correction() as u16 + 1;
-        if above > HIGHEST_LEVEL as u16 {
-            return Err(LevelFault::Over {
-                link: place,
-                level: above,
-            });
+        match climb_link::<C, L>(item, place, link) {
+            Ok(above) => item = above,
+            Err(fault) => return Err(fault),
         }
-        level = above as u8;
-        imprint = join_beside::<C>(link.side(), imprint.bytes(), link.sibling(), level);
     }
+    Ok(item)
+}
+
+/// The item that one link leads to, the one at that place among others.
+///
+/// # Errors
+/// `Over` where its level passes 255.
+pub fn climb_link<C: Compress, L: ChainLink>(
+    item: Node,
+    place: usize,
+    link: &L,
+) -> Result<Node, LevelFault>
+    ensures goes { IfOk result (λ above. (links : List PlainLink) →
+        climbed C.image place item (L.plain link.now ∷ links) ≡ climbed C.image (place + 1) above links) }
+    ensures stops { IfErr result (λ fault. (links : List PlainLink) →
+        climbed C.image place item (L.plain link.now ∷ links) ≡ Err fault) }
+{
+    let level = item.level as u16 + link.correction() as u16 + 1;
+    if level > HIGHEST_LEVEL as u16 {
+        return Err(LevelFault::Over { link: place, level });
+    }
+    let level = level as u8;
+    let imprint = join_beside::<C>(link.side(), item.imprint.bytes(), link.sibling(), level);
     Ok(Node { imprint, level })
 }
 

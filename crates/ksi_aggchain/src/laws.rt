@@ -1,9 +1,9 @@
 //! What holds of climbing and of shapes, for the layers above to cite. None of these functions does anything.
-ghost use Rattle.std.specs.Prelude.{◌≡◌, ◌<◌, ◌≤◌, ◌+◌, ◌↔◌, ◌⊎◌, ℕ, List, [], ◌++◌, length, Ok, Err};
+ghost use Rattle.std.specs.Prelude.{◌≡◌, ◌<◌, ◌≤◌, ◌+◌, ◌↔◌, ◌⊎◌, ℕ, List, [], ◌++◌, length, Ok, Err, ◌^◌, ◌∷◌};
 ghost use Rattle.ksi_split.specs.declared.side.Side.{Side};
 ghost use Rattle.ksi_aggchain.specs.Links.{PlainLink};
 ghost use Rattle.ksi_aggchain.specs.Climbing.{Leads, Climbs, PassesLevels, level_after, climbed};
-ghost use Rattle.ksi_aggchain.specs.Shapes.{IsShape, shape_of};
+ghost use Rattle.ksi_aggchain.specs.Shapes.{IsShape, left_powers, shape_of};
 ghost use Rattle.ksi_aggchain.specs.declared.node.Node.{Node};
 ghost use Rattle.ksi_aggchain.specs.declared.climbing.LevelFault.TheVariants.{Over};
 
@@ -53,5 +53,8 @@ pub fn levels_rise()
 pub fn one_shape()
     ensures shape { (sides : List Side) (shape : ℕ) → IsShape sides shape ↔ (shape ≡ shape_of sides) }
     ensures no_links { shape_of [] ≡ 1 }
+    ensures fits { (sides : List Side) → length sides ≤ 63 → shape_of sides < 2 ^ 64 }
+    ensures first { (place : ℕ) (side : Side) (sides : List Side) →
+        left_powers place (side ∷ sides) ≡ left_powers place (side ∷ []) + left_powers (place + 1) sides }
     ensures same_sides { (one other : List Side) → shape_of one ≡ shape_of other → one ≡ other }
 {}

@@ -4,8 +4,8 @@
 //! it goes up (Buldas, Kroonmaa, Laanoja, "Keyless Signatures' Infrastructure", 2013).
 //!
 //! The layer above may rely on this: `climb` gives exactly the item that the links lead to, or the first link whose
-//! level passes 255; `shape` is the number that has the links' sides as its bits, below a leading one. No call takes
-//! memory. What holds of climbing and of shapes is in `laws`.
+//! level passes 255; `shape` is the number that has the links' sides as its bits, below a leading one; `find_bare`
+//! is the first right link whose raw sibling begins as an imprint does. No call takes memory. What holds of climbing and of shapes is in `laws`.
 //!
 //! ```text
 //! let links = [Link { side: Side::Left, correction: 0, sibling: Sibling::Imprint(sibling) }];
@@ -16,6 +16,7 @@
 //! ```
 #![tactic(auto)]
 
+mod bare;
 mod chain_link;
 mod climbing;
 pub mod laws;
@@ -24,9 +25,10 @@ mod link_view;
 mod node;
 mod shapes;
 
+pub use bare::{find_bare, is_bare};
 pub use chain_link::ChainLink;
-pub use climbing::{LevelFault, climb};
+pub use climbing::{LevelFault, climb, climb_link};
 pub use link::{Link, Sibling};
 pub use link_view::LinkView;
 pub use node::{HIGHEST_LEVEL, Node};
-pub use shapes::shape;
+pub use shapes::{shape, with_leading_one, with_side};

@@ -6,11 +6,11 @@
 #[cfg(test)]
 mod auditing;
 #[cfg(test)]
-mod borrowed;
-#[cfg(test)]
 mod extending;
 #[cfg(test)]
 mod journals;
+#[cfg(test)]
+mod lent;
 #[cfg(test)]
 mod same;
 #[cfg(test)]

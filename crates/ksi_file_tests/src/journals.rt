@@ -129,11 +129,11 @@ fn holds_one_publication(rt: &impl Abort, journal: &Journal<Tiny>) {
     same(rt, "publications", journal.publications(), &[(6, named(4))]);
 }
 
-fn root_over(journal: &Journal<Tiny>, second: u64) -> Option<Node> {
+fn root_in(journal: &Journal<Tiny>, second: u64) -> Option<Node> {
     Some(journal.tree(second)?.root())
 }
 
-fn node_over(journal: &Journal<Tiny>, second: u64, sides: &[Side]) -> Option<Node> {
+fn node_in(journal: &Journal<Tiny>, second: u64, sides: &[Side]) -> Option<Node> {
     journal.tree(second)?.node(sides)
 }
 
@@ -149,7 +149,7 @@ fn holds_two_trees(rt: &impl Abort, journal: &Journal<Tiny>) {
         (8, node(1, pair())),
     ];
     for (second, top) in tops {
-        same(rt, "tree", root_over(journal, second), top);
+        same(rt, "tree", root_in(journal, second), top);
     }
     let sides = [Left, Right];
     let nodes = [
@@ -161,7 +161,7 @@ fn holds_two_trees(rt: &impl Abort, journal: &Journal<Tiny>) {
     ];
     for (second, first, end, wanted) in nodes {
         let way = sides.get(first..end).unwrap_or(&[]);
-        same(rt, "node", node_over(journal, second, way), wanted);
+        same(rt, "node", node_in(journal, second, way), wanted);
     }
 }
 

@@ -18,8 +18,10 @@ use Rattle.ksi_signature.specs.Above.{IsNode}
 use Rattle.ksi_signature.specs.Carried.{IsAboveChain, MayBeIssued}
 use Rattle.ksi_signature.specs.Issued.{shape_along, index_of, issued_chains, own_chain, issued}
 use Rattle.ksi_verifier.specs.declared.aggregated.Aggregated.{Aggregated}
-use Rattle.ksi_verifier.specs.ChainChecks.{begins_as_imprint, on_right, is_bare, aggregated}
-use Rattle.ksi_verifier.specs.Chains.{plain_chains, first_chain, last_part, without_last, chain_shape}
+use Rattle.ksi_signature.specs.Heads.{last_part}
+use Rattle.ksi_aggchain.specs.Links.{begins_as_imprint, on_right, is_bare}
+use Rattle.ksi_verifier.specs.ChainChecks.{aggregated}
+use Rattle.ksi_verifier.specs.Chains.{plain_chains, first_chain, without_last, chain_shape}
 use Rattle.ksi_verifier.specs.Accepted.{AreNested, ChainsLead, IsAggregated}
 use Rattle.ksi_world.specs.Joined.{ChainsClimb}
 use Rattle.ksi_history.specs.Lasting.{AreOfNodes}

@@ -25,3 +25,4 @@ pub mod Moved
 pub mod ExtendedAgain
 pub mod Lasting
 pub mod Made
+pub mod Sides

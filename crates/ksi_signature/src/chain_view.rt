@@ -9,10 +9,11 @@ ghost use Rattle.ksi_signature.specs.HeadViews.{view_head};
 use crate::head::Head;
 use crate::index_parts::IndexParts;
 use crate::link_views::LinkViews;
-use crate::link_walking::links_in;
+use crate::link_walking::{bare_in, climb_in, links_in, shape_in};
 use crate::walking::head_in;
 use crate::within::{chain_is_limited, imprint_in_chain, parts_are_numbers};
-use ksi_imprint::Imprint;
+use ksi_aggchain::{LevelFault, Node};
+use ksi_imprint::{Compress, Imprint};
 use ksi_tlv::{Elements, Placed};
 
 /// An aggregation chain, lent from the bytes of its signature.
@@ -25,8 +26,11 @@ pub struct ChainView<'a> {
 }
 
 impl<'a> ChainView<'a> {
-    ghost use Rattle.std.specs.Prelude.{◌≡◌, ◌<◌, ◌≤◌, ◌^◌, Ok, length, option_map};
+    ghost use Rattle.std.specs.Prelude.{◌≡◌, ◌<◌, ◌≤◌, ◌^◌, Ok, length, map, option_map};
     ghost use Rattle.std.specs.List.{AllByRecursion};
+    ghost use Rattle.ksi_aggchain.specs.Climbing.{climbed};
+    ghost use Rattle.ksi_aggchain.specs.Links.{first_bare};
+    ghost use Rattle.ksi_aggchain.specs.Shapes.{shape_of};
     ghost use Rattle.ksi_aggchain.specs.Owned.{plain_links};
     ghost use Rattle.ksi_tlv.specs.Views.{view_placed};
     ghost use Rattle.ksi_grammar.specs.Reading.{inner_verdict};
@@ -97,6 +101,33 @@ impl<'a> ChainView<'a> {
     {
         chain_is_limited(&self.at);
         links_in(&self.at)
+    }
+
+    /// The shape of the links.
+    #[tactic(auto, unfolding(crate::specs::Contents::chain_in))]
+    pub fn shape(&self) -> u64
+        ensures { result ≡ shape_of (map (λ link. link.side) (plain_links (chain_seen self.now).links)) }
+    {
+        shape_in(&self.at)
+    }
+
+    /// The item that the links lead to from an item.
+    ///
+    /// # Errors
+    /// `Over` with the first link whose level passes 255.
+    #[tactic(auto, unfolding(crate::specs::Contents::chain_in))]
+    pub fn climb<C: Compress>(&self, start: Node) -> Result<Node, LevelFault>
+        ensures { result ≡ climbed C.image 0 start (plain_links (chain_seen self.now).links) }
+    {
+        climb_in::<C>(&self.at, start)
+    }
+
+    /// The first right link whose raw sibling begins with 0x01, as an imprint does: none where there is none.
+    #[tactic(auto, unfolding(crate::specs::Contents::chain_in))]
+    pub fn bare_link(&self) -> Option<usize>
+        ensures { result ≡ first_bare 0 (plain_links (chain_seen self.now).links) }
+    {
+        bare_in(&self.at)
     }
 
     /// How many parts the index has.

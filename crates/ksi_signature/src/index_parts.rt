@@ -39,14 +39,14 @@ impl<'a> IndexParts<'a> {
 }
 
 impl<'a> Iterator for IndexParts<'a> {
-    ghost use Rattle.std.specs.Iterator.{YieldsFirst, at_most};
+    ghost use Rattle.std.specs.Iterator.{YieldsFirst, item_count};
     ghost use Rattle.ksi_signature.specs.PartsLeft.{parts_left};
 
     type Item = u64;
 
     ghost next_gives = { YieldsFirst parts_left };
 
-    ghost remaining = { λ parts. at_most parts.left };
+    ghost remaining = { item_count parts_left };
 
     fn next(&mut self) -> Option<u64> {
         if self.left == 0 {

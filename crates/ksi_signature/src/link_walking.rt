@@ -1,7 +1,10 @@
 //! Walks over the links of an accepted aggregation chain.
 
-ghost use Rattle.std.specs.Prelude.{◌≡◌, Ok};
+ghost use Rattle.std.specs.Prelude.{◌≡◌, ◌==◌, ◌||◌, map, Ok};
+ghost use Rattle.ksi_aggchain.specs.Links.{first_bare};
 ghost use Rattle.ksi_aggchain.specs.Owned.{plain_link, plain_links};
+ghost use Rattle.ksi_aggchain.specs.Climbing.{climbed};
+ghost use Rattle.ksi_aggchain.specs.Shapes.{shape_of};
 ghost use Rattle.ksi_aggchain.specs.Lent.{lent_link};
 ghost use Rattle.ksi_tlv.specs.Views.{view_placed};
 ghost use Rattle.ksi_grammar.specs.Reading.{inner_verdict};
@@ -15,8 +18,10 @@ use crate::contents::{level_of, side_of};
 use crate::kinds::{CORRECTION, IMPRINT, LEFT_LINK, LEGACY, METADATA, RIGHT_LINK};
 use crate::link_parts::{LinkParts, SiblingView};
 use crate::link_views::LinkViews;
-use ksi_aggchain::LinkView;
+use ksi_aggchain::laws::one_shape;
+use ksi_aggchain::{LevelFault, LinkView, Node, climb_link, is_bare, with_leading_one, with_side};
 use ksi_grammar::inside_is_whole;
+use ksi_imprint::Compress;
 use ksi_tlv::{Elements, Placed};
 
 /// The links of an accepted chain.
@@ -35,6 +40,78 @@ pub(crate) fn links_in<'a>(at: &Placed<'a>) -> LinkViews<'a>
         }
     }
     links
+}
+
+/// The item that the links of an accepted chain lead to from an item: each is read when it is climbed along.
+pub(crate) fn climb_in<C: Compress>(at: &Placed<'_>, start: Node) -> Result<Node, LevelFault>
+    requires { inner_verdict chain_table (view_placed at.now) ≡ Ok tt }
+    ensures { result ≡ climbed C.image 0 start (plain_links (links_among (inner_elements (view_placed at.now)))) }
+{
+    inside_is_whole();
+    let mut top = start;
+    let mut place = 0;
+    let mut elements = Elements::at(at.inside, at.element.body);
+    while let Some(item) = elements.next() {
+        if let Ok(part) = item {
+            if matches!(part.element.kind, LEFT_LINK | RIGHT_LINK) {
+                match climb_link::<C, LinkView<'_>>(top, place, &link_at(&part)) {
+                    Ok(above) => top = above,
+                    Err(fault) => return Err(fault),
+                }
+                place += 1;
+            }
+        }
+    }
+    Ok(top)
+}
+
+/// The first right link of an accepted chain whose raw sibling begins with 0x01.
+pub(crate) fn bare_in(at: &Placed<'_>) -> Option<usize>
+    requires { inner_verdict chain_table (view_placed at.now) ≡ Ok tt }
+    ensures { result ≡ first_bare 0 (plain_links (links_among (inner_elements (view_placed at.now)))) }
+{
+    inside_is_whole();
+    let mut place = 0;
+    let mut elements = Elements::at(at.inside, at.element.body);
+    while let Some(item) = elements.next() {
+        if let Ok(part) = item {
+            if is_link(&part) {
+                if is_bare::<LinkView<'_>>(&link_at(&part)) {
+                    return Some(place);
+                }
+                place += 1;
+            }
+        }
+    }
+    None
+}
+
+/// The shape of the links of an accepted chain.
+pub(crate) fn shape_in(at: &Placed<'_>) -> u64
+    requires { inner_verdict chain_table (view_placed at.now) ≡ Ok tt }
+    ensures { result ≡ shape_of (map (λ link. link.side) (plain_links (links_among (inner_elements (view_placed at.now))))) }
+{
+    inside_is_whole();
+    one_shape();
+    let mut bits = 0;
+    let mut place = 0;
+    let mut elements = Elements::at(at.inside, at.element.body);
+    while let Some(item) = elements.next() {
+        if let Ok(part) = item {
+            if is_link(&part) {
+                bits = with_side(bits, place, side_of(&part));
+                place += 1;
+            }
+        }
+    }
+    with_leading_one(bits, place)
+}
+
+/// Whether an element is a link.
+fn is_link(at: &Placed<'_>) -> bool
+    ensures { result ≡ (at.now.element.kind == 7 || at.now.element.kind == 8) }
+{
+    matches!(at.element.kind, LEFT_LINK | RIGHT_LINK)
 }
 
 /// The link that an accepted element is.

@@ -1,11 +1,11 @@
 -- What it means that the checks of aggregation chains pass.
 use Rattle.std.proofs.Common.{◌≡◌, ◌↔◌, ℕ, ◌+◌, ◌<◌, Bool, true, false, List, [], ◌∷◌, length, Result, Ok, Err, Some, None, refl, sym, ap, ◌∙◌, subst, arith}
-use Rattle.std.specs.Prelude.{◌==◌, not, if◌then◌else◌}
+use Rattle.std.specs.Prelude.{◌==◌, Option, if◌then◌else◌}
 use Rattle.std.specs.List.{AllByRecursion}
 use Rattle.std.specs.Str.{bytes_eq}
 use Rattle.std.proofs.lemmas.Bool.Decides.{Decides-eqb}
 use Rattle.std.proofs.lemmas.List.{length-map}
-use Rattle.ksi_aggchain.specs.Links.{PlainLink}
+use Rattle.ksi_aggchain.specs.Links.{PlainLink, is_bare, first_bare}
 use Rattle.ksi_aggchain.specs.Climbing.{Climbs, climbed}
 use Rattle.ksi_aggchain.specs.declared.node.Node.{Node}
 use Rattle.ksi_aggchain.specs.declared.climbing.LevelFault.{LevelFault}
@@ -15,10 +15,11 @@ use Rattle.ksi_verifier.specs.declared.aggregated.Aggregated.{Aggregated}
 use Rattle.ksi_verifier.specs.declared.refusal.Refusal.{Refusal}
 use Rattle.ksi_verifier.specs.declared.refusal.Refusal.TheVariants.{IndexOrder, ChainBreak}
 use Rattle.ksi_verifier.specs.Checks.{◌>>=◌, ◌>>◌, need}
-use Rattle.ksi_verifier.specs.Chains.{PlainChain, plain_chain, plain_chains, first_chain, higher_chains, at_level_zero, last_part, without_last, chain_shape}
-use Rattle.ksi_verifier.specs.ChainChecks.{same_parts, index_order, index_shape, index_shapes, or_level, top_of, tops, unbroken, last_item, joined_chains, same_time, same_times, is_bare, not_bare, none_bare, no_bare_links, chains_checked}
+use Rattle.ksi_signature.specs.Heads.{last_part}
+use Rattle.ksi_verifier.specs.Chains.{PlainChain, plain_chain, plain_chains, first_chain, higher_chains, at_level_zero, without_last, chain_shape}
+use Rattle.ksi_verifier.specs.ChainChecks.{same_parts, index_order, index_shape, index_shapes, or_level, top_of, tops, unbroken, last_item, joined_chains, same_time, same_times, or_bare, none_bare, no_bare_links, chains_checked}
 use Rattle.ksi_verifier.specs.Accepted.{AreNested, ChainsLead, IsAggregated}
-use Rattle.ksi_verifier.proofs.Passing.{Passes, good, ok_is, bind_both, then_both, need_same, need_equal, each_both}
+use Rattle.ksi_verifier.proofs.Passing.{Passes, good, ok_is, bind_both, then_both, need_same, need_equal, each_both, both_then}
 use Rattle.ksi_verifier.proofs.Loops.{links_from, start_joins}
 
 pub some_plain : (chains : List Aggregation) → 0 < length chains → 0 < length (plain_chains chains)
@@ -56,12 +57,21 @@ times_both first chains = each_both (same_time first) (λ chain. chain.time ≡ 
 
 -- ---- V15
 
-need_not : (b : Bool) (refusal : Refusal) → Passes (need (not b) refusal) ↔ (b ≡ false)
-need_not true refusal = (λ e. absurd cc, λ e. absurd cc)
-need_not false refusal = (λ e. refl, λ e. refl)
+none_from : (place : ℕ) (links : List PlainLink) → (first_bare place links ≡ None) ↔ AllByRecursion (λ link. is_bare link ≡ false) links
+none_from place [] = (λ e. tt, λ h. refl)
+none_from place (link ∷ links) = of (none_from (place + 1) links) (is_bare link) refl
+  where
+    of : (first_bare (place + 1) links ≡ None) ↔ AllByRecursion (λ link. is_bare link ≡ false) links → (b : Bool) → is_bare link ≡ b
+        → ((if b then Some place else first_bare (place + 1) links) ≡ None) ↔ ((b ≡ false) × AllByRecursion (λ link. is_bare link ≡ false) links)
+    of others true is = (λ e. absurd (cc e), λ h. absurd (let first = h.0 in cc first))
+    of others false is = (λ e. (refl, others.0 e), λ h. others.1 h.1)
+
+or_bare_both : (k : ℕ) (found : Option ℕ) → Passes (or_bare k found) ↔ (found ≡ None)
+or_bare_both k None = (λ e. refl, λ e. refl)
+or_bare_both k (Some link) = (λ e. absurd (cc e), λ e. absurd (cc e))
 
 pub none_bare_both : (k : ℕ) (chain : PlainChain) → Passes (none_bare k chain) ↔ AllByRecursion (λ link. is_bare link ≡ false) chain.links
-none_bare_both k chain = each_both (not_bare k) (λ link. is_bare link ≡ false) (λ place link. need_not (is_bare link) _) 0 chain.links
+none_bare_both k chain = both_then (or_bare_both k (first_bare 0 chain.links)) (none_from 0 chain.links)
 
 pub bare_both : (chains : List PlainChain) → Passes (no_bare_links 0 chains) ↔ AllByRecursion (λ chain. AllByRecursion (λ link. is_bare link ≡ false) chain.links) chains
 bare_both chains = each_both none_bare (λ chain. AllByRecursion (λ link. is_bare link ≡ false) chain.links) none_bare_both 0 chains

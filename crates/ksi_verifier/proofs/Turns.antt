@@ -1,8 +1,6 @@
 -- Two indexes, compared part by part.
 use Rattle.std.proofs.Common.{◌≡◌, ◌≢◌, ℕ, suc, ◌+◌, ◌<◌, List, [], ◌∷◌, take, length, Result, Ok, Err, Option, Some, None, MatchOption, refl, sym, ap, ◌∙◌, arith}
 use Rattle.std.proofs.lemmas.Bool.{eqb-true, eqb-false}
-use Rattle.ksi_split.specs.declared.side.Side.{Side}
-use Rattle.ksi_aggchain.specs.Links.{PlainLink}
 use Rattle.ksi_signature.specs.PartsSeen.{chain_seen}
 use Rattle.ksi_signature.specs.declared.chain_view.ChainView.{ChainView}
 use Rattle.ksi_verifier.specs.declared.refusal.Refusal.{Refusal}
@@ -83,11 +81,6 @@ equal (Some x) (Some y) b is e = of (eqb x y) refl
 pub ends : (k place n : ℕ) (high : Option ℕ) (lower higher higher' : List ℕ) → n ≡ 0 → Gives higher high higher' → MatchOption high (Ok tt ≡ same_parts k place (take n lower) higher) (λ part. differ k place None (Some part) ≡ same_parts k place (take n lower) higher)
 ends k place n None lower higher higher' none gives = sym (ap (λ (c : ℕ). same_parts k place (take c lower) higher) none ∙ ap (same_parts k place []) gives.0)
 ends k place n (Some part) lower higher higher' none gives = sym (ap (λ (c : ℕ). same_parts k place (take c lower) higher) none ∙ ap (same_parts k place []) gives)
-
--- links keep their sides, whoever owns them
-pub all_sides : {X : Type 0} (plain : X → PlainLink) (links : List X) → map (λ (link : X). (plain link).side) links ≡ map (λ (link : PlainLink). link.side) (map plain links)
-all_sides plain [] = refl
-all_sides plain (link ∷ links) = ap (λ (sides : List Side). (plain link).side ∷ sides) (all_sides plain links)
 
 -- what lent chains show
 pub lent_chains : (chains : List ChainView) → map lent_chain chains ≡ map plain_chain (map chain_seen chains)

@@ -10,8 +10,9 @@ use Rattle.ksi_calchain.specs.Sides.{sides_from_top}
 use Rattle.ksi_publications.specs.Finding.{find}
 use Rattle.ksi_signature.specs.Values.{Calendar, Publishing}
 use Rattle.ksi_signature.specs.declared.signature.Signature.{Signature}
-use Rattle.ksi_verifier.specs.ChainChecks.{is_bare}
-use Rattle.ksi_verifier.specs.Chains.{PlainChain, plain_chains, at_level_zero, last_part, without_last, chain_shape}
+use Rattle.ksi_signature.specs.Heads.{last_part}
+use Rattle.ksi_aggchain.specs.Links.{is_bare}
+use Rattle.ksi_verifier.specs.Chains.{PlainChain, plain_chains, at_level_zero, without_last, chain_shape}
 
 -- each next chain's index is that of the chain below it without its last part
 abbrev pub AreNested : List PlainChain → Type 0

@@ -1,11 +1,9 @@
 -- The checks of aggregation chains, in their order. The lowest chain is chain 0; inside one check the lowest chain that
 -- fails counts, then its lowest link.
-use Rattle.std.specs.Prelude.{ℕ, ◌+◌, ◌==◌, ◌&&◌, Bool, false, not, List, [], ◌∷◌, Some, None, Result, Ok, Err, if◌then◌else◌}
+use Rattle.std.specs.Prelude.{ℕ, ◌+◌, ◌==◌, List, [], ◌∷◌, Option, Some, None, Result, Ok, Err, if◌then◌else◌}
 use Rattle.std.specs.Str.{bytes_eq}
 use Rattle.ksi_imprint.specs.Imprints.{zero_imprint}
-use Rattle.ksi_split.specs.declared.side.Side.{Side}
-use Rattle.ksi_split.specs.declared.side.Side.TheVariants.{Left, Right}
-use Rattle.ksi_aggchain.specs.Links.{PlainLink}
+use Rattle.ksi_aggchain.specs.Links.{first_bare}
 use Rattle.ksi_aggchain.specs.Climbing.{climbed}
 use Rattle.ksi_aggchain.specs.declared.node.Node.{Node}
 use Rattle.ksi_aggchain.specs.declared.climbing.LevelFault.{LevelFault}
@@ -15,7 +13,8 @@ use Rattle.ksi_verifier.specs.declared.aggregated.Aggregated.{Aggregated}
 use Rattle.ksi_verifier.specs.declared.refusal.Refusal.{Refusal}
 use Rattle.ksi_verifier.specs.declared.refusal.Refusal.TheVariants.{IndexOrder, IndexShape, Level, ChainBreak, AggregationTimes, BareMetadata}
 use Rattle.ksi_verifier.specs.Checks.{◌>>=◌, ◌>>◌, need, each}
-use Rattle.ksi_verifier.specs.Chains.{PlainChain, plain_chains, first_chain, higher_chains, at_level_zero, last_part, without_last, chain_shape}
+use Rattle.ksi_verifier.specs.Chains.{PlainChain, plain_chains, first_chain, higher_chains, at_level_zero, without_last, chain_shape}
+use Rattle.ksi_signature.specs.Heads.{last_part}
 
 -- ---- V2: the index of each next chain is that of the chain below it without its last part
 
@@ -89,23 +88,13 @@ same_times first k chains = each (same_time first) k chains
 
 -- ---- V15: no raw sibling of a right link begins with 0x01, as an imprint does
 
-abbrev pub begins_as_imprint : List ℕ → Bool
-begins_as_imprint [] = false
-begins_as_imprint (first ∷ rest) = first == 1
-
-abbrev pub on_right : Side → Bool → Bool
-on_right Left bare = false
-on_right Right bare = bare
-
-abbrev pub is_bare : PlainLink → Bool
-is_bare link = on_right link.side (link.raw && begins_as_imprint link.sibling)
-
-abbrev pub not_bare : ℕ → ℕ → PlainLink → Result (Unit {0}) Refusal
-not_bare k place link = need (not (is_bare link)) (BareMetadata k place)
+abbrev pub or_bare : ℕ → Option ℕ → Result (Unit {0}) Refusal
+or_bare k None = Ok tt
+or_bare k (Some link) = Err (BareMetadata k link)
 
 -- of the links of chain k
 abbrev pub none_bare : ℕ → PlainChain → Result (Unit {0}) Refusal
-none_bare k chain = each (not_bare k) 0 chain.links
+none_bare k chain = or_bare k (first_bare 0 chain.links)
 
 abbrev pub no_bare_links : ℕ → List PlainChain → Result (Unit {0}) Refusal
 no_bare_links k chains = each none_bare k chains

@@ -1,5 +1,5 @@
 -- Aggregation chains as the checks see them, whoever owns their parts.
-use Rattle.std.specs.Prelude.{ℕ, ◌-◌, List, [], ◌∷◌, length, map, take, slice_index}
+use Rattle.std.specs.Prelude.{ℕ, ◌-◌, List, [], ◌∷◌, length, map, take}
 use Rattle.ksi_imprint.specs.Imprints.{zero_imprint}
 use Rattle.ksi_aggchain.specs.Links.{PlainLink}
 use Rattle.ksi_aggchain.specs.Owned.{plain_links}
@@ -36,9 +36,6 @@ abbrev pub at_level_zero : List ℕ → Node
 at_level_zero imprint = record { imprint = imprint; level = 0 }
 
 -- ---- indexes
-
-abbrev pub last_part : List ℕ → ℕ
-last_part index = slice_index index (length index - 1)
 
 abbrev pub without_last : List ℕ → List ℕ
 without_last index = take (length index - 1) index

@@ -1,12 +1,13 @@
 ghost use Rattle.std.specs.Prelude.{◌≡◌};
 ghost use Rattle.ksi_aggchain.specs.Climbing.{climbed};
-ghost use Rattle.ksi_verifier.specs.Chains.{PlainChain, plain_chain, chain_shape, last_part, without_last};
-ghost use Rattle.ksi_verifier.specs.ChainChecks.{same_parts, none_bare};
+ghost use Rattle.ksi_aggchain.specs.Links.{first_bare};
+ghost use Rattle.ksi_signature.specs.Heads.{last_part};
+ghost use Rattle.ksi_verifier.specs.Chains.{PlainChain, plain_chain, chain_shape, without_last};
+ghost use Rattle.ksi_verifier.specs.ChainChecks.{same_parts};
 
-use crate::bare::find_bare;
 use crate::index::compare_parts;
 use crate::refusal::Refusal;
-use ksi_aggchain::{LevelFault, Link, Node, climb, shape};
+use ksi_aggchain::{LevelFault, Link, Node, climb, find_bare, shape};
 use ksi_imprint::{Compress, Imprint};
 use ksi_signature::AggregationChain;
 
@@ -45,12 +46,9 @@ pub trait AnyChain {
     fn climb<C: Compress>(&self, start: Node) -> Result<Node, LevelFault>
         ensures { result ≡ climbed C.image 0 start (plain self.now).links };
 
-    /// Looks for a raw sibling of a right link that begins as an imprint does, this one being chain `k`.
-    ///
-    /// # Errors
-    /// `BareMetadata` with the first such link.
-    fn check_metadata(&self, k: u64) -> Result<(), Refusal>
-        ensures { result ≡ none_bare k (plain self.now) };
+    /// The first right link whose raw sibling begins as an imprint does.
+    fn bare_link(&self) -> Option<usize>
+        ensures { result ≡ first_bare 0 (plain self.now).links };
 }
 
 impl AnyChain for AggregationChain {
@@ -82,7 +80,7 @@ impl AnyChain for AggregationChain {
         climb::<C, Link>(start.imprint, start.level, self.links.as_slice())
     }
 
-    fn check_metadata(&self, k: u64) -> Result<(), Refusal> {
-        find_bare::<Link>(k, self.links.as_slice())
+    fn bare_link(&self) -> Option<usize> {
+        find_bare::<Link>(self.links.as_slice())
     }
 }

@@ -150,9 +150,11 @@ fn check_metadata<T: AnyChain>(chains: &[T]) -> Result<(), Refusal>
     ensures { result ≡ no_bare_links 0 (map T.plain chains.now) }
 {
     for (k, chain) in chains.iter().enumerate() {
-        match chain.check_metadata(k as u64) {
-            Ok(()) => (),
-            Err(refusal) => return Err(refusal),
+        if let Some(link) = chain.bare_link() {
+            return Err(Refusal::BareMetadata {
+                chain: k as u64,
+                link: link as u64,
+            });
         }
     }
     Ok(())

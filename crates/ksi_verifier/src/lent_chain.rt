@@ -2,10 +2,9 @@ ghost use Rattle.std.specs.Prelude.{◌≡◌};
 ghost use Rattle.ksi_verifier.specs.Lent.{lent_chain};
 
 use crate::any_chain::AnyChain;
-use crate::bare::find_bare;
 use crate::index::compare_lent;
 use crate::refusal::Refusal;
-use ksi_aggchain::{LevelFault, LinkView, Node, climb, shape};
+use ksi_aggchain::{LevelFault, Node};
 use ksi_imprint::{Compress, Imprint};
 use ksi_signature::ChainView;
 
@@ -25,7 +24,7 @@ impl AnyChain for ChainView<'_> {
     }
 
     fn shape(&self) -> u64 {
-        shape::<LinkView<'_>>(self.links().as_slice())
+        self.shape()
     }
 
     fn compare_index(&self, k: u64, higher: &Self) -> Result<(), Refusal> {
@@ -33,10 +32,10 @@ impl AnyChain for ChainView<'_> {
     }
 
     fn climb<C: Compress>(&self, start: Node) -> Result<Node, LevelFault> {
-        climb::<C, LinkView<'_>>(start.imprint, start.level, self.links().as_slice())
+        self.climb::<C>(start)
     }
 
-    fn check_metadata(&self, k: u64) -> Result<(), Refusal> {
-        find_bare::<LinkView<'_>>(k, self.links().as_slice())
+    fn bare_link(&self) -> Option<usize> {
+        self.bare_link()
     }
 }

@@ -26,7 +26,6 @@
 
 mod aggregated;
 mod any_chain;
-mod bare;
 mod bytes_checking;
 mod bytes_verdict;
 mod calendar;

@@ -1,4 +1,4 @@
-use Rattle.std.proofs.Common.{sym, subst}
+use Rattle.std.proofs.Common.{sym, subst, arith}
 use Rattle.ksi_aggchain.specs.Shapes.{IsShape}
 use Rattle.ksi_aggchain.proofs.ShapeLemmas as lemmas
 use Rattle.ksi_aggchain.proofs.laws.one_shape.Goals as goal
@@ -8,3 +8,9 @@ returns-clause-shape c = λ sides shape. (lemmas.one_shape sides shape, λ e. su
 
 pub returns-clause-same_sides : goal.returns-clause-same_sides
 returns-clause-same_sides c = λ one other. lemmas.same_sides one other
+
+pub returns-clause-fits : goal.returns-clause-fits
+returns-clause-fits c = λ sides few. lemmas.shape_fits sides few
+
+pub returns-clause-first : goal.returns-clause-first
+returns-clause-first c = lemmas.first_power

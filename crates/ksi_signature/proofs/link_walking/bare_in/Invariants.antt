@@ -1,0 +1,16 @@
+use Rattle.std.proofs.Common.{◌≡◌, ◌+◌, ◌≤◌, length}
+use Rattle.std.specs.List.{AllByRecursion}
+use Rattle.ksi_aggchain.specs.Links.{first_bare}
+use Rattle.ksi_aggchain.specs.Owned.{plain_links}
+use Rattle.ksi_tlv.specs.Views.{view_placed, rest}
+use Rattle.ksi_grammar.specs.Valid.{MayStand}
+use Rattle.ksi_grammar.specs.Inside.{whole, inner_elements}
+use Rattle.ksi_signature.specs.Tables.{chain_table}
+use Rattle.ksi_signature.specs.Contents.{links_among}
+use Rattle.ksi_signature.proofs.link_walking.bare_in.Given as goal
+
+abbrev pub invariant-loop-item : goal.invariant-loop-item
+invariant-loop-item l =
+    (first_bare l.place (plain_links (links_among (whole (rest l.elements)))) ≡ first_bare 0 (plain_links (links_among (inner_elements (view_placed l.at)))))
+    × AllByRecursion (MayStand chain_table) (whole (rest l.elements))
+    × (l.place + length (links_among (whole (rest l.elements))) ≤ 63)
