@@ -54,14 +54,14 @@ fn only(answer: Answer) -> Option<Came> {
 }
 
 /// What a step says: its message, where all that it sends is that one, to the sender or to the cores from 0 on.
-fn came(step: Result<Step, NoMemory>, from: u8) -> Option<Came> {
+fn told(step: Result<Step, NoMemory>, from: u8) -> Option<Came> {
     match step {
-        Ok(step) => came_of(&step, from),
+        Ok(step) => told_by(&step, from),
         Err(_) => None,
     }
 }
 
-fn came_of(step: &Step, from: u8) -> Option<Came> {
+fn told_by(step: &Step, from: u8) -> Option<Came> {
     let sends = step.sends.as_slice();
     let mut sent: Option<SynodMessage> = None;
     for (k, send) in sends.iter().enumerate() {
@@ -94,13 +94,7 @@ fn is_reply(message: &SynodMessage) -> bool {
 fn sends(answer: Answer, sent: Option<SynodMessage>) -> Option<Came> {
     let count = match &sent {
         None => 0,
-        Some(message) => {
-            if is_reply(message) {
-                1
-            } else {
-                3
-            }
-        }
+        Some(message) => { if is_reply(message) { 1 } else { 3 } }
     };
     Some(Came {
         answer,
@@ -187,7 +181,10 @@ fn promised(last: Option<LastVote>) -> Option<Came> {
 
 fn begun(ballot: u64, took: Took) -> Option<Came> {
     match took {
-        Took::Decree(decree) => sends(Answer::Done, Some(SynodMessage::BeginBallot(ballot, decree))),
+        Took::Decree(decree) => sends(
+            Answer::Done,
+            Some(SynodMessage::BeginBallot(ballot, decree)),
+        ),
         Took::Added => only(Answer::Done),
         Took::Nothing => only(Answer::Nothing),
     }
@@ -216,7 +213,10 @@ fn plain_receive(second: &mut Plain, from: u8, message: &SynodMessage) -> Option
     match *message {
         SynodMessage::NextBallot(ballot) => promised(second.vote.on_next(ballot)),
         SynodMessage::LastVote(last) => {
-            begun(last.ballot, second.vote.on_last(from, last.ballot, last.vote))
+            begun(
+                last.ballot,
+                second.vote.on_last(from, last.ballot, last.vote),
+            )
         }
         SynodMessage::BeginBallot(ballot, decree) => {
             voted(ballot, second.vote.on_begin(ballot, decree))
@@ -296,8 +296,16 @@ fn message(vote: &Instance, n: u64) -> SynodMessage
 
 /// What events there are, what they answer, and what they send.
 const EVENTS: [&str; 10] = [
-    "submission", "seal", "ballot", "tell", "NextBallot", "LastVote", "BeginBallot", "Voted",
-    "Success", "restart",
+    "submission",
+    "seal",
+    "ballot",
+    "tell",
+    "NextBallot",
+    "LastVote",
+    "BeginBallot",
+    "Voted",
+    "Success",
+    "restart",
 ];
 
 fn answer_at(answer: &Answer) -> usize {
@@ -358,18 +366,18 @@ fn happens(
     match n % 16 {
         0 | 1 => {
             let (from, byte) = ((n / 16 % 3) as u32, (n / 64 % 256) as u8);
-            let told = came(core.submission(from, t, item(byte)), 0);
-            (0, [told, plain_submission(alloc, plain, from, byte)])
+            let came = told(core.submission(from, t, item(byte)), 0);
+            (0, [came, plain_submission(alloc, plain, from, byte)])
         }
-        2 => (1, [came(core.seal(t), 0), plain_seal(plain)]),
-        3 => (2, [came(core.ballot(t), 0), plain_ballot(plain)]),
-        4 => (3, [came(core.tell(t), 0), plain_tell(plain, t)]),
+        2 => (1, [told(core.seal(t), 0), plain_seal(plain)]),
+        3 => (2, [told(core.ballot(t), 0), plain_ballot(plain)]),
+        4 => (3, [told(core.tell(t), 0), plain_tell(plain, t)]),
         _ => {
             let (from, message) = ((n / 16 % 3) as u8, message(&plain.vote, n / 64));
-            let told = came(core.receive(from, t, &message), from);
+            let came = told(core.receive(from, t, &message), from);
             (
                 message_at(&message),
-                [told, plain_receive(plain, from, &message)],
+                [came, plain_receive(plain, from, &message)],
             )
         }
     }
@@ -458,8 +466,25 @@ fn settled_alike(rt: &impl Abort, core: &Core<Sha>, plains: &[Plain]) {
 
 /// Which answers an event may have here: Full and Last are far.
 const POSSIBLE: [(usize, usize); 19] = [
-    (0, 0), (0, 2), (0, 3), (1, 0), (1, 4), (2, 0), (2, 5), (3, 0), (3, 6), (4, 0), (4, 1), (5, 0),
-    (5, 1), (6, 0), (6, 1), (7, 0), (7, 1), (8, 0), (8, 1),
+    (0, 0),
+    (0, 2),
+    (0, 3),
+    (1, 0),
+    (1, 4),
+    (2, 0),
+    (2, 5),
+    (3, 0),
+    (3, 6),
+    (4, 0),
+    (4, 1),
+    (5, 0),
+    (5, 1),
+    (6, 0),
+    (6, 1),
+    (7, 0),
+    (7, 1),
+    (8, 0),
+    (8, 1),
 ];
 
 /// Each event had each answer that it may have, and each message was sent.
