@@ -50,6 +50,19 @@ deliver 6
 publish 0 1700000000
 ";
 
+/// A second that one voter decides for another core.
+const ONE_VOTES: &str = "ksi-schedule 2
+cores 3
+start 1700000000
+members 1700000000 c1
+seal 0 1700000000
+ballot 0 1700000000
+deliver 0
+deliver 1
+deliver 2
+deliver 3
+";
+
 /// The bytes of the journal of a schedule's text, nothing where memory is wanting.
 fn journal_bytes(alloc: Global, text: &str) -> Option<Bytes> {
     let schedule = read_schedule(alloc, text.as_bytes()).ok()?;
@@ -72,10 +85,11 @@ fn counts(alloc: Global, text: &str) -> Option<[usize; 4]> {
 
 #[test]
 fn schedules_become_journals(rt: HostRuntime) {
-    const ROWS: [(&str, [usize; 4]); 4] = [
+    const ROWS: [(&str, [usize; 4]); 5] = [
         (IDLE, [16, 0, 0, 0]),
         (MISSED, [61, 1, 0, 0]),
         (OPEN, [16, 0, 0, 0]),
+        (ONE_VOTES, [61, 1, 0, 0]),
         (SIGNED, [766, 1, 1, 1]),
     ];
     for (text, want) in ROWS {

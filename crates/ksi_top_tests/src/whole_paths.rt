@@ -148,6 +148,19 @@ fn without_events_nothing_is_kept(rt: HostRuntime) -> Result<(), Fail> {
     Ok(())
 }
 
+// Core 1 alone votes, and decides for core 0.
+const ONE_VOTES: &str =
+    "ksi-schedule 2\ncores 3\nstart T\nmembers T c1\nseal 0 T\nballot 0 T\ndeliver 0\ndeliver 1\ndeliver 2\ndeliver 3\n";
+
+const ONE_DECIDES: &str = "replay f j = events 6 messages 7 seconds 1 issued 0 published 0
+publish j p = published 0";
+
+#[test]
+fn one_core_may_vote_for_all(rt: HostRuntime) -> Result<(), Fail> {
+    let mut files = scheduled(rt.alloc(), ONE_VOTES)?;
+    each_ends(&rt, rt.alloc(), &mut files, Status::Done, ONE_DECIDES)
+}
+
 fn is_malformed(rt: &impl Abort, alloc: Global, schedule: &str, put: &str) -> Result<(), Fail> {
     let mut files = scheduled(alloc, schedule)?;
     let said = (Status::Malformed, put);
@@ -156,8 +169,16 @@ fn is_malformed(rt: &impl Abort, alloc: Global, schedule: &str, put: &str) -> Re
 
 #[test]
 fn faults_of_schedules_are_told(rt: HostRuntime) -> Result<(), Fail> {
-    const ROWS: [(&str, &str); 3] = [
+    const ROWS: [(&str, &str); 5] = [
         ("x", "malformed 1 L7 1"),
+        (
+            "ksi-schedule 2\ncores 3\nstart T\nmembers T c1 c1\n",
+            "malformed 1 L7 4",
+        ),
+        (
+            "ksi-schedule 1\ncores 3\nstart T\nmembers T c1\n",
+            "malformed 1 L1 4",
+        ),
         (
             "ksi-schedule 1\ncores 1\nstart T\naggregator 0 parent c0\nrequest 1 T A",
             "malformed 1 L4 5",

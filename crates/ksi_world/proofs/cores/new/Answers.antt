@@ -12,7 +12,7 @@ pub adding-preserved : goal.adding-preserved
 adding-preserved g c =
     let items = c.in_ok-push.ensures.items in
     let old = c.adding.invariant in
-    let core_plan = c.core_plan.ensures.plan in
+    let core_plan = c.core_plan-core_plan.ensures.plan in
     record {
       many = omega (arith, ap length items, length-append c.adding.cores.items (c.new.result ∷ []), old.many);
       each = λ j core at. elim (get_push c.adding.cores.items c.new.result j core (ap (λ xs. slice_get xs j) (sym items) ∙ at)) [
