@@ -142,7 +142,7 @@ fn told(answer: &Option<Audit>) -> (&'static str, [u64; 3]) {
 }
 
 /// A lower request, the chain above it and the top one.
-const LOWER: [ChainRow<'static>; 3] = [
+static LOWER: [ChainRow<'static>; 3] = [
     ChainRow {
         time: 0,
         index: &[1, 3, 1],
@@ -209,14 +209,14 @@ fn refuses(
 
 #[test]
 fn refuses_in_order(rt: HostRuntime) -> Result<(), Fail> {
-    const ROWS: [(KeptRow<'static>, u8, &str); 4] = [
+    static ROWS: [(KeptRow<'static>, u8, &str); 4] = [
         (LATER, 7, "wrong hash"),
         (LATER, 6, "before start"),
         (NOTHING, 6, "undecided"),
         (OTHER, 6, "not decided"),
     ];
-    for (kept, hash, want) in ROWS {
-        refuses(&rt, rt.alloc(), kept, hash, want)?;
+    for (kept, hash, want) in &ROWS {
+        refuses(&rt, rt.alloc(), *kept, *hash, want)?;
     }
     Ok(())
 }

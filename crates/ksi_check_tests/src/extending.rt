@@ -155,15 +155,15 @@ fn passes_on(
     is_accepted(rt, alloc, journal, bytes, T)
 }
 
-const PASSED_ON: [(&str, usize, &[u8]); 3] = [
+static PASSED_ON: [(&str, usize, &[u8]); 3] = [
     (SIGNATURE, 662, &[0x88, 0x02]),
     (WITH_DROPPED, 662, &[0x88, 0x02]),
     (WITH_KEPT, 664, &[0x7e, 0x00]),
 ];
 
 fn each_passes_on(rt: &impl Abort, alloc: Global, journal: &Journal<Sha>) -> Result<(), Fail> {
-    for (text, size, behind) in PASSED_ON {
-        passes_on(rt, alloc, journal, text, size, behind)?;
+    for (text, size, behind) in &PASSED_ON {
+        passes_on(rt, alloc, journal, text, *size, behind)?;
     }
     Ok(())
 }

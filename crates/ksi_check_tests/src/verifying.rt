@@ -59,12 +59,12 @@ fn leads_to(
 
 #[test]
 fn accepts_the_second_of_the_sides(rt: HostRuntime) {
-    const ROWS: [(Option<(u8, u8)>, &[(u8, u8)]); 2] = [
+    static ROWS: [(Option<(u8, u8)>, &[(u8, u8)]); 2] = [
         (None, &[(5, 0x26)]),
         (Some((5, 0x26)), &[(4, 0), (5, 0x26), (5, 0)]),
     ];
-    for (record, published) in ROWS {
-        let verdict = judged_both(rt.alloc(), record, published);
+    for (record, published) in &ROWS {
+        let verdict = judged_both(rt.alloc(), *record, published);
         same(&rt, "verdict", verdict, Ok(Verdict::Accepted(2)));
     }
 }
@@ -158,15 +158,15 @@ fn refused_links(
 
 #[test]
 fn refuses_sides_that_name_no_second(rt: HostRuntime) {
-    const ROWS: [(&[(Side, u8)], ShapeFault); 2] = [
+    static ROWS: [(&[(Side, u8)], ShapeFault); 2] = [
         (
             &[(Side::Right, 1), (Side::Right, 2), (Side::Right, 3)],
             ShapeFault::TooMany(2),
         ),
         (&[(Side::Left, 1)], ShapeFault::TooFew(3)),
     ];
-    for (links, fault) in ROWS {
-        let want = Refusal::CalendarShape(fault);
+    for (links, fault) in &ROWS {
+        let want = Refusal::CalendarShape(*fault);
         same(
             &rt,
             "links",

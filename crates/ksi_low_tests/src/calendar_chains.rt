@@ -29,7 +29,7 @@ fn second_named(
 
 #[test]
 fn sides_from_the_bottom_name_a_second_or_say_why_not(rt: HostRuntime) -> Result<(), Fail> {
-    const ROWS: [(u64, &[Side], Result<u64, ShapeFault>); 9] = [
+    static ROWS: [(u64, &[Side], Result<u64, ShapeFault>); 9] = [
         (5, &[Left, Right, Left], Ok(2)),
         (0, &[], Ok(0)),
         (8, &[Right], Ok(8)),
@@ -40,8 +40,8 @@ fn sides_from_the_bottom_name_a_second_or_say_why_not(rt: HostRuntime) -> Result
         (u64::MAX >> 1, &[Right; 64], Err(ShapeFault::TooMany(63))),
         (0, &[Left; 70], Err(ShapeFault::TooMany(0))),
     ];
-    for (p, sides, want) in ROWS {
-        same(&rt, p, second_named(rt.alloc(), p, sides)?, Some(want));
+    for (p, sides, want) in &ROWS {
+        same(&rt, *p, second_named(rt.alloc(), *p, sides)?, Some(*want));
     }
     Ok(())
 }

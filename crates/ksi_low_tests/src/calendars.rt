@@ -89,13 +89,13 @@ fn three_seconds(alloc: Global) -> Result<Calendar<Tiny>, NoMemory>
 #[test]
 fn roots_and_nodes_of_three_seconds_from_zero(rt: HostRuntime) -> Result<(), Fail> {
     let calendar = three_seconds(rt.alloc())?;
-    const ROOTS: [(u64, Option<u8>); 4] = [
+    static ROOTS: [(u64, Option<u8>); 4] = [
         (0, Some(0x0a)),
         (1, Some(0x1f)),
         (2, Some(0x3e)),
         (3, None),
     ];
-    const NODES: [(u64, &[Side], Option<u8>); 5] = [
+    static NODES: [(u64, &[Side], Option<u8>); 5] = [
         (2, &[], Some(0x3e)),
         (2, &[Left], Some(0x1f)),
         (2, &[Left, Right], Some(0x14)),

@@ -11,7 +11,7 @@ use std::test::Fail;
 /// Worked out by hand: a container at place 100 whose body stands at place 104.
 #[test]
 fn answers_the_first_fault(rt: HostRuntime) {
-    const CASES: [(&[u8], ElementFault); 11] = [
+    static CASES: [(&[u8], ElementFault); 11] = [
         (&[], ElementFault::Missing(2, 100)),
         (&[0x02, 0x00], ElementFault::Missing(4, 100)),
         (
@@ -39,12 +39,12 @@ fn answers_the_first_fault(rt: HostRuntime) {
         ),
         (&[0x04, 0x02, 0x01, 0x00], ElementFault::Imprint(104)),
     ];
-    for (body, want) in CASES {
+    for (body, want) in &CASES {
         same(
             &rt,
             body.len(),
             check::<PublishedContent>(100, 104, body),
-            Err(want),
+            Err(*want),
         );
     }
 }
@@ -70,7 +70,7 @@ type Said = (
 
 #[test]
 fn reads_levels_algorithms_and_raw_siblings(rt: HostRuntime) {
-    const ROWS: [(&[u8], Said); 4] = [
+    static ROWS: [(&[u8], Said); 4] = [
         (
             &[0x01, 0x01, 0xff],
             (Ok(255), Err(ElementFault::Algorithm(255)), Ok(())),
@@ -93,8 +93,8 @@ fn reads_levels_algorithms_and_raw_siblings(rt: HostRuntime) {
         ),
         (&[0x06, 0x02, 0x00, 0x01], (Ok(1), Ok(1), Ok(()))),
     ];
-    for (bytes, want) in ROWS {
-        same(&rt, bytes.len(), says(bytes), Some(want));
+    for (bytes, want) in &ROWS {
+        same(&rt, bytes.len(), says(bytes), Some(*want));
     }
 }
 
@@ -114,7 +114,7 @@ fn first_recorded(bytes: &[u8]) -> Result<Option<(u64, Imprint)>, ElementFault> 
 
 #[test]
 fn writes_the_data_of_a_publication(rt: HostRuntime) -> Result<(), Fail> {
-    const FRONT: [u8; 6] = [0x02, 0x01, 0x05, 0x04, 0x21, 0x01];
+    static FRONT: [u8; 6] = [0x02, 0x01, 0x05, 0x04, 0x21, 0x01];
     let data = written_published(rt.alloc(), 5, &Sha::of(b""))?;
     begins(&rt, data.as_slice(), &FRONT, 38);
     Ok(())
@@ -122,7 +122,7 @@ fn writes_the_data_of_a_publication(rt: HostRuntime) -> Result<(), Fail> {
 
 #[test]
 fn writes_a_record_that_is_read_again(rt: HostRuntime) -> Result<(), Fail> {
-    const FRONT: [u8; 8] = [0x10, 0x26, 0x02, 0x01, 0x05, 0x04, 0x21, 0x01];
+    static FRONT: [u8; 8] = [0x10, 0x26, 0x02, 0x01, 0x05, 0x04, 0x21, 0x01];
     let hash = Sha::of(b"");
     let record = written_record(rt.alloc(), 5, &hash)?;
     begins(&rt, record.as_slice(), &FRONT, 40);

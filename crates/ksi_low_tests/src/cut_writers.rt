@@ -44,14 +44,15 @@ fn writes(rt: &impl Abort, stream: Stream, want: Result<(), SinkFailed>) {
 // Where all three bytes are taken, it is the flush that fails.
 #[test]
 fn an_error_in_mid_stream_ends_the_put(rt: HostRuntime) {
-    const ROWS: [(usize, bool, Result<(), SinkFailed>); 5] = [
+    static ROWS: [(usize, bool, Result<(), SinkFailed>); 5] = [
         (0, false, Err(SinkFailed)),
         (2, true, Err(SinkFailed)),
         (2, false, Err(SinkFailed)),
         (3, true, Err(SinkFailed)),
         (3, false, Ok(())),
     ];
-    for (calls, fails, want) in ROWS {
-        writes(&rt, Stream { calls, fails }, want);
+    for (calls, fails, want) in &ROWS {
+        let (calls, fails) = (*calls, *fails);
+        writes(&rt, Stream { calls, fails }, *want);
     }
 }

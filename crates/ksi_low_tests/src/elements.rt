@@ -11,7 +11,7 @@ use std::test::Fail;
 /// Vectors worked out by hand from the layout of headers.
 #[test]
 fn reads_one_element(rt: HostRuntime) {
-    const CASES: [(&[u8], Result<(u16, bool, bool, &[u8], usize), TlvFault>); 12] = [
+    static CASES: [(&[u8], Result<(u16, bool, bool, &[u8], usize), TlvFault>); 12] = [
         (
             &[0x01, 0x02, 0xaa, 0xbb],
             Ok((1, false, false, &[0xaa, 0xbb], 4)),
@@ -52,7 +52,7 @@ fn front(bytes: &[u8]) -> Result<(u16, bool, bool, &[u8], usize), TlvFault> {
 
 #[test]
 fn reads_a_number(rt: HostRuntime) {
-    const CASES: [(&[u8], Result<u64, NumberFault>); 7] = [
+    static CASES: [(&[u8], Result<u64, NumberFault>); 7] = [
         (&[], Ok(0)),
         (&[0x00], Ok(0)),
         (&[0x00, 0x05], Ok(5)),
@@ -84,10 +84,10 @@ fn walks(rt: &impl Abort, walk: &mut Elements<'_>, items: &[Option<Told>]) {
 
 #[test]
 fn walks_to_the_element_that_is_cut_off(rt: HostRuntime) {
-    const BYTES: [u8; 12] = [
+    static BYTES: [u8; 12] = [
         0x01, 0x01, 0xaa, 0x88, 0x01, 0x00, 0x02, 0xbb, 0xbb, 0x02, 0x03, 0xcc,
     ];
-    const ITEMS: [Option<Told>; 5] = [
+    static ITEMS: [Option<Told>; 5] = [
         Some(Ok((100, 102, 1, 1))),
         Some(Ok((103, 107, 0x801, 2))),
         Some(Err((109, TlvFault::Short(5, 3)))),
@@ -99,8 +99,8 @@ fn walks_to_the_element_that_is_cut_off(rt: HostRuntime) {
 
 #[test]
 fn walks_three_elements(rt: HostRuntime) {
-    const BYTES: [u8; 9] = [0x01, 0x00, 0x7e, 0x01, 0x00, 0x80, 0x20, 0x00, 0x00];
-    const ITEMS: [Option<Told>; 4] = [
+    static BYTES: [u8; 9] = [0x01, 0x00, 0x7e, 0x01, 0x00, 0x80, 0x20, 0x00, 0x00];
+    static ITEMS: [Option<Told>; 4] = [
         Some(Ok((0, 2, 1, 0))),
         Some(Ok((2, 4, 0x1e, 1))),
         Some(Ok((5, 9, 0x20, 0))),
@@ -186,7 +186,7 @@ fn put_four(writer: &mut Writer) -> [bool; 4] {
 
 #[test]
 fn writes_elements_one_behind_the_other(rt: HostRuntime) {
-    const WANT: [u8; 18] = [
+    static WANT: [u8; 18] = [
         0x01, 0x02, 0xaa, 0xbb, 0x02, 0x04, 0x65, 0x53, 0xf1, 0x00, 0x03, 0x00, 0x88, 0x01, 0x00,
         0x02, 0x01, 0x00,
     ];

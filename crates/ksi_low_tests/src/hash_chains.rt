@@ -29,7 +29,7 @@ fn shape_of(alloc: Global, sides: &[Side]) -> Result<Option<u64>, NoMemory> {
 
 #[test]
 fn sides_from_the_bottom_make_a_shape(rt: HostRuntime) -> Result<(), Fail> {
-    const ROWS: [(&[Side], u64); 6] = [
+    static ROWS: [(&[Side], u64); 6] = [
         (&[Left, Right, Left], 13),
         (&[Left, Left], 7),
         (&[Right, Left], 6),
@@ -37,8 +37,8 @@ fn sides_from_the_bottom_make_a_shape(rt: HostRuntime) -> Result<(), Fail> {
         (&[], 1),
         (&[Left; 63], u64::MAX),
     ];
-    for (sides, want) in ROWS {
-        same(&rt, want, shape_of(rt.alloc(), sides)?, Some(want));
+    for (sides, want) in &ROWS {
+        same(&rt, *want, shape_of(rt.alloc(), sides)?, Some(*want));
     }
     Ok(())
 }
@@ -85,7 +85,7 @@ fn two(correction: u8) -> [Link; 2] {
 
 #[test]
 fn the_first_level_above_255_is_refused(rt: HostRuntime) {
-    const ROWS: [(u8, u8, LevelFault); 3] = [
+    static ROWS: [(u8, u8, LevelFault); 3] = [
         (
             0,
             254,
@@ -112,9 +112,9 @@ fn the_first_level_above_255_is_refused(rt: HostRuntime) {
         ),
     ];
     let start = Sha::of(b"");
-    for (level, correction, fault) in ROWS {
-        let climbed = climb::<Sha, Link>(start, level, &two(correction));
-        same(&rt, correction, climbed, Err(fault));
+    for (level, correction, fault) in &ROWS {
+        let climbed = climb::<Sha, Link>(start, *level, &two(*correction));
+        same(&rt, *correction, climbed, Err(*fault));
     }
 }
 

@@ -17,7 +17,7 @@ fn is_hashed(rt: &impl Abort, message: &[u8], digits: &str) {
 
 #[test]
 fn the_vectors_of_the_standard(rt: HostRuntime) -> Result<(), Fail> {
-    const ROWS: [(&[u8], &str); 3] = [
+    static ROWS: [(&[u8], &str); 3] = [
         (
             b"",
             "e3b0c44298fc1c149afbf4c8996fb92427ae41e4649b934ca495991b7852b855",
@@ -28,7 +28,7 @@ fn the_vectors_of_the_standard(rt: HostRuntime) -> Result<(), Fail> {
             "248d6a61d20638b8e5c026930c3e6039a33ce45964ff2167f6ecedd419db06c1",
         ),
     ];
-    for (message, digits) in ROWS {
+    for (message, digits) in &ROWS {
         is_hashed(&rt, message, digits);
     }
     is_hashed(
@@ -42,7 +42,7 @@ fn the_vectors_of_the_standard(rt: HostRuntime) -> Result<(), Fail> {
 #[test]
 fn digits_of_either_case_and_the_first_that_is_none(rt: HostRuntime) {
     const CAPITALS: &str = "BA7816BF8F01CFEA414140DE5DAE2223B00361A396177A9CB410FF61F20015AD";
-    const ROWS: [(&str, HexFault); 6] = [
+    static ROWS: [(&str, HexFault); 6] = [
         ("", HexFault::Length(0)),
         (
             "ba7816bf8f01cfea414140de5dae2223b00361a396177a9cb410ff61f20015a",
@@ -65,8 +65,8 @@ fn digits_of_either_case_and_the_first_that_is_none(rt: HostRuntime) {
             HexFault::Digit(63),
         ),
     ];
-    for (text, fault) in ROWS {
-        same(&rt, text, Imprint::from_hex(text), Err(fault));
+    for (text, fault) in &ROWS {
+        same(&rt, *text, Imprint::from_hex(text), Err(*fault));
     }
     same(
         &rt,
@@ -78,14 +78,14 @@ fn digits_of_either_case_and_the_first_that_is_none(rt: HostRuntime) {
 
 #[test]
 fn imprints_are_read_from_their_bytes(rt: HostRuntime) {
-    const ROWS: [(&[u8], ImprintFault); 4] = [
+    static ROWS: [(&[u8], ImprintFault); 4] = [
         (&[], ImprintFault::Length(0)),
         (&[1], ImprintFault::Length(1)),
         (&[1; 34], ImprintFault::Length(34)),
         (&[5], ImprintFault::Algorithm(5)),
     ];
-    for (bytes, fault) in ROWS {
-        same(&rt, bytes.len(), Imprint::read(bytes), Err(fault));
+    for (bytes, fault) in &ROWS {
+        same(&rt, bytes.len(), Imprint::read(bytes), Err(*fault));
     }
     let abc = Sha::of(b"abc");
     same(&rt, "abc", Imprint::read(abc.bytes()), Ok(abc));

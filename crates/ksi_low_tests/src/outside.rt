@@ -57,7 +57,7 @@ fn held_twice(alloc: Global) -> Result<MemFiles, NoMemory> {
 
 #[test]
 fn a_load_gives_what_is_held_up_to_its_limit(rt: HostRuntime) -> Result<(), Fail> {
-    const LOADS: [(&str, usize, Result<&[u8], LoadRefusal>); 5] = [
+    static LOADS: [(&str, usize, Result<&[u8], LoadRefusal>); 5] = [
         ("a", 4, Ok(b"new")),
         ("a", 3, Ok(b"new")),
         ("a", 2, Err(LoadRefusal::TooLong)),
@@ -85,11 +85,11 @@ fn three_fail(alloc: Global) -> Result<MemFiles, NoMemory> {
 
 #[test]
 fn listed_calls_fail_and_are_counted(rt: HostRuntime) -> Result<(), Fail> {
-    const LOADS: [(&str, usize, Result<&[u8], LoadRefusal>); 2] = [
+    static LOADS: [(&str, usize, Result<&[u8], LoadRefusal>); 2] = [
         ("a", 9, Ok(b"one")),
         ("a", 9, Err(LoadRefusal::Failed)),
     ];
-    const SAVES: [(&str, &[u8], Result<(), SaveRefusal>); 4] = [
+    static SAVES: [(&str, &[u8], Result<(), SaveRefusal>); 4] = [
         ("c", b"three", Err(SaveRefusal::Failed)),
         ("b", b"one", Ok(())),
         ("b", b"two", Ok(())),
@@ -132,7 +132,7 @@ fn puts_append_but_for_those_cut_or_past_the_room(rt: HostRuntime) -> Result<(),
 
 #[test]
 fn sure_files_read_as_empty_where_nothing_is_held(rt: HostRuntime) -> Result<(), Fail> {
-    const LOADS: [(&str, usize, Result<&[u8], LoadRefusal>); 3] = [
+    static LOADS: [(&str, usize, Result<&[u8], LoadRefusal>); 3] = [
         ("a", 3, Ok(b"one")),
         ("a", 2, Err(LoadRefusal::TooLong)),
         ("b", 0, Ok(b"")),
@@ -158,12 +158,12 @@ fn a_sure_sink_takes_what_it_has_room_for(rt: HostRuntime) -> Result<(), Fail> {
 #[test]
 fn the_system_saves_and_loads_up_to_the_limit(rt: HostRuntime) {
     const CONTENT: [u8; 5_000] = [7; 5_000];
-    const SAVES: [(&str, &[u8], Result<(), SaveRefusal>); 3] = [
+    static SAVES: [(&str, &[u8], Result<(), SaveRefusal>); 3] = [
         ("ksi_ports_limit", &CONTENT, Ok(())),
         ("ksi_ports_saved", b"longer", Ok(())),
         ("ksi_ports_saved", b"by", Ok(())),
     ];
-    const LOADS: [(&str, usize, Result<&[u8], LoadRefusal>); 4] = [
+    static LOADS: [(&str, usize, Result<&[u8], LoadRefusal>); 4] = [
         ("ksi_ports_limit", 5_001, Ok(&CONTENT)),
         ("ksi_ports_limit", 5_000, Ok(&CONTENT)),
         ("ksi_ports_limit", 4_999, Err(LoadRefusal::TooLong)),
@@ -183,8 +183,8 @@ fn the_system_saves_and_loads_up_to_the_limit(rt: HostRuntime) {
 /// A folder is opened, and it is the read that fails.
 #[test]
 fn the_system_loads_no_removed_file_and_no_folder(rt: HostRuntime) -> Result<(), Fail> {
-    const SAVES: [(&str, &[u8], Result<(), SaveRefusal>); 1] = [("ksi_ports_gone", b"by", Ok(()))];
-    const LOADS: [(&str, usize, Result<&[u8], LoadRefusal>); 2] = [
+    static SAVES: [(&str, &[u8], Result<(), SaveRefusal>); 1] = [("ksi_ports_gone", b"by", Ok(()))];
+    static LOADS: [(&str, usize, Result<&[u8], LoadRefusal>); 2] = [
         ("ksi_ports_gone", 5_000, Err(LoadRefusal::Failed)),
         (".", 5_000, Err(LoadRefusal::Failed)),
     ];

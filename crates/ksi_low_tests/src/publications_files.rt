@@ -40,7 +40,7 @@ fn lists(
 }
 
 /// A header, and a record of second 0 but for the digest.
-const FRONT: [u8; 19] = [
+static FRONT: [u8; 19] = [
     0x87, 0x01, 0x00, 0x05, 0x01, 0x01, 0x01, 0x02, 0x00, 0x87, 0x03, 0x00, 0x27, 0x10, 0x25, 0x02,
     0x00, 0x04, 0x21,
 ];
@@ -83,7 +83,7 @@ fn the_magic_comes_first(rt: HostRuntime) {
 /// Worked out by hand: what stands behind the magic.
 #[test]
 fn answers_the_first_fault(rt: HostRuntime) -> Result<(), Fail> {
-    const ROWS: [(&[u8], PublicationsFault); 13] = [
+    static ROWS: [(&[u8], PublicationsFault); 13] = [
         (&[], PublicationsFault::Missing(1793, 0)),
         (&[0x87], PublicationsFault::Tlv(8)),
         (&[0x87, 0x01, 0x00, 0x05, 0x01], PublicationsFault::Tlv(8)),
@@ -133,8 +133,8 @@ fn answers_the_first_fault(rt: HostRuntime) -> Result<(), Fail> {
             PublicationsFault::Imprint(16),
         ),
     ];
-    for (behind, fault) in ROWS {
-        lists(&rt, rt.alloc(), &[behind], Err(Refused::Fault(fault)))?;
+    for (behind, fault) in &ROWS {
+        lists(&rt, rt.alloc(), &[behind], Err(Refused::Fault(*fault)))?;
     }
     Ok(())
 }

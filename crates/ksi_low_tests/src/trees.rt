@@ -39,7 +39,7 @@ fn told(rows: &Rows<u8, Halved>, at: u64) -> Option<(u8, u8)> {
 }
 
 fn leaves(rt: &impl Abort, rows: &Rows<u8, Halved>) {
-    const ROWS: [Option<(u8, u8)>; 5] = [
+    static ROWS: [Option<(u8, u8)>; 5] = [
         Some((1, 1)),
         Some((1, 1)),
         Some((50, 26)),
@@ -54,7 +54,7 @@ fn leaves(rt: &impl Abort, rows: &Rows<u8, Halved>) {
 fn nodes(rt: &impl Abort, rows: &Rows<u8, Halved>)
     requires { 3 < rows.now.start + length rows.now.items }
 {
-    const ROWS: [(&[Side], Option<u8>); 5] = [
+    static ROWS: [(&[Side], Option<u8>); 5] = [
         (&[], Some(43)),
         (&[Left], Some(1)),
         (&[Right], Some(85)),
@@ -66,7 +66,7 @@ fn nodes(rt: &impl Abort, rows: &Rows<u8, Halved>)
     }
 }
 
-const LINKS: [TreeLink<u8>; 2] = [
+static LINKS: [TreeLink<u8>; 2] = [
     TreeLink {
         side: Left,
         sibling: 70,

@@ -4,7 +4,7 @@ use ksi_split::{ShapeFault, Side, high_bit, second_of, split, way};
 
 #[test]
 fn sides_name_a_second_or_say_why_not(rt: HostRuntime) {
-    const ROWS: [(&[Side], Result<u64, ShapeFault>); 3] = [
+    static ROWS: [(&[Side], Result<u64, ShapeFault>); 3] = [
         (&[Left, Right, Left], Ok(2)),
         (&[Right, Right, Right], Err(ShapeFault::TooMany(2))),
         (&[Left], Err(ShapeFault::TooFew(3))),
@@ -40,7 +40,7 @@ fn powers(n: u64) -> Option<(u64, u64)> {
 
 #[test]
 fn powers_of_two_are_split_below_themselves(rt: HostRuntime) {
-    const ROWS: [(u64, (u64, u64)); 6] = [
+    static ROWS: [(u64, (u64, u64)); 6] = [
         (2, (1, 2)),
         (3, (2, 2)),
         (4, (2, 4)),
@@ -48,8 +48,8 @@ fn powers_of_two_are_split_below_themselves(rt: HostRuntime) {
         (1 << 63, (1 << 62, 1 << 63)),
         (u64::MAX, (1 << 63, 1 << 63)),
     ];
-    for (n, want) in ROWS {
-        same(&rt, n, powers(n), Some(want));
+    for (n, want) in &ROWS {
+        same(&rt, *n, powers(*n), Some(*want));
     }
     same(&rt, 1, high_bit(1), 1);
 }

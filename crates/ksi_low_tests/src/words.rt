@@ -114,7 +114,7 @@ fn is_told(
 
 #[test]
 fn each_command_is_told(rt: HostRuntime) -> Result<(), Fail> {
-    const ROWS: [(&str, &str, u64); 7] = [
+    static ROWS: [(&str, &str, u64); 7] = [
         ("sign j 18446744073709551615 s", "sign j s", u64::MAX),
         ("sign j 007 s", "sign j s", 7),
         (
@@ -130,8 +130,8 @@ fn each_command_is_told(rt: HostRuntime) -> Result<(), Fail> {
     // what is asked just as it stands
     const ASKED: &str =
         "replay f j;publish j p;verify s # p;verify verify # help;verify s-- # p=-;verify 0 # 1;audit j s # p";
-    for (line, text, number) in ROWS {
-        is_told(&rt, rt.alloc(), line, text, number)?;
+    for (line, text, number) in &ROWS {
+        is_told(&rt, rt.alloc(), line, text, *number)?;
     }
     for line in ASKED.split(';') {
         is_told(&rt, rt.alloc(), line, line, 0)?;
@@ -173,7 +173,7 @@ fn each_is_told(
 
 #[test]
 fn each_other_line_is_refused(rt: HostRuntime) -> Result<(), Fail> {
-    const ROWS: [(&str, &str, u64); 6] = [
+    static ROWS: [(&str, &str, u64); 6] = [
         (BAD_FIRST, "bad", 1),
         (BAD_SECOND, "bad", 2),
         (BAD_THIRD, "bad", 3),
@@ -181,8 +181,8 @@ fn each_other_line_is_refused(rt: HostRuntime) -> Result<(), Fail> {
         (NAMES, "refused", 0),
         (DASHES, "refused", 0),
     ];
-    for (lines, text, number) in ROWS {
-        each_is_told(&rt, rt.alloc(), lines, text, number)?;
+    for (lines, text, number) in &ROWS {
+        each_is_told(&rt, rt.alloc(), lines, text, *number)?;
     }
     Ok(())
 }
@@ -197,7 +197,7 @@ fn no_words_are_refused(rt: HostRuntime) {
 #[test]
 fn numbers_have_1_to_20_digits_and_times_are_below_2_to_the_63(rt: HostRuntime) {
     const MOST: u64 = u64::MAX >> 1;
-    const ROWS: [(&str, Option<u64>, Option<u64>); 7] = [
+    static ROWS: [(&str, Option<u64>, Option<u64>); 7] = [
         ("0", Some(0), Some(0)),
         ("00000000000000000007", Some(7), Some(7)),
         ("42", Some(42), Some(42)),
@@ -208,8 +208,8 @@ fn numbers_have_1_to_20_digits_and_times_are_below_2_to_the_63(rt: HostRuntime) 
     ];
     const WORDS: &str =
         "18446744073709551616;99999999999999999999;000000000000000000007;018446744073709551615;;+1;-1; 1;1 ;1a;0x1;1_000;\u{661}";
-    for (word, count, second) in ROWS {
-        same(&rt, word, (number(word), time(word)), (count, second));
+    for (word, count, second) in &ROWS {
+        same(&rt, *word, (number(word), time(word)), (*count, *second));
     }
     for word in WORDS.split(';') {
         same(&rt, word, (number(word), time(word)), (None, None));
