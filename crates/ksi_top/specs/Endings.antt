@@ -43,7 +43,7 @@ outside held saves faults load_faults written puts failed_puts = record { held =
 -- What a fault leaves. Where a load failed: nothing saved and nothing put. Where no load but a save failed: the one name unknown
 -- and nothing put. Where no call on the files but a put failed: the file saved and a front of the line put.
 pub data FaultLeaves (files_tell sink_tells : Bool) (ran : Report) (old new : Outside) : Type 0 where
-  at_load : Rose old.load_faults new.load_faults → new.saves ≡ old.saves → (IsTrue files_tell → new.held ≡ old.held) → (IsTrue sink_tells → new.written ≡ old.written) → new.puts ≡ old.puts → FaultLeaves files_tell sink_tells ran old new
+  at_load : Rose old.faults new.faults → Rose old.load_faults new.load_faults → new.saves ≡ old.saves → (IsTrue files_tell → new.held ≡ old.held) → (IsTrue sink_tells → new.written ≡ old.written) → new.puts ≡ old.puts → FaultLeaves files_tell sink_tells ran old new
   at_save : Rose old.faults new.faults → new.load_faults ≡ old.load_faults → (IsTrue files_tell → NamesStay ran.saved old.held new.held) → (IsTrue sink_tells → new.written ≡ old.written) → new.puts ≡ old.puts → FaultLeaves files_tell sink_tells ran old new
   at_put : Rose old.failed_puts new.failed_puts → new.faults ≡ old.faults → (IsTrue files_tell → new.held ≡ saved_into ran.saved old.held) → (IsTrue files_tell → IsTrue sink_tells → ExtendsByFront old.written ran.line new.written) → FaultLeaves files_tell sink_tells ran old new
 
