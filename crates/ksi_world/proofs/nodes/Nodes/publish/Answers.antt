@@ -21,5 +21,5 @@ returns-clause-ok g c = λ plan w fits.
     let is = fits'.cores.each c.args.core there.0 there.1 in
     publish_fits plan w c.self.inside.cores.items c.self.inside.cores.items c.self.inside.aggregators.items c.self.inside.aggregators.items c.self.inside.wire.items c.self.inside.wire.items c.self.inside.requests.items c.self.inside.requests.items c.self.inside.published.items c.put_answer.new.published.items
     fits' c.args.second c.in_ok-answer.answer (publish_answer g.C.Compress.image (held_in w c.args.core) plan.start c.args.second) (λ _ _ are. are)
-    (c.in_ok-answer.ensures.answer there.0 there.1 ∙ publish_same plan w c.args.core there.0 is c.args.second g.C.Compress.image)
+    (c.in_ok-answer.ensures there.0 there.1 ∙ publish_same plan w c.args.core there.0 is c.args.second g.C.Compress.image)
     (c.put_answer.ensures ∙ ap (λ xs. published_with xs c.args.second c.in_ok-answer.answer) c.reserve.ensures.items)
