@@ -1,5 +1,5 @@
 -- The stable part of a second after a step is the one before with the step's fact.
-use Rattle.std.proofs.Common.{◌≡◌, ◌∙◌, ℕ, Bool, true, false, ◌&&◌, eqb, ltb, List, [], Option, Some, None, refl, sym, ap, subst}
+use Rattle.std.proofs.Common.{◌≡◌, ◌∙◌, ℕ, Bool, true, false, ◌&&◌, eqb, ltb, List, [], Option, Some, None, refl, sym, ap}
 use Rattle.std.specs.Prelude.{◌==◌, if◌then◌else◌, is_some, option_map, unwrap_or}
 use Rattle.std.proofs.lemmas.Bool.{cond_both, eqb-true}
 use Rattle.ksi_aggtree.specs.declared.item.Item.{Item}
@@ -22,9 +22,9 @@ use Rattle.ksi_corenode.specs.declared.fact.What.TheVariants as what
 use Rattle.ksi_corenode.specs.declared.fact.Fact.{Fact}
 use Rattle.ksi_corenode.specs.declared.step.Step.{Step}
 use Rattle.ksi_corenode.specs.SecondState.{SecondState}
-use Rattle.ksi_corenode.specs.Facts.{StableState, stable_state, with_what, with_stored, fact_of, with_fact, Stores}
-use Rattle.ksi_corenode.specs.Turns.{Turn, still}
-use Rattle.ksi_corenode.specs.Rows.{taken, item_taken, submission_row, sealed_now, seal_row, ballot_fact, ballot_row, where_news, decided_fact, receive_fact, receive_row, tell_row, is_mine, respond_where, respond_row}
+use Rattle.ksi_corenode.specs.Facts.{stable_state, with_what, with_stored, fact_of, with_fact, Stores}
+use Rattle.ksi_corenode.specs.Turns.{Turn}
+use Rattle.ksi_corenode.specs.Rows.{submission_row, seal_row, ballot_fact, ballot_row, where_news, decided_fact, receive_row, tell_row, is_mine, respond_where, respond_row}
 use Rattle.ksi_corenode.specs.CoreState.{CoreState, state_of, IsTurn}
 
 -- THE ROWS

@@ -73,7 +73,7 @@ set_same (y ∷ ys) zero x at = let same : y ≡ x = cc at in ap (λ z. z ∷ ys
 set_same (y ∷ ys) (suc j) x at = ap (λ zs. y ∷ zs) (set_same ys j x at)
 
 -- one that leaves the core as it was
-pub core_told : (row : CoreState → Turn) (j t : ℕ) (cores : List CoreState) (wire wire' : List Message) (old : CoreState) (step : Step core_step.Send) (outcome : Outcome) →
+pub core_told : (row : CoreState → Turn) (j t : ℕ) (cores : List CoreState) (wire wire' : List Message) (old : CoreState) (step : Step) (outcome : Outcome) →
     slice_get cores j ≡ Some old → IsTurn old old t (row old) step → wire' ≡ wire ++ map (core_message j t) step.sends → outcome ≡ outcome_of step.answer (length step.sends) →
     CoreStep row j t cores cores wire wire' outcome
 core_told row j t cores wire wire' old step outcome at is posted told =
