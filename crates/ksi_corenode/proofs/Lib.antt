@@ -5,3 +5,4 @@ pub mod Responses
 pub mod Sealing
 pub mod Settling
 pub mod Words
+pub mod Storing

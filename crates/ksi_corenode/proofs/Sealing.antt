@@ -10,7 +10,7 @@ use Rattle.ksi_aggtree.specs.Entries.{items_of, candidate_of}
 use Rattle.ksi_synod.specs.VoteState.{VoteState, stable_of, vote_of}
 use Rattle.ksi_synod.specs.Rows.{seal, sealed_with}
 use Rattle.ksi_corenode.specs.declared.stable.StablePart.{StablePart}
-use Rattle.ksi_synod.specs.CorePlans.{CorePlanState, voters_of}
+use Rattle.ksi_synod.specs.CorePlans.{voters_of}
 use Rattle.ksi_corenode.specs.SecondState.{SecondState}
 use Rattle.ksi_corenode.specs.Rows.{sealed_now}
 use Rattle.ksi_corenode.specs.Stored.{VolatileState, volatile_at, items_from, second_of, AreSealed, IsSealedWell}

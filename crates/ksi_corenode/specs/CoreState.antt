@@ -1,14 +1,14 @@
 -- What a contract sees of a core: each of its seconds.
-use Rattle.std.specs.Prelude.{◌≡◌, ℕ, ◌==◌, if◌then◌else◌, List}
+use Rattle.std.specs.Prelude.{◌≡◌, ℕ, ◌==◌, if◌then◌else◌, List, option_map}
 use Rattle.ksi_aggtree.specs.declared.entries.Entry.{Entry}
-use Rattle.ksi_signature.specs.declared.step.Step.{Step}
 use Rattle.ksi_corenode.specs.declared.stable.StablePart.{StablePart}
-use Rattle.ksi_corenode.specs.declared.step.Send.{Send}
+use Rattle.ksi_corenode.specs.declared.step.Step.{Step}
 use Rattle.ksi_synod.specs.CorePlans.{CorePlanState, voters_of}
 use Rattle.ksi_corenode.specs.SecondState.{SecondState}
 use Rattle.ksi_corenode.specs.Stored.{VolatileState, part_at, volatile_at, second_of}
 use Rattle.ksi_calendar.specs.Covered.{Roots}
 use Rattle.ksi_corenode.specs.Turns.{Turn}
+use Rattle.ksi_corenode.specs.Facts.{fact_of}
 
 -- its number, the plan of the cores, the first second, and what is stored of the seconds that something came for: the
 -- stable parts of the settled seconds and of the unsettled, all sealed items, and the volatile parts
@@ -48,10 +48,11 @@ pub record IsChange (old new : CoreState) (second : ℕ) (after : SecondState) :
   pub seconds : (t : ℕ) → state_of new t ≡ (if t == second then after else state_of old t)
 
 -- the step is this turn of the second, and all else is as it was
-pub record IsTurn (old new : CoreState) (second : ℕ) (turn : Turn) (step : Step Send) : Type 0 where
+pub record IsTurn (old new : CoreState) (second : ℕ) (turn : Turn) (step : Step) : Type 0 where
   pub me : new.me ≡ old.me
   pub plan : new.plan ≡ old.plan
   pub start : new.start ≡ old.start
   pub seconds : (t : ℕ) → state_of new t ≡ (if t == second then turn.after else state_of old t)
   pub answer : step.answer ≡ turn.answer
+  pub fact : step.fact ≡ option_map (fact_of second) turn.fact
   pub sends : step.sends ≡ turn.sends

@@ -23,6 +23,8 @@ use Rattle.ksi_calendar.specs.Calendar.{Seconds, calendar_path}
 use Rattle.ksi_signature.specs.declared.above.Above.{Above}
 use Rattle.ksi_signature.specs.declared.answer.Answer.{Answer}
 use Rattle.ksi_signature.specs.declared.answer.Answer.TheVariants.{Done, Published, Late, Known, Full, Unsealed, Sealed, Undecided, NotMine, Nothing, Last}
+use Rattle.ksi_corenode.specs.declared.fact.What.{What}
+use Rattle.ksi_corenode.specs.declared.fact.What.TheVariants as what
 use Rattle.ksi_corenode.specs.declared.step.Send.{Send}
 use Rattle.ksi_corenode.specs.declared.step.Send.TheVariants as sends
 use Rattle.ksi_corenode.specs.SecondState.{SecondState}
@@ -43,7 +45,7 @@ taken from item entries =
     else (entries ++ submitted from item ∷ [], Done)
 
 abbrev pub item_taken : SecondState → List Entry × Answer → Turn
-item_taken s row = record { after = record s { open_items = row.0 }; answer = row.1; sends = [] }
+item_taken s row = record { after = record s { open_items = row.0 }; answer = row.1; fact = None; sends = [] }
 
 -- Late where the second is sealed; Known where an item of the aggregator is there; Full at 65,536 items; else Done
 unfoldable pub submission_row : (from : ℕ) → Item → SecondState → Turn
@@ -53,7 +55,7 @@ submission_row from item s = if is_some s.sealed then still s Late else item_tak
 
 -- the second from then on
 abbrev pub sealed_now : (List ℕ → List ℕ) → SecondState → Turn
-sealed_now image s = record { after = record { vote = seal s.vote (candidate_of image s.open_items); open_items = []; sealed = Some s.open_items }; answer = Done; sends = [] }
+sealed_now image s = record { after = record { vote = seal s.vote (candidate_of image s.open_items); open_items = []; sealed = Some s.open_items }; answer = Done; fact = Some (what.Sealed s.open_items); sends = [] }
 
 -- Sealed where it is sealed, else Done
 unfoldable pub seal_row : (List ℕ → List ℕ) → SecondState → Turn
@@ -66,9 +68,15 @@ ballot_answer begun.Unsealed = Unsealed
 ballot_answer begun.Last = Last
 ballot_answer (begun.Next b) = Done
 
+-- the ballot that is tried is stored
+abbrev pub ballot_fact : Begun → Option What
+ballot_fact begun.Unsealed = None
+ballot_fact begun.Last = None
+ballot_fact (begun.Next b) = Some (what.Tried b)
+
 -- Unsealed without a candidate; Last where no round is left; else Done
 unfoldable pub ballot_row : CorePlanState → (second me : ℕ) → SecondState → Turn
-ballot_row plan second me s = voted_with plan second me s ((try_ballot s.vote).0, ballot_told (try_ballot s.vote).1) (ballot_answer (try_ballot s.vote).1)
+ballot_row plan second me s = voted_with plan second me s ((try_ballot s.vote).0, ballot_told (try_ballot s.vote).1) (ballot_answer (try_ballot s.vote).1) (ballot_fact (try_ballot s.vote).1)
 
 -- THE FIVE MESSAGES OF THE VOTE: what Synod's step says
 
@@ -91,8 +99,26 @@ abbrev pub news_answer : Bool → Answer
 news_answer true = Done
 news_answer false = Nothing
 
+-- what is stored where a decree is decided, and this was held
+abbrev pub decided_fact : (held : Option (List ℕ)) → Took → Option What
+decided_fact None (took.Decree d) = Some (what.Holds d)
+decided_fact _ _ = None
+
+-- what is stored where this is so
+abbrev pub where_news : Bool → What → Option What
+where_news true fact = Some fact
+where_news false fact = None
+
+-- what a message makes a core store: the ballot that it promises, the vote that it casts, or the root that it holds now
+abbrev pub receive_fact : VoteState → (from : ℕ) → SynodMessage → Option What
+receive_fact v from (message.NextBallot b) = where_news (is_some (on_next v b).1) (what.Promised b)
+receive_fact v from (message.LastVote l) = None
+receive_fact v from (message.BeginBallot b d) = where_news (on_begin v b d).1 (what.Cast (record { ballot = b; imprint = d }))
+receive_fact v from (message.Voted b) = decided_fact v.held (on_voted v from b).1
+receive_fact v from (message.Success d) = where_news (on_success v d).1 (what.Holds d)
+
 unfoldable pub receive_row : CorePlanState → (second from : ℕ) → SynodMessage → SecondState → Turn
-receive_row plan second from m s = voted_with plan second from s (receive s.vote from m) (news_answer (is_news s.vote from m))
+receive_row plan second from m s = voted_with plan second from s (receive s.vote from m) (news_answer (is_news s.vote from m)) (receive_fact s.vote from m)
 
 -- TELL: Success with what is held goes to all cores
 
@@ -102,7 +128,7 @@ tell_answer second None = Undecided second
 tell_answer second (Some root) = Done
 
 unfoldable pub tell_row : CorePlanState → (second me : ℕ) → SecondState → Turn
-tell_row plan second me s = voted_with plan second me s (s.vote, held_told s.vote.held) (tell_answer second s.vote.held)
+tell_row plan second me s = voted_with plan second me s (s.vote, held_told s.vote.held) (tell_answer second s.vote.held) None
 
 -- RESPOND: each aggregator whose item was sealed is told the way from its item to the calendar of this second
 
@@ -129,7 +155,7 @@ responses_from above k (entry ∷ entries) = response_to entry.origin (above k) 
 
 -- all responses are sent
 abbrev pub responded : (List ℕ → List ℕ) → Roots → (start second : ℕ) → List Entry → (root : List ℕ) → SecondState → Turn
-responded image held start second entries root s = record { after = s; answer = Done; sends = responses_from (above_item image (covered_seconds held start second) second root (items_of entries)) 0 entries }
+responded image held start second entries root s = record { after = s; answer = Done; fact = None; sends = responses_from (above_item image (covered_seconds held start second) second root (items_of entries)) 0 entries }
 
 -- Unsealed; Undecided with the first second from the start on that is not held; NotMine; else Done. (The third case does
 -- not come: where none is missing, something is held for the second.)

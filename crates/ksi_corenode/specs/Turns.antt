@@ -8,17 +8,19 @@ use Rattle.ksi_synod.specs.VoteState.{VoteState}
 use Rattle.ksi_signature.specs.declared.answer.Answer.{Answer}
 use Rattle.ksi_corenode.specs.declared.step.Send.{Send}
 use Rattle.ksi_corenode.specs.declared.step.Send.TheVariants as sends
+use Rattle.ksi_corenode.specs.declared.fact.What.{What}
 use Rattle.ksi_corenode.specs.SecondState.{SecondState}
 
--- the second after a row, its answer, and what is sent in order
+-- the second after a row, its answer, what is stored for good, and what is sent in order
 pub record Turn : Type 0 where
   pub after : SecondState
   pub answer : Answer
+  pub fact : Option What
   pub sends : List Send
 
 -- nothing changes, and nothing is sent
 abbrev pub still : SecondState → Answer → Turn
-still s answer = record { after = s; answer = answer; sends = [] }
+still s answer = record { after = s; answer = answer; fact = None; sends = [] }
 
 -- the message to each of these cores
 abbrev pub to_each : List ℕ → SynodMessage → List Send
@@ -37,6 +39,6 @@ abbrev pub told : CorePlanState → (second from : ℕ) → Option SynodMessage 
 told plan second from None = []
 told plan second from (Some m) = addressed plan second from m
 
--- the vote after a row, the message that is to be sent, and the answer
-abbrev pub voted_with : CorePlanState → (second from : ℕ) → SecondState → VoteState × Option SynodMessage → Answer → Turn
-voted_with plan second from s row answer = record { after = record s { vote = row.0 }; answer = answer; sends = told plan second from row.1 }
+-- the vote after a row, the message that is to be sent, the answer, and what is stored
+abbrev pub voted_with : CorePlanState → (second from : ℕ) → SecondState → VoteState × Option SynodMessage → Answer → Option What → Turn
+voted_with plan second from s row answer fact = record { after = record s { vote = row.0 }; answer = answer; fact = fact; sends = told plan second from row.1 }

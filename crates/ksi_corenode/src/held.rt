@@ -24,6 +24,7 @@ impl<C: Compress> Core<C> {
             step.answer ≡ publish_answer C.image (held_by self.now) self.now.start p) }
         ensures undecided { IfOk result (λ step. (s : ℕ) →
             (step.answer ≡ Undecided s) ↔ IsFirstMissing (held_by self.now) self.now.start p s) }
+        ensures fact { IfOk result (λ step. step.fact ≡ None) }
         ensures sends { IfOk result (λ step. step.sends ≡ []) }
     {
         one_first_missing();

@@ -1,8 +1,8 @@
 //! A core of the calendar. For each second it takes items that aggregators submit, seals them, votes with the other cores
 //! on the second's root by Lamport's Synod, and answers each aggregator with the way from its item to the calendar.
 //!
-//! A [`Core`] takes one call at a time and answers a [`Step`]: an [`Answer`], and what is to be sent for the second of the
-//! call. Nothing is sent, stored or timed here. A contract sees each second of a core by `state_of`: its part in the vote,
+//! A [`Core`] takes one call at a time and answers a [`Step`]: an [`Answer`], the [`Fact`] that is to be stored, if any, and
+//! what is to be sent for the second of the call. Nothing is sent, stored or timed here. A contract sees each second of a core by `state_of`: its part in the vote,
 //! its open items and its sealed ones. The layer above may rely on this: each call's answer, sends and second are those of
 //! its row in `specs/Rows`, all other seconds are as they were, and each refusal comes exactly where its clause says. After
 //! `NoMemory` all is as it was. `publish`, `restart` and the readers take no memory.
@@ -22,8 +22,10 @@
 //! ```
 #![tactic(auto)]
 
+mod fact;
 mod growing;
 mod held;
+pub mod laws;
 mod lazy_calendar;
 mod node;
 mod receiving;
@@ -37,6 +39,7 @@ mod step;
 mod volatile;
 mod volatile_parts;
 
+pub use fact::{Fact, SealedItems, What};
 pub use ksi_imprint::NoMemory;
 pub use ksi_signature::Answer;
 pub use ksi_split::Steps;

@@ -6,11 +6,12 @@ ghost use Rattle.ksi_aggtree.specs.Entries.{items_of, has_from, candidate_of};
 ghost use Rattle.ksi_signature.specs.declared.answer.Answer.TheVariants.{Late, Known, Full, Unsealed, Sealed, Undecided, Nothing, Last};
 ghost use Rattle.ksi_synod.specs.Ballots.{last_round};
 ghost use Rattle.ksi_synod.specs.Rows.{greater_round, ballot_told, OfBallot};
-ghost use Rattle.ksi_corenode.specs.Rows.{submission_row, seal_row, ballot_answer, ballot_row, receive_row, tell_row, restart_row, is_news};
+ghost use Rattle.ksi_corenode.specs.Rows.{submission_row, seal_row, ballot_answer, ballot_fact, ballot_row, receive_row, tell_row, restart_row, is_news};
 ghost use Rattle.ksi_corenode.specs.CoreState.{state_of, held_by, IsSame, IsChange, IsTurn};
 ghost use Rattle.ksi_corenode.specs.Kept.{Keeps};
 ghost use Rattle.ksi_corenode.specs.Settled.{IsCalendarOf};
 
+use crate::fact::{What, fact_of};
 use crate::growing::lengthen;
 use crate::lazy_calendar::LazyCalendar;
 use crate::receiving::receive;
@@ -153,8 +154,12 @@ impl<C: Compress> Core<C> {
         ensures sealed { IfOk result (λ step. (step.answer ≡ Sealed) ↔ IsSome (state_of self.old second).sealed) }
         ensures unchanged { OnErr result (IsSame self.old self.new) }
     {
-        let answer = self.seconds.seal(second)?;
-        Ok(Step::without_sends(self.alloc, answer))
+        let (answer, what) = self.seconds.seal(second)?;
+        Ok(Step {
+            answer,
+            fact: fact_of(second, what),
+            sends: Sends::from_vec(Vec::new(self.alloc)),
+        })
     }
 
     /// Tries this core's next ballot for a second: NextBallot goes to the voters. The answer is Unsealed where the second
@@ -173,7 +178,7 @@ impl<C: Compress> Core<C> {
     {
         let mut sends = self.room()?;
         let mut vote = self.seconds.vote(second);
-        let (answer, call) = called(vote.try_ballot());
+        let (answer, what, call) = called(vote.try_ballot());
         self.put_vote(second, &vote)?;
         push_told(
             self.seconds.plan(),
@@ -184,6 +189,7 @@ impl<C: Compress> Core<C> {
         );
         Ok(Step {
             answer,
+            fact: fact_of(second, what),
             sends: Sends::from_vec(sends),
         })
     }
@@ -211,11 +217,12 @@ impl<C: Compress> Core<C> {
     {
         let mut sends = self.room()?;
         let mut vote = self.seconds.vote(second);
-        let (answer, reply) = receive(&mut vote, from, message);
+        let (answer, what, reply) = receive(&mut vote, from, message);
         self.put_vote(second, &vote)?;
         push_told(self.seconds.plan(), second, from, &reply, &mut sends);
         Ok(Step {
             answer,
+            fact: fact_of(second, what),
             sends: Sends::from_vec(sends),
         })
     }
@@ -263,6 +270,7 @@ impl<C: Compress> Core<C> {
         };
         Ok(Step {
             answer,
+            fact: None,
             sends: Sends::from_vec(sends),
         })
     }
@@ -279,15 +287,20 @@ impl<C: Compress> Core<C> {
 }
 
 /// What comes of the command to try a ballot: NextBallot goes out where one is tried.
-fn called(begun: Begun) -> (Answer, Option<SynodMessage>)
+fn called(begun: Begun) -> (Answer, Option<What>, Option<SynodMessage>)
     ensures answer { result.0 ≡ ballot_answer begun }
-    ensures sends { result.1 ≡ ballot_told begun }
+    ensures fact { result.1 ≡ ballot_fact begun }
+    ensures sends { result.2 ≡ ballot_told begun }
     ensures unsealed { (result.0 ≡ Unsealed) ↔ (begun ≡ Begun.Unsealed) }
     ensures last { (result.0 ≡ Last) ↔ (begun ≡ Begun.Last) }
 {
     match begun {
-        Begun::Unsealed => (Answer::Unsealed, None),
-        Begun::Last => (Answer::Last, None),
-        Begun::Next(ballot) => (Answer::Done, Some(SynodMessage::NextBallot(ballot))),
+        Begun::Unsealed => (Answer::Unsealed, None, None),
+        Begun::Last => (Answer::Last, None, None),
+        Begun::Next(ballot) => (
+            Answer::Done,
+            Some(What::Tried(ballot)),
+            Some(SynodMessage::NextBallot(ballot)),
+        ),
     }
 }

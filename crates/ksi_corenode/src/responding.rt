@@ -1,5 +1,5 @@
 //! How a core answers the aggregators whose items it sealed.
-ghost use Rattle.std.specs.Prelude.{◌≡◌, ◌↔◌, ℕ, ◌<◌, ◌≤◌, ◌+◌, ◌^◌, ◌++◌, ◌∷◌, [], length, IfOk, IfSome, OnOk, IsSome, IsNone, Some, slice_get};
+ghost use Rattle.std.specs.Prelude.{◌≡◌, ◌↔◌, ℕ, ◌<◌, ◌≤◌, ◌+◌, ◌^◌, ◌++◌, ◌∷◌, [], length, IfOk, IfSome, OnOk, IsSome, IsNone, Some, None, slice_get};
 ghost use Rattle.ksi_aggtree.specs.declared.entries.Entry.{Entry};
 ghost use Rattle.ksi_aggtree.specs.Entries.{items_of};
 ghost use Rattle.ksi_aggtree.specs.Rounds.{IsRound, most_items, highest_item};
@@ -52,6 +52,7 @@ impl<C: Compress> Core<C> {
         requires below { second < 2 ^ 63 }
         ensures answer { IfOk result (λ step. step.answer ≡
             (respond_row C.image (held_by self.now) self.now.start second (state_of self.now second)).answer) }
+        ensures fact { IfOk result (λ step. step.fact ≡ None) }
         ensures sends { IfOk result (λ step. step.sends ≡
             (respond_row C.image (held_by self.now) self.now.start second (state_of self.now second)).sends) }
     {
@@ -72,6 +73,7 @@ impl<C: Compress> Core<C> {
         let sends = self.sends(calendar, second, entries, &root)?;
         Ok(Step {
             answer: Answer::Done,
+            fact: None,
             sends: Sends::from_vec(sends),
         })
     }

@@ -13,6 +13,7 @@ ghost use Rattle.ksi_corenode.specs.Settled.{IsSettled};
 ghost use Rattle.ksi_corenode.specs.Kept.{Keeps};
 ghost use Rattle.ksi_corenode.specs.CoreState.{state_of, stable_at, held_by, IsSame, IsChange};
 
+use crate::fact::{SealedItems, What};
 use crate::stable::StablePart;
 use crate::stable_parts::StableParts;
 use crate::volatile::VolatilePart;
@@ -164,16 +165,20 @@ impl<C: Compress> Seconds<C> {
 
     /// Seals the open items: the imprint of their tree is the candidate.
     #[tactic(auto, unfolding(crate::specs::Rows::seal_row))]
-    pub fn seal(&mut self, second: u64) -> Result<Answer, NoMemory>
+    pub fn seal(&mut self, second: u64) -> Result<(Answer, Option<What>), NoMemory>
         ensures change { OnOk result (IsChange self.old self.new second (seal_row C.image (state_of self.old second)).after) }
-        ensures answer { IfOk result (λ answer. answer ≡ (seal_row C.image (state_of self.old second)).answer) }
+        ensures answer { IfOk result (λ told. told.0 ≡ (seal_row C.image (state_of self.old second)).answer) }
+        ensures fact { IfOk result (λ told. told.1 ≡ (seal_row C.image (state_of self.old second)).fact) }
         ensures unchanged { OnErr result (IsSame self.old self.new) }
     {
         if self.is_sealed(second) {
-            return Ok(Answer::Sealed);
+            return Ok((Answer::Sealed, None));
         }
-        self.seal_open(second)?;
-        Ok(Answer::Done)
+        let items = self.seal_open(second)?;
+        Ok((
+            Answer::Done,
+            Some(What::Sealed(SealedItems::from_vec(items))),
+        ))
     }
 
     /// Forgets the ballots in hand and the open items.

@@ -9,7 +9,7 @@ use Rattle.ksi_synod.specs.Voters.{cores_below}
 use Rattle.ksi_synod.specs.CorePlans.{CorePlanState, IsCorePlan, voters_of}
 use Rattle.ksi_corenode.specs.declared.step.Send as core_step
 use Rattle.ksi_corenode.specs.declared.step.Send.TheVariants as core_sends
-use Rattle.ksi_signature.specs.declared.step.Step.{Step}
+use Rattle.ksi_corenode.specs.declared.step.Step.{Step}
 use Rattle.ksi_corenode.specs.SecondState.{SecondState}
 use Rattle.ksi_corenode.specs.Turns.{Turn, told, to_each}
 use Rattle.ksi_corenode.specs.Rows.{ballot_row, receive_row, tell_row, seal_row, submission_row}
@@ -50,7 +50,7 @@ get_push (z ∷ zs) x (suc k) y at = elim (get_push zs x k y at) [ inl old ↦ i
 
 -- THE STEP OF A CORE
 
-pub core_turned : (row : CoreState → Turn) (j t : ℕ) (cores : List CoreState) (wire wire' : List Message) (old new : CoreState) (step : Step core_step.Send) (outcome : Outcome) →
+pub core_turned : (row : CoreState → Turn) (j t : ℕ) (cores : List CoreState) (wire wire' : List Message) (old new : CoreState) (step : Step) (outcome : Outcome) →
     slice_get cores j ≡ Some old → IsTurn old new t (row old) step → wire' ≡ wire ++ map (core_message j t) step.sends → outcome ≡ outcome_of step.answer (length step.sends) →
     CoreStep row j t cores (set cores j new) wire wire' outcome
 core_turned row j t cores wire wire' old new step outcome at is posted told = record {
@@ -73,7 +73,7 @@ set_same (y ∷ ys) zero x at = let same : y ≡ x = cc at in ap (λ z. z ∷ ys
 set_same (y ∷ ys) (suc j) x at = ap (λ zs. y ∷ zs) (set_same ys j x at)
 
 -- one that leaves the core as it was
-pub core_told : (row : CoreState → Turn) (j t : ℕ) (cores : List CoreState) (wire wire' : List Message) (old : CoreState) (step : Step core_step.Send) (outcome : Outcome) →
+pub core_told : (row : CoreState → Turn) (j t : ℕ) (cores : List CoreState) (wire wire' : List Message) (old : CoreState) (step : Step) (outcome : Outcome) →
     slice_get cores j ≡ Some old → IsTurn old old t (row old) step → wire' ≡ wire ++ map (core_message j t) step.sends → outcome ≡ outcome_of step.answer (length step.sends) →
     CoreStep row j t cores cores wire wire' outcome
 core_told row j t cores wire wire' old step outcome at is posted told =

@@ -17,8 +17,12 @@ pub(crate) fn post_core(
     ensures wire { wire.new.items ≡ wire.old.items ++ map (core_message core second) step.sends }
     ensures outcome { result ≡ outcome_of step.answer (length step.sends) }
 {
-    let answer = step.answer;
-    let sends = step.sends.into_vec();
+    let ksi_corenode::Step {
+        answer,
+        fact: _,
+        sends,
+    } = step;
+    let sends = sends.into_vec();
     let sent = sends.len();
     'posting: for send in sends {
         put(wire, core_message(core, second, send));

@@ -4,7 +4,6 @@ use Rattle.std.specs.Prelude.{slice_get}
 use Rattle.ksi_synod.specs.CorePlans.{CorePlanState}
 use Rattle.ksi_corenode.specs.SecondState.{fresh_second}
 use Rattle.ksi_corenode.specs.CoreState.{CoreState, state_of}
-use Rattle.ksi_schedule.specs.Plans.{PlanState}
 use Rattle.ksi_world.proofs.Turning.{get_push}
 use Rattle.ksi_world.proofs.cores.new.Goals as goal
 

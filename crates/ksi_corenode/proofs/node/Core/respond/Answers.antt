@@ -1,4 +1,7 @@
-use Rattle.std.proofs.Common.{refl}
+use Rattle.std.proofs.Common.{◌∙◌, refl, sym, ap}
+use Rattle.std.specs.Prelude.{option_map}
+use Rattle.ksi_corenode.specs.Facts.{fact_of}
+use Rattle.ksi_corenode.proofs.Storing.{no_fact}
 use Rattle.ksi_signature.specs.declared.answer.Answer.TheVariants.{Undecided, NotMine}
 use Rattle.ksi_corenode.specs.Rows.{respond_row}
 use Rattle.ksi_corenode.specs.CoreState.{state_of, held_by}
@@ -16,6 +19,7 @@ returns-clause-turn g c =
       start = refl;
       seconds = stays now t row.after (respond_after g.C.Compress.image (held_by now) now.start t (state_of now t));
       answer = c.in_ok-step.ensures.answer;
+      fact = c.in_ok-step.ensures.fact ∙ sym (ap (option_map (fact_of t)) (no_fact (state_of now t) g.C.Compress.image (held_by now) now.start t));
       sends = c.in_ok-step.ensures.sends;
     }
 
