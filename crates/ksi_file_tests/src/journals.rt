@@ -1,7 +1,7 @@
 use crate::same::same;
 use ksi_aggchain::Node;
 use ksi_imprint::{Compress, Imprint, Tiny};
-use ksi_journal::{Journal, Parts, JournalFault, Refused, load, write};
+use ksi_journal::{Journal, JournalFault, Parts, Refused, load, write};
 use ksi_split::Side;
 use ksi_split::Side::{Left, Right};
 use std::alloc::Global;

@@ -9,8 +9,8 @@ ghost use Rattle.ksi_replay.specs.Journals.{journal_of};
 
 use ksi_aggtree::{Item, Second};
 use ksi_imprint::{Bytes, Compress, Imprint, NoMemory};
-use ksi_journal::{Journal, Parts};
 use ksi_journal::laws::are_bytes;
+use ksi_journal::{Journal, Parts};
 use ksi_world::World;
 use std::alloc::Global;
 

@@ -37,10 +37,9 @@ loop-item-preserved-then-is_link c =
     let split : rest c.loop-item.elements ≡ Ok (view_placed c.in-Ok.part) ∷ rest c.next.new.self = rw c.in-Ok.is at c.in-Some.ensures.steps in
     let here = ap (λ (items : Items). sides_among (whole items)) split ∙ link_first (view_placed c.in-Ok.part) (whole (rest c.next.new.self)) (sym c.is_link.ensures ∙ c.if-is_link.true) in
     let same = here ∙ ap (λ (side : Side). side ∷ sides_among (whole (rest c.next.new.self))) (sym c.side_of.ensures) in
-    let more = sides_among (whole (rest c.next.new.self)) in
-    (
+    let more = sides_among (whole (rest c.next.new.self)) in (
       ap (λ (n : _). n + left_powers (c.loop-item.place + 1) more) c.with_side-bits.ensures
-      ∙ side_goes c.one_shape.ensures.first c.loop-item.bits c.loop-item.place c.side_of.result _ more (sides_among es) same c.loop-item.invariant.0,
+          ∙ side_goes c.one_shape.ensures.first c.loop-item.bits c.loop-item.place c.side_of.result _ more (sides_among es) same c.loop-item.invariant.0,
       omega (arith, c.loop-item.invariant.1, ap (λ (sides : List Side). length sides) here),
     )
 
