@@ -86,7 +86,7 @@ pub fn ksi<F: Files, K: Sink>(alloc: Global, words: &[String], files: &mut F, ou
     ensures free { K.free out.old ≤ K.free out.new + 32767 }
     ensures no_save { result ≢ Status.Done → result ≢ Status.Fault → F.saves files.new ≡ F.saves files.old }
 
-    // No count falls, and those of faults stay where no fault is reported.
+    // No count of faults or of bytes falls, and those of faults stay where no fault is reported.
     ensures quiet { result ≢ Status.Fault →
         (F.faults files.new ≡ F.faults files.old) × (K.faults out.new ≡ K.faults out.old) }
     ensures later { (F.faults files.old ≤ F.faults files.new) × (F.taken files.old ≤ F.taken files.new)

@@ -22,12 +22,13 @@ const LARGE: &str =
     "large = 8800fe05 88010032 02046553f100 030101 030101 052101A 060101 8801002f 02046553f100 030101 052101A 060101 e01efd98 64920x00";
 
 // A journal that begins with second 8, which was missed, and keeps A in 9, signatures of both seconds, one whose index does
-// not fit its links, and the publication of 9.
+// not fit its links, one with a bare right link, and the publication of 9.
 const OF_8_AND_9: &str =
     "from_8 = 4b53494a524e4c31 010108 0229 010108 022101Z 030100 0229 010109 022101A 030101 032201A00 0600
 of_8 = 88000030 8801002c 020108 030101 052101Z 060101
 of_9 = 88000030 8801002c 020109 030101 052101A 060101
 unlike = 88000030 8801002c 020109 030102 052101A 060101
+bare = 88000058 88010054 020109 030102 052101A 060101 0826 0424 01A 7e0101
 root_of_9 = 4b53495055424c46 87010005 010101 0200 87030028 1026 020109 0421017dd6308dc4f1cf1c80ff4459dc24eb8541e38929096329c51893c5d6370fe7c4";
 
 // Journals of second 0 that keep A or B alone, both as items, the item that they are joined to, or nothing.
@@ -61,7 +62,8 @@ extend keeps_a alone 5 t = refused E4 0
 extend keeps_a large T t = refused E5 65582
 extend from_8 of_8 9 t = refused V9
 extend from_8 of_9 8 t = refused E3 9 8
-extend from_8 unlike 9 t = refused V3 0 2 1";
+extend from_8 unlike 9 t = refused V3 0 2 1
+extend from_8 bare 8 t = refused V15 0 0";
 
 #[test]
 fn each_refusal_of_an_extension_has_its_line(rt: HostRuntime) -> Result<(), Fail> {

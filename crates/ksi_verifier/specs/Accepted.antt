@@ -26,7 +26,7 @@ abbrev pub ChainsLead : (List ℕ → List ℕ) → Node → List PlainChain →
 ChainsLead image start [] top = start ≡ top
 ChainsLead image start (chain ∷ chains) top = (next : Node) × (chain.input ≡ start.imprint) × Climbs image start chain.links next × ChainsLead image next chains top
 
--- the chains hold together, are of one time, lead from a hash at level 0 to an item, and have no raw sibling on the left that
+-- the chains hold together, are of one time, lead from a hash at level 0 to an item, and have no right link whose raw sibling
 -- begins as an imprint does
 pub record IsAggregated (image : List ℕ → List ℕ) (chains : List PlainChain) (hash : List ℕ) (time : ℕ) (item : Node) : Type 0 where
   pub some : 0 < length chains

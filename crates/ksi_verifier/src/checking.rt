@@ -19,8 +19,8 @@ use ksi_imprint::{Compress, Imprint};
 use ksi_publications::Publications;
 use ksi_signature::{AggregationChain, Signature};
 
-/// Checks a signature for a hash against the published roots of the calendar: the first of V1 to V15 that fails, or the
-/// second that the sides of the calendar chain name.
+/// Checks a signature for a hash against the published roots of the calendar: the first that fails of V1 to V6, V15, V7 to
+/// V14, in this order, or the second that the sides of the calendar chain name.
 pub fn verify<C: Compress>(
     signature: &Signature,
     hash: &Imprint,
@@ -56,7 +56,7 @@ pub(crate) fn verdict_of(checked: Result<u64, Refusal>) -> Verdict
     }
 }
 
-/// The checks V1 to V15 in their order, whoever owns the parts.
+/// The checks V1 to V15, V15 behind V6, whoever owns the parts.
 pub(crate) fn check<C: Compress, T: AnyChain>(
     chains: &[T],
     calendar: &Option<CalendarPart<'_>>,
