@@ -3,7 +3,7 @@ use Rattle.std.proofs.Common.{◌≡◌, ◌≢◌, ℕ, zero, suc, ◌+◌, ◌
 use Rattle.std.specs.Prelude.{option_map}
 use Rattle.std.proofs.lemmas.Bool.{cases_eq, eq-eqb, ne_eqb, leb-true, leb-false}
 use Rattle.ksi_aggtree.specs.declared.second.Second.{Second}
-use Rattle.ksi_journal.specs.Journal.{contents, kept_among, root_kept, root_at}
+use Rattle.ksi_journal.specs.Journal.{kept_among, root_kept, root_at}
 use Rattle.ksi_schedule.specs.Plans.{PlanState, InRange}
 use Rattle.ksi_world.specs.Histories.{WorldState}
 use Rattle.ksi_world.specs.Records as records
@@ -85,6 +85,6 @@ module _ (image : List ℕ → List ℕ) (plan : PlanState) (w : WorldState) whe
     unfolding kept_seconds
     kept_is = refl
 
-    pub journal_keeps : (issued publications : List (ℕ × List ℕ)) → KeepsRoots plan w (contents plan.start (kept_seconds image plan w) issued publications)
+    pub journal_keeps : (issued publications : List (ℕ × List ℕ)) → KeepsRoots plan w (record { start = plan.start; seconds = kept_seconds image plan w; issued = issued; publications = publications })
     unfolding root_at
     journal_keeps issued publications = record { start = refl; roots = λ t. all_kept (kept_seconds image plan w) (2 ^ 24) kept_is t (λ r. r) (λ r. r) }
