@@ -64,14 +64,16 @@ fn told(step: Result<Step, NoMemory>, from: u8) -> Option<Came> {
 fn told_by(step: &Step, from: u8) -> Option<Came> {
     let sends = step.sends.as_slice();
     let mut sent: Option<SynodMessage> = None;
-    for (k, send) in sends.iter().enumerate() {
+    let mut next: u8 = 0;
+    for send in sends {
         match send {
             Send::Synod(to, message) => {
-                let due = if is_reply(message) { from } else { k as u8 };
+                let due = if is_reply(message) { from } else { next };
                 if *to != due || (sent.is_some() && sent != Some(*message)) {
                     return None;
                 }
                 sent = Some(*message);
+                next = next.wrapping_add(1);
             }
             Send::Response(_, _) => return None,
         }

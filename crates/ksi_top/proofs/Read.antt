@@ -1,5 +1,5 @@
 -- What is reported of a file that is not in its grammar.
-use Rattle.std.proofs.Common.{◌≡◌, ℕ, List, Err, refl}
+use Rattle.std.proofs.Common.{◌≡◌, ℕ, List, Ok, Err, refl}
 use Rattle.std.specs.Prelude.{◌↔◌}
 use Rattle.ksi_signature.specs.declared.fault.SignatureFault.{SignatureFault}
 use Rattle.ksi_signature.specs.File.{IsSignatureFault}
@@ -12,7 +12,8 @@ use Rattle.ksi_journal.specs.Reading.{journal_at}
 use Rattle.ksi_schedule.specs.declared.fault.LineFault.{LineFault}
 use Rattle.ksi_schedule.specs.declared.fault.ScheduleFault.{ScheduleFault}
 use Rattle.ksi_schedule.specs.declared.fault.ScheduleFault.TheVariants as schedules
-use Rattle.ksi_schedule.specs.Spelled.{IsScheduleFault, Tells}
+use Rattle.ksi_schedule.specs.Events.{History}
+use Rattle.ksi_schedule.specs.Spelled.{IsScheduleText, IsScheduleFault, Tells}
 use Rattle.ksi_schedule.specs.Reading.{schedule_at}
 use Rattle.ksi_top.specs.declared.report.Report.{Report}
 use Rattle.ksi_top.specs.declared.status.Status.TheVariants.{Malformed}
@@ -32,3 +33,7 @@ journal_malformed n bytes fault answer law is e = rw (law.1 is, e) refl
 pub schedule_malformed : (n : ℕ) (bytes : List ℕ) (fault : ScheduleFault) (line : List ℕ) (answer : Report) → ((one : LineFault) (at : ℕ) → (schedule_at bytes ≡ Err (one, at)) ↔ IsScheduleFault bytes one at) → Tells bytes (Err (Fault fault)) → IsLineOf n fault line
     → answer ≡ report Malformed line → schedule_or_malformed n bytes ≡ Err answer
 schedule_malformed n bytes (schedules.Line one at) line answer law is told e = rw ((law one at).1 is, e, told) refl
+
+-- a schedule that the text spells is read
+pub schedule_told : (n : ℕ) (bytes : List ℕ) (h : History) → ((one : History) → (schedule_at bytes ≡ Ok one) ↔ IsScheduleText bytes one) → IsScheduleText bytes h → schedule_or_malformed n bytes ≡ Ok h
+schedule_told n bytes h law is = rw ((law h).1 is) refl
