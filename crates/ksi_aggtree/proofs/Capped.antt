@@ -1,5 +1,5 @@
 -- No level of a round's tree passes 255, so that the cap is never met.
-use Rattle.std.proofs.Common.{◌≡◌, ℕ, zero, suc, ◌+◌, ◌-◌, ◌^◌, ◌<◌, ◌≤◌, List, [], ◌∷◌, length, max, min, Some, refl, sym, ap, subst, ◌∙◌, arith, inl, inr}
+use Rattle.std.proofs.Common.{◌≡◌, ℕ, zero, suc, ◌+◌, ◌-◌, ◌^◌, ◌<◌, ◌≤◌, List, [], ◌∷◌, max, min, Some, refl, sym, ap, subst, ◌∙◌, arith, inl, inr}
 use Rattle.std.proofs.Math.Nat.{pow-suc, pow-le-pow_right}
 use Rattle.std.proofs.lemmas.Bool.Decides.{eqb_tells, leb_tells}
 use Rattle.ksi_split.specs.declared.side.Side.{Side}
@@ -8,8 +8,7 @@ use Rattle.ksi_split.specs.Powers.{IsSplit, split_of}
 use Rattle.ksi_split.specs.Parts.{Part, half_of, part_at}
 use Rattle.ksi_split.specs.Trees.{tree_within, tree, path_within, path_of, node_in, node_at}
 use Rattle.ksi_aggchain.specs.declared.node.Node.{Node}
-use Rattle.ksi_aggtree.specs.declared.item.Item.{Item}
-use Rattle.ksi_aggtree.specs.Rounds.{IsRound, joined_at, aggregation_join, capped_join, leaf_of_place, node_from, node_of}
+use Rattle.ksi_aggtree.specs.Rounds.{joined_at, aggregation_join, capped_join}
 
 -- what laws of trees and of splits say, as these proofs take it
 abbrev pub TreesFit : Type 0
@@ -97,14 +96,3 @@ module _ (image : List ℕ → List ℕ) (fits : TreesFit) (leaf : ℕ → Node)
   -- a node of a round's tree stands at a level that does not pass the highest
   pub node_low : SplitsFit → (last : ℕ) (sides : List Side) (node : Node) → last < 65536 → node_at (aggregation_join image) leaf last sides ≡ Some node → node.level ≤ 255
   node_low splits last sides node few is = part_low splits 0 (record { first = 0; count = last + 1 }) sides node (omega arith) (omega arith) is
-
-pub last_node : (image : List ℕ → List ℕ) (items : List Item) (sides : List Side) (n last : ℕ) → n ≡ last + 1 → node_at (aggregation_join image) (leaf_of_place image items) last sides ≡ node_from image items n sides
-last_node image items sides zero last e = absurd (omega arith)
-last_node image items sides (suc n) last e = let same : last ≡ n = omega arith in ap (λ (m : ℕ). node_at (aggregation_join image) (leaf_of_place image items) m sides) same
-
-pub node_level : TreesFit → SplitsFit → (image : List ℕ → List ℕ) (items : List Item) (sides : List Side) (node : Node) → IsRound items → node_of image items sides ≡ Some node → node.level ≤ 255
-node_level fits splits image items sides node round is = of (length items) round.few is
-  where
-    of : (n : ℕ) → n ≤ 65536 → node_from image items n sides ≡ Some node → node.level ≤ 255
-    of zero few is = absurd (cc is)
-    of (suc last) few is = node_low image fits (leaf_of_place image items) round.low splits last sides node (omega (arith, few)) is

@@ -1,5 +1,5 @@
 -- A round as its rows keep it.
-use Rattle.std.proofs.Common.{◌≡◌, ℕ, zero, suc, ◌-◌, ◌<◌, ◌≤◌, List, [], ◌∷◌, ◌++◌, length, map, Some, None, refl, sym, ap, ◌∙◌, arith, inl, inr, length-append}
+use Rattle.std.proofs.Common.{◌≡◌, ℕ, zero, suc, ◌-◌, ◌<◌, ◌≤◌, List, [], ◌∷◌, ◌++◌, length, map, Option, Some, None, refl, sym, ap, ◌∙◌, arith, inl, inr, length-append}
 use Rattle.std.proofs.lemmas.Bool.Decides.{leb_tells}
 use Rattle.std.proofs.lemmas.List.{get_or_append_left, length-map, map-append}
 use Rattle.std.proofs.Math.Seq.{get_or-append_seam}
@@ -9,7 +9,8 @@ use Rattle.ksi_split.specs.Trees.{tree, path_of, node_at}
 use Rattle.ksi_split.specs.Leaves.{Leaves, leaf_at, leaf_of}
 use Rattle.ksi_aggchain.specs.declared.node.Node.{Node}
 use Rattle.ksi_aggtree.specs.declared.item.Item.{Item}
-use Rattle.ksi_aggtree.specs.Rounds.{capped_join, item_at, leaf, leaf_level, leaf_of_place, no_item, tree_of, root_from, root_of, node_from, node_of, tree_path, IsRound, AreLeaves}
+use Rattle.ksi_aggtree.specs.Nodes.{reached_in, node_in}
+use Rattle.ksi_aggtree.specs.Rounds.{capped_join, item_at, leaf, leaf_level, leaf_of_place, no_item, tree_of, root_from, root_of, tree_path, IsRound, AreLeaves}
 
 same_functions : {A B : Type 0} (f g : A → B) → ((x : A) → f x ≡ g x) → f ≡ g
 same_functions f g h = λ j x. h x j
@@ -38,7 +39,7 @@ pub no_root : (count : ℕ) (root : Node) → count ≡ 0 → None ≡ root_from
 no_root zero root none = refl
 no_root (suc n) root none = absurd (omega arith)
 
-pub no_node : (image : List ℕ → List ℕ) (items : List Item) (sides : List Side) (count : ℕ) → count ≡ 0 → None ≡ node_from image items count sides
+pub no_node : (image : List ℕ → List ℕ) (items : List Item) (sides : List Side) (count : ℕ) → count ≡ 0 → None ≡ node_in image items (reached_in count sides)
 no_node image items sides zero none = refl
 no_node image items sides (suc n) none = absurd (omega arith)
 
@@ -49,8 +50,8 @@ module _ (image : List ℕ → List ℕ) (leaves : Leaves Node) (items : List It
       ∙ ap (λ (m : ℕ). Some (tree (capped_join image) (leaf_of_place image items) 0 m)) count
       ∙ ap (λ (x : Node). Some x) same ∙ some_root (length items) (tree_of image items) (omega arith)
 
-  pub round_node : (last : ℕ) (sides : List Side) → node_at (capped_join image) (leaf_of_place image items) last sides ≡ node_of image items sides → node_at (capped_join image) (leaf_of leaves) last sides ≡ node_of image items sides
-  round_node last sides same = ap (λ (f : ℕ → Node). node_at (capped_join image) f last sides) (leaves_are image leaves items kept) ∙ same
+  pub round_node : (last : ℕ) (sides : List Side) (found : Option Node) → node_at (capped_join image) (leaf_of_place image items) last sides ≡ found → node_at (capped_join image) (leaf_of leaves) last sides ≡ found
+  round_node last sides found same = ap (λ (f : ℕ → Node). node_at (capped_join image) f last sides) (leaves_are image leaves items kept) ∙ same
 
   pub round_path : (k n : ℕ) → path_of (capped_join image) (leaf_of_place image items) 0 k (length items) ≡ tree_path image items k → n ≡ length items → path_of (capped_join image) (leaf_of leaves) 0 k n ≡ tree_path image items k
   round_path k n same count =

@@ -4,4 +4,6 @@ pub mod Climbing
 pub mod Chains
 pub mod Beside
 pub mod Halves
-pub mod Lent
+pub mod Nodes
+pub mod Reaching
+pub mod Metas

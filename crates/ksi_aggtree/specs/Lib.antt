@@ -1,7 +1,8 @@
 pub mod Rounds
+pub mod Nodes
 pub mod Paths
 pub mod Entries
 pub mod Names
 pub mod KeptNames
-pub mod Reached
+pub mod Within
 pub mod Stored

@@ -1,13 +1,13 @@
 -- The items of a round, the leaves that they make, and the tree over these.
 use Rattle.std.specs.Prelude.{◌≡◌, ℕ, zero, suc, ◌+◌, ◌≤◌, List, [], ◌∷◌, length, map, max, min, slice_index_or, Option, None, Some}
 use Rattle.ksi_imprint.specs.Imprints.{join_text, zero_imprint}
-use Rattle.ksi_split.specs.Trees.{tree, path_of, node_at}
-use Rattle.ksi_split.specs.declared.side.Side.{Side}
+use Rattle.ksi_split.specs.Trees.{tree, path_of}
 use Rattle.ksi_split.specs.declared.tree_link.TreeLink.{TreeLink}
 use Rattle.ksi_split.specs.Leaves.{Leaves}
 use Rattle.ksi_aggchain.specs.Links.{highest_level}
 use Rattle.ksi_aggchain.specs.declared.node.Node.{Node}
 use Rattle.ksi_aggtree.specs.declared.item.Item.{Item}
+use Rattle.ksi_aggtree.specs.Names.{meta_of}
 
 -- both imprints joined at a level
 abbrev pub joined_at : (List ℕ → List ℕ) → Node → Node → ℕ → Node
@@ -19,7 +19,7 @@ aggregation_join image left right = joined_at image left right (max left.level r
 
 -- what stands for an item where there is none
 abbrev pub no_item : Item
-no_item = record { imprint = zero_imprint; level = 0 }
+no_item = record { imprint = zero_imprint; level = 0; name = None }
 
 -- the item at a place
 abbrev pub item_at : List Item → ℕ → Item
@@ -31,15 +31,32 @@ as_node item = record { imprint = item.imprint; level = item.level }
 
 -- the item that a node is submitted as
 abbrev pub as_item : Node → Item
-as_item node = record { imprint = node.imprint; level = node.level }
+as_item node = record { imprint = node.imprint; level = node.level; name = None }
 
--- the leaf that stands for an item in a tree: for now its own node
-abbrev pub leaf : (List ℕ → List ℕ) → Item → Node
-leaf image item = as_node item
+-- the item with this name, or with none
+abbrev pub with_name : Option (List ℕ) → Item → Item
+with_name name item = record item { name = name }
 
--- the level of an item's leaf: for now the item's own
+-- the level of an item's leaf: the item's own, one more where it has a name
+abbrev pub named_level : ℕ → Option (List ℕ) → ℕ
+named_level level None = level
+named_level level (Some name) = level + 1
+
 abbrev pub leaf_level : Item → ℕ
-leaf_level item = item.level
+leaf_level item = named_level item.level item.name
+
+-- what is hashed for the leaf of an item that has this name: the item's imprint, the name's metadata and the leaf's level
+abbrev pub named_text : Item → List ℕ → List ℕ
+named_text item name = join_text item.imprint (meta_of name) (item.level + 1)
+
+-- the imprint of an item's leaf: the item's own, or where it has a name that of the join with its metadata
+abbrev pub named_imprint : (List ℕ → List ℕ) → Item → Option (List ℕ) → List ℕ
+named_imprint image item None = item.imprint
+named_imprint image item (Some name) = image (named_text item name)
+
+-- the leaf that stands for an item in a tree
+abbrev pub leaf : (List ℕ → List ℕ) → Item → Node
+leaf image item = record { imprint = named_imprint image item item.name; level = leaf_level item }
 
 -- the leaf of the tree at a place: that of the item there
 abbrev pub leaf_of_place : (List ℕ → List ℕ) → List Item → ℕ → Node
@@ -66,15 +83,6 @@ root_from (suc n) root = Some root
 abbrev pub root_of : (List ℕ → List ℕ) → List Item → Option Node
 root_of image items = root_from (length items) (tree_of image items)
 
--- the node that sides from the top lead to in the tree of the items up to the last, where there is one
-abbrev pub node_from : (List ℕ → List ℕ) → List Item → ℕ → List Side → Option Node
-node_from image items zero sides = None
-node_from image items (suc last) sides = node_at (aggregation_join image) (leaf_of_place image items) last sides
-
--- the node of the tree that sides from the top lead to, where there is an item and they pass no leaf
-abbrev pub node_of : (List ℕ → List ℕ) → List Item → List Side → Option Node
-node_of image items sides = node_from image items (length items) sides
-
 -- from item k up to the root, each other part with its level
 abbrev pub tree_path : (List ℕ → List ℕ) → List Item → ℕ → List (TreeLink Node)
 tree_path image items k = path_of (aggregation_join image) (leaf_of_place image items) 0 k (length items)
@@ -83,7 +91,7 @@ tree_path image items k = path_of (aggregation_join image) (leaf_of_place image 
 abbrev pub most_items : ℕ
 most_items = 65536
 
--- the highest level that a leaf may have, and so an item
+-- the highest level that a leaf may have, and so an item without a name
 abbrev pub highest_item : ℕ
 highest_item = 239
 

@@ -1,14 +1,18 @@
-ghost use Rattle.std.specs.Prelude.{◌≡◌, ◌++◌, ◌∷◌, [], ◌<◌, ◌≤◌, ◌+◌, ◌↔◌, length, OnErr, IfOk};
+ghost use Rattle.std.specs.Prelude.{◌≡◌, ◌++◌, ◌∷◌, [], ◌<◌, ◌≤◌, ◌+◌, ◌↔◌, length, OnErr, IfOk, IfSome};
+ghost use Rattle.ksi_aggtree.specs.Names.{IsName};
 ghost use Rattle.ksi_aggchain.specs.Climbing.{Climbs};
 ghost use Rattle.ksi_aggchain.specs.Owned.{plain_links};
-ghost use Rattle.ksi_aggtree.specs.Rounds.{most_items, highest_item, leaf_level, as_node, item_at, tree_of, root_of, node_of};
-ghost use Rattle.ksi_aggtree.specs.Paths.{chain_of, item_way, sides_from_top};
+ghost use Rattle.ksi_aggtree.specs.Rounds.{most_items, highest_item, leaf_level, as_node, item_at, tree_of, root_of};
+ghost use Rattle.ksi_aggtree.specs.Nodes.{node_of};
+ghost use Rattle.ksi_aggtree.specs.Paths.{chain_of, item_way, name_links, sides_from_top};
 
 use crate::item::{Item, MOST_ITEMS};
 use crate::item_path::ItemPath;
 use crate::join::AggregationJoin;
 use crate::laws::{no_cap, one_chain};
+use crate::over::below;
 use crate::paths::RoundPaths;
+use crate::reached::{Reached, reach};
 use crate::room::{put, reserve_one};
 use ksi_aggchain::Node;
 use ksi_imprint::{Compress, Imprint, NoMemory, Refused};
@@ -24,7 +28,7 @@ pub enum AddRefusal {
     Full,
 }
 
-/// A round: items of levels to 239, at most 65,536 of them, and their tree. A contract sees their list.
+/// A round: items whose leaves have levels to 239, at most 65,536 of them, and their tree. A contract sees their list.
 #[derive(Drop)]
 pub struct Builder<C: Compress> {
     items: Vec<Item>,
@@ -51,10 +55,7 @@ impl<C: Compress> Builder<C> {
     pub fn new(alloc: Global) -> Result<Self, NoMemory>
         ensures { IfOk result (λ round. round ≡ []) }
     {
-        let none = Item {
-            imprint: Imprint::ZERO,
-            level: 0,
-        };
+        let none = Item::new(Imprint::ZERO, 0);
         let rows = Rows::new(alloc, 0, none.leaf::<C>())?;
         Ok(Builder {
             items: Vec::new(alloc),
@@ -92,7 +93,7 @@ impl<C: Compress> Builder<C> {
         }
     }
 
-    /// The node of the tree that sides from the top lead to, none where there is no item or they go past a leaf.
+    /// The node of the tree that sides from the top lead to, none where they lead to no node.
     pub fn node(&self, sides: &[Side]) -> Option<Node>
         ensures { result ≡ node_of C.image self.now sides.now }
     {
@@ -101,7 +102,10 @@ impl<C: Compress> Builder<C> {
             None
         } else {
             no_cap();
-            self.rows.node(count - 1, sides)
+            match reach(0, count as usize, sides)? {
+                Reached::Items(_, _) => self.rows.node(count - 1, sides),
+                Reached::Below(k) => below(&self.items[k]),
+            }
         }
     }
 
@@ -116,12 +120,14 @@ impl<C: Compress> Builder<C> {
         ensures climbs { IfOk result (λ links.
             Climbs C.image (as_node (item_at self.now k)) (plain_links links) (tree_of C.image self.now)) }
         ensures way { IfOk result (λ links. sides_from_top links ≡ item_way self.now k) }
-        ensures few { IfOk result (λ links. length links ≤ 16) }
+        ensures few { IfOk result (λ links. length links ≤ 17) }
+        ensures name { IfOk result (λ links. IfSome (item_at self.now k).name IsName) }
     {
         path_from::<C, Brand>(self, k, Blank::new(1))
     }
 
-    /// The same, with its steps, which are one for the item and one for each link at least, and at most 32.
+    /// The same, with its steps, which are one for the item and one for each link but that of its name at least, and at
+    /// most 32.
     ///
     /// # Errors
     /// `NoMemory`: all is as it was, but for the steps that were taken.
@@ -135,16 +141,18 @@ impl<C: Compress> Builder<C> {
         ensures climbs { IfOk result (λ links.
             Climbs C.image (as_node (item_at self.now k)) (plain_links links) (tree_of C.image self.now)) }
         ensures way { IfOk result (λ links. sides_from_top links ≡ item_way self.now k) }
-        ensures few { IfOk result (λ links. length links ≤ 16) }
+        ensures few { IfOk result (λ links. length links ≤ 17) }
+        ensures name { IfOk result (λ links. IfSome (item_at self.now k).name IsName) }
         ensures most { steps.new ≤ steps.old + 32 }
-        ensures least { IfOk result (λ links. steps.old + length links < steps.new) }
+        ensures least { IfOk result (λ links.
+            steps.old + length links < steps.new + length (name_links (item_at self.now k).name)) }
     {
         no_cap();
         one_chain();
         let last = self.rows.count() - 1;
         let others = self.rows.path_counted(k as u64, last, steps)?;
         let leaf = self.rows.leaf_counted(k as u64, steps);
-        ItemPath::beside(self.rows.alloc(), leaf.level, &others)
+        ItemPath::beside(self.rows.alloc(), &self.items[k].name, leaf.level, &others)
     }
 
     /// The paths of all items, of which there is one at least.
@@ -162,7 +170,7 @@ impl<C: Compress> Builder<C> {
         })
     }
 
-    /// Adds an item of a level to 239 behind the others, and says which it is, the first one being item 0.
+    /// Adds an item of a level to 239, with a name to 238, behind the others, and says which it is, the first one being item 0.
     ///
     /// # Errors
     /// `Full` exactly where there are 65,536 items, or `NoMemory`: all is as it was.
@@ -197,7 +205,8 @@ fn path_from<C: Compress, L: Ledger>(
     ensures climbs { IfOk result (λ links.
         Climbs C.image (as_node (item_at round.now k)) (plain_links links) (tree_of C.image round.now)) }
     ensures way { IfOk result (λ links. sides_from_top links ≡ item_way round.now k) }
-    ensures few { IfOk result (λ links. length links ≤ 16) }
+    ensures few { IfOk result (λ links. length links ≤ 17) }
+    ensures name { IfOk result (λ links. IfSome (item_at round.now k).name IsName) }
 {
     let mut steps = Steps::<L>::open(blank);
     round.path_counted(k, &mut steps)

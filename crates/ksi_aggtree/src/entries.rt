@@ -1,4 +1,5 @@
-ghost use Rattle.std.specs.Prelude.{◌≡◌, ◌++◌, ◌∷◌, [], ◌<◌, ◌≤◌, ◌↔◌, length, slice_get, Some, OnErr, IfOk};
+ghost use Rattle.std.specs.Prelude.{◌≡◌, ◌++◌, ◌∷◌, [], ◌<◌, ◌≤◌, ◌↔◌, length, slice_get, Some, OnErr, IfOk, IfSome};
+ghost use Rattle.ksi_aggtree.specs.Names.{IsName};
 ghost use Rattle.ksi_aggchain.specs.Climbing.{Climbs};
 ghost use Rattle.ksi_aggchain.specs.Owned.{plain_links};
 ghost use Rattle.ksi_aggtree.specs.Rounds.{most_items, highest_item, leaf_level, as_node, item_at, tree_of, root_of};
@@ -123,7 +124,8 @@ impl<C: Compress> Entries<C> {
         ensures climbs { IfOk result (λ links.
             Climbs C.image (as_node (item_at (items_of self.now) k)) (plain_links links) (tree_of C.image (items_of self.now))) }
         ensures way { IfOk result (λ links. sides_from_top links ≡ item_way (items_of self.now) k) }
-        ensures few { IfOk result (λ links. length links ≤ 16) }
+        ensures few { IfOk result (λ links. length links ≤ 17) }
+        ensures name { IfOk result (λ links. IfSome (item_at (items_of self.now) k).name IsName) }
     {
         self.round.path(k)
     }
@@ -139,7 +141,7 @@ impl<C: Compress> Entries<C> {
         self.round.paths()
     }
 
-    /// Adds an item of a level to 239 behind the others, and says which it is, the first one being item 0.
+    /// Adds an item of a level to 239, with a name to 238, behind the others, and says which it is, the first one being item 0.
     ///
     /// # Errors
     /// `Full` exactly where there are 65,536 items, or `NoMemory`: all is as it was.

@@ -1,9 +1,11 @@
-ghost use Rattle.std.specs.Prelude.{◌≡◌, ◌≤◌, IfOk, length};
-ghost use Rattle.ksi_aggtree.specs.Paths.{links_from};
+ghost use Rattle.std.specs.Prelude.{◌≡◌, ◌≤◌, ◌++◌, IfOk, IfSome, length};
+ghost use Rattle.ksi_aggtree.specs.Names.{IsName};
+ghost use Rattle.ksi_aggtree.specs.Paths.{name_link, name_links, links_from};
 
+use crate::name::Name;
 use ksi_aggchain::{Link, Node, Sibling};
-use ksi_imprint::NoMemory;
-use ksi_split::TreeLink;
+use ksi_imprint::{Bytes, NoMemory};
+use ksi_split::{Side, TreeLink};
 use std::alloc::Global;
 use std::marker::Model;
 
@@ -45,16 +47,19 @@ impl ItemPath {
         vec
     }
 
-    /// The links from a level up, beside the other parts of a tree, with the corrections that meet its levels.
+    /// The links from an item up: to its leaf, where it has a name, and from the leaf's level beside the other parts of a
+    /// tree, with the corrections that meet its levels.
     pub(crate) fn beside(
         alloc: Global,
+        name: &Option<Name>,
         start: u8,
         others: &[TreeLink<Node>],
     ) -> Result<Self, NoMemory>
         requires { length others.now ≤ 64 }
-        ensures { IfOk result (λ links. links ≡ links_from start others.now) }
+        ensures links { IfOk result (λ links. links ≡ name_links name.now ++ links_from start others.now) }
+        ensures name { IfOk result (λ links. IfSome name.now IsName) }
     {
-        let mut vec = Vec::with_capacity(alloc, others.len())?;
+        let mut vec = begun(alloc, name, others.len())?;
         let mut level = start as u16;
         for other in others {
             let greater = level.max(other.sibling.level as u16);
@@ -67,4 +72,34 @@ impl ItemPath {
         }
         Ok(ItemPath { vec })
     }
+}
+
+/// The link from an item to its leaf, where it has a name, with room for so many links more.
+fn begun(alloc: Global, name: &Option<Name>, more: usize) -> Result<Vec<Link>, NoMemory>
+    requires { more ≤ 64 }
+    ensures links { IfOk result (λ vec. vec.items ≡ name_links name.now) }
+    ensures name { IfOk result (λ vec. IfSome name.now IsName) }
+{
+    match name {
+        None => Vec::with_capacity(alloc, more),
+        Some(name) => {
+            let link = name_link(alloc, name)?;
+            let mut vec = Vec::with_capacity(alloc, more + 1)?;
+            vec.push(link)?;
+            Ok(vec)
+        }
+    }
+}
+
+/// The link from a named item to its leaf.
+fn name_link(alloc: Global, name: &Name) -> Result<Link, NoMemory>
+    ensures link { IfOk result (λ link. link ≡ name_link name.now) }
+    ensures name { IfOk result (λ link. IsName name.now) }
+{
+    let meta = Bytes::copy_of(alloc, name.meta().as_slice())?;
+    Ok(Link {
+        side: Side::Left,
+        correction: 0,
+        sibling: Sibling::Metadata(meta),
+    })
 }

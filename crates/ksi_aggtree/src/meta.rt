@@ -22,7 +22,8 @@ impl Model for Meta {
 impl Meta {
     /// The bytes, which are not copied.
     pub fn as_slice(&self) -> &[u8]
-        ensures { result.now ≡ self.now }
+        ensures bytes { result.now ≡ self.now }
+        ensures few { length self.now ≤ 70 }
     {
         self.bytes.as_slice()
     }

@@ -11,7 +11,7 @@ const MOST_LETTERS: usize = 64;
 #[derive(Clone, Copy, PartialEq, Eq, Debug)]
 pub struct Name {
     bytes: [u8; 64],
-    length: usize,
+    length: u8,
 }
 
 impl Model for Name {
@@ -41,7 +41,7 @@ impl Name {
         }
         Some(Name {
             bytes: filled(bytes),
-            length,
+            length: length as u8,
         })
     }
 
@@ -50,12 +50,20 @@ impl Name {
         ensures bytes { result.now ≡ self.now }
         ensures name { IsName self.now }
     {
-        &self.bytes[..self.length]
+        &self.bytes[..self.length as usize]
+    }
+
+    /// What the bytes are, as the type keeps it. It does nothing.
+    pub fn is_a_name(&self)
+        ensures { IsName self.now }
+    {
+        let _ = self.as_bytes();
     }
 
     /// The metadata that stands for the name in a tree.
     pub fn meta(&self) -> Meta
-        ensures { result ≡ meta_of self.now }
+        ensures meta { result ≡ meta_of self.now }
+        ensures name { IsName self.now }
     {
         Meta::of(self.as_bytes())
     }

@@ -1,17 +1,17 @@
 //! Trees over a slice of items and a last one behind it, which take no memory: each node is computed from its leaves.
-ghost use Rattle.std.specs.Prelude.{◌≡◌, ◌<◌, ◌≤◌, ◌+◌, ◌-◌, ◌^◌, ◌++◌, ◌∷◌, [], ℕ, length, IfSome};
-ghost use Rattle.ksi_split.specs.Powers.{IsSplit, split_of};
-ghost use Rattle.ksi_split.specs.Parts.{part_at};
-ghost use Rattle.ksi_aggtree.specs.Reached.{reached};
-ghost use Rattle.ksi_aggtree.specs.Rounds.{most_items, highest_item, leaf_level, item_at, tree_from, tree_of, root_of, node_of, IsRound};
+ghost use Rattle.std.specs.Prelude.{◌≡◌, ◌<◌, ◌≤◌, ◌+◌, ◌^◌, ◌++◌, ◌∷◌, [], ℕ, length, option_map};
+ghost use Rattle.ksi_aggtree.specs.Rounds.{most_items, highest_item, leaf_level, item_at, as_node, tree_from, tree_of, IsRound};
+ghost use Rattle.ksi_aggtree.specs.Nodes.{node_of, node_below, text_of, text_from, leaf_text, node_text};
 
 use crate::item::Item;
 use crate::laws::one_round;
+use crate::parts::{NodeParts, OtherPart};
+use crate::reached::{Reached, left_half, reach};
 use ksi_aggchain::Node;
 use ksi_imprint::Compress;
-use ksi_split::{Side, split};
+use ksi_split::Side;
 
-/// The node of the tree of the items that sides from the top lead to, none where there is no item or they go past a leaf.
+/// The node of the tree of the items that sides from the top lead to, none where they lead to no node.
 pub fn node_over<C: Compress>(items: &[Item], sides: &[Side]) -> Option<Node>
     requires { IsRound items.now }
     ensures { result ≡ node_of C.image items.now sides.now }
@@ -20,7 +20,7 @@ pub fn node_over<C: Compress>(items: &[Item], sides: &[Side]) -> Option<Node>
     node_with::<C>(others, last, sides)
 }
 
-/// The tree of items and a last one behind them, together at most 65,536, of levels to 239.
+/// The tree of items and a last one behind them, together at most 65,536, whose leaves have levels to 239.
 pub fn root_with<C: Compress>(items: &[Item], last: &Item) -> Node
     requires few { length items.now < most_items }
     requires low { (k : ℕ) → leaf_level (item_at items.now k) ≤ highest_item }
@@ -30,15 +30,86 @@ pub fn root_with<C: Compress>(items: &[Item], last: &Item) -> Node
     part::<C>(items, last, 0, items.len() + 1, 16)
 }
 
-/// The node of this tree that sides from the top lead to, none where they go past a leaf.
+/// The node of this tree that sides from the top lead to, none where they lead to none.
 pub(crate) fn node_with<C: Compress>(items: &[Item], last: &Item, sides: &[Side]) -> Option<Node>
     requires few { length items.now < most_items }
     requires low { (k : ℕ) → leaf_level (item_at items.now k) ≤ highest_item }
     requires last { leaf_level last.now ≤ highest_item }
     ensures { result ≡ node_of C.image (items.now ++ last.now ∷ []) sides.now }
 {
-    let (first, count) = reached(0, items.len() + 1, sides)?;
-    Some(part::<C>(items, last, first, count, 16))
+    match reach(0, items.len() + 1, sides)? {
+        Reached::Items(first, count) => Some(part::<C>(items, last, first, count, 16)),
+        Reached::Below(k) => below(&item_or(items, last, k)),
+    }
+}
+
+/// What stands on the left below the leaf of an item: the item, where it has a name.
+pub(crate) fn below(item: &Item) -> Option<Node>
+    ensures { result ≡ node_below item.now item.now.name }
+{
+    match &item.name {
+        None => None,
+        Some(_) => Some(item.node()),
+    }
+}
+
+/// What the node of this tree that sides from the top lead to is joined of, none where they lead to no join.
+pub(crate) fn parts_with<C: Compress>(
+    items: &[Item],
+    last: &Item,
+    sides: &[Side],
+) -> Option<NodeParts>
+    requires few { length items.now < most_items }
+    requires low { (k : ℕ) → leaf_level (item_at items.now k) ≤ highest_item }
+    requires last { leaf_level last.now ≤ highest_item }
+    ensures { option_map node_text result ≡ text_of C.image (items.now ++ last.now ∷ []) sides.now }
+{
+    match reach(0, items.len() + 1, sides)? {
+        Reached::Items(first, count) => parts_of::<C>(items, last, first, count),
+        Reached::Below(_) => None,
+    }
+}
+
+/// What the tree of the `count` items from `first` is joined of.
+fn parts_of<C: Compress>(
+    items: &[Item],
+    last: &Item,
+    first: usize,
+    count: usize,
+) -> Option<NodeParts>
+    requires some { 0 < count }
+    requires within { first + count ≤ length items.now + 1 }
+    requires few { length items.now < most_items }
+    requires low { (k : ℕ) → leaf_level (item_at items.now k) ≤ highest_item }
+    requires last { leaf_level last.now ≤ highest_item }
+    ensures { option_map node_text result ≡ text_from C.image (items.now ++ last.now ∷ []) first count }
+{
+    if count == 1 {
+        return named_parts(&item_or(items, last, first));
+    }
+    let half = left_half(count, 16);
+    let left = part::<C>(items, last, first, half, 15);
+    let right = part::<C>(items, last, first + half, count - half, 15);
+    Some(NodeParts {
+        left: left.imprint,
+        other: OtherPart::Imprint(right.imprint),
+        level: left.level.max(right.level) + 1,
+    })
+}
+
+/// What the leaf of an item is joined of, where the item has a name.
+fn named_parts(item: &Item) -> Option<NodeParts>
+    requires { leaf_level item.now ≤ highest_item }
+    ensures { option_map node_text result ≡ leaf_text item.now item.now.name }
+{
+    match &item.name {
+        None => None,
+        Some(name) => Some(NodeParts {
+            left: item.imprint,
+            other: OtherPart::Metadata(name.meta()),
+            level: item.level + 1,
+        }),
+    }
 }
 
 /// The tree of the `count` items from `first`, of which there are at most 2^`height`.
@@ -77,42 +148,4 @@ fn item_or(items: &[Item], last: &Item, place: usize) -> Item
     } else {
         *last
     }
-}
-
-/// The first item and the number of items of the part that sides lead to, from the part of `count` items from `first` down;
-/// none where they go past an item.
-fn reached(first: usize, count: usize, sides: &[Side]) -> Option<(usize, usize)>
-    requires some { 0 < count }
-    requires few { first + count ≤ most_items }
-    ensures part { (place : ℕ) → result ≡ reached (part_at place (record { first = first; count = count }) sides.now) }
-    ensures some { IfSome result (λ part. 0 < part.1) }
-    ensures within { IfSome result (λ part. part.0 + part.1 ≤ first + count) }
-{
-    let (side, lower) = match sides.split_first() {
-        None => return Some((first, count)),
-        Some(first) => first,
-    };
-    if count == 1 {
-        return None;
-    }
-    let half = left_half(count, 16);
-    match side {
-        Side::Left => reached(first, half, lower),
-        Side::Right => reached(first + half, count - half, lower),
-    }
-}
-
-/// How many of the items stand in the left part.
-#[tactic(auto, using(crate::proofs::Halves::height_left))]
-fn left_half(count: usize, height: u8) -> usize
-    requires some { 1 < count }
-    requires few { count ≤ 2 ^ height }
-    ensures split { IsSplit count result }
-    ensures value { result ≡ split_of count }
-    ensures some { 0 < result }
-    ensures lower { 0 < height }
-    ensures left { result ≤ 2 ^ (height - 1) }
-    ensures right { count - result ≤ 2 ^ (height - 1) }
-{
-    split(count as u64) as usize
 }

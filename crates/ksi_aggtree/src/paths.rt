@@ -1,4 +1,5 @@
-ghost use Rattle.std.specs.Prelude.{◌≡◌, ◌<◌, ◌≤◌, ◌+◌, length, IfOk};
+ghost use Rattle.std.specs.Prelude.{◌≡◌, ◌<◌, ◌≤◌, ◌+◌, length, IfOk, IfSome};
+ghost use Rattle.ksi_aggtree.specs.Names.{IsName};
 ghost use Rattle.ksi_aggchain.specs.Climbing.{Climbs};
 ghost use Rattle.ksi_aggchain.specs.Owned.{plain_links};
 ghost use Rattle.ksi_aggtree.specs.Paths.{chain_of, item_way, sides_from_top};
@@ -44,13 +45,14 @@ impl<'a, C: Compress> RoundPaths<'a, C> {
         ensures climbs { IfOk result (λ links.
             Climbs C.image (as_node (item_at self.now k)) (plain_links links) (tree_of C.image self.now)) }
         ensures way { IfOk result (λ links. sides_from_top links ≡ item_way self.now k) }
-        ensures few { IfOk result (λ links. length links ≤ 16) }
+        ensures few { IfOk result (λ links. length links ≤ 17) }
+        ensures name { IfOk result (λ links. IfSome (item_at self.now k).name IsName) }
     {
         no_cap();
         one_chain();
         let items = self.items;
-        let leaf = items[k].leaf::<C>();
+        let item = &items[k];
         let others = self.paths.path(k as u64)?;
-        ItemPath::beside(self.paths.alloc(), leaf.level, &others)
+        ItemPath::beside(self.paths.alloc(), &item.name, item.leaf_level(), &others)
     }
 }

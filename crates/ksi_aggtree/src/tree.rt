@@ -1,15 +1,16 @@
 //! The tree over lent items.
-ghost use Rattle.std.specs.Prelude.{◌≡◌, ◌<◌, ◌≤◌, ◌-◌, ◌↔◌, ◌++◌, ◌∷◌, [], ℕ, Some, None, length};
-ghost use Rattle.ksi_split.specs.Ways.{LeadsTo, PassesLeaf};
-ghost use Rattle.ksi_aggtree.specs.Rounds.{most_items, highest_item, leaf_level, item_at, IsRound, some_items, tree_from, tree_of, node_of};
+ghost use Rattle.std.specs.Prelude.{◌≡◌, ◌<◌, ◌≤◌, ◌↔◌, ◌++◌, ◌∷◌, [], ℕ, Some, None, length, option_map};
+ghost use Rattle.ksi_split.specs.Ways.{LeadsTo};
+ghost use Rattle.ksi_aggtree.specs.Rounds.{most_items, highest_item, leaf_level, item_at, as_node, IsRound, some_items, tree_from, tree_of};
+ghost use Rattle.ksi_aggtree.specs.Nodes.{node_of, text_of, node_text, LeadsBelow};
 
 use crate::item::Item;
 use crate::laws::one_part;
-use crate::over::{node_with, root_with};
+use crate::over::{node_with, parts_with, root_with};
+use crate::parts::NodeParts;
 use ksi_aggchain::Node;
 use ksi_imprint::Compress;
 use ksi_split::Side;
-use ksi_split::laws::{one_answer, parts};
 use std::marker::{Model, PhantomData};
 
 /// The tree over items that are lent, of which there is one at least. It takes no memory: each node is computed from the
@@ -24,7 +25,7 @@ pub struct Tree<'a, C: Compress> {
 impl<'a, C: Compress> Model for Tree<'a, C> {
     ghost use Rattle.std.specs.Prelude.{List, [], ◌∷◌, ◌++◌};
     ghost use Rattle.ksi_aggtree.specs.declared.item.Item as item;
-    ghost use Rattle.ksi_aggtree.specs.Reached.{IsLent};
+    ghost use Rattle.ksi_aggtree.specs.Within.{IsLent};
 
     ghost Value = { List item.Item };
 
@@ -64,16 +65,26 @@ impl<'a, C: Compress> Tree<'a, C> {
         root_with::<C>(self.others, self.last)
     }
 
-    /// The node that sides from the top lead to, none exactly where they go past a leaf.
+    /// The node that sides from the top lead to: the tree of a part of the items, or below the leaf of a named item the
+    /// item itself; none exactly where they lead to neither.
     pub fn node(&self, sides: &[Side]) -> Option<Node>
         ensures node { result ≡ node_of C.image self.now sides.now }
         ensures some { (first count : ℕ) → LeadsTo (length self.now) sides.now first count →
             result ≡ Some (tree_from C.image self.now first count) }
-        ensures none { (result ≡ None) ↔ ((place : ℕ) × PassesLeaf (length self.now - 1) sides.now place) }
+        ensures item { (k : ℕ) → LeadsBelow self.now sides.now k → result ≡ Some (as_node (item_at self.now k)) }
+        ensures none { (result ≡ None) ↔
+            (¬ ((first : ℕ) × (count : ℕ) × LeadsTo (length self.now) sides.now first count) ×
+            ¬ ((k : ℕ) × LeadsBelow self.now sides.now k)) }
     {
         one_part();
-        one_answer();
-        parts();
         node_with::<C>(self.others, self.last, sides)
+    }
+
+    /// What the node that sides from the top lead to is joined of: both parts of two items or more, or a named item and its
+    /// metadata; none where they lead to no join.
+    pub fn parts(&self, sides: &[Side]) -> Option<NodeParts>
+        ensures { option_map node_text result ≡ text_of C.image self.now sides.now }
+    {
+        parts_with::<C>(self.others, self.last, sides)
     }
 }

@@ -35,11 +35,7 @@ pub(crate) fn imprints(alloc: Global, count: u64) -> Result<Vec<Imprint>, NoMemo
 fn round(alloc: Global, imprints: &[Imprint]) -> Option<Builder<Sha>> {
     let mut round = Builder::new(alloc).ok()?;
     for imprint in imprints {
-        let item = Item {
-            imprint: *imprint,
-            level: 0,
-        };
-        round.add(item).ok()?;
+        round.add(Item::new(*imprint, 0)).ok()?;
     }
     Some(round)
 }

@@ -4,6 +4,8 @@ use Rattle.ksi_aggtree.specs.declared.item.Item.{Item}
 use Rattle.ksi_aggtree.specs.declared.entries.Entry.{Entry}
 use Rattle.ksi_aggchain.specs.Climbing.{Climbs}
 use Rattle.ksi_aggchain.specs.Owned.{plain_links}
+use Rattle.std.specs.Prelude.{IfSome}
+use Rattle.ksi_aggtree.specs.Names.{IsName}
 use Rattle.ksi_aggtree.specs.Rounds.{as_node, item_at, tree_of}
 use Rattle.ksi_aggtree.specs.Paths.{chain_of, item_way}
 use Rattle.ksi_aggtree.specs.Entries.{items_of}
@@ -28,4 +30,5 @@ returns g c =
       climbs = IfOk-weaker c.path.result _ _ (λ links h. subst (λ (items : List Item). Climbs image (as_node (item_at items k)) (plain_links links) (tree_of image items)) items h) c.path.ensures.climbs;
       way = IfOk-weaker c.path.result _ _ (λ links h. h ∙ ap (λ (items : List Item). item_way items k) items) c.path.ensures.way;
       few = c.path.ensures.few;
+      name = IfOk-weaker c.path.result _ _ (λ links h. subst (λ (items : List Item). IfSome (item_at items k).name IsName) items h) c.path.ensures.name;
     }

@@ -1,4 +1,4 @@
-use Rattle.std.proofs.Common.{◌≡◌, ◌+◌, List, length, ◌∙◌, refl, sym, ap, subst, arith}
+use Rattle.std.proofs.Common.{◌≡◌, ℕ, ◌+◌, ◌++◌, List, length, ◌∙◌, refl, sym, ap, subst, arith}
 use Rattle.std.proofs.lemmas.List.{get_or_read_under}
 use Rattle.std.proofs.lemmas.Result.{IfOk-weaker}
 use Rattle.ksi_aggchain.specs.declared.node.Node.{Node}
@@ -6,10 +6,13 @@ use Rattle.ksi_aggchain.specs.declared.link.Link.{Link}
 use Rattle.ksi_aggtree.specs.declared.item.Item.{Item}
 use Rattle.ksi_aggchain.specs.Climbing.{Climbs}
 use Rattle.ksi_aggchain.specs.Owned.{plain_links}
-use Rattle.ksi_aggtree.specs.Rounds.{as_node, item_at, leaf, no_item, leaf_of_place, tree_of, tree_path, IsRound}
-use Rattle.ksi_aggtree.specs.Paths.{links_from, chain_of, sides_from_top}
+use Rattle.ksi_split.specs.declared.tree_link.TreeLink.{TreeLink}
+use Rattle.std.specs.Prelude.{IfSome}
+use Rattle.ksi_aggtree.specs.Names.{IsName}
+use Rattle.ksi_aggtree.specs.Rounds.{as_node, item_at, no_item, leaf_level, tree_of, tree_path, IsRound}
+use Rattle.ksi_aggtree.specs.Paths.{name_links, links_from, chain_of, sides_from_top}
 use Rattle.ksi_aggtree.proofs.Kept.{round_path}
-use Rattle.ksi_aggtree.proofs.Chains.{links_count}
+use Rattle.ksi_aggtree.proofs.Chains.{chain_count}
 use Rattle.ksi_aggtree.proofs.paths.RoundPaths.path.Goals as goal
 
 pub beside-requires : goal.beside-requires
@@ -20,7 +23,8 @@ beside-requires g c =
     let few = c.self.invariant.1.few in
     let path = round_path image paths.leaves items c.self.invariant.0 c.args.k (paths.last + 1) (c.no_cap.ensures.path image items c.args.k c.self.invariant.1) c.self.invariant.2 in
     let count = ap length (c.deref.ensures.value ∙ c.in_ok-others.ensures ∙ path) in
-    omega (arith, count, links_count (leaf_of_place image items c.args.k).level (tree_path image items c.args.k), c.one_chain.ensures.few image items c.args.k few)
+    let x = item_at items c.args.k in
+    omega (arith, count, chain_count x.name (leaf_level x) (tree_path image items c.args.k), c.one_chain.ensures.few image items c.args.k few)
 
 pub returns : goal.returns
 returns g c =
@@ -35,14 +39,16 @@ returns g c =
     ∙ ap (λ (items : List Item). tree_path image items k) c.self.view_is in
     let size = ap (λ (items : List Item). length items) c.self.view_is in
     let item = get_or_read_under items k (length items) c.index-items-k.result no_item c.index-items-k.is (omega (arith, size, c.requires)) refl in
-    let level : c.leaf-leaf.result ≡ leaf_of_place image now k
-    = c.leaf-leaf.ensures.leaf ∙ ap (leaf image) item ∙ ap (λ (items : List Item). leaf_of_place image items k) c.self.view_is in
-    let is : links_from c.leaf-leaf.result.level c.deref.result.now ≡ chain_of image now k
-    = ap (λ (x : Node). links_from x.level c.deref.result.now) level ∙ ap (links_from (leaf_of_place image now k).level) others in
+    let own : c.index-items-k.result ≡ item_at now k = item ∙ ap (λ (items : List Item). item_at items k) c.self.view_is in
+    let is : name_links c.index-items-k.result.name ++ links_from c.leaf_level.result c.deref.result.now ≡ chain_of image now k
+    = ap (λ (level : ℕ). name_links c.index-items-k.result.name ++ links_from level c.deref.result.now) c.leaf_level.ensures
+    ∙ ap (λ (x : Item). name_links x.name ++ links_from (leaf_level x) c.deref.result.now) own
+    ∙ ap (λ (others : List (TreeLink Node)). name_links (item_at now k).name ++ links_from (leaf_level (item_at now k)) others) others in
     record {
-      links = IfOk-weaker c.beside.result _ _ (λ links h. h ∙ is) c.beside.ensures;
+      links = IfOk-weaker c.beside.result _ _ (λ links h. h ∙ is) c.beside.ensures.links;
       climbs = IfOk-weaker c.beside.result _ _
-          (λ links h. subst (λ (chain : List Link). Climbs image (as_node (item_at now k)) (plain_links chain) (tree_of image now)) (sym (h ∙ is)) (c.one_chain.ensures.climbs image now k round c.requires)) c.beside.ensures;
-      way = IfOk-weaker c.beside.result _ _ (λ links h. ap sides_from_top (h ∙ is) ∙ c.one_chain.ensures.way image now k) c.beside.ensures;
-      few = IfOk-weaker c.beside.result _ _ (λ links h. let n = ap length (h ∙ is) in omega (arith, n, c.one_chain.ensures.few image now k round.few)) c.beside.ensures;
+          (λ links h. subst (λ (chain : List Link). Climbs image (as_node (item_at now k)) (plain_links chain) (tree_of image now)) (sym (h ∙ is)) (c.one_chain.ensures.climbs image now k round c.requires)) c.beside.ensures.links;
+      way = IfOk-weaker c.beside.result _ _ (λ links h. ap sides_from_top (h ∙ is) ∙ c.one_chain.ensures.way image now k) c.beside.ensures.links;
+      few = IfOk-weaker c.beside.result _ _ (λ links h. let n = ap length (h ∙ is) in omega (arith, n, c.one_chain.ensures.few image now k round.few)) c.beside.ensures.links;
+      name = IfOk-weaker c.beside.result _ _ (λ links h. subst (λ (x : Item). IfSome x.name IsName) own h) c.beside.ensures.name;
     }
