@@ -1,28 +1,23 @@
 -- Issued signatures: how long they are, and the indexes of their chains.
-use Rattle.std.proofs.Common.{◌≡◌, ℕ, zero, suc, ◌*◌, ◌^◌, ◌<◌, ◌≤◌, List, [], ◌∷◌, ◌++◌, length, take, map, Option, None, refl, sym, ap, ◌∙◌, arith}
+use Rattle.std.proofs.Common.{◌≡◌, ℕ, ◌*◌, ◌^◌, ◌<◌, ◌≤◌, List, [], ◌∷◌, ◌++◌, length, take, map, Option, None, refl, sym, ap, ◌∙◌, arith}
 use Rattle.std.specs.List.{AllByRecursion}
 use Rattle.std.proofs.lemmas.List.{length-append, append-nil, take-append-le, take_all}
-use Rattle.std.proofs.lemmas.List.Elements.{All-cons, All-nil}
 use Rattle.ksi_imprint.specs.Imprints.{IsImprint}
-use Rattle.ksi_split.specs.declared.side.Side.{Side}
-use Rattle.ksi_split.specs.declared.side.Side.TheVariants.{Left, Right}
 use Rattle.ksi_split.specs.declared.tree_link.TreeLink.{TreeLink}
 use Rattle.ksi_aggchain.specs.declared.link.Link.{Link}
-use Rattle.ksi_aggchain.specs.declared.link.Sibling.{Sibling}
-use Rattle.ksi_aggchain.specs.declared.link.Sibling.TheVariants as siblings
-use Rattle.ksi_tlv.specs.Spelling.{Tlv, plain, canonical, AreBytes}
-use Rattle.ksi_tlv.specs.Numerals.{number_of, numeral}
+use Rattle.ksi_tlv.specs.Spelling.{Tlv, plain, canonical}
+use Rattle.ksi_tlv.specs.Numerals.{numeral}
 use Rattle.ksi_tlv.specs.Writing.{texts}
 use Rattle.ksi_signature.specs.Values.{Aggregation}
-use Rattle.ksi_signature.specs.Lengths.{size_of}
-use Rattle.ksi_signature.specs.Written.{side_kind, sibling_element, body_element, part_element, correction_elements, link_elements, link_element, chain_elements, chain_element, calendar_elements, calendar_element, signature_elements}
+use Rattle.ksi_signature.specs.Written.{body_element, part_element, link_element, chain_elements, chain_element, calendar_elements, calendar_element, signature_elements}
 use Rattle.ksi_signature.specs.declared.above.AboveChain.{AboveChain}
 use Rattle.ksi_signature.specs.declared.above.Above.{Above}
-use Rattle.ksi_signature.specs.Kept.{HasImprint, IsLink}
-use Rattle.ksi_signature.specs.Above.{IsNode, AreRoundLinks}
+use Rattle.ksi_signature.specs.Kept.{IsLink}
+use Rattle.ksi_signature.specs.Above.{AreRoundLinks}
 use Rattle.ksi_signature.specs.Issued.{shape_along, index_of, issued_chains, own_chain, issued}
 use Rattle.ksi_signature.proofs.Sizes.{texts-append, length-canonical}
-use Rattle.ksi_signature.proofs.Capped.{size-canonical, length-texts, length-joined}
+use Rattle.ksi_signature.proofs.Capped.{length-joined}
+use Rattle.ksi_signature.proofs.RoundLinks.{Fewest, round_small, numeral_three}
 
 -- ---- indexes
 
@@ -36,57 +31,15 @@ upper_index n index shape is = take-append-le n index (shape ∷ []) (omega (ari
 
 -- ---- lengths
 
--- the fewest bytes that say a number
-abbrev pub Fewest : Type 0
-Fewest = (n : ℕ) (bytes : List ℕ) → n < 2 ^ 64 → AreBytes bytes → number_of bytes ≡ n → length (numeral n) ≤ length bytes
+parts_small : Fewest → (index : List ℕ) → AllByRecursion (λ part. part < 2 ^ 24) index → length (texts (map part_element index)) ≤ 7 * length index
+parts_small fewest [] low = omega arith
+parts_small fewest (part ∷ index) low =
+    omega (arith, length-append (canonical (part_element part)) (texts (map part_element index)), length-canonical (part_element part), numeral_three fewest part low.0, parts_small fewest index low.1)
 
-numeral_one : Fewest → (n : ℕ) → n < 256 → length (numeral n) ≤ 1
-numeral_one fewest n lt = fewest n (n ∷ []) (omega (arith, lt)) (All-cons (λ b. b < 256) n [] lt (All-nil (λ b. b < 256))) (omega arith)
-
-correction_small : Fewest → (n : ℕ) → n < 256 → length (texts (correction_elements n)) ≤ 3
-correction_small fewest zero lt = omega arith
-correction_small fewest (suc n) lt =
-    let one = numeral_one fewest (suc n) lt in
-    let size = length-texts (plain 1 (numeral (suc n))) [] in
-    grind (arith, one, size)
-
-imprint_size : (imprint : List ℕ) → length imprint ≡ 33 → length (texts (plain 2 imprint ∷ [])) ≡ 35
-imprint_size imprint is = length-texts (plain 2 imprint) [] ∙ rw is refl
-
-sibling_size : (sibling : Sibling) → HasImprint sibling → IsNode sibling → length (texts (sibling_element sibling ∷ [])) ≡ 35
-sibling_size (siblings.Imprint imprint) is node = imprint_size imprint is.size
-sibling_size (siblings.Legacy bytes) is node = absurd node
-sibling_size (siblings.Metadata bytes) is node = absurd node
-
-side_at : (side : Side) (size : ℕ) → size ≤ 38 → size_of (side_kind side) size ≤ 40
-side_at Left size short = grind (arith, short)
-side_at Right size short = grind (arith, short)
-
-side_small : (link : Link) (body : List ℕ) → length body ≤ 38 → length (canonical (plain (side_kind link.side) body)) ≤ 40
-side_small link body short = let size = size-canonical (plain (side_kind link.side) body) in let small = side_at link.side (length body) short in omega (arith, size, small)
-
-link_small : Fewest → (link : Link) → IsLink link → IsNode link.sibling → length (canonical (link_element link)) ≤ 40
-link_small fewest link is node =
-    let both = ap length (texts-append (correction_elements link.correction) (sibling_element link.sibling ∷ [])) ∙ length-append (texts (correction_elements link.correction)) (texts (sibling_element link.sibling ∷ [])) in
-    let sibling = sibling_size link.sibling is.sibling node in
-    let body : length (texts (link_elements link)) ≤ 38 = omega (arith, both, sibling, correction_small fewest link.correction (omega (arith, is.correction))) in
-    side_small link (texts (link_elements link)) body
-
-links_small : Fewest → (links : List Link) → AllByRecursion IsLink links → AllByRecursion (λ link. IsNode link.sibling) links → length (texts (map link_element links)) ≤ 40 * length links
-links_small fewest [] are nodes = omega arith
-links_small fewest (link ∷ links) are nodes =
-    omega (arith, length-append (canonical (link_element link)) (texts (map link_element links)), link_small fewest link are.0 nodes.0, links_small fewest links are.1 nodes.1)
-
-parts_small : ((n : ℕ) → length (numeral n) ≤ 8) → (index : List ℕ) → length (texts (map part_element index)) ≤ 12 * length index
-parts_small short [] = omega arith
-parts_small short (part ∷ index) =
-    omega (arith, length-append (canonical (part_element part)) (texts (map part_element index)), length-canonical (part_element part), short part, parts_small short index)
-
-pub chain_small : Fewest → ((n : ℕ) → length (numeral n) ≤ 8) → (c : Aggregation) → c.input_body ≡ None → length c.index ≤ 9 → IsImprint c.input → AreRoundLinks c.links → AllByRecursion IsLink c.links
-    → length (texts (chain_elements c)) ≤ 809
-chain_small fewest short c none few is limits links =
-    let small = links_small fewest c.links links limits.nodes in
-    let many : length c.links ≤ 16 = limits.count in
+pub chain_small : Fewest → ((n : ℕ) → length (numeral n) ≤ 8) → (c : Aggregation) → c.input_body ≡ None → length c.index ≤ 9 → AllByRecursion (λ part. part < 2 ^ 24) c.index → IsImprint c.input → AreRoundLinks c.links → AllByRecursion IsLink c.links
+    → length (texts (chain_elements c)) ≤ 838
+chain_small fewest short c none few low is limits links =
+    let small = round_small fewest c.links links limits in
     let size : length c.input ≡ 33 = is.size in
     let tail : List Tlv = plain 5 c.input ∷ plain 6 (numeral 1) ∷ map link_element c.links in
     let more : List Tlv = body_element c.input_body ++ tail in
@@ -107,7 +60,7 @@ chain_small fewest short c none few is limits links =
       length-canonical (plain 6 (numeral 1)),
       short c.time,
       short 1,
-      parts_small short c.index,
+      parts_small fewest c.index low,
     )
 
 -- ---- the text

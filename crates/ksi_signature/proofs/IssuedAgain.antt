@@ -9,22 +9,21 @@ use Rattle.ksi_imprint.specs.Imprints.{IsImprint}
 use Rattle.ksi_split.specs.declared.side.Side.{Side}
 use Rattle.ksi_split.specs.declared.side.Side.TheVariants.{Left, Right}
 use Rattle.ksi_aggchain.specs.declared.link.Link.{Link}
-use Rattle.ksi_aggchain.specs.declared.link.Sibling.{Sibling}
-use Rattle.ksi_aggchain.specs.declared.link.Sibling.TheVariants as siblings
 use Rattle.ksi_aggchain.specs.Shapes.{left_powers, shape_of}
 use Rattle.ksi_tlv.specs.Numerals.{numeral}
 use Rattle.ksi_tlv.specs.Writing.{texts}
-use Rattle.ksi_signature.specs.Values.{Aggregation, HasSize, AreLinks, FallFrom}
+use Rattle.ksi_signature.specs.Values.{Aggregation, FallFrom}
 use Rattle.ksi_signature.specs.Kept.{IsLink, IsAggregation, IsLimited}
 use Rattle.ksi_signature.specs.Written.{chain_elements, chain_sizes, signature_elements, sizes_of, first_long}
 use Rattle.ksi_signature.specs.declared.above.AboveChain.{AboveChain}
 use Rattle.ksi_signature.specs.declared.above.Above.{Above}
-use Rattle.ksi_signature.specs.Above.{IsNode, AreRoundLinks}
+use Rattle.ksi_signature.specs.Above.{AreRoundLinks}
 use Rattle.ksi_signature.specs.Carried.{IsAboveChain, IsAbove}
 use Rattle.ksi_signature.specs.Issued.{shape_along, index_of, issued_chains, own_chain, issued}
 use Rattle.ksi_signature.proofs.Sizes.{long_behind}
 use Rattle.ksi_signature.proofs.Skips.{all_both}
-use Rattle.ksi_signature.proofs.Indexes.{Fewest, length-index, chain_small}
+use Rattle.ksi_signature.proofs.RoundLinks.{Fewest, are_links}
+use Rattle.ksi_signature.proofs.Indexes.{length-index, chain_small}
 
 -- ---- shapes
 
@@ -42,32 +41,29 @@ powers_below i (Right ∷ sides) =
     let end : 2 ^ (i + 1 + length sides) ≡ 2 ^ (i + suc (length sides)) = ap (λ (n : ℕ). 2 ^ n) (let e : i + 1 + length sides ≡ i + suc (length sides) = omega arith in e) in
     omega (arith, next, end, powers_below (i + 1) sides)
 
-shape_below : (sides : List Side) → length sides ≤ 16 → shape_of sides < 2 ^ 64
+shape_below : (sides : List Side) → length sides ≤ 17 → shape_of sides < 2 ^ 18
 shape_below sides few =
     let same : 2 ^ (0 + length sides) ≡ 2 ^ length sides = ap (λ (n : ℕ). 2 ^ n) (let e : 0 + length sides ≡ length sides = omega arith in e) in
     let some : 0 < 2 = omega arith in
-    let most : 2 ^ length sides ≤ 2 ^ 16 = pow-le-pow_right some few in
+    let most : 2 ^ length sides ≤ 2 ^ 17 = pow-le-pow_right some few in
     omega (arith, same, most, powers_below 0 sides)
+
+shape_low : (links : List Link) → AreRoundLinks links → shape_along links < 2 ^ 24
+shape_low links limits = omega (arith, shape_below (map (λ link. link.side) links) (omega (arith, length-map links (λ (link : Link). link.side), limits.count)))
 
 -- ---- chains
 
-sibling_fits : (sibling : Sibling) → IsNode sibling → HasSize sibling
-sibling_fits (siblings.Imprint imprint) node = tt
-sibling_fits (siblings.Legacy bytes) node = absurd node
-sibling_fits (siblings.Metadata bytes) node = absurd node
-
-sizes : (links : List Link) → AllByRecursion (λ link. IsNode link.sibling) links → AllByRecursion (λ link. HasSize link.sibling) links
-sizes [] nodes = tt
-sizes (link ∷ links) nodes = (sibling_fits link.sibling nodes.0, sizes links nodes.1)
-
-are_links : (links : List Link) → AreRoundLinks links → AreLinks links
-are_links links limits = record { count = omega (arith, limits.count); sizes = sizes links limits.nodes }
-
-index_below : (chains : List AboveChain) → AllByRecursion IsAboveChain chains → AllByRecursion (λ part. part < 2 ^ 64) (index_of chains)
+pub index_below : (chains : List AboveChain) → AllByRecursion IsAboveChain chains → AllByRecursion (λ part. part < 2 ^ 24) (index_of chains)
 index_below [] are = tt
-index_below (chain ∷ above) are =
-    all_both (λ part. part < 2 ^ 64) (index_of above) (shape_along chain.links ∷ []) (index_below above are.1)
-    (shape_below (map (λ link. link.side) chain.links) (omega (arith, length-map chain.links (λ (link : Link). link.side), are.0.limits.count)), tt)
+index_below (chain ∷ above) are = all_both (λ part. part < 2 ^ 24) (index_of above) (shape_along chain.links ∷ []) (index_below above are.1) (shape_low chain.links are.0.limits, tt)
+
+-- the index of a chain with these links below others
+pub own_index_below : (links : List Link) (chains : List AboveChain) → AreRoundLinks links → AllByRecursion IsAboveChain chains → AllByRecursion (λ part. part < 2 ^ 24) (index_of chains ++ (shape_along links ∷ []))
+own_index_below links chains limits are = all_both (λ part. part < 2 ^ 24) (index_of chains) (shape_along links ∷ []) (index_below chains are) (shape_low links limits, tt)
+
+numbers : (index : List ℕ) → AllByRecursion (λ part. part < 2 ^ 24) index → AllByRecursion (λ part. part < 2 ^ 64) index
+numbers [] low = tt
+numbers (part ∷ index) low = (omega (arith, low.0), numbers index low.1)
 
 chains_kept : (second : ℕ) (chains : List AboveChain) → second < 2 ^ 63 → AllByRecursion IsAboveChain chains → AllByRecursion IsAggregation (issued_chains second chains)
 chains_kept second [] lt are = tt
@@ -75,7 +71,7 @@ chains_kept second (chain ∷ above) lt are = (
   record {
     time = lt;
     some = omega (arith, length-index (chain ∷ above));
-    index = index_below (chain ∷ above) are;
+    index = numbers (index_of (chain ∷ above)) (index_below (chain ∷ above) are);
     input = are.0.input;
     limits = are_links chain.links are.0.limits;
     links = are.0.links;
@@ -97,7 +93,7 @@ chains_short : Fewest → ((n : ℕ) → length (numeral n) ≤ 8) → (second :
 chains_short fewest short second [] few are = refl
 chains_short fewest short second (chain ∷ above) few are =
     let c : Aggregation = record { time = second; index = index_of (chain ∷ above); input_body = None; input = chain.input; links = chain.links } in
-    let small = chain_small fewest short c refl (omega (arith, length-index (chain ∷ above), few)) are.0.input are.0.limits are.0.links in
+    let small = chain_small fewest short c refl (omega (arith, length-index (chain ∷ above), few)) (index_below (chain ∷ above) are) are.0.input are.0.limits are.0.links in
     rw (le-ltb 65535 (length (texts (chain_elements c))) (omega (arith, small))) (chains_short fewest short second above (omega (arith, few)) are.1)
 
 -- ---- signatures

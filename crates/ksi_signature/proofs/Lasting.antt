@@ -23,23 +23,24 @@ use Rattle.ksi_signature.proofs.Again.{Written}
 use Rattle.ksi_signature.proofs.CalendarAgain.{calendar_small}
 use Rattle.ksi_signature.proofs.Capped.{length-joined}
 use Rattle.ksi_signature.proofs.ExtendedAgain.{retained_parts, retained_joined}
-use Rattle.ksi_signature.proofs.Indexes.{Fewest, length-index, chain_small}
-use Rattle.ksi_signature.proofs.IssuedAgain.{issued_kept, issued_short}
+use Rattle.ksi_signature.proofs.RoundLinks.{Fewest}
+use Rattle.ksi_signature.proofs.Indexes.{length-index, chain_small}
+use Rattle.ksi_signature.proofs.IssuedAgain.{index_below, issued_kept, issued_short}
 use Rattle.ksi_signature.proofs.Sizes.{length-canonical}
 use Rattle.ksi_signature.proofs.Standing.{Reading, parts_of}
 use Rattle.ksi_signature.proofs.Whole.{Laws}
 
 -- ---- what is issued
 
-chains_size : Fewest → ((n : ℕ) → length (numeral n) ≤ 8) → (second : ℕ) (chains : List AboveChain) → length chains ≤ 9 → AllByRecursion IsAboveChain chains → length (texts (map chain_element (issued_chains second chains))) ≤ 813 * length chains
+chains_size : Fewest → ((n : ℕ) → length (numeral n) ≤ 8) → (second : ℕ) (chains : List AboveChain) → length chains ≤ 9 → AllByRecursion IsAboveChain chains → length (texts (map chain_element (issued_chains second chains))) ≤ 842 * length chains
 chains_size fewest short second [] few are = omega arith
 chains_size fewest short second (chain ∷ above) few are =
     let c : Aggregation = record { time = second; index = index_of (chain ∷ above); input_body = None; input = chain.input; links = chain.links } in
-    let small = chain_small fewest short c refl (omega (arith, length-index (chain ∷ above), few)) are.0.input are.0.limits are.0.links in
+    let small = chain_small fewest short c refl (omega (arith, length-index (chain ∷ above), few)) (index_below (chain ∷ above) are) are.0.input are.0.limits are.0.links in
     omega (arith, length-append (canonical (chain_element c)) (texts (map chain_element (issued_chains second above))), length-canonical (chain_element c), small, chains_size fewest short second above (omega (arith, few)) are.1)
 
 module _ (fewest : Fewest) (short : (n : ℕ) → length (numeral n) ≤ 8) (second : ℕ) (input : List ℕ) (links : List Link) (above : Above) (may : MayBeIssued second input links above) where
-  content_small : length (texts (signature_elements (issued second input links above))) ≤ 9713
+  content_small : length (texts (signature_elements (issued second input links above))) ≤ 9974
   unfolding issued
   content_small =
       let chains = own_chain input links ∷ above.chains in

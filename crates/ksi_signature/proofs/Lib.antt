@@ -6,6 +6,7 @@ pub mod Linking
 pub mod Numbering
 pub mod Lent
 pub mod LentCalendar
+pub mod Limited
 pub mod Order
 pub mod Inserted
 pub mod Answered
@@ -13,6 +14,7 @@ pub mod Sizes
 pub mod Capped
 pub mod Standing
 pub mod Refusing
+pub mod RoundLinks
 pub mod Indexes
 pub mod Skips
 pub mod Again

@@ -1,6 +1,7 @@
 -- What a response carries of the chains above.
-use Rattle.std.specs.Prelude.{◌≤◌, List, length}
+use Rattle.std.specs.Prelude.{◌≡◌, ◌≤◌, ◌⊎◌, List, length, take, drop}
 use Rattle.std.specs.List.{AllByRecursion}
+use Rattle.ksi_split.specs.declared.side.Side.TheVariants.{Left}
 use Rattle.ksi_aggchain.specs.declared.link.Link.{Link}
 use Rattle.ksi_aggchain.specs.declared.link.Sibling.{Sibling}
 use Rattle.ksi_aggchain.specs.declared.link.Sibling.TheVariants as siblings
@@ -11,7 +12,20 @@ IsNode (siblings.Imprint imprint) = Unit {0}
 IsNode (siblings.Legacy bytes) = ⊥
 IsNode (siblings.Metadata bytes) = ⊥
 
--- links of a round's tree
+-- metadata of 1 to 70 bytes
+abbrev pub IsShortMetadata : Sibling → Type 0
+IsShortMetadata (siblings.Imprint imprint) = ⊥
+IsShortMetadata (siblings.Legacy bytes) = ⊥
+IsShortMetadata (siblings.Metadata bytes) = (1 ≤ length bytes) × (length bytes ≤ 70)
+
+-- the link that leads up from an item with a name
+pub record IsNameLink (link : Link) : Type 0 where
+  pub side : link.side ≡ Left
+  pub correction : link.correction ≡ 0
+  pub sibling : IsShortMetadata link.sibling
+
+-- links of a round's tree, the lowest first: they stand beside imprints, but the lowest may lead up from an item with a name
 pub record AreRoundLinks (links : List Link) : Type 0 where
-  pub count : length links ≤ 16
-  pub nodes : AllByRecursion (λ link. IsNode link.sibling) links
+  pub count : length links ≤ 17
+  pub lowest : AllByRecursion (λ link. IsNode link.sibling ⊎ IsNameLink link) (take 1 links)
+  pub others : AllByRecursion (λ link. IsNode link.sibling) (drop 1 links)

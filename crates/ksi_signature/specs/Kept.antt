@@ -42,7 +42,7 @@ pub record IsLimited (signature : Signature) : Type 0 where
   pub calendar : IfSome signature.calendar IsCalendar
   pub publication : IfSome signature.publication IsPublishing
 
--- what holds of a chain that is lent from bytes
+-- what holds of a chain that bytes say
 pub record IsLent (chain : Aggregation) : Type 0 where
   pub time : chain.time < 2 ^ 63
   pub some : 0 < length chain.index

@@ -28,7 +28,8 @@ pub struct AboveChain {
     pub links: AboveLinks,
 }
 
-/// Links of a round, the lowest first: at most 16, each beside an imprint. A contract sees their list.
+/// Links of a round, the lowest first: at most 17, each beside an imprint, but the lowest may stand beside the metadata of
+/// a name. A contract sees their list.
 #[derive(Drop)]
 pub struct AboveLinks {
     links: Vec<Link>,

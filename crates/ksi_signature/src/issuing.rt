@@ -61,7 +61,7 @@ fn content(
     requires links { AllByRecursion IsLink links.now }
     requires above { IsAbove above.now }
     ensures text { IfOk result (λ content. content ≡ texts (signature_elements (issued second input.now links.now above.now))) }
-    ensures short { IfOk result (λ content. length content ≤ 9713) }
+    ensures short { IfOk result (λ content. length content ≤ 9974) }
 {
     let mut content = Writer::new(alloc);
     let chains = above.chains.as_slice();
@@ -87,7 +87,7 @@ fn put_all(
     requires chains { AllByRecursion IsAboveChain chains.now }
     ensures text { OnOk result (writer.new ≡
         writer.old ++ texts (map chain_element (issued_chains second (own_chain input.now links.now ∷ chains.now)))) }
-    ensures short { OnOk result (length writer.new ≤ length writer.old + 7317) }
+    ensures short { OnOk result (length writer.new ≤ length writer.old + 7578) }
 {
     let index = index_of(alloc, links, chains)?;
     let index = index.as_slice();
@@ -97,7 +97,7 @@ fn put_all(
 
 /// The index of a chain with these links below others.
 fn index_of(alloc: Global, links: &[Link], chains: &[AboveChain]) -> Result<Vec<u64>, NoMemory>
-    requires { length links.now ≤ 16 }
+    requires { length links.now ≤ 17 }
     ensures { IfOk result (λ index. index.items ≡ index_of chains.now ++ (shape_along links.now ∷ [])) }
 {
     let mut index = Vec::new(alloc);
@@ -129,7 +129,7 @@ fn put_chains(
     requires count { length chains.now ≤ 8 }
     requires chains { AllByRecursion IsAboveChain chains.now }
     ensures text { OnOk result (writer.new ≡ writer.old ++ texts (map chain_element (issued_chains second chains.now))) }
-    ensures short { OnOk result (length writer.new ≤ length writer.old + 813 * length chains.now) }
+    ensures short { OnOk result (length writer.new ≤ length writer.old + 842 * length chains.now) }
 {
     let mut index = index;
     for chain in chains {
@@ -149,6 +149,7 @@ fn put_chain(
     links: &[Link],
 ) -> Result<(), NoMemory>
     requires index { length index.now ≤ 9 }
+    requires parts { AllByRecursion (λ part. part < 2 ^ 24) index.now }
     requires limits { AreRoundLinks links.now }
     requires links { AllByRecursion IsLink links.now }
     ensures text { OnOk result (writer.new ≡ writer.old ++ canonical (chain_element (record {
@@ -158,7 +159,7 @@ fn put_chain(
       input = input.now;
       links = links.now;
     }))) }
-    ensures short { OnOk result (length writer.new ≤ length writer.old + 813) }
+    ensures short { OnOk result (length writer.new ≤ length writer.old + 842) }
 {
     let body = small_chain(alloc, second, index, input, links)?;
     put_short(writer, CHAIN, body.bytes())
@@ -173,6 +174,7 @@ fn small_chain(
     links: &[Link],
 ) -> Result<Writer, NoMemory>
     requires index { length index.now ≤ 9 }
+    requires parts { AllByRecursion (λ part. part < 2 ^ 24) index.now }
     requires limits { AreRoundLinks links.now }
     requires links { AllByRecursion IsLink links.now }
     ensures text { IfOk result (λ body. body ≡ texts (chain_elements (record {
@@ -182,7 +184,7 @@ fn small_chain(
       input = input.now;
       links = links.now;
     }))) }
-    ensures short { IfOk result (λ body. length body ≤ 809) }
+    ensures short { IfOk result (λ body. length body ≤ 838) }
 {
     numeral_is_read();
     imprint_is_kept(input);

@@ -1,8 +1,11 @@
 //! Laws of signatures. None of these functions does anything; a body that calls one may use what it says.
 
-ghost use Rattle.std.specs.Prelude.{◌≡◌, ◌↔◌, ◌⊎◌, ◌≤◌, ◌+◌, ℕ, List, [], length, None, Ok, Err};
+ghost use Rattle.std.specs.Prelude.{◌≡◌, ◌↔◌, ◌⊎◌, ◌≤◌, ◌+◌, ℕ, List, [], length, false, None, Ok, Err};
+ghost use Rattle.std.specs.List.{AllByRecursion};
 ghost use Rattle.ksi_imprint.specs.Imprints.{IsImprint};
 ghost use Rattle.ksi_aggchain.specs.declared.link.Link.{Link};
+ghost use Rattle.ksi_aggchain.specs.Links.{is_bare};
+ghost use Rattle.ksi_aggchain.specs.Owned.{plain_links};
 ghost use Rattle.ksi_tlv.specs.Spelling.{AreBytes};
 ghost use Rattle.ksi_tlv.specs.Walking.{PlacedTlv};
 ghost use Rattle.ksi_signature.specs.Values.{Calendar, Publishing, Fall};
@@ -13,7 +16,8 @@ ghost use Rattle.ksi_signature.specs.declared.fault.SignatureFault.{SignatureFau
 ghost use Rattle.ksi_signature.specs.declared.signature.Signature.{Signature};
 ghost use Rattle.ksi_signature.specs.File.{IsSignature, IsSignatureFault, answer_of};
 ghost use Rattle.ksi_signature.specs.Reading.{elements_in, signature_at};
-ghost use Rattle.ksi_signature.specs.Kept.{IsCalendar, IsPublishing, IsLimited};
+ghost use Rattle.ksi_signature.specs.Kept.{IsCalendar, IsPublishing, IsLimited, IsLent};
+ghost use Rattle.ksi_signature.specs.Above.{AreRoundLinks};
 ghost use Rattle.ksi_signature.specs.Carried.{MayBeIssued, IsOfBytes, CalendarOfBytes};
 ghost use Rattle.ksi_signature.specs.Issued.{issued};
 ghost use Rattle.ksi_signature.specs.Extended.{extended_content, extended_text, renewed};
@@ -69,6 +73,13 @@ pub fn chains_in_order()
         with_parts parts (signature_of es).chains ≡ with_parts parts (chains_among es) }
 {}
 
+/// Each chain of a signature is within the limits of its type.
+pub fn chains_are_within()
+    ensures { (bytes : List ℕ) (signature : Signature) → IsSignature bytes signature → AllByRecursion IsLent signature.chains }
+{
+    inside_is_whole();
+}
+
 /// The text of a signature is that signature, where its parts are what their types keep and no body is too long.
 pub fn written_is_signature()
     ensures { (signature : Signature) → IsLimited signature → first_long (sizes_of signature) ≡ None →
@@ -81,6 +92,11 @@ pub fn written_is_signature()
     canonical_is_shortest();
     numeral_is_read();
 }
+
+/// No link of a round's tree is bare: what stands raw stands beside a left link.
+pub fn round_links_are_not_bare()
+    ensures { (links : List Link) → AreRoundLinks links → AllByRecursion (λ link. is_bare link ≡ false) (plain_links links) }
+{}
 
 /// What is issued is that signature, in at most 10,000 bytes.
 pub fn issued_is_signature()

@@ -79,8 +79,9 @@ pub use index_parts::IndexParts;
 pub use issuing::issue;
 pub use ksi_imprint::{NoMemory, Refused};
 pub use laws::{
-    chains_in_order, extended_is_bytes, extended_is_short, extended_is_signature, issued_is_bytes,
-    issued_is_signature, signature_is_read, signature_or_fault, written_is_signature,
+    chains_are_within, chains_in_order, extended_is_bytes, extended_is_short,
+    extended_is_signature, issued_is_bytes, issued_is_signature, round_links_are_not_bare,
+    signature_is_read, signature_or_fault, written_is_signature,
 };
 pub use link_views::LinkViews;
 pub use lists::{Bodies, CalendarLinks, Chains, Index, Links};

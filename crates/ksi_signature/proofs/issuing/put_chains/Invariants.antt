@@ -11,5 +11,5 @@ invariant-loop-chain l = record {
   index : l.index ≡ index_of (drop l.chain-index l.chains);
   told : l.writer ++ texts (map chain_element (issued_chains l.second (drop l.chain-index l.chains))) ≡ l.fn.writer ++ texts (map chain_element (issued_chains l.second l.chains));
   chains : AllByRecursion IsAboveChain (drop l.chain-index l.chains);
-  short : length l.writer ≤ length l.fn.writer + 813 * l.chain-index;
+  short : length l.writer ≤ length l.fn.writer + 842 * l.chain-index;
 }

@@ -1,6 +1,6 @@
-use Rattle.std.proofs.Common.{◌≡◌, ◌+◌, ◌^◌, ◌≤◌, ◌∷◌, [], List, Ok, length, sym, ap, ◌∙◌, arith}
+use Rattle.std.proofs.Common.{◌≡◌, ◌+◌, ◌^◌, ◌≤◌, ◌∷◌, List, Ok, length, sym, ap, ◌∙◌, arith}
 use Rattle.ksi_split.specs.declared.side.Side.{Side}
-use Rattle.ksi_aggchain.specs.Shapes.{left_powers, shape_of}
+use Rattle.ksi_aggchain.specs.Shapes.{left_powers}
 use Rattle.ksi_tlv.specs.Views.{view_placed, rest}
 use Rattle.ksi_tlv.specs.Walking.{Items}
 use Rattle.ksi_grammar.specs.Inside.{whole, inner_elements}

@@ -1,4 +1,4 @@
-use Rattle.std.proofs.Common.{◌≡◌, List, Ok, ap, ◌∙◌}
+use Rattle.std.proofs.Common.{List, Ok, ap, ◌∙◌}
 use Rattle.ksi_tlv.specs.Walking.{PlacedTlv}
 use Rattle.ksi_signature.specs.Contents.{signature_of}
 use Rattle.ksi_signature.specs.Reading.{elements_in, read_as, signature_at}
