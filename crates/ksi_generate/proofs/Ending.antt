@@ -149,7 +149,7 @@ none_is_left (suc most) manner first m fine few = by (nat_lt first (length (worl
 -- ---- every history of this plan
 
 there_of : (e : Event) → IsEvent header e → IsThere e
-there_of (events.Request k t imprint) is = tt
+there_of (events.Request k t imprint name) is = tt
 there_of (events.Close k t) is = omega (arith, is.0)
 there_of (events.Seal j t) is = tt
 there_of (events.Ballot j t) is = tt

@@ -1,5 +1,5 @@
 -- No schedule has more than a million events: each second adds at most 3,875.
-use Rattle.std.proofs.Common.{ℕ, zero, suc, ◌+◌, ◌*◌, ◌%◌, ◌^◌, ◌<◌, ◌≤◌, ◌==◌, nat_lt, not, Bool, true, false, if◌then◌else◌, [], ◌∷◌, length, length-append, arith}
+use Rattle.std.proofs.Common.{ℕ, zero, suc, ◌+◌, ◌*◌, ◌%◌, ◌^◌, ◌<◌, ◌≤◌, ◌==◌, nat_lt, not, Bool, true, false, if◌then◌else◌, [], ◌∷◌, None, length, length-append, arith}
 use Rattle.std.proofs.Math.Nat.{mul-suc, mod-lt}
 use Rattle.std.specs.Int.{w64, from_be_bytes}
 use Rattle.ksi_schedule.specs.declared.event.Event.{Event}
@@ -90,7 +90,7 @@ at_all event = found at_messages (λ first. both (at_happen event) (at_once firs
 
 at_request : (second : ℕ) → AtMost 1 (request second)
 unfolding request
-at_request second = found (at_draw 6) (λ aggregator. found at_digest (λ imprint. at_happen (events.Request aggregator second imprint)))
+at_request second = found (at_draw 6) (λ aggregator. found at_digest (λ imprint. at_happen (events.Request aggregator second imprint None)))
 
 pub drawn_few : (modulo : ℕ) (m : Making) → 0 < modulo → (draw modulo m).0 < modulo
 unfolding draw

@@ -188,16 +188,16 @@ round_goes most w requests k t turn round posted light thin = record {
 round_stays : (w : WorldState) (requests : List Asked) (k t : ℕ) (answer : Answer) → IsThinWorld w → Goes 0 w (record (at_round header w k t (round_still (w.rounds k t) answer)).world { requests = requests })
 round_stays w requests k t answer thin = round_goes 0 w requests k t (round_still (w.rounds k t) answer) (thin.rounds k t) tt (omega arith) thin
 
-request_goes : (w : WorldState) (k t : ℕ) (imprint : List ℕ) → IsThinWorld w → Goes 0 w (request_happens header w k t imprint).world
+request_goes : (w : WorldState) (k t : ℕ) (imprint : List ℕ) (name : Option (List ℕ)) → IsThinWorld w → Goes 0 w (request_happens header w k t imprint name).world
 unfolding round_request
-request_goes w k t imprint thin =
+request_goes w k t imprint name thin =
     let r = w.rounds k t in
     let old = thin.rounds k t in
     let asked : Asked = record { aggregator = k; second = t; imprint = imprint } in
     cond_both (is_some r.closed) _ _ (λ (turn : RoundTurn). Goes 0 w (accepted_where asked (at_round header w k t turn)).world) (λ _. round_stays w w.requests k t answers.Late thin)
     (λ _. cond_both (is_full r.open_items) _ _ (λ (turn : RoundTurn). Goes 0 w (accepted_where asked (at_round header w k t turn)).world) (λ _. round_stays w w.requests k t answers.Full thin)
-    (λ _. round_goes 0 w (w.requests ++ asked ∷ []) k t (round_added r (request_entry (length w.requests) imprint) (answers.Number (length w.requests)))
-    (record { open_items = thin_request (actors.Aggregator k) r.open_items (length w.requests) imprint old.open_items; closed = old.closed }) tt (omega arith) thin))
+    (λ _. round_goes 0 w (w.requests ++ asked ∷ []) k t (round_added r (request_entry (length w.requests) imprint name) (answers.Number (length w.requests)))
+    (record { open_items = thin_request (actors.Aggregator k) r.open_items (length w.requests) imprint name old.open_items; closed = old.closed }) tt (omega arith) thin))
 
 take_goes : (w : WorldState) (k t from : ℕ) (item : Item) → from < 6 → actors.Aggregator k ≡ parent_of header from → IsThinWorld w → Goes 0 w (at_round header w k t (round_submission from item (w.rounds k t))).world
 unfolding round_submission
@@ -223,7 +223,7 @@ led_by_found None = 0
 led_by_found (Some m) = led_by m.addressee m.content
 
 abbrev pub led_by_event : WorldState → Event → ℕ
-led_by_event w (events.Request k t imprint) = 0
+led_by_event w (events.Request k t imprint name) = 0
 led_by_event w (events.Close k t) = 1
 led_by_event w (events.Seal j t) = 0
 led_by_event w (events.Ballot j t) = 549
@@ -249,7 +249,7 @@ led_by_found_few None = omega arith
 led_by_found_few (Some m) = omega (arith, led_by_few m.addressee m.content)
 
 pub led_few : (w : WorldState) (e : Event) → led_by_event w e ≤ 549
-led_few w (events.Request k t imprint) = omega arith
+led_few w (events.Request k t imprint name) = omega arith
 led_few w (events.Close k t) = omega arith
 led_few w (events.Seal j t) = omega arith
 led_few w (events.Ballot j t) = omega arith
@@ -262,7 +262,7 @@ led_few w (events.RestartAggregator k) = omega arith
 
 -- an aggregator that closes a round is there
 abbrev pub IsThere : Event → Type 0
-IsThere (events.Request k t imprint) = Unit {0}
+IsThere (events.Request k t imprint name) = Unit {0}
 IsThere (events.Close k t) = k < 6
 IsThere (events.Seal j t) = Unit {0}
 IsThere (events.Ballot j t) = Unit {0}
@@ -344,7 +344,7 @@ module _ (image : List ℕ → List ℕ) where
 
   pub happens_goes : (w : WorldState) (e : Event) → IsThere e → IsThinWorld w → Goes (led_by_event w e) w (happens image header w e).world
   unfolding happens
-  happens_goes w (events.Request k t imprint) there thin = request_goes w k t imprint thin
+  happens_goes w (events.Request k t imprint name) there thin = request_goes w k t imprint name thin
   happens_goes w (events.Close k t) there thin = close_goes w k t there thin
   happens_goes w (events.Seal j t) there thin = seal_goes image w j t thin
   happens_goes w (events.Ballot j t) there thin = ballot_goes w j t thin

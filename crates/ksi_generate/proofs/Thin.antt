@@ -1,5 +1,5 @@
 -- The rounds of this plan: each actor has at most one aggregator below it, and at most one item of it in a round.
-use Rattle.std.proofs.Common.{◌≡◌, ℕ, zero, suc, ◌+◌, ◌<◌, ◌≤◌, ◌||◌, false, List, [], ◌∷◌, ◌++◌, refl, sym, ap, subst, ◌∙◌, arith, true≢false, eq-eqb}
+use Rattle.std.proofs.Common.{◌≡◌, ℕ, zero, suc, ◌+◌, ◌<◌, ◌≤◌, ◌||◌, false, Option, List, [], ◌∷◌, ◌++◌, refl, sym, ap, subst, ◌∙◌, arith, true≢false, eq-eqb}
 use Rattle.ksi_aggtree.specs.declared.item.Item.{Item}
 use Rattle.ksi_aggtree.specs.declared.entries.Entry.{Entry}
 use Rattle.ksi_aggtree.specs.declared.entries.Origin.{Origin}
@@ -75,10 +75,10 @@ none_below from (e ∷ es) are none = by e.origin are.0 none (none_below from es
     by (origins.Request number) is none rest = omega (arith, rest none)
     by (origins.Aggregator k) is none rest = absurd (true≢false (sym (ap (λ b. b || has_from from es) (eq-eqb k from is)) ∙ none))
 
-pub thin_request : (here : Actor) (es : List Entry) (number : ℕ) (imprint : List ℕ) → IsThin here es → IsThin here (es ++ request_entry number imprint ∷ [])
-thin_request here es number imprint thin = record {
-  below = below_more (child here) es (request_entry number imprint) thin.below tt;
-  few = omega (arith, down_more es (request_entry number imprint), thin.few);
+pub thin_request : (here : Actor) (es : List Entry) (number : ℕ) (imprint : List ℕ) (name : Option (List ℕ)) → IsThin here es → IsThin here (es ++ request_entry number imprint name ∷ [])
+thin_request here es number imprint name thin = record {
+  below = below_more (child here) es (request_entry number imprint name) thin.below tt;
+  few = omega (arith, down_more es (request_entry number imprint name), thin.few);
 }
 
 pub thin_item : (here : Actor) (es : List Entry) (from : ℕ) (item : Item) → from < 6 → here ≡ parent_of header from → has_from from es ≡ false → IsThin here es →

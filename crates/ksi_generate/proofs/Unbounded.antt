@@ -1,6 +1,6 @@
 -- The two bounds are of no account: with more messages to look at and more places in the stream, a making goes the same
 -- way.
-use Rattle.std.proofs.Common.{◌≡◌, ℕ, zero, suc, ◌+◌, ◌*◌, ◌%◌, ◌<◌, ◌≤◌, ◌==◌, nat_lt, not, Bool, true, false, List, length, refl, sym, ap, ap₂, ◌∙◌, arith, mul-suc, zero-mul, ◌^◌, ◌∷◌, mod-eq_of_lt}
+use Rattle.std.proofs.Common.{◌≡◌, ℕ, zero, suc, ◌+◌, ◌*◌, ◌%◌, ◌<◌, ◌≤◌, ◌==◌, nat_lt, not, Bool, true, false, List, None, length, refl, sym, ap, ap₂, ◌∙◌, arith, mul-suc, zero-mul, ◌^◌, ◌∷◌, mod-eq_of_lt}
 use Rattle.std.specs.Int.{w64, from_be_bytes}
 use Rattle.ksi_schedule.specs.declared.event.Event.{Event}
 use Rattle.ksi_schedule.specs.declared.event.Event.TheVariants as events
@@ -187,7 +187,7 @@ module _ (places more : ℕ) (many : 2097152 ≤ places) (enough : 549 ≤ more)
 
   at_request : (second : ℕ) → Alike 40 (request second) (request second)
   unfolding request
-  at_request second = found {b = 32} (at_draw 6) (λ aggregator. found {b = 0} at_digest (λ imprint. at_happen (events.Request aggregator second imprint) tt))
+  at_request second = found {b = 32} (at_draw 6) (λ aggregator. found {b = 0} at_digest (λ imprint. at_happen (events.Request aggregator second imprint None) tt))
 
   requests_agree : (second : ℕ) (m : Making) → IsWide m → m.place.taken + 328 < 2097152 → Agree 328 m (requests second m) (requests second (over m))
   unfolding requests

@@ -1,8 +1,9 @@
 -- The schedule of a number: three cores, six aggregators, and 256 seconds of requests, lost and repeated messages, and
 -- restarts.
-use Rattle.std.specs.Prelude.{ℕ, zero, suc, ◌+◌, ◌%◌, ◌^◌, ◌<◌, ◌≤◌, ◌==◌, nat_lt, not, if◌then◌else◌, List, [], ◌∷◌}
+use Rattle.std.specs.Prelude.{ℕ, zero, suc, ◌+◌, ◌%◌, ◌^◌, ◌<◌, ◌≤◌, ◌==◌, nat_lt, not, if◌then◌else◌, List, [], ◌∷◌, None}
 use Rattle.ksi_schedule.specs.declared.actor.Actor.{Actor}
 use Rattle.ksi_schedule.specs.declared.actor.Actor.TheVariants as actors
+use Rattle.ksi_schedule.specs.declared.parent.Parent.{Parent}
 use Rattle.ksi_schedule.specs.declared.event.Event.TheVariants as events
 use Rattle.ksi_schedule.specs.declared.event.Event.{Event}
 use Rattle.ksi_schedule.specs.Plans.{PlanState}
@@ -13,10 +14,14 @@ use Rattle.ksi_generate.specs.Making.{Making, Steps, done, ◌>>=◌, ◌>>◌, 
 
 -- ---- the plan
 
+-- a parent, to which is submitted under no name
+abbrev pub bare : Actor → Parent
+bare actor = record { actor = actor; name = None }
+
 -- aggregators 0, 1 and 2 submit to the core of their number, aggregators 3 and 4 to aggregators 0 and 1, and aggregator 5 to
 -- aggregator 3
-abbrev pub parents : List Actor
-parents = actors.Core 0 ∷ actors.Core 1 ∷ actors.Core 2 ∷ actors.Aggregator 0 ∷ actors.Aggregator 1 ∷ actors.Aggregator 3 ∷ []
+abbrev pub parents : List Parent
+parents = bare (actors.Core 0) ∷ bare (actors.Core 1) ∷ bare (actors.Core 2) ∷ bare (actors.Aggregator 0) ∷ bare (actors.Aggregator 1) ∷ bare (actors.Aggregator 3) ∷ []
 
 abbrev pub header : PlanState
 header = record { cores = 3; start = 1700000000; voters = []; parents = parents }
@@ -54,12 +59,12 @@ happen_and_deliver most event = do
 
 -- ---- the ten steps of a second
 
--- 1. up to eight requests, of drawn aggregators and drawn digests
+-- 1. up to eight requests, of drawn aggregators and drawn digests, under no name
 unfoldable pub request : (second : ℕ) → Steps (Unit {0})
 request second = do
   aggregator ← draw 6
   imprint ← digest
-  happen (events.Request aggregator second imprint)
+  happen (events.Request aggregator second imprint None)
 
 unfoldable pub requests : (second : ℕ) → Steps (Unit {0})
 requests second = do

@@ -1,8 +1,8 @@
 ghost use Rattle.std.specs.Prelude.{◌≡◌, IfOk};
-ghost use Rattle.ksi_generate.specs.Generate.{header};
+ghost use Rattle.ksi_generate.specs.Generate.{bare, header};
 
 use ksi_imprint::NoMemory;
-use ksi_schedule::{Actor, Parents, Plan};
+use ksi_schedule::{Actor, Parent, Parents, Plan};
 use ksi_synod::CorePlan;
 use std::alloc::Global;
 
@@ -17,15 +17,21 @@ pub(crate) fn header(alloc: Global) -> Result<Plan, NoMemory>
     ensures { IfOk result (λ plan. plan ≡ header) }
 {
     let parents = [
-        Actor::Core(0),
-        Actor::Core(1),
-        Actor::Core(2),
-        Actor::Aggregator(0),
-        Actor::Aggregator(1),
-        Actor::Aggregator(3),
+        bare(Actor::Core(0)),
+        bare(Actor::Core(1)),
+        bare(Actor::Core(2)),
+        bare(Actor::Aggregator(0)),
+        bare(Actor::Aggregator(1)),
+        bare(Actor::Aggregator(3)),
     ];
     let parents = Parents::from_vec(parents.to_vec(alloc)?);
     Ok(planned(parents))
+}
+
+fn bare(actor: Actor) -> Parent
+    ensures { result ≡ bare actor }
+{
+    Parent { actor, name: None }
 }
 
 fn planned(parents: Parents) -> Plan

@@ -58,7 +58,7 @@ impl Maker {
     {
         let aggregator = self.draw(6);
         let imprint = self.digest();
-        self.happen(Event::Request(aggregator as u32, second, imprint))
+        self.happen(Event::Request(aggregator as u32, second, imprint, None))
     }
 
     #[tactic(auto, unfolding(crate::specs::Generate::closes))]

@@ -90,6 +90,9 @@ plain word all = (plain-lacks 32 word (omega arith) all, plain-lacks 10 word (om
 pub lettered : (letter : ℕ) (word : Text) → ltb 32 letter ≡ true → IsCleanWord word → IsCleanWord (letter ∷ word)
 lettered letter word high c = ((above 32 letter (omega arith) high, c.0), (above 10 letter (omega arith) high, c.1))
 
+pub more : (x : Text) (xs : List Text) → IsCleanWord x → IsClean xs → IsClean (x ∷ xs)
+more x xs cx cxs = (cx.0, cx.1, cxs)
+
 pub two : (x y : Text) → IsCleanWord x → IsCleanWord y → IsClean (x ∷ y ∷ [])
 two x y cx cy = (cx.0, cx.1, (cy.0, cy.1, tt))
 

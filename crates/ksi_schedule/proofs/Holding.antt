@@ -1,14 +1,18 @@
 -- What the words of a line stand for is there.
-use Rattle.std.proofs.Common.{◌≡◌, ℕ, ◌+◌, ◌-◌, ◌^◌, ◌<◌, ◌≤◌, Bool, true, false, cond, ◌&&◌, ltb, leb, eqb, List, [], ◌∷◌, length, codes, Option, Some, None, Result, Ok, Err, refl, subst, arith}
+use Rattle.std.proofs.Common.{◌≡◌, ℕ, ◌+◌, ◌^◌, ◌<◌, Bool, true, false, cond, ◌&&◌, ltb, leb, List, [], ◌∷◌, length, Result, Ok, Err, refl, subst}
 use Rattle.std.specs.Prelude.{All}
 use Rattle.std.specs.Str.{bytes_eq}
 use Rattle.std.proofs.lemmas.Bool.{ltb-true, leb-true}
 use Rattle.ksi_schedule.specs.declared.fault.LineFault.{LineFault}
-use Rattle.ksi_schedule.specs.declared.fault.LineFault.TheVariants.{NoSuchActor, SecondOutOfRange}
+use Rattle.ksi_schedule.specs.declared.fault.LineFault.TheVariants.{NoSuchActor, SecondOutOfRange, Name}
 use Rattle.ksi_schedule.specs.Pieces.{Text}
 use Rattle.ksi_schedule.specs.Plans.{PlanState, InRange}
-use Rattle.ksi_schedule.specs.Words.{Sort, the_word, number, core, aggregator, second, digest, core_actor, aggregator_actor, Value, Values, Form, Kind, number_at, core_at, aggregator_at, time_word, value_at, values_at, fits, form_at, kind_at, ◌>>=◌}
+use Rattle.ksi_schedule.specs.Words.{Sort, the_word, number, core, aggregator, second, digest, a_name, core_actor, aggregator_actor, Value, Values, Form, Kind, number_at, core_at, aggregator_at, time_word, is_name, name_at, value_at, values_at, fits, form_at, kind_at, ◌>>=◌}
 use Rattle.ksi_imprint.specs.Imprints.{IsImprint}
+use Rattle.ksi_aggtree.specs.Names.{IsName, most_letters, are_name_bytes}
+use Rattle.ksi_schedule.specs.Forms.{in_two}
+use Rattle.ksi_schedule.specs.declared.version.Version.{Version}
+use Rattle.ksi_schedule.specs.declared.version.Version.TheVariants.{One, Two}
 use Rattle.ksi_schedule.proofs.Digests.{read_imprint, read_bytes}
 
 -- ---- steps of a reading
@@ -40,6 +44,7 @@ Holds plan core j = j < plan.cores
 Holds plan aggregator k = k < length plan.parents
 Holds plan second t = InRange plan t
 Holds plan digest v = IsImprint v × All (λ b. b < 256) v
+Holds plan a_name v = IsName v
 Holds plan core_actor j = j < plan.cores
 Holds plan aggregator_actor k = k < length plan.parents
 
@@ -66,6 +71,17 @@ second_holds plan word t is =
     let o = both (leb plan.start n.0) (ltb n.0 (plan.start + 2 ^ 24)) p.0 in
     subst (λ (t : ℕ). InRange plan t) p.1 (leb-true _ _ o.0, ltb-true _ _ o.1)
 
+name_from_test : (word : Text) → is_name word ≡ true → IsName word
+name_from_test word is =
+    let o = both (leb 1 (length word) && leb (length word) most_letters) (are_name_bytes word) is in
+    let i = both (leb 1 (length word)) (leb (length word) most_letters) o.0 in
+    record { some = leb-true _ _ i.0; few = leb-true _ _ i.1; each = o.1 }
+
+name_holds : (plan : PlanState) (word name : Text) → name_at word ≡ Ok name → IsName name
+name_holds plan word name is =
+    let p = picked (is_name word) word name Name is in
+    subst IsName p.1 (name_from_test word p.0)
+
 pub value_holds : (plan : PlanState) (sort : Sort) (word : Text) (v : Value sort) → value_at plan sort word ≡ Ok v → Holds plan sort v
 value_holds plan (the_word text) word v is = tt
 value_holds plan number word v is = tt
@@ -73,6 +89,7 @@ value_holds plan core word v is = core_holds plan word v is
 value_holds plan aggregator word v is = aggregator_holds plan word v is
 value_holds plan second word v is = second_holds plan word v is
 value_holds plan digest word v is = (read_imprint word v is, read_bytes word v is)
+value_holds plan a_name word v is = name_holds plan word v is
 value_holds plan core_actor [] v is = core_holds plan [] v is
 value_holds plan core_actor (b ∷ word) v is = core_holds plan word v is
 value_holds plan aggregator_actor [] v is = aggregator_holds plan [] v is
@@ -91,6 +108,11 @@ values_hold plan (sort ∷ sorts) (word ∷ ws) vs is =
 abbrev pub Good : {A : Type 0} → PlanState → (A → Type 0) → List (Form A) → Type 0
 Good plan P [] = Unit {0}
 Good plan P (form ∷ forms) = ((vs : Values form.sorts) → AllHold plan form.sorts vs → P (form.makes vs)) × Good plan P forms
+
+-- forms of version 2
+pub good_in_two : {A : Type 0} (plan : PlanState) (P : A → Type 0) (version : Version) (forms : List (Form A)) → Good plan P forms → Good plan P (in_two version forms)
+good_in_two plan P One forms good = tt
+good_in_two plan P Two forms good = good
 
 pub form_holds : {A : Type 0} (plan : PlanState) (P : A → Type 0) (forms : List (Form A)) (ws : List Text) (x : A) → Good plan P forms → form_at plan forms ws ≡ Ok x → P x
 unfolding form_at

@@ -6,10 +6,12 @@ pub mod LineLoop
 pub mod Both
 pub mod Texts
 pub mod Again
+pub mod Versions
 pub mod EventAgain
 pub mod MembersAgain
 pub mod Whole
 pub mod Holding
+pub mod Fitting
 pub mod Rising
 pub mod Taking
 pub mod Within

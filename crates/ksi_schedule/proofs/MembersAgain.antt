@@ -1,19 +1,18 @@
 -- The printed lines that say who votes are read again.
-use Rattle.std.proofs.Common.{◌≡◌, ℕ, ◌-◌, ◌^◌, ◌<◌, ◌≤◌, Bool, true, ◌&&◌, ltb, List, [], ◌∷◌, ◌++◌, length, map, codes, Ok, Result, refl, sym, ap, ◌∙◌, arith, length-append}
+use Rattle.std.proofs.Common.{◌≡◌, ℕ, ◌<◌, true, ◌&&◌, ltb, List, [], ◌∷◌, ◌++◌, length, map, codes, Ok, refl, ap, ◌∙◌, arith, length-append}
 use Rattle.std.specs.Fmt.{decimal}
 use Rattle.std.specs.List.{AllByRecursion, list_all}
 use Rattle.std.proofs.lemmas.Bool.{lt-ltb}
 use Rattle.ksi_synod.specs.declared.core_plan.VotersFrom.{VotersFrom}
 use Rattle.ksi_synod.specs.CorePlans.{IsPair, IsCorePlan, AreRising, has_room}
 use Rattle.ksi_schedule.specs.declared.version.Version.TheVariants.{Two}
-use Rattle.ksi_schedule.specs.Pieces.{Text}
 use Rattle.ksi_schedule.specs.Plans.{PlanState, core_plan_of}
 use Rattle.ksi_schedule.specs.Events.{History}
 use Rattle.ksi_schedule.specs.Words.{core_actor, looks_like}
-use Rattle.ksi_schedule.specs.Members.{members_name, name_cores, cores_at, members_at, rises, next_members}
+use Rattle.ksi_schedule.specs.Members.{name_cores, cores_at, members_at, rises, next_members}
 use Rattle.ksi_schedule.specs.Lines.{next_in}
 use Rattle.ksi_schedule.specs.Printed.{core_word, members_words}
-use Rattle.ksi_schedule.proofs.Again.{IsClean, number_again, plain, lettered}
+use Rattle.ksi_schedule.proofs.Again.{IsClean, plain, lettered}
 use Rattle.ksi_schedule.proofs.EventAgain.{IsSmall, core_again, second_again, core-clean, second-clean}
 use Rattle.ksi_schedule.proofs.Rising.{AreBelow, rising-test}
 

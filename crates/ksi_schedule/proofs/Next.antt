@@ -2,25 +2,25 @@
 use Rattle.std.proofs.Common.{◌≡◌, ℕ, zero, suc, ◌+◌, ◌-◌, ◌<◌, ◌≤◌, Bool, true, ltb, List, [], ◌∷◌, ◌++◌, length, get_or, Some, Result, Ok, Err, refl, sym, ap, subst, ◌∙◌, arith, length-append, inl, inr}
 use Rattle.std.specs.List.{slice_get}
 use Rattle.std.specs.Result.{OnOk, OnErr}
-use Rattle.std.proofs.Math.Seq.{get_or-append_seam}
+use Rattle.std.specs.Prelude.{IfSome}
+use Rattle.std.proofs.Math.Seq.{get_or-append_seam, get_or-append_right}
 use Rattle.std.proofs.lemmas.Bool.{ltb-true, lt-ltb, cases_lt}
 use Rattle.std.proofs.lemmas.List.{get_or_append_left}
 use Rattle.std.proofs.lemmas.Option.{slice_get_within, get_or_from_slice_get, slice_get-get_or}
 use Rattle.ksi_schedule.specs.declared.actor.Actor.{Actor}
 use Rattle.ksi_schedule.specs.declared.actor.Actor.TheVariants as actors
+use Rattle.ksi_schedule.specs.declared.parent.Parent.{Parent}
 use Rattle.ksi_schedule.specs.declared.event.Event.{Event}
+use Rattle.ksi_aggtree.specs.Names.{IsName}
 use Rattle.ksi_synod.specs.declared.core_plan.VotersFrom.{VotersFrom}
 use Rattle.ksi_synod.specs.CorePlans.{IsCorePlan}
-use Rattle.ksi_schedule.specs.Plans.{PlanState, IsPlan, IsParent, ReachesCore, parent_of, core_plan_of}
+use Rattle.ksi_schedule.specs.Plans.{PlanState, IsPlan, IsParent, ReachesCore, no_parent, parent_of, name_of, core_plan_of}
 use Rattle.ksi_schedule.specs.Members.{with_members}
 use Rattle.ksi_schedule.specs.Events.{IsEvent, AreEvents}
 use Rattle.ksi_schedule.specs.Lines.{reaches_core, with_parent}
 
-abbrev pub core_0 : Actor
-core_0 = actors.Core 0
-
 -- a plan whose first parents are these
-abbrev pub begun : PlanState → List Actor → PlanState
+abbrev pub begun : PlanState → List Parent → PlanState
 begun plan parents = record { cores = plan.cores; start = plan.start; voters = plan.voters; parents = parents }
 
 pub reached : (plan : PlanState) (steps : ℕ) (a : Actor) → reaches_core plan steps a ≡ true → ReachesCore plan steps a
@@ -55,30 +55,30 @@ same_way a b n (suc steps) (actors.Aggregator k) agree there is =
 
 -- the parent of each aggregator of a plan
 pub parent_there : (plan : PlanState) (k : ℕ) → IsPlan plan → k < length plan.parents → IsParent plan.cores k (parent_of plan k)
-parent_there plan k is lt = is.parents k (parent_of plan k) (slice_get-get_or plan.parents k core_0 lt)
+parent_there plan k is lt = is.parents k (get_or plan.parents k no_parent) (slice_get-get_or plan.parents k no_parent lt)
 
-agree_next : (plan : PlanState) (p : Actor) → IsPlan plan → Agree plan (with_parent plan p) (length plan.parents)
+agree_next : (plan : PlanState) (p : Parent) → IsPlan plan → Agree plan (with_parent plan p) (length plan.parents)
 agree_next plan p is = record {
   cores = refl;
-  same = λ k lt. sym (get_or_append_left plan.parents (p ∷ []) core_0 k lt);
+  same = λ k lt. ap (λ (p : Parent). p.actor) (sym (get_or_append_left plan.parents (p ∷ []) no_parent k lt));
   low = λ k lt. weaker plan.cores k (length plan.parents) (parent_of plan k) (omega arith) (parent_there plan k is lt);
 }
 
-parent_next : (plan : PlanState) (p : Actor) → IsPlan plan → IsParent plan.cores (length plan.parents) p
-    → (k : ℕ) (parent : Actor) → slice_get (plan.parents ++ p ∷ []) k ≡ Some parent → IsParent plan.cores k parent
+parent_next : (plan : PlanState) (p : Parent) → IsPlan plan → IsParent plan.cores (length plan.parents) p.actor
+    → (k : ℕ) (parent : Parent) → slice_get (plan.parents ++ p ∷ []) k ≡ Some parent → IsParent plan.cores k parent.actor
 parent_next plan p is there k parent at =
     let within : k < length (plan.parents ++ p ∷ []) = slice_get_within (plan.parents ++ p ∷ []) k parent at in
     let size : length (plan.parents ++ p ∷ []) ≡ length plan.parents + 1 = length-append plan.parents (p ∷ []) in
-    let read : get_or (plan.parents ++ p ∷ []) k core_0 ≡ parent = get_or_from_slice_get (plan.parents ++ p ∷ []) k parent core_0 at in
+    let read : get_or (plan.parents ++ p ∷ []) k no_parent ≡ parent = get_or_from_slice_get (plan.parents ++ p ∷ []) k parent no_parent at in
     elim (cases_lt k (length plan.parents)) [
-      | inl lt ↦ subst (λ (x : Actor). IsParent plan.cores k x) (sym (get_or_append_left plan.parents (p ∷ []) core_0 k lt) ∙ read) (parent_there plan k is lt)
+      | inl lt ↦ subst (λ (x : Parent). IsParent plan.cores k x.actor) (sym (get_or_append_left plan.parents (p ∷ []) no_parent k lt) ∙ read) (parent_there plan k is lt)
       | inr ge ↦
           let last : k ≡ length plan.parents = omega arith in
-          let here : p ≡ parent = sym (get_or-append_seam plan.parents p [] core_0) ∙ ap (λ (i : ℕ). get_or (plan.parents ++ p ∷ []) i core_0) (sym last) ∙ read in
-          subst (λ (x : Actor). IsParent plan.cores k x) here (subst (λ (i : ℕ). IsParent plan.cores i p) (sym last) there)
+          let here : p ≡ parent = sym (get_or-append_seam plan.parents p [] no_parent) ∙ ap (λ (i : ℕ). get_or (plan.parents ++ p ∷ []) i no_parent) (sym last) ∙ read in
+          subst (λ (x : Parent). IsParent plan.cores k x.actor) here (subst (λ (i : ℕ). IsParent plan.cores i p.actor) (sym last) there)
     ]
 
-low_next : (plan : PlanState) (p : Actor) → IsPlan plan → IsParent plan.cores (length plan.parents) p → ReachesCore plan 7 p
+low_next : (plan : PlanState) (p : Parent) → IsPlan plan → IsParent plan.cores (length plan.parents) p.actor → ReachesCore plan 7 p.actor
     → (k : ℕ) → k < length (plan.parents ++ p ∷ []) → ReachesCore (with_parent plan p) 8 (actors.Aggregator k)
 unfolding ReachesCore
 low_next plan p is there low k within =
@@ -87,17 +87,29 @@ low_next plan p is there low k within =
       | inl lt ↦ same_way plan (with_parent plan p) (length plan.parents) 8 (actors.Aggregator k) (agree_next plan p is) lt (is.low k lt)
       | inr ge ↦
           let last : k ≡ length plan.parents = omega arith in
-          let here : parent_of (with_parent plan p) k ≡ p = ap (λ (i : ℕ). get_or (plan.parents ++ p ∷ []) i core_0) last ∙ get_or-append_seam plan.parents p [] core_0 in
-          subst (λ (x : Actor). ReachesCore (with_parent plan p) 7 x) (sym here) (same_way plan (with_parent plan p) (length plan.parents) 7 p (agree_next plan p is) there low)
+          let here : get_or (plan.parents ++ p ∷ []) k no_parent ≡ p = ap (λ (i : ℕ). get_or (plan.parents ++ p ∷ []) i no_parent) last ∙ get_or-append_seam plan.parents p [] no_parent in
+          subst (λ (x : Parent). ReachesCore (with_parent plan p) 7 x.actor) (sym here) (same_way plan (with_parent plan p) (length plan.parents) 7 p.actor (agree_next plan p is) there low)
     ]
 
+names_next : (plan : PlanState) (p : Parent) → IsPlan plan → IfSome p.name IsName → (k : ℕ) → IfSome (name_of (with_parent plan p) k) IsName
+names_next plan p is named k = elim (cases_lt k (length plan.parents)) [
+  | inl lt ↦ subst (λ (x : Parent). IfSome x.name IsName) (sym (get_or_append_left plan.parents (p ∷ []) no_parent k lt)) (is.names k)
+  | inr ge ↦ subst (λ (x : Parent). IfSome x.name IsName) (sym (get_or-append_right plan.parents (p ∷ []) k no_parent ge)) (one (k - length plan.parents))
+]
+  where
+    one : (i : ℕ) → IfSome (get_or (p ∷ []) i no_parent).name IsName
+    one zero = named
+    one (suc i) = tt
+
 -- a plan with one aggregator more
-pub plan_next : (plan : PlanState) (p : Actor) → IsPlan plan → length plan.parents < 4096 → IsParent plan.cores (length plan.parents) p → reaches_core plan 7 p ≡ true → IsPlan (with_parent plan p)
-plan_next plan p is room there low = record {
+pub plan_next : (plan : PlanState) (p : Parent) → IsPlan plan → length plan.parents < 4096 → IsParent plan.cores (length plan.parents) p.actor → IfSome p.name IsName → reaches_core plan 7 p.actor ≡ true
+    → IsPlan (with_parent plan p)
+plan_next plan p is room there named low = record {
   core_plan = is.core_plan;
   many = omega (arith, length-append plan.parents (p ∷ []));
   parents = parent_next plan p is there;
-  low = low_next plan p is there (reached plan 7 p low);
+  names = names_next plan p is named;
+  low = low_next plan p is there (reached plan 7 p.actor low);
 }
 
 -- a plan of no aggregators in which others vote
@@ -106,6 +118,7 @@ plan_voting plan pair none is core_plan = record {
   core_plan = core_plan;
   many = is.many;
   parents = is.parents;
+  names = is.names;
   low = λ k lt. absurd (omega (arith, lt, ap length none));
 }
 

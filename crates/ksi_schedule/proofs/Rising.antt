@@ -11,9 +11,9 @@ use Rattle.ksi_schedule.specs.declared.fault.LineFault.TheVariants.{Word, Header
 use Rattle.ksi_schedule.specs.Pieces.{Text}
 use Rattle.ksi_schedule.specs.Plans.{PlanState, InRange, core_plan_of}
 use Rattle.ksi_schedule.specs.Events.{History}
-use Rattle.ksi_schedule.specs.Words.{Sort, second, core_actor, value_at, ◌>>=◌}
+use Rattle.ksi_schedule.specs.Words.{second, core_actor, value_at, ◌>>=◌}
 use Rattle.ksi_schedule.specs.Members.{name_cores, cores_at, members_at, rises, with_members, next_members, with_core, rising_from, second_and_cores, taken_members, if_rising, rising_at, AreSaid, next_risen, next_rising}
-use Rattle.ksi_schedule.proofs.Holding.{same, bind_ok, picked, both, value_holds}
+use Rattle.ksi_schedule.proofs.Holding.{same, bind_ok, both, value_holds}
 
 -- a plan of cores grows within its limits
 abbrev pub Grows : Type 0

@@ -1,30 +1,29 @@
 -- What a line behind the first three adds, by its first word.
-use Rattle.std.proofs.Common.{◌≡◌, ◌<◌, Bool, true, false, ◌&&◌, leb, eqb, List, [], ◌∷◌, length, Result, Ok, Err, refl, sym, subst, ap, ◌∙◌, arith}
+use Rattle.std.proofs.Common.{◌≡◌, ◌<◌, Bool, true, false, ◌&&◌, leb, eqb, List, [], ◌∷◌, length, Result, Ok, Err, refl, sym, ap, arith}
 use Rattle.std.specs.Str.{bytes_eq}
 use Rattle.std.specs.List.{list_all}
 use Rattle.std.specs.Borrow.{Bor}
-use Rattle.std.specs.Prelude.{ℕ, Option, Some, None, is_some}
-use Rattle.ksi_schedule.specs.declared.event.Event.{Event}
+use Rattle.std.specs.Prelude.{Option, Some, None, is_some}
 use Rattle.ksi_schedule.specs.declared.version.Version.{Version}
 use Rattle.ksi_schedule.specs.declared.fault.LineFault.{LineFault}
 use Rattle.ksi_schedule.specs.Pieces.{Text, words}
 use Rattle.ksi_schedule.specs.Events.{History, with_event}
-use Rattle.ksi_schedule.specs.Words.{core_actor, looks_like, form_at, kind_at, ◌>>=◌}
+use Rattle.ksi_schedule.specs.Words.{core_actor, looks_like, kind_at, ◌>>=◌}
 use Rattle.ksi_schedule.specs.Forms.{event_kinds, aggregator_line}
 use Rattle.ksi_schedule.specs.Members.{members_name, name_cores, members_at, next_members}
-use Rattle.ksi_schedule.specs.Lines.{is_empty, takes_members, next_parent, next_in}
+use Rattle.ksi_schedule.specs.Lines.{is_empty, takes_members, next_in}
 use Rattle.ksi_schedule.specs.Reading.{words_left}
 use Rattle.ksi_schedule.proofs.Cuts.{more_words}
 
 pub to_members : (version : Version) (h : History) (name : Text) (ws all : List Text) → all ≡ name ∷ ws → leb 1000000 (length h.events) ≡ false
-    → (bytes_eq name aggregator_line.name && is_empty h.events) ≡ false → bytes_eq name members_name ≡ true → takes_members version h ≡ true
+    → (bytes_eq name (aggregator_line version).name && is_empty h.events) ≡ false → bytes_eq name members_name ≡ true → takes_members version h ≡ true
     → next_in version h all ≡ (members_at h.plan ws >>= next_members h)
 unfolding next_in
 to_members version h name ws all is room other named taken = rw (is, room, other, named, taken) refl
 
 pub to_event : (version : Version) (h : History) (name : Text) (ws all : List Text) → all ≡ name ∷ ws → leb 1000000 (length h.events) ≡ false
-    → (bytes_eq name aggregator_line.name && is_empty h.events) ≡ false → (bytes_eq name members_name && takes_members version h) ≡ false
-    → next_in version h all ≡ (kind_at h.plan event_kinds name ws >>= λ event. Ok (with_event h event))
+    → (bytes_eq name (aggregator_line version).name && is_empty h.events) ≡ false → (bytes_eq name members_name && takes_members version h) ≡ false
+    → next_in version h all ≡ (kind_at h.plan (event_kinds version) name ws >>= λ event. Ok (with_event h event))
 unfolding next_in
 to_event version h name ws all is room other not = rw (is, room, other, not) refl
 

@@ -8,36 +8,37 @@ use Rattle.ksi_synod.specs.Voters.{cores_below, is_voter}
 use Rattle.ksi_schedule.specs.Pieces.{Text}
 use Rattle.ksi_schedule.specs.Plans.{PlanState}
 use Rattle.ksi_schedule.specs.Events.{History}
-use Rattle.ksi_schedule.specs.Printed.{header_words, core_word, spaced, line_of, text_of_lines, schedule_text, version_word, members_words, parent_words, event_words, actor_word}
-use Rattle.ksi_schedule.specs.declared.actor.Actor.{Actor}
+use Rattle.ksi_schedule.specs.Printed.{header_words, core_word, spaced, line_of, text_of_lines, schedule_text, version_of, version_word, members_words, parent_words, under_words, event_words, actor_word}
+use Rattle.ksi_schedule.specs.declared.parent.Parent.{Parent}
+use Rattle.ksi_schedule.specs.declared.version.Version.{Version}
 
 line_joins : (a line rest : Text) → (a ++ (line ++ 10 ∷ [])) ++ rest ≡ a ++ (line ++ 10 ∷ rest)
 line_joins a line rest = append_assoc a (line ++ 10 ∷ []) rest ∙ ap (λ (t : Text). a ++ t) (append_assoc line (10 ∷ []) rest)
 
 -- the loop over the aggregators
-pub parent_told : (old new whole : Text) (k : ℕ) (ps : List Actor) (d : Actor) → k < length ps
+pub parent_told : (old new whole : Text) (k : ℕ) (ps : List Parent) (d : Parent) → k < length ps
     → old ++ text_of_lines (parent_words k (drop k ps)) ≡ whole
-    → new ≡ old ++ (line_of (codes "aggregator" ∷ decimal k ∷ codes "parent" ∷ actor_word (get_or ps k d) ∷ []) ++ 10 ∷ [])
+    → new ≡ old ++ (line_of (codes "aggregator" ∷ decimal k ∷ codes "parent" ∷ actor_word (get_or ps k d).actor ∷ under_words (get_or ps k d).name) ++ 10 ∷ [])
     → new ++ text_of_lines (parent_words (k + 1) (drop (k + 1) ps)) ≡ whole
 parent_told old new whole k ps d lt left is =
     let more : drop k ps ≡ get_or ps k d ∷ drop (k + 1) ps = drop_more ps k d lt in
-    rw is (line_joins old (line_of (codes "aggregator" ∷ decimal k ∷ codes "parent" ∷ actor_word (get_or ps k d) ∷ [])) (text_of_lines (parent_words (k + 1) (drop (k + 1) ps)))
-    ∙ ap (λ (rest : List Actor). old ++ text_of_lines (parent_words k rest)) (sym more) ∙ left)
+    rw is (line_joins old (line_of (codes "aggregator" ∷ decimal k ∷ codes "parent" ∷ actor_word (get_or ps k d).actor ∷ under_words (get_or ps k d).name)) (text_of_lines (parent_words (k + 1) (drop (k + 1) ps)))
+    ∙ ap (λ (rest : List Parent). old ++ text_of_lines (parent_words k rest)) (sym more) ∙ left)
 
 text_of_lines-append : (xs ys : List (List Text)) → text_of_lines (xs ++ ys) ≡ text_of_lines xs ++ text_of_lines ys
 text_of_lines-append [] ys = refl
 text_of_lines-append (x ∷ xs) ys =
     ap (λ (t : Text). line_of x ++ 10 ∷ t) (text_of_lines-append xs ys) ∙ sym (append_assoc (line_of x) (10 ∷ text_of_lines xs) (text_of_lines ys))
 
-pub header_told : (plan : PlanState) (old one two three : Text)
-    → one ≡ old ++ (line_of (codes "ksi-schedule" ∷ version_word plan.voters ∷ []) ++ 10 ∷ [])
+pub header_told : (version : Version) (plan : PlanState) (old one two three : Text)
+    → one ≡ old ++ (line_of (codes "ksi-schedule" ∷ version_word version ∷ []) ++ 10 ∷ [])
     → two ≡ one ++ (line_of (codes "cores" ∷ decimal plan.cores ∷ []) ++ 10 ∷ [])
     → three ≡ two ++ (line_of (codes "start" ∷ decimal plan.start ∷ []) ++ 10 ∷ [])
-    → three ≡ old ++ text_of_lines (header_words plan)
-header_told plan old one two three e1 e2 e3 = rw (e3, e2, e1) (simp append_assoc)
+    → three ≡ old ++ text_of_lines (header_words version plan)
+header_told version plan old one two three e1 e2 e3 = rw (e3, e2, e1) (simp append_assoc)
 
 pub text_is : (h : History) (none header voters parents all : Text) → none ≡ []
-    → header ≡ none ++ text_of_lines (header_words h.plan)
+    → header ≡ none ++ text_of_lines (header_words (version_of h) h.plan)
     → voters ≡ header ++ text_of_lines (map members_words h.plan.voters)
     → parents ≡ voters ++ text_of_lines (parent_words 0 h.plan.parents)
     → all ≡ parents ++ text_of_lines (map event_words h.events)

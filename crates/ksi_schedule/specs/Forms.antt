@@ -1,23 +1,46 @@
 -- The forms of an aggregator's line and of the events' lines.
-use Rattle.std.specs.Prelude.{ℕ, List, [], ◌∷◌, codes}
+use Rattle.std.specs.Prelude.{ℕ, List, [], ◌∷◌, ◌++◌, codes, Option, Some, None}
 use Rattle.ksi_schedule.specs.Pieces.{Text}
-use Rattle.ksi_schedule.specs.Words.{the_word, number, core, aggregator, second, digest, core_actor, aggregator_actor, Form, Kind}
+use Rattle.ksi_schedule.specs.Words.{the_word, number, core, aggregator, second, digest, a_name, core_actor, aggregator_actor, Form, Kind}
 use Rattle.ksi_schedule.specs.declared.actor.Actor.{Actor}
 use Rattle.ksi_schedule.specs.declared.actor.Actor.TheVariants as actors
+use Rattle.ksi_schedule.specs.declared.parent.Parent.{Parent}
+use Rattle.ksi_schedule.specs.declared.version.Version.{Version}
+use Rattle.ksi_schedule.specs.declared.version.Version.TheVariants.{One, Two}
 use Rattle.ksi_schedule.specs.declared.event.Event.{Event}
 use Rattle.ksi_schedule.specs.declared.event.Event.TheVariants as events
 
--- an aggregator's number, and its parent
-abbrev pub aggregator_line : Kind (ℕ × Actor)
-aggregator_line = record {
-  name = codes "aggregator";
-  forms =
-      record { sorts = number ∷ the_word (codes "parent") ∷ core_actor ∷ []; makes = λ v. (v.0, actors.Core v.1.1.0) }
-      ∷ record { sorts = number ∷ the_word (codes "parent") ∷ aggregator_actor ∷ []; makes = λ v. (v.0, actors.Aggregator v.1.1.0) } ∷ [];
-}
+-- forms that only texts of version 2 have
+abbrev pub in_two : {A : Type 0} → Version → List (Form A) → List (Form A)
+in_two One forms = []
+in_two Two forms = forms
 
-abbrev pub request_line : Kind Event
-request_line = record { name = codes "request"; forms = record { sorts = aggregator ∷ second ∷ digest ∷ []; makes = λ v. events.Request v.0 v.1.0 v.1.1.0 } ∷ [] }
+abbrev pub parent : Actor → Option Text → Parent
+parent actor name = record { actor = actor; name = name }
+
+abbrev pub bare_parents : List (Form (ℕ × Parent))
+bare_parents =
+    record { sorts = number ∷ the_word (codes "parent") ∷ core_actor ∷ []; makes = λ v. (v.0, parent (actors.Core v.1.1.0) None) }
+    ∷ record { sorts = number ∷ the_word (codes "parent") ∷ aggregator_actor ∷ []; makes = λ v. (v.0, parent (actors.Aggregator v.1.1.0) None) } ∷ []
+
+abbrev pub named_parents : List (Form (ℕ × Parent))
+named_parents =
+    record { sorts = number ∷ the_word (codes "parent") ∷ core_actor ∷ the_word (codes "name") ∷ a_name ∷ []; makes = λ v. (v.0, parent (actors.Core v.1.1.0) (Some v.1.1.1.1.0)) }
+    ∷ record { sorts = number ∷ the_word (codes "parent") ∷ aggregator_actor ∷ the_word (codes "name") ∷ a_name ∷ []; makes = λ v. (v.0, parent (actors.Aggregator v.1.1.0) (Some v.1.1.1.1.0)) } ∷ []
+
+-- an aggregator's number, its parent, and the name that it submits under
+abbrev pub aggregator_line : Version → Kind (ℕ × Parent)
+aggregator_line version = record { name = codes "aggregator"; forms = bare_parents ++ in_two version named_parents }
+
+abbrev pub bare_requests : List (Form Event)
+bare_requests = record { sorts = aggregator ∷ second ∷ digest ∷ []; makes = λ v. events.Request v.0 v.1.0 v.1.1.0 None } ∷ []
+
+abbrev pub named_requests : List (Form Event)
+named_requests = record { sorts = aggregator ∷ second ∷ digest ∷ a_name ∷ []; makes = λ v. events.Request v.0 v.1.0 v.1.1.0 (Some v.1.1.1.0) } ∷ []
+
+-- an imprint that is asked to be signed, and the name under which
+abbrev pub request_line : Version → Kind Event
+request_line version = record { name = codes "request"; forms = bare_requests ++ in_two version named_requests }
 
 abbrev pub close_line : Kind Event
 close_line = record { name = codes "close"; forms = record { sorts = aggregator ∷ second ∷ []; makes = λ v. events.Close v.0 v.1.0 } ∷ [] }
@@ -50,8 +73,8 @@ restart_line = record {
   forms = record { sorts = core_actor ∷ []; makes = λ v. events.RestartCore v.0 } ∷ record { sorts = aggregator_actor ∷ []; makes = λ v. events.RestartAggregator v.0 } ∷ [];
 }
 
-abbrev pub event_kinds : List (Kind Event)
-event_kinds = request_line ∷ close_line ∷ seal_line ∷ ballot_line ∷ deliver_line ∷ tell_line ∷ respond_line ∷ publish_line ∷ restart_line ∷ []
+abbrev pub event_kinds : Version → List (Kind Event)
+event_kinds version = request_line version ∷ close_line ∷ seal_line ∷ ballot_line ∷ deliver_line ∷ tell_line ∷ respond_line ∷ publish_line ∷ restart_line ∷ []
 
 -- ---- in the code
 

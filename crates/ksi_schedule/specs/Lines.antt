@@ -11,6 +11,7 @@ use Rattle.ksi_schedule.specs.Members.{members_name, members_at, next_members}
 use Rattle.ksi_schedule.specs.declared.version.Version.{Version}
 use Rattle.ksi_schedule.specs.declared.version.Version.TheVariants.{One, Two}
 use Rattle.ksi_schedule.specs.declared.actor.Actor.{Actor}
+use Rattle.ksi_schedule.specs.declared.parent.Parent.{Parent}
 use Rattle.ksi_schedule.specs.declared.actor.Actor.TheVariants as actors
 use Rattle.ksi_schedule.specs.declared.fault.LineFault.{LineFault}
 use Rattle.ksi_schedule.specs.declared.fault.LineFault.TheVariants.{Word, TooManyEvents, Header}
@@ -48,7 +49,7 @@ bare n start = record { plan = record { cores = n; start = start; voters = []; p
 
 -- ---- the lines behind them
 
-abbrev pub with_parent : PlanState → Actor → PlanState
+abbrev pub with_parent : PlanState → Parent → PlanState
 with_parent plan parent = record { cores = plan.cores; start = plan.start; voters = plan.voters; parents = plan.parents ++ parent ∷ [] }
 
 -- whether a core is reached from the actor in so many steps up, or fewer
@@ -58,9 +59,9 @@ reaches_core plan zero (actors.Aggregator k) = false
 reaches_core plan (suc steps) (actors.Aggregator k) = reaches_core plan steps (parent_of plan k)
 
 -- one aggregator more: the next number, at most 4,096 of them, and at most eight above one another
-unfoldable pub next_parent : History → ℕ × Actor → Result History LineFault
+unfoldable pub next_parent : History → ℕ × Parent → Result History LineFault
 next_parent h said =
-    if said.0 == length h.plan.parents && nat_lt (length h.plan.parents) 4096 && reaches_core h.plan 7 said.1
+    if said.0 == length h.plan.parents && nat_lt (length h.plan.parents) 4096 && reaches_core h.plan 7 said.1.actor
     then Ok (record { plan = with_parent h.plan said.1; events = h.events }) else Err Header
 
 abbrev pub is_empty : {A : Type 0} → List A → Bool
@@ -78,11 +79,11 @@ unfoldable pub next_in : Version → History → List Text → Result History Li
 next_in version h [] = Err Word
 next_in version h (name ∷ words) =
     if nat_le 1000000 (length h.events) then Err TooManyEvents else (
-    if bytes_eq name aggregator_line.name && is_empty h.events
-    then (form_at h.plan aggregator_line.forms words >>= next_parent h) else (
+    if bytes_eq name (aggregator_line version).name && is_empty h.events
+    then (form_at h.plan (aggregator_line version).forms words >>= next_parent h) else (
     if bytes_eq name members_name && takes_members version h
     then (members_at h.plan words >>= next_members h)
-    else (kind_at h.plan event_kinds name words >>= λ event. Ok (with_event h event))))
+    else (kind_at h.plan (event_kinds version) name words >>= λ event. Ok (with_event h event))))
 
 -- ---- any line
 

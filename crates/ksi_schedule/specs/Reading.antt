@@ -79,3 +79,11 @@ HasTwo ws None = ¬ (length ws ≡ 2)
 abbrev pub HasThree : List Text → Option (Bor Text × Bor Text × Bor Text) → Type 0
 HasThree ws (Some x) = ws ≡ x.0.now ∷ x.1.now ∷ x.2.now ∷ []
 HasThree ws None = ¬ (length ws ≡ 3)
+
+abbrev pub HasFour : List Text → Option (Bor Text × Bor Text × Bor Text × Bor Text) → Type 0
+HasFour ws (Some x) = ws ≡ x.0.now ∷ x.1.now ∷ x.2.now ∷ x.3.now ∷ []
+HasFour ws None = ¬ (length ws ≡ 4)
+
+abbrev pub HasFive : List Text → Option (Bor Text × Bor Text × Bor Text × Bor Text × Bor Text) → Type 0
+HasFive ws (Some x) = ws ≡ x.0.now ∷ x.1.now ∷ x.2.now ∷ x.3.now ∷ x.4.now ∷ []
+HasFive ws None = ¬ (length ws ≡ 5)

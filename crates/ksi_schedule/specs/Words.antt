@@ -3,11 +3,12 @@ use Rattle.std.specs.Prelude.{ℕ, ◌+◌, ◌^◌, List, [], ◌∷◌, length
 use Rattle.std.specs.Str.{bytes_eq}
 use Rattle.ksi_imprint.specs.Reading.{hex_at}
 use Rattle.ksi_imprint.specs.declared.fault.HexFault.{HexFault}
+use Rattle.ksi_aggtree.specs.Names.{most_letters, are_name_bytes}
 use Rattle.ksi_schedule.specs.Pieces.{Text}
 use Rattle.ksi_schedule.specs.Decimal.{number_of}
 use Rattle.ksi_schedule.specs.Plans.{PlanState}
 use Rattle.ksi_schedule.specs.declared.fault.LineFault.{LineFault}
-use Rattle.ksi_schedule.specs.declared.fault.LineFault.TheVariants.{Word, Number, Hash, NoSuchActor, SecondOutOfRange}
+use Rattle.ksi_schedule.specs.declared.fault.LineFault.TheVariants.{Word, Number, Hash, NoSuchActor, SecondOutOfRange, Name}
 
 infixl 10 ◌>>=◌
 abbrev pub ◌>>=◌ : {A B : Type 0} → Result A LineFault → (A → Result B LineFault) → Result B LineFault
@@ -41,6 +42,15 @@ or_hash (Err fault) = Err Hash
 abbrev pub digest_at : Text → Result (List ℕ) LineFault
 digest_at word = or_hash (hex_at word)
 
+-- ---- names
+
+-- whether it has 1 to 64 bytes, each of them one of a name
+abbrev pub is_name : Text → Bool
+is_name word = nat_le 1 (length word) && nat_le (length word) most_letters && are_name_bytes word
+
+abbrev pub name_at : Text → Result (List ℕ) LineFault
+name_at word = if is_name word then Ok word else Err Name
+
 -- ---- sorts
 
 pub data Sort : Type 0 where
@@ -50,6 +60,7 @@ pub data Sort : Type 0 where
   aggregator : Sort
   second : Sort
   digest : Sort
+  a_name : Sort
   -- `c` and a core's number
   core_actor : Sort
   -- `a` and an aggregator's number
@@ -59,6 +70,7 @@ pub data Sort : Type 0 where
 abbrev pub Value : Sort → Type 0
 Value (the_word text) = Unit {0}
 Value digest = List ℕ
+Value a_name = List ℕ
 Value _ = ℕ
 
 abbrev pub begins_with : ℕ → Text → Bool
@@ -84,6 +96,7 @@ value_at plan core word = core_at plan word
 value_at plan aggregator word = aggregator_at plan word
 value_at plan second word = time_word plan word
 value_at plan digest word = digest_at word
+value_at plan a_name word = name_at word
 value_at plan core_actor word = core_at plan (behind_letter word)
 value_at plan aggregator_actor word = aggregator_at plan (behind_letter word)
 

@@ -1,5 +1,5 @@
 // Cutting a text into lines, and a line into words.
-ghost use Rattle.ksi_schedule.specs.Reading.{IsCut, HasLine, HasOne, HasTwo, HasThree, words_left};
+ghost use Rattle.ksi_schedule.specs.Reading.{IsCut, HasLine, HasOne, HasTwo, HasThree, HasFour, HasFive, words_left};
 
 use memchr::memchr;
 
@@ -66,4 +66,26 @@ pub(crate) fn three(words: Words<'_>) -> Option<(&[u8], &[u8], &[u8])>
         return None
     };
     Some((first, second, third))
+}
+
+pub(crate) fn four(words: Words<'_>) -> Option<(&[u8], &[u8], &[u8], &[u8])>
+    ensures { HasFour (words_left words.entry) result }
+{
+    let Some(words) = words else { return None };
+    let (first, others) = cut(SPACE, words);
+    let Some((second, third, fourth)) = three(others) else {
+        return None
+    };
+    Some((first, second, third, fourth))
+}
+
+pub(crate) fn five(words: Words<'_>) -> Option<(&[u8], &[u8], &[u8], &[u8], &[u8])>
+    ensures { HasFive (words_left words.entry) result }
+{
+    let Some(words) = words else { return None };
+    let (first, others) = cut(SPACE, words);
+    let Some((second, third, fourth, fifth)) = four(others) else {
+        return None
+    };
+    Some((first, second, third, fourth, fifth))
 }

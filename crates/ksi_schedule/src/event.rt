@@ -1,11 +1,12 @@
+use ksi_aggtree::Name;
 use ksi_imprint::Imprint;
 
 /// What may happen: one actor takes one request, one command, one delivered message or one restart. Actors are given by
 /// their numbers.
 #[derive(Clone, Copy, PartialEq, Eq, Debug)]
 pub enum Event {
-    /// The aggregator is asked to sign an imprint in a second.
-    Request(u32, u64, Imprint),
+    /// The aggregator is asked to sign an imprint in a second, under a name or none.
+    Request(u32, u64, Imprint, Option<Name>),
     /// The aggregator closes its round of a second.
     Close(u32, u64),
     /// The core seals a second.

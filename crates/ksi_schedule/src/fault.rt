@@ -15,6 +15,8 @@ pub enum LineFault {
     TooManyEvents,
     /// A line of the header is not there or not as it must be.
     Header,
+    /// The word of a name is none.
+    Name,
 }
 
 /// Why a text is no schedule.

@@ -1,12 +1,14 @@
 // Plans while their lines are read.
-ghost use Rattle.std.specs.Prelude.{◌≡◌, ◌<◌, true, length, OnOk, OnErr};
+ghost use Rattle.std.specs.Prelude.{◌≡◌, ◌<◌, true, length, IfSome, OnOk, OnErr};
 ghost use Rattle.std.specs.Prelude.{[]};
 ghost use Rattle.ksi_synod.specs.CorePlans.{has_room, AreVoters};
 ghost use Rattle.ksi_schedule.specs.Plans.{IsPlan, IsParent, InRange, core_plan_of, parent_of};
 ghost use Rattle.ksi_schedule.specs.Members.{with_members};
 ghost use Rattle.ksi_schedule.specs.Lines.{reaches_core, with_parent};
+ghost use Rattle.ksi_aggtree.specs.Names.{IsName};
 
 use crate::actor::Actor;
+use crate::parent::Parent;
 use crate::plan::Plan;
 use ksi_imprint::NoMemory;
 use ksi_synod::Voters;
@@ -26,16 +28,17 @@ fn parent_of(plan: &Plan, aggregator: u32) -> Actor
     ensures { result ≡ parent_of plan.now aggregator }
 {
     match plan.parents.as_slice().get(aggregator as usize) {
-        Some(parent) => *parent,
+        Some(parent) => parent.actor,
         None => Actor::Core(0),
     }
 }
 
 // One aggregator more.
-pub(crate) fn push_parent(plan: &mut Plan, parent: Actor) -> Result<(), NoMemory>
+pub(crate) fn push_parent(plan: &mut Plan, parent: Parent) -> Result<(), NoMemory>
     requires room { length plan.old.parents < 4096 }
-    requires there { IsParent plan.old.cores (length plan.old.parents) parent }
-    requires low { reaches_core plan.old 7 parent ≡ true }
+    requires there { IsParent plan.old.cores (length plan.old.parents) parent.actor }
+    requires named { IfSome parent.name IsName }
+    requires low { reaches_core plan.old 7 parent.actor ≡ true }
     ensures ok { OnOk result (plan.new ≡ with_parent plan.old parent) }
     ensures err { OnErr result (plan.new ≡ plan.old) }
 {

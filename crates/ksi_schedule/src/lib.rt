@@ -1,4 +1,5 @@
-//! Schedules: a plan of cores, their voters and aggregators, and the events that are to happen, as values and as texts.
+//! Schedules: a plan of cores, their voters and aggregators, and the events that are to happen, as values and as texts. An
+//! aggregator may submit, and a request may be made, under a name.
 //!
 //! A contract sees a [`Schedule`] as its plan and its list of events, and its type keeps the limits: at most a million
 //! events, each with an actor and a second of the plan. The layers above may rely on this: [`read_schedule`] gives exactly
@@ -25,6 +26,7 @@ mod fault;
 mod growing;
 mod laws;
 mod members;
+mod parent;
 mod plan;
 mod printing;
 mod reading;
@@ -37,8 +39,10 @@ pub use actor::Actor;
 pub use decimal::read_number;
 pub use event::Event;
 pub use fault::{LineFault, ScheduleFault};
+pub use ksi_aggtree::Name;
 pub use ksi_imprint::{NoMemory, Refused};
 pub use laws::{schedule_is_read, schedule_or_fault, spelled_is_schedule};
+pub use parent::Parent;
 pub use plan::{Parents, Plan};
 pub use printing::print;
 pub use reading::read_schedule;

@@ -1,53 +1,54 @@
 ghost use Rattle.std.specs.Prelude.{◌≡◌, ◌≤◌, ◌<◌, ◌++◌, ◌∷◌, [], length, IfOk, OnOk, OnErr};
-ghost use Rattle.ksi_schedule.specs.Plans.{IsPlan, core_plan_of, parent_of};
+ghost use Rattle.ksi_schedule.specs.Plans.{IsPlan, core_plan_of, parent_of, name_of};
 
 use crate::actor::Actor;
+use crate::parent::Parent;
+use ksi_aggtree::Name;
 use ksi_imprint::NoMemory;
 use ksi_synod::CorePlan;
 use std::alloc::Global;
 use std::marker::Model;
 
-/// The parent of each aggregator, that of aggregator 0 first. A contract sees the list.
+/// The parent of each aggregator and the name that it submits under, that of aggregator 0 first. A contract sees the list.
 #[derive(Drop)]
 pub struct Parents {
-    parents: Vec<Actor>,
+    parents: Vec<Parent>,
 }
 
 impl Model for Parents {
     ghost use Rattle.std.specs.Prelude.{List};
-    ghost use Rattle.ksi_schedule.specs.declared.actor.Actor as actor;
+    ghost use Rattle.ksi_schedule.specs.declared.parent.Parent as parent;
 
-    ghost Value = { List actor.Actor };
+    ghost Value = { List parent.Parent };
 
     ghost view = { λ parents. parents.parents.items };
 }
 
 impl Parents {
     /// These parents, which are not copied.
-    pub fn from_vec(parents: Vec<Actor>) -> Self
+    pub fn from_vec(parents: Vec<Parent>) -> Self
         ensures { result ≡ parents.items }
     {
         Parents { parents }
     }
 
     /// The parents in order.
-    pub fn as_slice(&self) -> &[Actor]
+    pub fn as_slice(&self) -> &[Parent]
         ensures { result.now ≡ self.now }
     {
         self.parents.as_slice()
     }
 
     /// One parent more.
-    pub(crate) fn push(&mut self, parent: Actor) -> Result<(), NoMemory>
+    pub(crate) fn push(&mut self, parent: Parent) -> Result<(), NoMemory>
         ensures ok { OnOk result (self.new ≡ self.old ++ parent ∷ []) }
         ensures err { OnErr result (self.new ≡ self.old) }
     {
-        self.parents.push(parent)?;
-        Ok(())
+        self.parents.extend_from_slice(&[parent])
     }
 
     /// The parents in a `Vec`, which are not copied.
-    pub fn into_vec(self) -> Vec<Actor>
+    pub fn into_vec(self) -> Vec<Parent>
         ensures { result.items ≡ self }
     {
         let Parents { parents } = self;
@@ -55,7 +56,8 @@ impl Parents {
     }
 }
 
-/// How many cores there are, the first second and who votes on which second, and whom each aggregator submits to.
+/// How many cores there are, the first second and who votes on which second, and whom each aggregator submits to, under
+/// which name.
 ///
 /// There are at most 4,096 aggregators. The parent of an aggregator is a core of the plan or an aggregator with a smaller
 /// number, and at most eight aggregators stand above one another.
@@ -114,7 +116,15 @@ impl Plan {
         requires { aggregator < length self.now.parents }
         ensures { result ≡ parent_of self.now aggregator }
     {
-        self.parents.as_slice()[aggregator as usize]
+        self.parents.as_slice()[aggregator as usize].actor
+    }
+
+    /// The name that an aggregator of the plan submits under.
+    pub fn name(&self, aggregator: u32) -> Option<Name>
+        requires { aggregator < length self.now.parents }
+        ensures { result ≡ name_of self.now aggregator }
+    {
+        self.parents.as_slice()[aggregator as usize].name
     }
 
     /// A copy.

@@ -1,8 +1,8 @@
 // The text of a schedule.
-ghost use Rattle.std.specs.Prelude.{◌≡◌, ◌<◌, ◌^◌, ◌++◌, ◌∷◌, [], OnOk, IfOk, map};
-ghost use Rattle.std.specs.List.{AllByRecursion};
+ghost use Rattle.std.specs.Prelude.{◌≡◌, ◌<◌, ◌^◌, ◌++◌, ◌∷◌, [], OnOk, IfOk, map, codes};
+ghost use Rattle.std.specs.List.{AllByRecursion, list_any};
 ghost use Rattle.ksi_schedule.specs.Spelled.{IsScheduleText};
-ghost use Rattle.ksi_schedule.specs.Printed.{IsTyped, piece_text, line_of, core_word, header_words, members_words, version_word, event_words, parent_words, spaced, text_of_lines, schedule_text};
+ghost use Rattle.ksi_schedule.specs.Printed.{IsTyped, piece_text, line_of, core_word, actor_word, under_words, header_words, members_words, is_named_parent, is_named_request, version_of, version_word, event_words, parent_words, spaced, text_of_lines, schedule_text};
 ghost use Rattle.ksi_synod.specs.CorePlans.{AreVoters};
 ghost use Rattle.std.specs.Fmt.{decimal};
 ghost use Rattle.ksi_schedule.specs.declared.printing.Piece.TheVariants as pieces;
@@ -10,9 +10,12 @@ ghost use Rattle.ksi_schedule.specs.declared.event.Event.TheVariants as events;
 
 use crate::actor::Actor;
 use crate::event::Event;
+use crate::parent::Parent;
 use crate::plan::Plan;
 use crate::schedule::Schedule;
+use crate::version::Version;
 use itoa::Buffer;
+use ksi_aggtree::Name;
 use ksi_imprint::{Bytes, Imprint, NoMemory};
 use ksi_synod::{CorePlan, Voters, VotersFrom, voters_are_cores};
 use std::alloc::Global;
@@ -34,21 +37,17 @@ pub fn print(alloc: Global, schedule: &Schedule) -> Result<Bytes, NoMemory>
     ensures read_again { IfOk result (λ text. IsScheduleText text schedule.now) }
 {
     let mut text = Vec::new(alloc);
-    put_header(&mut text, schedule.plan())?;
+    put_header(&mut text, version_of(schedule), schedule.plan())?;
     put_voters(&mut text, schedule.plan().core_plan())?;
     put_parents(&mut text, schedule.plan().parents.as_slice())?;
     put_events(&mut text, schedule.events())?;
     Ok(Bytes::from_vec(text))
 }
 
-fn put_header(text: &mut Vec<u8>, plan: &Plan) -> Result<(), NoMemory>
-    ensures { OnOk result (text.new.items ≡ text.old.items ++ text_of_lines (header_words plan.now)) }
+fn put_header(text: &mut Vec<u8>, version: Version, plan: &Plan) -> Result<(), NoMemory>
+    ensures { OnOk result (text.new.items ≡ text.old.items ++ text_of_lines (header_words version plan.now)) }
 {
-    put_word(
-        text,
-        b"ksi-schedule",
-        version_word(plan.core_plan().voters()),
-    )?;
+    put_word(text, b"ksi-schedule", version_word(version))?;
     put_count(text, b"cores", u64::from(plan.cores()))?;
     put_count(text, b"start", plan.start())?;
     Ok(())
@@ -66,11 +65,51 @@ fn put_count(text: &mut Vec<u8>, name: &[u8], count: u64) -> Result<(), NoMemory
     put_line(text, &[Piece::Text(name), number(count)])
 }
 
-// Version 2 where a line says who votes.
-fn version_word(voters: &[VotersFrom]) -> &'static [u8]
-    ensures { result.now ≡ version_word voters.now }
+// Version 2 where a line says who votes, or a name.
+fn version_of(schedule: &Schedule) -> Version
+    ensures { result ≡ version_of schedule.now }
 {
-    if voters.is_empty() { b"1" } else { b"2" }
+    let plan = schedule.plan();
+    if !plan.core_plan().voters().is_empty()
+        || have_named(plan.parents.as_slice())
+        || ask_named(schedule.events())
+    {
+        Version::Two
+    } else {
+        Version::One
+    }
+}
+
+// Whether an aggregator submits under a name.
+fn have_named(parents: &[Parent]) -> bool
+    ensures { result ≡ list_any is_named_parent parents.now }
+{
+    parents.iter().any(|parent| parent.name.is_some())
+}
+
+// Whether a request is made under a name.
+fn ask_named(events: &[Event]) -> bool
+    ensures { result ≡ list_any is_named_request events.now }
+{
+    events.iter().any(is_named_request)
+}
+
+fn is_named_request(event: &Event) -> bool
+    ensures { result ≡ is_named_request event.now }
+{
+    match event {
+        Event::Request(_, _, _, name) => name.is_some(),
+        _ => false,
+    }
+}
+
+fn version_word(version: Version) -> &'static [u8]
+    ensures { result.now ≡ version_word version }
+{
+    match version {
+        Version::One => b"1",
+        Version::Two => b"2",
+    }
 }
 
 fn put_voters(text: &mut Vec<u8>, plan: &CorePlan) -> Result<(), NoMemory>
@@ -110,21 +149,40 @@ fn put_cores(text: &mut Vec<u8>, cores: u8, voters: &Voters) -> Result<(), NoMem
     Ok(())
 }
 
-fn put_parents(text: &mut Vec<u8>, parents: &[Actor]) -> Result<(), NoMemory>
+fn put_parents(text: &mut Vec<u8>, parents: &[Parent]) -> Result<(), NoMemory>
     ensures { OnOk result (text.new.items ≡ text.old.items ++ text_of_lines (parent_words 0 parents.now)) }
 {
     for (k, parent) in parents.iter().enumerate() {
-        put_line(
+        put_parent(text, k as u64, parent)?;
+    }
+    Ok(())
+}
+
+fn put_parent(text: &mut Vec<u8>, aggregator: u64, parent: &Parent) -> Result<(), NoMemory>
+    ensures { OnOk result (text.new.items ≡ text.old.items ++ (line_of (codes "aggregator" ∷ decimal aggregator ∷ codes "parent" ∷ actor_word parent.now.actor ∷ under_words parent.now.name) ++ 10 ∷ [])) }
+{
+    match &parent.name {
+        None => put_line(
             text,
             &[
                 Piece::Text(b"aggregator"),
-                number(k as u64),
+                number(aggregator),
                 Piece::Text(b"parent"),
-                Piece::Named(*parent),
+                Piece::Named(parent.actor),
             ],
-        )?;
+        ),
+        Some(name) => put_line(
+            text,
+            &[
+                Piece::Text(b"aggregator"),
+                number(aggregator),
+                Piece::Text(b"parent"),
+                Piece::Named(parent.actor),
+                Piece::Text(b"name"),
+                Piece::Text(name.as_bytes()),
+            ],
+        ),
     }
-    Ok(())
 }
 
 fn put_events(text: &mut Vec<u8>, events: &[Event]) -> Result<(), NoMemory>
@@ -142,7 +200,7 @@ fn put_event(text: &mut Vec<u8>, event: &Event) -> Result<(), NoMemory>
     ensures typed { OnOk result (IsTyped event.now) }
 {
     match event {
-        Event::Request(k, t, imprint) => put_request(text, *k, *t, imprint),
+        Event::Request(k, t, imprint, name) => put_request(text, *k, *t, imprint, name),
         Event::Close(k, t) => put_of_second(text, b"close", u64::from(*k), *t),
         Event::Seal(j, t) => put_of_second(text, b"seal", u64::from(*j), *t),
         Event::Ballot(j, t) => put_of_second(text, b"ballot", u64::from(*j), *t),
@@ -166,19 +224,50 @@ fn put_request(
     aggregator: u32,
     second: u64,
     imprint: &Imprint,
+    name: &Option<Name>,
 ) -> Result<(), NoMemory>
-    ensures text { OnOk result (text.new.items ≡ text.old.items ++ (line_of (event_words (events.Request aggregator second imprint.now)) ++ 10 ∷ [])) }
-    ensures typed { OnOk result (IsTyped (events.Request aggregator second imprint.now)) }
+    ensures text { OnOk result (text.new.items ≡ text.old.items ++ (line_of (event_words (events.Request aggregator second imprint.now name.now)) ++ 10 ∷ [])) }
+    ensures typed { OnOk result (IsTyped (events.Request aggregator second imprint.now name.now)) }
 {
     let mut digits = [0; 64];
     imprint.write_hex(&mut digits);
+    match name {
+        None => put_line(
+            text,
+            &[
+                Piece::Text(b"request"),
+                number(u64::from(aggregator)),
+                number(second),
+                Piece::Text(&digits),
+            ],
+        ),
+        Some(name) => put_named(
+            text,
+            u64::from(aggregator),
+            second,
+            &digits,
+            name.as_bytes(),
+        ),
+    }
+}
+
+fn put_named<'a>(
+    text: &mut Vec<u8>,
+    aggregator: u64,
+    second: u64,
+    digits: &'a [u8],
+    name: &'a [u8],
+) -> Result<(), NoMemory>
+    ensures { OnOk result (text.new.items ≡ text.old.items ++ (line_of (codes "request" ∷ decimal aggregator ∷ decimal second ∷ digits.now ∷ name.now ∷ []) ++ 10 ∷ [])) }
+{
     put_line(
         text,
         &[
             Piece::Text(b"request"),
-            number(u64::from(aggregator)),
+            number(aggregator),
             number(second),
-            Piece::Text(&digits),
+            Piece::Text(digits),
+            Piece::Text(name),
         ],
     )
 }

@@ -2,6 +2,7 @@
 ghost use Rattle.std.specs.Prelude.{◌≡◌, ◌≤◌, ◌-◌, ◌^◌, ◌∷◌, [], ℕ, length, Err, IsOk, IfSome};
 ghost use Rattle.ksi_imprint.specs.declared.refused.Refused.TheVariants as refused;
 ghost use Rattle.ksi_schedule.specs.Pieces.{lines, words};
+ghost use Rattle.ksi_aggtree.specs.Names.{IsName};
 ghost use Rattle.ksi_schedule.specs.Plans.{IsParent};
 ghost use Rattle.ksi_schedule.specs.Events.{History};
 ghost use Rattle.ksi_schedule.specs.Members.{AreSaid, taken_members, next_rising};
@@ -11,12 +12,12 @@ ghost use Rattle.ksi_schedule.specs.Reading.{Goes, Reads, on_line, read_from, sc
 ghost use Rattle.ksi_schedule.specs.declared.fault.LineFault.{LineFault as TheLineFault};
 ghost use Rattle.ksi_schedule.specs.declared.fault.ScheduleFault.TheVariants.{Line};
 
-use crate::actor::Actor;
 use crate::cut::{Words, cut, next_line, one};
 use crate::decimal::read_number;
 use crate::fault::{LineFault, ScheduleFault};
 use crate::growing::reaches_core;
 use crate::members::members;
+use crate::parent::Parent;
 use crate::plan::{Parents, Plan};
 use crate::rows::{event, is, parent};
 use crate::schedule::{Events, Schedule};
@@ -179,7 +180,7 @@ fn take_line(
         return Err(Refused::Fault(LineFault::TooManyEvents));
     }
     if is(name, b"aggregator") && schedule.events().is_empty() {
-        return match parent(schedule.plan(), words) {
+        return match parent(version, schedule.plan(), words) {
             Ok((number, parent)) => take_parent(schedule, number, parent),
             Err(fault) => Err(Refused::Fault(fault)),
         };
@@ -187,7 +188,7 @@ fn take_line(
     if is(name, b"members") && takes_members(version, schedule) {
         return take_members(schedule, words);
     }
-    match event(schedule.plan(), name, words) {
+    match event(version, schedule.plan(), name, words) {
         Ok(event) => match schedule.push_event(event) {
             Ok(()) => Ok(()),
             Err(_) => Err(Refused::NoMemory),
@@ -249,15 +250,19 @@ fn take_rising(
 fn take_parent(
     schedule: &mut Schedule,
     number: u64,
-    parent: Actor,
+    parent: Parent,
 ) -> Result<(), Refused<LineFault>>
     requires none { schedule.old.events ≡ [] }
-    requires there { IsParent schedule.old.plan.cores (length schedule.old.plan.parents) parent }
+    requires there { IsParent schedule.old.plan.cores (length schedule.old.plan.parents) parent.actor }
+    requires named { IfSome parent.name IsName }
     ensures read { Goes (next_parent schedule.old (number, parent)) schedule.new result }
     ensures memory { result ≡ Err refused.NoMemory → IsOk (next_parent schedule.old (number, parent)) }
 {
     let count = schedule.plan().aggregators();
-    if number != count as u64 || count >= AGGREGATORS || !reaches_core(schedule.plan(), 7, parent) {
+    if number != count as u64
+        || count >= AGGREGATORS
+        || !reaches_core(schedule.plan(), 7, parent.actor)
+    {
         return Err(Refused::Fault(LineFault::Header));
     }
     match schedule.push_parent(parent) {

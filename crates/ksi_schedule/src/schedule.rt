@@ -1,14 +1,15 @@
-ghost use Rattle.std.specs.Prelude.{◌≡◌, ◌<◌, ◌≤◌, ◌++◌, ◌∷◌, [], true, length, OnOk, OnErr};
+ghost use Rattle.std.specs.Prelude.{◌≡◌, ◌<◌, ◌≤◌, ◌++◌, ◌∷◌, [], true, length, IfSome, OnOk, OnErr};
 ghost use Rattle.ksi_synod.specs.CorePlans.{has_room, AreVoters};
 ghost use Rattle.ksi_schedule.specs.Plans.{IsParent, InRange, core_plan_of};
 ghost use Rattle.ksi_schedule.specs.Members.{with_members};
 ghost use Rattle.ksi_schedule.specs.Events.{IsEvent, AreEvents, with_event};
 ghost use Rattle.ksi_schedule.specs.Schedules.{IsSchedule};
 ghost use Rattle.ksi_schedule.specs.Lines.{reaches_core, with_parent};
+ghost use Rattle.ksi_aggtree.specs.Names.{IsName};
 
-use crate::actor::Actor;
 use crate::event::Event;
 use crate::growing::{add_voters, push_parent};
+use crate::parent::Parent;
 use crate::plan::Plan;
 use ksi_imprint::NoMemory;
 use ksi_synod::Voters;
@@ -56,8 +57,7 @@ impl Events {
         ensures ok { OnOk result (self.new ≡ self.old ++ event ∷ []) }
         ensures err { OnErr result (self.new ≡ self.old) }
     {
-        self.events.push(event)?;
-        Ok(())
+        self.events.extend_from_slice(&[event])
     }
 }
 
@@ -130,11 +130,12 @@ impl Schedule {
     }
 
     /// One aggregator more.
-    pub(crate) fn push_parent(&mut self, parent: Actor) -> Result<(), NoMemory>
+    pub(crate) fn push_parent(&mut self, parent: Parent) -> Result<(), NoMemory>
         requires none { self.old.events ≡ [] }
         requires room { length self.old.plan.parents < 4096 }
-        requires there { IsParent self.old.plan.cores (length self.old.plan.parents) parent }
-        requires low { reaches_core self.old.plan 7 parent ≡ true }
+        requires there { IsParent self.old.plan.cores (length self.old.plan.parents) parent.actor }
+        requires named { IfSome parent.name IsName }
+        requires low { reaches_core self.old.plan 7 parent.actor ≡ true }
         ensures ok { OnOk result (self.new ≡ record { plan = with_parent self.old.plan parent; events = self.old.events }) }
         ensures err { OnErr result (self.new ≡ self.old) }
     {

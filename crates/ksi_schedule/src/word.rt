@@ -1,11 +1,13 @@
 // What a word of a line stands for.
 ghost use Rattle.std.specs.Prelude.{◌≡◌, ◌<◌, IfOk, length};
+ghost use Rattle.ksi_aggtree.specs.Names.{IsName};
 ghost use Rattle.ksi_schedule.specs.Plans.{InRange};
-ghost use Rattle.ksi_schedule.specs.Words.{number_at, core_at, aggregator_at, time_word, digest_at};
+ghost use Rattle.ksi_schedule.specs.Words.{number_at, core_at, aggregator_at, time_word, digest_at, name_at};
 
 use crate::decimal::read_number;
 use crate::fault::LineFault;
 use crate::plan::Plan;
+use ksi_aggtree::Name;
 use ksi_imprint::Imprint;
 
 // How many seconds a schedule may name.
@@ -66,5 +68,15 @@ pub(crate) fn digest(word: &[u8]) -> Result<Imprint, LineFault>
     match Imprint::from_hex(text) {
         Ok(imprint) => Ok(imprint),
         Err(_) => Err(LineFault::Hash),
+    }
+}
+
+pub(crate) fn name(word: &[u8]) -> Result<Name, LineFault>
+    ensures value { result ≡ name_at word.now }
+    ensures there { IfOk result IsName }
+{
+    match Name::read(word) {
+        Some(name) => Ok(name),
+        None => Err(LineFault::Name),
     }
 }

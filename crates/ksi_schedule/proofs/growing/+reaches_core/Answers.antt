@@ -1,4 +1,4 @@
-use Rattle.std.proofs.Common.{◌≡◌, ap, ◌∙◌, ℕ, ltb}
+use Rattle.std.proofs.Common.{ap, ◌∙◌, ℕ, ltb}
 use Rattle.ksi_schedule.proofs.Next.{at_core, one_up, no_step}
 use Rattle.ksi_schedule.proofs.growing.+reaches_core.Goals as goal
 

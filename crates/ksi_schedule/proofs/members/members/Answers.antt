@@ -1,6 +1,5 @@
 use Rattle.std.proofs.Common.{ap, sym, ◌∙◌, refl}
 use Rattle.ksi_schedule.specs.Reading.{words_left}
-use Rattle.ksi_schedule.specs.Members.{rising_at}
 use Rattle.ksi_schedule.proofs.Rising.{no_members, no_cores, members_read, said_hold}
 use Rattle.ksi_schedule.proofs.members.members.Goals as goal
 

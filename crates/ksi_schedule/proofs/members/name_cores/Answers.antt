@@ -1,4 +1,4 @@
-use Rattle.std.proofs.Common.{◌≡◌, ◌∙◌, sym, ap, Option, List, ℕ}
+use Rattle.std.proofs.Common.{◌∙◌, sym, ap, Option, List, ℕ}
 use Rattle.std.specs.List.{list_all}
 use Rattle.std.specs.Borrow.{Bor}
 use Rattle.ksi_schedule.specs.Words.{core_actor, looks_like}

@@ -1,6 +1,4 @@
-use Rattle.std.proofs.Common.{◌≡◌, [], sym, subst, ap}
-use Rattle.ksi_synod.specs.declared.core_plan.VotersFrom.{VotersFrom}
-use Rattle.ksi_schedule.specs.Plans.{PlanState, IsPlan}
+use Rattle.std.proofs.Common.{◌≡◌, [], sym, subst}
 use Rattle.ksi_schedule.specs.Events.{History}
 use Rattle.ksi_schedule.proofs.Next.{no_events}
 use Rattle.ksi_schedule.proofs.schedule.Schedule.add_voters.Goals as goal
