@@ -40,9 +40,9 @@ request_may true full r entry answer e = inl refl
 request_may false true r entry answer e = inl refl
 request_may false false r entry answer e = inr (added_items r.closed r.open_items entry e)
 
-pub after_request : (number : ℕ) (imprint : List ℕ) (r : RoundState) → MayAdd (request_entry number imprint) r (round_request number imprint r).after
+pub after_request : (number : ℕ) (imprint : List ℕ) (name : Option (List ℕ)) (r : RoundState) → MayAdd (request_entry number imprint name) r (round_request number imprint name r).after
 unfolding round_request
-after_request number imprint r = request_may (is_some r.closed) (is_full r.open_items) r (request_entry number imprint) (answers.Number number) refl
+after_request number imprint name r = request_may (is_some r.closed) (is_full r.open_items) r (request_entry number imprint name) (answers.Number number) refl
 
 submission_may : (closed known full : Bool) (r : RoundState) (entry : Entry) → is_some r.closed ≡ closed
     → MayAdd entry r (if closed then round_still r answers.Late else if known then round_still r answers.Known else if full then round_still r answers.Full else round_added r entry answers.Done).after
@@ -114,14 +114,14 @@ number_of (origins.Request n) other = n
 number_of (origins.Aggregator a) other = other
 
 -- a request that may be added is found at its place
-pub found_request : (number : ℕ) (imprint : List ℕ) (old new : ℕ → RoundState) (second : ℕ) (places : ℕ → Option Place) → AreFound old places
-    → ChangesOnly old new second (round_request number imprint (old second)).after
+pub found_request : (number : ℕ) (imprint : List ℕ) (name : Option (List ℕ)) (old new : ℕ → RoundState) (second : ℕ) (places : ℕ → Option Place) → AreFound old places
+    → ChangesOnly old new second (round_request number imprint name (old second)).after
     → places number ≡ Some (record { second = second; place = length (items_in (old second)) }) → AreFound new places
-found_request number imprint old new second places found changes is =
-    elim (after_request number imprint (old second)) [
-      | inl same ↦ found_kept old new second (round_request number imprint (old second)).after places found changes same
-      | inr more ↦ found_turn old new second (round_request number imprint (old second)).after places found changes (λ k n item at.
-          elim (read_more (items_in (old second)) (request_entry number imprint) k (from_request n item) (subst (λ (items : List Entry). slice_get items k ≡ Some (from_request n item)) more at)) [
+found_request number imprint name old new second places found changes is =
+    elim (after_request number imprint name (old second)) [
+      | inl same ↦ found_kept old new second (round_request number imprint name (old second)).after places found changes same
+      | inr more ↦ found_turn old new second (round_request number imprint name (old second)).after places found changes (λ k n item at.
+          elim (read_more (items_in (old second)) (request_entry number imprint name) k (from_request n item) (subst (λ (items : List Entry). slice_get items k ≡ Some (from_request n item)) more at)) [
             | inl before ↦ found second k n item before
             | inr here ↦
                 let e : number ≡ n = ap (λ (o : Option Entry). entry_number o) here.1 in

@@ -1,6 +1,6 @@
 -- The items of a round: reading one of them, and what they are below a response.
-use Rattle.std.proofs.Common.{◌≡◌, ℕ, zero, suc, ◌+◌, ◌++◌, List, [], ◌∷◌, length, drop, Bool, true, false, ◌||◌, Option, Some, None, refl, ap, sym, subst, append_assoc, ◌∙◌, arith, ◌⊎◌, inl, inr}
-use Rattle.std.specs.Prelude.{slice_get, max}
+use Rattle.std.proofs.Common.{◌≡◌, ℕ, zero, suc, ◌+◌, ◌≤◌, ◌++◌, List, [], ◌∷◌, length, drop, Bool, true, false, ◌||◌, Option, Some, None, refl, ap, sym, subst, append_assoc, ◌∙◌, arith, ◌⊎◌, inl, inr}
+use Rattle.std.specs.Prelude.{slice_get, max, IfSome}
 use Rattle.std.specs.List.{AllByRecursion}
 use Rattle.std.proofs.lemmas.Option.{none-some}
 use Rattle.std.proofs.lemmas.Bool.{false≢true}
@@ -9,11 +9,12 @@ use Rattle.ksi_aggchain.specs.declared.node.Node.{Node}
 use Rattle.ksi_aggtree.specs.declared.item.Item.{Item}
 use Rattle.ksi_aggchain.specs.declared.link.Link.{Link}
 use Rattle.ksi_aggtree.specs.declared.entries.Entry.{Entry}
-use Rattle.ksi_aggtree.specs.Rounds.{item_at}
-use Rattle.ksi_aggtree.specs.Paths.{links_from, chain_of}
+use Rattle.ksi_aggtree.specs.Names.{IsName, meta_of}
+use Rattle.ksi_aggtree.specs.Rounds.{item_at, leaf_of_place, tree_path}
+use Rattle.ksi_aggtree.specs.Paths.{name_links, links_from, chain_of}
 use Rattle.ksi_signature.specs.Issued.{own_chain}
 use Rattle.ksi_aggtree.specs.Entries.{items_of}
-use Rattle.ksi_signature.specs.Above.{IsNode}
+use Rattle.ksi_signature.specs.Above.{IsNode, AreRoundLinks}
 use Rattle.ksi_signature.specs.declared.above.Above.{Above}
 use Rattle.ksi_aggregator.specs.declared.step.Send.{Send}
 use Rattle.ksi_aggregator.specs.Responses.{is_lower, has_lower, told_to, chain_at, below, responses_from}
@@ -56,10 +57,26 @@ lower_read (x ∷ xs) (suc k) entry e lower = later (is_lower x.origin) (lower_r
     later true h = refl
     later false h = h
 
--- the links of a round stand beside imprints
-pub nodes_from : (level : ℕ) (others : List (TreeLink Node)) → AllByRecursion (λ (link : Link). IsNode link.sibling) (links_from level others)
+-- above an item's leaf the links stand beside imprints
+nodes_from : (level : ℕ) (others : List (TreeLink Node)) → AllByRecursion (λ (link : Link). IsNode link.sibling) (links_from level others)
 nodes_from level [] = tt
 nodes_from level (s ∷ others) = (tt, nodes_from (max level s.sibling.level + 1) others)
+
+-- the metadata of each name is some bytes, but few
+abbrev pub AreShort : Type 0
+AreShort = (name : List ℕ) → IsName name → (1 ≤ length (meta_of name)) × (length (meta_of name) ≤ 70)
+
+links_with : AreShort → (name : Option (List ℕ)) (level : ℕ) (others : List (TreeLink Node)) → IfSome name IsName → length (name_links name ++ links_from level others) ≤ 17 → AreRoundLinks (name_links name ++ links_from level others)
+links_with short None level [] is few = record { count = few; lowest = tt; others = tt }
+links_with short None level (s ∷ others) is few = record { count = few; lowest = (inl tt, tt); others = nodes_from (max level s.sibling.level + 1) others }
+links_with short (Some name) level others is few = record { count = few; lowest = (inr (record { side = refl; correction = refl; sibling = short name is }), tt); others = nodes_from level others }
+
+-- the chain of an item is links of a round
+pub round_links : AreShort → (image : List ℕ → List ℕ) (items : List Item) (k : ℕ) (links : List Link)
+    → links ≡ chain_of image items k → IfSome (item_at items k).name IsName → length links ≤ 17 → AreRoundLinks links
+round_links short image items k links is named few =
+    subst AreRoundLinks (sym is)
+    (links_with short (item_at items k).name (leaf_of_place image items k).level (tree_path image items k) named (subst (λ (links : List Link). length links ≤ 17) is few))
 
 -- an item among those there are and one more is one of these, or the one more
 pub read_more : (xs : List Entry) (x : Entry) (k : ℕ) (y : Entry) → slice_get (xs ++ x ∷ []) k ≡ Some y → (slice_get xs k ≡ Some y) ⊎ ((k ≡ length xs) × (Some x ≡ Some y))

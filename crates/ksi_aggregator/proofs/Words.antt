@@ -45,9 +45,9 @@ late_request_at true full r number entry = (λ e. refl, λ h. refl)
 late_request_at false true r number entry = (λ e. absurd (omega (arith, ap mark e)), λ h. absurd (false≢true h))
 late_request_at false false r number entry = (λ e. absurd (omega (arith, ap mark e)), λ h. absurd (false≢true h))
 
-pub late_request : (number : ℕ) (imprint : List ℕ) (r : RoundState) → ((round_request number imprint r).answer ≡ answers.Late) ↔ IsSome r.closed
+pub late_request : (number : ℕ) (imprint : List ℕ) (name : Option (List ℕ)) (r : RoundState) → ((round_request number imprint name r).answer ≡ answers.Late) ↔ IsSome r.closed
 unfolding round_request
-late_request number imprint r = late_request_at (is_some r.closed) (is_full r.open_items) r number (request_entry number imprint)
+late_request number imprint name r = late_request_at (is_some r.closed) (is_full r.open_items) r number (request_entry number imprint name)
 
 none_where : (o : Option (List Entry)) → is_some o ≡ false → o ≡ None
 none_where None e = refl
@@ -62,9 +62,9 @@ full_request_at true full r number entry c f = (λ e. absurd (omega (arith, ap m
 full_request_at false true r number entry c f = (λ e. record { open_yet = none_where r.closed c; count = eqb-true _ _ f }, λ w. refl)
 full_request_at false false r number entry c f = (λ e. absurd (omega (arith, ap mark e)), λ w. absurd (false≢true (sym f ∙ eq-eqb _ _ w.count)))
 
-pub full_request : (number : ℕ) (imprint : List ℕ) (r : RoundState) → ((round_request number imprint r).answer ≡ answers.Full) ↔ IsFull r
+pub full_request : (number : ℕ) (imprint : List ℕ) (name : Option (List ℕ)) (r : RoundState) → ((round_request number imprint name r).answer ≡ answers.Full) ↔ IsFull r
 unfolding round_request
-full_request number imprint r = full_request_at (is_some r.closed) (is_full r.open_items) r number (request_entry number imprint) refl refl
+full_request number imprint name r = full_request_at (is_some r.closed) (is_full r.open_items) r number (request_entry number imprint name) refl refl
 
 -- SUBMISSION
 

@@ -40,17 +40,17 @@ round_added r entry answer = record {
   sends = [];
 }
 
--- REQUEST of an imprint, of this number: it is an item of level 0
+-- REQUEST of an imprint, of this number and with a name where it has one: it is an item of level 0
 
-abbrev pub request_entry : ℕ → List ℕ → Entry
-request_entry number imprint = record { origin = origins.Request number; item = record { imprint = imprint; level = 0 } }
+abbrev pub request_entry : ℕ → List ℕ → Option (List ℕ) → Entry
+request_entry number imprint name = record { origin = origins.Request number; item = record { imprint = imprint; level = 0; name = name } }
 
 -- Late where the round is closed; Full at 65,536 items; else the number
-unfoldable pub round_request : (number : ℕ) → List ℕ → RoundState → RoundTurn
-round_request number imprint r =
+unfoldable pub round_request : (number : ℕ) → List ℕ → Option (List ℕ) → RoundState → RoundTurn
+round_request number imprint name r =
     if is_some r.closed then round_still r answers.Late
     else if is_full r.open_items then round_still r answers.Full
-    else round_added r (request_entry number imprint) (answers.Number number)
+    else round_added r (request_entry number imprint name) (answers.Number number)
 
 -- SUBMISSION of an item by a lower aggregator
 

@@ -1,5 +1,5 @@
 ghost use Rattle.std.specs.Prelude.{◌≡◌, ◌≤◌, ◌<◌, ◌^◌, ◌↔◌, ◌⊎◌, ℕ, length, IsSome, IsTrue, IfOk, IfSome, IfNone, OnErr};
-ghost use Rattle.ksi_aggtree.specs.Rounds.{highest_item};
+ghost use Rattle.ksi_aggtree.specs.Rounds.{leaf_level, highest_item};
 ghost use Rattle.ksi_aggregator.specs.Rows.{fresh_round, round_request, round_submission, round_close, round_response, round_restarted};
 ghost use Rattle.ksi_aggregator.specs.Rounds.{rounds_of, IsNew, HasPlace, SameRounds, IsTurn};
 ghost use Rattle.ksi_aggregator.specs.Refusals.{IsFull, IsKnown, IsFullFor, AwaitsResponse};
@@ -8,7 +8,7 @@ ghost use Rattle.ksi_aggregator.specs.Issuing.{IsIssued, NotIssued};
 use crate::place::Place;
 use crate::rounds::Rounds;
 use crate::step::Step;
-use ksi_aggtree::Item;
+use ksi_aggtree::{Item, Name};
 use ksi_imprint::{Bytes, Compress, Imprint, NoMemory};
 use ksi_signature::{Above, Answer};
 use std::alloc::Global;
@@ -66,35 +66,41 @@ impl<C: Compress> Aggregator<C> {
         }
     }
 
-    /// Takes the request of a number for a second: an item of level 0 of the round. The number is new to its rounds, and
-    /// the second is before 2^63. The answer is that number, `Late` where the round is closed, else `Full` where it has
-    /// 65,536 items.
+    /// Takes the request of a number for a second: an item of level 0 of the round, with the request's name where it has
+    /// one. The number is new to its rounds, and the second is before 2^63. The answer is that number, `Late` where the
+    /// round is closed, else `Full` where it has 65,536 items.
     ///
     /// # Errors
     /// `NoMemory`: all is as it was.
-    pub fn request(&mut self, number: u64, second: u64, imprint: Imprint) -> Result<Step, NoMemory>
+    pub fn request(
+        &mut self,
+        number: u64,
+        second: u64,
+        imprint: Imprint,
+        name: Option<Name>,
+    ) -> Result<Step, NoMemory>
         requires new { IsNew number (rounds_of self.old) }
         requires early { second < 2 ^ 63 }
         ensures me { self.new.me ≡ self.old.me }
-        ensures step { IfOk result (IsTurn (rounds_of self.old) (rounds_of self.new) second (round_request number imprint (rounds_of self.old second))) }
+        ensures step { IfOk result (IsTurn (rounds_of self.old) (rounds_of self.new) second (round_request number imprint name (rounds_of self.old second))) }
         ensures late { IfOk result (λ step. (step.answer ≡ Answer.Late) ↔ IsSome (rounds_of self.old second).closed) }
         ensures full { IfOk result (λ step. (step.answer ≡ Answer.Full) ↔ IsFull (rounds_of self.old second)) }
         ensures unchanged { OnErr result (SameRounds (rounds_of self.old) (rounds_of self.new)) }
     {
         let place = self.rounds.count(second);
         self.requests.insert(number, Place { second, place })?;
-        self.rounds.request(number, second, imprint)
+        self.rounds.request(number, second, imprint, name)
     }
 
-    /// Takes an item of a level to 239 that an aggregator submits for a second before 2^63. The answer is `Done`, `Late`
-    /// where the round is closed, else `Known` where an item of that aggregator is there, else `Full` where it has 65,536
-    /// items.
+    /// Takes an item of a level to 239, with a name to 238, that an aggregator submits for a second before 2^63. The
+    /// answer is `Done`, `Late` where the round is closed, else `Known` where an item of that aggregator is there, else
+    /// `Full` where it has 65,536 items.
     ///
     /// # Errors
     /// `NoMemory`: all is as it was.
     pub fn submission(&mut self, aggregator: u32, second: u64, item: Item) -> Result<Step, NoMemory>
         requires early { second < 2 ^ 63 }
-        requires level { item.level ≤ highest_item }
+        requires level { leaf_level item ≤ highest_item }
         ensures me { self.new.me ≡ self.old.me }
         ensures step { IfOk result (IsTurn (rounds_of self.old) (rounds_of self.new) second (round_submission aggregator item (rounds_of self.old second))) }
         ensures late { IfOk result (λ step. (step.answer ≡ Answer.Late) ↔ IsSome (rounds_of self.old second).closed) }

@@ -8,7 +8,7 @@
 //!
 //! ```text
 //! let mut aggregator = Aggregator::<Sha>::new(alloc, 0);
-//! aggregator.request(0, second, imprint)?;
+//! aggregator.request(0, second, imprint, None)?;
 //! let closed = aggregator.close(second)?; // sends the submission to the parent
 //! aggregator.response(second, &above)?;
 //! let bytes = aggregator.issued(0)?;

@@ -5,6 +5,7 @@ ghost use Rattle.ksi_aggregator.specs.Responses.{is_lower, has_lower, told_to, b
 
 use crate::copies::copy_with;
 use crate::step::Send;
+use ksi_aggtree::laws::metas_are_even;
 use ksi_aggtree::{Entries, Entry, Origin, RoundPaths};
 use ksi_imprint::{Compress, NoMemory};
 use ksi_signature::{Above, AboveChain, AboveLinks, Sends};
@@ -87,6 +88,7 @@ fn chain_at<C: Compress>(
     requires entry { slice_get entries.now k ≡ Some entry.now }
     ensures { IfOk result (λ chain. chain ≡ chain_at C.image (items_of entries.now) k) }
 {
+    metas_are_even();
     let links = paths.path(k)?;
     Ok(AboveChain {
         input: entry.item.imprint,

@@ -1,7 +1,7 @@
 //! The round of one second.
 ghost use Rattle.std.specs.Prelude.{◌≡◌, ◌≤◌, ◌<◌, ◌^◌, ◌↔◌, length, slice_get, is_some, Some, IsTrue, IfOk, IfSome, IfNone, OnErr};
 ghost use Rattle.ksi_aggtree.specs.declared.item.Item.{Item};
-ghost use Rattle.ksi_aggtree.specs.Rounds.{highest_item};
+ghost use Rattle.ksi_aggtree.specs.Rounds.{leaf_level, highest_item};
 ghost use Rattle.ksi_aggregator.specs.Rows.{fresh_round, round_request, round_submission, round_close, round_response};
 ghost use Rattle.ksi_aggregator.specs.Rounds.{items_in, StandsAt, HasPlace};
 ghost use Rattle.ksi_aggregator.specs.Issuing.{IsIssuedAt, NotIssuedAt, from_request, issued_text};
@@ -9,7 +9,8 @@ ghost use Rattle.ksi_aggregator.specs.Issuing.{IsIssuedAt, NotIssuedAt, from_req
 use crate::copies::copy_above;
 use crate::responses::responses;
 use crate::step::{Send, Step};
-use ksi_aggtree::{AddRefusal, Entries, Entry, Item, Origin};
+use ksi_aggtree::laws::metas_are_even;
+use ksi_aggtree::{AddRefusal, Entries, Entry, Item, Name, Origin};
 use ksi_imprint::{Bytes, Compress, Imprint, NoMemory, Refused};
 use ksi_signature::{Above, Answer, Sends, issue};
 use std::alloc::Global;
@@ -76,10 +77,11 @@ impl<C: Compress> Round<C> {
         alloc: Global,
         number: u64,
         imprint: Imprint,
+        name: Option<Name>,
     ) -> Result<Step, NoMemory>
-        ensures after { IfOk result (λ step. self.new ≡ (round_request number imprint self.old).after) }
-        ensures answer { IfOk result (λ step. step.answer ≡ (round_request number imprint self.old).answer) }
-        ensures sends { IfOk result (λ step. step.sends ≡ (round_request number imprint self.old).sends) }
+        ensures after { IfOk result (λ step. self.new ≡ (round_request number imprint name self.old).after) }
+        ensures answer { IfOk result (λ step. step.answer ≡ (round_request number imprint name self.old).answer) }
+        ensures sends { IfOk result (λ step. step.sends ≡ (round_request number imprint name self.old).sends) }
         ensures unchanged { OnErr result (self.new ≡ self.old) }
     {
         if self.is_closed {
@@ -87,7 +89,7 @@ impl<C: Compress> Round<C> {
         }
         let entry = Entry {
             origin: Origin::Request(number),
-            item: Item { imprint, level: 0 },
+            item: Item::new(imprint, 0).with_name(name),
         };
         match self.entries.add(entry) {
             Ok(_) => Ok(Step::without_sends(alloc, Answer::Number(number))),
@@ -104,7 +106,7 @@ impl<C: Compress> Round<C> {
         from: u32,
         item: Item,
     ) -> Result<Step, NoMemory>
-        requires { item.level ≤ highest_item }
+        requires { leaf_level item ≤ highest_item }
         ensures after { IfOk result (λ step. self.new ≡ (round_submission from item self.old).after) }
         ensures answer { IfOk result (λ step. step.answer ≡ (round_submission from item self.old).answer) }
         ensures sends { IfOk result (λ step. step.sends ≡ (round_submission from item self.old).sends) }
@@ -219,6 +221,7 @@ fn issued_by<C: Compress>(
     if !is_request(&entry.origin, number) {
         return Ok(None);
     }
+    metas_are_even();
     let links = entries.path(place)?;
     let bytes = issue(alloc, second, &entry.item.imprint, links.as_slice(), above)?;
     Ok(Some(bytes))

@@ -2,14 +2,14 @@
 ghost use Rattle.std.specs.Prelude.{◌≡◌, ◌≤◌, ◌<◌, ◌^◌, ℕ, length, Some, IsTrue, ◌↔◌, IfOk, IfSome, IfNone, OnOk, OnErr};
 ghost use Rattle.std.specs.Ordering.{nat_cmp};
 ghost use Rattle.std.specs.BTreeMap.{get};
-ghost use Rattle.ksi_aggtree.specs.Rounds.{highest_item};
+ghost use Rattle.ksi_aggtree.specs.Rounds.{leaf_level, highest_item};
 ghost use Rattle.ksi_aggregator.specs.Rows.{fresh_round, round_request, round_submission, round_close, round_response, round_restarted};
 ghost use Rattle.ksi_aggregator.specs.Rounds.{round_at, items_in, HasPlace, SameRounds, IsTurn, StandsAt};
 ghost use Rattle.ksi_aggregator.specs.Issuing.{IsIssuedAt, NotIssuedAt};
 
 use crate::round::Round;
 use crate::step::Step;
-use ksi_aggtree::Item;
+use ksi_aggtree::{Item, Name};
 use ksi_imprint::{Bytes, Compress, Imprint, NoMemory};
 use ksi_signature::{Above, Answer};
 use std::alloc::Global;
@@ -68,13 +68,14 @@ impl<C: Compress> Rounds<C> {
         number: u64,
         second: u64,
         imprint: Imprint,
+        name: Option<Name>,
     ) -> Result<Step, NoMemory>
-        ensures step { IfOk result (IsTurn (round_at self.old) (round_at self.new) second (round_request number imprint (round_at self.old second))) }
+        ensures step { IfOk result (IsTurn (round_at self.old) (round_at self.new) second (round_request number imprint name (round_at self.old second))) }
         ensures unchanged { OnErr result (SameRounds (round_at self.old) (round_at self.new)) }
     {
         make_room(self.alloc, &mut self.map, second)?;
         match self.map.get_mut(&second) {
-            Some(round) => round.request(self.alloc, number, imprint),
+            Some(round) => round.request(self.alloc, number, imprint, name),
             None => unreachable!(),
         }
     }
@@ -86,7 +87,7 @@ impl<C: Compress> Rounds<C> {
         second: u64,
         item: Item,
     ) -> Result<Step, NoMemory>
-        requires { item.level ≤ highest_item }
+        requires { leaf_level item ≤ highest_item }
         ensures step { IfOk result (IsTurn (round_at self.old) (round_at self.new) second (round_submission aggregator item (round_at self.old second))) }
         ensures unchanged { OnErr result (SameRounds (round_at self.old) (round_at self.new)) }
     {

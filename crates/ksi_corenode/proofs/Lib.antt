@@ -6,3 +6,4 @@ pub mod Sealing
 pub mod Settling
 pub mod Words
 pub mod Storing
+pub mod Following

@@ -6,3 +6,5 @@ pub mod Turns
 pub mod Facts
 pub mod Rows
 pub mod CoreState
+pub mod Events
+pub mod Next

@@ -22,6 +22,7 @@
 //! ```
 #![tactic(auto)]
 
+mod event;
 mod fact;
 mod growing;
 mod held;
@@ -39,6 +40,7 @@ mod step;
 mod volatile;
 mod volatile_parts;
 
+pub use event::CoreEvent;
 pub use fact::{Fact, SealedItems, What};
 pub use ksi_imprint::NoMemory;
 pub use ksi_signature::Answer;

@@ -1,7 +1,7 @@
 ghost use Rattle.std.specs.Prelude.{◌≡◌, ℕ, ◌<◌, ◌≤◌, ◌↔◌, [], length, vec_capacity, IfOk, OnOk, OnErr, IfSome, IsTrue, IsSome, IsNone, Some, false, option_map};
 ghost use Rattle.std.specs.Option.{option_copied};
 ghost use Rattle.ksi_corenode.specs.SecondState.{fresh_second};
-ghost use Rattle.ksi_aggtree.specs.Rounds.{IsRound, most_items, highest_item};
+ghost use Rattle.ksi_aggtree.specs.Rounds.{IsRound, most_items, leaf_level, highest_item};
 ghost use Rattle.ksi_aggtree.specs.Entries.{items_of, has_from, candidate_of};
 ghost use Rattle.ksi_signature.specs.declared.answer.Answer.TheVariants.{Late, Known, Full, Unsealed, Sealed, Undecided, Nothing, Last};
 ghost use Rattle.ksi_synod.specs.Ballots.{last_round};
@@ -118,7 +118,7 @@ impl<C: Compress> Core<C> {
         &self.calendar
     }
 
-    /// Takes an item of an aggregator for a second; its level is at most 239.
+    /// Takes an item of an aggregator for a second; its level is at most 239, with a name at most 238.
     ///
     /// The answer is Late where the second is sealed, Known where an open item of that aggregator is there, Full where
     /// there are 65,536 of them, else Done.
@@ -127,7 +127,7 @@ impl<C: Compress> Core<C> {
     /// `NoMemory`: all is as it was.
     #[tactic(auto, unfolding(crate::specs::Rows::submission_row))]
     pub fn submission(&mut self, aggregator: u32, second: u64, item: Item) -> Result<Step, NoMemory>
-        requires level { item.level ≤ highest_item }
+        requires level { leaf_level item ≤ highest_item }
         ensures turn { IfOk result (λ step.
             IsTurn self.old self.new second (submission_row aggregator item (state_of self.old second)) step) }
         ensures late { IfOk result (λ step. (step.answer ≡ Late) ↔ IsSome (state_of self.old second).sealed) }

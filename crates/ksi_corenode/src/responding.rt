@@ -2,7 +2,7 @@
 ghost use Rattle.std.specs.Prelude.{◌≡◌, ◌↔◌, ℕ, ◌<◌, ◌≤◌, ◌+◌, ◌^◌, ◌++◌, ◌∷◌, [], length, IfOk, IfSome, OnOk, IsSome, IsNone, Some, None, slice_get};
 ghost use Rattle.ksi_aggtree.specs.declared.entries.Entry.{Entry};
 ghost use Rattle.ksi_aggtree.specs.Entries.{items_of};
-ghost use Rattle.ksi_aggtree.specs.Rounds.{IsRound, most_items, highest_item};
+ghost use Rattle.ksi_aggtree.specs.Rounds.{IsRound, most_items, leaf_level, highest_item};
 ghost use Rattle.ksi_aggtree.specs.Paths.{chain_of};
 ghost use Rattle.ksi_calendar.specs.Calendar.{Seconds, calendar_path};
 ghost use Rattle.ksi_signature.specs.declared.answer.Answer.TheVariants.{Unsealed, Undecided, NotMine};
@@ -13,6 +13,7 @@ ghost use Rattle.ksi_corenode.specs.CoreState.{state_of, held_by, IsTurn};
 
 use crate::node::Core;
 use crate::step::{Send, Step};
+use ksi_aggtree::laws::metas_are_even;
 use ksi_aggtree::{AddRefusal, Builder, Entry, Item, Origin, RoundPaths};
 use ksi_calendar::laws::{one_covered, one_first_missing};
 use ksi_calendar::{Calendar, SecondPath};
@@ -154,7 +155,7 @@ fn entry_at(entries: &[Entry], k: usize) -> Entry
 
 /// Adds an item, where the round is not full.
 fn add<C: Compress>(round: &mut Builder<C>, item: &Item) -> Result<(), NoMemory>
-    requires level { item.now.level ≤ highest_item }
+    requires level { leaf_level item.now ≤ highest_item }
     requires few { length round.old < most_items }
     ensures { OnOk result (round.new ≡ round.old ++ item.now ∷ []) }
 {
@@ -247,6 +248,7 @@ fn round_links<C: Compress>(paths: &RoundPaths<'_, C>, k: usize) -> Result<Above
     requires { k < length paths.now }
     ensures { IfOk result (λ links. links ≡ chain_of C.image paths.now k) }
 {
+    metas_are_even();
     let links = paths.path(k)?;
     Ok(AboveLinks::from_vec(links.into_vec()))
 }

@@ -4,13 +4,14 @@ ghost use Rattle.std.specs.Option.{option_copied};
 ghost use Rattle.std.specs.Ordering.{nat_cmp};
 ghost use Rattle.std.specs.BTreeMap.{is_at};
 ghost use Rattle.std.specs.Map.{lookup};
-ghost use Rattle.ksi_aggtree.specs.Rounds.{IsRound, highest_item};
+ghost use Rattle.ksi_aggtree.specs.Rounds.{IsRound, leaf_level, highest_item};
 ghost use Rattle.ksi_aggtree.specs.Entries.{items_of, candidate_of};
 ghost use Rattle.ksi_corenode.specs.SecondState.{fresh_second};
 ghost use Rattle.ksi_corenode.specs.Rows.{taken, submission_row, seal_row, sealed_now, restart_row};
 ghost use Rattle.ksi_corenode.specs.Stored.{items_from, has_place, volatile_at, part_of};
 ghost use Rattle.ksi_corenode.specs.Settled.{IsSettled};
 ghost use Rattle.ksi_corenode.specs.Kept.{Keeps};
+ghost use Rattle.ksi_corenode.specs.Next.{IsNext, held_or_sealed};
 ghost use Rattle.ksi_corenode.specs.CoreState.{state_of, stable_at, held_by, IsSame, IsChange};
 
 use crate::fact::{SealedItems, What};
@@ -104,6 +105,14 @@ impl<C: Compress> Seconds<C> {
         self.stable_parts.settled(steps)
     }
 
+    /// The first second from this one on that something is held or sealed for.
+    pub fn next_from(&self, from: u64) -> Option<u64>
+        ensures next { IfSome result (IsNext (λ t. held_or_sealed (state_of self.now t)) from) }
+        ensures none { IsNone result → (t : ℕ) → from ≤ t → held_or_sealed (state_of self.now t) ≡ false }
+    {
+        self.stable_parts.next_from(from)
+    }
+
     /// What is held for a second.
     #[tactic(auto, unfolding(crate::specs::CoreState::state_of, crate::specs::Stored::second_of))]
     pub fn held(&self, second: u64) -> Option<Imprint>
@@ -151,7 +160,7 @@ impl<C: Compress> Seconds<C> {
         aggregator: u32,
         item: &Item,
     ) -> Result<Answer, NoMemory>
-        requires { item.now.level ≤ highest_item }
+        requires { leaf_level item.now ≤ highest_item }
         ensures change { OnOk result (IsChange self.old self.new second (submission_row aggregator item.now (state_of self.old second)).after) }
         ensures answer { IfOk result (λ answer. answer ≡ (submission_row aggregator item.now (state_of self.old second)).answer) }
         ensures unchanged { OnErr result (IsSame self.old self.new) }
@@ -211,7 +220,7 @@ impl<C: Compress> Seconds<C> {
 
     /// Takes an item of an aggregator among the open ones, where there is a place.
     fn add_item(&mut self, second: u64, aggregator: u32, item: &Item) -> Result<Answer, NoMemory>
-        requires level { item.now.level ≤ highest_item }
+        requires level { leaf_level item.now ≤ highest_item }
         requires there { IsSome (lookup (is_at (nat_cmp second)) self.old.volatile_parts) }
         ensures change { OnOk result (IsChange self.old self.new second (record (state_of self.old second) { open_items = (taken aggregator item.now (state_of self.old second).open_items).0 })) }
         ensures answer { IfOk result (λ answer. answer ≡ (taken aggregator item.now (state_of self.old second).open_items).1) }

@@ -1,8 +1,9 @@
-//! The settled seconds: those from the start on that are held, up to the first that is not.
-ghost use Rattle.std.specs.Prelude.{◌≡◌, ◌↔◌, ◌+◌, ◌≤◌, ℕ, IsNone, IsSome};
+//! Which seconds are held or sealed: those from the start on that are held, up to the first that is not, and the next one.
+ghost use Rattle.std.specs.Prelude.{◌≡◌, ◌↔◌, ◌+◌, ◌≤◌, ℕ, false, IfSome, IsNone, IsSome};
 ghost use Rattle.ksi_calendar.specs.Covered.{first_missing};
 ghost use Rattle.ksi_corenode.specs.Settled.{IsSettled};
-ghost use Rattle.ksi_corenode.specs.CoreState.{held_by};
+ghost use Rattle.ksi_corenode.specs.Next.{IsNext, held_or_sealed};
+ghost use Rattle.ksi_corenode.specs.CoreState.{state_of, held_by};
 
 use crate::node::Core;
 use crate::seconds::Seconds;
@@ -38,6 +39,14 @@ impl<C: Compress> Core<C> {
         } else {
             Some(start + settled)
         }
+    }
+
+    /// The first second from this one on that something is held or sealed for, none where there is none. It takes no memory.
+    pub fn next_second(&self, from: u64) -> Option<u64>
+        ensures next { IfSome result (IsNext (λ t. held_or_sealed (state_of self.now t)) from) }
+        ensures none { IsNone result ↔ ((t : ℕ) → from ≤ t → held_or_sealed (state_of self.now t) ≡ false) }
+    {
+        self.seconds().next_from(from)
     }
 }
 

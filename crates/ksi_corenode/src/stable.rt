@@ -1,5 +1,6 @@
 ghost use Rattle.std.specs.Prelude.{◌≡◌};
 ghost use Rattle.ksi_corenode.specs.Stored.{fresh_part};
+ghost use Rattle.ksi_corenode.specs.Next.{part_held_or_sealed};
 
 use ksi_synod::Stable;
 
@@ -21,5 +22,12 @@ impl StablePart {
             first: 0,
             count: 0,
         }
+    }
+
+    /// Whether something is held, or the second is sealed.
+    pub fn is_held_or_sealed(&self) -> bool
+        ensures { result ≡ part_held_or_sealed self.now }
+    {
+        self.vote.held().is_some() || self.vote.candidate().is_some()
     }
 }

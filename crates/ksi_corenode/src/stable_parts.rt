@@ -1,11 +1,12 @@
 //! The stable parts of all seconds. From the start on, those of the seconds that are held stand in a list, up to the first
 //! that is not held; the others stand in a map.
-ghost use Rattle.std.specs.Prelude.{◌≡◌, ◌==◌, ℕ, List, ◌+◌, ◌<◌, ◌≤◌, ◌^◌, ◌∷◌, ◌++◌, [], if◌then◌else◌, length, IsTrue, IsSome, IsNone, IfSome, OnOk, IfOk, Some, None, vec_len, vec_capacity};
+ghost use Rattle.std.specs.Prelude.{◌≡◌, ◌==◌, ℕ, List, ◌+◌, ◌<◌, ◌≤◌, ◌^◌, ◌∷◌, ◌++◌, [], if◌then◌else◌, length, false, IsTrue, IsSome, IsNone, IfSome, OnOk, IfOk, Some, None, vec_len, vec_capacity};
 ghost use Rattle.std.specs.Ordering.{nat_cmp};
 ghost use Rattle.std.specs.BTreeMap.{is_at, btree_map_len};
 ghost use Rattle.std.specs.Map.{lookup};
 ghost use Rattle.ksi_corenode.specs.Stored.{fresh_part, unsettled_at, part_at, has_place, part_of};
 ghost use Rattle.ksi_corenode.specs.Settled.{IsSettled};
+ghost use Rattle.ksi_corenode.specs.Next.{IsNext, part_held_or_sealed};
 
 use crate::stable::StablePart;
 use ksi_imprint::NoMemory;
@@ -84,6 +85,22 @@ impl StableParts {
         }
     }
 
+    /// The first second from this one on that something is held or sealed for.
+    pub fn next_from(&self, from: u64) -> Option<u64>
+        ensures next { IfSome result (IsNext (λ t. part_held_or_sealed (part_of self.now t)) from) }
+        ensures none { IsNone result → (t : ℕ) → from ≤ t → part_held_or_sealed (part_of self.now t) ≡ false }
+    {
+        let next = next_unsettled(&self.unsettled, from);
+        let first = from.max(self.start);
+        if first - self.start >= self.settled.len() as u64 {
+            return next;
+        }
+        match next {
+            Some(t) => Some(t.min(first)),
+            None => Some(first),
+        }
+    }
+
     /// Makes a place for the part of a second, and room for it among the settled ones.
     ///
     /// # Errors
@@ -115,6 +132,19 @@ impl StableParts {
         write(self.start, &mut self.settled, &mut self.unsettled, t, part);
         settle(self.start, &mut self.settled, &mut self.unsettled);
     }
+}
+
+/// The first second from this one on that something is held or sealed for, of those in the map.
+fn next_unsettled(unsettled: &BTreeMap<u64, StablePart>, from: u64) -> Option<u64>
+    ensures next { IfSome result (IsNext (λ t. part_held_or_sealed (unsettled_at unsettled.now.entries t)) from) }
+    ensures none { IsNone result → (t : ℕ) → from ≤ t → part_held_or_sealed (unsettled_at unsettled.now.entries t) ≡ false }
+{
+    'following: for (t, part) in unsettled.range(from..) {
+        if part.is_held_or_sealed() {
+            return Some(*t);
+        }
+    }
+    None
 }
 
 /// Writes the part of a second where it stands.

@@ -1,5 +1,5 @@
 ghost use Rattle.std.specs.Prelude.{◌≡◌, ◌≤◌, ◌++◌, ◌∷◌, [], IsTrue, IfOk, OnErr, unwrap_or, option_map};
-ghost use Rattle.ksi_aggtree.specs.Rounds.{IsRound, highest_item};
+ghost use Rattle.ksi_aggtree.specs.Rounds.{IsRound, leaf_level, highest_item};
 ghost use Rattle.ksi_aggtree.specs.Entries.{items_of, candidate_of};
 ghost use Rattle.ksi_corenode.specs.Rows.{taken};
 ghost use Rattle.ksi_corenode.specs.Stored.{fresh_volatile};
@@ -98,7 +98,7 @@ impl<C: Compress> VolatilePart<C> {
         aggregator: u32,
         item: &Item,
     ) -> Result<Answer, NoMemory>
-        requires { item.now.level ≤ highest_item }
+        requires { leaf_level item.now ≤ highest_item }
         ensures after { IfOk result (λ answer. self.new ≡ record self.old { open_items = (taken aggregator item.now self.old.open_items).0 }) }
         ensures answer { IfOk result (λ answer. answer ≡ (taken aggregator item.now self.old.open_items).1) }
         ensures unchanged { OnErr result (self.new ≡ self.old) }
@@ -128,7 +128,7 @@ fn take<C: Compress>(
     aggregator: u32,
     item: &Item,
 ) -> Result<Answer, NoMemory>
-    requires level { item.now.level ≤ highest_item }
+    requires level { leaf_level item.now ≤ highest_item }
     requires round { IsRound (items_of tree.old) }
     ensures taken { IfOk result (λ answer. (tree.new, answer) ≡ taken aggregator item.now tree.old) }
     ensures unchanged { OnErr result (tree.new ≡ tree.old) }

@@ -3,7 +3,7 @@ ghost use Rattle.std.specs.Prelude.{◌≡◌, ◌==◌, ℕ, ◌≤◌, ◌++�
 ghost use Rattle.std.specs.Ordering.{nat_cmp};
 ghost use Rattle.std.specs.BTreeMap.{is_at};
 ghost use Rattle.std.specs.Map.{lookup};
-ghost use Rattle.ksi_aggtree.specs.Rounds.{IsRound, highest_item};
+ghost use Rattle.ksi_aggtree.specs.Rounds.{IsRound, leaf_level, highest_item};
 ghost use Rattle.ksi_aggtree.specs.Entries.{items_of, candidate_of};
 ghost use Rattle.ksi_corenode.specs.Rows.{taken};
 ghost use Rattle.ksi_corenode.specs.Stored.{volatile_at};
@@ -54,7 +54,7 @@ pub(crate) fn submit<C: Compress>(
     aggregator: u32,
     item: &Item,
 ) -> Result<Answer, NoMemory>
-    requires level { item.now.level ≤ highest_item }
+    requires level { leaf_level item.now ≤ highest_item }
     requires there { IsSome (lookup (is_at (nat_cmp second)) volatile_parts.old.entries) }
     ensures after { IfOk result (λ answer. (t : ℕ) → volatile_at volatile_parts.new.entries t ≡
         (if t == second then record (volatile_at volatile_parts.old.entries second) { open_items = (taken aggregator item.now (volatile_at volatile_parts.old.entries second).open_items).0 } else volatile_at volatile_parts.old.entries t)) }

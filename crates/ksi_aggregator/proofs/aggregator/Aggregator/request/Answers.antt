@@ -21,14 +21,14 @@ invariant_of-self-2 g c =
     let before = get nat_cmp c.self.inside.requests in
     let places = get nat_cmp c.insert.new.self in
     let place : Place = record { second = second; place = c.count-place.result } in
-    let turn = round_request number c.args.imprint (old second) in
+    let turn = round_request number c.args.imprint c.args.name (old second) in
     let is_new : IsNew number old = subst (λ (a : AggregatorState). IsNew number (rounds_of a)) (sym c.self.view_is) c.requires.new in
     let put : places number ≡ Some place = c.in_ok-insert.ensures.updates.1 in
     let keeps : (n : ℕ) → number ≢ n → places n ≡ before n = λ n ne. c.in_ok-insert.ensures.updates.2 n (other_key number n ne) in
     let found : AreFound old places = found_new old number before places c.self.invariant.0 is_new keeps in
     let at : places number ≡ Some (record { second = second; place = length (items_in (old second)) }) = put ∙ ap (λ (k : ℕ). Some (record { second = second; place = k })) c.count-place.ensures in (
       found_step c.request.result old new second turn places found
-          (λ changes. found_request number c.args.imprint old new second places found changes at) c.request.ensures.step c.request.ensures.unchanged,
+          (λ changes. found_request number c.args.imprint c.args.name old new second places found changes at) c.request.ensures.step c.request.ensures.unchanged,
       early_new number place before places c.self.invariant.1 c.requires.early put keeps,
     )
 
@@ -36,14 +36,14 @@ pub returns-clause-late : goal.returns-clause-late
 returns-clause-late g c =
     let second = c.args.second in
     let r = round_at c.self.inside.rounds second in
-    by_row c.request.result (round_at c.self.inside.rounds) (round_at c.request.new.self) second (round_request c.args.number c.args.imprint r) r (rounds_of c.args.self.now second)
+    by_row c.request.result (round_at c.self.inside.rounds) (round_at c.request.new.self) second (round_request c.args.number c.args.imprint c.args.name r) r (rounds_of c.args.self.now second)
     (λ (r : RoundState) (answer : Answer). (answer ≡ answers.Late) ↔ IsSome r.closed)
-    (ap (λ (a : AggregatorState). rounds_of a second) c.self.view_is) c.request.ensures.step (late_request c.args.number c.args.imprint r)
+    (ap (λ (a : AggregatorState). rounds_of a second) c.self.view_is) c.request.ensures.step (late_request c.args.number c.args.imprint c.args.name r)
 
 pub returns-clause-full : goal.returns-clause-full
 returns-clause-full g c =
     let second = c.args.second in
     let r = round_at c.self.inside.rounds second in
-    by_row c.request.result (round_at c.self.inside.rounds) (round_at c.request.new.self) second (round_request c.args.number c.args.imprint r) r (rounds_of c.args.self.now second)
+    by_row c.request.result (round_at c.self.inside.rounds) (round_at c.request.new.self) second (round_request c.args.number c.args.imprint c.args.name r) r (rounds_of c.args.self.now second)
     (λ (r : RoundState) (answer : Answer). (answer ≡ answers.Full) ↔ IsFull r)
-    (ap (λ (a : AggregatorState). rounds_of a second) c.self.view_is) c.request.ensures.step (full_request c.args.number c.args.imprint r)
+    (ap (λ (a : AggregatorState). rounds_of a second) c.self.view_is) c.request.ensures.step (full_request c.args.number c.args.imprint c.args.name r)
