@@ -1,5 +1,5 @@
 -- A journal or its first fault.
-use Rattle.std.proofs.Common.{◌≡◌, ◌⊎◌, ℕ, ◌+◌, List, [], ◌∷◌, ◌++◌, length, refl, sym, ap, subst, ◌∙◌, inl, inr}
+use Rattle.std.proofs.Common.{◌≡◌, ◌⊎◌, ℕ, ◌+◌, List, [], ◌∷◌, ◌++◌, length, get_or, arith, refl, sym, ap, subst, ◌∙◌, inl, inr}
 use Rattle.std.proofs.lemmas.List.{append_cancel_left}
 use Rattle.std.proofs.lemmas.Bool.{cases_eq}
 use Rattle.ksi_tlv.specs.Walking.{Items, elements}
@@ -9,7 +9,9 @@ use Rattle.ksi_journal.specs.declared.fault.JournalFault.{JournalFault}
 use Rattle.ksi_journal.specs.declared.fault.JournalFault.TheVariants as faults
 use Rattle.ksi_journal.specs.Journal.{Contents}
 use Rattle.ksi_journal.specs.Elements.{Loaded, journal_order, nothing_yet}
-use Rattle.ksi_journal.specs.File.{magic, IsJournalFile, IsJournalFault}
+use Rattle.ksi_journal.specs.declared.version.Version.{Version}
+use Rattle.ksi_journal.specs.declared.version.Version.TheVariants.{One, Two}
+use Rattle.ksi_journal.specs.File.{magic, IsJournalFile, IsOther, IsJournalFault}
 
 -- the laws of elements in a stated order
 pub record Laws : Type 0 where
@@ -32,46 +34,77 @@ begins (x ∷ front) (y ∷ bytes) =
       | inr other ↦ inr (λ rest e. let same : x ≡ y = cc in other same)
     ]
 
-one_rest : (bytes rest other : List ℕ) → bytes ≡ magic ++ rest → bytes ≡ magic ++ other → rest ≡ other
-one_rest bytes rest other e f = append_cancel_left magic rest other (sym e ∙ f)
+-- one version stands before one rest
+one_version : (some other : Version) (rest left : List ℕ) → magic some ++ rest ≡ magic other ++ left → some ≡ other
+one_version One One rest left e = refl
+one_version One Two rest left e = absurd (let last : 49 ≡ 50 = ap (λ (bytes : List ℕ). get_or bytes 7 0) e in omega (arith, last))
+one_version Two One rest left e = absurd (let last : 50 ≡ 49 = ap (λ (bytes : List ℕ). get_or bytes 7 0) e in omega (arith, last))
+one_version Two Two rest left e = refl
+
+record IsSame (some other : Version) (rest left : List ℕ) : Type 0 where
+  version : some ≡ other
+  behind : rest ≡ left
+
+same_file : (bytes : List ℕ) (some other : Version) (rest left : List ℕ) → bytes ≡ magic some ++ rest → bytes ≡ magic other ++ left → IsSame some other rest left
+same_file bytes some other rest left e f =
+    let version = one_version some other rest left (sym e ∙ f) in
+    record {
+      version = version;
+      behind = append_cancel_left (magic other) rest left (ap (λ (v : Version). magic v ++ rest) (sym version) ∙ sym e ∙ f);
+    }
+
+no_version : (bytes : List ℕ) → ((rest : List ℕ) → bytes ≡ magic One ++ rest → ⊥) → ((rest : List ℕ) → bytes ≡ magic Two ++ rest → ⊥) → IsOther bytes
+no_version bytes one two One = one
+no_version bytes one two Two = two
 
 module _ (laws : Laws) (image : List ℕ → List ℕ) (bytes : List ℕ) where
-  abbrev order : Order Loaded JournalFault
-  order = journal_order image
+  abbrev Whole : Version → List ℕ → Loaded → Type 0
+  Whole version rest said = IsWhole (journal_order image) (elements 8 rest) (nothing_yet version) said
 
-  inside : (rest : List ℕ) → bytes ≡ magic ++ rest → ((t : Loaded) × IsWhole (journal_order image) (elements 8 rest) nothing_yet t) ⊎ ((fault : JournalFault) × IsFirstFault (journal_order image) (8 + length rest) (elements 8 rest) nothing_yet fault)
+  abbrev First : Version → List ℕ → JournalFault → Type 0
+  First version rest fault = IsFirstFault (journal_order image) (8 + length rest) (elements 8 rest) (nothing_yet version) fault
+
+  inside : (version : Version) (rest : List ℕ) → bytes ≡ magic version ++ rest → ((t : Loaded) × Whole version rest t) ⊎ ((fault : JournalFault) × First version rest fault)
       → ((journal : Contents) × IsJournalFile image bytes journal) ⊎ ((fault : JournalFault) × IsJournalFault image bytes fault)
-  inside rest e (inl whole) = inl (whole.0.contents, record { rest = rest; begins = e; said = whole.0; whole = whole.1; holds = refl })
-  inside rest e (inr first) = inr (first.0, inr (record { rest = rest; begins = e; first = first.1 }))
+  inside version rest e (inl whole) = inl (whole.0.contents, record { version = version; rest = rest; begins = e; said = whole.0; whole = whole.1; holds = refl })
+  inside version rest e (inr first) = inr (first.0, inr (record { version = version; rest = rest; begins = e; first = first.1 }))
+
+  found_in : (version : Version) (rest : List ℕ) → bytes ≡ magic version ++ rest → ((journal : Contents) × IsJournalFile image bytes journal) ⊎ ((fault : JournalFault) × IsJournalFault image bytes fault)
+  found_in version rest e = inside version rest e (laws.one (journal_order image) (8 + length rest) (elements 8 rest) (nothing_yet version))
 
   pub one_of : ((journal : Contents) × IsJournalFile image bytes journal) ⊎ ((fault : JournalFault) × IsJournalFault image bytes fault)
-  one_of = elim (begins magic bytes) [
-    | inl found ↦ inside found.0 found.1 (laws.one (journal_order image) (8 + length found.0) (elements 8 found.0) nothing_yet)
-    | inr other ↦ inr (faults.Magic, inl (record { begins = other; named = refl }))
+  one_of = elim (begins (magic One) bytes) [
+    | inl found ↦ found_in One found.0 found.1
+    | inr one ↦ elim (begins (magic Two) bytes) [
+      | inl found ↦ found_in Two found.0 found.1
+      | inr two ↦ inr (faults.Magic, inl (record { begins = no_version bytes one two; named = refl }))
+    ]
   ]
 
-  whole_at : (rest other : List ℕ) (s : Loaded) → rest ≡ other → IsWhole (journal_order image) (elements 8 rest) nothing_yet s → IsWhole (journal_order image) (elements 8 other) nothing_yet s
-  whole_at rest other s same whole = subst (λ (r : List ℕ). IsWhole (journal_order image) (elements 8 r) nothing_yet s) same whole
+  whole_at : (some other : Version) (rest left : List ℕ) (said : Loaded) → IsSame some other rest left → Whole some rest said → Whole other left said
+  whole_at some other rest left said same whole =
+      subst (λ (r : List ℕ). Whole other r said) same.behind (subst (λ (v : Version). Whole v rest said) same.version whole)
 
-  first_at : (rest other : List ℕ) (fault : JournalFault) → rest ≡ other → IsFirstFault (journal_order image) (8 + length rest) (elements 8 rest) nothing_yet fault → IsFirstFault (journal_order image) (8 + length other) (elements 8 other) nothing_yet fault
-  first_at rest other fault same first = subst (λ (r : List ℕ). IsFirstFault (journal_order image) (8 + length r) (elements 8 r) nothing_yet fault) same first
+  first_at : (some other : Version) (rest left : List ℕ) (fault : JournalFault) → IsSame some other rest left → First some rest fault → First other left fault
+  first_at some other rest left fault same first =
+      subst (λ (r : List ℕ). First other r fault) same.behind (subst (λ (v : Version). First v rest fault) same.version first)
 
   pub not_both : (journal : Contents) (fault : JournalFault) → IsJournalFile image bytes journal → IsJournalFault image bytes fault → ⊥
-  not_both journal fault file (inl other) = other.begins file.rest file.begins
+  not_both journal fault file (inl other) = other.begins file.version file.rest file.begins
   not_both journal fault file (inr first) =
-      laws.not_both (journal_order image) (8 + length file.rest) (elements 8 file.rest) nothing_yet file.said fault file.whole
-      (first_at first.rest file.rest fault (one_rest bytes first.rest file.rest first.begins file.begins) first.first)
+      laws.not_both (journal_order image) (8 + length file.rest) (elements 8 file.rest) (nothing_yet file.version) file.said fault file.whole
+      (first_at first.version file.version first.rest file.rest fault (same_file bytes first.version file.version first.rest file.rest first.begins file.begins) first.first)
 
   pub one_journal : (some other : Contents) → IsJournalFile image bytes some → IsJournalFile image bytes other → some ≡ other
   one_journal some other a b =
-      let rest = one_rest bytes b.rest a.rest b.begins a.begins in
-      let said = laws.one_state (journal_order image) (elements 8 a.rest) nothing_yet a.said b.said a.whole (whole_at b.rest a.rest b.said rest b.whole) in
+      let same = same_file bytes b.version a.version b.rest a.rest b.begins a.begins in
+      let said = laws.one_state (journal_order image) (elements 8 a.rest) (nothing_yet a.version) a.said b.said a.whole (whole_at b.version a.version b.rest a.rest b.said same b.whole) in
       a.holds ∙ ap (λ (s : Loaded). s.contents) said ∙ sym b.holds
 
   pub one_fault : (fault other : JournalFault) → IsJournalFault image bytes fault → IsJournalFault image bytes other → fault ≡ other
   one_fault fault other (inl a) (inl b) = a.named ∙ sym b.named
-  one_fault fault other (inl a) (inr b) = absurd (a.begins b.rest b.begins)
-  one_fault fault other (inr a) (inl b) = absurd (b.begins a.rest a.begins)
+  one_fault fault other (inl a) (inr b) = absurd (a.begins b.version b.rest b.begins)
+  one_fault fault other (inr a) (inl b) = absurd (b.begins a.version a.rest a.begins)
   one_fault fault other (inr a) (inr b) =
-      laws.one_fault (journal_order image) (8 + length a.rest) (elements 8 a.rest) nothing_yet fault other a.first
-      (first_at b.rest a.rest other (one_rest bytes b.rest a.rest b.begins a.begins) b.first)
+      laws.one_fault (journal_order image) (8 + length a.rest) (elements 8 a.rest) (nothing_yet a.version) fault other a.first
+      (first_at b.version a.version b.rest a.rest other (same_file bytes b.version a.version b.rest a.rest b.begins a.begins) b.first)

@@ -1,3 +1,4 @@
+pub mod Bits
 pub mod Sound
 pub mod Run
 pub mod Trees

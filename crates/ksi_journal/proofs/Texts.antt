@@ -4,8 +4,9 @@ use Rattle.ksi_tlv.specs.Spelling.{Tlv, canonical, plain}
 use Rattle.ksi_tlv.specs.Writing.{texts}
 use Rattle.ksi_tlv.specs.Numerals.{numeral}
 use Rattle.ksi_aggtree.specs.declared.second.Second.{Second}
+use Rattle.ksi_synod.specs.declared.core_plan.VotersFrom.{VotersFrom}
 use Rattle.ksi_journal.specs.Journal.{Contents}
-use Rattle.ksi_journal.specs.Written.{kept_elements, second_element, item_element, seconds_elements, issued_element, publication_element, journal_elements}
+use Rattle.ksi_journal.specs.Written.{voters_element, kept_elements, second_element, item_element, seconds_elements, issued_element, publication_element, journal_elements}
 
 pub texts-append : (xs ys : List Tlv) → texts (xs ++ ys) ≡ texts xs ++ texts ys
 texts-append [] ys = refl
@@ -22,33 +23,34 @@ seconds_told old new whole kept left others is all next =
     ∙ ap (λ (t : List ℕ). old ++ t) (sym (texts-append (kept_elements kept) (seconds_elements others))) ∙ ap (λ (ks : List Second). old ++ texts (seconds_elements ks)) (sym is) ∙ all
 
 -- the parts of a journal
-pub parts_told : (journal : Contents) (o a b c d e : List ℕ) → a ≡ o ++ canonical (plain 1 (numeral journal.start)) → b ≡ a ++ texts (seconds_elements journal.seconds)
+pub parts_told : (journal : Contents) (o a v b c d e : List ℕ) → a ≡ o ++ canonical (plain 1 (numeral journal.start)) → v ≡ a ++ texts (map voters_element journal.voters)
+    → b ≡ v ++ texts (seconds_elements journal.seconds)
     → c ≡ b ++ texts (map issued_element journal.issued) → d ≡ c ++ texts (map publication_element journal.publications) → e ≡ d ++ canonical (plain 6 [])
     → e ≡ o ++ texts (journal_elements journal)
-parts_told journal o a b c d e ea eb ec ed ee =
-    let s : List ℕ = texts (seconds_elements journal.seconds) in
-    let i : List ℕ = texts (map issued_element journal.issued) in
-    let p : List ℕ = texts (map publication_element journal.publications) in
-    let last : List ℕ = canonical (plain 6 []) in
-    let first : List ℕ = canonical (plain 1 (numeral journal.start)) in
-    let end : texts (plain 6 [] ∷ []) ≡ canonical (plain 6 []) = append-nil (canonical (plain 6 [])) in
-    let one : texts (map publication_element journal.publications ++ plain 6 [] ∷ []) ≡ texts (map publication_element journal.publications) ++ canonical (plain 6 []) =
-    texts-append (map publication_element journal.publications) (plain 6 [] ∷ []) ∙ ap (λ (t : List ℕ). texts (map publication_element journal.publications) ++ t) end in
-    let two : texts (map issued_element journal.issued ++ (map publication_element journal.publications ++ plain 6 [] ∷ [])) ≡ i ++ (p ++ last) =
-    texts-append (map issued_element journal.issued) (map publication_element journal.publications ++ plain 6 [] ∷ []) ∙ ap (λ (t : List ℕ). texts (map issued_element journal.issued) ++ t) one in
-    let three : texts (seconds_elements journal.seconds ++ (map issued_element journal.issued ++ (map publication_element journal.publications ++ plain 6 [] ∷ []))) ≡ s ++ (i ++ (p ++ last)) =
-    texts-append (seconds_elements journal.seconds) (map issued_element journal.issued ++ (map publication_element journal.publications ++ plain 6 [] ∷ [])) ∙ ap (λ (t : List ℕ). texts (seconds_elements journal.seconds) ++ t) two in
-    ee ∙ ap (λ (x : List ℕ). x ++ last) (ed ∙ ap (λ (x : List ℕ). x ++ p) (ec ∙ ap (λ (x : List ℕ). x ++ i) (eb ∙ ap (λ (x : List ℕ). x ++ s) ea)))
-    ∙ append_assoc (((o ++ first) ++ s) ++ i) p last ∙ append_assoc ((o ++ first) ++ s) i (p ++ last) ∙ append_assoc (o ++ first) s (i ++ (p ++ last))
-    ∙ ap (λ (x : List ℕ). (o ++ first) ++ x) (sym three) ∙ append_assoc o first _
+parts_told journal o a v b c d e ea ev eb ec ed ee =
+    ee ∙ last_told d ∙ before c (map publication_element journal.publications) (plain 6 [] ∷ []) d ed
+    ∙ before b (map issued_element journal.issued) (map publication_element journal.publications ++ plain 6 [] ∷ []) c ec
+    ∙ before v (seconds_elements journal.seconds) (map issued_element journal.issued ++ (map publication_element journal.publications ++ plain 6 [] ∷ [])) b eb
+    ∙ before a (map voters_element journal.voters) (seconds_elements journal.seconds ++ (map issued_element journal.issued ++ (map publication_element journal.publications ++ plain 6 [] ∷ []))) v ev
+    ∙ ap (λ (x : List ℕ). x ++ texts (map voters_element journal.voters ++ (seconds_elements journal.seconds ++ (map issued_element journal.issued ++ (map publication_element journal.publications ++ plain 6 [] ∷ []))))) ea
+    ∙ append_assoc o (canonical (plain 1 (numeral journal.start))) _
+  where
+    last_told : (d : List ℕ) → d ++ canonical (plain 6 []) ≡ d ++ texts (plain 6 [] ∷ [])
+    last_told d = ap (λ (t : List ℕ). d ++ t) (sym (append-nil (canonical (plain 6 []))))
 
-pub parts_read : (journal : Contents) (start : ℕ) (seconds : List Second) (issued publications : List (ℕ × List ℕ)) (o a b c d e : List ℕ) → start ≡ journal.start → seconds ≡ journal.seconds → issued ≡ journal.issued → publications ≡ journal.publications
-    → a ≡ o ++ canonical (plain 1 (numeral start)) → b ≡ a ++ texts (seconds_elements seconds) → c ≡ b ++ texts (map issued_element issued) → d ≡ c ++ texts (map publication_element publications) → e ≡ d ++ canonical (plain 6 [])
+    before : (x : List ℕ) (es more : List Tlv) (y : List ℕ) → y ≡ x ++ texts es → y ++ texts more ≡ x ++ texts (es ++ more)
+    before x es more y is = ap (λ (t : List ℕ). t ++ texts more) is ∙ append_assoc x (texts es) (texts more) ∙ ap (λ (t : List ℕ). x ++ t) (sym (texts-append es more))
+
+pub parts_read : (journal : Contents) (start : ℕ) (voters : List VotersFrom) (seconds : List Second) (issued publications : List (ℕ × List ℕ)) (o a v b c d e : List ℕ)
+    → start ≡ journal.start → voters ≡ journal.voters → seconds ≡ journal.seconds → issued ≡ journal.issued → publications ≡ journal.publications
+    → a ≡ o ++ canonical (plain 1 (numeral start)) → v ≡ a ++ texts (map voters_element voters) → b ≡ v ++ texts (seconds_elements seconds) → c ≡ b ++ texts (map issued_element issued)
+    → d ≡ c ++ texts (map publication_element publications) → e ≡ d ++ canonical (plain 6 [])
     → e ≡ o ++ texts (journal_elements journal)
-parts_read journal start seconds issued publications o a b c d e one two three four ea eb ec ed ee =
-    parts_told journal o a b c d e
+parts_read journal start voters seconds issued publications o a v b c d e one more two three four ea ev eb ec ed ee =
+    parts_told journal o a v b c d e
     (ea ∙ ap (λ (n : ℕ). o ++ canonical (plain 1 (numeral n))) one)
-    (eb ∙ ap (λ (x : List Second). a ++ texts (seconds_elements x)) two)
+    (ev ∙ ap (λ (x : List VotersFrom). a ++ texts (map voters_element x)) more)
+    (eb ∙ ap (λ (x : List Second). v ++ texts (seconds_elements x)) two)
     (ec ∙ ap (λ (x : List (ℕ × List ℕ)). b ++ texts (map issued_element x)) three)
     (ed ∙ ap (λ (x : List (ℕ × List ℕ)). c ++ texts (map publication_element x)) four)
     ee

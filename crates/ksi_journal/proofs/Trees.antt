@@ -5,12 +5,12 @@ use Rattle.std.specs.List.{AllByRecursion}
 use Rattle.ksi_imprint.specs.Imprints.{zero_imprint}
 use Rattle.ksi_aggtree.specs.declared.item.Item.{Item}
 use Rattle.ksi_aggtree.specs.declared.second.Second.{Second}
-use Rattle.ksi_aggtree.specs.Rounds.{highest_item, item_at, some_items, tree_of, IsRound}
+use Rattle.ksi_aggtree.specs.Rounds.{highest_item, leaf_level, item_at, some_items, tree_of, IsRound}
 use Rattle.ksi_journal.specs.Journal.{Contents, IsItem, IsRootOf, IsSecond, IsJournal, kept_among, root_kept, root_at, items_of, items_at, tree_at}
 
-low_items : (items : List Item) (k : ℕ) → AllByRecursion IsItem items → (item_at items k).level ≤ highest_item
+low_items : (items : List Item) (k : ℕ) → AllByRecursion IsItem items → leaf_level (item_at items k) ≤ highest_item
 low_items [] k all = omega arith
-low_items (item ∷ items) zero all = all.0.level
+low_items (item ∷ items) zero all = all.0.low
 low_items (item ∷ items) (suc k) all = low_items items k all.1
 
 module _ (image : List ℕ → List ℕ) where

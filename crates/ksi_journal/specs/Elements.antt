@@ -1,12 +1,13 @@
 -- The elements of a journal in their order: what each says behind those before it, or its fault.
-use Rattle.std.specs.Prelude.{◌<◌, IsOk, ℕ, ◌+◌, ◌-◌, ◌==◌, ◌&&◌, nat_le, List, [], ◌∷◌, ◌++◌, length, take, slice_index, Bool, true, false, Result, Ok, Err, if◌then◌else◌}
+use Rattle.std.specs.Prelude.{◌<◌, IsOk, ℕ, ◌+◌, ◌-◌, ◌==◌, ◌&&◌, ◌||◌, nat_le, List, [], ◌∷◌, ◌++◌, length, take, drop, slice_index, Bool, true, false, Some, None, Result, Ok, Err, if◌then◌else◌}
 use Rattle.std.specs.Str.{bytes_eq}
 use Rattle.ksi_imprint.specs.declared.fault.ImprintFault.{ImprintFault}
 use Rattle.ksi_imprint.specs.Imprints.{zero_imprint}
 use Rattle.ksi_imprint.specs.Reading as imprints
 use Rattle.ksi_tlv.specs.Walking.{PlacedTlv}
 use Rattle.ksi_aggtree.specs.declared.item.Item.{Item}
-use Rattle.ksi_aggtree.specs.Rounds.{most_items, highest_item, tree_of}
+use Rattle.ksi_aggtree.specs.Rounds.{most_items, highest_item, tree_of, with_name}
+use Rattle.ksi_aggtree.specs.Names.{most_letters, are_name_bytes}
 use Rattle.ksi_order.specs.declared.fault.OrderFault.{OrderFault}
 use Rattle.ksi_order.specs.declared.fault.OrderFault.TheVariants as orders
 use Rattle.ksi_order.specs.Order.{Order, ◌>>=◌}
@@ -14,30 +15,44 @@ use Rattle.ksi_order.specs.Fields.{inside, field, done}
 use Rattle.ksi_order.specs.Values.{number_at, time_at, imprint_at}
 use Rattle.ksi_aggtree.specs.declared.second.Second.{Second}
 use Rattle.ksi_journal.specs.declared.stage.Stage.{Stage}
-use Rattle.ksi_journal.specs.declared.stage.Stage.TheVariants.{Start, Seconds, Items, Issued, Publications, End}
+use Rattle.ksi_journal.specs.declared.stage.Stage.TheVariants.{Start, Voters, Seconds, Items, Issued, Publications, End}
+use Rattle.ksi_journal.specs.declared.version.Version.{Version}
+use Rattle.ksi_journal.specs.declared.version.Version.TheVariants.{One, Two}
 use Rattle.ksi_journal.specs.declared.fault.JournalFault.{JournalFault}
 use Rattle.ksi_journal.specs.declared.fault.JournalFault.TheVariants as faults
+use Rattle.ksi_synod.specs.declared.core_plan.VotersFrom.{VotersFrom}
 use Rattle.ksi_journal.specs.Journal.{Contents}
+use Rattle.ksi_journal.specs.Voters.{cores_in}
 
--- What the elements so far say: where in the file they end, what the journal then holds, the least second, number and
--- time that may stand next, and the second whose items come, with how many are still to come.
+-- What the elements so far say: the version that the file has, where in it they end, what the journal then holds, the
+-- least second of voters, second, number and time that may stand next, and the second whose items come, with how many are
+-- still to come.
 pub record Loaded : Type 0 where
+  pub version : Version
   pub stage : Stage
   pub contents : Contents
+  pub least_voters : ℕ
   pub least_second : ℕ
   pub least_number : ℕ
   pub least_time : ℕ
   pub current : Second
   pub left : ℕ
 
--- the kinds that may stand next: 1 start, 2 second, 3 item, 4 issued signature, 5 publication, 6 end
-abbrev pub kinds_next : Stage → List ℕ
-kinds_next Start = 1 ∷ []
-kinds_next Seconds = 2 ∷ 4 ∷ 5 ∷ 6 ∷ []
-kinds_next Items = 3 ∷ []
-kinds_next Issued = 4 ∷ 5 ∷ 6 ∷ []
-kinds_next Publications = 5 ∷ 6 ∷ []
-kinds_next End = []
+-- what stands in version 2 alone
+abbrev pub in_two : Version → ℕ → List ℕ
+in_two One kind = []
+in_two Two kind = kind ∷ []
+
+-- the kinds that may stand next: 1 start, 2 second, 3 item, 4 issued signature, 5 publication, 6 end; and in version 2
+-- 7 item with a name, 8 voters
+abbrev pub kinds_next : Version → Stage → List ℕ
+kinds_next version Start = 1 ∷ []
+kinds_next version Voters = 2 ∷ 4 ∷ 5 ∷ 6 ∷ in_two version 8
+kinds_next version Seconds = 2 ∷ 4 ∷ 5 ∷ 6 ∷ []
+kinds_next version Items = 3 ∷ in_two version 7
+kinds_next version Issued = 4 ∷ 5 ∷ 6 ∷ []
+kinds_next version Publications = 5 ∷ 6 ∷ []
+kinds_next version End = []
 
 abbrev pub is_end : Stage → Bool
 is_end End = true
@@ -65,10 +80,31 @@ abbrev pub no_second : Second
 no_second = record { second = 0; root = zero_imprint; items = [] }
 
 abbrev pub started : Loaded → ℕ → Loaded
-started s t = record s { stage = Seconds; contents = record s.contents { start = t }; least_second = t }
+started s t = record s { stage = Voters; contents = record s.contents { start = t }; least_voters = t; least_second = t }
 
 unfoldable pub start_at : Loaded → PlacedTlv → Result Loaded JournalFault
 start_at s at = or_named (time_at at) >>= λ t. Ok (started s t)
+
+-- ---- 8: voters: 1 the second from which on they vote, 2 their bits
+
+-- one or more of the cores 0 to 8
+abbrev pub voters_in : ℕ → ℕ → Result (List ℕ) JournalFault
+voters_in bits place = if nat_le 1 bits && nat_le bits 511 then Ok (cores_in bits) else Err (faults.Voters place)
+
+unfoldable pub voters_from : ℕ → PlacedTlv → Result VotersFrom JournalFault
+voters_from least at =
+    or_named (field 1 (inside at)) >>= λ one. or_named (time_at one.0) >>= λ t. or_named (rises least t one.0.place) >>= λ _.
+    or_named (field 2 one.1) >>= λ two. or_named (number_at two.0) >>= λ bits. voters_in bits two.0.place >>= λ voters.
+    or_named (done two.1) >>= λ _. Ok (record { second = t; voters = voters })
+
+abbrev pub with_voters : Loaded → VotersFrom → Loaded
+with_voters s pair = record s {
+  contents = record s.contents { voters = s.contents.voters ++ pair ∷ [] };
+  least_voters = pair.second + 1;
+}
+
+unfoldable pub voters_at : Loaded → PlacedTlv → Result Loaded JournalFault
+voters_at s at = voters_from s.least_voters at >>= λ pair. Ok (with_voters s pair)
 
 -- ---- 2: a second: 1 its time, 2 its root, 3 how many items it has
 
@@ -105,17 +141,37 @@ said_at least at =
 unfoldable pub read_second : Loaded → PlacedTlv → Result Loaded JournalFault
 read_second s at = or_named (said_at s.least_second at) >>= λ said. counted s said.0 said.1 said.2
 
--- ---- 3: an item: 34 bytes, an imprint and a level of at most 239
+-- ---- 3: an item: 34 bytes, an imprint and a level of at most 239; 7: an item with a name: 34 bytes, an imprint and a
+-- level of at most 238, and behind them the name
 
-abbrev pub item_of : ℕ → ℕ → Result (List ℕ) ImprintFault → Result Item OrderFault
-item_of place level (Ok imprint) = if nat_le level highest_item then Ok (record { imprint = imprint; level = level }) else Err (orders.Bound place)
-item_of place level (Err fault) = Err (orders.Imprint place)
+abbrev pub highest_named : ℕ
+highest_named = 238
 
-unfoldable pub item_in : PlacedTlv → Result Item OrderFault
-item_in at =
-    if length at.element.body == 34
-    then item_of at.place (slice_index at.element.body 33) (imprints.imprint_at (take 33 at.element.body))
-    else Err (orders.Imprint at.place)
+abbrev pub item_of : (place most level : ℕ) → Result (List ℕ) ImprintFault → Result Item OrderFault
+item_of place most level (Ok imprint) = if nat_le level most then Ok (record { imprint = imprint; level = level; name = None }) else Err (orders.Bound place)
+item_of place most level (Err fault) = Err (orders.Imprint place)
+
+-- the imprint and the level of the first 34 bytes
+unfoldable pub head_in : (most : ℕ) → PlacedTlv → Result Item OrderFault
+head_in most at = item_of at.place most (slice_index at.element.body 33) (imprints.imprint_at (take 33 at.element.body))
+
+unfoldable pub plain_in : PlacedTlv → Result Item OrderFault
+plain_in at = if length at.element.body == 34 then head_in highest_item at else Err (orders.Imprint at.place)
+
+abbrev pub is_name : List ℕ → Bool
+is_name bytes = nat_le 1 (length bytes) && nat_le (length bytes) most_letters && are_name_bytes bytes
+
+abbrev pub called : (place : ℕ) → (name : List ℕ) → Item → Result Item JournalFault
+called place name item = if is_name name then Ok (with_name (Some name) item) else Err (faults.Name place)
+
+unfoldable pub named_in : PlacedTlv → Result Item JournalFault
+named_in at =
+    if nat_le 34 (length at.element.body)
+    then or_named (head_in highest_named at) >>= called at.place (drop 34 at.element.body)
+    else Err (faults.Imprint at.place)
+
+unfoldable pub item_in : PlacedTlv → Result Item JournalFault
+item_in at = if at.element.kind == 7 then named_in at else or_named (plain_in at)
 
 abbrev pub with_item : Second → Item → Second
 with_item kept item = record kept { items = kept.items ++ item ∷ [] }
@@ -130,7 +186,7 @@ abbrev pub added : (List ℕ → List ℕ) → Loaded → Second → ℕ → Res
 added image s kept left = if left == 0 then finished image s kept else Ok (record s { current = kept; left = left })
 
 unfoldable pub item_at : (List ℕ → List ℕ) → Loaded → PlacedTlv → Result Loaded JournalFault
-item_at image s at = or_named (item_in at) >>= λ item. added image s (with_item s.current item) (s.left - 1)
+item_at image s at = item_in at >>= λ item. added image s (with_item s.current item) (s.left - 1)
 
 -- ---- 4: an issued signature: 1 the number of its request, 2 its bytes
 
@@ -182,9 +238,10 @@ unfoldable pub element_read : (List ℕ → List ℕ) → Loaded → PlacedTlv �
 element_read image s at =
     if at.element.kind == 1 then start_at s at
     else if at.element.kind == 2 then read_second s at
-    else if at.element.kind == 3 then item_at image s at
+    else if at.element.kind == 3 || at.element.kind == 7 then item_at image s at
     else if at.element.kind == 4 then issued_at s at
     else if at.element.kind == 5 then publication_at s at
+    else if at.element.kind == 8 then voters_at s at
     else end_at s at
 
 -- what memory may be wanting for: an element other than the start that has no fault
@@ -193,17 +250,19 @@ WantsFor image s at = (1 < at.element.kind) × IsOk (element_read image s at)
 
 abbrev pub journal_order : (List ℕ → List ℕ) → Order Loaded JournalFault
 journal_order image = record {
-  next = λ s. kinds_next s.stage;
+  next = λ s. kinds_next s.version s.stage;
   read = element_read image;
   closed = λ s. is_end s.stage;
   whole = λ s. is_end s.stage;
   named = named;
 }
 
-abbrev pub nothing_yet : Loaded
-nothing_yet = record {
+abbrev pub nothing_yet : Version → Loaded
+nothing_yet version = record {
+  version = version;
   stage = Start;
-  contents = record { start = 0; seconds = []; issued = []; publications = [] };
+  contents = record { start = 0; voters = []; seconds = []; issued = []; publications = [] };
+  least_voters = 0;
   least_second = 0;
   least_number = 0;
   least_time = 0;

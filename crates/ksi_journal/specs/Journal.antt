@@ -1,24 +1,29 @@
 -- What a journal holds.
-use Rattle.std.specs.Prelude.{◌≡◌, ◌≢◌, ℕ, ◌+◌, ◌^◌, ◌<◌, ◌≤◌, ◌==◌, List, [], ◌∷◌, length, map, Option, None, Some, if◌then◌else◌}
+use Rattle.std.specs.Prelude.{◌≡◌, ◌≢◌, ℕ, ◌+◌, ◌^◌, ◌<◌, ◌≤◌, ◌==◌, List, [], ◌∷◌, length, map, Option, None, Some, IfSome, if◌then◌else◌}
 use Rattle.std.specs.List.{AllByRecursion}
 use Rattle.ksi_imprint.specs.Imprints.{IsImprint, zero_imprint}
 use Rattle.ksi_tlv.specs.Spelling.{AreBytes}
 use Rattle.ksi_aggtree.specs.declared.item.Item.{Item}
-use Rattle.ksi_aggtree.specs.Rounds.{most_items, highest_item, some_items, tree_of}
+use Rattle.ksi_aggtree.specs.Rounds.{most_items, highest_item, leaf_level, some_items, tree_of}
+use Rattle.ksi_aggtree.specs.Names.{IsName}
 use Rattle.ksi_aggtree.specs.declared.second.Second.{Second}
+use Rattle.ksi_synod.specs.CorePlans.{AreVoters}
+use Rattle.ksi_synod.specs.declared.core_plan.VotersFrom.{VotersFrom}
 use Rattle.ksi_journal.specs.declared.parts.Parts.{Parts}
 
--- The first second of the calendar; the kept seconds, each with its root and the items of its tree; the number and the
--- bytes of each issued signature; and each published time with the root of the calendar to it.
+-- The first second of the calendar; from which second on which cores vote; the kept seconds, each with its root and the
+-- items of its tree; the number and the bytes of each issued signature; and each published time with the root of the
+-- calendar to it.
 pub record Contents : Type 0 where
   pub start : ℕ
+  pub voters : List VotersFrom
   pub seconds : List Second
   pub issued : List (ℕ × List ℕ)
   pub publications : List (ℕ × List ℕ)
 
 -- what it is made of, as a record of lists
 abbrev pub contents : Parts → Contents
-contents parts = record { start = parts.start; seconds = parts.seconds.items; issued = parts.issued.items; publications = parts.publications.items }
+contents parts = record { start = parts.start; voters = parts.voters.items; seconds = parts.seconds.items; issued = parts.issued.items; publications = parts.publications.items }
 
 -- ---- what every journal keeps
 
@@ -27,9 +32,15 @@ abbrev pub RiseFrom : ℕ → List ℕ → Type 0
 RiseFrom least [] = Unit {0}
 RiseFrom least (n ∷ others) = (least ≤ n) × RiseFrom (n + 1) others
 
+-- at least one of the cores 0 to 8, rising
+pub record IsVoters (pair : VotersFrom) : Type 0 where
+  pub early : pair.second < 2 ^ 63
+  pub cores : AreVoters 9 pair.voters
+
 pub record IsItem (item : Item) : Type 0 where
   pub imprint : IsImprint item.imprint
-  pub level : item.level ≤ highest_item
+  pub low : leaf_level item ≤ highest_item
+  pub name : IfSome item.name IsName
 
 -- the tree of the items has the root, which is the zero imprint where there are none, and there alone
 abbrev pub IsRootOf : (List ℕ → List ℕ) → List Item → List ℕ → Type 0
@@ -52,10 +63,12 @@ pub record IsPublication (publication : ℕ × List ℕ) : Type 0 where
   pub early : publication.0 < 2 ^ 63
   pub imprint : IsImprint publication.1
 
--- The start and all times are below 2^63, no second stands before the start, and seconds, numbers and published times
--- rise; the tree of each second has its root.
+-- The start and all times are below 2^63, no second stands before the start, and the seconds of voters, kept seconds,
+-- numbers and published times rise; the tree of each second has its root.
 pub record IsJournal (image : List ℕ → List ℕ) (journal : Contents) : Type 0 where
   pub start : journal.start < 2 ^ 63
+  pub voters : AllByRecursion IsVoters journal.voters
+  pub voters_rise : RiseFrom journal.start (map (λ pair. pair.second) journal.voters)
   pub seconds : AllByRecursion (IsSecond image) journal.seconds
   pub seconds_rise : RiseFrom journal.start (map (λ kept. kept.second) journal.seconds)
   pub issued : AllByRecursion IsIssued journal.issued

@@ -6,7 +6,7 @@ use Rattle.ksi_tlv.specs.Spelling.{AreBytes}
 use Rattle.ksi_order.specs.declared.fault.OrderFault.{OrderFault}
 use Rattle.ksi_aggtree.specs.declared.item.Item.{Item}
 use Rattle.ksi_aggtree.specs.declared.second.Second.{Second}
-use Rattle.ksi_aggtree.specs.Rounds.{most_items, highest_item, item_at}
+use Rattle.ksi_aggtree.specs.Rounds.{most_items, highest_item, leaf_level, item_at}
 
 -- a second whose items come is below 2^63, those that are there and to come make a round, numbers have 64 bits, and what
 -- stands behind them are bytes
@@ -14,7 +14,7 @@ pub record IsLoading (second : ℕ) (items : List Item) (left : ℕ) (issued : L
   pub early : second < 2 ^ 63
   pub few : length items + left ≤ most_items
   pub none : left ≡ 0 → items ≡ []
-  pub low : (k : ℕ) → (item_at items k).level ≤ highest_item
+  pub low : (k : ℕ) → leaf_level (item_at items k) ≤ highest_item
   pub numbers : AllByRecursion (λ signature. signature.0 < 2 ^ 64) issued
   pub bytes : AllByRecursion (λ signature. AreBytes signature.1) issued
 

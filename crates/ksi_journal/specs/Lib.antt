@@ -1,5 +1,6 @@
 pub use Rattle.ksi_order.specs.Order
 pub use Rattle.ksi_order.specs.Sequence
+pub mod Voters
 pub mod Journal
 pub mod Calendar
 pub mod Elements

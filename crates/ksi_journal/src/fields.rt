@@ -1,11 +1,9 @@
 //! What single elements say, by the elements inside them.
 ghost use Rattle.std.specs.Prelude.{◌≡◌, ◌<◌, ◌≤◌, ◌^◌, IfOk, Ok, Err, Result, ℕ};
 ghost use Rattle.ksi_tlv.specs.Views.{view_placed};
-ghost use Rattle.ksi_aggtree.specs.Rounds.{highest_item};
-ghost use Rattle.ksi_journal.specs.Elements.{item_in, said_at, signature_at, published_at, rises};
+ghost use Rattle.ksi_journal.specs.Elements.{said_at, signature_at, published_at, rises};
 ghost use Rattle.ksi_journal.specs.Kept.{view_signature};
 
-use ksi_aggtree::{HIGHEST_ITEM, Item};
 use ksi_imprint::Imprint;
 use ksi_order::{Fields, OrderFault, imprint, number, time, values_are_bounded};
 use ksi_tlv::Placed;
@@ -48,7 +46,7 @@ fn second_fields(at: &Placed<'_>, least: u64) -> Result<(u64, Imprint, u64), Ord
 }
 
 /// A value that is at least the least.
-fn check_rise(least: u128, value: u128, place: usize) -> Result<(), OrderFault>
+pub(crate) fn check_rise(least: u128, value: u128, place: usize) -> Result<(), OrderFault>
     ensures { result ≡ rises least value place }
 {
     if least <= value {
@@ -56,27 +54,6 @@ fn check_rise(least: u128, value: u128, place: usize) -> Result<(), OrderFault>
     } else {
         Err(OrderFault::Order(place))
     }
-}
-
-/// An item: 33 bytes of imprint and one of level.
-#[tactic(auto, unfolding(crate::specs::Elements::item_in))]
-pub(crate) fn read_item(at: &Placed<'_>) -> Result<Item, OrderFault>
-    ensures value { result ≡ item_in (view_placed at.now) }
-    ensures low { IfOk result (λ item. item.level ≤ highest_item) }
-{
-    let body = at.element.body;
-    if body.len() != 34 {
-        return Err(OrderFault::Imprint(at.place));
-    }
-    let (head, level) = body.split_at(33);
-    let Ok(imprint) = Imprint::read(head) else {
-        return Err(OrderFault::Imprint(at.place));
-    };
-    let level = level[0];
-    if level > HIGHEST_ITEM {
-        return Err(OrderFault::Bound(at.place));
-    }
-    Ok(Item { imprint, level })
 }
 
 /// The number of an issued signature, and its bytes.

@@ -12,11 +12,12 @@ use ksi_aggtree::{Item, Second, Tree};
 use ksi_calendar::laws::one_first_missing;
 use ksi_calendar::{Calendar, Steps};
 use ksi_imprint::{Bytes, Compress, Imprint, NoMemory};
+use ksi_synod::VotersFrom;
 use std::alloc::Global;
 use std::marker::{Brand, Model};
 use std::sync::ledger::{Blank, Ledger};
 
-/// What cores kept: the start, the kept seconds with their roots and items, the issued signatures, and the
+/// What cores kept: the start, the voters, the kept seconds with their roots and items, the issued signatures, and the
 /// publications. A contract sees a record of lists; the tree of each second has its root.
 #[derive(Drop)]
 pub struct Journal<C: Compress> {
@@ -38,8 +39,8 @@ impl<C: Compress> Model for Journal<C> {
 }
 
 impl<C: Compress> Journal<C> {
-    /// The journal of these parts, which are not copied. All times are below 2^63, seconds, numbers and published times
-    /// rise, and the tree of each second has its root.
+    /// The journal of these parts, which are not copied. All times are below 2^63, the seconds of voters, kept seconds,
+    /// numbers and published times rise, and the tree of each second has its root.
     ///
     /// # Errors
     /// `NoMemory`: no journal is made.
@@ -58,6 +59,13 @@ impl<C: Compress> Journal<C> {
         ensures journal { IsJournal C.image self.now }
     {
         self.parts.start
+    }
+
+    /// From which second on which cores vote, in order.
+    pub fn voters(&self) -> &[VotersFrom]
+        ensures { result.now ≡ self.now.voters }
+    {
+        &self.parts.voters
     }
 
     /// The kept seconds, in order.

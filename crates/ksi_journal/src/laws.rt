@@ -7,7 +7,8 @@ ghost use Rattle.ksi_journal.specs.declared.fault.JournalFault.{JournalFault};
 ghost use Rattle.ksi_journal.specs.Journal.{Contents, IsJournal, root_at};
 ghost use Rattle.ksi_journal.specs.Calendar.{calendar_of};
 ghost use Rattle.ksi_journal.specs.File.{IsJournalFile, IsJournalFault};
-ghost use Rattle.ksi_journal.specs.Written.{journal_text};
+ghost use Rattle.ksi_journal.specs.declared.version.Version.{Version};
+ghost use Rattle.ksi_journal.specs.Written.{Allows, text_in, journal_text};
 ghost use Rattle.ksi_journal.specs.Reading.{journal_at};
 
 use crate::fault::JournalFault;
@@ -15,6 +16,7 @@ use crate::loading::Loading;
 use ksi_calendar::laws::one_covered;
 use ksi_imprint::Sha;
 use ksi_order::{walked_says, whole_or_fault};
+use ksi_synod::voters_are_cores;
 use ksi_tlv::{numeral_is_read, written_is_read};
 
 /// The seconds of a journal's calendar are those that are covered, and it is the calendar of these by the roots that the
@@ -55,13 +57,22 @@ pub fn file_or_fault()
     whole_or_fault::<Loading<Sha>, JournalFault>();
 }
 
+/// The text of a journal in a version that allows it is a file of that journal.
+pub fn text_is_journal()
+    ensures { (image : List ℕ → List ℕ) (version : Version) (journal : Contents) → IsJournal image journal → Allows version journal →
+        IsJournalFile image (text_in version journal) journal }
+{
+    written_is_read();
+    numeral_is_read();
+    voters_are_cores();
+}
+
 /// The text of a journal is a file of that journal.
 pub fn written_is_journal()
     ensures { (image : List ℕ → List ℕ) (journal : Contents) → IsJournal image journal →
         IsJournalFile image (journal_text journal) journal }
 {
-    written_is_read();
-    numeral_is_read();
+    text_is_journal();
 }
 
 /// What `journal_at` gives is the journal that the bytes are, or their first fault.

@@ -1,6 +1,6 @@
 //! Journals: what cores kept, as a file. A journal is eight bytes of magic and then, in exactly this order, elements: a
-//! start, the kept seconds, each with its root and right behind it its items, the issued signatures, the
-//! publications, and an end, as docs/FORMATS.md tells it.
+//! start, in version 2 the voters, the kept seconds, each with its root and right behind it its items, the issued
+//! signatures, the publications, and an end, as docs/FORMATS.md tells it.
 //!
 //! A contract sees a [`Journal`] as a record of lists. The layer above may rely on this: [`load`] gives exactly the
 //! journal of the file that the bytes are, or the first fault in order of bytes, and computes each tree; in every
@@ -21,6 +21,7 @@ mod calendar;
 mod fault;
 mod fields;
 mod finding;
+mod item;
 mod journal;
 pub mod laws;
 mod loading;
@@ -29,12 +30,18 @@ mod loading_seconds;
 mod parts;
 mod reader;
 mod stage;
+mod version;
+mod voters;
 mod writer;
 
 pub use fault::JournalFault;
+pub use item::read_item;
 pub use journal::Journal;
 pub use ksi_aggtree::{Second, Tree};
 pub use ksi_imprint::{NoMemory, Refused};
+pub use ksi_synod::{Voters, VotersFrom};
+pub use loading::named;
 pub use parts::Parts;
 pub use reader::load;
-pub use writer::write;
+pub use version::Version;
+pub use writer::{VersionRefusal, write, write_version};

@@ -3,8 +3,11 @@ ghost use Rattle.ksi_tlv.specs.Views.{view_placed};
 ghost use Rattle.ksi_journal.specs.Elements.{named};
 
 use crate::fault::JournalFault;
+use crate::item::{ITEM, NAMED};
 use crate::parts::Parts;
 use crate::stage::Stage;
+use crate::version::Version;
+use crate::voters::read_voters;
 use ksi_aggtree::Item;
 use ksi_imprint::{Compress, Imprint, Refused};
 use ksi_order::{OrderFault, Ordered, time};
@@ -16,20 +19,22 @@ pub(crate) const START: u16 = 0x01;
 
 pub(crate) const SECOND: u16 = 0x02;
 
-pub(crate) const ITEM: u16 = 0x03;
-
 pub(crate) const ISSUED: u16 = 0x04;
 
 pub(crate) const PUBLICATION: u16 = 0x05;
 
 pub(crate) const END: u16 = 0x06;
 
+pub(crate) const VOTERS: u16 = 0x08;
+
 /// What the elements so far say. Where memory is wanting for an element, some of it may have been taken: `load` then drops
 /// all that was loaded, and nobody sees it.
 #[derive(Drop)]
 pub(crate) struct Loading<C: Compress> {
+    pub(crate) version: Version,
     pub(crate) stage: Stage,
     pub(crate) parts: Parts,
+    pub(crate) least_voters: u64,
     pub(crate) least_second: u64,
     // one more than a number of 64 bits may be
     pub(crate) least_number: u128,
@@ -50,8 +55,10 @@ impl<C: Compress> Model for Loading<C> {
     ghost Value = { Loaded };
 
     ghost view = { λ s. record {
+      version = s.version;
       stage = s.stage;
       contents = contents s.parts;
+      least_voters = s.least_voters;
       least_second = s.least_second;
       least_number = s.least_number;
       least_time = s.least_time;
@@ -69,20 +76,24 @@ impl<C: Compress> Loading<C> {
     ghost use Rattle.ksi_tlv.specs.Spelling.{AreBytes};
     ghost use Rattle.ksi_order.specs.Order.{Steps};
     ghost use Rattle.ksi_imprint.specs.declared.refused.Refused.TheVariants as refused;
-    ghost use Rattle.ksi_journal.specs.Elements.{nothing_yet, start_at, end_at};
+    ghost use Rattle.ksi_journal.specs.Elements.{nothing_yet, start_at, voters_at, end_at};
     ghost use Rattle.ksi_journal.specs.Journal.{contents};
 
-    pub(crate) fn new(alloc: Global) -> Self
-        ensures { result ≡ nothing_yet }
+    /// Nothing is read yet of a file of the version.
+    pub(crate) fn new(alloc: Global, version: Version) -> Self
+        ensures { result ≡ nothing_yet version }
     {
         Loading {
+            version,
             stage: Stage::Start,
             parts: Parts {
                 start: 0,
+                voters: Vec::new(alloc),
                 seconds: Vec::new(alloc),
                 issued: Vec::new(alloc),
                 publications: Vec::new(alloc),
             },
+            least_voters: 0,
             least_second: 0,
             least_number: 0,
             least_time: 0,
@@ -102,8 +113,10 @@ impl<C: Compress> Loading<C> {
         ensures bytes { AllByRecursion (λ signature. AreBytes signature.1) self.contents.issued }
     {
         let Loading {
+            version: _,
             stage: _,
             parts,
+            least_voters: _,
             least_second: _,
             least_number: _,
             least_time: _,
@@ -124,13 +137,31 @@ impl<C: Compress> Loading<C> {
     {
         match time(at) {
             Ok(start) => {
-                self.stage = Stage::Seconds;
+                self.stage = Stage::Voters;
                 self.parts.start = start;
+                self.least_voters = start;
                 self.least_second = start;
                 Ok(())
             }
             Err(fault) => Err(Refused::Fault(named(fault))),
         }
+    }
+
+    #[tactic(auto, unfolding(crate::specs::Elements::voters_at))]
+    fn voters(&mut self, at: &Placed<'_>) -> Result<(), Refused<JournalFault>>
+        ensures read { Steps (voters_at self.old (view_placed at.now)) self.new result }
+        ensures wanting { result ≡ Err refused.NoMemory → IsOk (voters_at self.old (view_placed at.now)) }
+    {
+        let pair = match read_voters(at, self.least_voters) {
+            Ok(pair) => pair,
+            Err(fault) => return Err(Refused::Fault(fault)),
+        };
+        let second = pair.second;
+        if self.parts.voters.push(pair).is_err() {
+            return Err(Refused::NoMemory);
+        }
+        self.least_voters = second + 1;
+        Ok(())
     }
 
     #[tactic(auto, unfolding(crate::specs::Elements::end_at))]
@@ -157,8 +188,12 @@ impl<C: Compress> Ordered<JournalFault> for Loading<C> {
     fn may_stand(&self, kind: u16) -> bool {
         match self.stage {
             Stage::Start => kind == START,
+            Stage::Voters => {
+                matches!(kind, SECOND | ISSUED | PUBLICATION | END)
+                    || kind == VOTERS && matches!(self.version, Version::Two)
+            }
             Stage::Seconds => matches!(kind, SECOND | ISSUED | PUBLICATION | END),
-            Stage::Items => kind == ITEM,
+            Stage::Items => kind == ITEM || kind == NAMED && matches!(self.version, Version::Two),
             Stage::Issued => matches!(kind, ISSUED | PUBLICATION | END),
             Stage::Publications => matches!(kind, PUBLICATION | END),
             Stage::End => false,
@@ -182,16 +217,17 @@ impl<C: Compress> Ordered<JournalFault> for Loading<C> {
         match at.element.kind {
             START => self.start(at),
             SECOND => self.second(at),
-            ITEM => self.item(at),
+            ITEM | NAMED => self.item(at),
             ISSUED => self.issued(at),
             PUBLICATION => self.publication(at),
+            VOTERS => self.voters(at),
             _ => self.end(at),
         }
     }
 }
 
 /// A fault of order by its name here.
-pub(crate) fn named(fault: OrderFault) -> JournalFault
+pub fn named(fault: OrderFault) -> JournalFault
     ensures { result ≡ named fault }
 {
     match fault {

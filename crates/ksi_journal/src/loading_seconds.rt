@@ -1,11 +1,12 @@
 //! The kept seconds and their items, as they are loaded.
 ghost use Rattle.std.specs.Prelude.{◌≡◌};
 ghost use Rattle.std.specs.Str.{bytes_eq};
-ghost use Rattle.ksi_aggtree.specs.Rounds.{highest_item};
+ghost use Rattle.ksi_aggtree.specs.Rounds.{highest_item, leaf_level};
 ghost use Rattle.ksi_journal.specs.Elements.{counts};
 
 use crate::fault::JournalFault;
-use crate::fields::{read_item, read_second};
+use crate::fields::read_second;
+use crate::item::read_item;
 use crate::loading::{Loading, named};
 use crate::stage::Stage;
 use ksi_aggtree::{Item, Items, MOST_ITEMS, Second, root_with};
@@ -91,7 +92,7 @@ impl<C: Compress> Loading<C> {
     {
         let item = match read_item(at) {
             Ok(item) => item,
-            Err(fault) => return Err(Refused::Fault(named(fault))),
+            Err(fault) => return Err(Refused::Fault(fault)),
         };
         if self.left > 1 {
             if self.items.push(item).is_err() {
@@ -106,7 +107,7 @@ impl<C: Compress> Loading<C> {
     /// The last item of a second: memory is taken for it only where the tree has the root.
     fn finish(&mut self, item: Item) -> Result<(), Refused<JournalFault>>
         requires left { self.old.left ≤ 1 }
-        requires low { item.level ≤ highest_item }
+        requires low { leaf_level item ≤ highest_item }
         ensures read { Steps (finished C.image self.old (with_item self.old.current item)) self.new result }
         ensures wanting { result ≡ Err refused.NoMemory → IsOk (finished C.image self.old (with_item self.old.current item)) }
     {

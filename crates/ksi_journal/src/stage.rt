@@ -3,7 +3,9 @@
 pub enum Stage {
     /// Before the start.
     Start,
-    /// Behind the start or a whole second.
+    /// Behind the start or voters.
+    Voters,
+    /// Behind a whole second.
     Seconds,
     /// In a second whose items come.
     Items,

@@ -1,22 +1,35 @@
-ghost use Rattle.std.specs.Prelude.{◌≡◌, ◌++◌, ◌∷◌, [], ◌≤◌, ◌<◌, length, map, OnOk, IfOk};
-ghost use Rattle.std.specs.List.{AllByRecursion};
+ghost use Rattle.std.specs.Prelude.{◌≡◌, ◌↔◌, ◌++◌, ◌∷◌, [], ◌≤◌, ◌<◌, true, length, map, Err, OnOk, IfOk};
+ghost use Rattle.std.specs.List.{AllByRecursion, list_any};
 ghost use Rattle.ksi_tlv.specs.Spelling.{canonical};
 ghost use Rattle.ksi_tlv.specs.Writing.{texts};
-ghost use Rattle.ksi_journal.specs.Written.{head_elements, pair_elements, second_element, item_element, kept_elements, seconds_elements, issued_element, publication_element, journal_elements, journal_text};
-ghost use Rattle.ksi_journal.specs.Journal.{IsIssued, IsJournal};
+ghost use Rattle.ksi_imprint.specs.declared.refused.Refused.TheVariants.{Fault};
+ghost use Rattle.ksi_journal.specs.declared.version.Version.TheVariants.{One};
+ghost use Rattle.ksi_journal.specs.declared.writer.VersionRefusal.TheVariants.{NeedsTwo};
+ghost use Rattle.ksi_journal.specs.Written.{voter_elements, voters_element, needs_two, has_name, text_in, head_elements, pair_elements, second_element, item_element, kept_elements, seconds_elements, issued_element, publication_element, journal_elements, journal_text};
+ghost use Rattle.ksi_journal.specs.Journal.{IsVoters, IsIssued, IsJournal};
 ghost use Rattle.ksi_journal.specs.File.{IsJournalFile};
 
+use crate::item::put_item;
 use crate::journal::Journal;
-use crate::laws::written_is_journal;
-use crate::loading::{END, ISSUED, ITEM, PUBLICATION, SECOND, START};
-use crate::reader::MAGIC;
+use crate::laws::{text_is_journal, written_is_journal};
+use crate::loading::{END, ISSUED, PUBLICATION, SECOND, START, VOTERS};
+use crate::version::Version;
+use crate::voters::bits_of;
 use ksi_aggtree::{Item, Second};
 use ksi_grammar::put_short;
-use ksi_imprint::{Bytes, Compress, Imprint, NoMemory};
+use ksi_imprint::{Bytes, Compress, Imprint, NoMemory, Refused};
+use ksi_synod::VotersFrom;
 use ksi_tlv::{Writer, numeral_is_read};
 use std::alloc::Global;
 
-/// The text of a journal, which loads again as the journal.
+/// Why a journal is not written in a version.
+#[derive(Clone, Copy, PartialEq, Eq, Debug)]
+pub enum VersionRefusal {
+    /// Version 1 is asked, and there are voters, or a kept item has a name.
+    NeedsTwo,
+}
+
+/// The text of a journal, in version 2 where it needs that, which loads again as the journal.
 ///
 /// # Errors
 /// `NoMemory` where memory was wanting.
@@ -25,15 +38,68 @@ pub fn write<C: Compress>(alloc: Global, journal: &Journal<C>) -> Result<Bytes, 
     ensures again { IfOk result (λ text. IsJournalFile C.image text journal.now) }
 {
     written_is_journal();
-    written(alloc, journal)
+    let version = if needs_two(journal) {
+        Version::Two
+    } else {
+        Version::One
+    };
+    written(alloc, journal, version)
 }
 
-fn written<C: Compress>(alloc: Global, journal: &Journal<C>) -> Result<Bytes, NoMemory>
-    ensures text { IfOk result (λ text. text ≡ journal_text journal.now) }
+/// The text of a journal in a version, which loads again as the journal.
+///
+/// # Errors
+/// `NeedsTwo` exactly where version 1 is asked and the journal needs version 2; `NoMemory` where memory was wanting.
+pub fn write_version<C: Compress>(
+    alloc: Global,
+    journal: &Journal<C>,
+    version: Version,
+) -> Result<Bytes, Refused<VersionRefusal>>
+    ensures text { IfOk result (λ text. text ≡ text_in version journal.now) }
+    ensures again { IfOk result (λ text. IsJournalFile C.image text journal.now) }
+    ensures refused { (result ≡ Err (Fault NeedsTwo)) ↔ ((version ≡ One) × (needs_two journal.now ≡ true)) }
+{
+    text_is_journal();
+    if matches!(version, Version::One) && needs_two(journal) {
+        return Err(Refused::Fault(VersionRefusal::NeedsTwo));
+    }
+    match written(alloc, journal, version) {
+        Ok(text) => Ok(text),
+        Err(NoMemory) => Err(Refused::NoMemory),
+    }
+}
+
+/// Whether there are voters, or a kept item has a name.
+fn needs_two<C: Compress>(journal: &Journal<C>) -> bool
+    ensures { result ≡ needs_two journal.now }
+{
+    !journal.voters().is_empty() || have_name(journal.seconds())
+}
+
+/// Whether an item of one of the seconds has a name.
+fn have_name(seconds: &[Second]) -> bool
+    ensures { result ≡ list_any has_name seconds.now }
+{
+    seconds.iter().any(|kept| has_name(kept))
+}
+
+/// Whether an item of a second has a name.
+fn has_name(kept: &Second) -> bool
+    ensures { result ≡ has_name kept.now }
+{
+    kept.items.as_slice().iter().any(|item| item.name.is_some())
+}
+
+fn written<C: Compress>(
+    alloc: Global,
+    journal: &Journal<C>,
+    version: Version,
+) -> Result<Bytes, NoMemory>
+    ensures text { IfOk result (λ text. text ≡ text_in version journal.now) }
     ensures journal { IfOk result (λ _. IsJournal C.image journal.now) }
 {
     let mut magic = Vec::new(alloc);
-    magic.extend_from_slice(MAGIC)?;
+    magic.extend_from_slice(version.magic())?;
     let mut writer = Writer::behind(magic);
     put_elements(&mut writer, alloc, journal)?;
     Ok(Bytes::from_vec(writer.into_vec()))
@@ -48,6 +114,7 @@ fn put_elements<C: Compress>(
     ensures journal { OnOk result (IsJournal C.image journal.now) }
 {
     writer.put_number(START, journal.start())?;
+    put_all_voters(writer, alloc, journal.voters())?;
     put_seconds(writer, alloc, journal.seconds())?;
     put_issued(writer, alloc, journal.issued())?;
     put_publications(writer, alloc, journal.publications())?;
@@ -60,6 +127,36 @@ fn body_of(alloc: Global, room: usize) -> Result<Writer, NoMemory>
     ensures { IfOk result (λ body. body ≡ []) }
 {
     Ok(Writer::behind(Vec::with_capacity(alloc, room)?))
+}
+
+fn put_all_voters(writer: &mut Writer, alloc: Global, voters: &[VotersFrom]) -> Result<(), NoMemory>
+    requires { AllByRecursion IsVoters voters.now }
+    ensures { OnOk result (writer.new ≡ writer.old ++ texts (map voters_element voters.now)) }
+{
+    for pair in voters {
+        put_voters(writer, alloc, pair)?;
+    }
+    Ok(())
+}
+
+fn put_voters(writer: &mut Writer, alloc: Global, pair: &VotersFrom) -> Result<(), NoMemory>
+    requires { IsVoters pair.now }
+    ensures { OnOk result (writer.new ≡ writer.old ++ canonical (voters_element pair.now)) }
+{
+    let body = voters_body(alloc, pair)?;
+    put_short(writer, VOTERS, body.bytes())
+}
+
+fn voters_body(alloc: Global, pair: &VotersFrom) -> Result<Writer, NoMemory>
+    requires { IsVoters pair.now }
+    ensures text { IfOk result (λ body. body ≡ texts (voter_elements pair.now)) }
+    ensures short { IfOk result (λ body. length body ≤ 65535) }
+{
+    numeral_is_read();
+    let mut body = body_of(alloc, 16)?;
+    body.put_number(0x01, pair.second)?;
+    body.put_number(0x02, bits_of(&pair.voters))?;
+    Ok(body)
 }
 
 fn put_seconds(writer: &mut Writer, alloc: Global, seconds: &[Second]) -> Result<(), NoMemory>
@@ -93,16 +190,6 @@ fn put_items(writer: &mut Writer, items: &[Item]) -> Result<(), NoMemory>
         put_item(writer, item)?;
     }
     Ok(())
-}
-
-fn put_item(writer: &mut Writer, item: &Item) -> Result<(), NoMemory>
-    ensures { OnOk result (writer.new ≡ writer.old ++ canonical (item_element item.now)) }
-{
-    let mut body = [0; 34];
-    let (imprint, level) = body.split_at_mut(33);
-    imprint.copy_from_slice(item.imprint.bytes());
-    level[0] = item.level;
-    put_short(writer, ITEM, &body)
 }
 
 fn head_body(alloc: Global, kept: &Second) -> Result<Writer, NoMemory>

@@ -1,19 +1,24 @@
 -- What a world keeps, issues and publishes is what a journal asks for.
 use Rattle.std.proofs.Common.{◌≡◌, ◌≢◌, inl, inr, ℕ, zero, suc, ◌+◌, ◌<◌, ◌≤◌, ◌-◌, ◌^◌, List, [], ◌∷◌, ◌++◌, map, length, get_or, refl, sym, ap, ◌∙◌, subst, arith, Option, Some, None}
+use Rattle.std.specs.Prelude.{IfSome}
 use Rattle.std.specs.List.{AllByRecursion}
 use Rattle.std.proofs.lemmas.List.{append_assoc}
 use Rattle.ksi_imprint.specs.Imprints.{IsImprint, zero_imprint}
 use Rattle.ksi_tlv.specs.Spelling.{AreBytes}
 use Rattle.ksi_aggtree.specs.declared.item.Item.{Item}
 use Rattle.ksi_aggtree.specs.declared.second.Second.{Second}
-use Rattle.ksi_aggtree.specs.Rounds.{item_at, tree_of}
+use Rattle.ksi_aggtree.specs.Rounds.{item_at, leaf_level, tree_of}
+use Rattle.ksi_aggtree.specs.Names.{IsName}
+use Rattle.ksi_synod.specs.declared.core_plan.VotersFrom.{VotersFrom}
+use Rattle.ksi_synod.specs.CorePlans as CorePlans
+use Rattle.ksi_synod.specs.CorePlans.{IsPair, IsCorePlan}
 use Rattle.ksi_schedule.specs.declared.event.Event.{Event}
-use Rattle.ksi_schedule.specs.Plans.{PlanState}
+use Rattle.ksi_schedule.specs.Plans.{PlanState, core_plan_of}
 use Rattle.ksi_schedule.specs.Events.{IsEvent, AreEvents}
 use Rattle.ksi_world.specs.Histories.{WorldState}
 use Rattle.ksi_world.specs.Records.{kept_seconds, issued_all, issued_among, issued_before, issued_of}
 use Rattle.ksi_world.specs.Validity.{AreRising, AreTimes, EachKept, IsKept, HasImprints}
-use Rattle.ksi_journal.specs.Journal.{IsIssued, IsItem, IsJournal, IsPublication, IsRootOf, IsSecond, RiseFrom}
+use Rattle.ksi_journal.specs.Journal.{IsIssued, IsVoters, IsItem, IsJournal, IsPublication, IsRootOf, IsSecond, RiseFrom}
 use Rattle.ksi_replay.specs.Journals.{journal_in}
 
 -- ALL OF A LIST
@@ -47,6 +52,38 @@ times_from from before (x ∷ xs) times = (times.0, rise_earlier (x.0 + 1) (suc 
 
 pub times_rise : (from before : ℕ) (xs : List (ℕ × List ℕ)) → AreTimes from before xs → RiseFrom 0 (map (λ x. x.0) xs)
 times_rise from before xs times = rise_earlier 0 from (map (λ x. x.0) xs) (omega arith) (times_from from before xs times)
+
+-- WHO VOTES
+
+rise_from : (least : ℕ) (ns : List ℕ) → AllByRecursion (λ n. least ≤ n) ns → CorePlans.AreRising ns → RiseFrom least ns
+rise_from least [] all rising = tt
+rise_from least (n ∷ ns) all rising = (all.0, rise_from (n + 1) ns (above n ns rising.0) rising.1)
+  where
+    above : (n : ℕ) (ns : List ℕ) → AllByRecursion (λ m. n < m) ns → AllByRecursion (λ m. n + 1 ≤ m) ns
+    above n [] all = tt
+    above n (m ∷ ns) all = (omega (arith, all.0), above n ns all.1)
+
+pub voters_rise : (cores start : ℕ) (pairs : List VotersFrom) → AllByRecursion (IsPair cores start) pairs → CorePlans.AreRising (map (λ pair. pair.second) pairs) → RiseFrom start (map (λ pair. pair.second) pairs)
+voters_rise cores start pairs are rising = rise_from start (map (λ pair. pair.second) pairs) (early pairs are) rising
+  where
+    early : (pairs : List VotersFrom) → AllByRecursion (IsPair cores start) pairs → AllByRecursion (λ n. start ≤ n) (map (λ pair. pair.second) pairs)
+    early [] are = tt
+    early (pair ∷ pairs) are = (are.0.early, early pairs are.1)
+
+pub voters_are : (cores start : ℕ) (pairs : List VotersFrom) → cores ≤ 9 → start ≤ 2 ^ 63 - 2 ^ 24 → AllByRecursion (IsPair cores start) pairs → AllByRecursion IsVoters pairs
+voters_are cores start [] few early are = tt
+voters_are cores start (pair ∷ pairs) few early are =
+    let late = are.0.late in (
+      record {
+        early = omega (arith, late, early);
+        cores = record { some = are.0.voters.some; rising = are.0.voters.rising; there = there pair.voters are.0.voters.there };
+      },
+      voters_are cores start pairs few early are.1,
+    )
+  where
+    there : (voters : List ℕ) → AllByRecursion (λ core. core < cores) voters → AllByRecursion (λ core. core < 9) voters
+    there [] all = tt
+    there (core ∷ voters) all = (omega (arith, all.0, few), there voters all.1)
 
 -- WHAT IS ISSUED
 
@@ -95,16 +132,16 @@ are_publications from (x ∷ xs) times imprints = (record { early = times.1; imp
 
 -- A KEPT SECOND
 
-are_items : (items : List Item) → ((k : ℕ) → (item_at items k).level ≤ 239) → AllByRecursion (λ item. IsImprint item.imprint) items → AllByRecursion IsItem items
+are_items : (items : List Item) → ((k : ℕ) → leaf_level (item_at items k) ≤ 239) → AllByRecursion (λ item. IsImprint item.imprint × IfSome item.name IsName) items → AllByRecursion IsItem items
 are_items [] low imprints = tt
-are_items (item ∷ items) low imprints = (record { imprint = imprints.0; level = low 0 }, are_items items (λ k. low (suc k)) imprints.1)
+are_items (item ∷ items) low imprints = (record { imprint = imprints.0.0; low = low 0; name = imprints.0.1 }, are_items items (λ k. low (suc k)) imprints.1)
 
 rooted : (image : List ℕ → List ℕ) (root : List ℕ) (items : List Item) → root ≢ zero_imprint → 1 ≤ length items → (tree_of image items).imprint ≡ root → IsRootOf image items root
 rooted image root [] real some tree = absurd (omega (arith, some))
 rooted image root (item ∷ items) real some tree = (real, tree)
 
 pub is_second : (image : List ℕ → List ℕ) (kept : Second) → kept.second < 2 ^ 63 → IsKept image kept → IsImprint kept.root →
-    AllByRecursion (λ item. IsImprint item.imprint) kept.items → IsSecond image kept
+    AllByRecursion (λ item. IsImprint item.imprint × IfSome item.name IsName) kept.items → IsSecond image kept
 is_second image kept early (inl missed) root imprints = record {
   early = early;
   imprint = root;
@@ -152,11 +189,13 @@ module _ (image : List ℕ → List ℕ) (w : WorldState) (laws : IssuedLaws ima
   unfolding issued_all
   issued_are = issued_from_are 0 (length w.requests) (omega arith)
 
-  pub journal_is : (plan : PlanState) → plan.start < 2 ^ 63 → AreRising plan.start (kept_seconds image plan w) → EachKept (λ one. one.second < 2 ^ 63) (kept_seconds image plan w)
+  pub journal_is : (plan : PlanState) → IsCorePlan (core_plan_of plan) → AreRising plan.start (kept_seconds image plan w) → EachKept (λ one. one.second < 2 ^ 63) (kept_seconds image plan w)
       → EachKept (IsKept image) (kept_seconds image plan w) → EachKept HasImprints (kept_seconds image plan w)
       → AreTimes plan.start (2 ^ 63) w.published → AllByRecursion (λ x. IsImprint x.1) w.published → IsJournal image (journal_in image plan w)
-  journal_is plan start rising early trees imprints times roots = record {
-    start = start;
+  journal_is plan is rising early trees imprints times roots = record {
+    start = (let before = is.early in omega (arith, before));
+    voters = voters_are plan.cores plan.start plan.voters is.few is.early is.pairs;
+    voters_rise = voters_rise plan.cores plan.start plan.voters is.pairs is.rising;
     seconds = seconds_are image (kept_seconds image plan w) early trees imprints;
     seconds_rise = seconds_rise plan.start (kept_seconds image plan w) rising;
     issued = issued_are;

@@ -1,6 +1,7 @@
 ghost use Rattle.std.specs.Prelude.{◌≡◌, ◌<◌, ◌≤◌, ◌^◌, ◌++◌, [], IfOk, IfSome, OnOk, length};
 ghost use Rattle.std.specs.List.{AllByRecursion};
 ghost use Rattle.ksi_imprint.specs.Imprints.{IsImprint};
+ghost use Rattle.ksi_aggtree.specs.Names.{IsName};
 ghost use Rattle.ksi_world.specs.Histories.{world_of};
 ghost use Rattle.ksi_world.specs.Records.{issued_all, issued_before};
 ghost use Rattle.ksi_world.specs.Validity.{HasImprints};
@@ -14,8 +15,8 @@ use ksi_journal::{Journal, Parts};
 use ksi_world::World;
 use std::alloc::Global;
 
-/// The journal of a world: the kept seconds, each with its root and items, the issued signatures, and what was
-/// published. All is made anew, and the world is not changed.
+/// The journal of a world: who votes by its plan, the kept seconds, each with its root and items, the issued signatures,
+/// and what was published. All is made anew, and the world is not changed.
 ///
 /// # Errors
 /// `NoMemory`.
@@ -23,7 +24,7 @@ use std::alloc::Global;
 pub fn journal_of<C: Compress>(alloc: Global, world: &World<C>) -> Result<Journal<C>, NoMemory>
     ensures { IfOk result (λ journal. journal ≡ journal_of C.image world.now) }
 {
-    let _plan = world.plan();
+    let voters = world.plan().core_plan().voters().to_vec(alloc)?;
     let kept = world.kept()?;
     let start = kept.start;
     let seconds = kept.seconds.into_vec();
@@ -32,6 +33,7 @@ pub fn journal_of<C: Compress>(alloc: Global, world: &World<C>) -> Result<Journa
     let publications = publications_of(alloc, world.published())?;
     let parts = Parts {
         start,
+        voters,
         seconds,
         issued,
         publications,
@@ -71,7 +73,7 @@ fn push_issued(
     Ok(())
 }
 
-/// Their roots and the imprints of their items are imprints, as their type keeps it.
+/// Their roots and the imprints of their items are imprints, and the names of these are names, as their types keep it.
 fn imprints_of(seconds: &[Second])
     ensures { AllByRecursion HasImprints seconds.now }
 {
@@ -81,12 +83,22 @@ fn imprints_of(seconds: &[Second])
     }
 }
 
-/// All are imprints, as their type keeps it.
+/// All have imprints, and names where they have any, as their types keep it.
 fn imprints_in(items: &[Item])
-    ensures { AllByRecursion (λ item. IsImprint item.imprint) items.now }
+    ensures { AllByRecursion (λ item. IsImprint item.imprint × IfSome item.name IsName) items.now }
 {
     'items: for item in items {
         let _imprint = item.imprint.bytes();
+        name_of(item);
+    }
+}
+
+/// The name of an item is one, where it has any.
+fn name_of(item: &Item)
+    ensures { IfSome item.now.name IsName }
+{
+    if let Some(name) = &item.name {
+        let _letters = name.as_bytes();
     }
 }
 

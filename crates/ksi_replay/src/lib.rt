@@ -1,8 +1,8 @@
 //! Schedules run through the nodes, and the journal of what was kept, issued and published.
 //!
 //! The layer above may rely on this: [`replay`] gives the world whose events are those of the schedule, and [`journal_of`]
-//! the journal of a world: its kept seconds with their items, its issued signatures and what was published. That the
-//! journal of every history is one, with or without memory to make it, is a law ([`laws`]).
+//! the journal of a world: who votes by its plan, its kept seconds with their items, its issued signatures and what was
+//! published. That the journal of every history is one, with or without memory to make it, is a law ([`laws`]).
 //!
 //! ```text
 //! let schedule = read_schedule(alloc, text)?;

@@ -16,7 +16,7 @@ returns-in-Ok-clause-journal g c =
     let image = g.C.Compress.image in
     let whole = subst (λ (s : Loaded). IsWhole (journal_order image) (elements 8 c.args.rest.now) s c.walk.new.state) c.new-loading.ensures c.in-Ok.ensures.told in
     subst (IsJournal image) (sym c.into_parts.ensures.contents)
-    (whole_journal image _ c.walk.new.state (record { early = c.values_are_bounded.ensures.early; imprint = c.values_are_bounded.ensures.imprint }) whole c.into_parts.ensures.numbers c.into_parts.ensures.bytes)
+    (whole_journal image c.args.version _ c.walk.new.state (record { early = c.values_are_bounded.ensures.early; imprint = c.values_are_bounded.ensures.imprint }) whole c.into_parts.ensures.numbers c.into_parts.ensures.bytes)
 
 refused_of : {S F : Type 0} (A : Type 0) (o : Order S F) (wants : S → PlacedTlv → Type 0) (end : ℕ) (items : Items) (s t : S) (refused : Refused F)
     → Tells o end items s t (Err refused) → (let r : Result (Unit {0}) (Refused F) = Err refused in r ≡ Err NoMemory → IsWanting o wants items s)

@@ -1,10 +1,12 @@
-use Rattle.std.proofs.Common.{map, sym, subst, ◌∙◌, arith}
+use Rattle.std.proofs.Common.{map, ap, sym, subst, ◌∙◌, arith}
 use Rattle.std.specs.List.{AllByRecursion}
 use Rattle.ksi_imprint.specs.Imprints.{IsImprint}
 use Rattle.ksi_world.specs.Histories.{world_of}
-use Rattle.ksi_journal.specs.Journal.{IsPublication, IsSecond, RiseFrom}
+use Rattle.ksi_journal.specs.Journal.{IsVoters, IsPublication, IsSecond, RiseFrom}
+use Rattle.ksi_synod.specs.CorePlans.{CorePlanState}
+use Rattle.ksi_schedule.specs.Plans.{PlanState}
 use Rattle.ksi_world.specs.Validity.{HasImprints}
-use Rattle.ksi_replay.proofs.Lawful.{each_kept, seconds_are, seconds_rise, numbers_rise, are_publications, times_rise}
+use Rattle.ksi_replay.proofs.Lawful.{each_kept, voters_are, voters_rise, seconds_are, seconds_rise, numbers_rise, are_publications, times_rise}
 use Rattle.ksi_replay.proofs.journal.journal_of.Goals as goal
 
 pub new-requires : goal.new-requires
@@ -14,8 +16,16 @@ new-requires g c =
     let kept = c.in_ok-kept.kept in
     let published = c.in_ok-publications.ensures.same ∙ c.published.ensures.published in
     let seconds = c.into_vec-seconds.ensures in
+    let plan = c.args.world.now.plan in
+    let is = c.plan.ensures.limits.core_plan in
+    let voters = c.in_ok-voters.ensures.items_if_clones_equal (λ x y same. same) ∙ c.voters.ensures.voters
+    ∙ ap (λ (known : CorePlanState). known.voters) c.core_plan.ensures.plan ∙ ap (λ (told : PlanState). told.voters) c.plan.ensures.plan in
+    let start = c.in_ok-kept.ensures.start in
     record {
-      start = omega (arith, c.in_ok-kept.ensures.start, c.plan-plan.ensures.limits.core_plan.early);
+      start = (let before = is.early in omega (arith, start, before));
+      voters = subst (AllByRecursion IsVoters) (sym voters) (voters_are plan.cores plan.start plan.voters is.few is.early is.pairs);
+      voters_rise = subst (λ xs. RiseFrom kept.start (map (λ pair. pair.second) xs)) (sym voters)
+          (subst (λ from. RiseFrom from (map (λ pair. pair.second) plan.voters)) (sym start) (voters_rise plan.cores plan.start plan.voters is.pairs is.rising));
       seconds = subst (AllByRecursion (IsSecond image)) (sym seconds)
           (seconds_are image kept.seconds c.in_ok-kept.ensures.early c.in_ok-kept.ensures.trees
           (each_kept HasImprints kept.seconds (subst (AllByRecursion HasImprints) (c.deref.ensures.value ∙ seconds) c.imprints_of.ensures)));

@@ -1,4 +1,4 @@
-use Rattle.std.proofs.Common.{◌^◌, ◌≤◌, ◌-◌, arith}
+use Rattle.std.proofs.Common.{arith}
 use Rattle.ksi_imprint.specs.Imprints.{imprint_of}
 use Rattle.ksi_world.specs.Histories.{world_of}
 use Rattle.ksi_replay.specs.Journals.{journal_of}
@@ -10,14 +10,13 @@ unfolding journal_of
 returns-clause-any c = λ image h images bytes is.
     let requests = c.requests_are_few.ensures image h in
     let most = is.few in
-    let early : h.plan.start ≤ 2 ^ 63 - 2 ^ 24 = is.plan.core_plan.early in
     journal_is image (world_of image h)
     (record {
       few = omega (arith, requests, most);
       short = λ number text issued. c.issued_is_short.ensures image h images is.plan is.events is.imprints number text issued;
       bytes = λ number text issued. c.history_is_of_bytes.ensures.issued image h images bytes is number text issued;
     })
-    h.plan (omega (arith, early))
+    h.plan is.plan.core_plan
     (c.kept_is_listed.ensures.rising image h is.plan is.events) (c.kept_is_listed.ensures.early image h is.plan is.events)
     (c.kept_is_listed.ensures.trees image h is.plan is.events) (c.kept_is_listed.ensures.imprints image h images is.plan is.events is.imprints)
     (c.published_is_listed.ensures.rising image h is.plan is.events) (c.published_is_listed.ensures.imprints image h images is.plan is.events is.imprints)
