@@ -1,11 +1,12 @@
 -- What a journal keeps, as the walk goes beside it.
-use Rattle.std.proofs.Common.{◌≡◌, ◌≢◌, ℕ, zero, suc, ◌+◌, ◌-◌, ◌^◌, ◌<◌, ◌≤◌, List, [], ◌∷◌, length, Option, Some, None, refl, sym, ap, ◌∙◌, arith, inl, inr}
-use Rattle.std.specs.Prelude.{slice_index_or, nat_lt, false}
+use Rattle.std.proofs.Common.{◌≡◌, ◌≢◌, ℕ, zero, suc, ◌+◌, ◌-◌, ◌^◌, ◌<◌, ◌≤◌, List, [], ◌∷◌, length, Option, Some, None, refl, sym, ap, subst, ◌∙◌, arith, inl, inr}
+use Rattle.std.specs.Prelude.{slice_index_or, nat_lt, false, IfSome}
 use Rattle.std.specs.List.{AllByRecursion}
-use Rattle.ksi_imprint.specs.Imprints.{zero_imprint}
+use Rattle.ksi_imprint.specs.Imprints.{IsImprint, zero_imprint}
 use Rattle.ksi_split.specs.Trees.{tree, tree_within}
 use Rattle.ksi_aggtree.specs.declared.item.Item.{Item}
-use Rattle.ksi_aggtree.specs.Rounds.{item_at, tree_of}
+use Rattle.ksi_aggtree.specs.Names.{IsName}
+use Rattle.ksi_aggtree.specs.Rounds.{item_at, leaf_level, tree_of}
 use Rattle.ksi_calendar.specs.Calendar.{calendar_leaf}
 use Rattle.ksi_calendar.specs.Covered.{second_leaf}
 use Rattle.ksi_aggtree.specs.declared.second.Second.{Second}
@@ -26,15 +27,20 @@ module _ {A : Type 0} (P : A → Type 0) (join : A → A → A) (leaf : ℕ → 
 
 -- ---- sizes
 
-pub item_size : (items : List Item) (k : ℕ) → AllByRecursion IsItem items → length (item_at items k).imprint ≡ 33
-item_size [] k all = refl
-item_size (item ∷ items) zero all = all.0.imprint.size
-item_size (item ∷ items) (suc k) all = item_size items k all.1
+pub item_imprint : (items : List Item) (k : ℕ) → AllByRecursion IsItem items → IsImprint (item_at items k).imprint
+item_imprint [] k all = record { algorithm = refl; size = refl }
+item_imprint (item ∷ items) zero all = all.0.imprint
+item_imprint (item ∷ items) (suc k) all = item_imprint items k all.1
 
-pub item_level : (items : List Item) (k : ℕ) → AllByRecursion IsItem items → (item_at items k).level ≤ 239
+pub item_level : (items : List Item) (k : ℕ) → AllByRecursion IsItem items → leaf_level (item_at items k) ≤ 239
 item_level [] k all = omega arith
-item_level (item ∷ items) zero all = all.0.level
+item_level (item ∷ items) zero all = all.0.low
 item_level (item ∷ items) (suc k) all = item_level items k all.1
+
+pub item_name : (items : List Item) (k : ℕ) (name : List ℕ) → AllByRecursion IsItem items → (item_at items k).name ≡ Some name → IsName name
+item_name [] k name all e = absurd cc
+item_name (item ∷ items) zero name all e = subst (λ (n : Option (List ℕ)). IfSome n IsName) e all.0.name
+item_name (item ∷ items) (suc k) name all e = item_name items k name all.1 e
 
 module _ (image : List ℕ → List ℕ) where
   root_size : (seconds : List Second) (t k : ℕ) → AllByRecursion (IsSecond image) seconds → length (slice_index_or (roots_from t seconds) k zero_imprint) ≡ 33

@@ -3,10 +3,13 @@ pub mod Climbs
 pub mod Chaining
 pub mod Lent
 pub mod Parts
-pub mod Rounds
+pub mod Strings
+pub mod Fitting
 pub mod Rungs
 pub mod Cited
 pub mod Keeping
+pub mod CalendarTree
+pub mod RoundTree
 pub mod Outcomes
 pub mod Showing
 pub mod Beneath

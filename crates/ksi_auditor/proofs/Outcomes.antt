@@ -5,11 +5,11 @@ use Rattle.ksi_imprint.specs.declared.clash.Clash.{Clash}
 use Rattle.ksi_split.specs.declared.side.Side.{Side}
 use Rattle.ksi_aggchain.specs.Links.{PlainLink}
 use Rattle.ksi_aggtree.specs.declared.item.Item.{Item}
+use Rattle.ksi_aggtree.specs.Nodes.{text_of}
 use Rattle.ksi_beside.specs.Beside.{Rung, rung_side, rungs_from, Pair, pairs_below, pair_before, differing, ended, laid_from, IsApart, clash_in}
 use Rattle.ksi_beside.specs.declared.walk.Walk.{Walk}
 use Rattle.ksi_beside.specs.declared.walk.Walk.TheVariants.{Apart, At, Past}
 use Rattle.ksi_verifier.specs.Chains.{at_level_zero}
-use Rattle.ksi_auditor.specs.Kept.{items_text}
 use Rattle.ksi_auditor.specs.Audit.{sides_of, item_pairs, item_named, ends, found, compared}
 use Rattle.ksi_auditor.specs.Shown.{HasClash}
 use Rattle.ksi_auditor.specs.declared.answer.Audit.TheVariants as answers
@@ -97,7 +97,7 @@ module _ (image : List ℕ → List ℕ) (items : List Item) (links : List Plain
   passed = length (item_pairs image items links hash)
 
   abbrev walked : Walk
-  walked = laid_from (items_text image items) [] rungs
+  walked = laid_from (text_of image items) [] rungs
 
   pub first_above : (above : List Pair) (clash : Clash) → differing above ≡ Some (pair_of clash) → answers.Clash clash ≡ compared image items links hash t above
   first_above above clash e = ap (found t (length items) (sides_of links) passed) (sym (differing_first above (item_pairs image items links hash) (pair_of clash) e))
@@ -135,7 +135,7 @@ module _ (image : List ℕ → List ℕ) (items : List Item) (links : List Plain
     pub beneath_at : (place : List Side) (count : ℕ) → walk ≡ Past place → count ≡ length links → (length place ≤ count) × (answers.Beneath t (item_named (length items) place) (count - length place) ≡ compared image items links hash t [])
     beneath_at place count is n =
         let all = ended_past [] rungs passed (differing (item_pairs image items links hash)) place (sym is ∙ went) in
-        let few = pairs_few (items_text image items) [] rungs in
+        let few = pairs_few (text_of image items) [] rungs in
         let other = all.1 in
         let fewer : passed < length rungs = omega (arith, few, other) in
         let sides = sides_length in

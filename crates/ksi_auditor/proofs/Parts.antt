@@ -1,5 +1,5 @@
 -- The nodes of a tree that sides lead to.
-use Rattle.std.proofs.Common.{◌≡◌, ◌↔◌, ℕ, zero, suc, ◌+◌, ◌-◌, ◌^◌, ◌<◌, ◌≤◌, Bool, true, false, List, [], ◌∷◌, ◌++◌, length, Result, Ok, Err, Option, Some, None, refl, sym, ap, ◌∙◌, arith, inl, inr, length-append}
+use Rattle.std.proofs.Common.{◌≡◌, ◌↔◌, ℕ, ◌+◌, ◌-◌, ◌^◌, ◌<◌, ◌≤◌, Bool, true, false, List, [], ◌∷◌, ◌++◌, length, Result, Ok, Err, Option, Some, None, refl, sym, ap, ◌∙◌, arith, inl, inr, length-append}
 use Rattle.std.specs.Prelude.{if◌then◌else◌}
 use Rattle.ksi_split.specs.declared.side.Side.{Side}
 use Rattle.ksi_split.specs.declared.side.Side.TheVariants.{Left, Right}
@@ -8,13 +8,19 @@ use Rattle.ksi_split.specs.Parts.{Part, half_of, part_at}
 use Rattle.ksi_split.specs.Trees.{tree, node_in, node_at}
 use Rattle.ksi_split.specs.Ways.{IsWay, LeadsTo}
 use Rattle.ksi_aggtree.specs.declared.item.Item.{Item}
-use Rattle.ksi_aggtree.specs.Rounds as rounds
-use Rattle.ksi_beside.specs.Standing.{whole}
+use Rattle.ksi_aggtree.specs.Nodes.{text_of}
 use Rattle.ksi_calchain.specs.Climbing.{calendar_join}
 use Rattle.ksi_calendar.specs.Calendar as calendars
 use Rattle.ksi_auditor.proofs.Cases.{eq_cases}
 
 -- ---- parts
+
+abbrev pub part_with : ℕ → ℕ → Part
+part_with first count = record { first = first; count = count }
+
+-- all leaves
+abbrev pub whole : ℕ → Part
+whole count = part_with 0 count
 
 pub part_goes_on : (sides more : List Side) (place : ℕ) (p q : Part) → part_at place p sides ≡ Ok q → part_at place p (sides ++ more) ≡ part_at (place + length sides) q more
 part_goes_on [] more place p q e =
@@ -59,6 +65,14 @@ module _ {A : Type 0} (join : A → A → A) (leaf : ℕ → A) (last : ℕ)
 
   pub node_is : (sides : List Side) (q : Part) → part_at 0 (whole (last + 1)) sides ≡ Ok q → node sides ≡ Some (at_part q)
   node_is sides q e = ap (node_in join leaf) e
+
+  -- sides that lead to a node lead to a part, and it is the tree of that part
+  pub node_part : (sides : List Side) (x : A) → node sides ≡ Some x → (q : Part) × (part_at 0 (whole (last + 1)) sides ≡ Ok q) × (x ≡ at_part q)
+  node_part sides x e = of (part_at 0 (whole (last + 1)) sides) refl e
+    where
+      of : (found : Result Part ℕ) → part_at 0 (whole (last + 1)) sides ≡ found → node_in join leaf found ≡ Some x → (q : Part) × (part_at 0 (whole (last + 1)) sides ≡ Ok q) × (x ≡ at_part q)
+      of (Err place) is e = absurd cc
+      of (Ok q) is e = (q, is, cc)
 
   pub node_past : (sides : List Side) (side : Side) (q : Part) → part_at 0 (whole (last + 1)) sides ≡ Ok q → q.count ≡ 1 → node (sides ++ side ∷ []) ≡ None
   node_past sides side q e one = ap (node_in join leaf) (part_past sides side (whole (last + 1)) q e one)
@@ -109,9 +123,15 @@ module _ (leaves : (n : ℕ) (sides : List Side) (part : Part) → 0 < n → par
       of true = deep (calendar_join image) (calendars.calendar_leaf seconds) p 63 sides early long
       of false = refl
 
-  pub deep_items : (image : List ℕ → List ℕ) (items : List Item) (sides : List Side) → length items ≤ 65536 → 63 < length sides → rounds.node_of image items sides ≡ None
-  deep_items image items sides few long = of (length items) few
+  pub deep_items : (texts : (image : List ℕ → List ℕ) (items : List Item) (sides : List Side) (text : List ℕ) → text_of image items sides ≡ Some text → (first : ℕ) × (count : ℕ) × LeadsTo (length items) sides first count)
+      (image : List ℕ → List ℕ) (items : List Item) (sides : List Side) → length items ≤ 65536 → 16 < length sides → text_of image items sides ≡ None
+  deep_items texts image items sides few long = of (text_of image items sides) refl
     where
-      of : (n : ℕ) → n ≤ 65536 → rounds.node_from image items n sides ≡ None
-      of zero few = refl
-      of (suc last) few = deep (rounds.aggregation_join image) (rounds.leaf_of_place image items) last 63 sides (omega (arith, few)) long
+      of : (found : Option (List ℕ)) → text_of image items sides ≡ found → found ≡ None
+      of None e = refl
+      of (Some text) e =
+          let l = texts image items sides text e in
+          let count = l.2.some in
+          let begins = (l.2.leaves l.0).1 (omega arith, omega (arith, count)) in
+          let s = short l.0 (length items) 16 (sides ++ begins.0) (omega (arith, few)) begins.1 in
+          absurd (omega (arith, s, length-append sides begins.0, long))

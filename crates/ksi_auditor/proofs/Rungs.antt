@@ -38,9 +38,9 @@ same_back a b c d e n =
     sym (drop-append_seam a b) ∙ ap (λ (k : ℕ). drop k (a ++ b)) front ∙ ap (drop (length c)) e ∙ drop-append_seam c d
 
 module _ (image : List ℕ → List ℕ) where
-  holds_more : (x y z : List ℕ) (rungs : List Rung) (rung : Rung) → Holds image z y rungs → z ≡ image (rung_text rung) → length rung.below ≡ 33 → rung.below ≡ x → Holds image x y (rungs ++ rung ∷ [])
-  holds_more x y z [] rung h e n is = (sym h ∙ e, n, sym is)
-  holds_more x y z (top ∷ rungs) rung h e n is = (h.0, h.1, holds_more x top.below z rungs rung h.2 e n is)
+  holds_more : (x y z : List ℕ) (rungs : List Rung) (rung : Rung) → Holds image z y rungs → z ≡ image (rung_text rung) → rung.below ≡ x → Holds image x y (rungs ++ rung ∷ [])
+  holds_more x y z [] rung h e is = (sym h ∙ e, sym is)
+  holds_more x y z (top ∷ rungs) rung h e is = (h.0, holds_more x top.below z rungs rung h.1 e is)
 
   pub calendar_sides : (x : List ℕ) (links : List (TreeLink (List ℕ))) → map rung_side (calendar_rungs_from image x links) ≡ sides_from_top links
   calendar_sides x [] = refl
@@ -70,34 +70,33 @@ module _ (image : List ℕ → List ℕ) where
         (rest.0, omega (arith, more, high)))
   ]
 
-  module _ (sizes : (x : List ℕ) → length (image x) ≡ 33) where
-    pub calendar_holds : (x : List ℕ) (links : List (TreeLink (List ℕ))) → length x ≡ 33 → Holds image x (climb_links (calendar_join image) x links) (calendar_rungs_from image x links)
-    calendar_holds x [] n = refl
-    calendar_holds x (link ∷ links) n =
-        let next = image (calendar_element_text x link) in
-        let is : link_from (calendar_join image) x link link.side ≡ next = from_is link.side x link in
-        holds_more x (climb_links (calendar_join image) (link_from (calendar_join image) x link link.side) links) next (calendar_rungs_from image next links) (calendar_rung_from x link)
-        (subst (λ (z : List ℕ). Holds image next (climb_links (calendar_join image) z links) (calendar_rungs_from image next links)) (sym is) (calendar_holds next links (sizes (calendar_element_text x link))))
-        (ap image (sym (calendar_text_is x link))) n refl
+  pub calendar_holds : (x : List ℕ) (links : List (TreeLink (List ℕ))) → Holds image x (climb_links (calendar_join image) x links) (calendar_rungs_from image x links)
+  calendar_holds x [] = refl
+  calendar_holds x (link ∷ links) =
+      let next = image (calendar_element_text x link) in
+      let is : link_from (calendar_join image) x link link.side ≡ next = from_is link.side x link in
+      holds_more x (climb_links (calendar_join image) (link_from (calendar_join image) x link link.side) links) next (calendar_rungs_from image next links) (calendar_rung_from x link)
+      (subst (λ (z : List ℕ). Holds image next (climb_links (calendar_join image) z links) (calendar_rungs_from image next links)) (sym is) (calendar_holds next links))
+      (ap image (sym (calendar_text_is x link))) refl
 
-    pub aggregation_holds : (x : Node) (links : List PlainLink) → length x.imprint ≡ 33 → Holds image x.imprint (climbed_to image x links).imprint (rungs_from image x links)
-    aggregation_holds x [] n = refl
-    aggregation_holds x (link ∷ links) n = holds_more x.imprint (climbed_to image (above image x link) links).imprint (above image x link).imprint (rungs_from image (above image x link) links) (rung_from x link)
-        (aggregation_holds (above image x link) links (sizes _)) refl n refl
+  pub aggregation_holds : (x : Node) (links : List PlainLink) → Holds image x.imprint (climbed_to image x links).imprint (rungs_from image x links)
+  aggregation_holds x [] = refl
+  aggregation_holds x (link ∷ links) = holds_more x.imprint (climbed_to image (above image x link) links).imprint (above image x link).imprint (rungs_from image (above image x link) links) (rung_from x link)
+      (aggregation_holds (above image x link) links) refl refl
 
-    pub climbed_size : (x : Node) (links : List PlainLink) → length x.imprint ≡ 33 → length (climbed_to image x links).imprint ≡ 33
-    climbed_size x [] n = n
-    climbed_size x (link ∷ links) n = climbed_size (above image x link) links (sizes _)
+  pub climbed_size : (sizes : (x : List ℕ) → length (image x) ≡ 33) (x : Node) (links : List PlainLink) → length x.imprint ≡ 33 → length (climbed_to image x links).imprint ≡ 33
+  climbed_size sizes x [] n = n
+  climbed_size sizes x (link ∷ links) n = climbed_size sizes (above image x link) links (sizes _)
 
-    -- links that are left, down from an imprint: the first so many lead to it
-    pub left_climbs : (x : Node) (y : List ℕ) (links : List PlainLink) (passed left : List Rung) (rung : Rung) → length x.imprint ≡ 33 → rungs_from image x links ≡ passed ++ rung ∷ left → Holds image x.imprint y (rung ∷ left)
-        → (climbed_to image x (take (length (rung ∷ left)) links)).imprint ≡ y
-    left_climbs x y links passed left rung n e h =
-        let m : ℕ = length (rung ∷ left) in
-        let count : length links ≡ length passed + m = sym (rungs_count x links) ∙ ap length e ∙ length-append passed (rung ∷ left) in
-        let parts = rungs_append image x (take m links) (drop m links) in
-        let all : rungs_from image (climbed_to image x (take m links)) (drop m links) ++ rungs_from image x (take m links) ≡ passed ++ rung ∷ left = sym parts ∙ ap (rungs_from image x) (take-append-drop m links) ∙ e in
-        let is : rungs_from image x (take m links) ≡ rung ∷ left = same_back _ _ _ _ all (rungs_count x (take m links) ∙ length-take-le m links (omega (arith, count))) in
-        let full = aggregation_holds x (take m links) n in
-        let there : Holds image x.imprint (climbed_to image x (take m links)).imprint (rung ∷ left) = subst (Holds image x.imprint (climbed_to image x (take m links)).imprint) is full in
-        there.0 ∙ sym h.0
+  -- links that are left, down from an imprint: the first so many lead to it
+  pub left_climbs : (x : Node) (y : List ℕ) (links : List PlainLink) (passed left : List Rung) (rung : Rung) → rungs_from image x links ≡ passed ++ rung ∷ left → Holds image x.imprint y (rung ∷ left)
+      → (climbed_to image x (take (length (rung ∷ left)) links)).imprint ≡ y
+  left_climbs x y links passed left rung e h =
+      let m : ℕ = length (rung ∷ left) in
+      let count : length links ≡ length passed + m = sym (rungs_count x links) ∙ ap length e ∙ length-append passed (rung ∷ left) in
+      let parts = rungs_append image x (take m links) (drop m links) in
+      let all : rungs_from image (climbed_to image x (take m links)) (drop m links) ++ rungs_from image x (take m links) ≡ passed ++ rung ∷ left = sym parts ∙ ap (rungs_from image x) (take-append-drop m links) ∙ e in
+      let is : rungs_from image x (take m links) ≡ rung ∷ left = same_back _ _ _ _ all (rungs_count x (take m links) ∙ length-take-le m links (omega (arith, count))) in
+      let full = aggregation_holds x (take m links) in
+      let there : Holds image x.imprint (climbed_to image x (take m links)).imprint (rung ∷ left) = subst (Holds image x.imprint (climbed_to image x (take m links)).imprint) is full in
+      there.0 ∙ sym h.0

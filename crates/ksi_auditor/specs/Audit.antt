@@ -1,10 +1,13 @@
 -- What an audit answers.
-use Rattle.std.specs.Prelude.{ℕ, ◌-◌, ◌==◌, nat_lt, List, [], ◌++◌, length, take, map, reverse, Option, Some, None, if◌then◌else◌}
+use Rattle.std.specs.Prelude.{ℕ, ◌-◌, ◌==◌, nat_lt, List, [], ◌++◌, length, take, map, reverse, Option, Some, None, Result, Ok, Err, if◌then◌else◌}
 use Rattle.std.specs.Result.{result_unwrap_or}
 use Rattle.std.specs.Str.{bytes_eq}
 use Rattle.ksi_split.specs.declared.side.Side.{Side}
 use Rattle.ksi_split.specs.Parts.{second_at}
+use Rattle.ksi_split.specs.declared.fault.ShapeFault.{ShapeFault}
+use Rattle.ksi_split.specs.declared.fault.ShapeFault.TheVariants.{TooMany, TooFew}
 use Rattle.ksi_aggtree.specs.declared.item.Item.{Item}
+use Rattle.ksi_aggtree.specs.Nodes.{text_of}
 use Rattle.ksi_aggchain.specs.Links.{PlainLink}
 use Rattle.ksi_beside.specs.Beside.{Pair, rungs_from, calendar_rungs_from, pairs_below, differing}
 use Rattle.ksi_calendar.specs.Covered.{first_missing, covered_root}
@@ -20,7 +23,7 @@ use Rattle.ksi_journal.specs.Journal.{Contents, root_at, items_at}
 use Rattle.ksi_journal.specs.Calendar.{calendar_of}
 use Rattle.ksi_auditor.specs.declared.answer.Audit.{Audit}
 use Rattle.ksi_auditor.specs.declared.answer.Audit.TheVariants.{Inside, Beneath, Clash, NotAccepted, BeforeStart, Undecided, NotDecided}
-use Rattle.ksi_auditor.specs.Kept.{calendar_text, items_text}
+use Rattle.ksi_auditor.specs.Kept.{calendar_text}
 
 -- the links of all aggregation chains of a signature, the lowest first
 abbrev pub links_of : Signature → List PlainLink
@@ -39,15 +42,21 @@ link_sides signature = sides_of (links_of signature)
 abbrev pub calendar_pairs : (List ℕ → List ℕ) → Contents → Calendar → List Pair
 calendar_pairs image journal calendar = pairs_below (calendar_text image (calendar_of journal) calendar.publication) [] (calendar_rungs_from image calendar.input calendar.links)
 
--- each aggregation link's string and that of the tree of the items, as far as an item
+-- each aggregation link's string and that of the tree of the items, as far down as it has one: to the leaf of an item without a
+-- name, or to the item below the leaf of a name
 abbrev pub item_pairs : (List ℕ → List ℕ) → List Item → List PlainLink → List ℕ → List Pair
-item_pairs image items links hash = pairs_below (items_text image items) [] (rungs_from image (at_level_zero hash) links)
+item_pairs image items links hash = pairs_below (text_of image items) [] (rungs_from image (at_level_zero hash) links)
 
 -- ---- where the links end
 
--- the item, of so many, whose way the sides are
+-- the item, of so many, whose leaf the sides lead to, or pass where they are too many
+abbrev pub item_by : ℕ → List Side → Result ℕ ShapeFault → ℕ
+item_by count sides (Ok item) = item
+item_by count sides (Err (TooMany place)) = result_unwrap_or (second_at (count - 1) (take place sides)) 0
+item_by count sides (Err (TooFew rest)) = 0
+
 abbrev pub item_named : ℕ → List Side → ℕ
-item_named count sides = result_unwrap_or (second_at (count - 1) sides) 0
+item_named count sides = item_by count sides (second_at (count - 1) sides)
 
 -- where all links have a string beside them, the sides lead to a node; else they come to an item, and links are left
 abbrev pub ends : ℕ → ℕ → List Side → ℕ → Audit

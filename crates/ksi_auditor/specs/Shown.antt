@@ -1,15 +1,19 @@
 -- What the answers of an audit show.
 use Rattle.std.specs.Prelude.{◌≡◌, ℕ, ◌-◌, ◌<◌, ◌≤◌, List, length, take, Option, Some, option_map}
+use Rattle.std.specs.List.{AllByRecursion}
 use Rattle.ksi_imprint.specs.Imprints.{IsClash}
 use Rattle.ksi_split.specs.declared.side.Side.{Side}
-use Rattle.ksi_split.specs.Ways.{IsWay, NamesSecond}
+use Rattle.ksi_split.specs.Ways.{NamesSecond}
 use Rattle.ksi_aggchain.specs.Climbing.{Climbs}
 use Rattle.ksi_aggchain.specs.declared.node.Node.{Node}
 use Rattle.ksi_aggtree.specs.declared.item.Item.{Item}
-use Rattle.ksi_aggtree.specs.Rounds.{item_at, node_of}
+use Rattle.ksi_aggtree.specs.Nodes.{node_of}
+use Rattle.ksi_aggtree.specs.Paths.{item_way}
+use Rattle.ksi_aggtree.specs.Rounds.{item_at}
 use Rattle.ksi_beside.specs.Beside.{AreShort}
 use Rattle.ksi_calchain.specs.Sides.{sides_from_top}
 use Rattle.ksi_calendar.specs.Covered.{IsCovered, covered_root}
+use Rattle.ksi_signature.specs.Kept.{IsLink}
 use Rattle.ksi_signature.specs.Values.{Calendar}
 use Rattle.ksi_signature.specs.declared.signature.Signature.{Signature}
 use Rattle.ksi_verifier.specs.Chains.{at_level_zero}
@@ -18,6 +22,10 @@ use Rattle.ksi_journal.specs.Journal.{Contents, root_at, items_at}
 use Rattle.ksi_auditor.specs.declared.answer.Audit.{Audit}
 use Rattle.ksi_auditor.specs.declared.answer.Audit.TheVariants.{Inside, Beneath, Clash, NotAccepted, BeforeStart, Undecided, NotDecided}
 use Rattle.ksi_auditor.specs.Audit.{links_of, link_sides}
+
+-- the links of its chains are such as are read: where the sibling of one is an imprint, it is one
+abbrev pub HasLinks : Signature → Type 0
+HasLinks signature = AllByRecursion (λ chain. AllByRecursion IsLink chain.links) signature.chains
 
 -- the sides of the signature's calendar links name second t
 pub record Names (signature : Signature) (t : ℕ) : Type 0 where
@@ -44,7 +52,7 @@ pub record IsBeneath (image : List ℕ → List ℕ) (journal : Contents) (signa
   pub top : Node
   pub climbs : Climbs image (at_level_zero hash) (take links (links_of signature)) top
   pub imprint : top.imprint ≡ (item_at (items_at journal t) item).imprint
-  pub way : IsWay item (length (items_at journal t)) (take (length (links_of signature) - links) (link_sides signature))
+  pub way : take (length (links_of signature) - links) (link_sides signature) ≡ item_way (items_at journal t) item
 
 -- the signature's publication is decided: all seconds from the start to its time are kept, and its links lead to their root
 pub record IsDecided (image : List ℕ → List ℕ) (journal : Contents) (signature : Signature) : Type 0 where

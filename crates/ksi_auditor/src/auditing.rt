@@ -1,7 +1,7 @@
 ghost use Rattle.std.specs.Prelude.{◌≡◌, ◌<◌, ◌≤◌, ◌-◌, ◌^◌, ℕ, [], Some, None, IfOk, OnErr, length, map};
 ghost use Rattle.ksi_aggchain.specs.Climbing.{level_after};
 ghost use Rattle.ksi_aggchain.specs.Links.{highest_level};
-ghost use Rattle.ksi_aggtree.specs.Rounds.{most_items, highest_item, item_at};
+ghost use Rattle.ksi_aggtree.specs.Rounds.{IsRound, most_items};
 ghost use Rattle.ksi_signature.specs.PartsSeen.{calendar_seen};
 ghost use Rattle.ksi_signature.specs.Seen.{seen};
 ghost use Rattle.ksi_verifier.specs.Leading.{all_links};
@@ -14,7 +14,7 @@ ghost use Rattle.ksi_auditor.specs.declared.answer.Audit.TheVariants as answers;
 
 use crate::answer::Audit;
 use crate::calendar::CalendarTo;
-use crate::chains::{along_chains, count_of};
+use crate::chains::{along_chains, are_links, count_of};
 use crate::items::ItemsOf;
 use crate::laws::{audit_shows, low_levels};
 use ksi_aggchain::Node;
@@ -27,7 +27,7 @@ use ksi_journal::Journal;
 use ksi_journal::laws::calendar_is_covered;
 use ksi_publications::Publications;
 use ksi_signature::{CalendarView, ChainView, SignatureView};
-use ksi_split::second_of;
+use ksi_split::{ShapeFault, Side, second_of};
 use ksi_verifier::{CalendarPart, Refusal, Verdict, lent_calendar, verify_view};
 use std::alloc::Global;
 use std::marker::PhantomData;
@@ -55,6 +55,7 @@ pub fn audit_view<C: Compress>(
     ensures short { IfOk result IsShort }
 {
     audit_shows();
+    are_links(signature.chains());
     let _start = journal.start();
     let _bytes = hash.bytes();
     answer::<C>(alloc, journal, signature, hash, publications)
@@ -202,8 +203,7 @@ fn lay_below<C: Compress>(
     hash: &Imprint,
     second: u64,
 ) -> Result<Audit, NoMemory>
-    requires few { length items.now ≤ most_items }
-    requires low { (k : ℕ) → (item_at items.now k).level ≤ highest_item }
+    requires round { IsRound items.now }
     requires count { length chains.now ≤ 16 }
     requires levels { level_after 0 (all_links (map lent_chain chains.now)) ≤ highest_level }
     ensures audit { IfOk result (λ audit. audit ≡
@@ -231,13 +231,25 @@ fn lay_below<C: Compress>(
     }
 }
 
-/// The item whose way leads to a place, and the links that are left there.
+/// The item that a place belongs to, and the links that are left there.
 fn beneath(second: u64, items: u64, place: &Place, links: u64) -> Audit
     requires few { items ≤ most_items }
     requires some { length place.now ≤ links }
     ensures { result ≡ answers.Beneath second (item_named items place.now) (links - length place.now) }
 {
-    let last = items.saturating_sub(1);
-    let item = second_of(last, place.way().as_slice()).unwrap_or(0);
+    let item = item_named(items, place.way().as_slice());
     Audit::Beneath(second, item, links - u64::from(place.depth()))
+}
+
+/// The item whose leaf the sides lead to, or pass: below the leaf of a name stands the item that has it.
+fn item_named(items: u64, sides: &[Side]) -> u64
+    requires { items ≤ most_items }
+    ensures { result ≡ item_named items sides.now }
+{
+    let last = items.saturating_sub(1);
+    match second_of(last, sides) {
+        Ok(item) => item,
+        Err(ShapeFault::TooMany(place)) => second_of(last, &sides[..place]).unwrap_or(0),
+        Err(ShapeFault::TooFew(_)) => 0,
+    }
 }

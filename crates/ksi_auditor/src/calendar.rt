@@ -1,7 +1,7 @@
 ghost use Rattle.std.specs.Prelude.{◌<◌, ◌^◌};
 
 use crate::deep::deep_places;
-use ksi_beside::{KeptTree, Parts, Place};
+use ksi_beside::{KeptTree, NodeParts, OtherPart, Place};
 use ksi_calendar::Calendar;
 use ksi_imprint::Compress;
 use ksi_split::Side;
@@ -19,7 +19,7 @@ impl<C: Compress> KeptTree for CalendarTo<'_, C> {
 
     ghost text = { λ tree. calendar_text C.image tree.calendar.now tree.last };
 
-    fn parts(&self, place: &Place) -> Option<Parts> {
+    fn parts(&self, place: &Place) -> Option<NodeParts> {
         deep_places();
         if place.depth() >= 63 {
             return None;
@@ -30,9 +30,9 @@ impl<C: Compress> KeptTree for CalendarTo<'_, C> {
         let right = self
             .calendar
             .node(self.last, place.below(Side::Right).way().as_slice())?;
-        Some(Parts {
+        Some(NodeParts {
             left,
-            right,
+            other: OtherPart::Imprint(right),
             level: 0xff,
         })
     }

@@ -4,6 +4,8 @@ ghost use Rattle.std.specs.List.{AllByRecursion};
 ghost use Rattle.ksi_aggchain.specs.Links.{highest_level};
 ghost use Rattle.ksi_aggchain.specs.Climbing.{level_after};
 ghost use Rattle.ksi_beside.specs.Beside.{IsApart, IsShortWalk, laid_from, rungs_from};
+ghost use Rattle.ksi_signature.specs.Kept.{IsLink};
+ghost use Rattle.ksi_signature.specs.PartsSeen.{chain_seen};
 ghost use Rattle.ksi_verifier.specs.Leading.{all_links};
 ghost use Rattle.ksi_verifier.specs.Lent.{lent_chain};
 
@@ -38,6 +40,19 @@ pub(crate) fn along_chains<C: Compress, K: KeptTree>(
     let top = top_of::<C>(below, links.as_slice());
     let walk = along_chains::<C, K>(alloc, tree, &top, higher)?;
     along_links::<C, K, LinkView<'_>>(alloc, tree, walk, below, links.as_slice())
+}
+
+/// What the links of lent chains have as imprints are imprints.
+pub(crate) fn are_links(chains: &[ChainView<'_>])
+    ensures { AllByRecursion (λ chain. AllByRecursion IsLink chain.links) (map chain_seen chains.now) }
+{
+    match chains.split_first() {
+        None => {}
+        Some((chain, higher)) => {
+            let _links = chain.links();
+            are_links(higher);
+        }
+    }
 }
 
 /// How many links the chains have.

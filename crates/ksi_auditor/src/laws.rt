@@ -12,28 +12,33 @@ ghost use Rattle.ksi_verifier.specs.declared.verdict.Verdict.TheVariants as verd
 ghost use Rattle.ksi_journal.specs.Journal.{Contents, IsJournal, root_at};
 ghost use Rattle.ksi_auditor.specs.declared.answer.Audit.TheVariants as answers;
 ghost use Rattle.ksi_auditor.specs.Audit.{audit, links_of};
-ghost use Rattle.ksi_auditor.specs.Shown.{IsDecided, Shows, Tells};
+ghost use Rattle.ksi_auditor.specs.Shown.{HasLinks, IsDecided, Shows, Tells};
 
-use ksi_aggtree::laws::one_round;
+use ksi_aggtree::laws::{metas_are_even, one_part, one_round, one_text};
 use ksi_beside::laws::beside_a_tree;
 use ksi_calendar::laws::{one_calendar, one_first_missing};
 use ksi_journal::laws::calendar_is_covered;
-use ksi_split::laws::{one_answer, one_split, parts};
+use ksi_split::laws::{one_answer, one_split, one_way, parts};
 use ksi_verifier::laws::{accepted, joined};
 
-/// Whatever an audit answers, it shows what it says, for every hash function whose images are imprints.
+/// Whatever an audit answers of a signature whose links are such as are read, it shows what it says, for every hash function
+/// whose images are imprints.
 pub fn audit_shows()
     ensures { (image : List ℕ → List ℕ) (journal : Contents) (signature : Signature) (hash : List ℕ)
         (publications : List (ℕ × List ℕ)) → ((bytes : List ℕ) → IsImprint (image bytes)) → IsJournal image journal →
-        IsImprint hash → Shows image journal signature hash (audit image journal signature hash publications) }
+        IsImprint hash → HasLinks signature → Shows image journal signature hash (audit image journal signature hash publications) }
 {
     parts();
     one_split();
     one_answer();
+    one_way();
     beside_a_tree();
     one_calendar();
     one_first_missing();
     one_round();
+    one_part();
+    one_text();
+    metas_are_even();
     ksi_aggchain::laws::one_climb();
     ksi_calchain::laws::one_climb();
     joined();
@@ -66,7 +71,6 @@ pub fn missed_seconds()
     beside_a_tree();
     one_calendar();
     one_first_missing();
-    one_round();
     ksi_aggchain::laws::one_climb();
     ksi_calchain::laws::one_climb();
     joined();

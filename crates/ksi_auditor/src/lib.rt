@@ -2,8 +2,9 @@
 //!
 //! A lent signature is laid beside a journal. The string that each of its links hashes is compared, from the top, with the
 //! string of the kept tree at that place: first along the calendar, then along the tree of the second that the calendar
-//! links name. Where all strings are equal, the hash is a node of that tree, or its lowest links lead to an item of it. The
-//! first string that differs has the imprint of the kept one, so that it shows a clash of the hash function.
+//! links name. Where all strings are equal, the hash is a node of that tree, or its lowest links lead to an item of it. An
+//! item that has a name stands on the left below its leaf, whose string is the item's imprint, the name's metadata and the
+//! leaf's level. The first string that differs has the imprint of the kept one, so that it shows a clash of the hash function.
 //!
 //! The layer above may rely on this: [`audit_view`] gives exactly the answer that its definition computes of the signature
 //! that is shown, and what each answer says holds, whatever the hash function is; the proof needs no premise about it but
@@ -29,7 +30,6 @@ mod chains;
 mod deep;
 mod items;
 pub mod laws;
-mod nodes;
 mod reached;
 
 pub use answer::Audit;

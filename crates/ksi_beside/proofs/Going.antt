@@ -1,6 +1,6 @@
 -- Links laid beside a tree, the ones of the code beside those of the definitions.
-use Rattle.std.proofs.Common.{◌≡◌, ◌≢◌, ℕ, suc, ◌+◌, List, [], ◌∷◌, ◌++◌, map, take, length, Result, Ok, Err, Option, Some, None, refl, sym, ap, subst, ◌∙◌, arith, inl, inr, ◌⊎◌, append_assoc, append-nil}
-use Rattle.std.specs.Prelude.{IfOk, OnErr, ◌==◌, if◌then◌else◌}
+use Rattle.std.proofs.Common.{◌≡◌, ℕ, suc, List, [], ◌∷◌, ◌++◌, map, take, length, Result, Ok, Err, Option, Some, None, refl, sym, ap, subst, ◌∙◌, inl, inr, ◌⊎◌, append_assoc, append-nil}
+use Rattle.std.specs.Prelude.{IfOk, OnErr}
 use Rattle.ksi_imprint.specs.declared.clash.Clash.{Clash}
 use Rattle.ksi_split.specs.declared.side.Side.{Side}
 use Rattle.ksi_split.specs.declared.side.Side.TheVariants.{Left, Right}
@@ -10,7 +10,7 @@ use Rattle.ksi_aggchain.specs.Links.{PlainLink, side_text}
 use Rattle.ksi_aggchain.specs.Climbing.{above}
 use Rattle.ksi_aggchain.specs.declared.node.Node.{Node}
 use Rattle.ksi_calchain.specs.Climbing.{calendar_element_text, calendar_join_text}
-use Rattle.ksi_beside.specs.Beside.{Rung, Pair, rung_side, rung_text, rung_from, rungs_from, calendar_rung_from, calendar_rungs_from, pairs_below, differing, ended, laid_from, laid_on, IsApart}
+use Rattle.ksi_beside.specs.Beside.{Rung, Pair, rung_side, rung_text, rung_from, rungs_from, calendar_rung_from, calendar_rungs_from, ended, laid_from, laid_on, IsApart}
 use Rattle.ksi_beside.specs.Walks.{step, go}
 use Rattle.ksi_beside.specs.declared.walk.Walk.{Walk}
 use Rattle.ksi_beside.specs.declared.walk.Walk.TheVariants.{Apart, At, Past}

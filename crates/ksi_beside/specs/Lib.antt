@@ -1,4 +1,3 @@
-pub mod Parts
 pub mod Beside
 pub mod Standing
 pub mod Walks

@@ -6,9 +6,11 @@
 //!
 //! The layer above may rely on this: [`along_calendar`] and [`along_links`] say exactly what their definition says: the
 //! first string of a link that is another one than the tree's, with that one, or the place that the links end at, or the
-//! one where the tree has no parts and links are left. Whoever keeps the tree says so by [`KeptTree`]. Links of several
-//! chains are laid one chain after the other, the uppermost first. Memory is taken for both strings of a clash alone, so
-//! that it is wanting only where the answer is a clash. What holds of the definition is in [`laws`].
+//! one where the tree has no join and links are left. Whoever keeps the tree says so by [`KeptTree`]. Two strings are the same
+//! where all their bytes are, wherever each is cut into its parts: the left part is an imprint, but the right one may be
+//! metadata of any length. Links of several chains are laid one chain after the other, the uppermost first. Memory is taken for
+//! both strings of a clash alone, so that it is wanting only where the answer is a clash. What holds of the definition is in
+//! [`laws`].
 //!
 //! ```text
 //! match along_links::<Sha, Tree, Link>(alloc, &tree, Walk::At(Place::top()), &below, &links)? {
@@ -25,7 +27,8 @@ mod place;
 mod rung;
 mod walk;
 
-pub use kept::{KeptTree, Parts};
+pub use kept::KeptTree;
+pub use ksi_aggtree::{NodeParts, OtherPart};
 pub use ksi_imprint::{Clash, NoMemory};
 pub use place::Place;
 pub use walk::{Walk, along_calendar, along_links};

@@ -8,7 +8,7 @@ ghost use Rattle.ksi_beside.specs.declared.walk.Walk.TheVariants as walks;
 
 use crate::kept::KeptTree;
 use crate::place::Place;
-use crate::rung::{Rung, is_joined_of, join_of, text_of};
+use crate::rung::{Rung, is_joined_of, join_of, text_of, text_of_parts};
 use ksi_aggchain::{ChainLink, Node};
 use ksi_calchain::CalendarLink;
 use ksi_imprint::{Clash, Compress, Imprint, NoMemory};
@@ -21,7 +21,7 @@ pub enum Walk {
     Apart(Clash),
     /// Each link's string is the kept one, down to this place.
     At(Place),
-    /// Each link's string is the kept one down to this place, which has no parts, and further links are left.
+    /// Each link's string is the kept one down to this place, which is no join, and further links are left.
     Past(Place),
 }
 
@@ -179,6 +179,6 @@ fn lay<K: KeptTree>(
         return Ok(Walk::At(place.below(rung.side)));
     }
     let one = text_of(alloc, rung)?;
-    let two = parts.text(alloc)?;
+    let two = text_of_parts(alloc, &parts)?;
     Ok(Walk::Apart(Clash { one, two }))
 }

@@ -24,8 +24,7 @@ lay_below-requires g c =
     let image = g.C.Compress.image in
     let kept = subst (KeptItems image) (sym c.items.ensures) (items_kept image c.args.journal.now c.args.second c.requires.journal) in
     record {
-      few = kept.few;
-      low = λ k. item_level c.items.result.now k kept.each;
+      round = record { few = kept.few; low = λ k. item_level c.items.result.now k kept.each };
       count = c.requires.few;
       levels = c.requires.levels;
     }

@@ -5,4 +5,4 @@ pub returns-clause-calendar : goal.returns-clause-calendar
 returns-clause-calendar c = deep_calendar c.parts.ensures.leaves c.short_ways.ensures
 
 pub returns-clause-items : goal.returns-clause-items
-returns-clause-items c = deep_items c.parts.ensures.leaves c.short_ways.ensures
+returns-clause-items c = deep_items c.parts.ensures.leaves c.short_ways.ensures c.one_text.ensures.only

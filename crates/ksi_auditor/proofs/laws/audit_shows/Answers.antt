@@ -1,4 +1,4 @@
-use Rattle.ksi_auditor.proofs.Cited.{Laws}
+use Rattle.ksi_auditor.proofs.Cited.{Laws, RoundLaws}
 use Rattle.ksi_auditor.proofs.Showing.{audit_shows}
 use Rattle.ksi_auditor.proofs.laws.audit_shows.Goals as goal
 
@@ -10,8 +10,6 @@ returns c =
       second = c.one_answer.ensures.second;
       calendar_one = c.one_calendar.ensures.one_second;
       calendar_cut = c.one_calendar.ensures.cut;
-      aggregation_one = c.one_round.ensures.one_item;
-      aggregation_cut = c.one_round.ensures.cut;
       climbs = c.one_climb.ensures.climbs;
       calendar_climbs = c.one_climb-2.ensures.value;
       lead = c.joined.ensures.links;
@@ -24,4 +22,18 @@ returns c =
       clash = c.beside_a_tree.ensures.clash;
       beside = c.beside_a_tree.ensures.within;
     } in
-    λ image journal signature hash publications lawful is_journal imprint. audit_shows laws image lawful journal is_journal signature hash publications imprint.size
+    let rounds : RoundLaws = record {
+      only = c.parts.ensures.only;
+      way = c.one_way.ensures.way;
+      one_item = c.one_round.ensures.one_item;
+      node = c.one_part.ensures.some;
+      node_below = c.one_part.ensures.item;
+      nodes = c.one_part.ensures.only;
+      text = c.one_text.ensures.parts;
+      named = c.one_text.ensures.named;
+      unnamed = c.one_text.ensures.unnamed;
+      texts = c.one_text.ensures.only;
+      hashed = c.one_text.ensures.hashed;
+      even = c.metas_are_even.ensures.even;
+    } in
+    λ image journal signature hash publications lawful is_journal imprint are. audit_shows laws image lawful journal is_journal signature hash publications imprint.size rounds are

@@ -1,33 +1,17 @@
-use Rattle.std.proofs.Common.{length, sym, ap, ◌∙◌}
+use Rattle.std.proofs.Common.{List, ℕ, ◌++◌, ap, ◌∙◌}
 use Rattle.std.specs.Str.{bytes_eq}
-use Rattle.ksi_beside.proofs.Strings.{equal, unequal, test_is, test_not, test_levels, left_differs, right_differs}
+use Rattle.ksi_aggtree.specs.Nodes.{other_bytes}
+use Rattle.ksi_beside.proofs.Strings.{level_differs, level_same}
 use Rattle.ksi_beside.proofs.rung.is_text_of.Goals as goal
 
-pub returns-then-ne : goal.returns-then-ne
-returns-then-ne c =
-    let p = c.args.parts.now in
-    let left = c.as_slice-first.ensures ∙ c.bytes.ensures.value in
-    let left_size = ap length (sym c.bytes.ensures.value) ∙ c.bytes.ensures.imprint.size in
-    let right_size = ap length (sym c.bytes-2.ensures.value) ∙ c.bytes-2.ensures.imprint.size in
-    let other = test_not c.args.left.now c.as_slice-first.result.now (unequal (bytes_eq c.args.left.now c.as_slice-first.result.now) (sym c.ne.ensures ∙ c.if-ne.true)) in
-    left_differs c.args.left.now c.args.right.now p.left p.right c.args.level p.level c.requires left_size right_size (λ same. other (same ∙ sym left))
-
-pub returns-then-ne-2 : goal.returns-then-ne-2
-returns-then-ne-2 c =
-    let p = c.args.parts.now in
-    let right = c.as_slice-second.ensures ∙ c.bytes-2.ensures.value in
-    let left_size = ap length (sym c.bytes.ensures.value) ∙ c.bytes.ensures.imprint.size in
-    let right_size = ap length (sym c.bytes-2.ensures.value) ∙ c.bytes-2.ensures.imprint.size in
-    let other = test_not c.args.right.now c.as_slice-second.result.now (unequal (bytes_eq c.args.right.now c.as_slice-second.result.now) (sym c.ne-2.ensures ∙ c.if-ne-2.true)) in
-    right_differs c.args.left.now c.args.right.now p.left p.right c.args.level p.level c.requires left_size right_size (λ same. other (same ∙ sym right))
+pub returns-then-level-parts : goal.returns-then-level-parts
+returns-then-level-parts c = let p = c.args.parts.now in level_differs c.args.left.now c.args.right.now p.left (other_bytes p.other) c.args.level p.level c.if-level-parts.true
 
 pub returns : goal.returns
 returns c =
     let p = c.args.parts.now in
     let left = c.as_slice-first.ensures ∙ c.bytes.ensures.value in
-    let right = c.as_slice-second.ensures ∙ c.bytes-2.ensures.value in
-    let left_size = ap length (sym c.bytes.ensures.value) ∙ c.bytes.ensures.imprint.size in
-    let right_size = ap length (sym c.bytes-2.ensures.value) ∙ c.bytes-2.ensures.imprint.size in
-    let one = test_is c.args.left.now c.as_slice-first.result.now (equal (bytes_eq c.args.left.now c.as_slice-first.result.now) (sym c.ne.ensures ∙ c.if-ne.false)) in
-    let two = test_is c.args.right.now c.as_slice-second.result.now (equal (bytes_eq c.args.right.now c.as_slice-second.result.now) (sym c.ne-2.ensures ∙ c.if-ne-2.false)) in
-    test_levels c.args.left.now c.args.right.now p.left p.right c.args.level p.level c.requires left_size right_size (one ∙ left) (two ∙ right)
+    c.are_together.ensures
+    ∙ ap (λ (x : List ℕ). bytes_eq (c.args.left.now ++ c.args.right.now) (x ++ c.bytes-2.result.now)) left
+    ∙ ap (λ (x : List ℕ). bytes_eq (c.args.left.now ++ c.args.right.now) (p.left ++ x)) c.bytes-2.ensures.bytes
+    ∙ level_same c.args.left.now c.args.right.now p.left (other_bytes p.other) c.args.level p.level c.if-level-parts.false

@@ -1,4 +1,4 @@
-use Rattle.std.proofs.Common.{◌≡◌, ◌+◌, map, refl}
+use Rattle.std.proofs.Common.{◌≡◌, ◌+◌, map}
 use Rattle.ksi_beside.specs.Beside.{Rung, rung_from, rungs_from}
 use Rattle.ksi_beside.specs.Walks.{go}
 use Rattle.ksi_beside.proofs.Going.{ok_goes_on, err_goes_on, err_told, chain_down, chain_apart}
