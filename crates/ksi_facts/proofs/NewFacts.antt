@@ -257,15 +257,15 @@ module _ (t : ℕ) (r : RoundState) where
   more : (new : Entry) → RoundAdds (Accepted new ∷ []) (record { open_items = r.open_items ++ new ∷ []; closed = r.closed; answered = r.answered })
   more new = sym (ap (did t) round_stays)
 
-  pub request_adds : (number : ℕ) (imprint : List ℕ) → RoundAdds (numbered imprint (round_request number imprint r).answer) (round_request number imprint r).after
+  pub request_adds : (number : ℕ) (imprint : List ℕ) (name : Option (List ℕ)) → RoundAdds (numbered imprint name (round_request number imprint name r).answer) (round_request number imprint name r).after
   unfolding round_request
-  request_adds number imprint =
+  request_adds number imprint name =
       cond_both (is_some r.closed) _ _ P (λ _. still_round [] refl)
       (λ _. cond_both (is_full r.open_items) _ _ P (λ _. still_round [] refl)
-      (λ _. more (request_entry number imprint)))
+      (λ _. more (request_entry number imprint name)))
     where
       P : RoundTurn → Type 0
-      P turn = RoundAdds (numbered imprint turn.answer) turn.after
+      P turn = RoundAdds (numbered imprint name turn.answer) turn.after
 
   pub item_adds : (from : ℕ) (item : Item) → RoundAdds (where_done (round_submission from item r).answer (Accepted (submitted_entry from item))) (round_submission from item r).after
   unfolding round_submission

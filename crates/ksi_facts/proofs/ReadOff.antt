@@ -131,7 +131,7 @@ module _ (image : List ℕ → List ℕ) (plan : PlanState) where
 
   grew : (w : WorldState) (e : Event) → Grew w e (happens image plan w e)
   unfolding happens
-  grew w (events.Request k t imprint) = record { more = map (round_message plan k t) (round_request (length w.requests) imprint (w.rounds k t)).sends; wire = refl; requests = refl; published = refl }
+  grew w (events.Request k t imprint name) = record { more = map (round_message plan k t) (round_request (length w.requests) imprint name (w.rounds k t)).sends; wire = refl; requests = refl; published = refl }
   grew w (events.Close k t) = record { more = map (round_message plan k t) (round_close image (w.rounds k t)).sends; wire = refl; requests = refl; published = refl }
   grew w (events.Seal j t) = record { more = map (core_message j t) (seal_row image (w.seconds j t)).sends; wire = refl; requests = refl; published = refl }
   grew w (events.Ballot j t) = record { more = map (core_message j t) (ballot_row (core_plan_of plan) t j (w.seconds j t)).sends; wire = refl; requests = refl; published = refl }

@@ -1,15 +1,14 @@
 -- After every history, every second and every round is what was seen of it.
 use Rattle.ksi_schedule.specs.Plans.{core_plan_of}
-use Rattle.std.proofs.Common.{◌≡◌, ℕ, ◌<◌, Bool, true, false, cond, ◌&&◌, eqb, List, [], ◌∷◌, ◌++◌, map, length, drop, zero, suc, refl, sym, ap, subst, ◌∙◌, arith, inl, inr, Option, Some, None}
+use Rattle.std.proofs.Common.{◌≡◌, ℕ, ◌<◌, Bool, true, false, cond, ◌&&◌, eqb, List, [], ◌∷◌, ◌++◌, map, length, drop, refl, sym, ap, subst, ◌∙◌, arith, Option, Some, None}
 use Rattle.std.specs.Prelude.{slice_get}
 use Rattle.std.proofs.Math.Seq.{drop-append_seam}
-use Rattle.std.proofs.lemmas.Bool.{eqb-true, and_parts, false≢true, or_cases}
+use Rattle.std.proofs.lemmas.Bool.{eqb-true, and_parts, false≢true}
 use Rattle.std.proofs.lemmas.List.{append-nil}
-use Rattle.std.proofs.lemmas.List.Folds.{list_any-append}
 use Rattle.ksi_aggtree.specs.declared.item.Item.{Item}
 use Rattle.ksi_synod.specs.declared.messages.SynodMessage.{SynodMessage}
 use Rattle.ksi_synod.specs.declared.messages.SynodMessage.TheVariants as votes
-use Rattle.ksi_synod.specs.Voters.{cores_below, is_voter}
+use Rattle.ksi_synod.specs.Voters.{is_voter}
 use Rattle.ksi_synod.specs.VoteState.{Hand, fresh_vote}
 use Rattle.ksi_signature.specs.declared.above.Above.{Above}
 use Rattle.ksi_signature.specs.declared.answer.Answer.{Answer}
@@ -23,7 +22,7 @@ use Rattle.ksi_schedule.specs.declared.actor.Actor.{Actor}
 use Rattle.ksi_schedule.specs.declared.actor.Actor.TheVariants as actors
 use Rattle.ksi_schedule.specs.declared.event.Event.{Event}
 use Rattle.ksi_schedule.specs.declared.event.Event.TheVariants as events
-use Rattle.ksi_schedule.specs.Plans.{PlanState, IsPlan}
+use Rattle.ksi_schedule.specs.Plans.{PlanState}
 use Rattle.ksi_world.specs.declared.message.Content.{Content}
 use Rattle.ksi_world.specs.declared.message.Content.TheVariants as contents
 use Rattle.ksi_world.specs.declared.message.Message.{Message}
@@ -153,11 +152,11 @@ module _ (image : List ℕ → List ℕ) (plan : PlanState) (is : IsPlanned plan
         (core_turned (plain (events.Ballot i u) turn.answer sent) i u (λ b. tries (first sent)) (λ b. refl) turn
         (ballot_so image (voters_of (core_plan_of plan) u) (small u) u (Ds past (actors.Core i) u) (w.seconds i u) (all.seconds i u) (core_plan_of plan) i (is.voters u).some))
 
-    request_step : (k u : ℕ) (imprint : List ℕ) (sent : List Message) → All (request_happens plan w k u imprint).world (plain (events.Request k u imprint) (round_request (length w.requests) imprint (w.rounds k u)).answer sent ∷ past)
-    request_step k u imprint sent =
-        let turn = round_request (length w.requests) imprint (w.rounds k u) in
-        let now : All (at_round plan w k u turn).world (plain (events.Request k u imprint) turn.answer sent ∷ past) = round_turned (plain (events.Request k u imprint) turn.answer sent) k u (λ b. numbered imprint turn.answer) (λ b. refl) turn
-        (rows.request_so u (Ds past (actors.Aggregator k) u) (w.rounds k u) (all.rounds k u) (length w.requests) imprint) in
+    request_step : (k u : ℕ) (imprint : List ℕ) (name : Option (List ℕ)) (sent : List Message) → All (request_happens plan w k u imprint name).world (plain (events.Request k u imprint name) (round_request (length w.requests) imprint name (w.rounds k u)).answer sent ∷ past)
+    request_step k u imprint name sent =
+        let turn = round_request (length w.requests) imprint name (w.rounds k u) in
+        let now : All (at_round plan w k u turn).world (plain (events.Request k u imprint name) turn.answer sent ∷ past) = round_turned (plain (events.Request k u imprint name) turn.answer sent) k u (λ b. numbered imprint name turn.answer) (λ b. refl) turn
+        (rows.request_so u (Ds past (actors.Aggregator k) u) (w.rounds k u) (all.rounds k u) (length w.requests) imprint name) in
         record { seconds = now.seconds; rounds = now.rounds }
 
     close_step : (k u : ℕ) (sent : List Message) → All (at_round plan w k u (round_close image (w.rounds k u))).world (plain (events.Close k u) (round_close image (w.rounds k u)).answer sent ∷ past)
@@ -291,7 +290,7 @@ module _ (image : List ℕ → List ℕ) (plan : PlanState) (is : IsPlanned plan
 
     step : (e : Event) → All (happens image plan w e).world (seen_of image plan w e ∷ past)
     unfolding happens
-    step (events.Request k u imprint) = request_step k u imprint (behind (w.wire ++ map (round_message plan k u) (round_request (length w.requests) imprint (w.rounds k u)).sends))
+    step (events.Request k u imprint name) = request_step k u imprint name (behind (w.wire ++ map (round_message plan k u) (round_request (length w.requests) imprint name (w.rounds k u)).sends))
     step (events.Close k u) = close_step k u (behind (w.wire ++ map (round_message plan k u) (round_close image (w.rounds k u)).sends))
     step (events.Seal i u) = seal_step i u (behind (w.wire ++ map (core_message i u) (seal_row image (w.seconds i u)).sends))
     step (events.Ballot i u) = ballot_step i u

@@ -31,15 +31,15 @@ module _ (t : ℕ) (ds : List Deed) (r : RoundState) (so : IsRoundSo ds r) where
     shut = λ items is. absurd (cc (none, is));
   }
 
-  pub request_so : (number : ℕ) (imprint : List ℕ) → After (numbered imprint (round_request number imprint r).answer) (round_request number imprint r).after
+  pub request_so : (number : ℕ) (imprint : List ℕ) (name : Option (List ℕ)) → After (numbered imprint name (round_request number imprint name r).answer) (round_request number imprint name r).after
   unfolding round_request
-  request_so number imprint =
+  request_so number imprint name =
       cond_both (is_some r.closed) _ _ P (λ _. so)
       (λ none. cond_both (is_full r.open_items) _ _ P (λ _. so)
       (λ _. more _ (none_is r.closed none)))
     where
       P : RoundTurn → Type 0
-      P turn = After (numbered imprint turn.answer) turn.after
+      P turn = After (numbered imprint name turn.answer) turn.after
 
   pub submission_so : (from : ℕ) (item : Item) → After (where_done (round_submission from item r).answer (Accepted (submitted_entry from item))) (round_submission from item r).after
   unfolding round_submission

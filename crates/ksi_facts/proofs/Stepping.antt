@@ -21,7 +21,7 @@ use Rattle.ksi_schedule.specs.declared.actor.Actor.{Actor}
 use Rattle.ksi_schedule.specs.declared.actor.Actor.TheVariants as actors
 use Rattle.ksi_schedule.specs.declared.event.Event.{Event}
 use Rattle.ksi_schedule.specs.declared.event.Event.TheVariants as events
-use Rattle.ksi_schedule.specs.Plans.{PlanState, IsPlan}
+use Rattle.ksi_schedule.specs.Plans.{PlanState}
 use Rattle.ksi_world.specs.declared.message.Content.{Content}
 use Rattle.ksi_world.specs.declared.message.Content.TheVariants as contents
 use Rattle.ksi_world.specs.declared.message.Message.{Message}
@@ -105,7 +105,7 @@ module _ (image : List ℕ → List ℕ) (plan : PlanState) (is : IsPlanned plan
 
     table_told : (e : Event) → IsTold (happens image plan w e) (step_by_facts image plan past e)
     unfolding happens step_by_facts
-    table_told (events.Request k t imprint) = let told = round_told k t (round_request (length (requests_seen past)) imprint) in record { answer = told.answer; sends = told.sends }
+    table_told (events.Request k t imprint name) = let told = round_told k t (round_request (length (requests_seen past)) imprint name) in record { answer = told.answer; sends = told.sends }
     table_told (events.Close k t) = round_told k t (round_close image)
     table_told (events.Seal j t) = core_told j t (seal_row image)
     table_told (events.Ballot j t) = core_told j t (ballot_row (core_plan_of plan) t j)
@@ -181,9 +181,9 @@ module _ (image : List ℕ → List ℕ) (plan : PlanState) (is : IsPlanned plan
 
       table_added : (e : Event) → facts_of (does b e (taken_from (wire_seen past) e) (step_by_facts image plan past e).answer (step_by_facts image plan past e).sends (deeds b past)) ≡ (step_by_facts image plan past e).facts b
       unfolding step_by_facts
-      table_added (events.Request k t imprint) =
-          let turn = round_request (length (requests_seen past)) imprint (round_seen past k t) in
-          own_adds b (actors.Aggregator k) t (λ b. numbered imprint turn.answer) (new_round_facts (round_seen past k t) turn.after) (request_adds t (round_seen past k t) (length (requests_seen past)) imprint)
+      table_added (events.Request k t imprint name) =
+          let turn = round_request (length (requests_seen past)) imprint name (round_seen past k t) in
+          own_adds b (actors.Aggregator k) t (λ b. numbered imprint name turn.answer) (new_round_facts (round_seen past k t) turn.after) (request_adds t (round_seen past k t) (length (requests_seen past)) imprint name)
       table_added (events.Close k t) =
           let turn = round_close image (round_seen past k t) in
           own_adds b (actors.Aggregator k) t (λ b. where_done turn.answer (Closed (open_items (of_second t (deeds b past))))) (new_round_facts (round_seen past k t) turn.after) (close_adds t (round_seen past k t) image)

@@ -115,10 +115,10 @@ abbrev pub where_done : Answer → What → List What
 where_done answers.Done what = what ∷ []
 where_done _ what = []
 
--- a request is accepted under a number
-abbrev pub numbered : (imprint : List ℕ) → Answer → List What
-numbered imprint (answers.Number n) = Accepted (record { origin = origins.Request n; item = record { imprint = imprint; level = 0 } }) ∷ []
-numbered imprint _ = []
+-- a request is accepted under a number, with its name
+abbrev pub numbered : (imprint : List ℕ) → (name : Option (List ℕ)) → Answer → List What
+numbered imprint name (answers.Number n) = Accepted (record { origin = origins.Request n; item = record { imprint = imprint; level = 0; name = name } }) ∷ []
+numbered imprint name _ = []
 
 -- what the first message sent says
 abbrev pub first : (sent : List Message) → Option Content
@@ -163,7 +163,7 @@ receives actor (Some m) answer sent before = own actor m.addressee m.second (tak
 
 -- what an actor does in an event, after these deeds
 abbrev pub does : Actor → Event → Option Message → Answer → (sent : List Message) → (before : List Deed) → List Deed
-does actor (events.Request k t imprint) m answer sent before = own actor (actors.Aggregator k) t (numbered imprint answer)
+does actor (events.Request k t imprint name) m answer sent before = own actor (actors.Aggregator k) t (numbered imprint name answer)
 does actor (events.Close k t) m answer sent before = own actor (actors.Aggregator k) t (where_done answer (Closed (open_items (of_second t before))))
 does actor (events.Seal j t) m answer sent before = own actor (actors.Core j) t (where_done answer (Sealed (open_items (of_second t before))))
 does actor (events.Ballot j t) m answer sent before = own actor (actors.Core j) t (tries (first sent))

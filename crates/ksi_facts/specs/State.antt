@@ -84,7 +84,7 @@ wire_seen (x ∷ past) = wire_seen past ++ x.sent
 
 -- the requests that were accepted, in order
 abbrev pub asked_by : List Asked → Event → Answer → List Asked
-asked_by requests (events.Request k t imprint) answer = asked_with requests (record { aggregator = k; second = t; imprint = imprint }) answer
+asked_by requests (events.Request k t imprint name) answer = asked_with requests (record { aggregator = k; second = t; imprint = imprint }) answer
 asked_by requests _ answer = requests
 
 unfoldable pub requests_seen : List Seen → List Asked

@@ -87,7 +87,7 @@ module _ (image : List ℕ → List ℕ) (plan : PlanState) (past : List Seen) w
 
   -- THE TABLE
   unfoldable pub step_by_facts : Event → Step
-  step_by_facts (events.Request k t imprint) = by_round k t (round_request (length (requests_seen past)) imprint)
+  step_by_facts (events.Request k t imprint name) = by_round k t (round_request (length (requests_seen past)) imprint name)
   step_by_facts (events.Close k t) = by_round k t (round_close image)
   step_by_facts (events.Seal j t) = by_core j t (seal_row image)
   step_by_facts (events.Ballot j t) = by_core j t (ballot_row (core_plan_of plan) t j)

@@ -85,6 +85,6 @@ module _ (image : List ℕ → List ℕ) (plan : PlanState) (w : WorldState) whe
     unfolding kept_seconds
     kept_is = refl
 
-    pub journal_keeps : (issued publications : List (ℕ × List ℕ)) → KeepsRoots plan w (record { start = plan.start; seconds = kept_seconds image plan w; issued = issued; publications = publications })
+    pub journal_keeps : (issued publications : List (ℕ × List ℕ)) → KeepsRoots plan w (record { start = plan.start; voters = plan.voters; seconds = kept_seconds image plan w; issued = issued; publications = publications })
     unfolding root_at
     journal_keeps issued publications = record { start = refl; roots = λ t. all_kept (kept_seconds image plan w) (2 ^ 24) kept_is t (λ r. r) (λ r. r) }

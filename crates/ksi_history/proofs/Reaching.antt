@@ -25,14 +25,14 @@ use Rattle.ksi_journal.specs.Journal.{Contents, root_at}
 use Rattle.ksi_extender.specs.Extended.{chain_to, record_to, extended}
 use Rattle.ksi_extender.specs.Accepted.{first_time, first_input, extended_signature, AcceptedBy, LeadsToKept}
 use Rattle.ksi_auditor.specs.Audit.{audit}
-use Rattle.ksi_auditor.specs.Shown.{IsDecided, Shows, Tells}
+use Rattle.ksi_auditor.specs.Shown.{HasLinks, IsDecided, Shows, Tells}
 use Rattle.ksi_schedule.specs.Plans.{PlanState}
 use Rattle.ksi_world.specs.declared.outcome.Asked.{Asked}
 use Rattle.ksi_world.specs.Histories.{WorldState}
 use Rattle.ksi_world.specs.Records.{kept_root}
 use Rattle.ksi_world.specs.Joined.{ChainsClimb, IsJoined}
-use Rattle.ksi_history.specs.Lasting.{AreOfNodes, KeepsRoots, Publish, LastsTo}
-use Rattle.ksi_history.proofs.Chaining.{carried_nodes}
+use Rattle.ksi_history.specs.Lasting.{AreNotBare, KeepsRoots, Publish, LastsTo}
+use Rattle.ksi_history.proofs.Chaining.{RoundLaw, carried_named, issued_links}
 
 -- the first chain of what is issued
 first_is : (second : ℕ) (input : List ℕ) (links : List Link) (above : Above) → (first_input (issued second input links above) ≡ input) × (first_time (issued second input links above) ≡ second)
@@ -45,7 +45,8 @@ More = (roots more : Roots) (start p : ℕ) → IsCovered roots start p → ((t 
 
 -- the laws below
 pub record Laws (image : List ℕ → List ℕ) (journal : Contents) : Type 0 where
-  pub aggregates : (second : ℕ) (input : List ℕ) (links : List Link) (above : Above) (top : Node) → AreOfNodes (own_chain input links ∷ above.chains) → ChainsClimb image (record { imprint = input; level = 0 }) (own_chain input links ∷ above.chains) top → aggregated image (issued second input links above) ≡ Ok (record { time = second; item = top })
+  pub aggregates : (second : ℕ) (input : List ℕ) (links : List Link) (above : Above) (top : Node) → AreNotBare (own_chain input links ∷ above.chains) → ChainsClimb image (record { imprint = input; level = 0 }) (own_chain input links ∷ above.chains) top → aggregated image (issued second input links above) ≡ Ok (record { time = second; item = top })
+  pub rounds : RoundLaw
   pub whole : (second : ℕ) (input : List ℕ) (links : List Link) (above : Above) → MayBeIssued second input links above → IsSignature (signature_text (issued second input links above)) (issued second input links above)
   pub short : (second : ℕ) (input : List ℕ) (links : List Link) (above : Above) → MayBeIssued second input links above → length (signature_text (issued second input links above)) ≤ 10000
   pub early : (p : ℕ) → IsCovered (root_at journal) journal.start p → p < 2 ^ 63
@@ -57,7 +58,7 @@ pub record Laws (image : List ℕ → List ℕ) (journal : Contents) : Type 0 wh
   pub accepts : (bytes text : List ℕ) (signature : Signature) (p : ℕ) → AreBytes bytes → IsSignature bytes signature → extended image journal bytes p ≡ Ok text → (publications : List (ℕ × List ℕ)) → AcceptedBy image journal signature p publications
   pub again : (bytes text : List ℕ) (signature : Signature) (p : ℕ) → p < 2 ^ 63 → AreBytes bytes → IsSignature bytes signature → extended image journal bytes p ≡ Ok text → IsSignature text (extended_signature image journal signature p)
   pub tells : (signature : Signature) (hash : List ℕ) (publications : List (ℕ × List ℕ)) (t : ℕ) → verdict image signature hash publications ≡ Accepted t → IsDecided image journal signature → Tells (audit image journal signature hash publications)
-  pub shows : (signature : Signature) (hash : List ℕ) (publications : List (ℕ × List ℕ)) → IsImprint hash → Shows image journal signature hash (audit image journal signature hash publications)
+  pub shows : (signature : Signature) (hash : List ℕ) (publications : List (ℕ × List ℕ)) → IsImprint hash → HasLinks signature → Shows image journal signature hash (audit image journal signature hash publications)
 
 module _ (plan : PlanState) (w : WorldState) (journal : Contents) (keeps : KeepsRoots plan w journal) where
   -- what is covered by what the cores keep is covered by the journal
@@ -98,7 +99,7 @@ module _ (plan : PlanState) (w : WorldState) (journal : Contents) (keeps : Keeps
       leads p to covered = record {
         whole = subst (λ (x : List ℕ). IsSignature x (issued joined.asked.second joined.asked.imprint joined.links joined.above)) (sym joined.text_is) (laws.whole joined.asked.second joined.asked.imprint joined.links joined.above may);
         short = omega (arith, ap (λ (x : List ℕ). length x) joined.text_is, laws.short joined.asked.second joined.asked.imprint joined.links joined.above may);
-        aggregation = laws.aggregates joined.asked.second joined.asked.imprint joined.links joined.above joined.top (carried_nodes joined.asked.second joined.asked.imprint joined.links joined.above may) joined.climbs;
+        aggregation = laws.aggregates joined.asked.second joined.asked.imprint joined.links joined.above joined.top (carried_named laws.rounds joined.asked.second joined.asked.imprint joined.links joined.above may) joined.climbs;
         real = λ zero. joined.real (sym joined.root_is ∙ zero);
         from = subst (λ start. start ≤ joined.asked.second) (sym keeps.start) joined.covered.from;
         root = keeps.roots joined.asked.second ∙ joined.kept ∙ ap (λ (root : List ℕ). Some root) (sym joined.root_is);
@@ -126,7 +127,7 @@ module _ (plan : PlanState) (w : WorldState) (journal : Contents) (keeps : Keeps
             audited = λ publications found.
                 laws.tells (extended_signature image journal signature p) joined.asked.imprint publications joined.asked.second (accepted publications found)
                 (is_decided signature p (subst (λ (t : ℕ). t ≤ p) (sym first.1) to) l.covered);
-            shown = λ publications. laws.shows (extended_signature image journal signature p) joined.asked.imprint publications may.imprint;
+            shown = λ publications. laws.shows (extended_signature image journal signature p) joined.asked.imprint publications may.imprint (issued_links joined.asked.second joined.asked.imprint joined.links joined.above may);
           }
 
       -- of the request of this number

@@ -1,11 +1,12 @@
 -- What becomes of issued signatures.
-use Rattle.std.specs.Prelude.{◌≡◌, ℕ, List, Ok, Some}
+use Rattle.std.specs.Prelude.{◌≡◌, ℕ, false, List, Ok, Some}
 use Rattle.std.specs.List.{AllByRecursion}
+use Rattle.ksi_aggchain.specs.Links.{is_bare}
+use Rattle.ksi_aggchain.specs.Owned.{plain_links}
 use Rattle.ksi_calendar.specs.Covered.{covered_root}
 use Rattle.ksi_publications.specs.Finding.{find}
 use Rattle.ksi_signature.specs.declared.signature.Signature.{Signature}
 use Rattle.ksi_signature.specs.declared.above.AboveChain.{AboveChain}
-use Rattle.ksi_signature.specs.Above.{IsNode}
 use Rattle.ksi_signature.specs.File.{IsSignature}
 use Rattle.ksi_verifier.specs.declared.verdict.Verdict.TheVariants.{Accepted}
 use Rattle.ksi_verifier.specs.Verdict.{verdict}
@@ -24,9 +25,9 @@ pub record KeepsRoots (plan : PlanState) (w : WorldState) (journal : Contents) :
   pub start : journal.start ≡ plan.start
   pub roots : (t : ℕ) → root_at journal t ≡ kept_root plan w t
 
--- each link of the chains is beside a node
-abbrev pub AreOfNodes : List AboveChain → Type 0
-AreOfNodes chains = AllByRecursion (λ chain. AllByRecursion (λ link. IsNode link.sibling) chain.links) chains
+-- no link of the chains is bare
+abbrev pub AreNotBare : List AboveChain → Type 0
+AreNotBare chains = AllByRecursion (λ chain. AllByRecursion (λ link. is_bare link ≡ false) (plain_links chain.links)) chains
 
 -- their first record of p is the root of the journal's calendar to p
 abbrev pub Publish : (List ℕ → List ℕ) → Contents → (p : ℕ) → List (ℕ × List ℕ) → Type 0

@@ -23,7 +23,7 @@ ghost use Rattle.ksi_world.specs.Joined.{ChainsClimb};
 ghost use Rattle.ksi_world.specs.Records.{issued_of, kept_root};
 ghost use Rattle.ksi_replay.specs.Journals.{journal_of};
 ghost use Rattle.ksi_history.specs.Joined.{IsPublished, Joined};
-ghost use Rattle.ksi_history.specs.Lasting.{AreOfNodes, KeepsRoots, LastsTo, Publish};
+ghost use Rattle.ksi_history.specs.Lasting.{AreNotBare, KeepsRoots, LastsTo, Publish};
 
 use ksi_auditor::laws::{audit_shows, decided_tells};
 use ksi_calchain::laws::one_climb;
@@ -33,18 +33,18 @@ use ksi_imprint::laws::hashes_are_bytes;
 use ksi_journal::laws::calendar_is_covered;
 use ksi_replay::laws::{history_has_a_journal, journal_is_of_bytes};
 use ksi_schedule::spelled_is_schedule;
-use ksi_signature::issued_is_signature;
+use ksi_signature::{issued_is_signature, round_links_are_not_bare};
 use ksi_verifier::laws::aggregation;
 use ksi_world::laws::{
     answered_roots, history_is_of_bytes, issued_is_carried, issued_is_joined, published_roots,
     validity,
 };
 
-/// Chains of nodes that climb from an imprint at level 0 to an item pass the checks of aggregation chains, as they are issued: they
+/// Chains without a bare link that climb from an imprint at level 0 to an item pass the checks of aggregation chains, as they are issued: they
 /// lead to this item, in the second that they were issued for.
 pub fn issued_is_aggregated()
     ensures { (image : List ℕ → List ℕ) (second : ℕ) (input : List ℕ) (links : List Link) (above : Above) (top : Node) →
-        AreOfNodes (own_chain input links ∷ above.chains) →
+        AreNotBare (own_chain input links ∷ above.chains) →
         ChainsClimb image (record { imprint = input; level = 0 }) (own_chain input links ∷ above.chains) top →
         aggregated image (issued second input links above) ≡ Ok (record { time = second; item = top }) }
 {
@@ -73,6 +73,7 @@ pub fn issued_lasts()
     history_is_of_bytes();
     journal_keeps_roots();
     aggregation();
+    round_links_are_not_bare();
     issued_is_signature();
     issued_is_carried();
     calendar_is_covered();

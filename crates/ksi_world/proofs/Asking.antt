@@ -65,7 +65,7 @@ module _ (image : List ℕ → List ℕ) (plan : PlanState) where
 
   happens_asks : (w : WorldState) (e : Event) → IsEvent plan e → AreAsked w.requests → AreAsked (happens image plan w e).world.requests
   unfolding happens
-  happens_asks w (events.Request k t imprint) is are = with_asked w.requests (record { aggregator = k; second = t; imprint = imprint }) (round_request (length w.requests) imprint (w.rounds k t)).answer is.0 are
+  happens_asks w (events.Request k t imprint name) is are = with_asked w.requests (record { aggregator = k; second = t; imprint = imprint }) (round_request (length w.requests) imprint name (w.rounds k t)).answer is.0 are
   happens_asks w (events.Close k t) is are = are
   happens_asks w (events.Seal j t) is are = are
   happens_asks w (events.Ballot j t) is are = are

@@ -52,7 +52,7 @@ module _ (image : List ℕ → List ℕ) (plan : PlanState) where
 
     happens_beyond : (w : WorldState) (e : Event) → IsEvent plan e → IsSound plan w → NoneBeyond w → NoneBeyond (happens image plan w e).world
     unfolding happens
-    happens_beyond w (events.Request k t imprint) at sound none = none
+    happens_beyond w (events.Request k t imprint name) at sound none = none
     happens_beyond w (events.Close k t) at sound none = none
     happens_beyond w (events.Seal j t) at sound none = turned w j t (seal_row image (w.seconds j t)) at.0 none
     happens_beyond w (events.Ballot j t) at sound none = turned w j t (ballot_row (core_plan_of plan) t j (w.seconds j t)) at.0 none

@@ -2,7 +2,7 @@
 -- carried down.
 use Rattle.ksi_schedule.specs.Plans.{core_plan_of}
 use Rattle.std.proofs.Common.{◌≡◌, ℕ, zero, suc, ◌+◌, ◌<◌, ◌≤◌, eqb, List, [], ◌∷◌, ◌++◌, length, refl, subst, arith, inl, inr, is_some, Option, Some, None}
-use Rattle.std.specs.Prelude.{slice_get, map}
+use Rattle.std.specs.Prelude.{slice_get, map, IfSome}
 use Rattle.std.specs.List.{AllByRecursion}
 use Rattle.std.proofs.lemmas.Bool.{cond_both}
 use Rattle.std.proofs.lemmas.List.{length-map}
@@ -14,6 +14,7 @@ use Rattle.ksi_aggchain.specs.Links.{PlainLink}
 use Rattle.ksi_aggtree.specs.declared.entries.Entry.{Entry}
 use Rattle.ksi_aggtree.specs.declared.entries.Origin.{Origin}
 use Rattle.ksi_aggtree.specs.declared.entries.Origin.TheVariants as origins
+use Rattle.ksi_aggtree.specs.Names.{IsName}
 use Rattle.ksi_aggtree.specs.Rounds.{IsRound}
 use Rattle.ksi_aggtree.specs.Paths.{chain_of}
 use Rattle.ksi_aggtree.specs.Entries.{items_of, has_from, is_full}
@@ -40,8 +41,8 @@ use Rattle.ksi_schedule.specs.declared.actor.Actor.{Actor}
 use Rattle.ksi_schedule.specs.declared.actor.Actor.TheVariants as actors
 use Rattle.ksi_schedule.specs.declared.event.Event.{Event}
 use Rattle.ksi_schedule.specs.declared.event.Event.TheVariants as events
-use Rattle.ksi_schedule.specs.Events.{AreEvents}
-use Rattle.ksi_schedule.specs.Plans.{PlanState, IsPlan}
+use Rattle.ksi_schedule.specs.Events.{IsEvent, AreEvents}
+use Rattle.ksi_schedule.specs.Plans.{PlanState, IsPlan, name_of}
 use Rattle.ksi_world.specs.declared.message.Content.{Content}
 use Rattle.ksi_world.specs.declared.message.Content.TheVariants as contents
 use Rattle.ksi_world.specs.declared.message.Message.{Message}
@@ -50,7 +51,7 @@ use Rattle.ksi_world.specs.Histories as histories
 use Rattle.ksi_world.specs.Sound.{IsSent, IsRoundAt, IsSound}
 use Rattle.ksi_world.proofs.Depths.{depth_most}
 use Rattle.ksi_world.proofs.Growing.{put_cases}
-use Rattle.ksi_world.proofs.Imprinted.{OfEntries, OfChain, entries_push, round_of, chain_carried}
+use Rattle.ksi_world.proofs.Imprinted.{NameLaws, OfItem, OfEntries, OfChain, entries_push, round_of, chain_carried}
 use Rattle.ksi_world.proofs.Joining.{ItemClimbs, round_is}
 use Rattle.ksi_world.proofs.Sending.{TreeRises, get_in_either}
 use Rattle.ksi_world.proofs.Sounding.{happens_sound, first_sound}
@@ -74,13 +75,13 @@ module _ (P : List ℕ → Type 0) where
     pub answered : (above : Above) → r.answered ≡ Some above → IsCarriedDown above
 
   abbrev pub IsCarried : Content → Type 0
-  IsCarried (contents.Submission item) = P item.imprint
+  IsCarried (contents.Submission item) = OfItem P item
   IsCarried (contents.Response above) = AllByRecursion (OfChain P) above.chains
   IsCarried (contents.Synod m) = Unit {0}
 
   -- what a request asks to sign
   abbrev pub AsksFor : Event → Type 0
-  AsksFor (events.Request k t imprint) = P imprint
+  AsksFor (events.Request k t imprint name) = P imprint
   AsksFor _ = Unit {0}
 
   abbrev pub AskFor : List Event → Type 0
@@ -147,13 +148,13 @@ module _ (P : List ℕ → Type 0) where
   abbrev EachRound : List round_step.Send → Type 0
   EachRound sends = AllByRecursion RoundCarried sends
 
-  round_carried : (plan : PlanState) (k t : ℕ) (sends : List round_step.Send) → EachRound sends → AreCarried (map (round_message plan k t) sends)
-  round_carried plan k t [] each i m at = absurd (cc at)
-  round_carried plan k t (round_sends.Submission item ∷ ss) each zero m at =
-      let same : round_message plan k t (round_sends.Submission item) ≡ m = cc at in subst (λ (m : Message). IsCarried m.content) same each.0
-  round_carried plan k t (round_sends.Response to above ∷ ss) each zero m at =
+  round_carried : (plan : PlanState) (k t : ℕ) → IfSome (name_of plan k) IsName → (sends : List round_step.Send) → EachRound sends → AreCarried (map (round_message plan k t) sends)
+  round_carried plan k t named [] each i m at = absurd (cc at)
+  round_carried plan k t named (round_sends.Submission item ∷ ss) each zero m at =
+      let same : round_message plan k t (round_sends.Submission item) ≡ m = cc at in subst (λ (m : Message). IsCarried m.content) same (each.0, named)
+  round_carried plan k t named (round_sends.Response to above ∷ ss) each zero m at =
       let same : round_message plan k t (round_sends.Response to above) ≡ m = cc at in subst (λ (m : Message). IsCarried m.content) same each.0
-  round_carried plan k t (s ∷ ss) each (suc i) m at = round_carried plan k t ss each.1 i m at
+  round_carried plan k t named (s ∷ ss) each (suc i) m at = round_carried plan k t named ss each.1 i m at
 
   -- TURNS
 
@@ -164,9 +165,9 @@ module _ (P : List ℕ → Type 0) where
     rounds = all.rounds;
   }
 
-  round_turned : (plan : PlanState) (w : WorldState) (k t : ℕ) (turn : RoundTurn) → OfRound turn.after → EachRound turn.sends → AllOf w → AllOf (at_round plan w k t turn).world
-  round_turned plan w k t turn round sends all = record {
-    wire = λ i m at. elim (get_in_either w.wire (map (round_message plan k t) turn.sends) i m at) [ inl old ↦ all.wire i m old | inr new ↦ round_carried plan k t turn.sends sends new.0 m new.1 ];
+  round_turned : (plan : PlanState) (w : WorldState) (k t : ℕ) (turn : RoundTurn) → IfSome (name_of plan k) IsName → OfRound turn.after → EachRound turn.sends → AllOf w → AllOf (at_round plan w k t turn).world
+  round_turned plan w k t turn named round sends all = record {
+    wire = λ i m at. elim (get_in_either w.wire (map (round_message plan k t) turn.sends) i m at) [ inl old ↦ all.wire i m old | inr new ↦ round_carried plan k t named turn.sends sends new.0 m new.1 ];
     seconds = all.seconds;
     rounds = λ i u. put_cases w.rounds k t turn.after OfRound i u (λ _ _. round) (all.rounds i u);
   }
@@ -177,14 +178,15 @@ module _ (P : List ℕ → Type 0) where
     pub images : (bytes : List ℕ) → P (image bytes)
     pub rises : TreeRises image
     pub climb : ItemClimbs image
-    pub few : (items : List Item) (k : ℕ) → length items ≤ 65536 → length (chain_of image items k) ≤ 16
+    pub few : (items : List Item) (k : ℕ) → length items ≤ 65536 → length (chain_of image items k) ≤ 17
     pub sum : (start top : Node) (links : List PlainLink) → Climbs image start links top → top.level ≡ level_after start.level links
+    pub names : NameLaws
 
   module _ (image : List ℕ → List ℕ) (plan : PlanState) (is : IsPlan plan) (laws : RoundLaws image) where
     pub chain_of_round : (es : List Entry) → IsRound (items_of es) → OfEntries P es → (k : ℕ) → k < length es → OfChain P (chain_at image (items_of es) k)
     chain_of_round es round all k lt =
         let f : Entry → Item = λ e. e.item in
-        chain_carried P laws.zero_too image laws.images laws.rises laws.climb laws.few laws.sum es k round (omega (arith, length-map es f, lt)) all
+        chain_carried P laws.zero_too image laws.images laws.rises laws.climb laws.few laws.sum laws.names es k round (omega (arith, length-map es f, lt)) all
 
     module _ (above : Above) (chains : AllByRecursion (OfChain P) above.chains) (all : List Entry) (round : IsRound (items_of all)) (have : OfEntries P all) where
       round_responses : (k : ℕ) (es : List Entry) → k + length es ≤ length all → EachRound (told_down.responses_from image k above (items_of all) es)
@@ -201,7 +203,7 @@ module _ (P : List ℕ → Type 0) where
       still_all : (j t : ℕ) (answer : Answer) → AllOf (at_core w j t (still (w.seconds j t) answer)).world
       still_all j t answer = core_turned w j t (still (w.seconds j t) answer) (all.seconds j t) tt all
 
-      submission_all : (j t from : ℕ) (item : Item) → P item.imprint → AllOf (at_core w j t (submission_row from item (w.seconds j t))).world
+      submission_all : (j t from : ℕ) (item : Item) → OfItem P item → AllOf (at_core w j t (submission_row from item (w.seconds j t))).world
       unfolding submission_row
       submission_all j t from item imprint =
           let s = w.seconds j t in
@@ -259,25 +261,25 @@ module _ (P : List ℕ → Type 0) where
       -- AN AGGREGATOR'S TURNS
 
       stays_all : (k t : ℕ) (answer : Answer) → AllOf (at_round plan w k t (round_still (w.rounds k t) answer)).world
-      stays_all k t answer = round_turned plan w k t (round_still (w.rounds k t) answer) (all.rounds k t) tt all
+      stays_all k t answer = round_turned plan w k t (round_still (w.rounds k t) answer) (is.names k) (all.rounds k t) tt all
 
-      added_all : (k t : ℕ) (entry : Entry) (answer : Answer) → P entry.item.imprint → AllOf (at_round plan w k t (round_added (w.rounds k t) entry answer)).world
+      added_all : (k t : ℕ) (entry : Entry) (answer : Answer) → OfItem P entry.item → AllOf (at_round plan w k t (round_added (w.rounds k t) entry answer)).world
       added_all k t entry answer imprint =
           let old = all.rounds k t in
-          round_turned plan w k t (round_added (w.rounds k t) entry answer) (record { open_items = entries_push P (w.rounds k t).open_items entry old.open_items imprint; closed = old.closed; answered = old.answered }) tt all
+          round_turned plan w k t (round_added (w.rounds k t) entry answer) (is.names k) (record { open_items = entries_push P (w.rounds k t).open_items entry old.open_items imprint; closed = old.closed; answered = old.answered }) tt all
 
-      request_all : (k t : ℕ) (imprint : List ℕ) → P imprint → AllOf (histories.request_happens plan w k t imprint).world
+      request_all : (k t : ℕ) (imprint : List ℕ) (name : Option (List ℕ)) → P imprint × IfSome name IsName → AllOf (histories.request_happens plan w k t imprint name).world
       unfolding round_request
-      request_all k t imprint it = record { wire = turned.wire; seconds = turned.seconds; rounds = turned.rounds }
+      request_all k t imprint name it = record { wire = turned.wire; seconds = turned.seconds; rounds = turned.rounds }
         where
-          turned : AllOf (at_round plan w k t (round_request (length w.requests) imprint (w.rounds k t))).world
+          turned : AllOf (at_round plan w k t (round_request (length w.requests) imprint name (w.rounds k t))).world
           turned =
               let r = w.rounds k t in
               cond_both (is_some r.closed) _ _ (λ turn. AllOf (at_round plan w k t turn).world) (λ _. stays_all k t answers.Late)
               (λ _. cond_both (is_full r.open_items) _ _ (λ turn. AllOf (at_round plan w k t turn).world) (λ _. stays_all k t answers.Full)
-              (λ _. added_all k t (request_entry (length w.requests) imprint) (answers.Number (length w.requests)) it))
+              (λ _. added_all k t (request_entry (length w.requests) imprint name) (answers.Number (length w.requests)) it))
 
-      take_all : (k t from : ℕ) (item : Item) → P item.imprint → AllOf (at_round plan w k t (round_submission from item (w.rounds k t))).world
+      take_all : (k t from : ℕ) (item : Item) → OfItem P item → AllOf (at_round plan w k t (round_submission from item (w.rounds k t))).world
       unfolding round_submission
       take_all k t from item imprint =
           let r = w.rounds k t in
@@ -296,7 +298,7 @@ module _ (P : List ℕ → Type 0) where
           let r = w.rounds k t in
           let old = all.rounds k t in
           cond_both (is_some r.closed) _ _ (λ turn. AllOf (at_round plan w k t turn).world) (λ _. stays_all k t answers.Closed)
-          (λ _. round_turned plan w k t (closed_now image r) (record {
+          (λ _. round_turned plan w k t (closed_now image r) (is.names k) (record {
             open_items = tt;
             closed = λ entries at. let same : r.open_items ≡ entries = cc at in subst (OfEntries P) same old.open_items;
             answered = old.answered;
@@ -314,7 +316,7 @@ module _ (P : List ℕ → Type 0) where
               let old = all.rounds k t in
               let at_round : IsRoundAt plan (actors.Aggregator k) (length w.requests) (e ∷ es) = (sound.rounds k t).closed (e ∷ es) at in
               let round = round_is image plan is (actors.Aggregator k) (length w.requests) (e ∷ es) at_round.are at_round.few in
-              round_turned plan w k t (answered_now image above (e ∷ es) (w.rounds k t)) (record {
+              round_turned plan w k t (answered_now image above (e ∷ es) (w.rounds k t)) (is.names k) (record {
                 open_items = old.open_items;
                 closed = old.closed;
                 answered = λ other at. let same : above ≡ other = cc at in subst IsCarriedDown same down;
@@ -356,25 +358,25 @@ module _ (P : List ℕ → Type 0) where
             (λ _. record { open_items = tt; closed = λ entries at. absurd (cc at); answered = λ above at. absurd (cc at) })) (λ _. all.rounds i u);
       }
 
-      happens_all : (e : Event) → AsksFor e → AllOf (happens image plan w e).world
+      happens_all : (e : Event) → IsEvent plan e → AsksFor e → AllOf (happens image plan w e).world
       unfolding happens
-      happens_all (events.Request k t imprint) asks = request_all k t imprint asks
-      happens_all (events.Close k t) asks = close_all k t
-      happens_all (events.Seal j t) asks = seal_all j t
-      happens_all (events.Ballot j t) asks = ballot_all j t
-      happens_all (events.Deliver number) asks = delivered_all number (slice_get w.wire number) refl
-      happens_all (events.Tell j t) asks = tell_all j t
-      happens_all (events.Respond j t) asks = respond_all j t (held_in w j)
-      happens_all (events.Publish j p) asks = record { wire = all.wire; seconds = all.seconds; rounds = all.rounds }
-      happens_all (events.RestartCore j) asks = core_restarts_all j
-      happens_all (events.RestartAggregator k) asks = aggregator_restarts_all k
+      happens_all (events.Request k t imprint name) at asks = request_all k t imprint name (asks, at.2)
+      happens_all (events.Close k t) at asks = close_all k t
+      happens_all (events.Seal j t) at asks = seal_all j t
+      happens_all (events.Ballot j t) at asks = ballot_all j t
+      happens_all (events.Deliver number) at asks = delivered_all number (slice_get w.wire number) refl
+      happens_all (events.Tell j t) at asks = tell_all j t
+      happens_all (events.Respond j t) at asks = respond_all j t (held_in w j)
+      happens_all (events.Publish j p) at asks = record { wire = all.wire; seconds = all.seconds; rounds = all.rounds }
+      happens_all (events.RestartCore j) at asks = core_restarts_all j
+      happens_all (events.RestartAggregator k) at asks = aggregator_restarts_all k
 
     -- A HISTORY
 
     run_all : (es : List Event) (w : WorldState) → AreEvents plan es → AskFor es → IsSound plan w → Voted image plan w → AllOf w → AllOf (run image plan w es)
     run_all [] w are ask sound voted all = all
     run_all (e ∷ es) w are ask sound voted all =
-        run_all es (happens image plan w e).world are.1 ask.1 (happens_sound image plan is laws.rises w e are.0 sound) (happens_voted image plan w voted e is.core_plan.few are.0) (happens_all w sound voted all e ask.0)
+        run_all es (happens image plan w e).world are.1 ask.1 (happens_sound image plan is laws.rises w e are.0 sound) (happens_voted image plan w voted e is.core_plan.few are.0) (happens_all w sound voted all e are.0 ask.0)
 
     first_all : AllOf (first_world plan)
     unfolding first_world fresh_second

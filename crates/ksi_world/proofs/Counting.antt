@@ -19,7 +19,7 @@ with_one requests new other = omega arith
 module _ (image : List ℕ → List ℕ) (plan : PlanState) where
   one_more : (w : WorldState) (e : Event) → length (happens image plan w e).world.requests ≤ suc (length w.requests)
   unfolding happens
-  one_more w (events.Request k t imprint) = with_one w.requests (record { aggregator = k; second = t; imprint = imprint }) (round_request (length w.requests) imprint (w.rounds k t)).answer
+  one_more w (events.Request k t imprint name) = with_one w.requests (record { aggregator = k; second = t; imprint = imprint }) (round_request (length w.requests) imprint name (w.rounds k t)).answer
   one_more w (events.Deliver number) =
       let same : length (delivered image plan w (slice_get w.wire number)).world.requests ≡ length w.requests = ap (λ (requests : List Asked). length requests) (delivered_leaves image plan w (slice_get w.wire number)).requests in
       omega (arith, same)

@@ -1,9 +1,10 @@
 -- How many aggregators stand above one another.
 use Rattle.std.proofs.Common.{◌≡◌, ℕ, zero, suc, ◌<◌, ◌≤◌, length, refl, sym, ap, subst, arith}
+use Rattle.std.specs.Prelude.{slice_index_or}
 use Rattle.std.proofs.lemmas.Option.{slice_get-get_or}
 use Rattle.ksi_schedule.specs.declared.actor.Actor.{Actor}
 use Rattle.ksi_schedule.specs.declared.actor.Actor.TheVariants as actors
-use Rattle.ksi_schedule.specs.Plans.{PlanState, IsPlan, IsParent, ReachesCore, parent_of}
+use Rattle.ksi_schedule.specs.Plans.{PlanState, IsPlan, IsParent, ReachesCore, no_parent, parent_of}
 use Rattle.ksi_world.specs.Sound.{depth_within, depth_of}
 
 module _ (plan : PlanState) where
@@ -35,7 +36,7 @@ module _ (plan : PlanState) where
 
     -- a parent is an actor of the plan
     pub parent_is : (k : ℕ) → k < length plan.parents → IsParent plan.cores k (parent_of plan k)
-    parent_is k lt = is.parents k (parent_of plan k) (slice_get-get_or plan.parents k (actors.Core 0) lt)
+    parent_is k lt = is.parents k (slice_index_or plan.parents k no_parent) (slice_get-get_or plan.parents k no_parent lt)
 
     -- a core that is a parent is one of the plan's
     pub core_parent : (from j : ℕ) → from < length plan.parents → actors.Core j ≡ parent_of plan from → j < plan.cores

@@ -1,6 +1,6 @@
 -- The nodes after a turn are those of the world after it.
 use Rattle.ksi_schedule.specs.Plans.{core_plan_of}
-use Rattle.std.proofs.Common.{◌≡◌, ℕ, zero, suc, ◌<◌, cond, eqb, List, [], ◌∷◌, ◌++◌, length, refl, sym, ap, subst, ◌∙◌, arith, inl, inr, Some, length-set}
+use Rattle.std.proofs.Common.{◌≡◌, ℕ, zero, suc, ◌<◌, cond, eqb, List, [], ◌∷◌, ◌++◌, length, refl, sym, ap, subst, ◌∙◌, arith, inl, inr, Option, Some, length-set}
 use Rattle.std.specs.Prelude.{slice_get, map, OnErr, Result, Ok, Err}
 use Rattle.std.proofs.lemmas.Bool.{cond-true, cond-false, eq-eqb, ne_eqb}
 use Rattle.ksi_corenode.specs.SecondState.{SecondState}
@@ -114,12 +114,12 @@ module _ (plan : PlanState) (w : WorldState) (cores cores' : List CoreState) (ag
       }
 
   -- a request
-  pub request_fits : (number k t : ℕ) (imprint : List ℕ) (outcome : Outcome) → number ≡ length w.requests → RoundStep (round_request number imprint) plan k t aggregators aggregators' wire wire' outcome →
+  pub request_fits : (number k t : ℕ) (imprint : List ℕ) (name : Option (List ℕ)) (outcome : Outcome) → number ≡ length w.requests → RoundStep (round_request number imprint name) plan k t aggregators aggregators' wire wire' outcome →
       requests' ≡ asked_with requests (record { aggregator = k; second = t; imprint = imprint }) outcome.answer →
-      Fits plan (request_happens plan w k t imprint).world (nodes_of cores aggregators' wire' requests' published) × (outcome ≡ (request_happens plan w k t imprint).outcome)
-  request_fits number k t imprint outcome same step accepted =
+      Fits plan (request_happens plan w k t imprint name).world (nodes_of cores aggregators' wire' requests' published) × (outcome ≡ (request_happens plan w k t imprint name).outcome)
+  request_fits number k t imprint name outcome same step accepted =
       let new : Asked = record { aggregator = k; second = t; imprint = imprint } in
-      let r = round_fits (round_request (length w.requests) imprint) k t outcome (subst (λ n. RoundStep (round_request n imprint) plan k t aggregators aggregators' wire wire' outcome) same step) in (
+      let r = round_fits (round_request (length w.requests) imprint name) k t outcome (subst (λ n. RoundStep (round_request n imprint name) plan k t aggregators aggregators' wire wire' outcome) same step) in (
         record {
           cores = record { many = r.0.cores.many; each = r.0.cores.each };
           aggregators = record { many = r.0.aggregators.many; each = r.0.aggregators.each };

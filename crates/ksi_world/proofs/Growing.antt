@@ -102,9 +102,9 @@ respond_holds image held start t s d is = ap (λ (s : SecondState). s.vote.held)
 
 -- THE ROWS OF AN AGGREGATOR
 
-pub request_keeps : (number : ℕ) (imprint : List ℕ) (r : RoundState) → Keeps r (round_request number imprint r).after
+pub request_keeps : (number : ℕ) (imprint : List ℕ) (name : Option (List ℕ)) (r : RoundState) → Keeps r (round_request number imprint name r).after
 unfolding round_request
-request_keeps number imprint r entries is =
+request_keeps number imprint name r entries is =
     cond_both (is_some r.closed) _ _ (λ (turn : RoundTurn). turn.after.closed ≡ Some entries) (λ _. is)
     (λ _. cond_both (is_full r.open_items) _ _ (λ (turn : RoundTurn). turn.after.closed ≡ Some entries) (λ _. is) (λ _. is))
 
@@ -157,8 +157,8 @@ module _ (image : List ℕ → List ℕ) (plan : PlanState) where
 
   pub happens_grew : (w : WorldState) (e : Event) → Grew w (happens image plan w e).world
   unfolding happens
-  happens_grew w (events.Request k t imprint) =
-      let grew = round_grew plan w k t (round_request (length w.requests) imprint (w.rounds k t)) (request_keeps (length w.requests) imprint (w.rounds k t)) in
+  happens_grew w (events.Request k t imprint name) =
+      let grew = round_grew plan w k t (round_request (length w.requests) imprint name (w.rounds k t)) (request_keeps (length w.requests) imprint name (w.rounds k t)) in
       record { held = grew.held; closed = grew.closed }
   happens_grew w (events.Close k t) = round_grew plan w k t (round_close image (w.rounds k t)) (close_keeps image (w.rounds k t))
   happens_grew w (events.Seal j t) = core_grew w j t (seal_row image (w.seconds j t)) (seal_row_holds image (w.seconds j t))

@@ -27,7 +27,7 @@ use Rattle.ksi_world.specs.Joined.{IsJoined}
 use Rattle.ksi_world.specs.Sound.{IsRoundAt, IsSound}
 use Rattle.ksi_world.proofs.Carrying.{RoundLaws, IsCarriedDown, AskFor, AllOf, chain_of_round, after_all}
 use Rattle.ksi_world.proofs.Deciding.{StepsAgree, StepsValid, after_sound, proposed}
-use Rattle.ksi_world.proofs.Imprinted.{EachSibling, OfEntries, OfLink, OfChain, candidate_is, calendar_siblings}
+use Rattle.ksi_world.proofs.Imprinted.{EachSibling, OfItem, OfEntries, OfLink, OfChain, candidate_is, calendar_siblings}
 use Rattle.ksi_world.proofs.IssuedJoined.{joined_at}
 use Rattle.ksi_world.proofs.IssuedOf.{issued_there}
 use Rattle.ksi_world.proofs.Joining.{round_is}
@@ -40,9 +40,9 @@ abbrev pub CalendarShort : (List ℕ → List ℕ) → Type 0
 CalendarShort image = (seconds : Seconds) (t p : ℕ) → p + 1 ≤ 2 ^ 63 → length (calendar_path image seconds t p) ≤ 63
 
 -- the k-th of a list of which something holds
-get_all : (P : List ℕ → Type 0) (es : List Entry) (k : ℕ) (e : Entry) → slice_get es k ≡ Some e → OfEntries P es → P e.item.imprint
+get_all : (P : List ℕ → Type 0) (es : List Entry) (k : ℕ) (e : Entry) → slice_get es k ≡ Some e → OfEntries P es → OfItem P e.item
 get_all P [] k e at have = absurd (cc at)
-get_all P (x ∷ es) zero e at have = let same : x ≡ e = cc at in subst (λ (e : Entry). P e.item.imprint) same have.0
+get_all P (x ∷ es) zero e at have = let same : x ≡ e = cc at in subst (λ (e : Entry). OfItem P e.item) same have.0
 get_all P (x ∷ es) (suc k) e at have = get_all P es k e at have.1
 
 within : (es : List Entry) (k : ℕ) (e : Entry) → slice_get es k ≡ Some e → k < length es
@@ -100,7 +100,7 @@ module _ (P : List ℕ → Type 0) (image : List ℕ → List ℕ) (plan : PlanS
     joined,
     record {
       early = omega (arith, range.1, is.core_plan.early);
-      imprint = get_all P at.entries k (from_request number at.item) at.request have;
+      imprint = (get_all P at.entries k (from_request number at.item) at.request have).0;
       limits = own.limits;
       are = own.links;
       root = kept_is t at.above.root joined.kept;

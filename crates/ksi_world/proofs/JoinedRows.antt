@@ -122,9 +122,9 @@ module _ (image : List ℕ → List ℕ) (plan : PlanState) (is : IsPlan plan) (
       round : IsRound (items_of entries)
       round = round_is image plan is (actors.Core j) (length w.requests) entries (sound.sealed j t entries sealed) ((voted.sealed j t).few entries sealed)
 
-      core_low : (tree_of image (items_of entries)).level ≤ 144
+      core_low : (tree_of image (items_of entries)).level ≤ 153
       core_low =
-          let low = rises (items_of entries) (144 - 16 * suc (depth_of plan (actors.Core j))) round.few (are_low plan is (actors.Core j) (length w.requests) entries (sound.sealed j t entries sealed)) in
+          let low = rises (items_of entries) (137 - 17 * depth_of plan (actors.Core j)) round.few (are_low plan is (actors.Core j) (length w.requests) entries (sound.sealed j t entries sealed)) in
           omega (arith, low)
 
       joins : Joins image plan w t (tree_of image (items_of entries)) (record { root = root; chains = []; calendar = calendar_path image (covered_seconds (held_in w j) plan.start t) t t })
@@ -165,20 +165,20 @@ module _ (image : List ℕ → List ℕ) (plan : PlanState) (is : IsPlan plan) (
       (record { open_items = are; closed = (joined.rounds k t).closed; answered = (joined.rounds k t).answered })
       (nothing_sent image plan (at_round plan w k t (round_added (w.rounds k t) entry answer)).world) joined
 
-  request_joined : (k t : ℕ) (imprint : List ℕ) → AllJoined image plan (histories.request_happens plan w k t imprint).world
+  request_joined : (k t : ℕ) (imprint : List ℕ) (name : Option (List ℕ)) → AllJoined image plan (histories.request_happens plan w k t imprint name).world
   unfolding round_request
-  request_joined k t imprint = joined_noted image plan turned (histories.request_happens plan w k t imprint).world (record { held = λ j u d at. at; closed = λ i u entries at. at }) refl refl refl turned_joined
+  request_joined k t imprint name = joined_noted image plan turned (histories.request_happens plan w k t imprint name).world (record { held = λ j u d at. at; closed = λ i u entries at. at }) refl refl refl turned_joined
     where
       turned : WorldState
-      turned = (at_round plan w k t (round_request (length w.requests) imprint (w.rounds k t))).world
+      turned = (at_round plan w k t (round_request (length w.requests) imprint name (w.rounds k t))).world
 
-      turned_joined : AllJoined image plan (at_round plan w k t (round_request (length w.requests) imprint (w.rounds k t))).world
+      turned_joined : AllJoined image plan (at_round plan w k t (round_request (length w.requests) imprint name (w.rounds k t))).world
       turned_joined =
           let r = w.rounds k t in
           cond_both (is_some r.closed) _ _ (λ turn. AllJoined image plan (at_round plan w k t turn).world) (λ _. round_stays k t answers.Late)
           (λ _. cond_both (is_full r.open_items) _ _ (λ turn. AllJoined image plan (at_round plan w k t turn).world) (λ _. round_stays k t answers.Full)
-          (λ _. added_joined k t (request_entry (length w.requests) imprint) (answers.Number (length w.requests))
-          (requested_push image plan w t r.open_items (length w.requests) (record { imprint = imprint; level = 0 }) (joined.rounds k t).open_items)))
+          (λ _. added_joined k t (request_entry (length w.requests) imprint name) (answers.Number (length w.requests))
+          (requested_push image plan w t r.open_items (length w.requests) (record { imprint = imprint; level = 0; name = name }) (joined.rounds k t).open_items)))
 
   take_joined : (k t from : ℕ) (item : Item) → IsClosedAs image plan w from t item → AllJoined image plan (at_round plan w k t (round_submission from item (w.rounds k t))).world
   unfolding round_submission
@@ -308,7 +308,7 @@ module _ (image : List ℕ → List ℕ) (plan : PlanState) (is : IsPlan plan) (
 
   pub happens_joined : (e : Event) → IsEvent plan e → AllJoined image plan (happens image plan w e).world
   unfolding happens
-  happens_joined (events.Request k t imprint) at = request_joined k t imprint
+  happens_joined (events.Request k t imprint name) at = request_joined k t imprint name
   happens_joined (events.Close k t) at = close_joined k t
   happens_joined (events.Seal j t) at = seal_joined j t
   happens_joined (events.Ballot j t) at = ballot_joined j t

@@ -5,7 +5,7 @@ use Rattle.ksi_aggtree.specs.declared.item.Item.{Item}
 use Rattle.ksi_aggtree.specs.declared.entries.Entry.{Entry}
 use Rattle.ksi_aggtree.specs.declared.entries.Origin.{Origin}
 use Rattle.ksi_aggtree.specs.declared.entries.Origin.TheVariants as origins
-use Rattle.ksi_aggtree.specs.Rounds.{IsRound, as_node, tree_of}
+use Rattle.ksi_aggtree.specs.Rounds.{IsRound, as_node, with_name, tree_of}
 use Rattle.ksi_aggtree.specs.Entries.{items_of}
 use Rattle.ksi_synod.specs.declared.messages.SynodMessage.{SynodMessage}
 use Rattle.ksi_synod.specs.declared.messages.SynodMessage.TheVariants as message
@@ -23,7 +23,7 @@ use Rattle.ksi_aggregator.specs.declared.step.Send.TheVariants as round_sends
 use Rattle.ksi_aggregator.specs.Responses.{below}
 use Rattle.ksi_aggregator.specs.Responses as told
 use Rattle.ksi_aggregator.specs.Rows.{RoundState, RoundTurn, submitted_entry, fresh_round}
-use Rattle.ksi_schedule.specs.Plans.{PlanState}
+use Rattle.ksi_schedule.specs.Plans.{PlanState, name_of}
 use Rattle.ksi_world.specs.declared.message.Message.{Message}
 use Rattle.ksi_world.specs.Histories.{WorldState, core_message, round_message, at_core, at_round, held_in}
 use Rattle.ksi_world.proofs.Growing.{Grew, put_cases, Holds, Keeps, core_grew, round_grew}
@@ -168,7 +168,7 @@ module _ (image : List ℕ → List ℕ) (plan : PlanState) where
   -- WHAT AN AGGREGATOR SENDS
 
   abbrev pub RoundSo : WorldState → (k t : ℕ) → round_step.Send → Type 0
-  RoundSo w k t (round_sends.Submission item) = IsClosedAs image plan w k t item
+  RoundSo w k t (round_sends.Submission item) = IsClosedAs image plan w k t (with_name (name_of plan k) item)
   RoundSo w k t (round_sends.Response to above) = IsAnswer image plan w to t above
 
   abbrev pub EachRoundSo : WorldState → (k t : ℕ) → List round_step.Send → Type 0

@@ -11,7 +11,7 @@ use Rattle.ksi_aggchain.specs.Climbing.{Climbs}
 use Rattle.ksi_aggchain.specs.Owned.{plain_links}
 use Rattle.ksi_aggtree.specs.declared.entries.Entry.{Entry}
 use Rattle.ksi_aggtree.specs.declared.entries.Origin.TheVariants as origins
-use Rattle.ksi_aggtree.specs.Rounds.{IsRound, as_node, as_item, item_at, tree_of}
+use Rattle.ksi_aggtree.specs.Rounds.{IsRound, as_node, as_item, with_name, item_at, tree_of}
 use Rattle.ksi_aggtree.specs.Paths.{chain_of}
 use Rattle.ksi_aggtree.specs.Entries.{items_of}
 use Rattle.ksi_signature.specs.declared.above.Above.{Above}
@@ -20,7 +20,7 @@ use Rattle.ksi_aggregator.specs.Responses.{below}
 use Rattle.ksi_aggregator.specs.Rows.{submitted_entry}
 use Rattle.ksi_schedule.specs.declared.actor.Actor.{Actor}
 use Rattle.ksi_schedule.specs.declared.actor.Actor.TheVariants as actors
-use Rattle.ksi_schedule.specs.Plans.{PlanState, IsPlan}
+use Rattle.ksi_schedule.specs.Plans.{PlanState, IsPlan, name_of}
 use Rattle.ksi_world.specs.declared.message.Content.{Content}
 use Rattle.ksi_world.specs.declared.message.Content.TheVariants as contents
 use Rattle.ksi_world.specs.declared.message.Message.{Message}
@@ -37,11 +37,11 @@ abbrev pub ItemClimbs : (List ℕ → List ℕ) → Type 0
 ItemClimbs image = (items : List Item) (k : ℕ) → IsRound items → k < length items → Climbs image (as_node (item_at items k)) (plain_links (chain_of image items k)) (tree_of image items)
 
 module _ (image : List ℕ → List ℕ) (plan : PlanState) where
-  -- the aggregator has closed this round, and submits this item for it
+  -- the aggregator has closed this round, and submits this item for it, with its name
   pub record IsClosedAs (w : WorldState) (a t : ℕ) (item : Item) : Type 0 where
     pub entries : List Entry
     pub closed : (w.rounds a t).closed ≡ Some entries
-    pub item_is : as_item (tree_of image (items_of entries)) ≡ item
+    pub item_is : with_name (name_of plan a) (as_item (tree_of image (items_of entries))) ≡ item
 
   -- from the node the chains climb to the root. A core holds it, and all seconds up to it, and the calendar links are those
   -- from this second to the calendar of it
@@ -56,7 +56,7 @@ module _ (image : List ℕ → List ℕ) (plan : PlanState) where
     pub all : AllHeld (held_in w core) plan.start t
     pub calendar : above.calendar ≡ calendar_path image (covered_seconds (held_in w core) plan.start t) t t
     pub real : above.root ≢ zero_imprint
-    pub low : top.level ≤ 144
+    pub low : top.level ≤ 153
 
   pub record IsAnswer (w : WorldState) (a t : ℕ) (above : Above) : Type 0 where
     pub item : Item

@@ -34,7 +34,7 @@ use Rattle.ksi_world.proofs.Carrying.{RoundLaws, AsksFor, AskFor, AllOf, after_a
 use Rattle.ksi_world.proofs.Deciding.{StepsAgree, StepsValid}
 use Rattle.ksi_world.proofs.Sending.{TreeRises}
 use Rattle.ksi_world.proofs.Joining.{ItemClimbs}
-use Rattle.ksi_world.proofs.Imprinted.{zero_is, OfItem, OfEntries, OfSibling, OfLink, OfChain, EachSibling, root_is}
+use Rattle.ksi_world.proofs.Imprinted.{zero_is, IsNameMeta, NameLaws, OfItem, OfEntries, OfSibling, OfLink, OfChain, EachSibling, root_is}
 use Rattle.ksi_world.proofs.IssuedCarried.{CalendarShort, IsIssuedOf, kept_is}
 use Rattle.ksi_world.proofs.Lowest.{lowest_some}
 use Rattle.ksi_world.proofs.Rooted.{root_kept, after_roots}
@@ -106,9 +106,9 @@ module _ (P : List ℕ → Type 0) where
 
 -- the laws of rounds, where what is hashed are imprints
 pub imprint_laws : (image : List ℕ → List ℕ) → ((bytes : List ℕ) → IsImprint (image bytes)) → TreeRises image → ItemClimbs image
-    → ((items : List Item) (k : ℕ) → length items ≤ 65536 → length (chain_of image items k) ≤ 16)
-    → ((start top : Node) (links : List PlainLink) → Climbs image start links top → top.level ≡ level_after start.level links) → RoundLaws IsImprint image
-imprint_laws image images rises climb few sum = record { zero_too = zero_is; images = images; rises = rises; climb = climb; few = few; sum = sum }
+    → ((items : List Item) (k : ℕ) → length items ≤ 65536 → length (chain_of image items k) ≤ 17)
+    → ((start top : Node) (links : List PlainLink) → Climbs image start links top → top.level ≡ level_after start.level links) → NameLaws → RoundLaws IsImprint image
+imprint_laws image images rises climb few sum names = record { zero_too = zero_is; images = images; rises = rises; climb = climb; few = few; sum = sum; names = names }
 
 links_imprinted : (links : List Link) → AllByRecursion (OfLink IsImprint) links → AllByRecursion IsLink links
 links_imprinted [] of = tt
@@ -137,30 +137,33 @@ ask_for_imprints [] ask = tt
 ask_for_imprints (e ∷ es) ask = (one e ask.0, ask_for_imprints es ask.1)
   where
     one : (e : Event) → AsksForImprint e → AsksFor IsImprint e
-    one (events.Request k t imprint) asks = asks
+    one (events.Request k t imprint name) asks = asks
     one other asks = tt
 
 -- BYTES
 
-links_of_bytes : (links : List Link) → AllByRecursion (OfLink AreBytes) links → LinksOfBytes links
-links_of_bytes [] of = tt
-links_of_bytes (link ∷ links) of = (sibling link.sibling of.0.1, links_of_bytes links of.1)
+meta_bytes : NameLaws → (bytes : List ℕ) → IsNameMeta bytes → AreBytes bytes
+meta_bytes names bytes of = subst AreBytes (sym of.text) (names.bytes of.name of.named)
+
+links_of_bytes : NameLaws → (links : List Link) → AllByRecursion (OfLink AreBytes) links → LinksOfBytes links
+links_of_bytes names [] of = tt
+links_of_bytes names (link ∷ links) of = (sibling link.sibling of.0.1, links_of_bytes names links of.1)
   where
     sibling : (s : Sibling) → OfSibling AreBytes s → SiblingOfBytes s
     sibling (siblings.Imprint imprint) of = of
     sibling (siblings.Legacy bytes) of = of
-    sibling (siblings.Metadata bytes) of = of
+    sibling (siblings.Metadata bytes) of = meta_bytes names bytes of
 
-chains_of_bytes : (chains : List AboveChain) → AllByRecursion (OfChain AreBytes) chains → AllByRecursion ChainOfBytes chains
-chains_of_bytes [] of = tt
-chains_of_bytes (chain ∷ chains) of = ((of.0.input, links_of_bytes chain.links of.0.links), chains_of_bytes chains of.1)
+chains_of_bytes : NameLaws → (chains : List AboveChain) → AllByRecursion (OfChain AreBytes) chains → AllByRecursion ChainOfBytes chains
+chains_of_bytes names [] of = tt
+chains_of_bytes names (chain ∷ chains) of = ((of.0.input, links_of_bytes names chain.links of.0.links), chains_of_bytes names chains of.1)
 
-pub is_of_bytes : (second : ℕ) (input : List ℕ) (links : List Link) (above : Above) → IsIssuedOf AreBytes second input links above → IsOfBytes input links above
-is_of_bytes second input links above of = record {
+pub is_of_bytes : NameLaws → (second : ℕ) (input : List ℕ) (links : List Link) (above : Above) → IsIssuedOf AreBytes second input links above → IsOfBytes input links above
+is_of_bytes names second input links above of = record {
   imprint = of.imprint;
-  own = links_of_bytes links of.are;
+  own = links_of_bytes names links of.are;
   root = of.root;
-  chains = chains_of_bytes above.chains of.chains;
+  chains = chains_of_bytes names above.chains of.chains;
   calendar = of.calendar;
 }
 
@@ -169,7 +172,7 @@ ask_for_bytes [] ask = tt
 ask_for_bytes (e ∷ es) ask = (one e ask.0, ask_for_bytes es ask.1)
   where
     one : (e : Event) → AsksForBytes e → AsksFor AreBytes e
-    one (events.Request k t imprint) asks = asks
+    one (events.Request k t imprint name) asks = asks
     one other asks = tt
 
 pub zero_bytes : AreBytes zero_imprint
@@ -185,7 +188,7 @@ ask_for_both [] ask bytes = tt
 ask_for_both (e ∷ es) ask bytes = (one e ask.0 bytes.0, ask_for_both es ask.1 bytes.1)
   where
     one : (e : Event) → AsksForImprint e → AsksForBytes e → AsksFor Both e
-    one (events.Request k t imprint) asks bytes = (asks, bytes)
+    one (events.Request k t imprint name) asks bytes = (asks, bytes)
     one other asks bytes = tt
 
 -- what holds of such imprints, where they are so
@@ -197,7 +200,7 @@ module _ (P : List ℕ → Type 0) (part : (imprint : List ℕ) → Both imprint
       sibling : (s : Sibling) → OfSibling Both s → OfSibling P s
       sibling (siblings.Imprint imprint) of = part imprint of
       sibling (siblings.Legacy bytes) of = part bytes of
-      sibling (siblings.Metadata bytes) of = part bytes of
+      sibling (siblings.Metadata bytes) of = of
 
   chains_part : (chains : List AboveChain) → AllByRecursion (OfChain Both) chains → AllByRecursion (OfChain P) chains
   chains_part [] of = tt

@@ -93,9 +93,9 @@ push_lower requests k t from item entries are = record {
     ]
 
 -- the item of the request that is accepted next
-push_request : (requests : List Asked) (k t : ℕ) (imprint : List ℕ) (entries : List Entry) → AreRequested requests k t entries →
-    AreRequested (requests ++ record { aggregator = k; second = t; imprint = imprint } ∷ []) k t (entries ++ request_entry (length requests) imprint ∷ [])
-push_request requests k t imprint entries are = record {
+push_request : (requests : List Asked) (k t : ℕ) (imprint : List ℕ) (name : Option (List ℕ)) (entries : List Entry) → AreRequested requests k t entries →
+    AreRequested (requests ++ record { aggregator = k; second = t; imprint = imprint } ∷ []) k t (entries ++ request_entry (length requests) imprint name ∷ [])
+push_request requests k t imprint name entries are = record {
   asked = λ i number x at. elim (get_push entries entry i (from_request number x) at) [
     | inl there ↦ asked_more requests new k t number x (are.asked i number x there)
     | inr last ↦ let is : from_request number x ≡ entry = last.1 in here number x (number_is number x is) (item_is number x is)
@@ -116,15 +116,15 @@ push_request requests k t imprint entries are = record {
     new = record { aggregator = k; second = t; imprint = imprint }
 
     entry : Entry
-    entry = request_entry (length requests) imprint
+    entry = request_entry (length requests) imprint name
 
-    number_is : (number : ℕ) (x : Item) → from_request number x ≡ request_entry (length requests) imprint → number ≡ length requests
+    number_is : (number : ℕ) (x : Item) → from_request number x ≡ request_entry (length requests) imprint name → number ≡ length requests
     number_is number x same = let origin : origins.Request number ≡ origins.Request (length requests) = ap (λ (e : Entry). e.origin) same in cc origin
 
-    item_is : (number : ℕ) (x : Item) → from_request number x ≡ request_entry (length requests) imprint → x ≡ record { imprint = imprint; level = 0 }
+    item_is : (number : ℕ) (x : Item) → from_request number x ≡ request_entry (length requests) imprint name → x ≡ record { imprint = imprint; level = 0; name = name }
     item_is number x same = ap (λ (e : Entry). e.item) same
 
-    here : (number : ℕ) (x : Item) → number ≡ length requests → x ≡ record { imprint = imprint; level = 0 } → IsAskedAt (requests ++ new ∷ []) k t number x
+    here : (number : ℕ) (x : Item) → number ≡ length requests → x ≡ record { imprint = imprint; level = 0; name = name } → IsAskedAt (requests ++ new ∷ []) k t number x
     here number x number_is item_is =
         subst (λ n. IsAskedAt (requests ++ new ∷ []) k t n x) (sym number_is)
         (subst (λ (x : Item). IsAskedAt (requests ++ new ∷ []) k t (length requests) x) (sym item_is)
@@ -145,11 +145,11 @@ module _ (image : List ℕ → List ℕ) (plan : PlanState) where
   stays_numbered : (w : WorldState) (k t : ℕ) (answer : Answer) → IsNumbered w → IsNumbered (at_round plan w k t (round_still (w.rounds k t) answer)).world
   stays_numbered w k t answer is = round_numbered w k t (round_still (w.rounds k t) answer) (is k t) is
 
-  request_numbered : (w : WorldState) (k t : ℕ) (imprint : List ℕ) → IsNumbered w → IsNumbered (histories.request_happens plan w k t imprint).world
+  request_numbered : (w : WorldState) (k t : ℕ) (imprint : List ℕ) (name : Option (List ℕ)) → IsNumbered w → IsNumbered (histories.request_happens plan w k t imprint name).world
   unfolding round_request
-  request_numbered w k t imprint is = cond_both (is_some r.closed) _ _ (λ turn. IsNumbered (accepted_where new (at_round plan w k t turn)).world) (λ _. stays_numbered w k t answers.Late is)
+  request_numbered w k t imprint name is = cond_both (is_some r.closed) _ _ (λ turn. IsNumbered (accepted_where new (at_round plan w k t turn)).world) (λ _. stays_numbered w k t answers.Late is)
       (λ _. cond_both (is_full r.open_items) _ _ (λ turn. IsNumbered (accepted_where new (at_round plan w k t turn)).world) (λ _. stays_numbered w k t answers.Full is)
-      (λ _. round_numbered w' k t turn (record { open_items = push_request w.requests k t imprint r.open_items (is k t).open_items; closed = (all k t).closed }) all))
+      (λ _. round_numbered w' k t turn (record { open_items = push_request w.requests k t imprint name r.open_items (is k t).open_items; closed = (all k t).closed }) all))
     where
       r : RoundState
       r = w.rounds k t
@@ -158,7 +158,7 @@ module _ (image : List ℕ → List ℕ) (plan : PlanState) where
       new = record { aggregator = k; second = t; imprint = imprint }
 
       turn : RoundTurn
-      turn = round_added r (request_entry (length w.requests) imprint) (answers.Number (length w.requests))
+      turn = round_added r (request_entry (length w.requests) imprint name) (answers.Number (length w.requests))
 
       w' : WorldState
       w' = record w { requests = w.requests ++ new ∷ [] }
@@ -214,7 +214,7 @@ module _ (image : List ℕ → List ℕ) (plan : PlanState) where
 
   pub happens_numbered : (w : WorldState) (e : Event) → IsNumbered w → IsNumbered (happens image plan w e).world
   unfolding happens
-  happens_numbered w (events.Request k t imprint) is = request_numbered w k t imprint is
+  happens_numbered w (events.Request k t imprint name) is = request_numbered w k t imprint name is
   happens_numbered w (events.Close k t) is = close_numbered w k t is
   happens_numbered w (events.Seal j t) is = is
   happens_numbered w (events.Ballot j t) is = is

@@ -51,7 +51,7 @@ module _ (image : List ℕ → List ℕ) (plan : PlanState) where
 
   happens_times : (w : WorldState) (e : Event) → IsEvent plan e → Times w → Times (happens image plan w e).world
   unfolding happens
-  happens_times w (events.Request k t imprint) is are = are
+  happens_times w (events.Request k t imprint name) is are = are
   happens_times w (events.Close k t) is are = are
   happens_times w (events.Seal j t) is are = are
   happens_times w (events.Ballot j t) is are = are

@@ -96,7 +96,7 @@ module _ (image : List ℕ → List ℕ) (plan : PlanState) where
 
   publishes_nothing : (w : WorldState) (e : Event) → Silent e → (happens image plan w e).world.published ≡ w.published
   unfolding happens
-  publishes_nothing w (events.Request k t imprint) silent = refl
+  publishes_nothing w (events.Request k t imprint name) silent = refl
   publishes_nothing w (events.Close k t) silent = refl
   publishes_nothing w (events.Seal j t) silent = refl
   publishes_nothing w (events.Ballot j t) silent = refl
@@ -111,7 +111,7 @@ module _ (image : List ℕ → List ℕ) (plan : PlanState) where
 
   happens_roots : (w : WorldState) (e : Event) → IsEvent plan e → AreRoots w → AreRoots (happens image plan w e).world
   happens_roots w (events.Publish j p) is are = publish_roots w j p is.0 is.1.0 are
-  happens_roots w (events.Request k t imprint) is are = roots_later w (happens image plan w (events.Request k t imprint)).world (happens_grew image plan w (events.Request k t imprint)) (publishes_nothing w (events.Request k t imprint) tt) are
+  happens_roots w (events.Request k t imprint name) is are = roots_later w (happens image plan w (events.Request k t imprint name)).world (happens_grew image plan w (events.Request k t imprint name)) (publishes_nothing w (events.Request k t imprint name) tt) are
   happens_roots w (events.Close k t) is are = roots_later w (happens image plan w (events.Close k t)).world (happens_grew image plan w (events.Close k t)) (publishes_nothing w (events.Close k t) tt) are
   happens_roots w (events.Seal j t) is are = roots_later w (happens image plan w (events.Seal j t)).world (happens_grew image plan w (events.Seal j t)) (publishes_nothing w (events.Seal j t) tt) are
   happens_roots w (events.Ballot j t) is are = roots_later w (happens image plan w (events.Ballot j t)).world (happens_grew image plan w (events.Ballot j t)) (publishes_nothing w (events.Ballot j t) tt) are

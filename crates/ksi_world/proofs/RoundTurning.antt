@@ -1,5 +1,5 @@
 -- One aggregator of many takes a turn.
-use Rattle.std.proofs.Common.{◌≡◌, ℕ, ◌≤◌, cond, eqb, List, [], ◌∷◌, ◌++◌, length, refl, sym, ap, subst, ◌∙◌, arith, inl, inr, is_some, Some, set, length-set}
+use Rattle.std.proofs.Common.{◌≡◌, ℕ, ◌≤◌, cond, eqb, List, [], ◌∷◌, ◌++◌, length, refl, sym, ap, subst, ◌∙◌, arith, inl, inr, is_some, Option, Some, set, length-set}
 use Rattle.std.specs.Prelude.{slice_get, map}
 use Rattle.std.proofs.lemmas.Bool.{cond_both}
 use Rattle.ksi_aggtree.specs.declared.item.Item.{Item}
@@ -45,9 +45,9 @@ aggregators_stay aggregators k old new at me same plan rounds r = record {
 
 -- WHAT IS SENT
 
-pub none_requested : (number : ℕ) (imprint : List ℕ) (r : RoundState) → (round_request number imprint r).sends ≡ []
+pub none_requested : (number : ℕ) (imprint : List ℕ) (name : Option (List ℕ)) (r : RoundState) → (round_request number imprint name r).sends ≡ []
 unfolding round_request
-none_requested number imprint r = cond_both (is_some r.closed) _ _ (λ (turn : RoundTurn). turn.sends ≡ []) (λ _. refl)
+none_requested number imprint name r = cond_both (is_some r.closed) _ _ (λ (turn : RoundTurn). turn.sends ≡ []) (λ _. refl)
     (λ _. cond_both (is_full r.open_items) _ _ (λ (turn : RoundTurn). turn.sends ≡ []) (λ _. refl) (λ _. refl))
 
 pub none_submitted : (from : ℕ) (item : Item) (r : RoundState) → (round_submission from item r).sends ≡ []

@@ -8,7 +8,7 @@ use Rattle.ksi_aggtree.specs.declared.item.Item.{Item}
 use Rattle.ksi_aggtree.specs.declared.entries.Entry.{Entry}
 use Rattle.ksi_aggtree.specs.declared.entries.Origin.{Origin}
 use Rattle.ksi_aggtree.specs.declared.entries.Origin.TheVariants as origins
-use Rattle.ksi_aggtree.specs.Rounds.{as_item, item_at, tree_of}
+use Rattle.ksi_aggtree.specs.Rounds.{as_item, item_at, named_level, leaf_level, tree_of}
 use Rattle.ksi_aggtree.specs.Entries.{items_of, is_from, has_from, is_full}
 use Rattle.ksi_synod.specs.declared.messages.SynodMessage.{SynodMessage}
 use Rattle.ksi_synod.specs.declared.messages.SynodMessage.TheVariants as message
@@ -41,9 +41,17 @@ get_in_either [] ys k x at = inr (k, at)
 get_in_either (y ∷ xs) ys zero x at = inl at
 get_in_either (y ∷ xs) ys (suc k) x at = get_in_either xs ys k x at
 
+-- a leaf is at most one level above its item
+pub leaf_most : (item : Item) → leaf_level item ≤ item.level + 1
+leaf_most item = by item.name
+  where
+    by : (name : Option (List ℕ)) → named_level item.level name ≤ item.level + 1
+    by None = omega arith
+    by (Some name) = omega arith
+
 -- the law of levels
 abbrev pub TreeRises : (List ℕ → List ℕ) → Type 0
-TreeRises image = (items : List Item) (most : ℕ) → length items ≤ 65536 → ((k : ℕ) → (item_at items k).level ≤ most) → (tree_of image items).level ≤ most + 16
+TreeRises image = (items : List Item) (most : ℕ) → length items ≤ 65536 → ((k : ℕ) → leaf_level (item_at items k) ≤ most) → (tree_of image items).level ≤ most + 16
 
 -- each message is a post
 abbrev pub ArePosts : PlanState → List Message → Type 0
@@ -153,21 +161,21 @@ module _ (plan : PlanState) where
     once = λ a. let one = cond_both (eqb from a) 1 0 (λ m. count_from a es + m ≤ 1) (λ same. omega (arith, ap (λ a. count_from a es) (eqb-true from a same), none_from from es none)) (λ _. omega (arith, r.once a)) in omega (arith, one, count_push a es (submitted_entry from item));
   }
 
-  pub request_push : (here : Actor) (n : ℕ) (es : List Entry) (imprint : List ℕ) → IsRoundAt plan here n es → is_full es ≡ false → IsRoundAt plan here (suc n) (es ++ request_entry n imprint ∷ [])
-  request_push here n es imprint r room = record {
-    are = are_push here (suc n) es (request_entry n imprint) (are_more here n (suc n) es (omega arith) r.are) (omega arith, refl);
-    few = let ne : length es ≡ 65536 → ⊥ = eqb-false (length es) 65536 room in omega (arith, length-append es (request_entry n imprint ∷ []), r.few, ne);
-    once = λ a. omega (arith, count_push a es (request_entry n imprint), r.once a);
+  pub request_push : (here : Actor) (n : ℕ) (es : List Entry) (imprint : List ℕ) (name : Option (List ℕ)) → IsRoundAt plan here n es → is_full es ≡ false → IsRoundAt plan here (suc n) (es ++ request_entry n imprint name ∷ [])
+  request_push here n es imprint name r room = record {
+    are = are_push here (suc n) es (request_entry n imprint name) (are_more here n (suc n) es (omega arith) r.are) (omega arith, refl);
+    few = let ne : length es ≡ 65536 → ⊥ = eqb-false (length es) 65536 room in omega (arith, length-append es (request_entry n imprint name ∷ []), r.few, ne);
+    once = λ a. omega (arith, count_push a es (request_entry n imprint name), r.once a);
   }
 
   -- LEVELS AND RESPONSES
 
   module _ (is : IsPlan plan) where
-    of_low : (here : Actor) (n : ℕ) (o : Origin) (item : Item) → IsOf plan here n o item → item.level + 16 * suc (depth_of plan here) ≤ 144
-    of_low here n (origins.Request number) item r = omega (arith, r.1, depth_most plan here)
-    of_low here n (origins.Aggregator from) item r = omega (arith, r.2, depth_child plan is from r.0, ap (depth_of plan) r.1)
+    of_low : (here : Actor) (n : ℕ) (o : Origin) (item : Item) → IsOf plan here n o item → leaf_level item + 17 * depth_of plan here ≤ 137
+    of_low here n (origins.Request number) item r = omega (arith, r.1, leaf_most item, depth_most plan here)
+    of_low here n (origins.Aggregator from) item r = omega (arith, r.2, leaf_most item, depth_child plan is from r.0, ap (depth_of plan) r.1)
 
-    pub are_low : (here : Actor) (n : ℕ) (es : List Entry) → AreOf plan here n es → (i : ℕ) → (item_at (items_of es) i).level ≤ 144 - 16 * suc (depth_of plan here)
+    pub are_low : (here : Actor) (n : ℕ) (es : List Entry) → AreOf plan here n es → (i : ℕ) → leaf_level (item_at (items_of es) i) ≤ 137 - 17 * depth_of plan here
     are_low here n [] r zero = omega arith
     are_low here n [] r (suc i) = omega arith
     are_low here n (e ∷ es) r zero = omega (arith, of_low here n e.origin e.item r.0)
@@ -176,7 +184,7 @@ module _ (plan : PlanState) where
     pub tree_low : (image : List ℕ → List ℕ) → TreeRises image → (here : Actor) (n : ℕ) (es : List Entry) → IsRoundAt plan here n es → IsLow plan here (as_item (tree_of image (items_of es)))
     tree_low image rises here n es r =
         let f : Entry → Item = λ e. e.item in
-        omega (arith, depth_most plan here, rises (items_of es) (144 - 16 * suc (depth_of plan here)) (omega (arith, length-map es f, r.few)) (are_low here n es r.are))
+        omega (arith, depth_most plan here, rises (items_of es) (137 - 17 * depth_of plan here) (omega (arith, length-map es f, r.few)) (are_low here n es r.are))
 
     pub core_responses : (j n k : ℕ) (above : ℕ → Above) (es : List Entry) → ((i : ℕ) → length (above i).chains ≤ 1) → AreOf plan (actors.Core j) n es → FineSends j (responses_from above k es)
     core_responses j n k above [] short are = tt

@@ -159,12 +159,12 @@ module _ (image : List ℕ → List ℕ) (plan : PlanState) (is : IsPlan plan) (
   stays_sound : (w : WorldState) (k t : ℕ) (answer : Answer) → k < length plan.parents → InRange plan t → IsSound plan w → IsSound plan (at_round plan w k t (round_still (w.rounds k t) answer)).world
   stays_sound w k t answer lt range sound = plain_sound w k t (round_still (w.rounds k t) answer) lt range (sound.rounds k t) tt sound
 
-  request_sound : (w : WorldState) (k t : ℕ) (imprint : List ℕ) → k < length plan.parents → InRange plan t → IsSound plan w → IsSound plan (histories.request_happens plan w k t imprint).world
+  request_sound : (w : WorldState) (k t : ℕ) (imprint : List ℕ) (name : Option (List ℕ)) → k < length plan.parents → InRange plan t → IsSound plan w → IsSound plan (histories.request_happens plan w k t imprint name).world
   unfolding round_request
-  request_sound w k t imprint lt range sound = cond_both (is_some r.closed) _ _ (λ turn. Goes turn) (λ _. stays_sound w k t answers.Late lt range sound)
+  request_sound w k t imprint name lt range sound = cond_both (is_some r.closed) _ _ (λ turn. Goes turn) (λ _. stays_sound w k t answers.Late lt range sound)
       (λ _. cond_both (is_full r.open_items) _ _ (λ turn. Goes turn) (λ _. stays_sound w k t answers.Full lt range sound)
-      (λ room. round_sound w (w.requests ++ asked ∷ []) k t (round_added r (request_entry (length w.requests) imprint) (answers.Number (length w.requests))) (omega (arith, more)) lt range (record {
-        open_items = subst (λ n. IsRoundAt plan (actors.Aggregator k) n (r.open_items ++ request_entry (length w.requests) imprint ∷ [])) (sym more) (request_push plan (actors.Aggregator k) (length w.requests) r.open_items imprint old.open_items room);
+      (λ room. round_sound w (w.requests ++ asked ∷ []) k t (round_added r (request_entry (length w.requests) imprint name) (answers.Number (length w.requests))) (omega (arith, more)) lt range (record {
+        open_items = subst (λ n. IsRoundAt plan (actors.Aggregator k) n (r.open_items ++ request_entry (length w.requests) imprint name ∷ [])) (sym more) (request_push plan (actors.Aggregator k) (length w.requests) r.open_items imprint name old.open_items room);
         closed = λ entries at. round_more plan (actors.Aggregator k) (length w.requests) (length (w.requests ++ asked ∷ [])) entries (omega (arith, more)) (old.closed entries at);
       }) tt sound))
     where
@@ -244,7 +244,7 @@ module _ (image : List ℕ → List ℕ) (plan : PlanState) (is : IsPlan plan) (
 
   pub happens_sound : (w : WorldState) (e : Event) → IsEvent plan e → IsSound plan w → IsSound plan (happens image plan w e).world
   unfolding happens
-  happens_sound w (events.Request k t imprint) at sound = request_sound w k t imprint at.0 at.1 sound
+  happens_sound w (events.Request k t imprint name) at sound = request_sound w k t imprint name at.0 at.1 sound
   happens_sound w (events.Close k t) at sound = close_sound w k t at.0 at.1 sound
   happens_sound w (events.Seal j t) at sound = seal_sound w j t at.0 at.1 sound
   happens_sound w (events.Ballot j t) at sound = ballot_sound w j t at.0 at.1 sound

@@ -170,7 +170,7 @@ module _ (image : List ℕ → List ℕ) (plan : PlanState) where
 
     pub happens_voted : (e : Event) → plan.cores ≤ 9 → IsEvent plan e → Voted (happens image plan w e).world
     unfolding happens
-    happens_voted (events.Request k u imprint) few at = round_voted image plan w.seconds w.wire voted k u (round_request (length w.requests) imprint (w.rounds k u)).sends
+    happens_voted (events.Request k u imprint name) few at = round_voted image plan w.seconds w.wire voted k u (round_request (length w.requests) imprint name (w.rounds k u)).sends
     happens_voted (events.Close k u) few at = round_voted image plan w.seconds w.wire voted k u (round_close image (w.rounds k u)).sends
     happens_voted (events.Seal j u) few at = seal_voted j u at.0
     happens_voted (events.Ballot j u) few at = ballot_voted j u (omega (arith, at.0, few))

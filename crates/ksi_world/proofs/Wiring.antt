@@ -69,9 +69,9 @@ held_by_sender : (image : List ℕ → List ℕ) (plan : PlanState) (w : WorldSt
 held_by_sender image plan w (actors.Core j) t above is = is
 held_by_sender image plan w (actors.Aggregator k) t above is = tt
 
-short_chains : (chains : List AboveChain) → AllByRecursion (OfChain IsImprint) chains → AllByRecursion (λ chain. length chain.links ≤ 16) chains
+short_chains : (chains : List AboveChain) → AllByRecursion (OfChain IsImprint) chains → AllByRecursion (λ chain. length chain.links ≤ 17) chains
 short_chains [] all = tt
-short_chains (chain ∷ chains) all = (all.0.limits.count, short_chains chains all.1)
+short_chains (chain ∷ chains) all = (omega (arith, all.0.limits.count), short_chains chains all.1)
 
 module _ (image : List ℕ → List ℕ) (plan : PlanState) (is : IsPlan plan) (laws : RoundLaws IsImprint image) (climbs : PathClimbs image) (brief : CalendarShort image)
     (es : List Event) (are : AreEvents plan es) (ask : AskFor IsImprint es) where

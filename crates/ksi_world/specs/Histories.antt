@@ -21,7 +21,8 @@ use Rattle.ksi_world.specs.declared.outcome.Outcome.{Outcome}
 use Rattle.ksi_world.specs.declared.message.Content.{Content}
 use Rattle.ksi_world.specs.declared.message.Content.TheVariants as contents
 use Rattle.ksi_world.specs.declared.message.Message.{Message}
-use Rattle.ksi_schedule.specs.Plans.{PlanState, parent_of}
+use Rattle.ksi_aggtree.specs.Rounds.{with_name}
+use Rattle.ksi_schedule.specs.Plans.{PlanState, parent_of, name_of}
 use Rattle.ksi_schedule.specs.Events.{History}
 
 -- what every actor keeps for each second, all messages ever sent, the accepted requests in order, and the seconds that
@@ -51,9 +52,9 @@ abbrev pub core_message : (core second : ℕ) → core_step.Send → Message
 core_message j t (core_sends.Synod to m) = message_of (actors.Core j) (actors.Core to) t (contents.Synod m)
 core_message j t (core_sends.Response to above) = message_of (actors.Core j) (actors.Aggregator to) t (contents.Response above)
 
--- the message of an aggregator's send: a submission goes to its parent
+-- the message of an aggregator's send: a submission goes to its parent, with the aggregator's name where it has one
 abbrev pub round_message : PlanState → (aggregator second : ℕ) → round_step.Send → Message
-round_message plan k t (round_sends.Submission item) = message_of (actors.Aggregator k) (parent_of plan k) t (contents.Submission item)
+round_message plan k t (round_sends.Submission item) = message_of (actors.Aggregator k) (parent_of plan k) t (contents.Submission (with_name (name_of plan k) item))
 round_message plan k t (round_sends.Response to above) = message_of (actors.Aggregator k) (actors.Aggregator to) t (contents.Response above)
 
 -- WHAT AN EVENT MAKES OF A WORLD, AND ITS OUTCOME
@@ -92,9 +93,9 @@ abbrev pub accepted_where : Asked → Happening → Happening
 accepted_where new h = record h { world = record h.world { requests = asked_with h.world.requests new h.outcome.answer } }
 
 -- its number is the count of the requests that were accepted before
-abbrev pub request_happens : PlanState → WorldState → (aggregator second : ℕ) → (imprint : List ℕ) → Happening
-request_happens plan w k t imprint = accepted_where (record { aggregator = k; second = t; imprint = imprint })
-    (at_round plan w k t (round_request (length w.requests) imprint (w.rounds k t)))
+abbrev pub request_happens : PlanState → WorldState → (aggregator second : ℕ) → (imprint : List ℕ) → (name : Option (List ℕ)) → Happening
+request_happens plan w k t imprint name = accepted_where (record { aggregator = k; second = t; imprint = imprint })
+    (at_round plan w k t (round_request (length w.requests) imprint name (w.rounds k t)))
 
 -- the pair in its place, where its second is new
 abbrev pub put_rising : (second : ℕ) → (root : List ℕ) → List (ℕ × List ℕ) → List (ℕ × List ℕ)
@@ -142,7 +143,7 @@ module _ (image : List ℕ → List ℕ) (plan : PlanState) where
 
   -- AN EVENT
   unfoldable pub happens : WorldState → Event → Happening
-  happens w (events.Request k t imprint) = request_happens plan w k t imprint
+  happens w (events.Request k t imprint name) = request_happens plan w k t imprint name
   happens w (events.Close k t) = at_round plan w k t (round_close image (w.rounds k t))
   happens w (events.Seal j t) = at_core w j t (seal_row image (w.seconds j t))
   happens w (events.Ballot j t) = at_core w j t (ballot_row (core_plan_of plan) t j (w.seconds j t))

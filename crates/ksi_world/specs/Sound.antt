@@ -26,9 +26,10 @@ depth_within plan (suc most) (actors.Aggregator k) = suc (depth_within plan most
 unfoldable pub depth_of : PlanState → Actor → ℕ
 depth_of plan actor = depth_within plan 8 actor
 
--- the item may go up from an actor: 16 levels are left for each aggregator above it, and for this one
+-- the item may go up from an actor: 17 levels are left for each aggregator above it, and for this one, 16 of them for the
+-- tree of a round and one for a name
 abbrev pub IsLow : PlanState → Actor → Item → Type 0
-IsLow plan sender item = item.level + 16 * depth_of plan sender ≤ 144
+IsLow plan sender item = item.level + 17 * depth_of plan sender ≤ 153
 
 -- the core's ballots are ballots
 pub record IsSmall (v : VoteState) : Type 0 where

@@ -1,8 +1,9 @@
 -- What a decided second is: missed, or the tree of items that a core sealed. And which seconds were published.
-use Rattle.std.specs.Prelude.{◌≡◌, ◌≢◌, ◌⊎◌, ℕ, suc, ◌<◌, ◌≤◌, List, [], ◌∷◌, length, Some}
+use Rattle.std.specs.Prelude.{◌≡◌, ◌≢◌, ◌⊎◌, ℕ, suc, ◌<◌, ◌≤◌, List, [], ◌∷◌, length, Some, IfSome}
 use Rattle.std.specs.List.{AllByRecursion}
 use Rattle.ksi_imprint.specs.Imprints.{IsImprint, zero_imprint}
 use Rattle.ksi_aggtree.specs.declared.entries.Entry.{Entry}
+use Rattle.ksi_aggtree.specs.Names.{IsName}
 use Rattle.ksi_aggtree.specs.Rounds.{IsRound, tree_of}
 use Rattle.ksi_aggtree.specs.Entries.{items_of, candidate_of}
 use Rattle.ksi_schedule.specs.Plans.{PlanState}
@@ -24,7 +25,7 @@ pub record IsMissed (kept : Second) : Type 0 where
   pub zero : kept.root ≡ zero_imprint
   pub none : kept.items ≡ []
 
--- any other has at least one, at most 65,536, of levels to 239, and its root is the imprint of their tree
+-- any other has at least one, at most 65,536, whose leaves have levels to 239, and its root is the imprint of their tree
 pub record HasTree (image : List ℕ → List ℕ) (kept : Second) : Type 0 where
   pub real : kept.root ≢ zero_imprint
   pub some : 1 ≤ length kept.items
@@ -34,9 +35,9 @@ pub record HasTree (image : List ℕ → List ℕ) (kept : Second) : Type 0 wher
 abbrev pub IsKept : (List ℕ → List ℕ) → Second → Type 0
 IsKept image kept = IsMissed kept ⊎ HasTree image kept
 
--- its root and its items are imprints
+-- its root and its items' imprints are imprints, and their names are names
 abbrev pub HasImprints : Second → Type 0
-HasImprints kept = IsImprint kept.root × AllByRecursion (λ item. IsImprint item.imprint) kept.items
+HasImprints kept = IsImprint kept.root × AllByRecursion (λ item. IsImprint item.imprint × IfSome item.name IsName) kept.items
 
 abbrev pub EachKept : (Second → Type 0) → List Second → Type 0
 EachKept P [] = Unit {0}

@@ -44,11 +44,11 @@ pub record IsLinked (image : List ℕ → List ℕ) (plan : PlanState) (w : Worl
   pub covered : IsCovered (held_in w core) plan.start message.second
   -- the root is not the zero imprint, which would say that the second was missed
   pub real : above.root ≢ zero_imprint
-  -- there are at most 8 chains, of at most 16 links each
+  -- there are at most 8 chains, of at most 17 links each
   pub few : length above.chains ≤ 8
-  pub short : AllByRecursion (λ chain. length chain.links ≤ 16) above.chains
-  -- levels are at most 144: a level rises with each link, so that of the last one is the greatest
-  pub low : top.level ≤ 144
+  pub short : AllByRecursion (λ chain. length chain.links ≤ 17) above.chains
+  -- levels are at most 153: a level rises with each link, so that of the last one is the greatest
+  pub low : top.level ≤ 153
   -- there are at most 63 links in the calendar chain
   pub brief : length above.calendar ≤ 63
 

@@ -2,7 +2,7 @@
 ghost use Rattle.std.specs.Prelude.{◌≡◌, ◌≤◌, ◌<◌, ◌+◌, ◌^◌, length, slice_get, Some, IfOk, OnErr};
 ghost use Rattle.ksi_aggregator.specs.Rows.{fresh_round, round_request, round_submission, round_close, round_restarted};
 ghost use Rattle.ksi_aggregator.specs.Rounds.{rounds_of, IsNew};
-ghost use Rattle.ksi_aggtree.specs.Rounds.{highest_item};
+ghost use Rattle.ksi_aggtree.specs.Rounds.{highest_item, leaf_level};
 ghost use Rattle.ksi_world.specs.declared.message.Message.{Message};
 ghost use Rattle.ksi_schedule.specs.Plans.{PlanState};
 ghost use Rattle.ksi_world.specs.Nodes.{AreAggregators, EachAggregator, CanTake, response_row, RoundMove, RoundStep, RoundRestart, AggregatorsStay};
@@ -11,7 +11,7 @@ use crate::message::{Content, Message};
 use crate::outcome::Outcome;
 use crate::posting::post_round;
 use ksi_aggregator::{Aggregator, NoMemory, Step};
-use ksi_aggtree::Item;
+use ksi_aggtree::{Item, Name};
 use ksi_imprint::{Compress, Imprint};
 use ksi_schedule::Plan;
 use std::alloc::Global;
@@ -27,7 +27,7 @@ pub(crate) fn new<C: Compress>(alloc: Global, plan: &Plan) -> Result<Vec<Aggrega
     Ok(aggregators)
 }
 
-/// An aggregator takes the request of a number for a second.
+/// An aggregator takes the request of a number for a second, under a name or under none.
 pub(crate) fn request<C: Compress>(
     plan: &Plan,
     aggregators: &mut Vec<Aggregator<C>>,
@@ -36,16 +36,17 @@ pub(crate) fn request<C: Compress>(
     number: u64,
     second: u64,
     imprint: Imprint,
+    name: Option<Name>,
 ) -> Result<Outcome, NoMemory>
     requires there { aggregator < length aggregators.old.items }
     requires planned { aggregator < length plan.now.parents }
     requires new { EachAggregator (λ a. IsNew number (rounds_of a)) aggregators.old.items }
     requires early { second < 2 ^ 63 }
-    ensures ok { IfOk result (RoundStep (round_request number imprint) plan.now aggregator second aggregators.old.items aggregators.new.items wire.old.items wire.new.items) }
+    ensures ok { IfOk result (RoundStep (round_request number imprint name) plan.now aggregator second aggregators.old.items aggregators.new.items wire.old.items wire.new.items) }
     ensures aggregators { OnErr result (AggregatorsStay aggregators.old.items aggregators.new.items) }
     ensures wire { OnErr result (wire.new.items ≡ wire.old.items) }
 {
-    let step = aggregators[aggregator as usize].request(number, second, imprint)?;
+    let step = aggregators[aggregator as usize].request(number, second, imprint, name)?;
     Ok(post_round(plan, wire, aggregator, second, step))
 }
 
@@ -62,7 +63,7 @@ pub(crate) fn submission<C: Compress>(
     requires there { aggregator < length aggregators.old.items }
     requires planned { aggregator < length plan.now.parents }
     requires early { second < 2 ^ 63 }
-    requires level { item.level ≤ highest_item }
+    requires level { leaf_level item ≤ highest_item }
     ensures ok { IfOk result (RoundStep (round_submission from item) plan.now aggregator second aggregators.old.items aggregators.new.items wire.old.items wire.new.items) }
     ensures aggregators { OnErr result (AggregatorsStay aggregators.old.items aggregators.new.items) }
     ensures wire { OnErr result (wire.new.items ≡ wire.old.items) }

@@ -6,7 +6,7 @@ ghost use Rattle.ksi_synod.specs.Rows.{OfBallot};
 ghost use Rattle.ksi_corenode.specs.Rows.{submission_row, seal_row, ballot_row, receive_row, tell_row, respond_row, publish_answer, restart_row};
 ghost use Rattle.ksi_corenode.specs.SecondState.{fresh_second};
 ghost use Rattle.ksi_corenode.specs.CoreState.{CoreState, state_of, held_by};
-ghost use Rattle.ksi_aggtree.specs.Rounds.{highest_item};
+ghost use Rattle.ksi_aggtree.specs.Rounds.{highest_item, leaf_level};
 ghost use Rattle.ksi_world.specs.Nodes.{AreCores, EachCore, CoreStep, CoreRestart, CoresStay};
 
 use crate::message::Message;
@@ -117,7 +117,7 @@ pub(crate) fn submission<C: Compress>(
     item: Item,
 ) -> Result<Outcome, NoMemory>
     requires there { core < length cores.old.items }
-    requires level { item.level ≤ highest_item }
+    requires level { leaf_level item ≤ highest_item }
     ensures ok { IfOk result (CoreStep (λ c. submission_row from item (state_of c second)) core second cores.old.items cores.new.items wire.old.items wire.new.items) }
     ensures cores { OnErr result (CoresStay cores.old.items cores.new.items) }
     ensures wire { OnErr result (wire.new.items ≡ wire.old.items) }

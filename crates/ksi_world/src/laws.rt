@@ -18,7 +18,7 @@ ghost use Rattle.ksi_world.specs.Validity.{IsProposed, IsKept, HasImprints, Each
 ghost use Rattle.ksi_world.specs.Wire.{ResponsesClimb};
 
 use ksi_aggchain::laws::levels_rise;
-use ksi_aggtree::laws::{one_chain, one_round};
+use ksi_aggtree::laws::{metas_are_even, one_chain, one_round};
 use ksi_calendar::laws::one_chain as calendar_chain;
 use ksi_imprint::Imprint;
 use ksi_signature::{issued_is_bytes, issued_is_signature};
@@ -113,6 +113,7 @@ pub fn issued_is_carried()
 {
     one_round();
     one_chain();
+    metas_are_even();
     levels_rise();
     one_path::<Imprint>();
     steps_agree();
@@ -121,7 +122,7 @@ pub fn issued_is_carried()
 /// Each Response that was ever sent leads from the item of its addressee's round to a root that is held: the aggregation
 /// chains climb from that item, at its level, to the root; a core holds it for this second, as the sender does where that is
 /// a core; and the calendar chain leads on from there to the root of the calendar to this second. It is never the zero
-/// imprint. There are at most 8 chains of at most 16 links, at levels to 144.
+/// imprint. There are at most 8 chains of at most 17 links, at levels to 153.
 pub fn responses_climb()
     ensures { (image : List ℕ → List ℕ) (history : History) → ((bytes : List ℕ) → IsImprint (image bytes)) →
         IsPlan history.plan → AreEvents history.plan history.events → AskForImprints history.events →
@@ -129,6 +130,7 @@ pub fn responses_climb()
 {
     one_round();
     one_chain();
+    metas_are_even();
     levels_rise();
     calendar_chain();
     one_path::<Imprint>();
@@ -156,6 +158,7 @@ pub fn history_is_of_bytes()
 {
     one_round();
     one_chain();
+    metas_are_even();
     levels_rise();
     one_path::<Imprint>();
     steps_agree();
@@ -178,6 +181,7 @@ pub fn kept_is_listed()
 {
     one_round();
     one_chain();
+    metas_are_even();
     levels_rise();
     one_path::<Imprint>();
     steps_agree();
@@ -194,6 +198,7 @@ pub fn published_is_listed()
 {
     one_round();
     one_chain();
+    metas_are_even();
     levels_rise();
     one_path::<Imprint>();
     steps_agree();

@@ -15,7 +15,7 @@ use crate::outcome::{Asked, Outcome};
 use crate::published::put_answer;
 use crate::{aggregators, cores};
 use ksi_aggregator::Aggregator;
-use ksi_aggtree::{Item, Second};
+use ksi_aggtree::{Item, Name, Second};
 use ksi_corenode::Core;
 use ksi_imprint::{Compress, Imprint, NoMemory};
 use ksi_schedule::{Actor, Event, Plan};
@@ -125,9 +125,10 @@ impl<C: Compress> Nodes<C> {
         aggregator: u32,
         second: u64,
         imprint: Imprint,
+        name: Option<Name>,
     ) -> Result<Outcome, NoMemory>
-        requires { IsReady plan.now (Event.Request aggregator second imprint) self.old }
-        ensures ok { IfOk result (Happened C.image plan.now (Event.Request aggregator second imprint) self.old self.new) }
+        requires { IsReady plan.now (Event.Request aggregator second imprint name) self.old }
+        ensures ok { IfOk result (Happened C.image plan.now (Event.Request aggregator second imprint name) self.old self.new) }
         ensures err { OnErr result (StoodStill plan.now self.old self.new) }
     {
         let number = self.requests.len() as u64;
@@ -140,6 +141,7 @@ impl<C: Compress> Nodes<C> {
             number,
             second,
             imprint,
+            name,
         )?;
         let asked = Asked {
             aggregator,
@@ -270,8 +272,8 @@ impl<C: Compress> Nodes<C> {
         ensures err { OnErr result (StoodStill plan.now self.old self.new) }
     {
         match *event {
-            Event::Request(aggregator, second, imprint) => {
-                self.request(plan, aggregator, second, imprint)
+            Event::Request(aggregator, second, imprint, name) => {
+                self.request(plan, aggregator, second, imprint, name)
             }
             Event::Close(aggregator, second) => self.close(plan, aggregator, second),
             Event::Seal(core, second) => self.seal(core, second),

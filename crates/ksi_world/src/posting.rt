@@ -73,7 +73,7 @@ fn core_message(core: u8, second: u64, send: ksi_corenode::Send) -> Message
     }
 }
 
-/// The message of an aggregator's send: a submission goes to its parent.
+/// The message of an aggregator's send: a submission goes to its parent, with the aggregator's name where it has one.
 fn round_message(plan: &Plan, aggregator: u32, second: u64, send: ksi_aggregator::Send) -> Message
     requires there { aggregator < length plan.now.parents }
     ensures { result ≡ round_message plan.now aggregator second send }
@@ -84,7 +84,7 @@ fn round_message(plan: &Plan, aggregator: u32, second: u64, send: ksi_aggregator
             sender,
             addressee: plan.parent(aggregator),
             second,
-            content: Content::Submission(item),
+            content: Content::Submission(item.with_name(plan.name(aggregator))),
         },
         ksi_aggregator::Send::Response(to, above) => Message {
             sender,

@@ -151,7 +151,7 @@ impl<C: Compress> World<C> {
 
     /// The kept seconds, rising from the start, all below 2^63: for each the root that the lowest core holds that holds
     /// one, and the sealed items of the lowest core whose candidate it is. A second with the zero imprint has no items. Any
-    /// other has at least one and at most 65,536, of levels to 239, and its root is the imprint of their tree.
+    /// other has at least one and at most 65,536, whose leaves have levels to 239, and its root is the imprint of their tree.
     ///
     /// # Errors
     /// `NoMemory`.
@@ -173,7 +173,7 @@ fn put(events: &mut Vec<Event>, event: Event)
     requires { vec_len events.old < vec_capacity events.old }
     ensures { events.new.items ≡ events.old.items ++ event ∷ [] }
 {
-    match events.push(event) {
+    match events.extend_from_slice(&[event]) {
         Ok(()) => {}
         Err(_) => unreachable!(),
     }

@@ -10,6 +10,7 @@ returns-clause-over c = λ image h journal images plan events ask is keeps numbe
     let carried = c.issued_is_carried.ensures.issued image h images plan events ask number text is_issued in
     let laws : Laws image journal = record {
       aggregates = issued_aggregated image (c.aggregation.ensures image);
+      rounds = c.round_links_are_not_bare.ensures;
       whole = c.issued_is_signature.ensures.signature;
       short = c.issued_is_signature.ensures.short;
       early = λ p covered. omega (arith, ((c.calendar_is_covered.ensures.within image journal p is).1 covered).1, c.calendar_is_covered.ensures.early image journal is);
@@ -21,7 +22,7 @@ returns-clause-over c = λ image h journal images plan events ask is keeps numbe
       accepts = λ bytes text signature p are whole e publications. c.extended_is_accepted.ensures.accepted image journal bytes text signature p are whole e publications;
       again = λ bytes text signature p early are whole e. c.extended_is_accepted.ensures.again image journal bytes text signature p images is early are whole e;
       tells = λ signature hash publications t passes decided. c.decided_tells.ensures image journal signature hash publications t is passes decided;
-      shows = λ signature hash publications imprint. c.audit_shows.ensures image journal signature hash publications images is imprint;
+      shows = λ signature hash publications imprint links. c.audit_shows.ensures image journal signature hash publications images is imprint links;
     } in
     lasts_for h.plan (world_of image h) journal keeps image laws number text are carried.0 carried.1 asked at p to covered
 

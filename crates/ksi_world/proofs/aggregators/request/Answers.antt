@@ -11,7 +11,7 @@ pub post_round-requires : goal.post_round-requires
 post_round-requires g c =
     let one = c.index_mut.result.now in
     let at : slice_get c.args.aggregators.now.items c.args.aggregator ≡ Some one = slice_get_read c.args.aggregators.now.items _ c.args.aggregator one refl c.requires.there c.index_mut.ensures.value in
-    record { there = c.requires.planned; room = omega (arith, ap length (c.in_ok-step.ensures.step.sends ∙ none_requested c.args.number c.args.imprint (rounds_of one c.args.second)), c.args.wire.now.ok) }
+    record { there = c.requires.planned; room = omega (arith, ap length (c.in_ok-step.ensures.step.sends ∙ none_requested c.args.number c.args.imprint c.args.name (rounds_of one c.args.second)), c.args.wire.now.ok) }
 
 pub returns-in_err-step-clause-aggregators : goal.returns-in_err-step-clause-aggregators
 returns-in_err-step-clause-aggregators g c =
@@ -23,5 +23,5 @@ pub returns-clause-ok : goal.returns-clause-ok
 returns-clause-ok g c =
     let one = c.index_mut.result.now in
     let at : slice_get c.args.aggregators.now.items c.args.aggregator ≡ Some one = slice_get_read c.args.aggregators.now.items _ c.args.aggregator one refl c.requires.there c.index_mut.ensures.value in
-    round_turned (round_request c.args.number c.args.imprint) c.args.plan.now c.args.aggregator c.args.second c.args.aggregators.now.items c.args.wire.now.items c.post_round.new.wire.items one c.request.new.self c.in_ok-step.step c.post_round.result at c.request.ensures.me c.in_ok-step.ensures.step
+    round_turned (round_request c.args.number c.args.imprint c.args.name) c.args.plan.now c.args.aggregator c.args.second c.args.aggregators.now.items c.args.wire.now.items c.post_round.new.wire.items one c.request.new.self c.in_ok-step.step c.post_round.result at c.request.ensures.me c.in_ok-step.ensures.step
     c.post_round.ensures.wire c.post_round.ensures.outcome

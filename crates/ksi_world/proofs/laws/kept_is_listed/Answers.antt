@@ -4,6 +4,7 @@ use Rattle.ksi_calchain.specs.Climbing.{calendar_join}
 use Rattle.ksi_calendar.specs.Calendar.{calendar_leaf}
 use Rattle.ksi_world.specs.Histories.{after}
 use Rattle.ksi_world.proofs.Deciding.{after_sound, kept_rising, kept_early, kept_trees}
+use Rattle.ksi_world.proofs.Imprinted.{name_laws}
 use Rattle.ksi_world.proofs.KeptOf.{imprint_laws, ask_for_imprints, kept_each}
 use Rattle.ksi_world.proofs.Voted.{after_voted}
 use Rattle.ksi_world.proofs.laws.kept_is_listed.Goals as goal
@@ -22,6 +23,6 @@ returns-clause-trees c = λ image h is are. kept_trees image h.plan is c.steps_a
 
 pub returns-clause-imprints : goal.returns-clause-imprints
 returns-clause-imprints c = λ image h images is are ask.
-    let laws = imprint_laws image images (c.one_round.ensures.level image) (c.one_chain.ensures.climbs image) (c.one_chain.ensures.few image) (c.levels_rise.ensures.sum image) in
+    let laws = imprint_laws image images (c.one_round.ensures.level image) (c.one_chain.ensures.climbs image) (c.one_chain.ensures.few image) (c.levels_rise.ensures.sum image) (name_laws c.metas_are_even.ensures.least c.metas_are_even.ensures.most c.metas_are_even.ensures.bytes) in
     kept_each IsImprint image h.plan is laws c.steps_agree.ensures.agreement c.steps_agree.ensures.validity
     (λ seconds t p few. c.one_path.ensures.length (calendar_join image) (calendar_leaf seconds) 0 t (p + 1) 63 few) h.events are (ask_for_imprints h.events ask)

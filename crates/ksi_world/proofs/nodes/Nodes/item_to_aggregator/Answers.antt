@@ -4,6 +4,7 @@ use Rattle.ksi_aggregator.specs.Rows.{round_submission}
 use Rattle.ksi_world.specs.Nodes.{NodesState, Fits}
 use Rattle.ksi_world.proofs.Fitting.{round_fits, round_stands, both_errors}
 use Rattle.ksi_world.proofs.Depths.{aggregator_parent}
+use Rattle.ksi_world.proofs.Sending.{leaf_most}
 use Rattle.ksi_world.proofs.nodes.Nodes.item_to_aggregator.Goals as goal
 
 pub returns-clause-ok : goal.returns-clause-ok
@@ -27,3 +28,6 @@ submission-requires-clause-there g c =
 
 pub submission-requires-clause-planned : goal.submission-requires-clause-planned
 submission-requires-clause-planned g c = aggregator_parent c.args.plan.now c.requires.plan_is c.args.from c.args.to c.requires.sent.0 c.requires.sent.1
+
+pub submission-requires-clause-level : goal.submission-requires-clause-level
+submission-requires-clause-level g c = omega (arith, c.requires.sent.2, leaf_most c.args.item)

@@ -5,6 +5,7 @@ use Rattle.ksi_corenode.specs.Rows.{submission_row}
 use Rattle.ksi_world.specs.Nodes.{NodesState, Fits}
 use Rattle.ksi_world.proofs.Fitting.{core_fits, core_stands, both_errors}
 use Rattle.ksi_world.proofs.Depths.{core_parent}
+use Rattle.ksi_world.proofs.Sending.{leaf_most}
 use Rattle.ksi_world.proofs.nodes.Nodes.item_to_core.Goals as goal
 
 pub returns-clause-ok : goal.returns-clause-ok
@@ -28,3 +29,6 @@ submission-requires-clause-there g c =
     let ready = c.requires.1 in
     let fits = subst (λ (n : NodesState). Fits c.requires.0 ready.world n) (sym c.self.view_is) ready.fits in
     omega (arith, fits.cores.many, core_parent c.requires.0 ready.plan_is c.args.from c.args.to ready.sent.0 ready.sent.1)
+
+pub submission-requires-clause-level : goal.submission-requires-clause-level
+submission-requires-clause-level g c = omega (arith, c.requires.1.sent.2, leaf_most c.args.item)
