@@ -21,7 +21,7 @@ fn asked_is_imprint(event: &Event)
     ensures imprint { AsksForImprint event.now }
     ensures bytes { AsksForBytes event.now }
 {
-    if let Event::Request(_, _, imprint) = event {
+    if let Event::Request(_, _, imprint, _) = event {
         is_imprint(imprint);
     }
 }

@@ -50,6 +50,8 @@ journal_fault (journals.Bound place) = codes "J5" ∷ decimal place ∷ []
 journal_fault (journals.Imprint place) = codes "J6" ∷ decimal place ∷ []
 journal_fault (journals.Count second) = codes "J7" ∷ decimal second ∷ []
 journal_fault (journals.Ends place) = codes "J8" ∷ decimal place ∷ []
+journal_fault (journals.Name place) = codes "J9" ∷ decimal place ∷ []
+journal_fault (journals.Voters place) = codes "J10" ∷ decimal place ∷ []
 
 -- of a schedule the value is the line, from 1
 abbrev pub line_code : LineFault → List ℕ
@@ -60,6 +62,7 @@ line_code lines.NoSuchActor = codes "L4"
 line_code lines.SecondOutOfRange = codes "L5"
 line_code lines.TooManyEvents = codes "L6"
 line_code lines.Header = codes "L7"
+line_code lines.Name = codes "L8"
 
 abbrev pub schedule_fault : LineFault × ℕ → List (List ℕ)
 schedule_fault at = line_code at.0 ∷ decimal at.1 ∷ []

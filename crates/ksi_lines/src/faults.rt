@@ -69,6 +69,8 @@ pub fn journal_fault_line(n: usize, fault: &JournalFault) -> Line
         JournalFault::Imprint(place) => at_place(n, "J6", *place),
         JournalFault::Count(second) => malformed(n, "J7", &[Number(*second)]),
         JournalFault::Ends(place) => at_place(n, "J8", *place),
+        JournalFault::Name(place) => at_place(n, "J9", *place),
+        JournalFault::Voters(place) => at_place(n, "J10", *place),
     }
 }
 
@@ -93,6 +95,7 @@ fn line_code(fault: LineFault) -> &'static str
         LineFault::SecondOutOfRange => "L5",
         LineFault::TooManyEvents => "L6",
         LineFault::Header => "L7",
+        LineFault::Name => "L8",
     }
 }
 

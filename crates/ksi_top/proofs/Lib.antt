@@ -9,3 +9,4 @@ pub mod Reporting
 pub mod Finishing
 pub mod Extending
 pub mod Replayed
+pub mod Migrating

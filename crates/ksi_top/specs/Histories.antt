@@ -34,8 +34,8 @@ pub record HoldsOver (history : History) : Type 0 where
   pub published : (before later : List Event) → history.events ≡ before ++ later → (k p : ℕ) (root : List ℕ) →
       slice_get (after imprint_of history.plan before).published k ≡ Some (p, root) → IsPublished imprint_of (journal_of imprint_of history) p root
   -- each Response that was ever sent has chains that climb from the item that it answers, at its level, to the root that it
-  -- carries, which a core holds for its second and which is not the zero imprint; they have at most 8 chains of at most 16 links,
-  -- at levels to 144
+  -- carries, which a core holds for its second and which is not the zero imprint; they have at most 8 chains of at most 17 links,
+  -- at levels to 153
   pub responses : ResponsesClimb imprint_of history.plan (world_of imprint_of history)
   -- what nodes keep over restarts, and what a restart forgets, is read off what is seen of the history
   pub recalled : IsRecalled imprint_of history

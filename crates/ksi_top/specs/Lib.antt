@@ -11,6 +11,7 @@ pub mod Verify
 pub mod Audit
 pub mod Make
 pub mod Drill
+pub mod Migrate
 pub mod Run
 pub mod Endings
 pub mod Promised

@@ -19,6 +19,7 @@ mod extend;
 mod histories;
 mod loading;
 mod make;
+mod migrate;
 mod perform;
 mod publish;
 mod reading;

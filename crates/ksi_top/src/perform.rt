@@ -10,6 +10,7 @@ use crate::audit::audit;
 use crate::drill::drill;
 use crate::extend::extend;
 use crate::make::make;
+use crate::migrate::migrate;
 use crate::publish::publish;
 use crate::replay::replay;
 use crate::report::{Halt, Report, ended};
@@ -68,6 +69,7 @@ fn perform<F: Files>(alloc: Global, files: &mut F, command: &Command<'_>) -> Res
         }
         Command::Make(number, out) => ended(make(alloc, *number, out)),
         Command::Drill(number) => ended(drill(alloc, *number)),
+        Command::Migrate(old, new) => migrate(alloc, files, old, new),
     }
 }
 

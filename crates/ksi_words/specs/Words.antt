@@ -7,7 +7,7 @@ use Rattle.ksi_imprint.specs.declared.refused.Refused.{Refused}
 use Rattle.ksi_imprint.specs.declared.refused.Refused.TheVariants.{Fault, NoMemory}
 use Rattle.ksi_words.specs.Sorts.{Sort, file_word, hash_word, number_word, time_word, Of, value_of}
 use Rattle.ksi_words.specs.declared.asked.Command.{Command}
-use Rattle.ksi_words.specs.declared.asked.Command.TheVariants.{Replay, Sign, Publish, Extend, Verify, Audit, Make, Drill}
+use Rattle.ksi_words.specs.declared.asked.Command.TheVariants.{Replay, Sign, Publish, Extend, Verify, Audit, Make, Drill, Migrate}
 use Rattle.ksi_words.specs.declared.asked.WordsRefusal.{WordsRefusal}
 use Rattle.ksi_words.specs.declared.asked.WordsRefusal.TheVariants.{Words, BadWord}
 
@@ -21,6 +21,7 @@ pub data Asked : Type 0 where
   audit : List ℕ → List ℕ → List ℕ → List ℕ → Asked
   make : ℕ → List ℕ → Asked
   drill : ℕ → Asked
+  migrate : List ℕ → List ℕ → Asked
 
 -- what asks for a command, given what the words of these sorts stand for
 abbrev pub From : List Sort → Type 0
@@ -57,8 +58,11 @@ make_row = record { name = codes "make"; sorts = number_word ∷ file_word ∷ [
 abbrev pub drill_row : CommandForm
 drill_row = record { name = codes "drill"; sorts = number_word ∷ []; asks = drill }
 
+abbrev pub migrate_row : CommandForm
+migrate_row = record { name = codes "migrate"; sorts = file_word ∷ file_word ∷ []; asks = migrate }
+
 abbrev pub table : List CommandForm
-table = replay_row ∷ sign_row ∷ publish_row ∷ extend_row ∷ verify_row ∷ audit_row ∷ make_row ∷ drill_row ∷ []
+table = replay_row ∷ sign_row ∷ publish_row ∷ extend_row ∷ verify_row ∷ audit_row ∷ make_row ∷ drill_row ∷ migrate_row ∷ []
 
 abbrev pub texts : List (String Global) → List (List ℕ)
 texts words = map string_bytes words
@@ -111,6 +115,7 @@ asked (Verify signature hash publications) = verify signature.now hash publicati
 asked (Audit journal signature hash publications) = audit journal.now signature.now hash publications.now
 asked (Make number out) = make number out.now
 asked (Drill number) = drill number
+asked (Migrate old new) = migrate old.now new.now
 
 -- the second of a command, where it has one, is below 2^63
 abbrev pub IsEarly : Command → Type 0

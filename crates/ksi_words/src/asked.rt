@@ -19,6 +19,8 @@ pub enum Command<'a> {
     Make(u64, &'a str),
     /// The number of the schedule.
     Drill(u64),
+    /// The journal's file, the file of the same journal to write.
+    Migrate(&'a str, &'a str),
 }
 
 /// Why words are no command.

@@ -2,7 +2,7 @@
 ghost use Rattle.std.specs.Prelude.{◌≡◌, ◌<◌, ◌^◌, ℕ, IfOk, map};
 ghost use Rattle.ksi_schedule.specs.Decimal.{number_of};
 ghost use Rattle.ksi_words.specs.Sorts.{hash_of, time_of};
-ghost use Rattle.ksi_words.specs.Words.{Asks, asked_by, command_named, table, replay_row, sign_row, publish_row, extend_row, verify_row, audit_row, make_row, drill_row, word_at, IsEarly};
+ghost use Rattle.ksi_words.specs.Words.{Asks, asked_by, command_named, table, replay_row, sign_row, publish_row, extend_row, verify_row, audit_row, make_row, drill_row, migrate_row, word_at, IsEarly};
 
 use crate::values::{hash, number, time};
 use crate::{Command, WordsRefusal};
@@ -15,7 +15,7 @@ pub(crate) struct CommandForm {
     pub(crate) words: usize,
 }
 
-pub(crate) static TABLE: [CommandForm; 8] = [
+pub(crate) static TABLE: [CommandForm; 9] = [
     CommandForm {
         name: "replay",
         words: 2,
@@ -48,6 +48,10 @@ pub(crate) static TABLE: [CommandForm; 8] = [
         name: "drill",
         words: 1,
     },
+    CommandForm {
+        name: "migrate",
+        words: 2,
+    },
 ];
 
 /// The command of a name and the words after it.
@@ -64,6 +68,7 @@ pub(crate) fn asked<'a>(name: &str, words: &[&'a str]) -> Result<Command<'a>, Wo
         "audit" => audit(words),
         "make" => make(words),
         "drill" => drill(words),
+        "migrate" => migrate(words),
         _ => Err(WordsRefusal::Words),
     }
 }
@@ -146,6 +151,16 @@ fn drill<'a>(words: &[&'a str]) -> Result<Command<'a>, WordsRefusal>
         return Err(WordsRefusal::Words);
     };
     Ok(Command::Drill(number_at(1, number)?))
+}
+
+fn migrate<'a>(words: &[&'a str]) -> Result<Command<'a>, WordsRefusal>
+    ensures reads { Asks (asked_by migrate_row (map (λ word. word.now) words.now)) result }
+    ensures early { IfOk result IsEarly }
+{
+    let [old, new] = words else {
+        return Err(WordsRefusal::Words);
+    };
+    Ok(Command::Migrate(old, new))
 }
 
 // The hash that word n is.

@@ -1,0 +1,92 @@
+-- What a migration's report means.
+use Rattle.std.proofs.Common.{◌≡◌, ℕ, ◌+◌, ◌≤◌, List, [], length, Option, Some, Result, Ok, Err, refl, sym, ap, ◌∙◌}
+use Rattle.std.specs.Prelude.{IfOk, ◌↔◌, unwrap_or}
+use Rattle.std.specs.Str.{bytes_eq}
+use Rattle.std.specs.declared.alloc.AllocError.{AllocError}
+use Rattle.std.proofs.lemmas.Bool.{le-ltb, cond-true}
+use Rattle.std.proofs.lemmas.Slice.Eq.{bytes_eq-Decides}
+use Rattle.ksi_imprint.specs.Imprints.{imprint_of}
+use Rattle.ksi_ports.specs.Stored.{Held, with_file}
+use Rattle.ksi_signature.specs.declared.signature.Signature.{Signature}
+use Rattle.ksi_extender.specs.Extended.{extended}
+use Rattle.ksi_extender.specs.Accepted.{first_time}
+use Rattle.ksi_auditor.specs.Audit as audits
+use Rattle.ksi_journal.specs.Journal.{Contents}
+use Rattle.ksi_journal.specs.File.{IsJournalFile}
+use Rattle.ksi_journal.specs.Reading.{journal_at}
+use Rattle.ksi_journal.specs.Written.{text_in}
+use Rattle.ksi_journal.specs.declared.version.Version.TheVariants.{Two}
+use Rattle.ksi_top.specs.declared.report.Report.{Report}
+use Rattle.ksi_top.specs.Reports.{Ran, and_then, behind, ends}
+use Rattle.ksi_top.specs.Loading.{content, file_limit, loaded, loaded_journal, loaded_publications, loaded_signature, publications_or_malformed, signature_limit, signature_or_malformed, within}
+use Rattle.ksi_top.specs.Sign.{signature_of, signed}
+use Rattle.ksi_top.specs.Publish.{published}
+use Rattle.ksi_top.specs.Extend.{extend_over, extended_report}
+use Rattle.ksi_top.specs.Audit.{audit_beside, audit_over, audited}
+use Rattle.ksi_top.specs.Migrate.{GivesTheSame, IsMigrated, migrated}
+
+-- what is held under a name once it is saved there
+saved_here : (held : Held) (name bytes : List ℕ) → content (with_file held name bytes) name ≡ bytes
+saved_here held name bytes = ap (λ (found : Option (List ℕ)). unwrap_or found []) (cond-true (bytes_eq name name) (Some bytes) (held name) ((bytes_eq-Decides name name).1 refl))
+
+-- ---- what follows from one journal, where the other files are the same
+
+behind_same : {T : Type 0} (one other : Result T Report) (next then : T → Ran) → one ≡ other → ((value : T) → next value ≡ then value) → behind one next ≡ behind other then
+behind_same {T = T} (Ok value) other next then same steps =
+    ap (λ (ran : Ran). record { reported = ran.reported; loads = 1 + ran.loads }) (steps value) ∙ ap (λ (it : Result T Report). behind it then) same
+behind_same {T = T} (Err report) other next then same steps = ap (λ (it : Result T Report). behind it then) same
+
+over_extended : (journal : Contents) (before after : Held) (signature : List ℕ) (second : ℕ) (out : List ℕ) → content after signature ≡ content before signature
+    → (extend_over journal signature second out).ran after ≡ (extend_over journal signature second out).ran before
+unfolding loaded_signature loaded
+over_extended journal before after signature second out same =
+    ap (λ (bytes : List ℕ). behind (and_then (within signature_limit 2 bytes) (signature_or_malformed 2)) (λ (s : Signature). ends (extended_report (first_time s) second out (extended imprint_of journal bytes second)))) same
+
+over_audited : (journal : Contents) (read : Signature) (before after : Held) (hash publications : List ℕ) → content after publications ≡ content before publications
+    → (audit_over journal read hash publications).ran after ≡ (audit_over journal read hash publications).ran before
+unfolding loaded_publications loaded
+over_audited journal read before after hash publications same =
+    ap (λ (bytes : List ℕ). behind (and_then (within file_limit 4 bytes) (publications_or_malformed 4)) (λ (p : List (ℕ × List ℕ)). ends (audited (audits.audit imprint_of journal read hash p)))) same
+
+signature_same : (before after : Held) (signature : List ℕ) → content after signature ≡ content before signature → loaded_signature 2 after signature ≡ loaded_signature 2 before signature
+unfolding loaded_signature loaded
+signature_same before after signature same = ap (λ (bytes : List ℕ). and_then (within signature_limit 2 bytes) (signature_or_malformed 2)) same
+
+beside_audited : (journal : Contents) (before after : Held) (signature hash publications : List ℕ) → content after signature ≡ content before signature → content after publications ≡ content before publications
+    → (audit_beside journal signature hash publications).ran after ≡ (audit_beside journal signature hash publications).ran before
+beside_audited journal before after signature hash publications same others =
+    behind_same (loaded_signature 2 after signature) (loaded_signature 2 before signature)
+    (λ s. (audit_over journal s hash publications).ran after) (λ s. (audit_over journal s hash publications).ran before)
+    (signature_same before after signature same) (λ s. over_audited journal s before after hash publications others)
+
+gives_the_same : (before after : Held) (old new : List ℕ) → loaded_journal 1 after new ≡ loaded_journal 1 before old → GivesTheSame before after old new
+gives_the_same before after old new is = record {
+  signs = λ number out. ap (λ (it : Result Contents Report). behind it (λ (j : Contents). ends (signed number out (signature_of number j.issued)))) is;
+  publishes = λ out. ap (λ (it : Result Contents Report). behind it (λ (j : Contents). ends (published out j.publications))) is;
+  extends = λ signature second out same.
+      behind_same (loaded_journal 1 after new) (loaded_journal 1 before old) (λ j. (extend_over j signature second out).ran after) (λ j. (extend_over j signature second out).ran before)
+      is (λ j. over_extended j before after signature second out same);
+  audits = λ signature hash publications same others.
+      behind_same (loaded_journal 1 after new) (loaded_journal 1 before old) (λ j. (audit_beside j signature hash publications).ran after) (λ j. (audit_beside j signature hash publications).ran before)
+      is (λ j. beside_audited j before after signature hash publications same others);
+}
+
+-- ---- the report
+
+module _ (journals_read : (bytes : List ℕ) (journal : Contents) → (journal_at imprint_of bytes ≡ Ok journal) ↔ IsJournalFile imprint_of bytes journal) where
+  -- a journal file within the limit is read as its journal
+  read_as : (held : Held) (name bytes : List ℕ) (journal : Contents) → content held name ≡ bytes → length bytes ≤ file_limit → IsJournalFile imprint_of bytes journal → loaded_journal 1 held name ≡ Ok journal
+  unfolding loaded_journal loaded
+  read_as held name bytes journal same few is = rw (same, le-ltb file_limit (length bytes) few, (journals_read bytes journal).1 is) refl
+
+  pub migrate_means : (held : Held) (old new : List ℕ) (journal : Contents) (computed : Result Report AllocError) → loaded_journal 1 held old ≡ Ok journal → IsJournalFile imprint_of (content held old) journal
+      → IfOk computed (λ report. report ≡ migrated new journal) → IfOk computed (λ _. IsJournalFile imprint_of (text_in Two journal) journal) → IfOk computed (IsMigrated held old new)
+  migrate_means held old new journal (Ok report) loaded is reported again = record {
+    journal = journal;
+    journal_is = is;
+    reported = reported;
+    again = again;
+    same = λ few. gives_the_same held (with_file held new (text_in Two journal)) old new
+        (read_as (with_file held new (text_in Two journal)) new (text_in Two journal) journal (saved_here held new (text_in Two journal)) few again ∙ sym loaded);
+  }
+  migrate_means held old new journal (Err none) loaded is reported again = tt
