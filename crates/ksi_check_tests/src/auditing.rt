@@ -1,4 +1,4 @@
-use crate::journals::journal_of;
+use crate::journals::{ItemRow, journal_of};
 use crate::same::same;
 use crate::signatures::{CalendarRow, ChainRow, SignatureRow, bytes_of, listed, named};
 use ksi_auditor::{Audit, NoMemory, audit_view};
@@ -12,12 +12,12 @@ use std::alloc::Global;
 use std::process::Abort;
 use std::test::Fail;
 
-/// What a journal keeps: its start, the root of that second and its items with their levels.
+/// What a journal keeps: its start, the root of that second and its items.
 #[derive(Clone, Copy)]
-struct KeptRow<'a> {
-    start: u8,
-    root: u8,
-    items: &'a [(u8, u8)],
+pub(crate) struct KeptRow<'a> {
+    pub(crate) start: u8,
+    pub(crate) root: u8,
+    pub(crate) items: &'a [ItemRow<'a>],
 }
 
 /// A journal of no second.
@@ -57,7 +57,7 @@ fn answer_of(
 }
 
 /// The answer for a hash and chains that lead to a root.
-fn audited(
+pub(crate) fn audited(
     alloc: Global,
     kept: KeptRow<'_>,
     chains: &[ChainRow<'_>],
@@ -71,7 +71,7 @@ fn audited(
 }
 
 /// The sides to where the hash is inside this second.
-fn way(answer: &Option<Audit>, second: u64) -> Option<&[Side]> {
+pub(crate) fn way(answer: &Option<Audit>, second: u64) -> Option<&[Side]> {
     match answer {
         Some(Audit::Inside(at, way)) if *at == second => Some(way.as_slice()),
         _ => None,
@@ -84,12 +84,13 @@ fn an_inner_node_is_inside(rt: HostRuntime) -> Result<(), Fail> {
         time: 0,
         index: &[3],
         input: 0x0f,
+        meta: &[],
         links: &[(Side::Left, 1, 9)],
     };
     const KEPT: KeptRow<'static> = KeptRow {
         start: 0,
         root: 0x1c,
-        items: &[(5, 0), (7, 0), (9, 0)],
+        items: &[(5, 0, b""), (7, 0, b""), (9, 0, b"")],
     };
     let answer = audited(rt.alloc(), KEPT, &[CHAIN], 0x0f, 0x1c)?;
     same(&rt, "way", way(&answer, 0), Some([Side::Left].as_slice()));
@@ -117,22 +118,27 @@ fn two_strings_of_one_sum_clash(rt: HostRuntime) -> Result<(), Fail> {
         time: 0,
         index: &[3],
         input: 6,
+        meta: &[],
         links: &[(Side::Left, 0, 6)],
     };
     const KEPT: KeptRow<'static> = KeptRow {
         start: 0,
         root: 0x0f,
-        items: &[(5, 0), (7, 0)],
+        items: &[(5, 0, b""), (7, 0, b"")],
     };
     let answer = audited(rt.alloc(), KEPT, &[CHAIN], 6, 0x0f)?;
     same(&rt, "clash", is_of_two_strings(&answer), true);
     Ok(())
 }
 
-/// The name of any other answer, with its numbers.
-fn told(answer: &Option<Audit>) -> (&'static str, [u64; 3]) {
+/// The name of any other answer, with its numbers: of a clash the lengths of both strings.
+pub(crate) fn told(answer: &Option<Audit>) -> (&'static str, [u64; 3]) {
     match answer {
         Some(Audit::Beneath(second, item, links)) => ("beneath", [*second, *item, *links]),
+        Some(Audit::Clash(clash)) => {
+            let (one, two) = (clash.one.as_slice(), clash.two.as_slice());
+            ("clash", [one.len() as u64, two.len() as u64, 0])
+        }
         Some(Audit::NotAccepted(Refusal::WrongHash { .. })) => ("wrong hash", [0; 3]),
         Some(Audit::BeforeStart(second)) => ("before start", [*second, 0, 0]),
         Some(Audit::Undecided(second)) => ("undecided", [*second, 0, 0]),
@@ -147,18 +153,21 @@ static LOWER: [ChainRow<'static>; 3] = [
         time: 0,
         index: &[1, 3, 1],
         input: 5,
+        meta: &[],
         links: &[],
     },
     ChainRow {
         time: 0,
         index: &[1, 3],
         input: 5,
+        meta: &[],
         links: &[(Side::Left, 0, 7)],
     },
     ChainRow {
         time: 0,
         index: &[1],
         input: 0x0f,
+        meta: &[],
         links: &[],
     },
 ];
@@ -168,7 +177,7 @@ fn a_lower_request_is_beneath_an_item(rt: HostRuntime) -> Result<(), Fail> {
     const KEPT: KeptRow<'static> = KeptRow {
         start: 0,
         root: 0x0f,
-        items: &[(0x0f, 1)],
+        items: &[(0x0f, 1, b"")],
     };
     let answer = audited(rt.alloc(), KEPT, &LOWER, 5, 0x0f)?;
     same(&rt, "item", told(&answer), ("beneath", [0, 0, 1]));
@@ -180,6 +189,7 @@ const ALONE: ChainRow<'static> = ChainRow {
     time: 0,
     index: &[1],
     input: 6,
+    meta: &[],
     links: &[],
 };
 
@@ -192,7 +202,7 @@ const LATER: KeptRow<'static> = KeptRow {
 const OTHER: KeptRow<'static> = KeptRow {
     start: 0,
     root: 9,
-    items: &[(9, 0)],
+    items: &[(9, 0, b"")],
 };
 
 fn refuses(

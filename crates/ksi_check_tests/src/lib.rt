@@ -12,6 +12,8 @@ mod journals;
 #[cfg(test)]
 mod lent;
 #[cfg(test)]
+mod named_items;
+#[cfg(test)]
 mod same;
 #[cfg(test)]
 mod signatures;

@@ -10,6 +10,8 @@ pub(crate) struct ChainRow<'a> {
     pub(crate) time: u8,
     pub(crate) index: &'a [u8],
     pub(crate) input: u8,
+    /// The metadata beside the input, on its right, below the links: empty where there is none.
+    pub(crate) meta: &'a [u8],
     /// Side, correction and sibling.
     pub(crate) links: &'a [(Side, u8, u8)],
 }
@@ -69,6 +71,13 @@ fn put_link(
     put(bytes, link_kind(side), link.as_slice())
 }
 
+/// A left link of correction 0 beside metadata.
+fn put_meta(alloc: Global, bytes: &mut Vec<u8>, meta: &[u8]) -> Result<(), NoMemory> {
+    let mut link = Vec::new(alloc);
+    put(&mut link, 4, meta)?;
+    put(bytes, link_kind(Side::Left), link.as_slice())
+}
+
 /// What stands before the links.
 fn put_place(bytes: &mut Vec<u8>, chain: &ChainRow<'_>) -> Result<(), NoMemory> {
     put(bytes, 2, &[chain.time])?;
@@ -82,6 +91,9 @@ fn put_place(bytes: &mut Vec<u8>, chain: &ChainRow<'_>) -> Result<(), NoMemory> 
 fn put_chain(alloc: Global, bytes: &mut Vec<u8>, chain: &ChainRow<'_>) -> Result<(), NoMemory> {
     let mut body = Vec::new(alloc);
     put_place(&mut body, chain)?;
+    if !chain.meta.is_empty() {
+        put_meta(alloc, &mut body, chain.meta)?;
+    }
     for (side, correction, sibling) in chain.links {
         put_link(alloc, &mut body, *side, *correction, *sibling)?;
     }
@@ -141,6 +153,7 @@ pub(crate) const LOW: ChainRow<'static> = ChainRow {
     time: 2,
     index: &[3, 2],
     input: 0x06,
+    meta: &[],
     links: &[(Side::Right, 0, 0x0a)],
 };
 
@@ -149,6 +162,7 @@ pub(crate) const HIGH: ChainRow<'static> = ChainRow {
     time: 2,
     index: &[3],
     input: 0x13,
+    meta: &[],
     links: &[(Side::Left, 2, 0x04)],
 };
 

@@ -1,10 +1,11 @@
-ghost use Rattle.ksi_signature.specs.Above.{IsNode};
+ghost use Rattle.std.specs.Prelude.{IfOk};
+ghost use Rattle.ksi_signature.specs.Above.{IsNode, IsNameLink};
 
 use crate::same::same;
-use crate::signatures::S0;
+use crate::signatures::{S0, joined};
 use ksi_aggchain::{Link, Sibling};
 use ksi_calchain::CalendarLink;
-use ksi_imprint::{Imprint, NoMemory};
+use ksi_imprint::{Bytes, Imprint, NoMemory};
 use ksi_signature::{
     Above, AboveChain, AboveChains, AboveLinks, AggregationChain, CalendarChain, CalendarLinks,
     Signature, issue, read,
@@ -30,6 +31,38 @@ fn issues_without_links(rt: HostRuntime) -> Result<(), Fail> {
     };
     let bytes = issue(rt.alloc(), 0, &hash(), &[], &above)?;
     same(&rt, "issued", bytes.as_slice(), &S0);
+    Ok(())
+}
+
+/// The metadata of the name `al`.
+const AL: [u8; 8] = [0x7e, 0x01, 0x01, 0x01, 0x03, 0x61, 0x6c, 0x00];
+
+fn link_of_al(alloc: Global) -> Result<Link, NoMemory>
+    ensures { IfOk result IsNameLink }
+{
+    Ok(Link {
+        side: Side::Left,
+        correction: 0,
+        sibling: Sibling::Metadata(Bytes::copy_of(alloc, &AL)?),
+    })
+}
+
+#[test]
+fn issues_an_item_with_a_name(rt: HostRuntime) -> Result<(), Fail> {
+    let above = Above {
+        root: hash(),
+        chains: AboveChains::from_vec(Vec::new(rt.alloc())),
+        calendar: CalendarLinks::from_vec(Vec::new(rt.alloc())),
+    };
+    let mut links = Vec::new(rt.alloc());
+    links.push(link_of_al(rt.alloc())?)?;
+    let bytes = issue(rt.alloc(), 0, &hash(), links.as_slice(), &above)?;
+    let head = [
+        0x88, 0x00, 0x00, 0x66, 0x88, 0x01, 0x00, 0x37, 0x02, 0x00, 0x03, 0x01, 0x03,
+    ];
+    let link = [0x07, 0x0a, 0x04, 0x08];
+    let wanted = joined(rt.alloc(), &[&head, &S0[13..51], &link, &AL, &S0[51..]])?;
+    same(&rt, "issued", bytes.as_slice(), wanted.as_slice());
     Ok(())
 }
 

@@ -9,7 +9,7 @@ use std::process::Abort;
 use std::test::Fail;
 
 /// The imprint whose digest has this first byte, and zero bytes behind it.
-fn named(first: u8) -> Imprint {
+pub(crate) fn named(first: u8) -> Imprint {
     let mut digest = [0; 32];
     digest[0] = first;
     Imprint::of_digest(&digest)
@@ -17,6 +17,21 @@ fn named(first: u8) -> Imprint {
 
 fn pair() -> Imprint {
     Tiny::join(named(2).bytes(), named(3).bytes(), 1)
+}
+
+/// The leaf of the item at level 238 of imprint one and the name `a`.
+pub(crate) fn leaf() -> Imprint {
+    let meta = [0x7e, 0x02, 0x01, 0x01, 0x01, 0x02, 0x61, 0x00];
+    Tiny::join(named(1).bytes(), &meta, 239)
+}
+
+/// The leaf of the item at level 0 of imprint one and a name of 64 letters `a`.
+fn wide() -> Imprint {
+    let mut meta = [0x61; 70];
+    let (front, _) = meta.split_at_mut(5);
+    front.copy_from_slice(&[0x7e, 0x01, 0x01, 0x01, 0x41]);
+    meta[69] = 0;
+    Tiny::join(named(1).bytes(), &meta, 1)
 }
 
 /// The imprint that a word names.
@@ -28,12 +43,14 @@ fn imprint_of(word: &str) -> Option<Imprint> {
         "three" => Some(named(3)),
         "four" => Some(named(4)),
         "pair" => Some(pair()),
+        "leaf" => Some(leaf()),
+        "wide" => Some(wide()),
         _ => None,
     }
 }
 
 /// The bytes of words, each in hex or the name of an imprint.
-fn bytes(alloc: Global, words: &str) -> Result<Vec<u8>, Fail> {
+pub(crate) fn bytes(alloc: Global, words: &str) -> Result<Vec<u8>, Fail> {
     let mut bytes = Vec::new(alloc);
     for word in words.split_whitespace() {
         match imprint_of(word) {
@@ -44,7 +61,8 @@ fn bytes(alloc: Global, words: &str) -> Result<Vec<u8>, Fail> {
     Ok(bytes)
 }
 
-const MAGIC: &str = "4b53494a524e4c31";
+/// The magic of version 1.
+pub(crate) const ONE: &str = "4b53494a524e4c31";
 
 /// The fault of bytes, if they have one.
 pub(crate) fn fault_of(alloc: Global, bytes: &[u8]) -> Option<JournalFault> {
@@ -54,14 +72,14 @@ pub(crate) fn fault_of(alloc: Global, bytes: &[u8]) -> Option<JournalFault> {
     }
 }
 
-/// The fault of the magic and what these words stand for behind it.
-fn fault_behind(alloc: Global, words: &str) -> Result<Option<JournalFault>, Fail> {
-    let mut text = bytes(alloc, MAGIC)?;
+/// The magic and what these words stand for behind it.
+pub(crate) fn behind(alloc: Global, magic: &str, words: &str) -> Result<Vec<u8>, Fail> {
+    let mut text = bytes(alloc, magic)?;
     text.extend_from_slice(&bytes(alloc, words)?)?;
-    Ok(fault_of(alloc, text.as_slice()))
+    Ok(text)
 }
 
-fn journal_of(alloc: Global, text: &[u8]) -> Result<Journal<Tiny>, Fail> {
+pub(crate) fn journal_of(alloc: Global, text: &[u8]) -> Result<Journal<Tiny>, Fail> {
     match load::<Tiny>(alloc, text) {
         Ok(journal) => Ok(journal),
         Err(_) => Err(Fail::from("it does not load")),
@@ -180,6 +198,7 @@ fn what_is_loaded_is_written_again(rt: HostRuntime) -> Result<(), Fail> {
 fn of_nothing(alloc: Global) -> Result<Journal<Tiny>, Fail> {
     let parts = Parts {
         start: 5,
+        voters: Vec::new(alloc),
         seconds: Vec::new(alloc),
         issued: Vec::new(alloc),
         publications: Vec::new(alloc),
@@ -196,15 +215,22 @@ fn a_journal_of_nothing_is_made(rt: HostRuntime) -> Result<(), Fail> {
     Ok(())
 }
 
-fn has_fault(rt: &impl Abort, alloc: Global, words: &str, want: JournalFault) -> Result<(), Fail> {
-    same(rt, words, fault_behind(alloc, words)?, Some(want));
+pub(crate) fn has_fault(
+    rt: &impl Abort,
+    alloc: Global,
+    magic: &str,
+    words: &str,
+    want: JournalFault,
+) -> Result<(), Fail> {
+    let text = behind(alloc, magic, words)?;
+    same(rt, words, fault_of(alloc, text.as_slice()), Some(want));
     Ok(())
 }
 
 /// Worked out by hand. A second's element stands at 11 and ends at 54.
 #[test]
 fn answers_the_first_fault(rt: HostRuntime) -> Result<(), Fail> {
-    const CASES: [(&str, JournalFault); 25] = [
+    const CASES: [(&str, JournalFault); 27] = [
         ("", JournalFault::Ends(8)),
         ("01", JournalFault::Tlv(8)),
         ("0200", JournalFault::Order(8)),
@@ -214,6 +240,11 @@ fn answers_the_first_fault(rt: HostRuntime) -> Result<(), Fail> {
         ("010105 010106", JournalFault::Order(11)),
         ("010105 0300", JournalFault::Order(11)),
         ("010105 0700", JournalFault::Order(11)),
+        ("010105 0806010105020101", JournalFault::Order(11)),
+        (
+            "010105 0229010105 0221 one 030101 0723 one 00 61",
+            JournalFault::Order(54),
+        ),
         ("010105 060100", JournalFault::Ends(11)),
         ("010105 060000", JournalFault::Ends(13)),
         ("010105 0203010104", JournalFault::Order(13)),
@@ -247,12 +278,13 @@ fn answers_the_first_fault(rt: HostRuntime) -> Result<(), Fail> {
         ),
     ];
     for (words, fault) in CASES {
-        has_fault(&rt, rt.alloc(), words, fault)?;
+        has_fault(&rt, rt.alloc(), ONE, words, fault)?;
     }
     let other = JournalFault::TreeRoot(5, named(2), named(1));
     has_fault(
         &rt,
         rt.alloc(),
+        ONE,
         "010105 0229010105 0221 two 030101 0322 one 00",
         other,
     )
@@ -260,7 +292,7 @@ fn answers_the_first_fault(rt: HostRuntime) -> Result<(), Fail> {
 
 #[test]
 fn the_magic_comes_first(rt: HostRuntime) {
-    for text in ["KSIJRNL", "KSIJRNL2"] {
+    for text in ["KSIJRNL", "KSIJRNL3"] {
         let fault = fault_of(rt.alloc(), text.as_bytes());
         same(&rt, text, fault, Some(JournalFault::Magic));
     }

@@ -10,9 +10,15 @@ mod extended_signatures;
 #[cfg(test)]
 mod issued_signatures;
 #[cfg(test)]
+mod journal_versions;
+#[cfg(test)]
 mod journals;
 #[cfg(test)]
+mod named_schedules;
+#[cfg(test)]
 mod same;
+#[cfg(test)]
+mod schedule_texts;
 #[cfg(test)]
 mod schedules;
 #[cfg(test)]

@@ -1,63 +1,15 @@
 use crate::same::same;
-use ksi_imprint::Imprint;
+use crate::schedule_texts::{
+    expanded, has_fault, have_fault, imprint, is_printed, is_printed_as, schedule_of,
+};
 use ksi_schedule::{
-    Actor, Event, Events, LineFault, NoMemory, Parents, Plan, Refused, Schedule, ScheduleFault,
-    print, read_schedule,
+    Actor, Event, Events, LineFault, Parent, Parents, Plan, Refused, Schedule, ScheduleFault,
+    read_schedule,
 };
 use ksi_synod::CorePlan;
 use std::alloc::Global;
 use std::process::Abort;
-use std::slice;
 use std::test::Fail;
-
-const DIGITS: &str = "e3b0c44298fc1c149afbf4c8996fb92427ae41e4649b934ca495991b7852b855";
-
-const CAPITALS: &str = "E3B0C44298FC1C149AFBF4C8996FB92427AE41E4649B934CA495991B7852B855";
-
-// A byte of a text in which `|` stands for a line feed, `#` for 64 hex digits and `^` for the same as capitals.
-fn spelled(byte: &u8) -> &[u8] {
-    match *byte {
-        b'|' => b"\n",
-        b'#' => DIGITS.as_bytes(),
-        b'^' => CAPITALS.as_bytes(),
-        _ => slice::from_ref(byte),
-    }
-}
-
-fn spell(whole: &mut Vec<u8>, text: &str) -> Result<(), NoMemory> {
-    for byte in text.as_bytes() {
-        whole.extend_from_slice(spelled(byte))?;
-    }
-    Ok(())
-}
-
-fn expanded(alloc: Global, text: &str) -> Result<Vec<u8>, NoMemory> {
-    let mut whole = Vec::new(alloc);
-    spell(&mut whole, text)?;
-    Ok(whole)
-}
-
-fn schedule_of(alloc: Global, text: &[u8]) -> Result<Schedule, Fail> {
-    match read_schedule(alloc, text) {
-        Ok(schedule) => Ok(schedule),
-        Err(_) => Err(Fail::from("not read")),
-    }
-}
-
-fn is_printed(
-    rt: &impl Abort,
-    alloc: Global,
-    schedule: &Schedule,
-    text: &[u8],
-) -> Result<(), Fail> {
-    let printed = print(alloc, schedule)?;
-    same(rt, "printed", printed.as_slice(), text);
-    Ok(())
-}
-
-fn imprint() -> Imprint {
-    Imprint::from_hex(DIGITS).unwrap_or(Imprint::ZERO)
-}
 
 const T: u64 = 1_700_000_000;
 
@@ -67,7 +19,7 @@ const WHOLE_PATH: &str =
 
 fn are_twelve(rt: &impl Abort, events: &[Event]) {
     let wanted = [
-        Event::Request(0, T, imprint()),
+        Event::Request(0, T, imprint(), None),
         Event::Close(0, T),
         Event::Deliver(0),
         Event::Seal(0, T),
@@ -84,7 +36,10 @@ fn are_twelve(rt: &impl Abort, events: &[Event]) {
 }
 
 fn is_one_below_one(rt: &impl Abort, plan: &Plan) {
-    const PARENTS: [Actor; 1] = [Actor::Core(0)];
+    const PARENTS: [Parent; 1] = [Parent {
+        actor: Actor::Core(0),
+        name: None,
+    }];
     same(rt, "cores", plan.cores(), 1);
     same(rt, "start", plan.start(), T);
     same(rt, "voters", plan.core_plan().voters().len(), 0);
@@ -98,13 +53,6 @@ fn twelve_events_are_read_and_printed_again(rt: HostRuntime) -> Result<(), Fail>
     is_one_below_one(&rt, schedule.plan());
     are_twelve(&rt, schedule.events());
     is_printed(&rt, rt.alloc(), &schedule, text.as_slice())
-}
-
-fn is_printed_as(rt: &impl Abort, alloc: Global, text: &str, again: &str) -> Result<(), Fail> {
-    let text = expanded(alloc, text)?;
-    let again = expanded(alloc, again)?;
-    let schedule = schedule_of(alloc, text.as_slice())?;
-    is_printed(rt, alloc, &schedule, again.as_slice())
 }
 
 #[test]
@@ -133,42 +81,6 @@ fn each_text_is_printed_in_one_way(rt: HostRuntime) -> Result<(), Fail> {
     ];
     for (text, again) in ROWS {
         is_printed_as(&rt, rt.alloc(), text, again)?;
-    }
-    Ok(())
-}
-
-// The fault of lines behind those of a header; none where they are read.
-fn fault_of(alloc: Global, header: &str, lines: &str) -> Result<Option<ScheduleFault>, NoMemory> {
-    let mut text = expanded(alloc, header)?;
-    spell(&mut text, lines)?;
-    match read_schedule(alloc, text.as_slice()) {
-        Ok(_) => Ok(None),
-        Err(Refused::Fault(fault)) => Ok(Some(fault)),
-        Err(Refused::NoMemory) => Err(NoMemory),
-    }
-}
-
-fn has_fault(
-    rt: &impl Abort,
-    alloc: Global,
-    header: &str,
-    lines: &str,
-    want: Option<ScheduleFault>,
-) -> Result<(), NoMemory> {
-    same(rt, lines, fault_of(alloc, header, lines)?, want);
-    Ok(())
-}
-
-// The same of texts with `;` between them. One text of many rows is quicker to prove than a table of them.
-fn have_fault(
-    rt: &impl Abort,
-    alloc: Global,
-    header: &str,
-    texts: &str,
-    want: Option<ScheduleFault>,
-) -> Result<(), NoMemory> {
-    for lines in texts.split(';') {
-        has_fault(rt, alloc, header, lines, want)?;
     }
     Ok(())
 }

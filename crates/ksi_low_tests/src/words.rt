@@ -74,6 +74,7 @@ fn says(text: &str, command: &Command<'_>) -> bool {
         }
         Command::Make(_, out) => are(text, "make", out, "", "", ""),
         Command::Drill(_) => are(text, "drill", "", "", "", ""),
+        Command::Migrate(old, new) => are(text, "migrate", old, new, "", ""),
     }
 }
 
@@ -129,7 +130,7 @@ fn each_command_is_told(rt: HostRuntime) -> Result<(), Fail> {
     ];
     // what is asked just as it stands
     const ASKED: &str =
-        "replay f j;publish j p;verify s # p;verify verify # help;verify s-- # p=-;verify 0 # 1;audit j s # p";
+        "replay f j;publish j p;verify s # p;verify verify # help;verify s-- # p=-;verify 0 # 1;audit j s # p;migrate j k";
     for (line, text, number) in &ROWS {
         is_told(&rt, rt.alloc(), line, text, *number)?;
     }
@@ -148,7 +149,7 @@ const BAD_THIRD: &str = "extend j s 9223372036854775808 t;extend j s # t;audit j
 
 // Too few or too many words.
 const COUNTS: &str =
-    ";replay f;replay f j 1;sign j 1;publish j;extend j s 1;make 7;drill;drill 7 f;verify;verify s;verify s 12;verify s #;verify s # p q;verify s # p q r s t;verify s 12 p q;audit j s #;audit j s # p q";
+    ";replay f;replay f j 1;sign j 1;publish j;extend j s 1;make 7;drill;drill 7 f;migrate;migrate j;migrate j k l;verify;verify s;verify s 12;verify s #;verify s # p q;verify s # p q r s t;verify s 12 p q;audit j s #;audit j s # p q";
 
 // Names of no command.
 const NAMES: &str =
@@ -156,7 +157,7 @@ const NAMES: &str =
 
 // Words that begin with a dash.
 const DASHES: &str =
-    "sign j -1 s;-;--;--help;--version;-h;-- verify s # p;-verify s # p;verify - # p;verify -s # p;verify s -# p;verify s 12 -;verify s # --;verify s # -p;verify s # --help;verify -- s # p;verify s # p --";
+    "sign j -1 s;-;--;--help;--version;-h;-- verify s # p;-verify s # p;verify - # p;verify -s # p;verify s -# p;verify s 12 -;verify s # --;verify s # -p;verify s # --help;migrate j -k;verify -- s # p;verify s # p --";
 
 fn each_is_told(
     rt: &impl Abort,

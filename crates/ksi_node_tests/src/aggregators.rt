@@ -1,4 +1,5 @@
 ghost use Rattle.std.specs.Prelude.{◌≡◌, ◌<◌, ◌^◌, length, IfOk};
+ghost use Rattle.ksi_aggtree.specs.Rounds.{leaf_level};
 
 use crate::same::same;
 use ksi_aggregator::{Aggregator, NoMemory, Send, Step};
@@ -15,12 +16,9 @@ use std::process::Abort;
 const T: u64 = 1700000000;
 
 fn item(bytes: &[u8]) -> Item
-    ensures { result.level ≡ 0 }
+    ensures { leaf_level result ≡ 0 }
 {
-    Item {
-        imprint: Sha::of(bytes),
-        level: 0,
-    }
+    Item::new(Sha::of(bytes), 0)
 }
 
 /// The item that is sent, where the step sends that alone.
@@ -64,7 +62,11 @@ fn request(
     let is_new = own.is_new(number);
     same(rt, number, is_new, true);
     if is_new {
-        only(rt, own.request(number, second, Sha::of(bytes)), answer);
+        only(
+            rt,
+            own.request(number, second, Sha::of(bytes), None),
+            answer,
+        );
     }
 }
 
@@ -169,11 +171,7 @@ fn root() -> Imprint {
 
 /// Closes that round, whose tree is submitted.
 fn close_upper(rt: &impl Abort, upper: &mut Aggregator<Sha>) {
-    let tree = Item {
-        imprint: root(),
-        level: 1,
-    };
-    submits(rt, upper.close(T), tree);
+    submits(rt, upper.close(T), Item::new(root(), 1));
 }
 
 /// That round with its response, and what the step was.

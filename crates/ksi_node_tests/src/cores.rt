@@ -1,4 +1,5 @@
 ghost use Rattle.std.specs.Prelude.{◌≡◌};
+ghost use Rattle.ksi_aggtree.specs.Rounds.{leaf_level};
 ghost use Rattle.ksi_synod.specs.Ballots.{IsBallot};
 ghost use Rattle.ksi_synod.specs.Rows.{OfBallot};
 
@@ -17,12 +18,9 @@ use std::process::Abort;
 const T: u64 = 1_700_000_000;
 
 fn item(bytes: &[u8]) -> Item
-    ensures { result.level ≡ 0 }
+    ensures { leaf_level result ≡ 0 }
 {
-    Item {
-        imprint: Sha::of(bytes),
-        level: 0,
-    }
+    Item::new(Sha::of(bytes), 0)
 }
 
 /// What a step answers and how many messages it sends, nothing where memory is wanting.
@@ -145,7 +143,7 @@ fn a_settled_second_answers_as_before(rt: HostRuntime) {
 
 /// A core that holds its candidate, the item alone, for second T.
 fn decided(rt: &impl Abort, alloc: Global, a: &Item) -> Core<Sha>
-    requires { a.now.level ≡ 0 }
+    requires { leaf_level a.now ≡ 0 }
     ensures { result.start ≡ 1700000000 }
 {
     let mut core = Core::new(alloc, 0, &CorePlan::new(1, T));

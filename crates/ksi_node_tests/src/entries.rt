@@ -1,3 +1,6 @@
+ghost use Rattle.std.specs.Prelude.{◌≤◌};
+ghost use Rattle.ksi_aggtree.specs.Rounds.{leaf_level};
+
 use crate::same::same;
 use ksi_aggchain::{Link, Node};
 use ksi_aggtree::{Entries, Entry, Item, ItemPath, Origin};
@@ -6,38 +9,41 @@ use ksi_split::Side;
 use std::alloc::Global;
 use std::process::Abort;
 
-fn item(level: u8, bytes: &[u8]) -> Item {
-    Item {
-        imprint: Sha::of(bytes),
-        level,
-    }
-}
-
-/// An item that the request 7 made, and one that aggregator 3 submitted.
-fn two() -> [Entry; 2] {
-    let request = Entry {
+/// An item that the request 7 made.
+fn request() -> Entry
+    ensures { leaf_level result.item ≤ 239 }
+{
+    Entry {
         origin: Origin::Request(7),
-        item: item(0, b"a"),
-    };
-    let submission = Entry {
-        origin: Origin::Aggregator(3),
-        item: item(2, b"b"),
-    };
-    [request, submission]
+        item: Item::new(Sha::of(b"a"), 0),
+    }
 }
 
-fn add(rt: &impl Abort, entries: &mut Entries<Sha>, entry: Entry, place: usize) {
-    if entry.item.level <= 239 {
-        same(rt, "add", entries.add(entry), Ok(place));
+/// An item that aggregator 3 submitted.
+fn submission() -> Entry
+    ensures { leaf_level result.item ≤ 239 }
+{
+    Entry {
+        origin: Origin::Aggregator(3),
+        item: Item::new(Sha::of(b"b"), 2),
     }
+}
+
+fn two() -> [Entry; 2] {
+    [request(), submission()]
+}
+
+fn add(rt: &impl Abort, entries: &mut Entries<Sha>, entry: Entry, place: usize)
+    requires { leaf_level entry.item ≤ 239 }
+{
+    same(rt, "add", entries.add(entry), Ok(place));
 }
 
 /// Both items in a round.
 fn gathered(rt: &impl Abort, alloc: Global) -> Result<Entries<Sha>, NoMemory> {
     let mut entries = Entries::new(alloc)?;
-    let [request, submission] = two();
-    add(rt, &mut entries, request, 0);
-    add(rt, &mut entries, submission, 1);
+    add(rt, &mut entries, request(), 0);
+    add(rt, &mut entries, submission(), 1);
     Ok(entries)
 }
 

@@ -10,13 +10,25 @@ mod cores;
 #[cfg(test)]
 mod entries;
 #[cfg(test)]
+mod generated;
+#[cfg(test)]
+mod named_items;
+#[cfg(test)]
+mod named_worlds;
+#[cfg(test)]
 mod names;
+#[cfg(test)]
+mod plain;
 #[cfg(test)]
 mod rounds;
 #[cfg(test)]
 mod same;
 #[cfg(test)]
 mod settled;
+#[cfg(test)]
+mod steps;
+#[cfg(test)]
+mod taken;
 #[cfg(test)]
 mod voters;
 #[cfg(test)]

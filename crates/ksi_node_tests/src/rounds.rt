@@ -1,4 +1,5 @@
 ghost use Rattle.std.specs.Prelude.{◌≡◌, ◌<◌, ◌≤◌, length};
+ghost use Rattle.ksi_aggtree.specs.Rounds.{leaf_level};
 
 use crate::same::same;
 use ksi_aggchain::{Link, Node, shape};
@@ -13,12 +14,9 @@ use std::sync::ledger::{Blank, Ledger};
 
 /// The item of the hash of these bytes.
 fn item(level: u8, bytes: &[u8]) -> Item
-    ensures { result.level ≡ level }
+    ensures { leaf_level result ≡ level }
 {
-    Item {
-        imprint: Sha::of(bytes),
-        level,
-    }
+    Item::new(Sha::of(bytes), level)
 }
 
 /// The join of two imprints at a level, by hand.
@@ -45,7 +43,7 @@ fn three(rt: &impl Abort, alloc: Global) -> Result<Builder<Sha>, NoMemory> {
 }
 
 /// The links of an item, nothing where there is no such item or memory is wanting.
-fn path(round: &Builder<Sha>, k: usize) -> Option<ItemPath> {
+pub(crate) fn path(round: &Builder<Sha>, k: usize) -> Option<ItemPath> {
     if k < round.count() {
         round.path(k).ok()
     } else {

@@ -1,27 +1,24 @@
-ghost use Rattle.std.specs.Prelude.{◌≡◌, ◌<◌};
-ghost use Rattle.ksi_synod.specs.Ballots.{IsBallot};
+//! The thousand events of a core beside a plain one, and how many seconds are settled.
+ghost use Rattle.std.specs.Prelude.{◌≡◌, ◌<◌, ◌≤◌};
+ghost use Rattle.ksi_aggtree.specs.Rounds.{leaf_level};
 ghost use Rattle.ksi_synod.specs.Rows.{OfBallot};
 
+use crate::generated::{item, message, next};
+use crate::plain::{
+    Came, Plain, nothing_came, plain_ballot, plain_receive, plain_restart, plain_seal,
+    plain_submission, plain_tell, told,
+};
 use crate::same::same;
-use ksi_aggtree::{Entries, Entry, Item, Origin};
-use ksi_corenode::{Answer, Core, CorePlan, NoMemory, Send, Step, Steps};
-use ksi_imprint::{Compress, Imprint, Sha};
-use ksi_synod::{Begun, Instance, LastVote, SynodMessage, Took, Vote, Voters};
+use ksi_aggtree::Item;
+use ksi_corenode::{Answer, Core, CoreEvent, CorePlan, Steps};
+use ksi_imprint::Sha;
+use ksi_synod::{Instance, SynodMessage};
 use std::alloc::Global;
 use std::marker::Brand;
 use std::process::Abort;
 use std::sync::ledger::{Blank, Ledger};
 
 const T: u64 = 1_700_000_000;
-
-fn item(byte: u8) -> Item
-    ensures { result.level ≡ 0 }
-{
-    Item {
-        imprint: Sha::of(&[byte]),
-        level: 0,
-    }
-}
 
 fn counted<L: Ledger>(core: &Core<Sha>, p: u64, blank: Blank) -> Option<u64>
     requires name { blank.name ≡ L.name }
@@ -35,265 +32,6 @@ fn counted<L: Ledger>(core: &Core<Sha>, p: u64, blank: Blank) -> Option<u64>
 /// The first second to `p` that is not held.
 pub(crate) fn first_not_held(core: &Core<Sha>, p: u64) -> Option<u64> {
     counted::<Brand>(core, p, Blank::new(1))
-}
-
-/// What came of an event: its answer, and the message that is sent, if any, and to how many.
-#[derive(Clone, Copy, PartialEq, Eq, Debug)]
-struct Came {
-    answer: Answer,
-    sent: Option<SynodMessage>,
-    count: usize,
-}
-
-fn only(answer: Answer) -> Option<Came> {
-    Some(Came {
-        answer,
-        sent: None,
-        count: 0,
-    })
-}
-
-/// What a step says: its message, where all that it sends is that one, to the sender or to the cores from 0 on.
-fn told(step: Result<Step, NoMemory>, from: u8) -> Option<Came> {
-    match step {
-        Ok(step) => told_by(&step, from),
-        Err(_) => None,
-    }
-}
-
-fn told_by(step: &Step, from: u8) -> Option<Came> {
-    let sends = step.sends.as_slice();
-    let mut sent: Option<SynodMessage> = None;
-    let mut next: u8 = 0;
-    for send in sends {
-        match send {
-            Send::Synod(to, message) => {
-                let due = if is_reply(message) { from } else { next };
-                if *to != due || (sent.is_some() && sent != Some(*message)) {
-                    return None;
-                }
-                sent = Some(*message);
-                next = next.wrapping_add(1);
-            }
-            Send::Response(_, _) => return None,
-        }
-    }
-    Some(Came {
-        answer: step.answer,
-        sent,
-        count: sends.len(),
-    })
-}
-
-fn is_reply(message: &SynodMessage) -> bool {
-    match message {
-        SynodMessage::LastVote(_) | SynodMessage::Voted(_) => true,
-        _ => false,
-    }
-}
-
-/// The same of three cores by the table: LastVote and Voted go to the sender alone.
-fn sends(answer: Answer, sent: Option<SynodMessage>) -> Option<Came> {
-    let count = match &sent {
-        None => 0,
-        Some(message) => { if is_reply(message) { 1 } else { 3 } }
-    };
-    Some(Came {
-        answer,
-        sent,
-        count,
-    })
-}
-
-/// One second of a core, kept plainly: its part in the vote, the tree of its open items, and that of the sealed ones.
-#[derive(Drop)]
-struct Plain {
-    vote: Instance,
-    items: Option<Entries<Sha>>,
-    sealed: Option<Entries<Sha>>,
-}
-
-fn nothing_came() -> Plain {
-    Plain {
-        vote: Instance::new(0, Voters::all(3)),
-        items: None,
-        sealed: None,
-    }
-}
-
-/// Where no item of the aggregator is there, one more.
-fn taken(items: &mut Entries<Sha>, from: u32, byte: u8) -> Option<Came> {
-    if items.has_from(from) {
-        return only(Answer::Known);
-    }
-    let entry = Entry {
-        origin: Origin::Aggregator(from),
-        item: item(byte),
-    };
-    match items.add(entry) {
-        Ok(_) => only(Answer::Done),
-        Err(_) => None,
-    }
-}
-
-fn plain_submission(alloc: Global, second: &mut Plain, from: u32, byte: u8) -> Option<Came> {
-    if second.vote.sealed().is_some() {
-        return only(Answer::Late);
-    }
-    if second.items.is_none() {
-        second.items = Entries::new(alloc).ok();
-    }
-    match &mut second.items {
-        Some(items) => taken(items, from, byte),
-        None => None,
-    }
-}
-
-fn plain_seal(second: &mut Plain) -> Option<Came> {
-    if second.vote.sealed().is_some() {
-        return only(Answer::Sealed);
-    }
-    let candidate = match &second.items {
-        Some(items) => items.candidate(),
-        None => Imprint::ZERO,
-    };
-    second.vote.candidate(candidate);
-    second.sealed = second.items.take();
-    only(Answer::Done)
-}
-
-fn plain_ballot(second: &mut Plain) -> Option<Came> {
-    match second.vote.try_ballot() {
-        Begun::Unsealed => only(Answer::Unsealed),
-        Begun::Last => only(Answer::Last),
-        Begun::Next(ballot) => sends(Answer::Done, Some(SynodMessage::NextBallot(ballot))),
-    }
-}
-
-fn done(news: bool) -> Answer {
-    if news { Answer::Done } else { Answer::Nothing }
-}
-
-fn promised(last: Option<LastVote>) -> Option<Came> {
-    match last {
-        Some(last) => sends(Answer::Done, Some(SynodMessage::LastVote(last))),
-        None => only(Answer::Nothing),
-    }
-}
-
-fn begun(ballot: u64, took: Took) -> Option<Came> {
-    match took {
-        Took::Decree(decree) => sends(
-            Answer::Done,
-            Some(SynodMessage::BeginBallot(ballot, decree)),
-        ),
-        Took::Added => only(Answer::Done),
-        Took::Nothing => only(Answer::Nothing),
-    }
-}
-
-fn voted(ballot: u64, votes: bool) -> Option<Came> {
-    if votes {
-        sends(Answer::Done, Some(SynodMessage::Voted(ballot)))
-    } else {
-        only(Answer::Nothing)
-    }
-}
-
-fn decided(took: Took) -> Option<Came> {
-    match took {
-        Took::Decree(decree) => sends(Answer::Done, Some(SynodMessage::Success(decree))),
-        Took::Added => only(Answer::Done),
-        Took::Nothing => only(Answer::Nothing),
-    }
-}
-
-fn plain_receive(second: &mut Plain, from: u8, message: &SynodMessage) -> Option<Came>
-    requires member { from < 9 }
-    requires ballot { OfBallot message.now }
-{
-    match *message {
-        SynodMessage::NextBallot(ballot) => promised(second.vote.on_next(ballot)),
-        SynodMessage::LastVote(last) => {
-            begun(
-                last.ballot,
-                second.vote.on_last(from, last.ballot, last.vote),
-            )
-        }
-        SynodMessage::BeginBallot(ballot, decree) => {
-            voted(ballot, second.vote.on_begin(ballot, decree))
-        }
-        SynodMessage::Voted(ballot) => decided(second.vote.on_voted(from, ballot)),
-        SynodMessage::Success(decree) => only(done(second.vote.on_success(decree))),
-    }
-}
-
-fn plain_tell(second: &Plain, t: u64) -> Option<Came> {
-    match second.vote.held() {
-        Some(root) => sends(Answer::Done, Some(SynodMessage::Success(root))),
-        None => only(Answer::Undecided(t)),
-    }
-}
-
-fn plain_restart(second: &mut Plain) {
-    second.vote.restart();
-    second.items = None;
-}
-
-/// The next number of a stream.
-fn next(n: u64) -> u64 {
-    n.wrapping_mul(6_364_136_223_846_793_005)
-        .wrapping_add(1_442_695_040_888_963_407)
-}
-
-/// A number as a ballot.
-fn as_ballot(n: u64) -> u64
-    ensures { IsBallot result }
-{
-    if 16 <= n && n < 68_719_476_736 { n } else { 16 }
-}
-
-/// A ballot: the one in hand, the one that was promised, the next one of some core, or one of rounds 1 to 3.
-fn ballot(vote: &Instance, n: u64) -> u64
-    ensures { IsBallot result }
-{
-    let tried = vote.tried().unwrap_or(16);
-    let promised = vote.promised().unwrap_or(16);
-    match n % 8 {
-        0 | 1 | 2 => as_ballot(tried),
-        3 | 4 => as_ballot(promised),
-        5 => as_ballot(16 * (tried.max(promised) / 16).min(1_000_000) + 16 + n / 8 % 3),
-        _ => 16 * (1 + n / 8 % 3) + n / 24 % 3,
-    }
-}
-
-fn cast(vote: &Instance, n: u64) -> Option<Vote> {
-    if n % 4 == 0 {
-        Some(Vote {
-            ballot: ballot(vote, n / 4),
-            imprint: Sha::of(&[(n / 16 % 2) as u8]),
-        })
-    } else {
-        None
-    }
-}
-
-/// A message of the vote by a number.
-fn message(vote: &Instance, n: u64) -> SynodMessage
-    ensures { OfBallot result }
-{
-    let named = ballot(vote, n / 32);
-    let decree = Sha::of(&[(n / 512 % 2) as u8]);
-    match n % 32 {
-        0 | 1 | 2 | 3 | 4 => SynodMessage::NextBallot(named),
-        5 | 6 | 7 | 8 | 9 | 10 | 11 | 12 | 13 => SynodMessage::LastVote(LastVote {
-            ballot: named,
-            vote: cast(vote, n / 1024),
-        }),
-        14 | 15 | 16 | 17 | 18 => SynodMessage::BeginBallot(named, decree),
-        31 => SynodMessage::Success(decree),
-        _ => SynodMessage::Voted(named),
-    }
 }
 
 /// What events there are, what they answer, and what they send.
@@ -357,6 +95,24 @@ fn more(counts: &mut [u32], at: usize) {
     }
 }
 
+/// The ballot that was tried last and the greatest that was promised, 16 where there is none.
+fn near(vote: &Instance) -> [u64; 2] {
+    [vote.tried().unwrap_or(16), vote.promised().unwrap_or(16)]
+}
+
+fn submitted(core: &mut Core<Sha>, from: u32, t: u64, item: &Item) -> Option<Came>
+    requires { leaf_level item.now ≤ 239 }
+{
+    told(core.take(CoreEvent::Submission(from, t, *item)), 0)
+}
+
+fn received(core: &mut Core<Sha>, from: u8, t: u64, message: &SynodMessage) -> Option<Came>
+    requires member { from < 9 }
+    requires ballot { OfBallot message.now }
+{
+    told(core.take(CoreEvent::Receive(from, t, *message)), from)
+}
+
 /// One event of a second in the core and in the plain one, and what comes of it in each.
 fn happens(
     alloc: Global,
@@ -367,16 +123,28 @@ fn happens(
 ) -> (usize, [Option<Came>; 2]) {
     match n % 16 {
         0 | 1 => {
-            let (from, byte) = ((n / 16 % 3) as u32, (n / 64 % 256) as u8);
-            let came = told(core.submission(from, t, item(byte)), 0);
-            (0, [came, plain_submission(alloc, plain, from, byte)])
+            let (from, item) = ((n / 16 % 3) as u32, item(n / 64));
+            let came = submitted(core, from, t, &item);
+            (0, [came, plain_submission(alloc, plain, from, &item)])
         }
-        2 => (1, [told(core.seal(t), 0), plain_seal(plain)]),
-        3 => (2, [told(core.ballot(t), 0), plain_ballot(plain)]),
-        4 => (3, [told(core.tell(t), 0), plain_tell(plain, t)]),
+        2 => (
+            1,
+            [told(core.take(CoreEvent::Seal(t)), 0), plain_seal(plain)],
+        ),
+        3 => (
+            2,
+            [
+                told(core.take(CoreEvent::Ballot(t)), 0),
+                plain_ballot(plain),
+            ],
+        ),
+        4 => (
+            3,
+            [told(core.take(CoreEvent::Tell(t)), 0), plain_tell(plain, t)],
+        ),
         _ => {
-            let (from, message) = ((n / 16 % 3) as u8, message(&plain.vote, n / 64));
-            let came = told(core.receive(from, t, &message), from);
+            let (from, message) = ((n / 16 % 3) as u8, message(near(&plain.vote), n / 64));
+            let came = received(core, from, t, &message);
             (
                 message_at(&message),
                 [came, plain_receive(plain, from, &message)],

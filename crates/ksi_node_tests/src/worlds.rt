@@ -1,9 +1,10 @@
-ghost use Rattle.std.specs.Prelude.{◌<◌, length, IsTrue};
+ghost use Rattle.std.specs.Prelude.{◌<◌, length, IsTrue, IfSome};
+ghost use Rattle.ksi_aggtree.specs.Names.{IsName};
 ghost use Rattle.ksi_schedule.specs.Plans.{InRange};
 ghost use Rattle.ksi_schedule.specs.Events.{IsEvent};
 
 use crate::same::same;
-use ksi_aggtree::Item;
+use ksi_aggtree::{Item, Name};
 use ksi_imprint::{Compress, Imprint, Sha};
 use ksi_schedule::read_schedule;
 use ksi_signature::{AggregationChain, read};
@@ -12,7 +13,7 @@ use std::alloc::Global;
 use std::process::Abort;
 use std::test::Fail;
 
-const T: u64 = 1700000000;
+pub(crate) const T: u64 = 1700000000;
 
 const ONE: &str =
     "ksi-schedule 1\ncores 1\nstart 1700000000\naggregator 0 parent c0\naggregator 1 parent a0\n";
@@ -55,12 +56,22 @@ fn of_aggregator(world: &World<Sha>, aggregator: u32, second: u64) -> bool
     is_second(world.plan(), second)
 }
 
+/// Whether a request is of an aggregator and a second of the plan. Its name is one, as its type keeps it.
+fn is_request(world: &World<Sha>, aggregator: u32, second: u64, name: Option<Name>) -> bool
+    ensures { IsTrue result → (aggregator < length world.now.plan.parents) × InRange world.now.plan second × IfSome name IsName }
+{
+    if let Some(name) = &name {
+        let _bytes = name.as_bytes();
+    }
+    of_aggregator(world, aggregator, second)
+}
+
 /// Whether the event is of an actor and a second of the plan.
 fn is_event(world: &World<Sha>, event: &Event) -> bool
     ensures { IsTrue result → IsEvent world.now.plan event.now }
 {
     match *event {
-        Event::Request(k, t, _) => of_aggregator(world, k, t),
+        Event::Request(k, t, _, name) => is_request(world, k, t, name),
         Event::Close(k, t) => of_aggregator(world, k, t),
         Event::Seal(j, t) => of_core(world, j, t),
         Event::Ballot(j, t) => of_core(world, j, t),
@@ -85,7 +96,13 @@ fn told(world: &mut World<Sha>, event: Event) -> Option<(Answer, usize)> {
 }
 
 /// The event has this answer and sends so many messages.
-fn step(rt: &impl Abort, world: &mut World<Sha>, event: Event, answer: Answer, sent: usize) {
+pub(crate) fn step(
+    rt: &impl Abort,
+    world: &mut World<Sha>,
+    event: Event,
+    answer: Answer,
+    sent: usize,
+) {
     same(rt, "the event", told(world, event), Some((answer, sent)));
 }
 
@@ -105,7 +122,7 @@ pub(crate) fn request(
     bytes: &[u8],
     answer: Answer,
 ) {
-    let event = Event::Request(aggregator, second, Sha::of(bytes));
+    let event = Event::Request(aggregator, second, Sha::of(bytes), None);
     step(rt, world, event, answer, 0);
 }
 
@@ -119,7 +136,7 @@ fn pass_on(rt: &impl Abort, world: &mut World<Sha>, first: u64)
 }
 
 /// Seals the second and decides it by messages from this number on, with one core.
-fn decide(rt: &impl Abort, world: &mut World<Sha>, first: u64)
+pub(crate) fn decide(rt: &impl Abort, world: &mut World<Sha>, first: u64)
     requires { first < 100 }
 {
     step(rt, world, Event::Seal(0, T), Answer::Done, 0);
@@ -179,7 +196,12 @@ pub(crate) fn issued(world: &World<Sha>, number: u64) -> Option<usize> {
 }
 
 /// Whether the chains of the issued signature of a number have these indexes.
-fn has_indexes(alloc: Global, world: &World<Sha>, number: u64, indexes: &[&[u64]]) -> bool {
+pub(crate) fn has_indexes(
+    alloc: Global,
+    world: &World<Sha>,
+    number: u64,
+    indexes: &[&[u64]],
+) -> bool {
     let Ok(Some(bytes)) = world.issued(number) else {
         return false;
     };
@@ -212,7 +234,7 @@ fn keeps(world: &World<Sha>, root: Imprint) -> bool {
 /// Whether the imprint is the only item.
 fn is_alone(one: &Second, imprint: Imprint) -> bool {
     match one.items.as_slice() {
-        [item] => *item == Item { imprint, level: 0 },
+        [item] => *item == Item::new(imprint, 0),
         _ => false,
     }
 }

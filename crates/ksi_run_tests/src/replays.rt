@@ -63,6 +63,25 @@ deliver 2
 deliver 3
 ";
 
+/// The request of `SIGNED` under an aggregator with a name.
+const NAMED: &str = "ksi-schedule 2
+cores 1
+start 1700000000
+aggregator 0 parent c0 name bob
+request 0 1700000000 e3b0c44298fc1c149afbf4c8996fb92427ae41e4649b934ca495991b7852b855
+close 0 1700000000
+deliver 0
+seal 0 1700000000
+ballot 0 1700000000
+deliver 1
+deliver 2
+deliver 3
+deliver 4
+respond 0 1700000000
+deliver 6
+publish 0 1700000000
+";
+
 /// The bytes of the journal of a schedule's text, nothing where memory is wanting.
 fn journal_bytes(alloc: Global, text: &str) -> Option<Bytes> {
     let schedule = read_schedule(alloc, text.as_bytes()).ok()?;
@@ -85,14 +104,27 @@ fn counts(alloc: Global, text: &str) -> Option<[usize; 4]> {
 
 #[test]
 fn schedules_become_journals(rt: HostRuntime) {
-    const ROWS: [(&str, [usize; 4]); 5] = [
+    const ROWS: [(&str, [usize; 4]); 6] = [
         (IDLE, [16, 0, 0, 0]),
         (MISSED, [61, 1, 0, 0]),
         (OPEN, [16, 0, 0, 0]),
-        (ONE_VOTES, [61, 1, 0, 0]),
+        (ONE_VOTES, [72, 1, 0, 0]),
         (SIGNED, [766, 1, 1, 1]),
+        (NAMED, [783, 1, 1, 1]),
     ];
     for (text, want) in ROWS {
         same(&rt, text, counts(rt.alloc(), text), Some(want));
     }
+}
+
+/// The start of a journal of version 2, and behind it the voters of its first second: core 1.
+#[test]
+fn who_votes_stands_behind_the_start(rt: HostRuntime) {
+    const TEXT: &[u8] =
+        b"KSIJRNL2\x01\x04\x65\x53\xf1\x00\x08\x09\x01\x04\x65\x53\xf1\x00\x02\x01\x02";
+    let begins = match journal_bytes(rt.alloc(), ONE_VOTES) {
+        Some(bytes) => bytes.as_slice().starts_with(TEXT),
+        None => false,
+    };
+    same(&rt, "voters", begins, true);
 }

@@ -11,7 +11,7 @@ use std::test::Fail;
 // A command, how often it calls on the files, how many bytes it saves under "o", and the first three that it puts.
 type Row = (&'static str, u64, Option<usize>, &'static [u8]);
 
-const ROWS: [Row; 8] = [
+const ROWS: [Row; 9] = [
     ("replay f o", 2, Some(766), b"eve"),
     ("sign j 0 o", 2, Some(615), b"sig"),
     ("publish j o", 2, Some(68), b"pub"),
@@ -20,6 +20,7 @@ const ROWS: [Row; 8] = [
     ("audit j s A p", 3, None, b"ins"),
     ("make 7 o", 1, Some(233_840), b"mad"),
     ("drill 7", 0, None, b"sec"),
+    ("migrate j o", 2, Some(766), b"mig"),
 ];
 
 // The files of a whole path, of which the call of this number fails.
@@ -85,7 +86,7 @@ fn each_failing_call_ends_the_run(rt: HostRuntime) -> Result<(), Fail> {
 }
 
 /// Each command over files that hold nothing, and how it ends.
-const SURE: [(&str, Status); 8] = [
+const SURE: [(&str, Status); 9] = [
     ("replay s j", Status::Malformed),
     ("sign j 0 o", Status::Malformed),
     ("publish j o", Status::Malformed),
@@ -94,6 +95,7 @@ const SURE: [(&str, Status); 8] = [
     ("audit j s A p", Status::Malformed),
     ("make 7 m", Status::Done),
     ("drill 7", Status::Done),
+    ("migrate j o", Status::Malformed),
 ];
 
 #[test]

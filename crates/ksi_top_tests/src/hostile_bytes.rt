@@ -8,7 +8,7 @@ use std::process::Abort;
 use std::test::Fail;
 
 // The bytes from one place to another, none where they do not stand.
-fn part(bytes: &[u8], from: usize, to: usize) -> &[u8] {
+pub(crate) fn part(bytes: &[u8], from: usize, to: usize) -> &[u8] {
     bytes.get(from..to).unwrap_or(b"")
 }
 

@@ -12,6 +12,10 @@ mod hostile_bytes;
 #[cfg(test)]
 mod later_files;
 #[cfg(test)]
+mod migrations;
+#[cfg(test)]
+mod names;
+#[cfg(test)]
 mod runs;
 #[cfg(test)]
 mod same;

@@ -206,7 +206,7 @@ fn words_are_a_command_or_refused(rt: HostRuntime) -> Result<(), Fail> {
         "verify s 12 p",
         (Status::Words, "bad word 2", 0),
     )?;
-    for line in "verify s A;verify s A -;audit s A p;".split(';') {
+    for line in "verify s A;verify s A -;audit s A p;migrate s;migrate s p A;".split(';') {
         has_said(&rt, rt.alloc(), line, (Status::Words, "words refused", 0))?;
     }
     Ok(())

@@ -15,10 +15,10 @@ const ONE_REQUEST: &str =
 const CASCADE: &str =
     "ksi-schedule 1\ncores 1\nstart T\naggregator 0 parent c0\naggregator 1 parent a0\nrequest 1 T A\nclose 1 T\ndeliver 0\nrequest 0 T B\nclose 0 T\ndeliver 1\nseal 0 T\nballot 0 T\ndeliver 2\ndeliver 3\ndeliver 4\ndeliver 5\nrespond 0 T\ndeliver 7\ndeliver 8\npublish 0 T\n";
 
-const NO_EVENTS: &str = "ksi-schedule 1\ncores 1\nstart T\n";
+pub(crate) const NO_EVENTS: &str = "ksi-schedule 1\ncores 1\nstart T\n";
 
 // Files of which one is a schedule.
-fn scheduled(alloc: Global, schedule: &str) -> Result<MemFiles, Fail> {
+pub(crate) fn scheduled(alloc: Global, schedule: &str) -> Result<MemFiles, Fail> {
     let mut files = MemFiles::new(alloc, Vec::new(alloc));
     files.hold("f", expanded(alloc, schedule)?.as_bytes())?;
     Ok(files)
@@ -149,10 +149,11 @@ fn without_events_nothing_is_kept(rt: HostRuntime) -> Result<(), Fail> {
 }
 
 // Core 1 alone votes, and decides for core 0.
-const ONE_VOTES: &str =
+pub(crate) const ONE_VOTES: &str =
     "ksi-schedule 2\ncores 3\nstart T\nmembers T c1\nseal 0 T\nballot 0 T\ndeliver 0\ndeliver 1\ndeliver 2\ndeliver 3\n";
 
-const ONE_DECIDES: &str = "replay f j = events 6 messages 7 seconds 1 issued 0 published 0
+pub(crate) const ONE_DECIDES: &str =
+    "replay f j = events 6 messages 7 seconds 1 issued 0 published 0
 publish j p = published 0";
 
 #[test]
@@ -169,7 +170,7 @@ fn is_malformed(rt: &impl Abort, alloc: Global, schedule: &str, put: &str) -> Re
 
 #[test]
 fn faults_of_schedules_are_told(rt: HostRuntime) -> Result<(), Fail> {
-    const ROWS: [(&str, &str); 5] = [
+    const ROWS: [(&str, &str); 7] = [
         ("x", "malformed 1 L7 1"),
         (
             "ksi-schedule 2\ncores 3\nstart T\nmembers T c1 c1\n",
@@ -187,6 +188,14 @@ fn faults_of_schedules_are_told(rt: HostRuntime) -> Result<(), Fail> {
             "ksi-schedule 1\ncores 1\nstart T\naggregator 0 parent c0\nrequest 0 1 A",
             "malformed 1 L5 5",
         ),
+        (
+            "ksi-schedule 2\ncores 1\nstart T\naggregator 0 parent c0\nrequest 0 T A b/b",
+            "malformed 1 L8 5",
+        ),
+        (
+            "ksi-schedule 1\ncores 1\nstart T\naggregator 0 parent c0\nrequest 0 T A bob",
+            "malformed 1 L1 5",
+        ),
     ];
     for (schedule, put) in ROWS {
         is_malformed(&rt, rt.alloc(), schedule, put)?;
@@ -196,11 +205,15 @@ fn faults_of_schedules_are_told(rt: HostRuntime) -> Result<(), Fail> {
 
 const JOURNALS: &str = "short = 4b53494a524e4c31
 long = 4b53494a524e4c31 01046553f100 0600 00
-other = 4b53494a524e4c31 01046553f100 022c 01046553f100 022101A 030101 032201B00";
+other = 4b53494a524e4c31 01046553f100 022c 01046553f100 022101A 030101 032201B00
+name = 4b53494a524e4c32 01046553f100 022c 01046553f100 022101A 030101 072501A00622f62
+voters = 4b53494a524e4c32 01046553f100 0809 01046553f100 020100";
 
 const FAULTS: &str = "sign short 0 s = malformed 1 J8 8
 sign long 0 s = malformed 1 J8 16
-sign other 0 s = malformed 1 J4 T A B";
+sign other 0 s = malformed 1 J4 T A B
+sign name 0 s = malformed 1 J9 60
+sign voters 0 s = malformed 1 J10 22";
 
 #[test]
 fn faults_of_journals_are_told(rt: HostRuntime) -> Result<(), Fail> {
