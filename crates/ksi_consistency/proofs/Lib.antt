@@ -1,0 +1,5 @@
+pub mod Cases
+pub mod Parts
+pub mod Fronts
+pub mod Leading
+pub mod Accepting

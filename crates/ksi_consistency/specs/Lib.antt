@@ -1,0 +1,3 @@
+pub mod Parts
+pub mod Front
+pub mod Checked

@@ -1,0 +1,15 @@
+//! Fronts of the hash calendar.
+#![tactic(auto)]
+
+mod front;
+mod imprints;
+mod join;
+mod kept;
+pub mod laws;
+mod refusal;
+mod roots;
+
+pub use front::{check, prove};
+pub use imprints::Imprints;
+pub use ksi_imprint::NoMemory;
+pub use refusal::FrontRefusal;
