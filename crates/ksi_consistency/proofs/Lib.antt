@@ -3,3 +3,5 @@ pub mod Parts
 pub mod Fronts
 pub mod Leading
 pub mod Accepting
+pub mod Strings
+pub mod Meeting

@@ -214,3 +214,18 @@ inside splits n first count some (sides, at) = let l = lies splits 0 (record { f
 -- the whole tree is a part of itself
 pub whole_part : (n : ℕ) → IsPart n 0 n
 whole_part n = ([], refl)
+
+-- each leaf is a part
+leaf_leads : Splits → (most : ℕ) (part : Part) (t : ℕ) → part.count ≤ most → part.first ≤ t → t < part.first + part.count → Leads part (record { first = t; count = 1 })
+leaf_leads splits zero part t le from to = absurd (omega (arith, le, from, to))
+leaf_leads splits (suc most) part t le from to = elim (eq_cases part.count 1) [
+  | inl one ↦ (let at : part.first ≡ t = omega (arith, one.1, from, to) in let e : part ≡ record { first = t; count = 1 } = λ i. record { first = at i; count = one.1 i } in ([], ap Ok e))
+  | inr more ↦ (let h = split_parts splits part.count (omega (arith, more.1, from, to)) in
+      elim (lt_cases t (part.first + split_of part.count)) [
+        | inl left ↦ (let on = leaf_leads splits most (half_of part Left) t (omega (arith, h.below, le)) from left.1 in (Left ∷ on.0, rw more.0 (any_place 0 1 (half_of part Left) (record { first = t; count = 1 }) on.0 on.1)))
+        | inr right ↦ (let on = leaf_leads splits most (half_of part Right) t (omega (arith, h.some, le)) right.1 (omega (arith, to, h.below)) in (Right ∷ on.0, rw more.0 (any_place 0 1 (half_of part Right) (record { first = t; count = 1 }) on.0 on.1)))
+      ])
+]
+
+pub leaf_part : Splits → (n t : ℕ) → t < n → IsPart n t 1
+leaf_part splits n t below = leaf_leads splits n (record { first = 0; count = n }) t (omega arith) (omega arith) (omega (arith, below))

@@ -1,7 +1,9 @@
 ghost use Rattle.std.specs.Prelude.{IsTrue};
 ghost use Rattle.ksi_calendar.specs.Calendar.{is_covered};
 
+use crate::halves::Halves;
 use ksi_calendar::Calendar;
+use ksi_calendar::laws::one_calendar;
 use ksi_imprint::{Compress, Imprint};
 use ksi_split::laws::one_split;
 use ksi_split::{Side, high_bit};
@@ -15,9 +17,11 @@ pub(crate) struct CalendarTo<'a, C: Compress> {
 }
 
 impl<C: Compress> CalendarTo<'_, C> {
-    ghost use Rattle.std.specs.Prelude.{◌≡◌, ◌+◌};
-    ghost use Rattle.ksi_calendar.specs.Calendar.{calendar_tree};
+    ghost use Rattle.std.specs.Prelude.{◌≡◌, ◌≤◌, ◌<◌, ◌+◌, ◌-◌};
+    ghost use Rattle.ksi_split.specs.Powers.{split_of};
+    ghost use Rattle.ksi_calendar.specs.Calendar.{calendar_leaf, calendar_tree};
     ghost use Rattle.ksi_consistency.specs.Parts.{IsPart};
+    ghost use Rattle.ksi_consistency.specs.Compared.{halves_text};
 
     /// The tree over the leaves of a part, from `first` to the one that is `last` behind it.
     pub(crate) fn part(&self, first: u64, last: u64) -> Imprint
@@ -46,5 +50,49 @@ impl<C: Compress> CalendarTo<'_, C> {
             Some(imprint) => imprint,
             None => Imprint::ZERO,
         }
+    }
+    /// The leaf of a second.
+    pub(crate) fn leaf(&self, second: u64) -> Imprint
+        requires { second ≤ self.now.last }
+        ensures { result ≡ calendar_leaf self.now.calendar.now second }
+    {
+        one_split();
+        one_calendar();
+        self.part(second, 0)
+    }
+
+    /// Both parts that a part of more than one leaf is joined of.
+    pub(crate) fn halves(&self, first: u64, last: u64) -> Halves
+        requires some { 0 < last }
+        requires part { IsPart (self.now.last + 1) first (last + 1) }
+        ensures left { result.left ≡ calendar_tree C.image self.now.calendar.now first (split_of (last + 1)) }
+        ensures right { result.right ≡ calendar_tree C.image self.now.calendar.now
+            (first + split_of (last + 1)) (last + 1 - split_of (last + 1)) }
+        ensures joined { C.image (halves_text result) ≡ calendar_tree C.image self.now.calendar.now first (last + 1) }
+    {
+        one_split();
+        one_calendar();
+        let half = high_bit(last);
+        Halves {
+            left: self.part(first, half - 1),
+            right: self.part(first + half, last - half),
+        }
+    }
+
+    /// The calendar's first second that has a root: whoever has the calendar alone finds it by halving.
+    pub(crate) fn start(&self) -> u64
+        ensures { result ≡ self.now.calendar.now.start }
+    {
+        let mut low = self.last.saturating_sub(self.calendar.count() - 1);
+        let mut high = self.last;
+        while low < high {
+            let middle = low + (high - low) / 2;
+            if self.calendar.root_to(middle).is_some() {
+                high = middle;
+            } else {
+                low = middle + 1;
+            }
+        }
+        low
     }
 }

@@ -1,7 +1,10 @@
 //! Fronts of the hash calendar.
 #![tactic(auto)]
 
+mod clashing;
+mod differing;
 mod front;
+mod halves;
 mod imprints;
 mod join;
 mod kept;

@@ -1,0 +1,32 @@
+-- What comparing two calendars says.
+use Rattle.std.specs.Prelude.{◌≡◌, ◌≢◌, ℕ, ◌+◌, ◌-◌, ◌≤◌, List, length}
+use Rattle.ksi_imprint.specs.Imprints.{IsClash}
+use Rattle.ksi_imprint.specs.declared.clash.Clash.{Clash}
+use Rattle.ksi_calchain.specs.Climbing.{calendar_join_text}
+use Rattle.ksi_calendar.specs.Calendar.{Seconds, calendar_leaf, calendar_tree}
+use Rattle.ksi_consistency.specs.declared.halves.Halves.{Halves}
+
+-- the string of a join of both parts
+abbrev pub halves_text : Halves → List ℕ
+halves_text halves = calendar_join_text halves.left halves.right
+
+-- both calendars have the same leaves to p
+abbrev pub AgreeTo : (old new : Seconds) → (p : ℕ) → Type 0
+AgreeTo old new p = (t : ℕ) → t ≤ p → calendar_leaf old t ≡ calendar_leaf new t
+
+-- they have different leaves of a second to p
+pub record DifferBy (old new : Seconds) (p : ℕ) : Type 0 where
+  pub second : ℕ
+  pub to : second ≤ p
+  pub differ : calendar_leaf old second ≢ calendar_leaf new second
+
+-- a clash of two strings of joins, each of two imprints and a level
+pub record IsNodeClash (image : List ℕ → List ℕ) (clash : Clash) : Type 0 where
+  pub strings : IsClash image clash
+  pub one : length clash.one ≡ 67
+  pub two : length clash.two ≡ 67
+
+-- both parts are these
+pub record IsHalves (halves : Halves) (one two : List ℕ) : Type 0 where
+  pub left : halves.left ≡ one
+  pub right : halves.right ≡ two
