@@ -5,3 +5,4 @@ pub mod Leading
 pub mod Accepting
 pub mod Strings
 pub mod Meeting
+pub mod Leafing

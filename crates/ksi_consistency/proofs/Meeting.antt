@@ -54,9 +54,9 @@ pub all_of : Splits → (m n : ℕ) → 0 < m → m ≤ n → count_of m n true 
 all_of splits m n some most none = elim (eq_cases m n) [
   | inl same ↦ same.1
   | inr other ↦ elim (lt_cases (split_of n) m) [
-      | inl right ↦ absurd (omega (arith, none, count_right splits m n (split_of n) true refl right.1 (omega (arith, other.1, most))))
-      | inr left ↦ absurd (omega (arith, none, count_left splits m n (split_of n) true some refl left.1 (omega (arith, other.1, most, some))))
-    ]
+    | inl right ↦ absurd (omega (arith, none, count_right splits m n (split_of n) true refl right.1 (omega (arith, other.1, most))))
+    | inr left ↦ absurd (omega (arith, none, count_left splits m n (split_of n) true some refl left.1 (omega (arith, other.1, most, some))))
+  ]
 ]
 
 fewer : (f m n : ℕ) → count_within f m n true ≤ count_within f m n false
@@ -65,9 +65,9 @@ fewer zero m n = omega arith
 fewer (suc f) m n = elim (eq_cases m n) [
   | inl all ↦ rw all.0 (omega arith)
   | inr part ↦ elim (lt_cases (split_of n) m) [
-      | inl right ↦ rw (part.0, right.0) (omega arith)
-      | inr left ↦ rw (part.0, left.0) (omega (arith, fewer f m (split_of n)))
-    ]
+    | inl right ↦ rw (part.0, right.0) (omega arith)
+    | inr left ↦ rw (part.0, left.0) (omega (arith, fewer f m (split_of n)))
+  ]
 ]
 
 -- a given root needs no more imprints

@@ -47,7 +47,6 @@ pub(crate) fn clash_below<C: Compress>(
     }
 }
 
-
 /// Lays the string of a join beside that of a part of a calendar, which has the same imprint: a clash where they differ,
 /// and none where they are joined of the same parts.
 fn lay<C: Compress>(
@@ -92,8 +91,10 @@ pub(crate) fn clash_in_front<C: Compress>(
     requires to { two.now.second ≤ first + old }
     requires enough { count_of (old + 1) (new + 1) true ≤ length front.now }
     requires roots { roots_from C.image given.now (old + 1) (new + 1) (reverse front.now) ≡
-        record { old = calendar_tree C.image two.now.old.calendar.now first (old + 1);
-        new = calendar_tree C.image two.now.new.calendar.now first (new + 1) } }
+        record {
+          old = calendar_tree C.image two.now.old.calendar.now first (old + 1);
+          new = calendar_tree C.image two.now.new.calendar.now first (new + 1);
+        } }
     ensures { IfOk result (IsNodeClash C.image) }
 {
     one_split();
@@ -136,7 +137,15 @@ pub(crate) fn clash_in_front<C: Compress>(
         if two.second - first < half {
             clash_below(alloc, two, first, half - 1)
         } else {
-            clash_in_front(alloc, two, given, inner, first + half, old - half, new - half)
+            clash_in_front(
+                alloc,
+                two,
+                given,
+                inner,
+                first + half,
+                old - half,
+                new - half,
+            )
         }
     }
 }

@@ -19,7 +19,7 @@ pub(crate) struct CalendarTo<'a, C: Compress> {
 impl<C: Compress> CalendarTo<'_, C> {
     ghost use Rattle.std.specs.Prelude.{◌≡◌, ◌≤◌, ◌<◌, ◌+◌, ◌-◌};
     ghost use Rattle.ksi_split.specs.Powers.{split_of};
-    ghost use Rattle.ksi_calendar.specs.Calendar.{calendar_leaf, calendar_tree};
+    ghost use Rattle.ksi_calendar.specs.Calendar.{calendar_leaf, calendar_root, calendar_tree};
     ghost use Rattle.ksi_consistency.specs.Parts.{IsPart};
     ghost use Rattle.ksi_consistency.specs.Compared.{halves_text};
 
@@ -51,6 +51,13 @@ impl<C: Compress> CalendarTo<'_, C> {
             None => Imprint::ZERO,
         }
     }
+    /// The root of all seconds to the last.
+    pub(crate) fn root(&self) -> Imprint
+        ensures { result ≡ calendar_root C.image self.now.calendar.now self.now.last }
+    {
+        self.part(0, self.last)
+    }
+
     /// The leaf of a second.
     pub(crate) fn leaf(&self, second: u64) -> Imprint
         requires { second ≤ self.now.last }

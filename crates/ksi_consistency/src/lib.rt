@@ -2,6 +2,8 @@
 #![tactic(auto)]
 
 mod clashing;
+mod compared;
+mod comparing;
 mod differing;
 mod front;
 mod halves;
@@ -12,6 +14,8 @@ pub mod laws;
 mod refusal;
 mod roots;
 
+pub use compared::Compared;
+pub use comparing::compare;
 pub use front::{check, prove};
 pub use imprints::Imprints;
 pub use ksi_imprint::NoMemory;

@@ -15,10 +15,19 @@ clash_below-requires g t c κs within =
     let size : c.high_bit-half.result - 1 + 1 ≡ split_of (last + 1) = omega (arith, h.value, h.greatest, some) in
     let same : c.halves-old.result ≡ c.halves-new.result = c.is_same.ensures.0 c.if-not-is_same.false in
     let trees : calendar_tree image c.args.two.now.old.calendar.now first (c.high_bit-half.result - 1 + 1) ≡ calendar_tree image c.args.two.now.new.calendar.now first (c.high_bit-half.result - 1 + 1)
-    = ap (calendar_tree image c.args.two.now.old.calendar.now first) size ∙ sym c.halves-old.ensures.left ∙ ap (λ (x : Halves). x.left) same ∙ c.halves-new.ensures.left ∙ ap (calendar_tree image c.args.two.now.new.calendar.now first) (sym size) in
-    (omega (arith, h.most, some), (search rules, (left_part (c.args.two.now.old.last + 1) first (last + 1) (c.high_bit-half.result - 1 + 1) c.requires.old_part (λ e. omega (arith, e, some)) size,
-    (left_part (c.args.two.now.new.last + 1) first (last + 1) (c.high_bit-half.result - 1 + 1) c.requires.new_part (λ e. omega (arith, e, some)) size,
-    (c.requires.from, (omega (arith, c.if-two-first.true, c.requires.from), trees))))))
+    = ap (calendar_tree image c.args.two.now.old.calendar.now first) size ∙ sym c.halves-old.ensures.left ∙ ap (λ (x : Halves). x.left) same ∙ c.halves-new.ensures.left ∙ ap (calendar_tree image c.args.two.now.new.calendar.now first) (sym size) in (
+      omega (arith, h.most, some),
+      (
+        search rules,
+        (
+          left_part (c.args.two.now.old.last + 1) first (last + 1) (c.high_bit-half.result - 1 + 1) c.requires.old_part (λ e. omega (arith, e, some)) size,
+          (
+            left_part (c.args.two.now.new.last + 1) first (last + 1) (c.high_bit-half.result - 1 + 1) c.requires.new_part (λ e. omega (arith, e, some)) size,
+            (c.requires.from, (omega (arith, c.if-two-first.true, c.requires.from), trees)),
+          ),
+        ),
+      ),
+    )
 
 pub clash_below-requires-else-two-first : goal.clash_below-requires-else-two-first
 clash_below-requires-else-two-first g t c κs within =
@@ -33,7 +42,16 @@ clash_below-requires-else-two-first g t c κs within =
     let tree_at = λ (x y : ℕ). calendar_tree image c.args.two.now.old.calendar.now x y in
     let same : c.halves-old.result ≡ c.halves-new.result = c.is_same.ensures.0 c.if-not-is_same.false in
     let trees : calendar_tree image c.args.two.now.old.calendar.now (first + half) (last - half + 1) ≡ calendar_tree image c.args.two.now.new.calendar.now (first + half) (last - half + 1)
-    = rw (at, rest) (sym c.halves-old.ensures.right ∙ ap (λ (x : Halves). x.right) same ∙ c.halves-new.ensures.right) in
-    (omega (arith, h.most, some), (search rules, (right_part (c.args.two.now.old.last + 1) first (last + 1) (first + half) (last - half + 1) c.requires.old_part (λ e. omega (arith, e, some, h.most)) at rest,
-    (right_part (c.args.two.now.new.last + 1) first (last + 1) (first + half) (last - half + 1) c.requires.new_part (λ e. omega (arith, e, some, h.most)) at rest,
-    (omega (arith, c.if-two-first.false, c.requires.from), (omega (arith, c.requires.to, h.most, c.if-two-first.false), trees))))))
+    = rw (at, rest) (sym c.halves-old.ensures.right ∙ ap (λ (x : Halves). x.right) same ∙ c.halves-new.ensures.right) in (
+      omega (arith, h.most, some),
+      (
+        search rules,
+        (
+          right_part (c.args.two.now.old.last + 1) first (last + 1) (first + half) (last - half + 1) c.requires.old_part (λ e. omega (arith, e, some, h.most)) at rest,
+          (
+            right_part (c.args.two.now.new.last + 1) first (last + 1) (first + half) (last - half + 1) c.requires.new_part (λ e. omega (arith, e, some, h.most)) at rest,
+            (omega (arith, c.if-two-first.false, c.requires.from), (omega (arith, c.requires.to, h.most, c.if-two-first.false), trees)),
+          ),
+        ),
+      ),
+    )

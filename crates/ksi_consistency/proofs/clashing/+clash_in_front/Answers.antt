@@ -63,13 +63,25 @@ clash_in_front-requires g t c κs within =
     let some : 0 < c.args.new = omega (arith, h.most, c.if-old-half.true) in
     let part = c.check_part-part.result in
     let old = meet_left_old image c.args.given.now m n c.args.front.now (calendar_tree image c.args.two.now.old.calendar.now first m) (calendar_tree image c.args.two.now.new.calendar.now first n) c.requires.roots
-        c.in-Some.last.1.now c.in-Some.last.0.now c.in-Some.ensures.cases.0 k part (λ e. c.if-old-new.false (omega (arith, e))) is c.check_part-part.ensures (omega (arith, c.if-old-half.true)) in
+    c.in-Some.last.1.now c.in-Some.last.0.now c.in-Some.ensures.cases.0 k part (λ e. c.if-old-new.false (omega (arith, e))) is c.check_part-part.ensures (omega (arith, c.if-old-half.true)) in
     let halves = on_none c.in_ok-clash.field-0 (IsHalves (record { left = part.new; right = c.in-Some.last.0.now }) (calendar_tree image c.args.two.now.new.calendar.now first (split_of n)) (calendar_tree image c.args.two.now.new.calendar.now (first + split_of n) (n - split_of n))) c.in-None-2.is c.in_ok-clash.ensures.none in
     let new : part.new ≡ calendar_tree image c.args.two.now.new.calendar.now first k = halves.left ∙ ap (calendar_tree image c.args.two.now.new.calendar.now first) (sym is) in
-    let count = count_left c.one_split.ensures.split m n k true (omega arith) is (omega (arith, c.if-old-half.true)) (omega (arith, some)) in
-    (omega (arith, h.most, some), (search rules, (omega (arith, c.if-old-half.true), (c.requires.old_part,
-    (left_part (c.args.two.now.new.last + 1) first n k c.requires.new_part (λ e. omega (arith, e, some)) is,
-    (c.requires.from, (c.requires.to, (omega (arith, c.requires.enough, count, c.in-Some.ensures.cases.1), sym c.check_part-part.ensures ∙ (λ i. record { old = old i; new = new i })))))))))
+    let count = count_left c.one_split.ensures.split m n k true (omega arith) is (omega (arith, c.if-old-half.true)) (omega (arith, some)) in (
+      omega (arith, h.most, some),
+      (
+        search rules,
+        (
+          omega (arith, c.if-old-half.true),
+          (
+            c.requires.old_part,
+            (
+              left_part (c.args.two.now.new.last + 1) first n k c.requires.new_part (λ e. omega (arith, e, some)) is,
+              (c.requires.from, (c.requires.to, (omega (arith, c.requires.enough, count, c.in-Some.ensures.cases.1), sym c.check_part-part.ensures ∙ (λ i. record { old = old i; new = new i })))),
+            ),
+          ),
+        ),
+      ),
+    )
 
 -- ---- they go on in the right part
 
@@ -153,7 +165,19 @@ clash_in_front-requires-else-two-first g t c κs within =
     let old : part.old ≡ calendar_tree image olds (first + half) (c.args.old - half + 1) = one.right ∙ sym (ap (λ (y : ℕ). calendar_tree image olds y (c.args.old - half + 1)) at_old ∙ ap (calendar_tree image olds (first + split_of m)) rest_old) in
     let new : part.new ≡ calendar_tree image news (first + half) (c.args.new - half + 1) = two.right ∙ sym (ap (λ (y : ℕ). calendar_tree image news y (c.args.new - half + 1)) at_new ∙ ap (calendar_tree image news (first + split_of n)) rest_new) in
     let count = count_down_right c.one_split.ensures.split m n half (c.args.old - half + 1) (c.args.new - half + 1) true h.value (omega (arith, c.if-old-half.false)) (omega (arith, c.requires.within, c.if-old-new.false)) (omega (arith, c.if-old-half.false)) (omega (arith, h.most)) in
-    let less = given_fewer (c.args.old - half + 1) (c.args.new - half + 1) in
-    (omega (arith, h.most, some), (search rules, (omega (arith, c.requires.within), (right_part (c.args.two.now.old.last + 1) first m (first + half) (c.args.old - half + 1) c.requires.old_part (λ e. omega (arith, e, some, c.if-old-half.false)) at_old rest_old,
-    (right_part (c.args.two.now.new.last + 1) first n (first + half) (c.args.new - half + 1) c.requires.new_part (λ e. omega (arith, e, some, h.most)) at_new rest_new,
-    (omega (arith, c.if-two-first.false, c.requires.from), (omega (arith, c.requires.to, c.if-two-first.false, c.if-old-half.false), (omega (arith, c.requires.enough, count, less, c.in-Some.ensures.cases.1), sym c.check_part-part-else-old-half.ensures ∙ (λ i. record { old = old i; new = new i })))))))))
+    let less = given_fewer (c.args.old - half + 1) (c.args.new - half + 1) in (
+      omega (arith, h.most, some),
+      (
+        search rules,
+        (
+          omega (arith, c.requires.within),
+          (
+            right_part (c.args.two.now.old.last + 1) first m (first + half) (c.args.old - half + 1) c.requires.old_part (λ e. omega (arith, e, some, c.if-old-half.false)) at_old rest_old,
+            (
+              right_part (c.args.two.now.new.last + 1) first n (first + half) (c.args.new - half + 1) c.requires.new_part (λ e. omega (arith, e, some, h.most)) at_new rest_new,
+              (omega (arith, c.if-two-first.false, c.requires.from), (omega (arith, c.requires.to, c.if-two-first.false, c.if-old-half.false), (omega (arith, c.requires.enough, count, less, c.in-Some.ensures.cases.1), sym c.check_part-part-else-old-half.ensures ∙ (λ i. record { old = old i; new = new i })))),
+            ),
+          ),
+        ),
+      ),
+    )
