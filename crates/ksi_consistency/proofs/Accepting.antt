@@ -1,5 +1,5 @@
 -- A front that is made is accepted, and what it is to be accepted.
-use Rattle.std.proofs.Common.{◌≡◌, ◌≢◌, ℕ, zero, suc, ◌+◌, ◌-◌, ◌*◌, ◌<◌, ◌≤◌, List, [], ◌∷◌, ◌++◌, length, reverse, Bool, true, false, IsTrue, if◌then◌else◌, eqb, inl, inr, ◌⊎◌, refl, sym, ap, subst, ◌∙◌, arith, length-append, Result, Ok, Err}
+use Rattle.std.proofs.Common.{◌≡◌, ℕ, zero, suc, ◌+◌, ◌-◌, ◌<◌, ◌≤◌, List, [], ◌∷◌, ◌++◌, length, reverse, Bool, true, false, IsTrue, if◌then◌else◌, inl, inr, ◌⊎◌, refl, sym, ap, ◌∙◌, arith, length-append, Ok, Err}
 use Rattle.std.specs.Str.{bytes_eq}
 use Rattle.std.proofs.lemmas.Slice.Eq.{bytes_eq-Decides}
 use Rattle.std.proofs.lemmas.Bool.Decides.{not_from_Decides}
@@ -10,9 +10,8 @@ use Rattle.ksi_calendar.specs.Calendar.{Seconds, calendar_leaf, calendar_tree, c
 use Rattle.ksi_consistency.specs.Front.{front_within, front_of, count_within, count_of, calendar_front, front_count}
 use Rattle.ksi_consistency.specs.Checked.{roots_from, joined_left, joined_right, front_roots, roots_checked, front_checked}
 use Rattle.ksi_consistency.specs.declared.roots.Roots.{Roots}
-use Rattle.ksi_consistency.specs.declared.refusal.FrontRefusal.{FrontRefusal}
 use Rattle.ksi_consistency.specs.declared.refusal.FrontRefusal.TheVariants.{Length, OldDiffers, NewDiffers}
-use Rattle.ksi_consistency.proofs.Cases.{lt_cases, eq_cases, Splits, split_parts, HasParts}
+use Rattle.ksi_consistency.proofs.Cases.{lt_cases, eq_cases, Splits, split_parts}
 use Rattle.ksi_consistency.proofs.Leading.{last_first, roots_all, roots_end, roots_left, roots_right}
 
 -- a front has as many imprints as are needed

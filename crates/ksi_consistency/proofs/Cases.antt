@@ -1,5 +1,5 @@
 -- Tests of numbers and what they mean, and where a number is split.
-use Rattle.std.proofs.Common.{◌≡◌, ◌≢◌, ℕ, suc, ◌+◌, ◌*◌, ◌^◌, ◌<◌, ◌≤◌, ◌↔◌, Bool, true, false, ltb, eqb, inl, inr, ◌⊎◌, refl, sym, arith}
+use Rattle.std.proofs.Common.{◌≡◌, ◌≢◌, ℕ, suc, ◌*◌, ◌^◌, ◌<◌, ◌≤◌, ◌↔◌, Bool, true, false, ltb, eqb, inl, inr, ◌⊎◌, refl, arith}
 use Rattle.std.proofs.lemmas.Bool.{ltb-false, ltb-true, eqb-true, eqb-false}
 use Rattle.std.specs.Int.{IsPowerOfTwo}
 use Rattle.std.proofs.Math.Nat.{pow-le-pow_right}

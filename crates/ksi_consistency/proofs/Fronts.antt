@@ -1,10 +1,10 @@
 -- Fronts, case by case.
-use Rattle.std.proofs.Common.{◌≡◌, ◌≢◌, ℕ, zero, suc, ◌+◌, ◌-◌, ◌<◌, ◌≤◌, List, [], ◌∷◌, ◌++◌, length, Bool, true, false, inl, inr, refl, sym, ap, ◌∙◌, arith, length-append}
+use Rattle.std.proofs.Common.{◌≡◌, ℕ, zero, suc, ◌+◌, ◌-◌, ◌<◌, ◌≤◌, List, [], ◌∷◌, ◌++◌, Bool, false, inl, inr, refl, sym, ap, ◌∙◌, arith}
 use Rattle.std.specs.Prelude.{if◌then◌else◌}
 use Rattle.ksi_split.specs.Powers.{split_of}
 use Rattle.ksi_split.specs.Trees.{tree}
 use Rattle.ksi_consistency.specs.Front.{front_within, front_of, count_within, count_of}
-use Rattle.ksi_consistency.proofs.Cases.{lt_cases, eq_cases, Splits, split_parts, HasParts}
+use Rattle.ksi_consistency.proofs.Cases.{lt_cases, eq_cases, Splits, split_parts}
 
 module _ (splits : Splits) {A : Type 0} (join : A → A → A) (leaf : ℕ → A) where
   -- it does not matter how many leaves there may be

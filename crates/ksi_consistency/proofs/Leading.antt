@@ -1,10 +1,9 @@
 -- Both roots that a front leads to, case by case.
-use Rattle.std.proofs.Common.{◌≡◌, ◌≢◌, ℕ, zero, suc, ◌+◌, ◌-◌, ◌<◌, ◌≤◌, List, [], ◌∷◌, ◌++◌, length, reverse, Bool, true, false, inl, inr, refl, sym, ap, ◌∙◌, arith, length-append}
+use Rattle.std.proofs.Common.{◌≡◌, ◌≢◌, ℕ, ◌-◌, ◌<◌, ◌≤◌, List, [], ◌∷◌, ◌++◌, length, reverse, inl, inr, refl, sym, ap, ◌∙◌, arith}
 use Rattle.std.proofs.lemmas.List.{reverse-append}
 use Rattle.ksi_split.specs.Powers.{split_of}
-use Rattle.ksi_consistency.specs.declared.roots.Roots.{Roots}
 use Rattle.ksi_consistency.specs.Checked.{roots_from, joined_left, joined_right}
-use Rattle.ksi_consistency.proofs.Cases.{lt_cases, eq_cases, Splits, split_parts, HasParts}
+use Rattle.ksi_consistency.proofs.Cases.{lt_cases, eq_cases}
 
 -- the last one comes first
 pub last_first : (front inner : List (List ℕ)) (x : List ℕ) → front ≡ inner ++ x ∷ [] → reverse front ≡ x ∷ reverse inner

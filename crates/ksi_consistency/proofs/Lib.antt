@@ -6,3 +6,5 @@ pub mod Accepting
 pub mod Strings
 pub mod Meeting
 pub mod Leafing
+pub mod Files
+pub mod Again

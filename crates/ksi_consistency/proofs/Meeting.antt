@@ -1,12 +1,12 @@
 -- Where both roots that a front leads to are given, what its last imprint is joined with.
-use Rattle.std.proofs.Common.{◌≡◌, ◌≢◌, ℕ, zero, suc, ◌+◌, ◌-◌, ◌<◌, ◌≤◌, List, [], ◌∷◌, ◌++◌, length, reverse, Bool, true, false, Option, Some, None, inl, inr, refl, sym, ap, ◌∙◌, arith}
+use Rattle.std.proofs.Common.{◌≡◌, ◌≢◌, ℕ, zero, suc, ◌-◌, ◌<◌, ◌≤◌, List, [], ◌∷◌, ◌++◌, length, reverse, true, false, Option, Some, None, inl, inr, refl, sym, ap, ◌∙◌, arith}
 use Rattle.std.specs.Prelude.{IfNone}
-use Rattle.ksi_split.specs.Powers.{IsSplit, split_of}
+use Rattle.ksi_split.specs.Powers.{split_of}
 use Rattle.ksi_calchain.specs.Climbing.{calendar_join}
 use Rattle.ksi_consistency.specs.declared.roots.Roots.{Roots}
 use Rattle.ksi_consistency.specs.Front.{count_within, count_of}
 use Rattle.ksi_consistency.specs.Checked.{roots_from, joined_left, joined_right}
-use Rattle.ksi_consistency.proofs.Cases.{lt_cases, eq_cases, Splits, split_parts, HasParts}
+use Rattle.ksi_consistency.proofs.Cases.{lt_cases, eq_cases, Splits}
 use Rattle.ksi_consistency.proofs.Accepting.{split_front}
 use Rattle.ksi_consistency.proofs.Fronts.{count_left, count_right}
 use Rattle.ksi_consistency.proofs.Leading.{last_first, roots_none, roots_all, roots_left, roots_down_right}

@@ -1,15 +1,15 @@
 -- Going down to a part of a tree.
-use Rattle.std.proofs.Common.{◌≡◌, ◌≢◌, ℕ, zero, suc, ◌+◌, ◌-◌, ◌*◌, ◌^◌, ◌<◌, ◌≤◌, ◌↔◌, List, [], ◌∷◌, ◌++◌, Ok, Err, Bool, true, false, eqb, inl, inr, refl, sym, ap, subst, ◌∙◌, arith, add-one, take, length, set, Some, IsTrue}
+use Rattle.std.proofs.Common.{◌≡◌, ◌≢◌, ℕ, zero, suc, ◌+◌, ◌-◌, ◌*◌, ◌^◌, ◌<◌, ◌≤◌, List, [], ◌∷◌, ◌++◌, Ok, Err, inl, inr, refl, sym, ap, subst, ◌∙◌, arith, take, length, set, Some, IsTrue}
 use Rattle.std.specs.Int.{IsPowerOfTwo}
 use Rattle.std.proofs.lemmas.List.{take_more_set}
 use Rattle.std.proofs.Math.ListN.{length-set}
-use Rattle.ksi_split.specs.Powers.{IsSplit, split_of}
+use Rattle.ksi_split.specs.Powers.{split_of}
 use Rattle.ksi_split.specs.Parts.{Part, half_of, part_at}
 use Rattle.ksi_split.specs.declared.side.Side.{Side}
 use Rattle.ksi_split.specs.declared.side.Side.TheVariants.{Left, Right}
 use Rattle.ksi_calendar.specs.Calendar.{Seconds, calendar_tree, is_covered, node_of}
 use Rattle.ksi_consistency.specs.Parts.{IsPart}
-use Rattle.ksi_consistency.proofs.Cases.{eq_cases, lt_cases, power_below, Splits, split_parts, HasParts}
+use Rattle.ksi_consistency.proofs.Cases.{eq_cases, lt_cases, power_below, Splits, split_parts}
 
 -- sides lead from a part to one in it
 abbrev pub Leads : (part inner : Part) → Type 0

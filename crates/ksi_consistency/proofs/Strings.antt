@@ -1,8 +1,6 @@
 -- Strings of joins.
-use Rattle.std.proofs.Common.{◌≡◌, ◌≢◌, ℕ, List, [], ◌∷◌, ◌++◌, take, drop, length, refl, sym, ap, ◌∙◌, arith, append_assoc, length-append}
+use Rattle.std.proofs.Common.{◌≡◌, ℕ, List, [], ◌∷◌, ◌++◌, take, drop, length, sym, ap, ◌∙◌, arith, length-append}
 use Rattle.std.proofs.Math.Seq.{take-append_seam, drop-append_seam}
-use Rattle.ksi_imprint.specs.Imprints.{IsClash}
-use Rattle.ksi_imprint.specs.declared.clash.Clash.{Clash}
 use Rattle.ksi_consistency.specs.declared.halves.Halves.{Halves}
 use Rattle.ksi_consistency.specs.Compared.{halves_text}
 

@@ -1,9 +1,9 @@
 -- What comparing two calendars says.
-use Rattle.std.specs.Prelude.{◌≡◌, ◌≢◌, ℕ, ◌+◌, ◌-◌, ◌≤◌, List, length, Ok, Err}
+use Rattle.std.specs.Prelude.{◌≡◌, ◌≢◌, ℕ, ◌≤◌, List, length, Ok, Err}
 use Rattle.ksi_imprint.specs.Imprints.{IsClash}
 use Rattle.ksi_imprint.specs.declared.clash.Clash.{Clash}
 use Rattle.ksi_calchain.specs.Climbing.{calendar_join_text}
-use Rattle.ksi_calendar.specs.Calendar.{Seconds, calendar_leaf, calendar_root, calendar_tree}
+use Rattle.ksi_calendar.specs.Calendar.{Seconds, calendar_leaf, calendar_root}
 use Rattle.ksi_consistency.specs.Checked.{front_checked}
 use Rattle.ksi_consistency.specs.declared.compared.Compared.{Compared}
 use Rattle.ksi_consistency.specs.declared.compared.Compared.TheVariants as answers

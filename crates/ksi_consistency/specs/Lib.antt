@@ -2,3 +2,6 @@ pub mod Parts
 pub mod Front
 pub mod Checked
 pub mod Compared
+pub mod Elements
+pub mod File
+pub mod Written

@@ -7,9 +7,9 @@ ghost use Rattle.ksi_consistency.specs.Checked.{roots_from};
 ghost use Rattle.ksi_consistency.specs.Compared.{halves_text, IsHalves, IsNodeClash};
 
 use crate::differing::Differing;
-use crate::front::check_part;
 use crate::halves::{Halves, clash_of};
 use crate::kept::CalendarTo;
+use crate::proving::check_part;
 use ksi_calendar::laws::one_calendar;
 use ksi_imprint::{Clash, Compress, Imprint, NoMemory};
 use ksi_split::high_bit;

@@ -9,8 +9,8 @@ ghost use Rattle.ksi_consistency.specs.declared.compared.Compared.TheVariants as
 use crate::clashing::clash_in_front;
 use crate::compared::Compared;
 use crate::differing::Differing;
-use crate::front::check;
 use crate::kept::CalendarTo;
+use crate::proving::check;
 use ksi_calendar::Calendar;
 use ksi_imprint::{Compress, Imprint, NoMemory};
 use std::alloc::Global;

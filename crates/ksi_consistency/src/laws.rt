@@ -1,13 +1,21 @@
 //! What holds of fronts, for the layers above to cite. None of these functions does anything.
-ghost use Rattle.std.specs.Prelude.{◌≡◌, ◌<◌, ◌≤◌, ◌+◌, ◌-◌, [], ◌∷◌, ◌++◌, ℕ, Bool, true, false, List, length, Ok};
+ghost use Rattle.std.specs.Prelude.{◌≡◌, ◌<◌, ◌≤◌, ◌+◌, ◌-◌, ◌⊎◌, [], ◌∷◌, ◌++◌, ℕ, Bool, true, false, List, length, Ok};
 ghost use Rattle.ksi_split.specs.Powers.{IsSplit};
 ghost use Rattle.ksi_split.specs.Trees.{tree};
 ghost use Rattle.ksi_calendar.specs.Calendar.{Seconds, calendar_leaf, calendar_root};
 ghost use Rattle.ksi_consistency.specs.Front.{front_of, count_of, calendar_front, front_count};
 ghost use Rattle.ksi_consistency.specs.Checked.{front_checked};
+ghost use Rattle.ksi_consistency.specs.declared.fault.FrontFault.{FrontFault};
+ghost use Rattle.ksi_consistency.specs.Elements.{Contents, IsFront};
+ghost use Rattle.ksi_consistency.specs.File.{IsFrontFile, IsFrontFault};
+ghost use Rattle.ksi_consistency.specs.Written.{front_text};
 
+use crate::fault::FrontFault;
+use crate::loading::Loading;
 use ksi_calendar::laws::one_calendar;
+use ksi_order::whole_or_fault;
 use ksi_split::laws::one_split;
+use ksi_tlv::{numeral_is_read, written_is_read};
 
 /// The front of the first leaves in all of them: where these are all leaves it is nothing if the root is given, and else
 /// their tree. Where they are in the left part, it is their front there and then the right part; where they fill the left
@@ -36,4 +44,26 @@ pub fn fronts_are_accepted()
 {
     one_split();
     one_calendar();
+}
+
+/// Bytes are the file of a front or have a first fault, and not both; and they are the file of one front and have one first
+/// fault.
+pub fn front_or_fault()
+    ensures one { (bytes : List ℕ) → ((front : Contents) × IsFrontFile bytes front) ⊎ ((fault : FrontFault) × IsFrontFault bytes fault) }
+    ensures not_both { (bytes : List ℕ) (front : Contents) (fault : FrontFault) →
+        IsFrontFile bytes front → IsFrontFault bytes fault → ⊥ }
+    ensures one_front { (bytes : List ℕ) (some other : Contents) →
+        IsFrontFile bytes some → IsFrontFile bytes other → some ≡ other }
+    ensures one_fault { (bytes : List ℕ) (fault other : FrontFault) →
+        IsFrontFault bytes fault → IsFrontFault bytes other → fault ≡ other }
+{
+    whole_or_fault::<Loading, FrontFault>();
+}
+
+/// The text of a front is a file of that front.
+pub fn written_is_front()
+    ensures { (front : Contents) → IsFront front → IsFrontFile (front_text front) front }
+{
+    written_is_read();
+    numeral_is_read();
 }

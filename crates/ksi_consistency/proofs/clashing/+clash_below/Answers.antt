@@ -1,4 +1,4 @@
-use Rattle.std.proofs.Common.{◌≡◌, ◌+◌, ◌-◌, ℕ, ◌<◌, List, ap, sym, ◌∙◌, arith, refl, rules}
+use Rattle.std.proofs.Common.{◌≡◌, ◌+◌, ◌-◌, ℕ, ◌<◌, ap, sym, ◌∙◌, arith, rules}
 use Rattle.ksi_split.specs.Powers.{split_of}
 use Rattle.ksi_calendar.specs.Calendar.{calendar_tree}
 use Rattle.ksi_consistency.specs.declared.halves.Halves.{Halves}

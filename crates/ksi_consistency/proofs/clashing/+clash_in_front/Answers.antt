@@ -1,10 +1,8 @@
-use Rattle.std.proofs.Common.{◌≡◌, ◌≢◌, ◌+◌, ◌-◌, ◌<◌, ◌≤◌, ℕ, List, true, false, length, ap, sym, subst, ◌∙◌, arith, refl, rules}
+use Rattle.std.proofs.Common.{◌≡◌, ◌+◌, ◌-◌, ◌<◌, ℕ, true, ap, sym, subst, ◌∙◌, arith, rules}
 use Rattle.ksi_split.specs.Powers.{split_of}
 use Rattle.ksi_calendar.specs.Calendar.{calendar_tree}
 use Rattle.ksi_consistency.specs.Parts.{IsPart}
-use Rattle.ksi_consistency.specs.Front.{count_of}
 use Rattle.ksi_consistency.specs.Compared.{IsHalves}
-use Rattle.ksi_consistency.specs.declared.roots.Roots.{Roots}
 use Rattle.ksi_consistency.proofs.Fronts.{count_left, count_down_right}
 use Rattle.ksi_consistency.proofs.Meeting.{meet_none, meet_all, meet_left_old, meet_left_new, meet_right_old, meet_right_new, all_of, given_fewer, split_same, on_none}
 use Rattle.ksi_consistency.proofs.Parts.{left_part, right_part}

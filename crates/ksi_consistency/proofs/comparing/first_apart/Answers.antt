@@ -1,5 +1,4 @@
-use Rattle.std.proofs.Common.{◌≡◌, ◌<◌, ◌≤◌, ℕ, ◌∙◌, sym, arith}
-use Rattle.ksi_calendar.specs.Calendar.{calendar_leaf}
+use Rattle.std.proofs.Common.{◌∙◌, sym, arith}
 use Rattle.ksi_consistency.proofs.Leafing.{agree_to, not_other}
 use Rattle.ksi_consistency.proofs.comparing.first_apart.Goals as goal
 

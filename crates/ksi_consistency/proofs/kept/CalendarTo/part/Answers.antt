@@ -1,7 +1,6 @@
-use Rattle.std.proofs.Common.{◌+◌, ◌<◌, ◌≤◌, [], take, length, refl, arith}
-use Rattle.std.proofs.Math.Pow.{pow_pos}
+use Rattle.std.proofs.Common.{◌+◌, ◌<◌, ◌≤◌, take, refl, arith}
 use Rattle.ksi_split.specs.Parts.{Part}
-use Rattle.ksi_consistency.proofs.Parts.{Come, IsHigh, before, left_come, right_come, come_to, found}
+use Rattle.ksi_consistency.proofs.Parts.{IsHigh, before, left_come, right_come, come_to, found}
 use Rattle.ksi_consistency.proofs.kept.CalendarTo.part.Goals as goal
 use Rattle.ksi_consistency.proofs.kept.CalendarTo.part.Goals.{then-first-at, else-first-at}
 

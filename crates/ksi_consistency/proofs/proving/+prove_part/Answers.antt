@@ -1,11 +1,10 @@
 use Rattle.std.proofs.Common.{◌≡◌, ◌+◌, ◌-◌, ◌++◌, [], ◌∙◌, ℕ, List, ◌∷◌, ◌<◌, false, sym, ap, arith, refl, append_assoc, append-nil, rules}
-use Rattle.ksi_split.specs.Trees.{tree}
 use Rattle.ksi_calchain.specs.Climbing.{calendar_join}
 use Rattle.ksi_calendar.specs.Calendar.{calendar_leaf}
 use Rattle.ksi_consistency.specs.Front.{front_of}
 use Rattle.ksi_consistency.proofs.Fronts.{front_all, front_down_left, front_down_right}
 use Rattle.ksi_consistency.proofs.Parts.{left_part, right_part, inside}
-use Rattle.ksi_consistency.proofs.front.+prove_part.Goals as goal
+use Rattle.ksi_consistency.proofs.proving.+prove_part.Goals as goal
 
 -- one imprint more
 one_more : (old middle new inner all : List (List ℕ)) (x : List ℕ) → middle ≡ old ++ inner → new ≡ middle ++ x ∷ [] → all ≡ inner ++ x ∷ [] → new ≡ old ++ all

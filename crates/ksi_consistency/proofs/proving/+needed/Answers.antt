@@ -1,8 +1,7 @@
-use Rattle.std.proofs.Common.{◌≡◌, ◌+◌, ◌-◌, ◌∙◌, ℕ, sym, ap, arith, refl}
-use Rattle.ksi_consistency.specs.Front.{count_of}
+use Rattle.std.proofs.Common.{◌+◌, ◌-◌, ◌∙◌, ℕ, sym, ap, arith, refl}
 use Rattle.ksi_consistency.proofs.Cases.{power_below}
 use Rattle.ksi_consistency.proofs.Fronts.{count_all, count_left, count_down_right}
-use Rattle.ksi_consistency.proofs.front.+needed.Goals as goal
+use Rattle.ksi_consistency.proofs.proving.+needed.Goals as goal
 
 pub returns-then-given-clause-count : goal.returns-then-given-clause-count
 returns-then-given-clause-count t c = sym (count_all c.one_split.ensures.split (c.args.old + 1) (c.args.new + 1) c.args.given (omega arith) (omega (arith, c.if-old-new.true)) ∙ rw c.if-given.true refl)

@@ -1,8 +1,8 @@
-use Rattle.std.proofs.Common.{◌≡◌, ◌+◌, ◌-◌, ◌∙◌, ℕ, List, ◌∷◌, reverse, sym, ap, arith, refl}
+use Rattle.std.proofs.Common.{◌≡◌, ◌+◌, ◌-◌, ◌∙◌, reverse, sym, ap, arith}
 use Rattle.ksi_consistency.specs.declared.roots.Roots.{Roots}
 use Rattle.ksi_consistency.specs.Checked.{roots_from, joined_left, joined_right}
 use Rattle.ksi_consistency.proofs.Leading.{last_first, roots_none, roots_all, roots_left, roots_down_right}
-use Rattle.ksi_consistency.proofs.front.+check_part.Goals as goal
+use Rattle.ksi_consistency.proofs.proving.+check_part.Goals as goal
 
 pub returns-in-None : goal.returns-in-None
 returns-in-None g t c = sym (roots_none g.C.Compress.image c.args.given.now (c.args.old + 1) (c.args.new + 1) c.args.front.now c.in-None.ensures.cases)
