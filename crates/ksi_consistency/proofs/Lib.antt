@@ -8,3 +8,4 @@ pub mod Meeting
 pub mod Leafing
 pub mod Files
 pub mod Again
+pub mod Read

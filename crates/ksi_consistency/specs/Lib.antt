@@ -5,3 +5,4 @@ pub mod Compared
 pub mod Elements
 pub mod File
 pub mod Written
+pub mod Reading

@@ -1,5 +1,5 @@
 //! What holds of fronts, for the layers above to cite. None of these functions does anything.
-ghost use Rattle.std.specs.Prelude.{◌≡◌, ◌<◌, ◌≤◌, ◌+◌, ◌-◌, ◌⊎◌, [], ◌∷◌, ◌++◌, ℕ, Bool, true, false, List, length, Ok};
+ghost use Rattle.std.specs.Prelude.{◌≡◌, ◌<◌, ◌≤◌, ◌+◌, ◌-◌, ◌⊎◌, ◌↔◌, [], ◌∷◌, ◌++◌, ℕ, Bool, true, false, List, length, Ok, Err};
 ghost use Rattle.ksi_split.specs.Powers.{IsSplit};
 ghost use Rattle.ksi_split.specs.Trees.{tree};
 ghost use Rattle.ksi_calendar.specs.Calendar.{Seconds, calendar_leaf, calendar_root};
@@ -8,12 +8,13 @@ ghost use Rattle.ksi_consistency.specs.Checked.{front_checked};
 ghost use Rattle.ksi_consistency.specs.declared.fault.FrontFault.{FrontFault};
 ghost use Rattle.ksi_consistency.specs.Elements.{Contents, IsFront};
 ghost use Rattle.ksi_consistency.specs.File.{IsFrontFile, IsFrontFault};
+ghost use Rattle.ksi_consistency.specs.Reading.{front_at};
 ghost use Rattle.ksi_consistency.specs.Written.{front_text};
 
 use crate::fault::FrontFault;
 use crate::loading::Loading;
 use ksi_calendar::laws::one_calendar;
-use ksi_order::whole_or_fault;
+use ksi_order::{walked_says, whole_or_fault};
 use ksi_split::laws::one_split;
 use ksi_tlv::{numeral_is_read, written_is_read};
 
@@ -66,4 +67,12 @@ pub fn written_is_front()
 {
     written_is_read();
     numeral_is_read();
+}
+
+/// What `front_at` gives is the front that the bytes are, or their first fault.
+pub fn front_is_read()
+    ensures front { (bytes : List ℕ) (front : Contents) → (front_at bytes ≡ Ok front) ↔ IsFrontFile bytes front }
+    ensures fault { (bytes : List ℕ) (fault : FrontFault) → (front_at bytes ≡ Err fault) ↔ IsFrontFault bytes fault }
+{
+    walked_says::<Loading, FrontFault>();
 }
