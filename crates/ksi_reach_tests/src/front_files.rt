@@ -7,7 +7,8 @@ use std::test::Fail;
 
 /// Row 1's front: of a calendar in itself.
 static SHORT: [u8; 20] = [
-    0x4b, 0x53, 0x49, 0x46, 0x52, 0x4e, 0x54, 0x31, 0x01, 0x04, 0x65, 0x53, 0xf1, 0x00, 0x02, 0x04, 0x65, 0x53, 0xf1, 0x00,
+    0x4b, 0x53, 0x49, 0x46, 0x52, 0x4e, 0x54, 0x31, 0x01, 0x04, 0x65, 0x53, 0xf1, 0x00, 0x02, 0x04,
+    0x65, 0x53, 0xf1, 0x00,
 ];
 
 fn fault(alloc: Global, bytes: &[u8]) -> Option<FrontFault> {
@@ -20,8 +21,17 @@ fn fault(alloc: Global, bytes: &[u8]) -> Option<FrontFault> {
 
 #[test]
 fn written_as_it_is_read(rt: HostRuntime) -> Result<(), Fail> {
-    let alone = Front::new(1_700_000_000, 1_700_000_000, Imprints::from_vec(vec![in rt.alloc()]?));
-    same(&rt, "alone", write_front(rt.alloc(), &alone)?.as_slice(), SHORT.as_slice());
+    let alone = Front::new(
+        1_700_000_000,
+        1_700_000_000,
+        Imprints::from_vec(vec![in rt.alloc()]?),
+    );
+    same(
+        &rt,
+        "alone",
+        write_front(rt.alloc(), &alone)?.as_slice(),
+        SHORT.as_slice(),
+    );
     let list = vec![in rt.alloc(); Imprint::ZERO, Imprint::ZERO]?;
     let front = Front::new(0, 2, Imprints::from_vec(list));
     let text = write_front(rt.alloc(), &front)?;
@@ -53,14 +63,34 @@ fn first_faults(rt: HostRuntime) -> Result<(), Fail> {
         (&[0x02, 0x00], FrontFault::Order(8)),
         (&[0x41, 0x00], FrontFault::Order(10)),
         (&[0x01, 0x00, 0x01, 0x00], FrontFault::Order(10)),
-        (&[0x01, 0x09, 0, 0, 0, 0, 0, 0, 0, 0, 0], FrontFault::Number(8)),
-        (&[0x01, 0x08, 0x80, 0, 0, 0, 0, 0, 0, 0], FrontFault::Number(8)),
-        (&[0x01, 0x01, 0x05, 0x02, 0x01, 0x04], FrontFault::Number(11)),
-        (&[0x01, 0x00, 0x02, 0x00, 0x03, 0x01, 0x01], FrontFault::Imprint(12)),
+        (
+            &[0x01, 0x09, 0, 0, 0, 0, 0, 0, 0, 0, 0],
+            FrontFault::Number(8),
+        ),
+        (
+            &[0x01, 0x08, 0x80, 0, 0, 0, 0, 0, 0, 0],
+            FrontFault::Number(8),
+        ),
+        (
+            &[0x01, 0x01, 0x05, 0x02, 0x01, 0x04],
+            FrontFault::Number(11),
+        ),
+        (
+            &[0x01, 0x00, 0x02, 0x00, 0x03, 0x01, 0x01],
+            FrontFault::Imprint(12),
+        ),
         (&[0x01, 0x00, 0x02, 0x00, 0x5e, 0x00], FrontFault::Order(12)),
-        (&[0x01, 0x00, 0x02, 0x00, 0x03, 0x05, 0x01], FrontFault::Tlv(12)),
+        (
+            &[0x01, 0x00, 0x02, 0x00, 0x03, 0x05, 0x01],
+            FrontFault::Tlv(12),
+        ),
     ];
     faults(&rt, rt.alloc(), &ROWS)?;
-    same(&rt, "magic", fault(rt.alloc(), b"KSIFRNT"), Some(FrontFault::Magic));
+    same(
+        &rt,
+        "magic",
+        fault(rt.alloc(), b"KSIFRNT"),
+        Some(FrontFault::Magic),
+    );
     Ok(())
 }

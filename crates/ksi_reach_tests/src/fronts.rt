@@ -46,16 +46,31 @@ fn made(
     for (x, first) in list.iter().zip(*firsts) {
         same(rt, "imprint", *x, named(*first));
     }
-    same(rt, "check", check::<Tiny>(*p1, *p2, named(*old), named(*new), list), Ok(()));
+    same(
+        rt,
+        "check",
+        check::<Tiny>(*p1, *p2, named(*old), named(*new), list),
+        Ok(()),
+    );
     Ok(())
 }
 
 #[test]
 fn fronts_of_four_seconds(rt: HostRuntime) -> Result<(), Fail> {
     let calendar = calendar_of::<Tiny>(rt.alloc(), &[0x0a, 0x14, 0x1e, 0x28])?;
-    made(&rt, rt.alloc(), &calendar, &(0, 2, 0x0a, 0x3e, &[0x14, 0x1e]))?;
+    made(
+        &rt,
+        rt.alloc(),
+        &calendar,
+        &(0, 2, 0x0a, 0x3e, &[0x14, 0x1e]),
+    )?;
     made(&rt, rt.alloc(), &calendar, &(1, 2, 0x1f, 0x3e, &[0x1e]))?;
-    made(&rt, rt.alloc(), &calendar, &(2, 3, 0x3e, 0x67, &[0x1e, 0x28, 0x1f]))?;
+    made(
+        &rt,
+        rt.alloc(),
+        &calendar,
+        &(2, 3, 0x3e, 0x67, &[0x1e, 0x28, 0x1f]),
+    )?;
     made(&rt, rt.alloc(), &calendar, &(2, 2, 0x3e, 0x3e, &[]))?;
     Ok(())
 }
@@ -76,9 +91,24 @@ fn refusals_in_their_order(rt: HostRuntime) {
         computed: named(0x68),
         given: named(0x67),
     };
-    same(&rt, "F1", check::<Tiny>(0, 2, named(0x0a), named(0x3e), &short), Err(length));
-    same(&rt, "F2", check::<Tiny>(2, 3, named(0x3e), named(0x67), &other), Err(old));
-    same(&rt, "F3", check::<Tiny>(2, 3, named(0x3f), named(0x67), &other), Err(new));
+    same(
+        &rt,
+        "F1",
+        check::<Tiny>(0, 2, named(0x0a), named(0x3e), &short),
+        Err(length),
+    );
+    same(
+        &rt,
+        "F2",
+        check::<Tiny>(2, 3, named(0x3e), named(0x67), &other),
+        Err(old),
+    );
+    same(
+        &rt,
+        "F3",
+        check::<Tiny>(2, 3, named(0x3f), named(0x67), &other),
+        Err(new),
+    );
 }
 
 /// Each front of one calendar is accepted.
@@ -94,7 +124,12 @@ fn all_fronts(
     for p1 in 0..p2 {
         let front = prove(alloc, calendar, p1, p2)?;
         let old = calendar.root_to(p1).unwrap_or(Imprint::ZERO);
-        same(rt, "front", check::<Sha>(p1, p2, old, new, front.as_slice()), Ok(()));
+        same(
+            rt,
+            "front",
+            check::<Sha>(p1, p2, old, new, front.as_slice()),
+            Ok(()),
+        );
     }
     Ok(())
 }
