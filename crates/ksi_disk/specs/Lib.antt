@@ -1,0 +1,4 @@
+pub mod Images
+pub mod Costs
+pub mod Deeds
+pub mod DeedLaws
