@@ -2,10 +2,12 @@
 use Rattle.std.specs.Prelude.{◌≡◌, ◌⊎◌, ℕ, suc, ◌+◌, ◌-◌, ◌≤◌, max, nat_le, Bool, true, false, if◌then◌else◌, List, [], ◌∷◌, ◌++◌, length, take, drop, refl}
 use Rattle.std.proofs.Common.{inl, inr, sym, ◌∙◌, ap, subst, arith, append_assoc, length-append, length-drop, length-take}
 use Rattle.std.proofs.Math.Seq.{drop-append-add}
-use Rattle.std.proofs.lemmas.List.{length-take-le, take_at, drop-drop}
+use Rattle.std.proofs.lemmas.List.{length-replicate, length-take-le, take_at, drop-drop}
 use Rattle.std.proofs.lemmas.Bool.Decides.{nat_tests}
 use Rattle.ksi_disk.specs.Images.{laid_over, Torn}
-use Rattle.ksi_disk.specs.Deeds.{Deed, wrote, synced, reached, content_after, IsImage, IsImageSince}
+use Rattle.ksi_disk.specs.Deeds.{Deed, wrote, synced, reached, content_after, IsImage, IsImageSince, left_of, image_by}
+use Rattle.ksi_disk.specs.declared.fate.Fate.{Fate}
+use Rattle.ksi_disk.specs.declared.fate.Fate.TheVariants.{Lost, Whole, Front, Filled}
 
 pub torn_not : (at n : ℕ) (bytes : List ℕ) → Torn at n bytes bytes
 torn_not at n bytes = record { before = refl; after = refl; no_shorter = omega arith; no_longer = omega arith }
@@ -53,3 +55,16 @@ pub only_now : (start : List ℕ) (deeds : List Deed) (image : List ℕ) → IsI
 only_now start [] image left = left
 only_now start (deed ∷ earlier) image (inl now) = now
 only_now start (deed ∷ earlier) image (inr before) = absurd (omega (arith, before.0))
+
+pub short_left : (fate : Fate) (piece : List ℕ) → length (left_of fate piece) ≤ length piece
+short_left Lost piece = omega arith
+short_left Whole piece = omega arith
+short_left (Front count) piece = omega (arith, length-take count piece)
+short_left (Filled byte) piece = omega (arith, length-replicate (length piece) byte)
+
+-- whatever becomes of the writes, it is an image
+pub image_by_fate : (fate : Fate) (start : List ℕ) (deeds : List Deed) → IsImage start deeds (image_by fate start deeds)
+image_by_fate fate start [] = refl
+image_by_fate fate start (wrote at piece succeeded ∷ earlier) =
+    (image_by fate start earlier, image_by_fate fate start earlier, torn_reached at (length piece) (image_by fate start earlier) (left_of fate piece) (short_left fate piece))
+image_by_fate fate start (synced ∷ earlier) = refl

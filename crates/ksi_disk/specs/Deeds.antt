@@ -18,12 +18,16 @@ pub data Deed : Type 0 where
 abbrev pub reached : List ℕ → ℕ → List ℕ → List ℕ
 reached bytes at piece = if nat_le at (length bytes) then laid_over bytes at piece else bytes
 
--- What a read gives after these deeds, the newest first, on a disk that was made of bytes. A write that failed is not seen.
+-- what a read gives after a deed more: a write that failed is not seen
+abbrev pub read_after : List ℕ → Deed → List ℕ
+read_after content (wrote at piece true) = reached content at piece
+read_after content (wrote at piece false) = content
+read_after content synced = content
+
+-- what a read gives after these deeds, the newest first, on a disk that was made of bytes
 abbrev pub content_after : List ℕ → List Deed → List ℕ
 content_after start [] = start
-content_after start (wrote at piece true ∷ earlier) = reached (content_after start earlier) at piece
-content_after start (wrote at piece false ∷ earlier) = content_after start earlier
-content_after start (synced ∷ earlier) = content_after start earlier
+content_after start (deed ∷ earlier) = read_after (content_after start earlier) deed
 
 -- What a crash may leave after these deeds: each write since the last sync may be torn, failed or not.
 abbrev pub IsImage : List ℕ → List Deed → List ℕ → Type 0
@@ -36,6 +40,10 @@ abbrev pub IsImageSince : List ℕ → List Deed → ℕ → List ℕ → Type 0
 IsImageSince start [] moment image = IsImage start [] image
 IsImageSince start (deed ∷ earlier) moment image = IsImage start (deed ∷ earlier) image ⊎ ((moment ≤ length earlier) × IsImageSince start earlier moment image)
 
+-- the first so many of the deeds, the newest first
+abbrev pub deeds_at : ℕ → List Deed → List Deed
+deeds_at moment deeds = drop (length deeds - moment) deeds
+
 -- what is left of a piece by this fate
 abbrev pub left_of : Fate → List ℕ → List ℕ
 left_of Lost piece = []
@@ -43,11 +51,15 @@ left_of Whole piece = piece
 left_of (Front count) piece = take count piece
 left_of (Filled byte) piece = replicate (length piece) byte
 
+-- the image after a deed more, where what is written has this fate until it is synced
+abbrev pub left_after : Fate → (content image : List ℕ) → Deed → List ℕ
+left_after fate content image (wrote at piece succeeded) = reached image at (left_of fate piece)
+left_after fate content image synced = content
+
 -- the image in which each write since the last sync has this fate
 abbrev pub image_by : Fate → List ℕ → List Deed → List ℕ
 image_by fate start [] = start
-image_by fate start (wrote at piece succeeded ∷ earlier) = reached (image_by fate start earlier) at (left_of fate piece)
-image_by fate start (synced ∷ earlier) = content_after start earlier
+image_by fate start (deed ∷ earlier) = left_after fate (content_after start earlier) (image_by fate start earlier) deed
 
 -- deeds, and behind them those of marks whose pieces stand one after the other
 abbrev pub deeds_onto : List Deed → List Mark → List ℕ → List Deed

@@ -41,7 +41,7 @@ pub trait Disk {
         ensures no_image { AddsNone (images self.old) (images self.new) }
         ensures time { Elapses (moment self.old) (moment self.new) (images_since self.old) (images_since self.new) (images self.new) }
         ensures counted { DiskCounts (faults self.old) (faults self.new) result }
-        ensures spent { Spends 0 0 (meter self.old) (meter self.new) }
+        ensures unspent { meter self.new ≡ meter self.old }
         ensures sure { Affords 0 0 (meter self.old) → IsOk result };
 
     /// Fills the buffer with the bytes from a place on.
@@ -56,7 +56,7 @@ pub trait Disk {
         ensures no_image { AddsNone (images self.old) (images self.new) }
         ensures time { Elapses (moment self.old) (moment self.new) (images_since self.old) (images_since self.new) (images self.new) }
         ensures counted { DiskCounts (faults self.old) (faults self.new) result }
-        ensures spent { Spends 0 0 (meter self.old) (meter self.new) }
+        ensures unspent { meter self.new ≡ meter self.old }
         ensures sure { Affords 0 0 (meter self.old) → IsOk result };
 
     /// Writes over what is there, and past the end. Until a sync succeeds, a crash may leave any bytes in that range.

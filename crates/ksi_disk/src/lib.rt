@@ -20,8 +20,11 @@ mod fate;
 mod marks;
 mod mem_disk;
 mod overwrite;
+mod replay;
+mod through;
 
 
 pub use disk::{Disk, DiskFailed};
 pub use fate::Fate;
 pub use mem_disk::MemDisk;
+pub use through::write_through;

@@ -2,13 +2,14 @@ ghost use Rattle.std.specs.Prelude.{◌≡◌, ◌≤◌, ◌<◌, ◌+◌, ◌-
 ghost use Rattle.std.specs.Bool.{OnTrue};
 ghost use Rattle.ksi_ports.specs.Outside.{Raises};
 ghost use Rattle.ksi_disk.specs.Costs.{DiskCounts};
-ghost use Rattle.ksi_disk.specs.Deeds.{new_disk, content_of, is_next_listed, after_call, with_deed, wrote, synced, write_fails, after_write, sync_fails, after_sync, image_by, IsImage, IsImageSince, meter_of};
+ghost use Rattle.ksi_disk.specs.Deeds.{new_disk, content_of, is_next_listed, after_call, with_deed, wrote, synced, write_fails, after_write, sync_fails, after_sync, deeds_at, image_by, IsImage, IsImageSince, meter_of};
 ghost use Rattle.ksi_disk.specs.DeedLaws.{content_is_image, counts_now, only_now};
 
 use crate::marks::{Mark, note_sync, note_write};
 use crate::overwrite::overwrite;
-use crate::{Disk, DiskFailed};
-use ksi_imprint::NoMemory;
+use crate::replay::replayed;
+use crate::{Disk, DiskFailed, Fate};
+use ksi_imprint::{Bytes, NoMemory};
 use std::alloc::Global;
 use std::marker::Model;
 
@@ -100,7 +101,8 @@ impl MemDisk {
 
     /// How many bytes, and how many writes and syncs, the disk still takes.
     pub fn left(&self) -> (usize, usize)
-        ensures { result ≡ (self.now.room, self.now.turns) }
+        ensures value { result ≡ (self.now.room, self.now.turns) }
+        ensures within { length (content_of self.now) + self.now.room < 2 ^ 64 }
     {
         (self.room, self.turns)
     }
@@ -111,6 +113,17 @@ impl MemDisk {
         ensures { result ≡ length self.now.deeds }
     {
         self.marks.len()
+    }
+
+    /// What a crash leaves at a moment, where all writes since the last sync before it have this fate.
+    pub fn image(&self, alloc: Global, moment: usize, fate: Fate) -> Result<Bytes, NoMemory>
+        requires { moment ≤ length self.now.deeds }
+        ensures value { IfOk result (λ image. image ≡ image_by fate self.now.start (deeds_at moment self.now.deeds)) }
+        ensures lawful { IfOk result (λ image. IsImage self.now.start (deeds_at moment self.now.deeds) image) }
+    {
+        let (first, _) = self.marks.split_at(moment);
+        let image = replayed(alloc, fate, &self.start, first, &self.pieces)?;
+        Ok(Bytes::from_vec(image))
     }
 
     // Whether the next call is to fail.
