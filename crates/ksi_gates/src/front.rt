@@ -1,0 +1,13 @@
+// What stands at one place of a file of records.
+use ksi_imprint::Bytes;
+
+/// What stands at a gate's place.
+#[derive(Drop)]
+pub(crate) enum Front {
+    /// A closed gate.
+    Closed,
+    /// The end of the file, or an open gate whose record is cut off.
+    Broken,
+    /// The content behind an open gate.
+    Whole(Bytes),
+}

@@ -1,0 +1,36 @@
+//! Records of bytes in a file, each behind a gate, so that a crash at any moment leaves whole records alone.
+//!
+//! The file is a header of a stated length, then records: a gate byte, a length in four bytes, the most significant first, and
+//! the content. Gate 1 is open, any other closed. Behind the last record stands a closed gate. What stands behind the first
+//! closed gate is not looked at, and the next record is written over it.
+//!
+//! The layers above rely on three things. What is read of a file is a function of its bytes: the records up to the first gate
+//! that is not open, and whether that one is closed or the file is broken there. For a crash at any moment of an
+//! [`GateLog::append`], each image opens to the records before it, with the new one or without, and after its Ok each image
+//! has it. `DiskFailed` comes only where the disk's count of faults rose, and then the log is spent: the file is to be
+//! opened again, which is [`settle`], [`read_log`] and [`GateLog::new`].
+//!
+//! ```text
+//! let len = settle(&mut disk)?;
+//! let read = read_log(alloc, &mut disk, 18, len)?;
+//! if let Ending::Closed(gate) = read.ending {
+//!     let mut log = GateLog::new(disk, 18, gate);
+//!     let mut record = Record::with_room(alloc, 3)?;
+//!     record.put(b"abc");
+//!     log.append(record)?;
+//! }
+//! ```
+#![tactic(auto)]
+
+mod ending;
+mod front;
+mod log;
+mod read;
+mod draft;
+mod settling;
+
+pub use ending::Ending;
+pub use log::GateLog;
+pub use read::{LogRead, ReadRefusal};
+pub use draft::Record;
+pub use settling::settle;
