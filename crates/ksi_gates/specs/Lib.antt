@@ -1,3 +1,4 @@
 pub mod Gates
 pub mod Logs
 pub mod Drafts
+pub mod Reads

@@ -1,4 +1,5 @@
 // What stands at one place of a file of records.
+use crate::Ending;
 use ksi_imprint::Bytes;
 
 /// What stands at a gate's place.
@@ -10,4 +11,13 @@ pub(crate) enum Front {
     Broken,
     /// The content behind an open gate.
     Whole(Bytes),
+}
+
+/// A step of the reading.
+#[derive(Clone, Copy)]
+pub(crate) enum Step {
+    /// To the place of the next gate.
+    Next(u64),
+    /// To the end.
+    End(Ending),
 }

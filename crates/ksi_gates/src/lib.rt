@@ -22,15 +22,18 @@
 //! ```
 #![tactic(auto)]
 
+mod draft;
 mod ending;
 mod front;
 mod log;
+mod parts;
 mod read;
-mod draft;
+mod refusal;
 mod settling;
 
+pub use draft::Record;
 pub use ending::Ending;
 pub use log::GateLog;
-pub use read::{LogRead, ReadRefusal};
-pub use draft::Record;
+pub use read::{LogRead, read_log};
+pub use refusal::ReadRefusal;
 pub use settling::settle;
