@@ -6,8 +6,9 @@ use Rattle.std.proofs.lemmas.Nat.{from_be_bytes-to_be_bytes_4}
 use Rattle.std.proofs.lemmas.List.{append-nil, take_at, drop_at, drop_more, length-take-le}
 use Rattle.ksi_disk.specs.Images.{laid_over, Torn}
 use Rattle.ksi_gates.specs.declared.ending.Ending.TheVariants.{Closed}
-use Rattle.ksi_gates.specs.Gates.{record_text, Reading, ends, behind, reading_at, reading_of}
-use Rattle.ksi_gates.specs.Logs.{OpensTo, IsBeforeOrAfter, IsAfter}
+use Rattle.ksi_gates.specs.Gates.{behind_gate, record_text, Reading, ends, behind, reading_at, reading_of}
+use Rattle.ksi_gates.specs.Gates.{staged as staged_file}
+use Rattle.ksi_gates.specs.Logs.{GatesStand, OpensTo, IsBeforeOrAfter, IsAfter}
 use Rattle.ksi_gates.proofs.Readings.{closed_reading_at, read_record_at}
 use Rattle.ksi_gates.proofs.Standing.{Stands}
 
@@ -113,6 +114,14 @@ module _ (from gate : ℕ) (file : List ℕ) (s : Stands from file gate) where
     pub opened_is_after : IsAfter from file content (laid_over (laid_over file (gate + 1) text) gate (1 ∷ []))
     opened_is_after = subst (λ (l : List ℕ). IsAfter from file content l) (sym opened) (opens_after more)
 
+    pub after_gate : (image : List ℕ) → Torn gate 1 (laid_over file (gate + 1) text) image → (take gate image ≡ take gate file) × (take (length text) (drop (gate + 1) image) ≡ text)
+    after_gate image torn =
+        let front_of : take gate file ≡ s.front = ap (λ (l : List ℕ). take gate l) s.is ∙ take_at s.front (s.shut ∷ s.rest) gate s.size in
+        (
+          torn.before ∙ staged_front ∙ sym front_of,
+          ap (λ (l : List ℕ). take (length text) l) (torn.after ∙ staged_back) ∙ take_at text more (length text) refl,
+        )
+
     pub opened_ending : (reading_of from (laid_over (laid_over file (gate + 1) text) gate (1 ∷ []))).ending ≡ Closed next
     opened_ending = ap (λ (l : List ℕ). (reading_of from l).ending) opened ∙ ap (λ (r : Reading). r.ending) (read_after more)
 
@@ -122,3 +131,17 @@ module _ (from gate : ℕ) (file : List ℕ) (s : Stands from file gate) where
         let front_of : take gate file ≡ s.front = ap (λ (l : List ℕ). take gate l) s.is ∙ take_at s.front (s.shut ∷ s.rest) gate s.size in
         let end : gate + 1 + length text ≡ gate + length (1 ∷ text) = omega arith in
         opened ∙ (λ i. sym front_of i ++ 1 ∷ (text ++ drop (end i) file)) ∙ sym (append_assoc (take gate file) (1 ∷ text) (drop (gate + length (1 ∷ text)) file))
+
+    -- the same of the text that is written
+    module _ (written : List ℕ) (same : written ≡ text) where
+      pub torn_either : (image : List ℕ) → Torn (gate + 1) (length written) file image ⊎ Torn gate 1 (staged_file file gate written) image → IsBeforeOrAfter from file content image
+      torn_either image (inl torn) = inl (torn_behind (length written) image torn)
+      torn_either image (inr torn) = torn_gate image (subst (λ (l : List ℕ). Torn gate 1 (staged_file file gate l) image) same torn)
+
+      pub gates_stand : (images : List ℕ → Type 0) → ((image : List ℕ) → images image → Torn (gate + 1) (length written) file image) ⊎ ((image : List ℕ) → images image → Torn gate 1 (staged_file file gate written) image)
+          → GatesStand gate file content images
+      gates_stand images (inl torn) = inl (λ image left. (torn image left).before)
+      gates_stand images (inr torn) = inr (λ image left. after_gate image (subst (λ (l : List ℕ). Torn gate 1 (staged_file file gate l) image) same (torn image left)))
+
+      pub written_twice : laid_over (staged_file file gate written) gate (1 ∷ []) ≡ laid_over (staged_file file gate text) gate (1 ∷ [])
+      written_twice = ap (λ (l : List ℕ). laid_over (staged_file file gate l) gate (1 ∷ [])) same

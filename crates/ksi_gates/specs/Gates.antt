@@ -1,6 +1,7 @@
 -- Records behind gates: how they are spelled, and what stands for them in any bytes.
 use Rattle.std.specs.Int.{w32, from_be_bytes, to_be_bytes}
 use Rattle.std.specs.Prelude.{ℕ, zero, suc, ◌+◌, nat_le, ◌==◌, Bool, if◌then◌else◌, List, [], ◌∷◌, ◌++◌, length, take, drop}
+use Rattle.ksi_disk.specs.Images.{laid_over}
 use Rattle.ksi_gates.specs.declared.ending.Ending.{Ending}
 use Rattle.ksi_gates.specs.declared.ending.Ending.TheVariants.{Closed, Broken}
 use Rattle.ksi_gates.specs.declared.front.Front.{Front}
@@ -9,6 +10,14 @@ use Rattle.ksi_gates.specs.declared.front.Front.TheVariants as front
 -- a record: an open gate, the length of its content in four bytes, its content
 abbrev pub record_text : List ℕ → List ℕ
 record_text content = 1 ∷ to_be_bytes w32 (length content) ++ content
+
+-- a file with a text behind the gate at a place
+abbrev pub staged : List ℕ → ℕ → List ℕ → List ℕ
+staged file gate text = laid_over file (gate + 1) text
+
+-- what stands behind the gate of a record: its length, its content, and the next gate, which is closed
+abbrev pub behind_gate : List ℕ → List ℕ
+behind_gate content = to_be_bytes w32 (length content) ++ content ++ 0 ∷ []
 
 -- records, one after the other
 abbrev pub records_text : List (List ℕ) → List ℕ

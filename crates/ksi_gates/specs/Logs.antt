@@ -1,9 +1,9 @@
 -- A log on a disk, and what a crash may leave of it.
-use Rattle.std.specs.Prelude.{◌≡◌, ◌⊎◌, ℕ, ◌+◌, ◌<◌, ◌^◌, Bool, false, List, [], ◌∷◌, ◌++◌, length, take}
+use Rattle.std.specs.Prelude.{◌≡◌, ◌⊎◌, ℕ, ◌+◌, ◌<◌, ◌^◌, Bool, false, List, [], ◌∷◌, ◌++◌, length, take, drop}
 use Rattle.ksi_disk.specs.Images.{laid_over, Only}
 use Rattle.ksi_gates.specs.declared.ending.Ending.TheVariants.{Closed}
 use Rattle.ksi_gates.specs.declared.log.GateLog.{GateLog}
-use Rattle.ksi_gates.specs.Gates.{record_text, reading_of}
+use Rattle.ksi_gates.specs.Gates.{behind_gate, record_text, reading_of}
 
 -- the log's file is on the disk for good, its records are in front of the standing gate, and no call of the log has failed
 pub record IsSettled {D : Type 0} (content : D → List ℕ) (images : D → List ℕ → Type 0) (log : GateLog D) : Type 0 where
@@ -32,3 +32,11 @@ IsBeforeOrAfter from old content file =
 -- a file opens to the records of another and one more
 abbrev pub IsAfter : ℕ → List ℕ → List ℕ → List ℕ → Type 0
 IsAfter from old content file = OpensTo from (take from old) ((reading_of from old).records ++ content ∷ []) file
+
+-- The gates that an image reaches through open gates alone, while a record is appended behind the standing gate of a file.
+-- Until the gate may be open, it is closed in every image, and all that stands before it is the same. From then on the whole
+-- record and a closed gate stand behind it in every image.
+abbrev pub GatesStand : ℕ → List ℕ → List ℕ → (List ℕ → Type 0) → Type 0
+GatesStand gate file content images =
+    ((image : List ℕ) → images image → take (gate + 1) image ≡ take (gate + 1) file)
+    ⊎ ((image : List ℕ) → images image → (take gate image ≡ take gate file) × (take (length (behind_gate content)) (drop (gate + 1) image) ≡ behind_gate content))

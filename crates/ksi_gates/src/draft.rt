@@ -1,6 +1,6 @@
 ghost use Rattle.std.specs.Int.{w32, to_be_bytes};
 ghost use Rattle.std.specs.Prelude.{◌≡◌, ◌≤◌, ◌<◌, ◌+◌, ◌-◌, ◌^◌, [], ◌∷◌, ◌++◌, length, drop, vec_len, vec_capacity, IfOk};
-ghost use Rattle.ksi_gates.specs.Drafts.{Draft};
+ghost use Rattle.ksi_gates.specs.Gates.{behind_gate};
 
 use ksi_imprint::NoMemory;
 use std::alloc::Global;
@@ -55,7 +55,7 @@ impl Record {
     /// What stands behind the gate of the record: its length, its content, and a closed gate.
     pub(crate) fn into_text(self) -> Vec<u8>
         requires { length self.content < 2 ^ 32 }
-        ensures { result.items ≡ to_be_bytes w32 (length self.content) ++ self.content ++ 0 ∷ [] }
+        ensures { result.items ≡ behind_gate self.content }
     {
         let Record { bytes, .. } = self;
         let mut text = bytes;

@@ -22,6 +22,7 @@
 //! ```
 #![tactic(auto)]
 
+mod appending;
 mod draft;
 mod ending;
 mod front;

@@ -3,12 +3,11 @@ ghost use Rattle.ksi_disk.specs.Images.{laid_over, LeavesOnly, Only};
 ghost use Rattle.ksi_disk.specs.Costs.{Affords, DiskCounts, Spends};
 ghost use Rattle.ksi_gates.specs.declared.ending.Ending.TheVariants.{Closed};
 ghost use Rattle.ksi_gates.specs.Gates.{record_text, reading_of};
-ghost use Rattle.ksi_gates.specs.Logs.{IsAfter, IsBeforeOrAfter, IsSettled};
+ghost use Rattle.ksi_gates.specs.Logs.{GatesStand, IsAfter, IsBeforeOrAfter, IsSettled};
 
 use crate::Record;
-use ksi_disk::{Disk, DiskFailed, write_through};
-
-const OPEN: u8 = 1;
+use crate::appending::write_behind;
+use ksi_disk::{Disk, DiskFailed};
 
 /// A file of records on a disk: its header's length, the place of the closed gate behind its records, and whether a call of it
 /// has failed. Then it is spent: the file is to be opened again.
@@ -38,7 +37,9 @@ impl<D: Disk> GateLog<D> {
         }
     }
 
-    /// Appends a record. At Ok it is acknowledged: from then on each image has it.
+    /// Appends a record, by four calls of the disk: it is written with a closed gate behind the standing gate, synced, and once
+    /// it is on the disk for good the standing gate is opened, and synced. At Ok it is acknowledged: from then on each image
+    /// has it.
     ///
     /// # Errors
     ///
@@ -52,17 +53,22 @@ impl<D: Disk> GateLog<D> {
         ensures from { self.new.from ≡ self.old.from }
         ensures spent { OnErr result (self.new.is_spent ≡ true) }
         ensures any_moment { LeavesOnly D.moment D.images_since self.old.disk self.new.disk (IsBeforeOrAfter self.old.from (D.content self.old.disk) record_.content) }
+        ensures gates { GatesStand self.old.gate (D.content self.old.disk) record_.content (D.images self.new.disk) }
         ensures counted { DiskCounts (D.faults self.old.disk) (D.faults self.new.disk) result }
         ensures costs { Spends (length record_.content + 6) 4 (D.meter self.old.disk) (D.meter self.new.disk) }
         ensures sure { Affords (length record_.content + 6) 4 (D.meter self.old.disk) → IsOk result }
     {
         let text = record_.into_text();
-        self.is_spent = true;
-        write_through(&mut self.disk, self.gate + 1, &text)?;
-        write_through(&mut self.disk, self.gate, &[OPEN])?;
-        self.gate += text.len() as u64;
-        self.is_spent = false;
-        Ok(())
+        match write_behind(&mut self.disk, self.gate, &text) {
+            Ok(()) => {
+                self.gate += text.len() as u64;
+                Ok(())
+            }
+            Err(DiskFailed) => {
+                self.is_spent = true;
+                Err(DiskFailed)
+            }
+        }
     }
 
     /// The disk of the log.
