@@ -36,6 +36,7 @@ torn_reached at n bytes piece short = by_test (nat_le at (length bytes)) (λ hol
   where
     le_of : nat_le at (length bytes) ≡ true → at ≤ length bytes
     le_of holds = grind (arith, nat_tests)
+
     by_test : (b : Bool) → (b ≡ true → at ≤ length bytes) → Torn at n bytes (if b then laid_over bytes at piece else bytes)
     by_test true within = torn_laid at n bytes piece (within refl) short
     by_test false within = torn_not at n bytes

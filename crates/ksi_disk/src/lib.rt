@@ -23,7 +23,6 @@ mod overwrite;
 mod replay;
 mod through;
 
-
 pub use disk::{Disk, DiskFailed};
 pub use fate::Fate;
 pub use mem_disk::MemDisk;

@@ -45,9 +45,9 @@ impl Model for MemDisk {
     } };
 
     ghost invariant = { λ disk. IsKept disk.start.items disk.content.items disk.marks.items disk.pieces.items
-      × (vec_len disk.content + disk.room ≤ vec_capacity disk.content)
-      × (vec_len disk.pieces + disk.room ≤ vec_capacity disk.pieces)
-      × (vec_len disk.marks + disk.turns ≤ vec_capacity disk.marks) };
+        × (vec_len disk.content + disk.room ≤ vec_capacity disk.content)
+        × (vec_len disk.pieces + disk.room ≤ vec_capacity disk.pieces)
+        × (vec_len disk.marks + disk.turns ≤ vec_capacity disk.marks) };
 }
 
 impl MemDisk {

@@ -14,7 +14,11 @@ pub(crate) fn overwrite(bytes: &mut Vec<u8>, at: usize, piece: &[u8])
     ensures capacity { vec_capacity bytes.old ≤ vec_capacity bytes.new }
 {
     let behind = bytes.len() - at;
-    let inside = if piece.len() < behind { piece.len() } else { behind };
+    let inside = if piece.len() < behind {
+        piece.len()
+    } else {
+        behind
+    };
     let (over, past) = piece.split_at(inside);
     bytes[at..at + inside].copy_from_slice(over);
     append(bytes, past);

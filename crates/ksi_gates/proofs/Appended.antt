@@ -116,8 +116,7 @@ module _ (from gate : ℕ) (file : List ℕ) (s : Stands from file gate) where
 
     pub after_gate : (image : List ℕ) → Torn gate 1 (laid_over file (gate + 1) text) image → (take gate image ≡ take gate file) × (take (length text) (drop (gate + 1) image) ≡ text)
     after_gate image torn =
-        let front_of : take gate file ≡ s.front = ap (λ (l : List ℕ). take gate l) s.is ∙ take_at s.front (s.shut ∷ s.rest) gate s.size in
-        (
+        let front_of : take gate file ≡ s.front = ap (λ (l : List ℕ). take gate l) s.is ∙ take_at s.front (s.shut ∷ s.rest) gate s.size in (
           torn.before ∙ staged_front ∙ sym front_of,
           ap (λ (l : List ℕ). take (length text) l) (torn.after ∙ staged_back) ∙ take_at text more (length text) refl,
         )

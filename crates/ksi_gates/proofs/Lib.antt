@@ -2,3 +2,4 @@ pub mod Readings
 pub mod Standing
 pub mod Appended
 pub mod Steps
+pub mod Spelled

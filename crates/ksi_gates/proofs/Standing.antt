@@ -62,10 +62,10 @@ module _ (place : ℕ) (rest : List ℕ) (gate : ℕ) (within : 4 + stated rest 
         size = omega (arith, s.size, length-append head s.front, head_size, shift);
         closed = s.closed;
         goes = λ tail.
-        ap (λ (l : List ℕ). reading_at place (1 ∷ l)) (append_assoc head s.front tail)
-        ∙ read_record_at head (s.front ++ tail) count head_size head_states place
-        ∙ (λ i. behind (head_content i ∷ []) (reading_at (sym shift i) (s.front ++ tail)))
-        ∙ ap (λ (r : Reading). behind (content ∷ []) r) (s.goes tail);
+            ap (λ (l : List ℕ). reading_at place (1 ∷ l)) (append_assoc head s.front tail)
+            ∙ read_record_at head (s.front ++ tail) count head_size head_states place
+            ∙ (λ i. behind (head_content i ∷ []) (reading_at (sym shift i) (s.front ++ tail)))
+            ∙ ap (λ (r : Reading). behind (content ∷ []) r) (s.goes tail);
       }
 
 whole_within : (rest : List ℕ) → is_whole rest ≡ true → 4 + stated rest ≤ length rest

@@ -26,6 +26,7 @@ mod appending;
 mod draft;
 mod ending;
 mod front;
+pub mod laws;
 mod log;
 mod parts;
 mod read;

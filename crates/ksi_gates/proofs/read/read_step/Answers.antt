@@ -26,8 +26,7 @@ returns-in_ok-keep-in-Whole-clause-step g c =
     let content = c.in-Whole.content in
     let is = sym c.in-Whole.is ∙ c.in_ok-read_front.ensures.front in
     let size : length content ≡ length c.as_slice.result.now = sym (ap length c.as_slice.ensures) in
-    let within = whole_size (drop place file) content is in
-    (
+    let within = whole_size (drop place file) content is in (
       c.in_ok-read_front.ensures.stays,
       (
         content,

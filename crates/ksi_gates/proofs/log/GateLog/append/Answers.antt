@@ -23,8 +23,7 @@ returns-in-Ok-clause-acknowledged g c =
     let text_is = c.deref.ensures.value ∙ c.into_text-text.ensures in
     let opened = c.in-Ok.ensures.written ∙ written_twice self.from self.gate file standing content c.requires.size c.deref.result.now text_is in
     let size : c.len.result ≡ 5 + length content = omega (arith, c.len.ensures, ap length c.into_text-text.ensures, length-append content (0 ∷ [])) in
-    let first : self.gate + 1 + length c.deref.result.now < 2 ^ 64 = c.in-Ok.ensures.within in
-    (
+    let first : self.gate + 1 + length c.deref.result.now < 2 ^ 64 = c.in-Ok.ensures.within in (
       record {
         durable = c.in-Ok.ensures.durable;
         standing = ap (λ (l : List ℕ). (reading_of self.from l).ending) opened ∙ opened_ending self.from self.gate file standing content c.requires.size ∙ ap (λ (k : ℕ). Closed (self.gate + k)) (sym size);
