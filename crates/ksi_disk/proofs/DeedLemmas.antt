@@ -1,6 +1,6 @@
 -- What one mark more means.
 use Rattle.std.proofs.Common.{◌≡◌, ℕ, suc, ◌+◌, ◌-◌, ◌≤◌, ◌<◌, List, [], ◌∷◌, ◌++◌, length, take, drop, get_or, refl, sym, ◌∙◌, ap, arith, length-append, length-drop}
-use Rattle.std.proofs.lemmas.List.{drop-drop, take-append-drop, take-append-le, drop-append-le, take_all, take_at, drop_at, take_more}
+use Rattle.std.proofs.lemmas.List.{drop-drop, take-append-drop, take-append-le, drop-append-le, take_all, drop_at, take_more}
 use Rattle.ksi_disk.specs.declared.marks.Mark.{Mark}
 use Rattle.ksi_disk.specs.declared.marks.Mark.TheVariants.{Wrote, Synced}
 use Rattle.ksi_disk.specs.Deeds.{Deed, wrote, synced, deeds_onto, deeds_at, deed_of, pieces_length}

@@ -1,11 +1,11 @@
 -- What the trait asks of a sync, of a disk in memory.
 use Rattle.std.specs.List.{list_any}
-use Rattle.std.proofs.Common.{◌≡◌, ◌⊎◌, inl, inr, ℕ, ◌+◌, ◌-◌, ◌≤◌, Bool, true, false, ◌||◌, ◌==◌, if◌then◌else◌, List, [], ◌∷◌, length, Option, Result, Ok, Err, is_err, IsOk, OnOk, refl, sym, subst, arith}
+use Rattle.std.proofs.Common.{◌≡◌, ◌⊎◌, inl, inr, ℕ, ◌+◌, ◌-◌, ◌≤◌, Bool, true, false, ◌||◌, ◌==◌, if◌then◌else◌, List, [], ◌∷◌, length, Result, Ok, Err, is_err, IsOk, OnOk, refl, sym, subst, arith}
 use Rattle.std.proofs.lemmas.Bool.Decides.{nat_tests}
 use Rattle.ksi_disk.specs.declared.disk.DiskFailed.{DiskFailed}
 use Rattle.ksi_disk.specs.Images.{Elapses, AddsNone, Only}
-use Rattle.ksi_disk.specs.Costs.{Affords, Meter, Spends}
-use Rattle.ksi_disk.specs.Deeds.{Deed, synced, StoredDisk, IsImage, IsImageSince, content_of, after_call, with_deed, sync_fails, is_next_listed, meter_unless, meter_of}
+use Rattle.ksi_disk.specs.Costs.{Affords, Spends}
+use Rattle.ksi_disk.specs.Deeds.{Deed, synced, StoredDisk, IsImage, IsImageSince, content_of, after_call, with_deed, sync_fails, meter_unless, meter_of}
 use Rattle.ksi_disk.specs.DeedLaws.{content_is_image}
 
 -- no deed more

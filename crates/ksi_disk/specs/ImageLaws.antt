@@ -1,5 +1,5 @@
 -- How runs of calls go on.
-use Rattle.std.specs.Prelude.{◌≡◌, ◌⊎◌, ℕ, ◌≤◌, List}
+use Rattle.std.specs.Prelude.{ℕ, List}
 use Rattle.std.proofs.Common.{inl, inr, ⊎_elim, arith}
 use Rattle.ksi_disk.specs.Images.{Elapses, LeavesOnly}
 

@@ -1,7 +1,7 @@
-use Rattle.std.proofs.Common.{◌≡◌, ◌<◌, ◌+◌, ◌∙◌, [], ◌∷◌, List, length, take, drop, get_or, ap, sym, arith, false, length-drop}
+use Rattle.std.proofs.Common.{◌<◌, ◌+◌, ◌∙◌, [], ◌∷◌, List, length, take, drop, get_or, ap, sym, arith, false, length-drop}
 use Rattle.std.proofs.lemmas.List.{drop-drop}
 use Rattle.ksi_disk.specs.declared.marks.Mark.TheVariants.{Wrote}
-use Rattle.ksi_disk.specs.Deeds.{Deed, content_after, deed_of, deeds_onto, image_by, left_after, pieces_length, read_after}
+use Rattle.ksi_disk.specs.Deeds.{Deed, content_after, deed_of, image_by, left_after, pieces_length, read_after}
 use Rattle.ksi_disk.proofs.DeedLemmas.{first_more, first_pieces, first_within}
 use Rattle.ksi_disk.proofs.replay.replayed.Goals as goal
 

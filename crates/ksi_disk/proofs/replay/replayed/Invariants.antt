@@ -1,4 +1,4 @@
-use Rattle.std.proofs.Common.{◌≡◌, ◌≤◌, [], length, take, drop}
+use Rattle.std.proofs.Common.{◌≡◌, [], take, drop}
 use Rattle.ksi_disk.specs.Deeds.{content_after, deeds_onto, image_by, pieces_length}
 use Rattle.ksi_disk.proofs.replay.replayed.Given as goal
 

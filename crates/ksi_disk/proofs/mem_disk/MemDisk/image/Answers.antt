@@ -1,4 +1,4 @@
-use Rattle.std.proofs.Common.{◌≡◌, ◌≤◌, ◌∙◌, [], List, length, take, ap, sym, subst, arith}
+use Rattle.std.proofs.Common.{◌≤◌, ◌∙◌, [], List, length, take, ap, sym, subst, arith}
 use Rattle.ksi_disk.specs.Deeds.{Deed, IsImage, deeds_at, deeds_onto, image_by, pieces_length}
 use Rattle.ksi_disk.specs.DeedLaws.{image_by_fate}
 use Rattle.ksi_disk.proofs.DeedLemmas.{deeds_of_first, first_within, length-deeds_onto}
