@@ -1,12 +1,12 @@
 -- What each of the two writes of an appended record may leave.
 use Rattle.std.specs.Int.{w32, to_be_bytes, from_be_bytes}
-use Rattle.std.proofs.Common.{◌≡◌, ◌≢◌, ◌⊎◌, inl, inr, ℕ, suc, ◌+◌, ◌^◌, ◌≤◌, ◌<◌, max, List, [], ◌∷◌, ◌++◌, length, get_or, take, drop, refl, sym, ◌∙◌, ap, subst, arith, append_assoc, length-append, length-drop, take-append-drop}
+use Rattle.std.proofs.Common.{◌≡◌, ◌≢◌, ◌⊎◌, inl, inr, ℕ, ◌+◌, ◌^◌, ◌<◌, List, [], ◌∷◌, ◌++◌, length, get_or, take, drop, refl, sym, ◌∙◌, ap, subst, arith, append_assoc, length-append, take-append-drop}
 use Rattle.std.proofs.lemmas.Bool.{cases_eq}
 use Rattle.std.proofs.lemmas.Nat.{from_be_bytes-to_be_bytes_4}
-use Rattle.std.proofs.lemmas.List.{append-nil, take_at, drop_at, drop_more, length-take-le}
+use Rattle.std.proofs.lemmas.List.{append-nil, take_at, drop_at, drop_more}
 use Rattle.ksi_disk.specs.Images.{laid_over, Torn}
 use Rattle.ksi_gates.specs.declared.ending.Ending.TheVariants.{Closed}
-use Rattle.ksi_gates.specs.Gates.{behind_gate, record_text, Reading, ends, behind, reading_at, reading_of}
+use Rattle.ksi_gates.specs.Gates.{record_text, Reading, ends, behind, reading_at, reading_of}
 use Rattle.ksi_gates.specs.Gates.{staged as staged_file}
 use Rattle.ksi_gates.specs.Logs.{GatesStand, OpensTo, IsBeforeOrAfter, IsAfter}
 use Rattle.ksi_gates.proofs.Readings.{closed_reading_at, read_record_at}

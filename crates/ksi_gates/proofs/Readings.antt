@@ -1,10 +1,9 @@
 -- What is read of bytes in which records stand one after the other.
-use Rattle.std.specs.Int.{w32, from_be_bytes, to_be_bytes}
-use Rattle.std.proofs.Common.{◌≡◌, ◌≢◌, ℕ, zero, suc, ◌+◌, ◌-◌, ◌≤◌, ◌<◌, Bool, true, false, nat_le, if◌then◌else◌, List, [], ◌∷◌, ◌++◌, length, take, drop, refl, sym, ◌∙◌, ap, subst, arith, append_assoc, length-append, length-drop}
+use Rattle.std.specs.Int.{w32, from_be_bytes}
+use Rattle.std.proofs.Common.{◌≡◌, ◌≢◌, ℕ, zero, suc, ◌+◌, ◌≤◌, ◌<◌, Bool, true, if◌then◌else◌, List, [], ◌∷◌, ◌++◌, length, take, drop, refl, ◌∙◌, ap, arith, length-append, length-drop}
 use Rattle.std.proofs.lemmas.Bool.Decides.{nat_tests}
-use Rattle.std.proofs.lemmas.List.{take-append-le, drop-append-le, take_at, drop_at, length-take-le}
-use Rattle.ksi_gates.specs.declared.ending.Ending.{Ending}
-use Rattle.ksi_gates.specs.declared.ending.Ending.TheVariants.{Closed, Broken}
+use Rattle.std.proofs.lemmas.List.{take-append-le, drop-append-le, take_at, drop_at}
+use Rattle.ksi_gates.specs.declared.ending.Ending.TheVariants.{Closed}
 use Rattle.ksi_gates.specs.declared.front.Front.{Front}
 use Rattle.ksi_gates.specs.declared.front.Front.TheVariants as front
 use Rattle.ksi_gates.specs.Gates.{front_at, stated, is_whole, Reading, ends, behind, reading_after, reading_within, reading_at}

@@ -1,13 +1,12 @@
 -- What is read of a file of spelled records.
 use Rattle.std.specs.Int.{w32, from_be_bytes, to_be_bytes}
 use Rattle.std.specs.List.{All}
-use Rattle.std.proofs.Common.{◌≡◌, ◌≢◌, ℕ, ◌+◌, ◌<◌, ◌^◌, Bool, true, false, if◌then◌else◌, List, [], ◌∷◌, ◌++◌, length, take, drop, refl, sym, ◌∙◌, ap, arith, append_assoc, length-append}
+use Rattle.std.proofs.Common.{◌≡◌, ◌≢◌, ℕ, ◌+◌, ◌<◌, ◌^◌, Bool, false, if◌then◌else◌, List, [], ◌∷◌, ◌++◌, length, take, drop, refl, sym, ◌∙◌, ap, arith, append_assoc, length-append}
 use Rattle.std.proofs.lemmas.Nat.{from_be_bytes-to_be_bytes_4}
 use Rattle.std.proofs.lemmas.List.{append-nil, drop_at}
 use Rattle.std.proofs.lemmas.List.Elements.{All-head, All-tail}
 use Rattle.ksi_gates.specs.declared.ending.Ending.TheVariants.{Closed, Broken}
 use Rattle.ksi_gates.specs.declared.front.Front.TheVariants as front
-use Rattle.ksi_gates.specs.declared.front.Front.{Front}
 use Rattle.ksi_gates.specs.Gates.{record_text, records_text, is_whole, stated, front_at, Reading, behind, ends, reading_at, reading_of}
 use Rattle.ksi_gates.proofs.Readings.{closed_reading_at, read_record_at}
 use Rattle.ksi_gates.proofs.Standing.{stands}

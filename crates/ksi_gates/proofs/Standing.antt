@@ -1,14 +1,13 @@
 -- A file whose records end at a closed gate: what stands before the gate decides what is read up to it.
 use Rattle.std.specs.Int.{w32, from_be_bytes}
-use Rattle.std.proofs.Common.{◌≡◌, ◌≢◌, ◌⊎◌, inl, inr, ℕ, zero, suc, ◌+◌, ◌-◌, ◌≤◌, ◌<◌, Bool, true, false, nat_le, if◌then◌else◌, List, [], ◌∷◌, ◌++◌, length, take, drop, refl, sym, ◌∙◌, ap, subst, arith, append_assoc, length-append, length-drop, take-append-drop}
+use Rattle.std.proofs.Common.{◌≡◌, ◌≢◌, inl, inr, ℕ, zero, suc, ◌+◌, ◌≤◌, Bool, true, false, if◌then◌else◌, List, [], ◌∷◌, ◌++◌, length, take, drop, refl, sym, ◌∙◌, ap, subst, arith, append_assoc, length-append, length-drop, take-append-drop}
 use Rattle.std.proofs.lemmas.Bool.{cases_eq}
 use Rattle.std.proofs.lemmas.Bool.Decides.{nat_tests}
 use Rattle.std.proofs.lemmas.List.{take-take, drop-take, take_at, drop_at, length-take-le}
-use Rattle.ksi_gates.specs.declared.ending.Ending.{Ending}
-use Rattle.ksi_gates.specs.declared.ending.Ending.TheVariants.{Closed, Broken}
+use Rattle.ksi_gates.specs.declared.ending.Ending.TheVariants.{Closed}
 use Rattle.ksi_gates.specs.declared.front.Front.{Front}
 use Rattle.ksi_gates.specs.declared.front.Front.TheVariants as front
-use Rattle.ksi_gates.specs.Gates.{front_at, stated, is_whole, Reading, ends, behind, reading_after, reading_within, reading_at, reading_of}
+use Rattle.ksi_gates.specs.Gates.{front_at, stated, is_whole, Reading, behind, reading_after, reading_within, reading_at, reading_of}
 use Rattle.ksi_gates.proofs.Readings.{closed_front, read_record_at}
 
 -- bytes at a place: open records in front of a closed gate

@@ -2,3 +2,4 @@ pub mod Gates
 pub mod Logs
 pub mod Drafts
 pub mod Reads
+pub mod Opens

@@ -1,9 +1,9 @@
 -- A log on a disk, and what a crash may leave of it.
-use Rattle.std.specs.Prelude.{◌≡◌, ◌⊎◌, ℕ, ◌+◌, ◌<◌, ◌^◌, Bool, false, List, [], ◌∷◌, ◌++◌, length, take, drop}
-use Rattle.ksi_disk.specs.Images.{laid_over, Only}
+use Rattle.std.specs.Prelude.{◌≡◌, ◌⊎◌, ℕ, ◌+◌, ◌<◌, ◌^◌, false, List, [], ◌∷◌, ◌++◌, length, take, drop}
+use Rattle.ksi_disk.specs.Images.{Only}
 use Rattle.ksi_gates.specs.declared.ending.Ending.TheVariants.{Closed}
 use Rattle.ksi_gates.specs.declared.log.GateLog.{GateLog}
-use Rattle.ksi_gates.specs.Gates.{behind_gate, record_text, reading_of}
+use Rattle.ksi_gates.specs.Gates.{behind_gate, reading_of}
 
 -- the log's file is on the disk for good, its records are in front of the standing gate, and no call of the log has failed
 pub record IsSettled {D : Type 0} (content : D → List ℕ) (images : D → List ℕ → Type 0) (log : GateLog D) : Type 0 where

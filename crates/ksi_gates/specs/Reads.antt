@@ -1,5 +1,5 @@
 -- Runs of calls that write nothing, and what they answer.
-use Rattle.std.specs.Prelude.{◌≡◌, ℕ, ◌≤◌, ◌<◌, List, [], ◌∷◌, ◌++◌, length, drop, Option, Result, Ok, Err, OnOk}
+use Rattle.std.specs.Prelude.{◌≡◌, ℕ, ◌≤◌, ◌<◌, List, [], ◌∷◌, ◌++◌, length, drop, Option, Result, Ok, Err}
 use Rattle.ksi_ports.specs.Outside.{Raises}
 use Rattle.ksi_disk.specs.Images.{AddsNone, LeavesOnly}
 use Rattle.ksi_disk.specs.Costs.{Meter}

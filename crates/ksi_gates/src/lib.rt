@@ -8,17 +8,14 @@
 //! that is not open, and whether that one is closed or the file is broken there. For a crash at any moment of an
 //! [`GateLog::append`], each image opens to the records before it, with the new one or without, and after its Ok each image
 //! has it. `DiskFailed` comes only where the disk's count of faults rose, and then the log is spent: the file is to be
-//! opened again, which is [`settle`], [`read_log`] and [`GateLog::new`].
+//! opened again. [`open_log`] is [`settle`], [`read_log`] and [`GateLog::new`], for a layer that looks at the header between
+//! the first two.
 //!
 //! ```text
-//! let len = settle(&mut disk)?;
-//! let read = read_log(alloc, &mut disk, 18, len)?;
-//! if let Ending::Closed(gate) = read.ending {
-//!     let mut log = GateLog::new(disk, 18, gate);
-//!     let mut record = Record::with_room(alloc, 3)?;
-//!     record.put(b"abc");
-//!     log.append(record)?;
-//! }
+//! let mut opened = open_log(alloc, disk, 18)?;
+//! let mut record = Record::with_room(alloc, 3)?;
+//! record.put(b"abc");
+//! opened.log.append(record)?;
 //! ```
 #![tactic(auto)]
 
@@ -28,6 +25,8 @@ mod ending;
 mod front;
 pub mod laws;
 mod log;
+mod opened;
+mod opening;
 mod parts;
 mod read;
 mod refusal;
@@ -36,6 +35,8 @@ mod settling;
 pub use draft::Record;
 pub use ending::Ending;
 pub use log::GateLog;
+pub use opened::{OpenRefusal, Opened};
+pub use opening::open_log;
 pub use read::{LogRead, read_log};
 pub use refusal::ReadRefusal;
 pub use settling::settle;

@@ -1,4 +1,4 @@
-use Rattle.std.proofs.Common.{◌≡◌, ◌≤◌, ◌-◌, length, drop}
+use Rattle.std.proofs.Common.{◌≡◌, ◌≤◌, ◌-◌, drop}
 use Rattle.ksi_gates.specs.Gates.{behind, reading_at, reading_of}
 use Rattle.ksi_gates.specs.Reads.{WroteNothing}
 use Rattle.ksi_gates.proofs.read.read_log.Given as goal

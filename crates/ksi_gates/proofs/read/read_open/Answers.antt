@@ -1,7 +1,5 @@
-use Rattle.std.specs.Int.{w32, from_be_bytes}
-use Rattle.std.proofs.Common.{◌≡◌, ◌≤◌, ◌+◌, List, length, take, drop, ap, subst, arith, length-drop, IfOk}
+use Rattle.std.proofs.Common.{◌≡◌, ◌+◌, List, take, drop, subst, arith, length-drop, IfOk}
 use Rattle.ksi_gates.specs.declared.front.Front.TheVariants as front
-use Rattle.ksi_gates.specs.Gates.{stated}
 use Rattle.ksi_gates.proofs.Steps.{open_whole}
 use Rattle.ksi_gates.proofs.read.read_open.Goals as goal
 

@@ -1,4 +1,4 @@
-use Rattle.std.proofs.Common.{◌≡◌, ◌≤◌, ◌<◌, ◌+◌, ◌∙◌, [], ◌∷◌, List, ℕ, length, drop, ap, sym, subst, refl, arith, length-drop}
+use Rattle.std.proofs.Common.{◌≡◌, ◌+◌, ◌∙◌, [], ◌∷◌, ℕ, length, drop, ap, sym, subst, refl, arith, length-drop}
 use Rattle.ksi_gates.specs.Gates.{behind, reading_at}
 use Rattle.ksi_gates.proofs.Steps.{at_closed, at_broken, at_whole_in, whole_size}
 use Rattle.ksi_gates.proofs.read.read_step.Goals as goal

@@ -1,4 +1,4 @@
-use Rattle.std.proofs.Common.{◌≡◌, ◌⊎◌, ◌<◌, ◌+◌, ◌^◌, ◌∷◌, [], ◌∙◌, List, ℕ, length, ap, sym, subst, refl, arith, length-append}
+use Rattle.std.proofs.Common.{◌≡◌, ◌⊎◌, ◌<◌, ◌+◌, ◌^◌, ◌∷◌, [], ◌∙◌, List, ℕ, length, ap, sym, subst, arith, length-append}
 use Rattle.ksi_disk.specs.Images.{Torn}
 use Rattle.ksi_disk.specs.ImageLaws.{leaves_more}
 use Rattle.ksi_gates.specs.declared.ending.Ending.TheVariants.{Closed}
