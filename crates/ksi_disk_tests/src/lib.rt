@@ -2,3 +2,14 @@
 //!
 //! They stand in a crate of their own, since a crate with tests is proved twice. Nothing is here for the layers above.
 #![tactic(auto)]
+
+#[cfg(test)]
+mod broken_files;
+#[cfg(test)]
+mod crashes;
+#[cfg(test)]
+mod disks;
+#[cfg(test)]
+mod images;
+#[cfg(test)]
+mod logs;
