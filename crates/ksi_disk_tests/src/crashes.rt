@@ -132,9 +132,11 @@ fn fails_so(alloc: Global, row: &Row) -> Result<bool, Fail> {
     let (acknowledged, disk) = appended(alloc, disk, b"abc")?;
     let (least, most) = row.records;
     let faults = u64::from(!acknowledged);
-    Ok(acknowledged == row.acknowledged
-        && disk.faults() == faults
-        && all_open(alloc, &disk, disk.moments(), least, most)?)
+    Ok(
+        acknowledged == row.acknowledged
+            && disk.faults() == faults
+            && all_open(alloc, &disk, disk.moments(), least, most)?,
+    )
 }
 
 #[test]

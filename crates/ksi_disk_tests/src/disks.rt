@@ -71,14 +71,7 @@ fn script(disk: &mut MemDisk) -> [bool; 6] {
     let measured = disk.len().is_ok();
     let wrote_again = write(disk, 0, b"12");
     let synced_again = disk.sync().is_ok();
-    [
-        wrote,
-        synced,
-        was_read,
-        measured,
-        wrote_again,
-        synced_again,
-    ]
+    [wrote, synced, was_read, measured, wrote_again, synced_again]
 }
 
 fn run(alloc: Global, row: &Row) -> Result<bool, Fail> {
@@ -86,11 +79,13 @@ fn run(alloc: Global, row: &Row) -> Result<bool, Fail> {
     failing.push(row.failing)?;
     let mut disk = MemDisk::new(alloc, b"abcdef", 5, 4, failing)?;
     let faults = u64::from(row.failing < 6);
-    Ok(script(&mut disk) == row.answers
-        && disk.bytes() == row.bytes
-        && disk.moments() == row.moments
-        && disk.faults() == faults
-        && disk.calls() == 6)
+    Ok(
+        script(&mut disk) == row.answers
+            && disk.bytes() == row.bytes
+            && disk.moments() == row.moments
+            && disk.faults() == faults
+            && disk.calls() == 6,
+    )
 }
 
 #[test]
@@ -115,7 +110,15 @@ fn left_after(alloc: Global) -> Result<[(bool, (usize, usize)); 5], Fail> {
 #[test]
 fn room_and_turns_end(rt: HostRuntime) -> Result<(), Fail> {
     let left = left_after(rt.alloc())?;
-    assert!(rt; left == [(true, (1, 1)), (false, (1, 1)), (true, (1, 0)), (false, (1, 0)), (true, (1, 0))]);
+    assert!(rt;
+        left == [
+            (true, (1, 1)),
+            (false, (1, 1)),
+            (true, (1, 0)),
+            (false, (1, 0)),
+            (true, (1, 0))
+        ]
+    );
     Ok(())
 }
 
