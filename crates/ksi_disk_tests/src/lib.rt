@@ -1,0 +1,15 @@
+//! Tests of the disk and of what stands on it: `ksi_disk` and `ksi_gates`.
+//!
+//! They stand in a crate of their own, since a crate with tests is proved twice. Nothing is here for the layers above.
+#![tactic(auto)]
+
+#[cfg(test)]
+mod broken_files;
+#[cfg(test)]
+mod crashes;
+#[cfg(test)]
+mod disks;
+#[cfg(test)]
+mod images;
+#[cfg(test)]
+mod logs;
