@@ -84,7 +84,7 @@ fn first_apart<C: Compress>(old: &CalendarTo<'_, C>, new: &CalendarTo<'_, C>) ->
     ensures differ { IfSome result (λ t. calendar_leaf old.now.calendar.now t ≢ calendar_leaf new.now.calendar.now t) }
     ensures none { IfNone result (AgreeTo old.now.calendar.now new.now.calendar.now old.now.last) }
 {
-    let begin = old.start().min(new.start());
+    let begin = old.calendar.start().min(new.calendar.start());
     for second in begin..old.last {
         if old.leaf(second) != new.leaf(second) {
             return Some(second);

@@ -51,6 +51,7 @@ impl<C: Compress> CalendarTo<'_, C> {
             None => Imprint::ZERO,
         }
     }
+
     /// The root of all seconds to the last.
     pub(crate) fn root(&self) -> Imprint
         ensures { result ≡ calendar_root C.image self.now.calendar.now self.now.last }
@@ -84,22 +85,5 @@ impl<C: Compress> CalendarTo<'_, C> {
             left: self.part(first, half - 1),
             right: self.part(first + half, last - half),
         }
-    }
-
-    /// The calendar's first second that has a root: whoever has the calendar alone finds it by halving.
-    pub(crate) fn start(&self) -> u64
-        ensures { result ≡ self.now.calendar.now.start }
-    {
-        let mut low = self.last.saturating_sub(self.calendar.count() - 1);
-        let mut high = self.last;
-        while low < high {
-            let middle = low + (high - low) / 2;
-            if self.calendar.root_to(middle).is_some() {
-                high = middle;
-            } else {
-                low = middle + 1;
-            }
-        }
-        low
     }
 }
