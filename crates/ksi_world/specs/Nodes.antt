@@ -10,8 +10,7 @@ use Rattle.ksi_schedule.specs.declared.event.Event.{Event}
 use Rattle.ksi_world.specs.declared.outcome.Asked.{Asked}
 use Rattle.ksi_world.specs.declared.outcome.Outcome.{Outcome}
 use Rattle.ksi_world.specs.declared.message.Message.{Message}
-use Rattle.ksi_aggregator.specs.declared.step.Send as round_step
-use Rattle.ksi_signature.specs.declared.step.Step.{Step}
+use Rattle.ksi_aggregator.specs.declared.step.Step.{Step}
 use Rattle.ksi_signature.specs.declared.answer.Answer.TheVariants as answers
 use Rattle.ksi_world.specs.declared.message.Content.{Content}
 use Rattle.ksi_world.specs.declared.message.Content.TheVariants as contents
@@ -134,7 +133,7 @@ CanTake image plan k second aggregators (contents.Response above) = (a : Aggrega
 CanTake image plan k second aggregators _ = ⊥
 
 -- aggregator k made this step, which is this function of its round
-pub record RoundMove (row : RoundState → RoundTurn) (k second : ℕ) (aggregators aggregators' : List AggregatorState) (step : Step round_step.Send) : Type 0 where
+pub record RoundMove (row : RoundState → RoundTurn) (k second : ℕ) (aggregators aggregators' : List AggregatorState) (step : Step) : Type 0 where
   pub old : AggregatorState
   pub new : AggregatorState
   pub at : slice_get aggregators k ≡ Some old
