@@ -163,9 +163,17 @@ impl<C: Compress> World<C> {
         ensures trees { IfOk result (λ kept. EachKept (IsKept C.image) kept.seconds) }
     {
         steps_agree();
-        let seconds = self.nodes.kept(self.alloc)?;
+        let many = all_seconds();
+        let seconds = self.nodes.kept(self.alloc, self.plan.start(), many)?;
         Ok(kept_under(&self.plan, seconds))
     }
+}
+
+/// How many seconds a plan has.
+fn all_seconds() -> u64
+    ensures { result ≡ 2 ^ 24 }
+{
+    16_777_216
 }
 
 /// Puts an event behind the others, where there is room.
