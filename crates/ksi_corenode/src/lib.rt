@@ -22,15 +22,18 @@
 //! ```
 #![tactic(auto)]
 
+mod counted;
 mod event;
 mod fact;
 mod growing;
 mod held;
+mod lawful;
 pub mod laws;
 mod lazy_calendar;
 mod node;
 mod receiving;
 mod responding;
+mod restoring;
 mod seconds;
 mod sending;
 mod settled;
@@ -40,6 +43,7 @@ mod step;
 mod volatile;
 mod volatile_parts;
 
+pub use counted::SecondCounts;
 pub use event::CoreEvent;
 pub use fact::{Fact, SealedItems, What};
 pub use ksi_imprint::NoMemory;
