@@ -16,7 +16,7 @@ use Rattle.ksi_corenode.specs.Events.{event_second, core_row, IsAsked, MayTake}
 use Rattle.ksi_corenode.specs.Stored.{second_of}
 use Rattle.ksi_corenode.specs.Lawful.{stored_by, with_new, MayStore, IsLawful, AreLawful}
 use Rattle.ksi_corenode.specs.Restored.{restored, IsOfFacts, IsWell, HasFacts}
-use Rattle.ksi_corenode.specs.CoreState.{CoreState, state_of, IsTurn}
+use Rattle.ksi_corenode.specs.CoreState.{CoreState, state_of, IsSame, IsTurn}
 use Rattle.ksi_corenode.proofs.Storing.{submission_stores, seal_stores, ballot_stores, receive_stores, tell_stores, respond_stores, turn_stores}
 use Rattle.ksi_corenode.proofs.Returning.{InRange, range_of, some_more, more_lawful, stable_is}
 use Rattle.ksi_corenode.proofs.Lawfulness.{IsGood, still_good, submission_good, seal_good, ballot_good, receive_good, tell_good, respond_good}
@@ -112,3 +112,22 @@ comes_back image plan facts core other has are t =
     ∙ ap (λ (n : ℕ). restored image n (voters_of core.plan t) (stable_state (state_of core t))) (sym (own_parts core t).0)
     ∙ ap (λ (vs : List ℕ). restored image (state_of core t).vote.me vs (stable_state (state_of core t))) (sym (own_parts core t).1)
     ∙ restart_is image (state_of core t) (has.well t)
+
+-- WHERE NOTHING CHANGES
+
+pub of_facts_same : (image : List ℕ → List ℕ) (me : ℕ) (plan : CorePlanState) (facts : List Fact) (old new : CoreState) → IsOfFacts image me plan facts old → IsSame old new → IsOfFacts image me plan facts new
+of_facts_same image me plan facts old new are same = record {
+  mine = same.me ∙ are.mine;
+  planned = same.plan ∙ are.planned;
+  begins = same.start ∙ are.begins;
+  seconds = λ t. same.seconds t ∙ are.seconds t;
+}
+
+pub has_facts_same : (image : List ℕ → List ℕ) (plan : CorePlanState) (facts : List Fact) (old new : CoreState) → HasFacts image plan facts old → IsSame old new → HasFacts image plan facts new
+has_facts_same image plan facts old new has same = record {
+  planned = same.plan ∙ has.planned;
+  begins = same.start ∙ has.begins;
+  lawful = has.lawful;
+  stored = λ t. ap stable_state (same.seconds t) ∙ has.stored t;
+  well = λ t. subst (λ (s : SecondState). IsWell image s) (sym (same.seconds t)) (has.well t);
+}

@@ -9,7 +9,7 @@ ghost use Rattle.ksi_corenode.specs.SecondState.{SecondState, fresh_second};
 ghost use Rattle.ksi_corenode.specs.Facts.{Stores, stable_state, with_fact, fact_of};
 ghost use Rattle.ksi_corenode.specs.Turns.{Turn};
 ghost use Rattle.ksi_corenode.specs.Rows.{submission_row, seal_row, ballot_row, receive_row, tell_row, respond_row, restart_row};
-ghost use Rattle.ksi_corenode.specs.CoreState.{CoreState, state_of, IsChange, IsTurn};
+ghost use Rattle.ksi_corenode.specs.CoreState.{CoreState, state_of, IsSame, IsChange, IsTurn};
 ghost use Rattle.ksi_corenode.specs.declared.event.CoreEvent.{CoreEvent};
 ghost use Rattle.ksi_corenode.specs.declared.fact.Fact.{Fact};
 ghost use Rattle.ksi_corenode.specs.Events.{event_second, core_row, IsAsked, MayTake};
@@ -36,7 +36,7 @@ pub fn steps_store_their_facts()
 {}
 
 /// Each step of a second that is well, at or after the start and below 2^63, stores a lawful fact, if any, and leaves it
-/// well. So a core that stored lawful facts stores lawful facts for good.
+/// well. So a core that stored lawful facts stores lawful facts for good, and a call that fails leaves them.
 pub fn steps_are_lawful()
     ensures fact { (image : List ℕ → List ℕ) (core : CoreState) (event : CoreEvent) → MayTake core event → IsAsked core (event_second event) →
         IsWell image (state_of core (event_second event)) →
@@ -46,6 +46,8 @@ pub fn steps_are_lawful()
     ensures facts { (image : List ℕ → List ℕ) (plan : CorePlanState) (facts : List Fact) (old new : CoreState) (event : CoreEvent) (step : Step) →
         HasFacts image plan facts old → MayTake old event → IsAsked old (event_second event) →
         IsTurn old new (event_second event) (core_row image old event) step → HasFacts image plan (with_new facts step.fact) new }
+    ensures same { (image : List ℕ → List ℕ) (plan : CorePlanState) (facts : List Fact) (old new : CoreState) →
+        HasFacts image plan facts old → IsSame old new → HasFacts image plan facts new }
 {}
 
 /// Facts are lawful one by one: each after those before it.
@@ -65,6 +67,8 @@ pub fn one_core_of_facts()
         ((t : ℕ) → state_of core t ≡ fresh_second me plan t) → IsOfFacts image me plan [] core }
     ensures next { (image : List ℕ → List ℕ) (me : ℕ) (plan : CorePlanState) (facts : List Fact) (fact : Fact) (old new : CoreState) → IsOfFacts image me plan facts old →
         IsChange old new fact.second (second_with image fact.what (state_of old fact.second)) → IsOfFacts image me plan (facts ++ fact ∷ []) new }
+    ensures same { (image : List ℕ → List ℕ) (me : ℕ) (plan : CorePlanState) (facts : List Fact) (old new : CoreState) →
+        IsOfFacts image me plan facts old → IsSame old new → IsOfFacts image me plan facts new }
     ensures stored { (image : List ℕ → List ℕ) (me : ℕ) (plan : CorePlanState) (facts : List Fact) (core : CoreState) → IsOfFacts image me plan facts core →
         (t : ℕ) → stable_state (state_of core t) ≡ stored_by facts t }
     ensures has { (image : List ℕ → List ℕ) (me : ℕ) (plan : CorePlanState) (facts : List Fact) (core : CoreState) → me < 9 → AreLawful plan.start facts →

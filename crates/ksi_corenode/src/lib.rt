@@ -13,6 +13,9 @@
 //! items stand in a map of their own, which `restart` empties. `settled` says how long the list is, and `first_not_held`
 //! looks there alone. A ballot in hand stays until a restart, also for a second that is held.
 //!
+//! A core is a fold of its facts: `from_facts` makes it of them, and `may_store` and `store` take them one by one. [`laws`]
+//! says that the facts of its steps are lawful, and that what comes back with them is the core after a restart.
+//!
 //! ```text
 //! let mut core = Core::<Sha>::new(alloc, 0, &CorePlan::new(3, start));
 //! core.submission(aggregator, second, item)?;
