@@ -7,3 +7,8 @@ pub mod Settling
 pub mod Words
 pub mod Storing
 pub mod Following
+pub mod Returning
+pub mod Counting
+pub mod Lawfulness
+pub mod Lasting
+pub mod Fitting

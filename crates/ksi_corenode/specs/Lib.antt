@@ -8,3 +8,6 @@ pub mod Rows
 pub mod CoreState
 pub mod Events
 pub mod Next
+pub mod Lawful
+pub mod Restored
+pub mod Counted

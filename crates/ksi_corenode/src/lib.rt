@@ -13,6 +13,9 @@
 //! items stand in a map of their own, which `restart` empties. `settled` says how long the list is, and `first_not_held`
 //! looks there alone. A ballot in hand stays until a restart, also for a second that is held.
 //!
+//! A core is a fold of its facts: `from_facts` makes it of them, and `may_store` and `store` take them one by one. [`laws`]
+//! says that the facts of its steps are lawful, and that what comes back with them is the core after a restart.
+//!
 //! ```text
 //! let mut core = Core::<Sha>::new(alloc, 0, &CorePlan::new(3, start));
 //! core.submission(aggregator, second, item)?;
@@ -22,15 +25,18 @@
 //! ```
 #![tactic(auto)]
 
+mod counted;
 mod event;
 mod fact;
 mod growing;
 mod held;
+mod lawful;
 pub mod laws;
 mod lazy_calendar;
 mod node;
 mod receiving;
 mod responding;
+mod restoring;
 mod seconds;
 mod sending;
 mod settled;
@@ -40,6 +46,7 @@ mod step;
 mod volatile;
 mod volatile_parts;
 
+pub use counted::SecondCounts;
 pub use event::CoreEvent;
 pub use fact::{Fact, SealedItems, What};
 pub use ksi_imprint::NoMemory;

@@ -29,7 +29,7 @@ use std::marker::Model;
 #[derive(Drop)]
 pub struct Core<C: Compress> {
     alloc: Global,
-    seconds: Seconds<C>,
+    pub(crate) seconds: Seconds<C>,
     calendar: LazyCalendar<C>,
 }
 
@@ -228,7 +228,7 @@ impl<C: Compress> Core<C> {
     }
 
     /// Puts this core's part in the vote on a second, and the roots of the seconds that settle by it into the calendar.
-    fn put_vote(&mut self, second: u64, vote: &Instance) -> Result<(), NoMemory>
+    pub(crate) fn put_vote(&mut self, second: u64, vote: &Instance) -> Result<(), NoMemory>
         requires keeps { Keeps (state_of self.old second).vote vote.now }
         ensures change { OnOk result (IsChange self.old self.new second (record (state_of self.old second) { vote = vote.now })) }
         ensures unchanged { OnErr result (IsSame self.old self.new) }

@@ -133,7 +133,10 @@ fn responses<C: Compress>(
 }
 
 /// The tree of the items.
-fn round_of<C: Compress>(alloc: Global, entries: &[Entry]) -> Result<Builder<C>, NoMemory>
+pub(crate) fn round_of<C: Compress>(
+    alloc: Global,
+    entries: &[Entry],
+) -> Result<Builder<C>, NoMemory>
     requires { IsRound (items_of entries.now) }
     ensures { IfOk result (λ round. round ≡ items_of entries.now) }
 {

@@ -12,6 +12,7 @@ ghost use Rattle.ksi_corenode.specs.Stored.{items_from, has_place, volatile_at, 
 ghost use Rattle.ksi_corenode.specs.Settled.{IsSettled};
 ghost use Rattle.ksi_corenode.specs.Kept.{Keeps};
 ghost use Rattle.ksi_corenode.specs.Next.{IsNext, held_or_sealed};
+ghost use Rattle.ksi_corenode.specs.Restored.{sealed_second};
 ghost use Rattle.ksi_corenode.specs.CoreState.{state_of, stable_at, held_by, IsSame, IsChange};
 
 use crate::fact::{SealedItems, What};
@@ -256,18 +257,56 @@ impl<C: Compress> Seconds<C> {
     }
 
     /// Seals the open items of a second that is not sealed, and gives a copy of them.
-    #[tactic(auto, unfolding(crate::specs::CoreState::state_of))]
     fn seal_open(&mut self, second: u64) -> Result<Vec<Entry>, NoMemory>
         requires { is_some (state_of self.old second).sealed ≡ false }
         ensures change { OnOk result (IsChange self.old self.new second (sealed_now C.image (state_of self.old second)).after) }
         ensures items { IfOk result (λ items. items.items ≡ (state_of self.old second).open_items) }
         ensures unchanged { OnErr result (IsSame self.old self.new) }
     {
+        let (items, candidate) = self.open_items(second)?;
+        self.seal_with(second, &items, candidate)?;
+        self.forget_open(second);
+        Ok(items)
+    }
+
+    /// A copy of the open items of a second in order, which make a round, and the imprint of their tree.
+    #[tactic(auto, unfolding(crate::specs::CoreState::state_of, crate::specs::Stored::second_of))]
+    fn open_items(&self, second: u64) -> Result<(Vec<Entry>, Imprint), NoMemory>
+        ensures items { IfOk result (λ copied. copied.0.items ≡ (state_of self.now second).open_items) }
+        ensures candidate { IfOk result (λ copied. copied.1 ≡ candidate_of C.image (state_of self.now second).open_items) }
+        ensures round { IsRound (items_of (state_of self.now second).open_items) }
+    {
+        open_items(&self.volatile_parts, second, self.alloc)
+    }
+
+    /// Leaves no item of a second open.
+    fn forget_open(&mut self, second: u64)
+        ensures { IsChange self.old self.new second (record (state_of self.old second) { open_items = [] }) }
+    {
+        forget_items(&mut self.volatile_parts, second);
+    }
+
+    /// Seals a second that is not sealed with the items of a round, whose tree has this imprint. The open items stay.
+    ///
+    /// # Errors
+    /// `NoMemory`: all is as it was.
+    #[tactic(auto, unfolding(crate::specs::CoreState::state_of))]
+    pub fn seal_with(
+        &mut self,
+        second: u64,
+        items: &[Entry],
+        candidate: Imprint,
+    ) -> Result<(), NoMemory>
+        requires unsealed { is_some (state_of self.old second).sealed ≡ false }
+        requires round { IsRound (items_of items.now) }
+        requires candidate { candidate ≡ candidate_of C.image items.now }
+        ensures change { OnOk result (IsChange self.old self.new second (sealed_second C.image items.now (state_of self.old second))) }
+        ensures unchanged { OnErr result (IsSame self.old self.new) }
+    {
         let mut vote = self.vote(second);
         self.stable_parts.make_place(second)?;
-        let (items, candidate) = open_items(&self.volatile_parts, second, self.alloc)?;
         let first = self.items.len();
-        self.items.extend_from_slice(&items)?;
+        self.items.extend_from_slice(items)?;
         vote.candidate(candidate);
         let part = StablePart {
             vote: vote.stable(),
@@ -275,8 +314,7 @@ impl<C: Compress> Seconds<C> {
             count: items.len(),
         };
         self.stable_parts.put(second, &part);
-        forget_items(&mut self.volatile_parts, second);
-        Ok(items)
+        Ok(())
     }
 
     /// Makes a place for the stable part of a second, and where so asked for its volatile part, which changes nothing that

@@ -179,6 +179,15 @@ impl Instance {
         Begun::Next(ballot)
     }
 
+    /// Takes up again what is stored of it: a ballot that it tried. It is not in hand.
+    #[tactic(auto, unfolding(crate::specs::Instance::state_of))]
+    pub fn restore_tried(&mut self, ballot: u64)
+        requires { IsBallot ballot }
+        ensures { self.new ≡ record self.old { tried = ballot } }
+    {
+        self.tried = ballot;
+    }
+
     /// Takes NextBallot: promises a ballot that is above its promise. The LastVote is to be sent back.
     #[tactic(auto, unfolding(crate::specs::Instance::state_of, crate::specs::Rows::on_next))]
     pub fn on_next(&mut self, ballot: u64) -> Option<LastVote>
