@@ -35,8 +35,8 @@ texts_from image given m n (x ∷ inner) =
     then []
     else if nat_lt (split_of n) m
     then calendar_join_text x (roots_from image given (m - split_of n) (n - split_of n) inner).old
-        ∷ calendar_join_text x (roots_from image given (m - split_of n) (n - split_of n) inner).new
-        ∷ texts_from image given (m - split_of n) (n - split_of n) inner
+    ∷ calendar_join_text x (roots_from image given (m - split_of n) (n - split_of n) inner).new
+    ∷ texts_from image given (m - split_of n) (n - split_of n) inner
     else calendar_join_text (roots_from image given m (split_of n) inner).new x ∷ texts_from image given m (split_of n) inner
 
 -- those of a front that is checked

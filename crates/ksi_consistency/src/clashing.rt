@@ -144,14 +144,7 @@ pub(crate) fn clash_in_front<C: Compress>(
         if two.second - first < half {
             clash_below(alloc, two, first, half - 1)
         } else {
-            clash_in_front(
-                alloc,
-                two,
-                inner,
-                first + half,
-                old - half,
-                new - half,
-            )
+            clash_in_front(alloc, two, inner, first + half, old - half, new - half)
         }
     }
 }

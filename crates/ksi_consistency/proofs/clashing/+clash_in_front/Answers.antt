@@ -76,12 +76,15 @@ clash_in_front-requires g t c κs within =
             c.requires.old_part,
             (
               left_part (c.args.two.now.new.last + 1) first n k c.requires.new_part (λ e. omega (arith, e, some)) is,
-              (c.requires.from, (c.requires.to, (omega (arith, c.requires.enough, count, c.in-Some.ensures.cases.1), (λ text has. c.requires.texts text (left_behind image c.args.two.now.given m n k c.args.front.now c.in-Some.last.1.now c.in-Some.last.0.now c.in-Some.ensures.cases.0 (λ e. c.if-old-new.false (omega (arith, e))) is text part c.check_part-part.ensures (omega (arith, c.if-old-half.true)) has), sym c.check_part-part.ensures ∙ (λ i. record { old = old i; new = new i })))),
+              (
+                c.requires.from,
+                (c.requires.to, (omega (arith, c.requires.enough, count, c.in-Some.ensures.cases.1), (λ text has. c.requires.texts text (left_behind image c.args.two.now.given m n k c.args.front.now c.in-Some.last.1.now c.in-Some.last.0.now c.in-Some.ensures.cases.0 (λ e. c.if-old-new.false (omega (arith, e))) is text part c.check_part-part.ensures (omega (arith, c.if-old-half.true)) has), sym c.check_part-part.ensures ∙ (λ i. record { old = old i; new = new i })))),
+              ),
             ),
           ),
         ),
       ),
-    ))
+    )
 
 -- ---- they go on in the right part
 
@@ -175,12 +178,15 @@ clash_in_front-requires-else-two-first g t c κs within =
             right_part (c.args.two.now.old.last + 1) first m (first + half) (c.args.old - half + 1) c.requires.old_part (λ e. omega (arith, e, some, c.if-old-half.false)) at_old rest_old,
             (
               right_part (c.args.two.now.new.last + 1) first n (first + half) (c.args.new - half + 1) c.requires.new_part (λ e. omega (arith, e, some, h.most)) at_new rest_new,
-              (omega (arith, c.if-two-first.false, c.requires.from), (omega (arith, c.requires.to, c.if-two-first.false, c.if-old-half.false), (omega (arith, c.requires.enough, count, less, c.in-Some.ensures.cases.1), (λ text has. c.requires.texts text (right_behind image c.args.two.now.given m n half c.args.front.now c.in-Some.last.1.now x c.in-Some.ensures.cases.0 (λ e. c.if-old-new.false (omega (arith, e))) h.value text (c.args.old - half + 1) (c.args.new - half + 1) part c.check_part-part-else-old-half.ensures (omega (arith, c.if-old-half.false)) (omega (arith, c.if-old-half.false)) (omega (arith, h.most)) has), sym c.check_part-part-else-old-half.ensures ∙ (λ i. record { old = old i; new = new i })))),
+              (
+                omega (arith, c.if-two-first.false, c.requires.from),
+                (omega (arith, c.requires.to, c.if-two-first.false, c.if-old-half.false), (omega (arith, c.requires.enough, count, less, c.in-Some.ensures.cases.1), (λ text has. c.requires.texts text (right_behind image c.args.two.now.given m n half c.args.front.now c.in-Some.last.1.now x c.in-Some.ensures.cases.0 (λ e. c.if-old-new.false (omega (arith, e))) h.value text (c.args.old - half + 1) (c.args.new - half + 1) part c.check_part-part-else-old-half.ensures (omega (arith, c.if-old-half.false)) (omega (arith, c.if-old-half.false)) (omega (arith, h.most)) has), sym c.check_part-part-else-old-half.ensures ∙ (λ i. record { old = old i; new = new i })))),
+              ),
             ),
           ),
         ),
       ),
-    ))
+    )
 
 -- ---- a string differs
 
