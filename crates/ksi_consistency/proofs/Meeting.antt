@@ -1,11 +1,15 @@
 -- Where both roots that a front leads to are given, what its last imprint is joined with.
-use Rattle.std.proofs.Common.{◌≡◌, ◌≢◌, ℕ, zero, suc, ◌-◌, ◌<◌, ◌≤◌, List, [], ◌∷◌, ◌++◌, length, reverse, true, false, Option, Some, None, inl, inr, refl, sym, ap, ◌∙◌, arith}
-use Rattle.std.specs.Prelude.{IfNone}
+use Rattle.std.proofs.Common.{◌≡◌, ◌≢◌, ◌+◌, subst, ℕ, zero, suc, ◌+◌, ◌-◌, ◌<◌, ◌≤◌, List, [], ◌∷◌, ◌++◌, length, reverse, true, false, Option, Some, None, Result, Ok, Err, inl, inr, refl, sym, ap, ◌∙◌, arith}
+use Rattle.std.specs.Prelude.{IfNone, IfOk, IfSome, Contains}
+use Rattle.ksi_calendar.specs.Calendar.{Seconds, calendar_tree}
+use Rattle.ksi_consistency.specs.Parts.{IsPart}
+use Rattle.ksi_consistency.specs.declared.halves.Halves.{Halves}
+use Rattle.ksi_consistency.specs.Compared.{halves_text, IsKeptText}
 use Rattle.ksi_split.specs.Powers.{split_of}
-use Rattle.ksi_calchain.specs.Climbing.{calendar_join}
+use Rattle.ksi_calchain.specs.Climbing.{calendar_join, calendar_join_text}
 use Rattle.ksi_consistency.specs.declared.roots.Roots.{Roots}
 use Rattle.ksi_consistency.specs.Front.{count_within, count_of}
-use Rattle.ksi_consistency.specs.Checked.{roots_from, joined_left, joined_right}
+use Rattle.ksi_consistency.specs.Checked.{roots_from, texts_from, joined_left, joined_right}
 use Rattle.ksi_consistency.proofs.Cases.{lt_cases, eq_cases, Splits}
 use Rattle.ksi_consistency.proofs.Accepting.{split_front}
 use Rattle.ksi_consistency.proofs.Fronts.{count_left, count_right}
@@ -85,3 +89,84 @@ split_same splits m n k is some above most =
 pub on_none : {A : Type 0} (o : Option A) (P : Type 0) → o ≡ None → IfNone o P → P
 on_none None P is told = told
 on_none (Some x) P is told = absurd (cc is)
+
+-- ---- the strings that are shown
+
+module _ (image : List ℕ → List ℕ) (given : List ℕ) where
+  pub texts_left : (m n k : ℕ) (x : List ℕ) (inner : List (List ℕ)) → m ≢ n → k ≡ split_of n → m ≤ k
+      → texts_from image given m n (x ∷ inner) ≡ calendar_join_text (roots_from image given m k inner).new x ∷ texts_from image given m k inner
+  unfolding texts_from
+  texts_left m n k x inner part is most = elim (eq_cases m n) [
+    | inl same ↦ absurd (part same.1)
+    | inr other ↦ elim (lt_cases (split_of n) m) [ inl right ↦ absurd (omega (arith, right.1, most, is)) | inr left ↦ rw (other.0, left.0, is) refl ]
+  ]
+
+  pub texts_right : (m n k first rest : ℕ) (x : List ℕ) (inner : List (List ℕ)) → m ≢ n → k ≡ split_of n → k < m → first ≡ m - k → rest ≡ n - k
+      → texts_from image given m n (x ∷ inner) ≡ calendar_join_text x (roots_from image given first rest inner).old ∷ calendar_join_text x (roots_from image given first rest inner).new ∷ texts_from image given first rest inner
+  unfolding texts_from
+  texts_right m n k first rest x inner part is above few left = elim (eq_cases m n) [
+    | inl same ↦ absurd (part same.1)
+    | inr other ↦ elim (lt_cases (split_of n) m) [ inl right ↦ rw (other.0, right.0, few, left, is) refl | inr below ↦ absurd (omega (arith, below.1, above, is)) ]
+  ]
+
+-- one behind a first one, and that one
+pub behind_one : (x y : List ℕ) (xs : List (List ℕ)) → Contains xs y → Contains (x ∷ xs) y
+behind_one x y xs (k, below, is) = (suc k, omega (arith, below), is)
+
+pub first_one : (x y : List ℕ) (xs : List (List ℕ)) → y ≡ x → Contains (x ∷ xs) y
+first_one x y xs same = (0, omega arith, sym same)
+
+module _ (image : List ℕ → List ℕ) (given : List ℕ) (m n k : ℕ) (front inner : List (List ℕ)) (x : List ℕ) (is : front ≡ inner ++ x ∷ []) (other : m ≢ n) (is_split : k ≡ split_of n) (text : List ℕ) where
+  front_is : texts_from image given m n (x ∷ reverse inner) ≡ texts_from image given m n (reverse front)
+  front_is = sym (ap (texts_from image given m n) (last_first front inner x is))
+
+  module _ (part : Roots) (led : part ≡ roots_from image given m k (reverse inner)) (most : m ≤ k) where
+    all_left : calendar_join_text part.new x ∷ texts_from image given m k (reverse inner) ≡ texts_from image given m n (reverse front)
+    all_left =
+        ap (λ (r : Roots). calendar_join_text r.new x ∷ texts_from image given m k (reverse inner)) led
+        ∙ sym (texts_left image given m n k x (reverse inner) other is_split most) ∙ front_is
+
+    pub left_first : text ≡ calendar_join_text part.new x → Contains (texts_from image given m n (reverse front)) text
+    left_first same = subst (λ (texts : List (List ℕ)). Contains texts text) all_left (first_one (calendar_join_text part.new x) text (texts_from image given m k (reverse inner)) same)
+
+    pub left_behind : Contains (texts_from image given m k (reverse inner)) text → Contains (texts_from image given m n (reverse front)) text
+    left_behind has = subst (λ (texts : List (List ℕ)). Contains texts text) all_left (behind_one (calendar_join_text part.new x) text (texts_from image given m k (reverse inner)) has)
+
+  module _ (first rest : ℕ) (part : Roots) (led : part ≡ roots_from image given first rest (reverse inner)) (above : k < m) (few : first ≡ m - k) (left : rest ≡ n - k) where
+    all_right : calendar_join_text x part.old ∷ calendar_join_text x part.new ∷ texts_from image given first rest (reverse inner) ≡ texts_from image given m n (reverse front)
+    all_right =
+        ap (λ (r : Roots). calendar_join_text x r.old ∷ calendar_join_text x r.new ∷ texts_from image given first rest (reverse inner)) led
+        ∙ sym (texts_right image given m n k first rest x (reverse inner) other is_split above few left) ∙ front_is
+
+    pub right_old : text ≡ calendar_join_text x part.old → Contains (texts_from image given m n (reverse front)) text
+    right_old same = subst (λ (texts : List (List ℕ)). Contains texts text) all_right (first_one (calendar_join_text x part.old) text (calendar_join_text x part.new ∷ texts_from image given first rest (reverse inner)) same)
+
+    pub right_new : text ≡ calendar_join_text x part.new → Contains (texts_from image given m n (reverse front)) text
+    right_new same = subst (λ (texts : List (List ℕ)). Contains texts text) all_right
+        (behind_one (calendar_join_text x part.old) text (calendar_join_text x part.new ∷ texts_from image given first rest (reverse inner)) (first_one (calendar_join_text x part.new) text (texts_from image given first rest (reverse inner)) same))
+
+    pub right_behind : Contains (texts_from image given first rest (reverse inner)) text → Contains (texts_from image given m n (reverse front)) text
+    right_behind has = subst (λ (texts : List (List ℕ)). Contains texts text) all_right
+        (behind_one (calendar_join_text x part.old) text (calendar_join_text x part.new ∷ texts_from image given first rest (reverse inner)) (behind_one (calendar_join_text x part.new) text (texts_from image given first rest (reverse inner)) has))
+
+-- what a part of a calendar hashes
+pub kept_text : (image : List ℕ → List ℕ) (seconds : Seconds) (p first count : ℕ) (halves : Halves) (text : List ℕ) → 1 < count → IsPart (p + 1) first count
+    → halves.left ≡ calendar_tree image seconds first (split_of count) → halves.right ≡ calendar_tree image seconds (first + split_of count) (count - split_of count) → text ≡ halves_text halves
+    → IsKeptText image seconds p text
+kept_text image seconds p first count halves text many part left right is = record {
+  first = first;
+  count = count;
+  many = many;
+  part = part;
+  joined = is ∙ ap (λ (x : List ℕ). calendar_join_text x halves.right) left ∙ ap (λ (x : List ℕ). calendar_join_text (calendar_tree image seconds first (split_of count)) x) right;
+}
+
+-- three facts of a value that is there, or none
+pub all_three : {A E : Type 0} (r : Result A E) (P Q R S : A → Type 0) → IfOk r P → IfOk r Q → IfOk r R → ((x : A) → P x → Q x → R x → S x) → IfOk r S
+all_three (Ok x) P Q R S p q r f = f x p q r
+all_three (Err e) P Q R S p q r f = tt
+
+-- what is said where there is one
+pub on_some : {A : Type 0} (o : Option A) (x : A) (P : A → Type 0) → o ≡ Some x → IfSome o P → P x
+on_some None x P is told = absurd (cc is)
+on_some {A = A} (Some y) x P is told = let same : y ≡ x = cc is in subst P same told

@@ -2,7 +2,7 @@
 use Rattle.std.specs.Prelude.{ℕ, ◌+◌, ◌-◌, ◌==◌, nat_lt, if◌then◌else◌, List, [], ◌∷◌, length, reverse, Result, Ok, Err}
 use Rattle.std.specs.Str.{bytes_eq}
 use Rattle.ksi_split.specs.Powers.{split_of}
-use Rattle.ksi_calchain.specs.Climbing.{calendar_join}
+use Rattle.ksi_calchain.specs.Climbing.{calendar_join, calendar_join_text}
 use Rattle.ksi_consistency.specs.Front.{front_count}
 use Rattle.ksi_consistency.specs.declared.roots.Roots.{Roots}
 use Rattle.ksi_consistency.specs.declared.refusal.FrontRefusal.{FrontRefusal}
@@ -26,6 +26,22 @@ roots_from image given m n (x ∷ inner) =
     else if nat_lt (split_of n) m
     then joined_left image (roots_from image given (m - split_of n) (n - split_of n) inner) x
     else joined_right image (roots_from image given m (split_of n) inner) x
+
+-- the strings that the joins on the way to both roots hash
+unfoldable pub texts_from : (List ℕ → List ℕ) → (given : List ℕ) → (m n : ℕ) → List (List ℕ) → List (List ℕ)
+texts_from image given m n [] = []
+texts_from image given m n (x ∷ inner) =
+    if m == n
+    then []
+    else if nat_lt (split_of n) m
+    then calendar_join_text x (roots_from image given (m - split_of n) (n - split_of n) inner).old
+    ∷ calendar_join_text x (roots_from image given (m - split_of n) (n - split_of n) inner).new
+    ∷ texts_from image given (m - split_of n) (n - split_of n) inner
+    else calendar_join_text (roots_from image given m (split_of n) inner).new x ∷ texts_from image given m (split_of n) inner
+
+-- those of a front that is checked
+abbrev pub front_texts : (List ℕ → List ℕ) → (p1 p2 : ℕ) → (given : List ℕ) → List (List ℕ) → List (List ℕ)
+front_texts image p1 p2 given front = texts_from image given (p1 + 1) (p2 + 1) (reverse front)
 
 -- both roots that a front leads to, where the root of the calendar to p1 is given
 abbrev pub front_roots : (List ℕ → List ℕ) → (p1 p2 : ℕ) → (given : List ℕ) → List (List ℕ) → Roots

@@ -1,10 +1,10 @@
-ghost use Rattle.std.specs.Prelude.{◌≡◌, ◌≤◌, ◌<◌, ◌+◌, ◌-◌, true, IfOk, IfSome, IfNone, length, reverse};
+ghost use Rattle.std.specs.Prelude.{◌≡◌, ◌≤◌, ◌<◌, ◌+◌, ◌-◌, ℕ, List, Contains, true, IfOk, IfSome, IfNone, length, reverse};
 ghost use Rattle.ksi_split.specs.Powers.{split_of};
 ghost use Rattle.ksi_calendar.specs.Calendar.{calendar_tree};
 ghost use Rattle.ksi_consistency.specs.Parts.{IsPart};
 ghost use Rattle.ksi_consistency.specs.Front.{count_of};
-ghost use Rattle.ksi_consistency.specs.Checked.{roots_from};
-ghost use Rattle.ksi_consistency.specs.Compared.{halves_text, IsHalves, IsNodeClash};
+ghost use Rattle.ksi_consistency.specs.Checked.{front_texts, roots_from, texts_from};
+ghost use Rattle.ksi_consistency.specs.Compared.{halves_text, IsFrontClash, IsHalves, IsKeptText, IsNodeClash};
 
 use crate::differing::Differing;
 use crate::halves::{Halves, clash_of};
@@ -30,7 +30,8 @@ pub(crate) fn clash_below<C: Compress>(
     requires to { two.now.second ≤ first + last }
     requires same { calendar_tree C.image two.now.old.calendar.now first (last + 1) ≡
         calendar_tree C.image two.now.new.calendar.now first (last + 1) }
-    ensures { IfOk result (IsNodeClash C.image) }
+    ensures { IfOk result (IsFrontClash C.image two.now.old.calendar.now two.now.new.calendar.now
+        two.now.old.last two.now.new.last two.now.given two.now.front.now) }
 {
     one_split();
     one_calendar();
@@ -60,6 +61,9 @@ fn lay<C: Compress>(
     requires part { IsPart (kept.now.last + 1) first (last + 1) }
     requires same { C.image (halves_text joined.now) ≡ calendar_tree C.image kept.now.calendar.now first (last + 1) }
     ensures clash { IfOk result (λ found. IfSome found (IsNodeClash C.image)) }
+    ensures one { IfOk result (λ found. IfSome found (λ clash. clash.one ≡ halves_text joined.now)) }
+    ensures two { IfOk result (λ found. IfSome found
+        (λ clash. IsKeptText C.image kept.now.calendar.now kept.now.last clash.two)) }
     ensures none { IfOk result (λ found. IfNone found
         (IsHalves joined.now (calendar_tree C.image kept.now.calendar.now first (split_of (last + 1)))
         (calendar_tree C.image kept.now.calendar.now (first + split_of (last + 1)) (last + 1 - split_of (last + 1))))) }
@@ -78,7 +82,6 @@ fn lay<C: Compress>(
 pub(crate) fn clash_in_front<C: Compress>(
     alloc: Global,
     two: &Differing<'_, C>,
-    given: &Imprint,
     front: &[Imprint],
     first: u64,
     old: u64,
@@ -90,12 +93,16 @@ pub(crate) fn clash_in_front<C: Compress>(
     requires from { first ≤ two.now.second }
     requires to { two.now.second ≤ first + old }
     requires enough { count_of (old + 1) (new + 1) true ≤ length front.now }
-    requires roots { roots_from C.image given.now (old + 1) (new + 1) (reverse front.now) ≡
+    requires texts { (text : List ℕ) →
+        Contains (texts_from C.image two.now.given (old + 1) (new + 1) (reverse front.now)) text →
+        Contains (front_texts C.image two.now.old.last two.now.new.last two.now.given two.now.front.now) text }
+    requires roots { roots_from C.image two.now.given (old + 1) (new + 1) (reverse front.now) ≡
         record {
           old = calendar_tree C.image two.now.old.calendar.now first (old + 1);
           new = calendar_tree C.image two.now.new.calendar.now first (new + 1);
         } }
-    ensures { IfOk result (IsNodeClash C.image) }
+    ensures { IfOk result (IsFrontClash C.image two.now.old.calendar.now two.now.new.calendar.now
+        two.now.old.last two.now.new.last two.now.given two.now.front.now) }
 {
     one_split();
     let (x, inner) = match front.split_last() {
@@ -107,17 +114,17 @@ pub(crate) fn clash_in_front<C: Compress>(
     }
     let half = high_bit(new);
     if old < half {
-        let part = check_part::<C>(old, half - 1, given, inner);
+        let part = check_part::<C>(old, half - 1, &two.given, inner);
         let joined = Halves {
             left: part.new,
             right: *x,
         };
         match lay(alloc, &two.new, first, new, &joined)? {
             Some(clash) => Ok(clash),
-            None => clash_in_front(alloc, two, given, inner, first, old, half - 1),
+            None => clash_in_front(alloc, two, inner, first, old, half - 1),
         }
     } else {
-        let part = check_part::<C>(old - half, new - half, given, inner);
+        let part = check_part::<C>(old - half, new - half, &two.given, inner);
         let joined = Halves {
             left: *x,
             right: part.old,
@@ -137,15 +144,7 @@ pub(crate) fn clash_in_front<C: Compress>(
         if two.second - first < half {
             clash_below(alloc, two, first, half - 1)
         } else {
-            clash_in_front(
-                alloc,
-                two,
-                given,
-                inner,
-                first + half,
-                old - half,
-                new - half,
-            )
+            clash_in_front(alloc, two, inner, first + half, old - half, new - half)
         }
     }
 }

@@ -2,7 +2,7 @@ ghost use Rattle.std.specs.Prelude.{◌≡◌, ◌≢◌, ◌≤◌, ◌↔◌, 
 ghost use Rattle.ksi_imprint.specs.declared.clash.Clash.{Clash};
 ghost use Rattle.ksi_calendar.specs.Calendar.{calendar_leaf, calendar_root, is_covered};
 ghost use Rattle.ksi_consistency.specs.Checked.{front_checked};
-ghost use Rattle.ksi_consistency.specs.Compared.{AgreeTo, DifferBy, IsAnswer, IsFrontOf, IsNodeClash};
+ghost use Rattle.ksi_consistency.specs.Compared.{AgreeTo, DifferBy, IsAnswer, IsFrontClash, IsFrontOf};
 ghost use Rattle.ksi_consistency.specs.declared.refusal.FrontRefusal.{FrontRefusal};
 ghost use Rattle.ksi_consistency.specs.declared.compared.Compared.TheVariants as compared;
 
@@ -34,7 +34,8 @@ pub fn compare<C: Compress>(
         (front_checked C.image p1 p2 (calendar_root C.image old.now p1) (calendar_root C.image new.now p2) front.now ≡ Err refusal) }
     ensures equal { (result ≡ Ok compared.Equal) ↔
         (IsFrontOf C.image old.now new.now p1 p2 front.now × AgreeTo old.now new.now p1) }
-    ensures clash { (clash : Clash) → result ≡ Ok (compared.Clash clash) → IsNodeClash C.image clash }
+    ensures clash { (clash : Clash) → result ≡ Ok (compared.Clash clash) →
+        IsFrontClash C.image old.now new.now p1 p2 (calendar_root C.image old.now p1) front.now clash }
     ensures differ { (clash : Clash) → result ≡ Ok (compared.Clash clash) → DifferBy old.now new.now p1 }
     ensures memory { OnErr result (IsFrontOf C.image old.now new.now p1 p2 front.now × DifferBy old.now new.now p1) }
 {
@@ -71,8 +72,14 @@ fn answer<C: Compress>(
     match first_apart(&old, &new) {
         None => Ok(Compared::Equal),
         Some(second) => {
-            let two = Differing { old, new, second };
-            Ok(Compared::Clash(clash_in_front(alloc, &two, &r1, front, 0, p1, p2)?))
+            let two = Differing {
+                old,
+                new,
+                given: r1,
+                front,
+                second,
+            };
+            Ok(Compared::Clash(clash_in_front(alloc, &two, front, 0, p1, p2)?))
         }
     }
 }
