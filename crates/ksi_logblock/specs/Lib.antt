@@ -1,0 +1,6 @@
+pub mod Blocks
+pub mod Links
+pub mod Proofs
+pub mod Upward
+pub mod Locating
+pub mod Shown

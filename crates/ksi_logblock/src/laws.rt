@@ -1,0 +1,55 @@
+//! What holds of blocks, for the layers above to cite. None of these functions does anything.
+ghost use Rattle.std.specs.Prelude.{◌≡◌, ◌<◌, ◌≤◌, ◌+◌, ◌↔◌, ◌++◌, ℕ, List, Ok, length};
+ghost use Rattle.std.specs.List.{AllByRecursion};
+ghost use Rattle.ksi_imprint.specs.Imprints.{IsImprint, join_text, zero_imprint};
+ghost use Rattle.ksi_aggchain.specs.Climbing.{climbed, level_after};
+ghost use Rattle.ksi_aggchain.specs.Links.{highest_level};
+ghost use Rattle.ksi_logblock.specs.Blocks.{Masked, leaf_at, leaves_of, line_at, mask_at, most_lines};
+ghost use Rattle.ksi_logblock.specs.Links.{plain_line_links};
+ghost use Rattle.ksi_logblock.specs.Locating.{located};
+ghost use Rattle.ksi_logblock.specs.Proofs.{root_by};
+ghost use Rattle.ksi_logblock.specs.Shown.{IsLine, LeadsToRoot, Shows};
+ghost use Rattle.ksi_logblock.specs.declared.line_proof.LineProof.{LineProof};
+ghost use Rattle.ksi_logblock.specs.declared.locating.Located.TheVariants as answers;
+
+use ksi_aggtree::laws::one_round;
+use ksi_beside::laws::beside_a_tree;
+use ksi_split::laws::{one_answer, one_split, one_way};
+
+/// The first mask is the hash of the zero imprint and the seed, each later one that of the leaf before and the seed. A leaf is
+/// the join of its line's mask and hash, at level 1.
+pub fn masks_and_leaves()
+    ensures first { (image : List ℕ → List ℕ) (block : Masked) →
+        mask_at image block 0 ≡ image (zero_imprint ++ block.seed) }
+    ensures later { (image : List ℕ → List ℕ) (block : Masked) (k : ℕ) →
+        mask_at image block (k + 1) ≡ image (leaf_at image block k ++ block.seed) }
+    ensures leaf { (image : List ℕ → List ℕ) (block : Masked) (k : ℕ) → k < length block.lines →
+        leaf_at image block k ≡ image (join_text (mask_at image block k) (image (line_at block k)) 1) }
+    ensures count { (image : List ℕ → List ℕ) (block : Masked) →
+        length (leaves_of image block) ≡ length block.lines }
+{}
+
+/// Whatever is answered of a line and a proof over a block shows what it says, for every hash function whose images are
+/// imprints; and the line is found exactly where it stands in the block, and its proof has its own mask and sides.
+pub fn location_shows()
+    ensures shows { (image : List ℕ → List ℕ) (block : Masked) (line : List ℕ) (proof : LineProof) →
+        ((bytes : List ℕ) → IsImprint (image bytes)) → 0 < length block.lines → IsImprint proof.mask →
+        AllByRecursion (λ link. length link.sibling ≡ 33) proof.links → Shows image block line proof (located image block line proof) }
+    ensures inside { (image : List ℕ → List ℕ) (block : Masked) (line : List ℕ) (proof : LineProof) (k : ℕ) →
+        ((bytes : List ℕ) → IsImprint (image bytes)) → 0 < length block.lines → IsImprint proof.mask →
+        AllByRecursion (λ link. length link.sibling ≡ 33) proof.links →
+        (located image block line proof ≡ answers.In k) ↔ (LeadsToRoot image block line proof × IsLine image block line proof k) }
+{
+    masks_and_leaves();
+    one_round();
+    beside_a_tree();
+    one_answer();
+    one_split();
+    one_way();
+}
+
+/// No level passes 255 where a line and its proof lead to a root.
+pub(crate) fn low_levels()
+    ensures { (image : List ℕ → List ℕ) (line root : List ℕ) (proof : LineProof) → root_by image line proof ≡ Ok root →
+        level_after 1 (plain_line_links proof.links) ≤ highest_level }
+{}
