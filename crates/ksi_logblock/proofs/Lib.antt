@@ -2,6 +2,7 @@ pub mod Answering
 pub mod BlockTree
 pub mod Cases
 pub mod Climbs
+pub mod Leading
 pub mod Leaves
 pub mod Outcomes
 pub mod Own

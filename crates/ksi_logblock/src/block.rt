@@ -1,14 +1,18 @@
 ghost use Rattle.std.specs.Prelude.{◌≡◌, ◌<◌, ◌≤◌, ◌+◌, ◌↔◌, ◌&&◌, [], ℕ, length, OnOk, OnErr, IfOk};
 ghost use Rattle.ksi_imprint.specs.declared.refused.Refused.TheVariants as refused;
 ghost use Rattle.ksi_aggchain.specs.Owned.{plain_links};
+ghost use Rattle.ksi_split.specs.Ways.{way_of};
 ghost use Rattle.ksi_aggtree.specs.Nodes.{node_text};
+ghost use Rattle.ksi_logblock.specs.Locating.{kept_root};
+ghost use Rattle.ksi_logblock.specs.Proofs.{root_by};
 ghost use Rattle.ksi_aggtree.specs.Paths.{chain_of};
 ghost use Rattle.ksi_aggtree.specs.Rounds.{tree_from};
 ghost use Rattle.std.specs.Str.{bytes_eq};
-ghost use Rattle.ksi_logblock.specs.Links.{plain_line_links};
+ghost use Rattle.ksi_logblock.specs.Links.{plain_line_links, sides_of};
 ghost use Rattle.ksi_logblock.specs.Blocks.{with_line, block_root, items_of, leaf_text, leaves_of, line_at, mask_at, most_lines, longest_line};
 
 use crate::hashing::{leaf_of, mask_of};
+use crate::laws::own_proofs;
 use crate::line_proof::{LineLinks, LineProof};
 use crate::over::{links_over, tree_over};
 use ksi_aggchain::Node;
@@ -128,6 +132,18 @@ impl<'a, C: Compress> Block<'a, C> {
     /// # Errors
     /// `NoMemory`: all is as it was.
     pub fn proof(&self, alloc: Global, k: usize) -> Result<LineProof, NoMemory>
+        requires { k < length self.now.lines }
+        ensures mask { IfOk result (λ proof. proof.mask ≡ mask_at C.image self.now k) }
+        ensures links { IfOk result (λ proof. plain_line_links proof.links ≡ plain_links (chain_of C.image (items_of C.image self.now) k)) }
+        ensures way { IfOk result (λ proof. sides_of proof.links ≡ way_of k (length self.now.lines)) }
+        ensures root { IfOk result (λ proof. root_by C.image (line_at self.now k) proof ≡ Ok (kept_root C.image self.now)) }
+    {
+        own_proofs();
+        let _count = self.count();
+        self.mask_and_links(alloc, k)
+    }
+
+    fn mask_and_links(&self, alloc: Global, k: usize) -> Result<LineProof, NoMemory>
         requires { k < length self.now.lines }
         ensures mask { IfOk result (λ proof. proof.mask ≡ mask_at C.image self.now k) }
         ensures links { IfOk result (λ proof. plain_line_links proof.links ≡ plain_links (chain_of C.image (items_of C.image self.now) k)) }

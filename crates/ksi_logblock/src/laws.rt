@@ -2,17 +2,21 @@
 ghost use Rattle.std.specs.Prelude.{◌≡◌, ◌<◌, ◌≤◌, ◌+◌, ◌↔◌, ◌++◌, ℕ, List, Ok, length};
 ghost use Rattle.std.specs.List.{AllByRecursion};
 ghost use Rattle.ksi_imprint.specs.Imprints.{IsImprint, join_text, zero_imprint};
-ghost use Rattle.ksi_aggchain.specs.Climbing.{climbed, level_after};
+ghost use Rattle.ksi_split.specs.Ways.{way_of};
+ghost use Rattle.ksi_aggchain.specs.Climbing.{level_after};
+ghost use Rattle.ksi_aggchain.specs.Owned.{plain_links};
+ghost use Rattle.ksi_aggtree.specs.Paths.{chain_of};
 ghost use Rattle.ksi_aggchain.specs.Links.{highest_level};
-ghost use Rattle.ksi_logblock.specs.Blocks.{Masked, leaf_at, leaves_of, line_at, mask_at, most_lines};
-ghost use Rattle.ksi_logblock.specs.Links.{plain_line_links};
-ghost use Rattle.ksi_logblock.specs.Locating.{located};
+ghost use Rattle.ksi_logblock.specs.Blocks.{Masked, items_of, leaf_at, leaves_of, line_at, mask_at, most_lines};
+ghost use Rattle.ksi_logblock.specs.Links.{plain_line_links, sides_of};
+ghost use Rattle.ksi_logblock.specs.Locating.{kept_root, located};
 ghost use Rattle.ksi_logblock.specs.Proofs.{root_by};
 ghost use Rattle.ksi_logblock.specs.Shown.{IsLine, LeadsToRoot, Shows};
 ghost use Rattle.ksi_logblock.specs.declared.line_proof.LineProof.{LineProof};
 ghost use Rattle.ksi_logblock.specs.declared.locating.Located.TheVariants as answers;
 
-use ksi_aggtree::laws::one_round;
+use ksi_aggchain::laws::one_climb;
+use ksi_aggtree::laws::{one_chain, one_round};
 use ksi_beside::laws::beside_a_tree;
 use ksi_split::laws::{one_answer, one_split, one_way};
 
@@ -28,6 +32,19 @@ pub fn masks_and_leaves()
     ensures count { (image : List ℕ → List ℕ) (block : Masked) →
         length (leaves_of image block) ≡ length block.lines }
 {}
+
+/// A line's own mask and chain lead to the block's root, and the chain's sides from the top are the line's way.
+pub(crate) fn own_proofs()
+    ensures root { (image : List ℕ → List ℕ) (block : Masked) (proof : LineProof) (k : ℕ) → k < length block.lines →
+        proof.mask ≡ mask_at image block k → plain_line_links proof.links ≡ plain_links (chain_of image (items_of image block) k) →
+        length block.lines ≤ most_lines → root_by image (line_at block k) proof ≡ Ok (kept_root image block) }
+    ensures way { (image : List ℕ → List ℕ) (block : Masked) (proof : LineProof) (k : ℕ) → k < length block.lines →
+        proof.mask ≡ mask_at image block k → plain_line_links proof.links ≡ plain_links (chain_of image (items_of image block) k) →
+        sides_of proof.links ≡ way_of k (length block.lines) }
+{
+    one_chain();
+    one_climb();
+}
 
 /// Whatever is answered of a line and a proof over a block shows what it says, for every hash function whose images are
 /// imprints; and the line is found exactly where it stands in the block, and its proof has its own mask and sides.
