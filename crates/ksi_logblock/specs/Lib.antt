@@ -4,3 +4,5 @@ pub mod Proofs
 pub mod Upward
 pub mod Locating
 pub mod Shown
+pub mod Elements
+pub mod File
