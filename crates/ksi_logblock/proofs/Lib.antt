@@ -1,7 +1,9 @@
+pub mod Again
 pub mod Answering
 pub mod BlockTree
 pub mod Cases
 pub mod Climbs
+pub mod Files
 pub mod Leading
 pub mod Leaves
 pub mod Outcomes

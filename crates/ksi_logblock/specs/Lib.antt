@@ -6,3 +6,4 @@ pub mod Locating
 pub mod Shown
 pub mod Elements
 pub mod File
+pub mod Kept

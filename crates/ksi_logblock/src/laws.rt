@@ -1,5 +1,5 @@
 //! What holds of blocks, for the layers above to cite. None of these functions does anything.
-ghost use Rattle.std.specs.Prelude.{◌≡◌, ◌<◌, ◌≤◌, ◌+◌, ◌↔◌, ◌++◌, ℕ, List, Ok, length};
+ghost use Rattle.std.specs.Prelude.{◌≡◌, ◌<◌, ◌≤◌, ◌+◌, ◌↔◌, ◌⊎◌, ◌++◌, ℕ, List, Ok, length};
 ghost use Rattle.std.specs.List.{AllByRecursion};
 ghost use Rattle.ksi_imprint.specs.Imprints.{IsImprint, join_text, zero_imprint};
 ghost use Rattle.ksi_split.specs.Ways.{way_of};
@@ -8,7 +8,10 @@ ghost use Rattle.ksi_aggchain.specs.Owned.{plain_links};
 ghost use Rattle.ksi_aggtree.specs.Paths.{chain_of};
 ghost use Rattle.ksi_aggchain.specs.Links.{highest_level};
 ghost use Rattle.ksi_logblock.specs.Blocks.{Masked, items_of, leaf_at, leaves_of, line_at, mask_at, most_lines};
-ghost use Rattle.ksi_logblock.specs.Links.{plain_line_links, sides_of};
+ghost use Rattle.ksi_logblock.specs.File.{IsProofFile, IsProofFault, proof_text};
+ghost use Rattle.ksi_logblock.specs.Kept.{IsLineLink};
+ghost use Rattle.ksi_logblock.specs.Links.{most_links, plain_line_links, sides_of};
+ghost use Rattle.ksi_logblock.specs.declared.proof_fault.ProofFault.{ProofFault};
 ghost use Rattle.ksi_logblock.specs.Locating.{kept_root, located};
 ghost use Rattle.ksi_logblock.specs.Proofs.{root_by};
 ghost use Rattle.ksi_logblock.specs.Shown.{IsLine, LeadsToRoot, Shows};
@@ -18,7 +21,11 @@ ghost use Rattle.ksi_logblock.specs.declared.locating.Located.TheVariants as ans
 use ksi_aggchain::laws::one_climb;
 use ksi_aggtree::laws::{one_chain, one_round};
 use ksi_beside::laws::beside_a_tree;
+use crate::proof_fault::ProofFault;
+use crate::said::Reading;
+use ksi_order::whole_or_fault;
 use ksi_split::laws::{one_answer, one_split, one_way};
+use ksi_tlv::{numeral_is_read, written_is_read};
 
 /// The first mask is the hash of the zero imprint and the seed, each later one that of the leaf before and the seed. A leaf is
 /// the join of its line's mask and hash, at level 1.
@@ -63,6 +70,28 @@ pub fn location_shows()
     one_answer();
     one_split();
     one_way();
+}
+
+/// The file of a proof is a file of that proof.
+pub fn text_is_proof()
+    ensures { (proof : LineProof) → IsImprint proof.mask → length proof.links ≤ most_links → AllByRecursion IsLineLink proof.links →
+        IsProofFile (proof_text proof) proof }
+{
+    written_is_read();
+    numeral_is_read();
+}
+
+/// Bytes are the file of a proof or have a first fault, and not both; and they are that of one proof and have one first fault.
+pub fn file_or_fault()
+    ensures one { (bytes : List ℕ) → ((proof : LineProof) × IsProofFile bytes proof) ⊎ ((fault : ProofFault) × IsProofFault bytes fault) }
+    ensures not_both { (bytes : List ℕ) (proof : LineProof) (fault : ProofFault) →
+        IsProofFile bytes proof → IsProofFault bytes fault → ⊥ }
+    ensures one_proof { (bytes : List ℕ) (some other : LineProof) →
+        IsProofFile bytes some → IsProofFile bytes other → some ≡ other }
+    ensures one_fault { (bytes : List ℕ) (fault other : ProofFault) →
+        IsProofFault bytes fault → IsProofFault bytes other → fault ≡ other }
+{
+    whole_or_fault::<Reading, ProofFault>();
 }
 
 /// No level passes 255 where a line and its proof lead to a root.

@@ -2,8 +2,11 @@
 ghost use Rattle.std.specs.Prelude.{◌≡◌, ◌≤◌, ◌++◌, [], length, map, IfOk, OnOk};
 ghost use Rattle.ksi_tlv.specs.Spelling.{canonical};
 ghost use Rattle.ksi_tlv.specs.Writing.{texts};
-ghost use Rattle.ksi_logblock.specs.File.{correction_elements, kind_of, link_element, link_elements, proof_elements, proof_text};
+ghost use Rattle.ksi_logblock.specs.Kept.{IsLineLink};
+ghost use Rattle.std.specs.List.{AllByRecursion};
+ghost use Rattle.ksi_logblock.specs.File.{IsProofFile, correction_elements, kind_of, link_element, link_elements, proof_elements, proof_text};
 
+use crate::laws::text_is_proof;
 use crate::line_proof::{LineLink, LineProof};
 use crate::reading::MAGIC;
 use ksi_grammar::put_short;
@@ -18,6 +21,31 @@ use std::alloc::Global;
 /// `NoMemory` where memory was wanting.
 pub fn write_proof(alloc: Global, proof: &LineProof) -> Result<Bytes, NoMemory>
     ensures text { IfOk result (λ text. text ≡ proof_text proof.now) }
+    ensures again { IfOk result (λ text. IsProofFile text proof.now) }
+{
+    text_is_proof();
+    let _mask = proof.mask.bytes();
+    let links = proof.links.as_slice();
+    are_links(links);
+    written(alloc, proof)
+}
+
+/// What the type of links keeps of each.
+fn are_links(links: &[LineLink])
+    ensures { AllByRecursion IsLineLink links.now }
+{
+    match links.split_first() {
+        None => {}
+        Some((link, higher)) => {
+            let _bytes = link.sibling.bytes();
+            let _correction = link.correction;
+            are_links(higher);
+        }
+    }
+}
+
+fn written(alloc: Global, proof: &LineProof) -> Result<Bytes, NoMemory>
+    ensures { IfOk result (λ text. text ≡ proof_text proof.now) }
 {
     let mut magic = Vec::new(alloc);
     magic.extend_from_slice(MAGIC)?;
