@@ -1,8 +1,8 @@
 -- What is written of a line's proof is read again.
-use Rattle.std.proofs.Common.{◌≡◌, ℕ, suc, ◌+◌, ◌-◌, ◌^◌, ◌<◌, ◌≤◌, Bool, true, false, ◌&&◌, ltb, eqb, List, [], ◌∷◌, ◌++◌, length, map, Result, Ok, Err, ◌⊎◌, inl, inr, refl, sym, ap, subst, ◌∙◌, arith, append_assoc, append-nil, length-append}
+use Rattle.std.proofs.Common.{◌≡◌, ℕ, ◌+◌, ◌^◌, ◌<◌, ◌≤◌, true, false, ◌&&◌, ltb, eqb, List, [], ◌∷◌, ◌++◌, length, map, Result, Ok, Err, inl, inr, refl, sym, ap, subst, ◌∙◌, arith, append_assoc, append-nil, length-append}
 use Rattle.std.specs.List.{AllByRecursion}
-use Rattle.std.proofs.lemmas.Bool.{lt-ltb, le-ltb, ne_eqb, eq-eqb, cond_both}
-use Rattle.ksi_imprint.specs.Imprints.{IsImprint, zero_imprint}
+use Rattle.std.proofs.lemmas.Bool.{lt-ltb, le-ltb, eq-eqb, cond_both}
+use Rattle.ksi_imprint.specs.Imprints.{IsImprint}
 use Rattle.ksi_imprint.specs.Reading as imprints
 use Rattle.ksi_split.specs.declared.side.Side.{Side}
 use Rattle.ksi_split.specs.declared.side.Side.TheVariants.{Left, Right}
@@ -19,8 +19,8 @@ use Rattle.ksi_order.specs.declared.fault.OrderFault.{OrderFault}
 use Rattle.ksi_order.specs.declared.fault.OrderFault.TheVariants as orders
 use Rattle.ksi_logblock.specs.declared.line_proof.LineLink.{LineLink}
 use Rattle.ksi_logblock.specs.declared.line_proof.LineProof.{LineProof}
-use Rattle.ksi_logblock.specs.Elements.{Said, correction_at, element_read, kinds_next, link_at, link_in, mask_at, nothing_yet, proof_order, side_of, started_with, with_correction, with_sibling}
-use Rattle.ksi_logblock.specs.File.{IsProofFile, correction_elements, kind_of, link_element, link_elements, proof_elements, proof_text, said_of}
+use Rattle.ksi_logblock.specs.Elements.{Said, correction_at, element_read, link_at, link_in, mask_at, nothing_yet, proof_order, side_of, with_correction, with_sibling}
+use Rattle.ksi_logblock.specs.File.{IsProofFile, kind_of, link_element, link_elements, proof_elements, proof_text}
 use Rattle.ksi_logblock.specs.Kept.{IsLineLink}
 use Rattle.ksi_logblock.proofs.Cases.{eq_cases}
 
@@ -128,6 +128,7 @@ module _ (laws : Written) where
         ap (λ (es : List Tlv). link_in (placed_at place (plain (kind_of link.side) (texts es)) n)) es ∙ two
         ∙ ap (λ (side : Side). made link side link.correction) (side_again link.side))
   ]
+
   -- ---- sizes
 
   length-canonical : (e : Tlv) → length (canonical e) ≤ 4 + length e.body
@@ -168,10 +169,16 @@ module _ (laws : Written) where
   links_again : (mask : List ℕ) (before links : List LineLink) (place : ℕ) → length before + length links ≤ 63 → AllByRecursion IsLineLink links → Leads proof_order (saying mask before) (placed place (map link_element links)) (saying mask (before ++ links))
   links_again mask before [] place few all = ap (saying mask) (sym (append-nil before))
   links_again mask before (link ∷ links) place few all =
-      let n = length (canonical (link_element link)) in
-      (refl, stands link.side, (saying mask (before ++ link ∷ []), link_read mask before link place n (omega (arith, few)) all.0,
-      subst (λ (l : List LineLink). Leads proof_order (saying mask (before ++ link ∷ [])) (placed (place + n) (map link_element links)) (saying mask l)) (append_assoc before (link ∷ []) links)
-      (links_again mask (before ++ link ∷ []) links (place + n) (omega (arith, few, length-append before (link ∷ []))) all.1)))
+      let n = length (canonical (link_element link)) in (
+        refl,
+        stands link.side,
+        (
+          saying mask (before ++ link ∷ []),
+          link_read mask before link place n (omega (arith, few)) all.0,
+          subst (λ (l : List LineLink). Leads proof_order (saying mask (before ++ link ∷ [])) (placed (place + n) (map link_element links)) (saying mask l)) (append_assoc before (link ∷ []) links)
+              (links_again mask (before ++ link ∷ []) links (place + n) (omega (arith, few, length-append before (link ∷ []))) all.1),
+        ),
+      )
 
   pub proof_again : (proof : LineProof) → IsImprint proof.mask → length proof.links ≤ 63 → AllByRecursion IsLineLink proof.links → IsProofFile (proof_text proof) proof
   proof_again proof mask few all =

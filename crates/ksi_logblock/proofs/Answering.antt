@@ -1,5 +1,5 @@
 -- The answer about a line and a proof, by whether they lead to the kept root.
-use Rattle.std.proofs.Common.{◌≡◌, ℕ, List, map, length, true, false, Result, Ok, refl, sym, ap, subst, ◌∙◌}
+use Rattle.std.proofs.Common.{◌≡◌, ℕ, List, length, true, false, Ok, refl, sym, ap, ◌∙◌}
 use Rattle.std.specs.Str.{bytes_eq}
 use Rattle.std.proofs.lemmas.List.{length-map}
 use Rattle.ksi_imprint.specs.Imprints.{zero_imprint}

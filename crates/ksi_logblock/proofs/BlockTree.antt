@@ -1,5 +1,5 @@
 -- A block's tree as a tree for the links of a line's proof, down to what its leaves are made of.
-use Rattle.std.proofs.Common.{◌≡◌, ◌↔◌, ℕ, ◌+◌, ◌-◌, ◌<◌, ◌≤◌, ◌&&◌, Bool, true, false, List, [], ◌∷◌, ◌++◌, length, map, max, get_or, Option, Some, None, refl, sym, ap, ◌∙◌, arith, inl, inr, eqb}
+use Rattle.std.proofs.Common.{◌≡◌, ◌↔◌, ℕ, ◌+◌, ◌-◌, ◌<◌, ◌≤◌, ◌&&◌, Bool, true, false, List, [], ◌∷◌, ◌++◌, length, Option, Some, None, refl, sym, ap, ◌∙◌, arith, inl, inr, eqb}
 use Rattle.std.specs.Prelude.{◌==◌, if◌then◌else◌}
 use Rattle.std.proofs.lemmas.Bool.{eqb-true}
 use Rattle.ksi_imprint.specs.Imprints.{join_text, zero_imprint}
@@ -12,8 +12,8 @@ use Rattle.ksi_aggtree.specs.declared.item.Item.{Item}
 use Rattle.ksi_aggtree.specs.Rounds.{aggregation_join, item_at, leaf, tree_from}
 use Rattle.ksi_beside.specs.Beside.{Rung, rung_text}
 use Rattle.ksi_beside.specs.Standing.{IsTree}
-use Rattle.ksi_logblock.specs.Blocks.{Masked, items_of, leaf_at, leaf_item, leaf_text, leaves_of, line_at, mask_at}
-use Rattle.ksi_logblock.specs.Locating.{all_lines, block_text, part_text, text_below}
+use Rattle.ksi_logblock.specs.Blocks.{Masked, items_of, leaf_item, leaf_text, leaves_of, line_at, mask_at}
+use Rattle.ksi_logblock.specs.Locating.{all_lines, block_text, text_below}
 use Rattle.ksi_logblock.proofs.Cases.{eq_cases}
 use Rattle.ksi_logblock.proofs.Leaves.{leaves_count, leaf_here}
 use Rattle.ksi_logblock.proofs.Roots.{item_is}

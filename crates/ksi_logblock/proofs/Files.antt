@@ -1,5 +1,5 @@
 -- A proof file or its first fault.
-use Rattle.std.proofs.Common.{◌≡◌, ◌⊎◌, ℕ, ◌+◌, true, List, [], ◌∷◌, ◌++◌, length, refl, sym, ap, subst, ◌∙◌, inl, inr}
+use Rattle.std.proofs.Common.{◌≡◌, ◌⊎◌, ℕ, ◌+◌, List, [], ◌∷◌, ◌++◌, length, refl, sym, subst, ◌∙◌, inl, inr}
 use Rattle.std.proofs.lemmas.List.{append_cancel_left}
 use Rattle.std.proofs.lemmas.Bool.{cases_eq}
 use Rattle.ksi_tlv.specs.Walking.{Items, elements}
@@ -60,7 +60,7 @@ module _ (laws : Laws) (bytes : List ℕ) where
   one_proof some other file also =
       let same = same_rest bytes file.rest also.rest file.begins also.begins in
       let state = laws.one_state proof_order (elements 8 also.rest) nothing_yet (said_of some) (said_of other)
-          (subst (λ (r : List ℕ). IsWhole proof_order (elements 8 r) nothing_yet (said_of some)) same file.whole) also.whole in
+      (subst (λ (r : List ℕ). IsWhole proof_order (elements 8 r) nothing_yet (said_of some)) same file.whole) also.whole in
       λ i. record { mask = (state i).mask; links = (state i).links }
 
   pub one_fault : (fault other : ProofFault) → IsProofFault bytes fault → IsProofFault bytes other → fault ≡ other

@@ -1,5 +1,5 @@
 -- Each proof of a block leads to its root, along its line's way.
-use Rattle.std.proofs.Common.{◌≡◌, ℕ, zero, suc, ◌+◌, ◌<◌, ◌≤◌, List, [], ◌∷◌, ◌++◌, length, map, reverse, append-nil, Result, Ok, Err, refl, sym, ap, subst, ◌∙◌, arith}
+use Rattle.std.proofs.Common.{◌≡◌, ℕ, zero, suc, ◌<◌, ◌≤◌, List, [], ◌∷◌, ◌++◌, length, map, reverse, append-nil, Result, Ok, Err, refl, sym, ap, ◌∙◌, arith}
 use Rattle.std.specs.Prelude.{IfOk, ◌↔◌}
 use Rattle.std.proofs.lemmas.List.{length-map}
 use Rattle.ksi_imprint.specs.Imprints.{zero_imprint}
@@ -7,7 +7,7 @@ use Rattle.ksi_split.specs.declared.side.Side.{Side}
 use Rattle.ksi_split.specs.Ways.{way_of}
 use Rattle.ksi_aggchain.specs.Links.{PlainLink}
 use Rattle.ksi_aggchain.specs.Climbing.{Climbs, climbed}
-use Rattle.ksi_aggchain.specs.Owned.{plain_link, plain_links}
+use Rattle.ksi_aggchain.specs.Owned.{plain_links}
 use Rattle.ksi_aggchain.specs.declared.link.Link.{Link}
 use Rattle.ksi_aggchain.specs.declared.node.Node.{Node}
 use Rattle.ksi_aggtree.specs.declared.item.Item.{Item}
@@ -16,7 +16,7 @@ use Rattle.ksi_aggtree.specs.Rounds.{IsRound, as_node, item_at, leaf_level, tree
 use Rattle.ksi_logblock.specs.declared.line_proof.LineLink.{LineLink}
 use Rattle.ksi_logblock.specs.declared.line_proof.LineProof.{LineProof}
 use Rattle.ksi_logblock.specs.Blocks.{Masked, items_of, leaf_item, leaves_of, line_at, mask_at}
-use Rattle.ksi_logblock.specs.Links.{plain_line_link, plain_line_links, sides_of}
+use Rattle.ksi_logblock.specs.Links.{plain_line_links, sides_of}
 use Rattle.ksi_logblock.specs.Locating.{kept_root}
 use Rattle.ksi_logblock.specs.Proofs.{imprint_or_fault, leaf_node, root_by}
 use Rattle.ksi_logblock.proofs.Leaves.{leaf_here, leaves_count}

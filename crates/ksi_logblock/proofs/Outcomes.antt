@@ -1,19 +1,17 @@
 -- What the walk along a line's links comes to is what the definition says.
-use Rattle.std.proofs.Common.{◌≡◌, ℕ, ◌≤◌, List, [], ◌∷◌, ◌++◌, length, map, Result, Ok, Err, OnErr, Option, Some, None, false, refl, sym, ap, subst, ◌∙◌, arith, inl, inr}
+use Rattle.std.proofs.Common.{◌≡◌, ℕ, List, [], ◌∷◌, ◌++◌, length, Result, Ok, Err, OnErr, Option, Some, None, false, refl, sym, ap, subst, ◌∙◌, arith, inl, inr}
 use Rattle.std.specs.Prelude.{IfOk}
 use Rattle.std.specs.List.{AllByRecursion}
 use Rattle.ksi_imprint.specs.declared.clash.Clash.{Clash}
 use Rattle.ksi_split.specs.declared.side.Side.{Side}
 use Rattle.ksi_split.specs.declared.side.Side.TheVariants.{Left}
-use Rattle.ksi_aggchain.specs.Links.{PlainLink}
-use Rattle.ksi_aggchain.specs.declared.node.Node.{Node}
-use Rattle.ksi_beside.specs.Beside.{Rung, rungs_from, Pair, pairs_below, differing, ended, laid_from, laid_on, IsApart, IsShortLink, clash_in}
+use Rattle.ksi_beside.specs.Beside.{Rung, rungs_from, Pair, differing, ended, laid_from, laid_on, IsApart, IsShortLink, clash_in}
 use Rattle.ksi_beside.specs.declared.walk.Walk.{Walk}
 use Rattle.ksi_beside.specs.declared.walk.Walk.TheVariants.{Apart, At, Past}
 use Rattle.ksi_logblock.specs.declared.line_proof.LineLink.{LineLink}
 use Rattle.ksi_logblock.specs.declared.line_proof.LineProof.{LineProof}
 use Rattle.ksi_logblock.specs.Blocks.{Masked, leaf_text}
-use Rattle.ksi_logblock.specs.Links.{plain_line_link, plain_line_links}
+use Rattle.ksi_logblock.specs.Links.{plain_line_links}
 use Rattle.ksi_logblock.specs.Locating.{block_text, found, first_pair, line_pairs, line_rungs, mask_node, node_pairs}
 use Rattle.ksi_logblock.specs.Shown.{HasClash}
 use Rattle.ksi_logblock.specs.declared.locating.Located.{Located}

@@ -1,6 +1,6 @@
 -- Where no string of a line's links differs from a block's tree, the line's own mask and hash stand where they lead.
-use Rattle.std.proofs.Common.{◌≡◌, ◌↔◌, ℕ, ◌+◌, ◌-◌, ◌<◌, ◌≤◌, true, false, List, [], ◌∷◌, ◌++◌, length, map, max, append_assoc, append-nil, Result, Ok, Err, Option, Some, None, refl, sym, ap, ◌∙◌, arith, inl, inr}
-use Rattle.std.specs.Prelude.{◌==◌, if◌then◌else◌}
+use Rattle.std.proofs.Common.{◌≡◌, ℕ, ◌+◌, ◌<◌, ◌≤◌, false, List, [], ◌∷◌, ◌++◌, length, map, max, append_assoc, append-nil, Ok, Option, None, refl, sym, ap, ◌∙◌, arith, inl, inr}
+use Rattle.std.specs.Prelude.{◌==◌}
 use Rattle.std.specs.List.{AllByRecursion}
 use Rattle.ksi_imprint.specs.Imprints.{join_text}
 use Rattle.ksi_split.specs.Parts.{Part, half_of, part_at}
@@ -63,12 +63,12 @@ module _ (laws : Laws) (image : List ℕ → List ℕ) (sizes : (x : List ℕ) �
       let first = none_first (join_text mask hash 1, part_text image block part) [] e in
       elim (eq_cases part.count 1) [
         | inl one ↦ (let is : join_text mask hash 1 ≡ leaf_text image (mask_at image block part.first) (line_at block part.first) = rw one.0 at first.0 in record {
-            k = part.first;
-            leads = λ i. Ok (record { first = part.first; count = one.1 i });
-            there = omega (arith, one.1, within);
-            mask_is = left_same mask hash _ _ 1 1 is (m ∙ sym (sizes _));
-            hash_is = right_same mask hash (mask_at image block part.first) (image (line_at block part.first)) 1 1 is (h ∙ sym (sizes _));
-          })
+          k = part.first;
+          leads = λ i. Ok (record { first = part.first; count = one.1 i });
+          there = omega (arith, one.1, within);
+          mask_is = left_same mask hash _ _ 1 1 is (m ∙ sym (sizes _));
+          hash_is = right_same mask hash (mask_at image block part.first) (image (line_at block part.first)) 1 1 is (h ∙ sym (sizes _));
+        })
         | inr other ↦ (let more : 1 < part.count = (let ne = other.1 in omega (arith, ne, some)) in
             let l = half_some laws part Left more in
             let r = half_some laws part Right more in

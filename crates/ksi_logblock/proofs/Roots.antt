@@ -1,15 +1,12 @@
 -- The tree and the chains of a block's items, over its leaves.
-use Rattle.std.proofs.Common.{◌≡◌, ℕ, zero, suc, ◌+◌, ◌-◌, ◌^◌, ◌<◌, ◌≤◌, List, [], ◌∷◌, ◌++◌, length, get_or, map, Option, Some, None, refl, ap, ◌∙◌, sym, arith}
+use Rattle.std.proofs.Common.{◌≡◌, ℕ, zero, suc, ◌^◌, ◌<◌, ◌≤◌, List, [], ◌++◌, length, get_or, map, Some, refl, ap, ◌∙◌, sym, arith}
 use Rattle.std.proofs.lemmas.List.{get_or-map, length-map}
-use Rattle.ksi_split.specs.declared.tree_link.TreeLink.{TreeLink}
 use Rattle.ksi_split.specs.Trees.{tree, tree_within, path_of, path_within}
 use Rattle.ksi_aggchain.specs.declared.node.Node.{Node}
-use Rattle.ksi_aggchain.specs.declared.link.Link.{Link}
-use Rattle.ksi_aggchain.specs.Owned.{plain_link, plain_links}
 use Rattle.ksi_aggtree.specs.declared.item.Item.{Item}
 use Rattle.ksi_aggtree.specs.Paths.{links_from, name_links, chain_of}
 use Rattle.ksi_aggtree.specs.Rounds.{aggregation_join, leaf, leaf_of_place, item_at, no_item, root_from, root_of, tree_of, tree_path}
-use Rattle.ksi_logblock.specs.Blocks.{Masked, leaf_item, leaves_of, items_of, block_root}
+use Rattle.ksi_logblock.specs.Blocks.{Masked, leaf_item, leaves_of, block_root}
 
 abbrev pub TreesFit : Type 0
 TreesFit = (join : Node → Node → Node) (leaf : ℕ → Node) (k lo n : ℕ) → n ≤ 2 ^ k → tree join leaf lo n ≡ tree_within join leaf k lo n

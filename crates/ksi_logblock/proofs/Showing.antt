@@ -1,26 +1,23 @@
 -- Whatever is answered of a line and a proof shows what it says.
-use Rattle.std.proofs.Common.{◌≡◌, ◌≢◌, ◌↔◌, ℕ, ◌+◌, ◌-◌, ◌<◌, ◌≤◌, ◌&&◌, Bool, true, false, List, [], ◌∷◌, ◌++◌, length, map, Result, Ok, Err, Option, Some, None, refl, sym, ap, subst, ◌∙◌, arith, inl, inr}
+use Rattle.std.proofs.Common.{◌≡◌, ◌≢◌, ◌↔◌, ℕ, ◌+◌, ◌-◌, ◌<◌, ◌&&◌, Bool, true, false, List, [], ◌∷◌, ◌++◌, length, Result, Ok, Err, Option, Some, None, refl, sym, ap, subst, ◌∙◌, arith, inl, inr}
 use Rattle.std.specs.Prelude.{if◌then◌else◌, unwrap_or}
 use Rattle.std.specs.List.{AllByRecursion}
 use Rattle.std.specs.Str.{bytes_eq}
 use Rattle.ksi_imprint.specs.Imprints.{IsClash, IsImprint}
-use Rattle.ksi_split.specs.Parts.{Part, part_at, second_at, second_in}
+use Rattle.ksi_split.specs.Parts.{part_at, second_at, second_in}
 use Rattle.ksi_split.specs.Ways.{IsWay, NamesSecond, way_of}
 use Rattle.ksi_split.specs.declared.side.Side.{Side}
 use Rattle.ksi_split.specs.declared.side.Side.TheVariants.{Left}
 use Rattle.ksi_split.specs.declared.fault.ShapeFault.{ShapeFault}
 use Rattle.ksi_aggchain.specs.declared.climbing.LevelFault.{LevelFault}
-use Rattle.ksi_aggchain.specs.declared.node.Node.{Node}
-use Rattle.ksi_aggtree.specs.Rounds.{tree_from, tree_of}
-use Rattle.ksi_beside.specs.Beside.{Pair, Rung, rung_side, rungs_from, pairs_below, differing}
+use Rattle.ksi_aggtree.specs.Rounds.{tree_from}
+use Rattle.ksi_beside.specs.Beside.{Pair, Rung, rungs_from, pairs_below, differing}
 use Rattle.ksi_beside.specs.Standing.{Holds, IsTree}
 use Rattle.ksi_logblock.specs.declared.line_proof.LineProof.{LineProof}
-use Rattle.ksi_logblock.specs.declared.locating.Located.{Located}
-use Rattle.ksi_logblock.specs.declared.locating.Located.TheVariants.{NotAccepted, In, Clash}
-use Rattle.ksi_logblock.specs.declared.locating.LineRefusal.TheVariants.{Level, RootDiffers}
-use Rattle.ksi_logblock.specs.Blocks.{Masked, items_of, line_at, mask_at, leaf_text}
+use Rattle.ksi_logblock.specs.declared.locating.Located.TheVariants.{In}
+use Rattle.ksi_logblock.specs.Blocks.{Masked, items_of, line_at, mask_at}
 use Rattle.ksi_logblock.specs.Links.{plain_line_links, sides_of}
-use Rattle.ksi_logblock.specs.Locating.{against_root, all_lines, block_text, compared, first_pair, found, is_own, kept_root, line_in, line_named, line_pairs, line_rungs, located, node_pairs}
+use Rattle.ksi_logblock.specs.Locating.{against_root, all_lines, block_text, compared, first_pair, found, is_own, kept_root, line_in, line_named, line_pairs, located, node_pairs}
 use Rattle.ksi_logblock.specs.Proofs.{leaf_node, root_by}
 use Rattle.ksi_logblock.specs.Shown.{IsLine, LeadsToRoot, Shows}
 use Rattle.ksi_logblock.proofs.Answering.{kept_is}
@@ -28,7 +25,7 @@ use Rattle.ksi_logblock.proofs.BlockTree.{Laws, block_is_tree, node, of_imprints
 use Rattle.ksi_logblock.proofs.Cases.{same_cases}
 use Rattle.ksi_logblock.proofs.Climbs.{IsHigh, climbed_holds, holds_more, root_top, rungs_high, rungs_sides}
 use Rattle.ksi_logblock.proofs.Outcomes.{differing_first, differing_then}
-use Rattle.ksi_logblock.proofs.Own.{IsOwnLeaf, own_leaf}
+use Rattle.ksi_logblock.proofs.Own.{own_leaf}
 
 -- what the crates below say, besides the laws of trees
 pub record Cited : Type 0 where

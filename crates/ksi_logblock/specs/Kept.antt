@@ -1,5 +1,5 @@
 -- What the type of a link keeps.
-use Rattle.std.specs.Prelude.{ℕ, ◌<◌}
+use Rattle.std.specs.Prelude.{◌<◌}
 use Rattle.ksi_imprint.specs.Imprints.{IsImprint}
 use Rattle.ksi_logblock.specs.declared.line_proof.LineLink.{LineLink}
 

@@ -38,6 +38,8 @@ pub enum PushRefusal {
     LineTooLong(usize),
 }
 
+/// Lines with the leaves that are made of them, at most 65,536. The lines are lent. A contract sees the seed of the masks and
+/// the list of lines.
 #[derive(Drop)]
 pub struct Block<'a, C: Compress> {
     seed: [u8; 32],

@@ -18,11 +18,11 @@ ghost use Rattle.ksi_logblock.specs.Shown.{IsLine, LeadsToRoot, Shows};
 ghost use Rattle.ksi_logblock.specs.declared.line_proof.LineProof.{LineProof};
 ghost use Rattle.ksi_logblock.specs.declared.locating.Located.TheVariants as answers;
 
+use crate::proof_fault::ProofFault;
+use crate::said::Reading;
 use ksi_aggchain::laws::one_climb;
 use ksi_aggtree::laws::{one_chain, one_round};
 use ksi_beside::laws::beside_a_tree;
-use crate::proof_fault::ProofFault;
-use crate::said::Reading;
 use ksi_order::whole_or_fault;
 use ksi_split::laws::{one_answer, one_split, one_way};
 use ksi_tlv::{numeral_is_read, written_is_read};

@@ -97,12 +97,7 @@ fn half_of(height: u8) -> usize
 }
 
 /// Adds the link from a level beside another part, and says to what level it leads.
-fn add_link(
-    links: &mut Vec<LineLink>,
-    side: Side,
-    level: u8,
-    other: &Node,
-) -> Result<u8, NoMemory>
+fn add_link(links: &mut Vec<LineLink>, side: Side, level: u8, other: &Node) -> Result<u8, NoMemory>
     requires level { level ≤ 16 }
     requires other { other.now.level ≤ 16 }
     ensures links { IfOk result (λ above. map plain_line_link links.new.items ≡ map plain_line_link links.old.items ++

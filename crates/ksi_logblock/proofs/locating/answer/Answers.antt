@@ -1,7 +1,4 @@
-use Rattle.std.proofs.Common.{◌≡◌, ◌∷◌, List, ℕ, Bool, true, false, Ok, sym, ap, subst, ◌∙◌, length}
-use Rattle.std.specs.Str.{bytes_eq}
-use Rattle.ksi_aggchain.specs.declared.node.Node.{Node}
-use Rattle.ksi_logblock.specs.Blocks.{Masked}
+use Rattle.std.proofs.Common.{sym, subst, ◌∙◌}
 use Rattle.ksi_logblock.specs.Shown.{HasClash}
 use Rattle.ksi_logblock.proofs.Outcomes.{err_has, ok_goes_on}
 use Rattle.ksi_logblock.proofs.Answering.{kept_is, same_located, other_located}

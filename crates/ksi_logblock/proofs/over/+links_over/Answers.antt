@@ -1,12 +1,11 @@
-use Rattle.std.proofs.Common.{◌≡◌, ◌-◌, ◌+◌, ◌^◌, ◌++◌, ◌<◌, ◌∷◌, [], append-nil, ℕ, zero, suc, map, max, List, ap, sym, ◌∙◌, arith}
+use Rattle.std.proofs.Common.{◌≡◌, ◌-◌, ◌+◌, ◌^◌, ◌++◌, ◌∷◌, [], append-nil, ℕ, suc, map, List, ap, sym, ◌∙◌, arith}
 use Rattle.std.proofs.lemmas.Result.{IfOk-weaker}
 use Rattle.ksi_split.specs.Trees.{tree, tree_within, path_within}
 use Rattle.ksi_split.specs.declared.side.Side.TheVariants.{Left, Right}
 use Rattle.ksi_split.specs.declared.tree_link.TreeLink.{TreeLink}
 use Rattle.ksi_aggchain.specs.declared.node.Node.{Node}
-use Rattle.ksi_aggchain.specs.Links.{PlainLink}
-use Rattle.ksi_aggchain.specs.Owned.{plain_link, plain_links}
-use Rattle.ksi_aggtree.specs.Paths.{link_beside, links_from}
+use Rattle.ksi_aggchain.specs.Owned.{plain_links}
+use Rattle.ksi_aggtree.specs.Paths.{links_from}
 use Rattle.ksi_aggtree.specs.Rounds.{aggregation_join, leaf_of_place}
 use Rattle.ksi_logblock.specs.Blocks.{leaf_item}
 use Rattle.ksi_logblock.specs.Links.{plain_line_link}
@@ -57,11 +56,11 @@ returns-in_ok-level-clause-links g t c =
     let half : c.half_of-half.result ≡ 2 ^ k = c.half_of-half.ensures.half in
     let lower = path_within join leaf k c.args.first c.args.place (2 ^ k) in
     let other : c.tree_over-other.result ≡ tree join leaf (c.args.first + 2 ^ k) (c.args.count - 2 ^ k) = c.tree_over-other.ensures.tree ∙ ap (λ (n : ℕ). tree_within join leaf k (c.args.first + n) (c.args.count - n)) half
-        ∙ sym (c.enough_levels.ensures.tree join leaf k (c.args.first + 2 ^ k) (c.args.count - 2 ^ k) (omega (arith, half, c.half_of-half.ensures.both, c.requires.few))) in
+    ∙ sym (c.enough_levels.ensures.tree join leaf k (c.args.first + 2 ^ k) (c.args.count - 2 ^ k) (omega (arith, half, c.half_of-half.ensures.both, c.requires.few))) in
     let path = ap (λ (h : ℕ). path_within join leaf h c.args.first c.args.place c.args.count) e
-        ∙ path_left join leaf k c.args.first c.args.place c.args.count (omega (arith, c.if-count-half.false, half)) (omega (arith, c.if-place-half.true, half)) in
+    ∙ path_left join leaf k c.args.first c.args.place c.args.count (omega (arith, c.if-count-half.false, half)) (omega (arith, c.if-place-half.true, half)) in
     let is : lower ++ record { side = Left; sibling = c.tree_over-other.result } ∷ [] ≡ path_within join leaf c.args.height c.args.first c.args.place c.args.count
-        = ap (λ (x : Node). lower ++ record { side = Left; sibling = x } ∷ []) other ∙ sym path in
+    = ap (λ (x : Node). lower ++ record { side = Left; sibling = x } ∷ []) other ∙ sym path in
     let old = map plain_line_link c.args.links.now.items in
     IfOk-weaker c.add_link.result _ _
     (λ level h. more_links old _ _ lower c.in_ok-level.level (record { side = Left; sibling = c.tree_over-other.result })
@@ -79,11 +78,11 @@ returns-in_ok-level-clause-level g t c =
     let half : c.half_of-half.result ≡ 2 ^ k = c.half_of-half.ensures.half in
     let lower = path_within join leaf k c.args.first c.args.place (2 ^ k) in
     let other : c.tree_over-other.result ≡ tree join leaf (c.args.first + 2 ^ k) (c.args.count - 2 ^ k) = c.tree_over-other.ensures.tree ∙ ap (λ (n : ℕ). tree_within join leaf k (c.args.first + n) (c.args.count - n)) half
-        ∙ sym (c.enough_levels.ensures.tree join leaf k (c.args.first + 2 ^ k) (c.args.count - 2 ^ k) (omega (arith, half, c.half_of-half.ensures.both, c.requires.few))) in
+    ∙ sym (c.enough_levels.ensures.tree join leaf k (c.args.first + 2 ^ k) (c.args.count - 2 ^ k) (omega (arith, half, c.half_of-half.ensures.both, c.requires.few))) in
     let path = ap (λ (h : ℕ). path_within join leaf h c.args.first c.args.place c.args.count) e
-        ∙ path_left join leaf k c.args.first c.args.place c.args.count (omega (arith, c.if-count-half.false, half)) (omega (arith, c.if-place-half.true, half)) in
+    ∙ path_left join leaf k c.args.first c.args.place c.args.count (omega (arith, c.if-count-half.false, half)) (omega (arith, c.if-place-half.true, half)) in
     let is : lower ++ record { side = Left; sibling = c.tree_over-other.result } ∷ [] ≡ path_within join leaf c.args.height c.args.first c.args.place c.args.count
-        = ap (λ (x : Node). lower ++ record { side = Left; sibling = x } ∷ []) other ∙ sym path in
+    = ap (λ (x : Node). lower ++ record { side = Left; sibling = x } ∷ []) other ∙ sym path in
     IfOk-weaker c.add_link.result _ _
     (λ level h. more_level lower c.in_ok-level.level level (record { side = Left; sibling = c.tree_over-other.result }) (c.in_ok-level.ensures.level ∙ ap (λ (n : ℕ). level_above 1 (path_within join leaf k c.args.first c.args.place n)) half) h ∙ ap (level_above 1) is)
     c.add_link.ensures.level
@@ -98,11 +97,11 @@ returns-in_ok-level-2-clause-links g t c =
     let half : c.half_of-half.result ≡ 2 ^ k = c.half_of-half.ensures.half in
     let lower = path_within join leaf k (c.args.first + 2 ^ k) (c.args.place - 2 ^ k) (c.args.count - 2 ^ k) in
     let other : c.tree_over-other-else-place-half.result ≡ tree join leaf c.args.first (2 ^ k) = c.tree_over-other-else-place-half.ensures.tree ∙ ap (λ (n : ℕ). tree_within join leaf k c.args.first n) half
-        ∙ sym (c.enough_levels.ensures.tree join leaf k c.args.first (2 ^ k) (omega arith)) in
+    ∙ sym (c.enough_levels.ensures.tree join leaf k c.args.first (2 ^ k) (omega arith)) in
     let path = ap (λ (h : ℕ). path_within join leaf h c.args.first c.args.place c.args.count) e
-        ∙ path_right join leaf k c.args.first c.args.place c.args.count (omega (arith, c.if-count-half.false, half)) (omega (arith, c.if-place-half.false, half)) in
+    ∙ path_right join leaf k c.args.first c.args.place c.args.count (omega (arith, c.if-count-half.false, half)) (omega (arith, c.if-place-half.false, half)) in
     let is : lower ++ record { side = Right; sibling = c.tree_over-other-else-place-half.result } ∷ [] ≡ path_within join leaf c.args.height c.args.first c.args.place c.args.count
-        = ap (λ (x : Node). lower ++ record { side = Right; sibling = x } ∷ []) other ∙ sym path in
+    = ap (λ (x : Node). lower ++ record { side = Right; sibling = x } ∷ []) other ∙ sym path in
     let old = map plain_line_link c.args.links.now.items in
     IfOk-weaker c.add_link-else-place-half.result _ _
     (λ level h. more_links old _ _ lower c.in_ok-level-2.level (record { side = Right; sibling = c.tree_over-other-else-place-half.result })
@@ -120,12 +119,11 @@ returns-in_ok-level-2-clause-level g t c =
     let half : c.half_of-half.result ≡ 2 ^ k = c.half_of-half.ensures.half in
     let lower = path_within join leaf k (c.args.first + 2 ^ k) (c.args.place - 2 ^ k) (c.args.count - 2 ^ k) in
     let other : c.tree_over-other-else-place-half.result ≡ tree join leaf c.args.first (2 ^ k) = c.tree_over-other-else-place-half.ensures.tree ∙ ap (λ (n : ℕ). tree_within join leaf k c.args.first n) half
-        ∙ sym (c.enough_levels.ensures.tree join leaf k c.args.first (2 ^ k) (omega arith)) in
+    ∙ sym (c.enough_levels.ensures.tree join leaf k c.args.first (2 ^ k) (omega arith)) in
     let path = ap (λ (h : ℕ). path_within join leaf h c.args.first c.args.place c.args.count) e
-        ∙ path_right join leaf k c.args.first c.args.place c.args.count (omega (arith, c.if-count-half.false, half)) (omega (arith, c.if-place-half.false, half)) in
+    ∙ path_right join leaf k c.args.first c.args.place c.args.count (omega (arith, c.if-count-half.false, half)) (omega (arith, c.if-place-half.false, half)) in
     let is : lower ++ record { side = Right; sibling = c.tree_over-other-else-place-half.result } ∷ [] ≡ path_within join leaf c.args.height c.args.first c.args.place c.args.count
-        = ap (λ (x : Node). lower ++ record { side = Right; sibling = x } ∷ []) other ∙ sym path in
+    = ap (λ (x : Node). lower ++ record { side = Right; sibling = x } ∷ []) other ∙ sym path in
     IfOk-weaker c.add_link-else-place-half.result _ _
     (λ level h. more_level lower c.in_ok-level-2.level level (record { side = Right; sibling = c.tree_over-other-else-place-half.result }) (c.in_ok-level-2.ensures.level ∙ ap (λ (n : ℕ). level_above 1 (path_within join leaf k (c.args.first + n) (c.args.place - n) (c.args.count - n))) half) h ∙ ap (level_above 1) is)
     c.add_link-else-place-half.ensures.level
-

@@ -1,6 +1,5 @@
-use Rattle.std.proofs.Common.{◌≡◌, ◌-◌, ◌+◌, ◌^◌, ℕ, zero, suc, map, List, ap, sym, ◌∙◌, arith}
+use Rattle.std.proofs.Common.{◌≡◌, ◌-◌, ◌+◌, ◌^◌, ℕ, suc, map, ap, sym, ◌∙◌, arith}
 use Rattle.ksi_split.specs.Trees.{tree_within}
-use Rattle.ksi_aggchain.specs.declared.node.Node.{Node}
 use Rattle.ksi_aggtree.specs.Rounds.{aggregation_join, leaf_of_place}
 use Rattle.ksi_logblock.specs.Blocks.{leaf_item}
 use Rattle.ksi_logblock.proofs.Trees.{tree_one, tree_low, tree_high, leaf_is, join_is}

@@ -1,12 +1,10 @@
-use Rattle.std.proofs.Common.{◌≡◌, ◌≤◌, ◌<◌, ◌++◌, ℕ, List, length, map, ap, sym, ◌∙◌, arith}
+use Rattle.std.proofs.Common.{◌<◌, ◌++◌, ℕ, List, length, map, ap, sym, ◌∙◌, arith}
 use Rattle.std.proofs.lemmas.List.{length-map}
-use Rattle.ksi_aggchain.specs.Links.{PlainLink}
 use Rattle.ksi_aggchain.specs.Owned.{plain_link, plain_links}
-use Rattle.ksi_aggchain.specs.declared.link.Link.{Link}
 use Rattle.ksi_split.specs.Trees.{path_within}
 use Rattle.ksi_aggtree.specs.Rounds.{aggregation_join, leaf_of_place}
 use Rattle.ksi_aggtree.specs.Paths.{chain_of, links_from}
-use Rattle.ksi_logblock.specs.Blocks.{leaf_item, items_of, leaves_of}
+use Rattle.ksi_logblock.specs.Blocks.{leaf_item}
 use Rattle.ksi_logblock.specs.Links.{plain_line_link, plain_line_links}
 use Rattle.ksi_logblock.proofs.Roots.{chain_is}
 use Rattle.ksi_logblock.proofs.block.Block.mask_and_links.Goals as goal
