@@ -1,0 +1,4 @@
+pub mod Maps
+pub mod Mirrors
+pub mod Merging
+pub mod Keys
