@@ -1,6 +1,7 @@
 -- Two mirrors as one, and why they are not merged.
 use Rattle.std.specs.Prelude.{◌≡◌, ◌≢◌, ℕ, ◌<◌, List, take, slice_get, Some}
 use Rattle.ksi_aggtree.specs.declared.item.Item.{Item}
+use Rattle.ksi_mirror.specs.declared.sealed_list.SealedList.{SealedList}
 use Rattle.ksi_mirror.specs.declared.refusal.MergeRefusal.{MergeRefusal}
 use Rattle.ksi_mirror.specs.declared.refusal.MergeRefusal.TheVariants.{Starts, Conflict, Trees}
 use Rattle.ksi_mirror.specs.Maps.{Agree, AgreeAll, IsUnion}
@@ -60,3 +61,10 @@ abbrev pub IsMergeRefusal : MirrorState → MirrorState → MergeRefusal → Typ
 IsMergeRefusal one two (Starts a b) = HaveStarts one two a b
 IsMergeRefusal one two (Conflict second a b) = HaveRoots one two second a b
 IsMergeRefusal one two (Trees second core place) = HaveLists one two second core place
+
+-- ---- in the code
+
+-- two lists of a core and a second, named by the place where they differ first
+abbrev pub AreTrees : SealedList → SealedList → MergeRefusal → Type 0
+AreTrees one two (Trees second core place) = (second ≡ one.second) × (core ≡ one.core) × FirstDifferAt one.items two.items place
+AreTrees one two _ = ⊥

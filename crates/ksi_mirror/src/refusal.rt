@@ -11,3 +11,10 @@ pub enum MergeRefusal {
     /// the lowest such, which differ at this place first.
     Trees(u64, u8, usize),
 }
+
+/// Why the journal of a mirror is not made.
+#[derive(Clone, Copy, PartialEq, Eq, Debug)]
+pub enum WholeRefusal {
+    /// M4: the first second whose root is not the zero imprint, and of no sealed list's tree.
+    NoTree(u64),
+}

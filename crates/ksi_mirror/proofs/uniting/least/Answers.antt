@@ -1,5 +1,5 @@
 use Rattle.std.proofs.Common.{◌≡◌, ◌<◌, ◌≤◌, ℕ, zero, suc, List, [], ◌∷◌, length, true, false, arith}
-use Rattle.ksi_mirror.proofs.Entries.{alone_case, before_case, behind_case, both_case, differ_case, not_so}
+use Rattle.ksi_mirror.proofs.ByKeys.{alone_case, before_case, behind_case, both_case, differ_case, not_so}
 use Rattle.ksi_mirror.proofs.uniting.least.Goals as goal
 
 none_there : {A : Type 0} (xs : List A) → (0 < length xs → false ≡ true) → length xs ≤ 0

@@ -1,4 +1,4 @@
-use Rattle.ksi_mirror.proofs.Entries.{said_ok, said_err, merging_start, merging_step, merging_done, merging_differs}
+use Rattle.ksi_mirror.proofs.ByKeys.{said_ok, said_err, merging_start, merging_step, merging_done, merging_differs}
 use Rattle.ksi_mirror.proofs.uniting.united.Goals as goal
 
 pub merging-init : goal.merging-init

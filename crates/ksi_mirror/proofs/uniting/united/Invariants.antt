@@ -1,5 +1,5 @@
 use Rattle.std.proofs.Common.{ℕ, ◌+◌, length}
-use Rattle.ksi_mirror.proofs.Entries.{Merging}
+use Rattle.ksi_mirror.proofs.ByKeys.{Merging}
 use Rattle.ksi_mirror.proofs.uniting.united.Given as goal
 
 -- what stands under the keys before some end is merged, and what is left stands behind it
