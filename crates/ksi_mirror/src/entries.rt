@@ -1,5 +1,5 @@
 //! Roots and sealed lists as entries: a root stands under its second, a list under its second and its core.
-ghost use Rattle.std.specs.Prelude.{◌≡◌, ◌↔◌, IfOk, IsTrue, MatchOption};
+ghost use Rattle.std.specs.Prelude.{◌≡◌, ◌↔◌, ◌++◌, ◌∷◌, [], IfOk, OnOk, IsTrue, MatchOption};
 ghost use Rattle.ksi_mirror.specs.Mirrors.{rank_at};
 ghost use Rattle.ksi_mirror.specs.Merging.{FirstDifferAt};
 
@@ -75,6 +75,13 @@ pub(crate) fn copy_of(alloc: Global, items: &[Item]) -> Result<Items, NoMemory>
         [one] => Ok(Items::one(*one)),
         many => Ok(Items::from_vec(many.to_vec(alloc)?)),
     }
+}
+
+/// One item more.
+pub(crate) fn push_item(items: &mut Vec<Item>, item: Item) -> Result<(), NoMemory>
+    ensures { OnOk result (items.new.items ≡ items.old.items ++ item ∷ []) }
+{
+    items.extend_from_slice(&[item])
 }
 
 /// The place at which two lists of items differ first, none where they are the same.

@@ -1,9 +1,17 @@
 //! What holds of unions and of merging, for the layers above to cite. None of these functions does anything.
-ghost use Rattle.std.specs.Prelude.{◌≡◌, ◌↔◌, ℕ, Option};
+ghost use Rattle.std.specs.Prelude.{◌≡◌, ◌↔◌, ◌⊎◌, ℕ, List, Option};
+ghost use Rattle.ksi_journal.specs.declared.fault.JournalFault.{JournalFault};
 ghost use Rattle.ksi_mirror.specs.declared.refusal.MergeRefusal.{MergeRefusal};
-ghost use Rattle.ksi_mirror.specs.Maps.{AgreeAll, IsUnion, or_else};
+ghost use Rattle.ksi_mirror.specs.Maps.{AgreeAll, IsUnion};
 ghost use Rattle.ksi_mirror.specs.Mirrors.{MirrorState, root_of, list_of, IsMirror};
 ghost use Rattle.ksi_mirror.specs.Merging.{MayMerge, Merges, IsMergeRefusal};
+ghost use Rattle.ksi_mirror.specs.File.{IsMirrorFile, IsMirrorFault};
+ghost use Rattle.ksi_mirror.specs.Written.{mirror_text};
+
+use crate::loading::MirrorLoading;
+use ksi_journal::JournalFault;
+use ksi_order::whole_or_fault;
+use ksi_tlv::{numeral_is_read, written_is_read};
 
 /// The union of two finite maps that agree: of one map with itself it is that map; it is the same in either order; and
 /// three maps have one in the one order exactly where they have it in the other, and then the same. What a map is in a
@@ -46,3 +54,25 @@ pub fn merged_or_refused()
     ensures one_reason { (one two : MirrorState) (refusal other : MergeRefusal) →
         IsMergeRefusal one two refusal → IsMergeRefusal one two other → refusal ≡ other }
 {}
+
+/// Bytes are a mirror's file or have a first fault, and not both; and they are of one mirror and have one first fault.
+pub fn mirror_or_fault()
+    ensures one { (bytes : List ℕ) →
+        ((mirror : MirrorState) × IsMirrorFile bytes mirror) ⊎ ((fault : JournalFault) × IsMirrorFault bytes fault) }
+    ensures not_both { (bytes : List ℕ) (mirror : MirrorState) (fault : JournalFault) →
+        IsMirrorFile bytes mirror → IsMirrorFault bytes fault → ⊥ }
+    ensures one_mirror { (bytes : List ℕ) (some other : MirrorState) →
+        IsMirrorFile bytes some → IsMirrorFile bytes other → some ≡ other }
+    ensures one_fault { (bytes : List ℕ) (fault other : JournalFault) →
+        IsMirrorFault bytes fault → IsMirrorFault bytes other → fault ≡ other }
+{
+    whole_or_fault::<MirrorLoading, JournalFault>();
+}
+
+/// The text of a mirror is a file of that mirror.
+pub fn written_is_mirror()
+    ensures { (mirror : MirrorState) → IsMirror mirror → IsMirrorFile (mirror_text mirror) mirror }
+{
+    written_is_read();
+    numeral_is_read();
+}
