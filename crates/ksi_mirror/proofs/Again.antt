@@ -1,8 +1,8 @@
 -- What is written is loaded again.
-use Rattle.std.proofs.Common.{◌≡◌, ℕ, suc, ◌+◌, ◌-◌, ◌*◌, ◌^◌, ◌<◌, ◌≤◌, Bool, true, false, cond, ◌&&◌, ltb, leb, eqb, List, [], ◌∷◌, ◌++◌, length, map, take, drop, get_or, Option, Some, None, Ok, refl, sym, ap, subst, ◌∙◌, arith, append_assoc, append-nil, length-append}
+use Rattle.std.proofs.Common.{◌≡◌, ℕ, suc, ◌+◌, ◌-◌, ◌^◌, ◌<◌, ◌≤◌, Bool, true, false, cond, ◌&&◌, ltb, leb, eqb, List, [], ◌∷◌, ◌++◌, length, map, take, drop, get_or, Option, Some, None, Ok, refl, sym, ap, subst, ◌∙◌, arith, append_assoc, append-nil, length-append}
 use Rattle.std.specs.Prelude.{IfSome}
 use Rattle.std.specs.List.{AllByRecursion}
-use Rattle.std.proofs.lemmas.Bool.{lt-ltb, le-ltb, le-leb, ne_eqb, eq-eqb, eqb-true, eqb-false, cond_both}
+use Rattle.std.proofs.lemmas.Bool.{lt-ltb, le-ltb, le-leb, ne_eqb, eq-eqb, eqb-true, cond_both}
 use Rattle.std.proofs.Math.Seq.{take-append_seam, drop-append_seam, get_or-append_seam}
 use Rattle.ksi_imprint.specs.Imprints.{IsImprint}
 use Rattle.ksi_imprint.specs.Reading as imprints
@@ -24,7 +24,7 @@ use Rattle.ksi_journal.specs.Written.{pair_elements, element_with, item_element}
 use Rattle.ksi_mirror.specs.declared.stage.MirrorStage.TheVariants as stages
 use Rattle.ksi_mirror.specs.declared.sealed_list.SealedList.{SealedList}
 use Rattle.ksi_mirror.specs.Mirrors.{MirrorState, rank_at, rank, IsRoot, IsList, IsMirror}
-use Rattle.ksi_mirror.specs.Elements.{MirrorSaid, started, start_at, root_said, with_root, root_at, core_at, core_from, list_said, counts, opened, list_at, with_item, closed, added, item_at, end_at, element_read, mirror_order, nothing_yet, is_end, kinds_next}
+use Rattle.ksi_mirror.specs.Elements.{MirrorSaid, started, start_at, root_said, with_root, root_at, core_from, list_said, counts, opened, list_at, with_item, closed, added, item_at, end_at, element_read, mirror_order, nothing_yet, is_end, kinds_next}
 use Rattle.ksi_mirror.specs.File.{IsMirrorFile}
 use Rattle.ksi_mirror.specs.Written.{root_element, head_elements, list_element, list_elements, lists_elements, mirror_elements, mirror_text}
 

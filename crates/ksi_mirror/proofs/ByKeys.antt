@@ -1,10 +1,10 @@
 -- Lists of entries that rise by their keys, as finite maps.
-use Rattle.std.proofs.Common.{◌≡◌, ◌≢◌, ℕ, zero, suc, ◌+◌, ◌-◌, ◌<◌, ◌≤◌, Bool, true, false, cond, eqb, ltb, List, [], ◌∷◌, ◌++◌, length, map, Option, Some, None, Result, Ok, Err, refl, sym, ap, subst, ◌∙◌, arith}
+use Rattle.std.proofs.Common.{◌≡◌, ℕ, ◌+◌, ◌<◌, ◌≤◌, Bool, true, false, cond, eqb, ltb, List, [], ◌∷◌, ◌++◌, length, map, Option, Some, None, Result, Ok, Err, refl, sym, ap, subst, ◌∙◌, arith}
 use Rattle.std.proofs.lemmas.Bool.{ltb-true, ltb-false, eqb-true, eqb-false, eq-eqb, ne_eqb}
 use Rattle.std.proofs.lemmas.List.{map-append}
 use Rattle.std.specs.Borrow.{Bor}
 use Rattle.ksi_journal.specs.Journal.{RiseFrom}
-use Rattle.ksi_mirror.specs.Maps.{Agree, AgreeAll, entry_at, or_else}
+use Rattle.ksi_mirror.specs.Maps.{Agree, entry_at, or_else}
 use Rattle.ksi_mirror.specs.Keys.{DifferFirst, IsLeast, SaysLeast, IsUnited}
 
 -- the least that may stand behind numbers

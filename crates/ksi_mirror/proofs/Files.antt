@@ -9,7 +9,7 @@ use Rattle.ksi_journal.specs.declared.fault.JournalFault.{JournalFault}
 use Rattle.ksi_journal.specs.declared.fault.JournalFault.TheVariants as faults
 use Rattle.ksi_mirror.specs.Mirrors.{MirrorState}
 use Rattle.ksi_mirror.specs.Elements.{MirrorSaid, mirror_order, nothing_yet}
-use Rattle.ksi_mirror.specs.File.{magic, IsMirrorFile, IsOther, IsMirrorFault}
+use Rattle.ksi_mirror.specs.File.{magic, IsMirrorFile, IsMirrorFault}
 
 -- the laws of elements in a stated order
 pub record Laws : Type 0 where

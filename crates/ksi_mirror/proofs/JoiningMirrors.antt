@@ -1,18 +1,18 @@
 -- Merging mirrors is a join, and is refused for one reason.
-use Rattle.std.proofs.Common.{◌≡◌, ◌≢◌, ℕ, zero, suc, ◌+◌, ◌<◌, ◌≤◌, Bool, true, false, cond, ◌&&◌, ltb, eqb, List, [], ◌∷◌, map, take, Option, Some, None, refl, sym, ap, subst, ◌∙◌, arith}
-use Rattle.std.specs.Prelude.{◌↔◌, slice_get, option_map}
+use Rattle.std.proofs.Common.{◌≡◌, ℕ, zero, suc, ◌<◌, Bool, true, false, ltb, List, [], ◌∷◌, map, take, Option, Some, None, refl, sym, ap, subst, ◌∙◌, arith}
+use Rattle.std.specs.Prelude.{slice_get, option_map}
 use Rattle.std.specs.List.{AllByRecursion}
-use Rattle.std.proofs.lemmas.Bool.{ltb-true, ltb-false, eqb-true}
+use Rattle.std.proofs.lemmas.Bool.{ltb-true, ltb-false}
 use Rattle.ksi_journal.specs.Journal.{RiseFrom}
 use Rattle.ksi_aggtree.specs.declared.item.Item.{Item}
 use Rattle.ksi_mirror.specs.declared.sealed_list.SealedList.{SealedList}
 use Rattle.ksi_mirror.specs.declared.refusal.MergeRefusal.{MergeRefusal}
 use Rattle.ksi_mirror.specs.declared.refusal.MergeRefusal.TheVariants.{Starts, Conflict, Trees}
-use Rattle.ksi_mirror.specs.Maps.{Agree, AgreeAll, IsUnion, or_else, entry_at}
-use Rattle.ksi_mirror.specs.Mirrors.{MirrorState, root_among, root_of, list_among, list_of, rank_at, rank, IsList, IsMirror}
-use Rattle.ksi_mirror.specs.Merging.{AgreeAt, MayMerge, Merges, FirstDifferAt, HaveStarts, HaveRoots, HaveLists, IsMergeRefusal}
+use Rattle.ksi_mirror.specs.Maps.{Agree, entry_at}
+use Rattle.ksi_mirror.specs.Mirrors.{MirrorState, root_of, list_of, rank_at, rank, IsList, IsMirror}
+use Rattle.ksi_mirror.specs.Merging.{AgreeAt, MayMerge, Merges, FirstDifferAt, HaveRoots, HaveLists, IsMergeRefusal}
 use Rattle.ksi_mirror.proofs.ByKeys.{same_entries, at_key}
-use Rattle.ksi_mirror.proofs.Lookups.{second_of_root, root_in, items_in, root_is, list_is, found_is}
+use Rattle.ksi_mirror.proofs.Lookups.{second_of_root, root_in, items_in, root_is, list_is}
 use Rattle.ksi_mirror.proofs.MergingMirrors.{pair_of, list_by, core_in}
 use Rattle.ksi_mirror.proofs.Joining.{union_same, union_either, union_on, union_back, union_absorbs, agree_either}
 

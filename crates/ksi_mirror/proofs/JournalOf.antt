@@ -1,22 +1,22 @@
 -- The journal of a mirror's roots.
-use Rattle.std.proofs.Common.{◌≡◌, ◌≢◌, ℕ, zero, suc, ◌+◌, ◌*◌, ◌^◌, ◌<◌, ◌≤◌, Bool, true, false, cond, ◌&&◌, eqb, ltb, List, [], ◌∷◌, ◌++◌, length, map, get_or, Option, Some, None, Result, Ok, Err, refl, sym, ap, subst, ◌∙◌, arith, append-nil, append_assoc}
+use Rattle.std.proofs.Common.{◌≡◌, ℕ, zero, suc, ◌+◌, ◌<◌, ◌≤◌, Bool, true, false, cond, ◌&&◌, eqb, List, [], ◌∷◌, ◌++◌, length, map, Option, Some, None, Result, Ok, Err, refl, sym, ap, subst, ◌∙◌, arith, append-nil, append_assoc}
 use Rattle.std.specs.Prelude.{option_map}
 use Rattle.std.specs.List.{AllByRecursion}
 use Rattle.std.specs.Str.{bytes_eq}
-use Rattle.std.proofs.lemmas.Bool.{ltb-true, ltb-false, eqb-true, eqb-false, eq-eqb, ne_eqb}
+use Rattle.std.proofs.lemmas.Bool.{eqb-true, eqb-false, eq-eqb, ne_eqb}
 use Rattle.std.proofs.lemmas.Slice.Eq.{bytes_eq-Decides}
-use Rattle.ksi_imprint.specs.Imprints.{IsImprint, zero_imprint}
+use Rattle.ksi_imprint.specs.Imprints.{zero_imprint}
 use Rattle.ksi_aggtree.specs.declared.item.Item.{Item}
 use Rattle.ksi_aggtree.specs.declared.second.Second.{Second}
 use Rattle.ksi_aggtree.specs.Rounds.{item_at, leaf_level, tree_of, IsRound}
 use Rattle.ksi_synod.specs.declared.core_plan.VotersFrom.{VotersFrom}
-use Rattle.ksi_journal.specs.Journal.{Contents, RiseFrom, IsItem, IsRootOf, IsSecond, IsJournal}
+use Rattle.ksi_journal.specs.Journal.{RiseFrom, IsItem, IsRootOf, IsSecond, IsJournal}
 use Rattle.ksi_mirror.specs.declared.sealed_list.SealedList.{SealedList}
 use Rattle.ksi_mirror.specs.declared.refusal.WholeRefusal.{WholeRefusal}
 use Rattle.ksi_mirror.specs.declared.refusal.WholeRefusal.TheVariants.{NoTree}
 use Rattle.ksi_mirror.specs.Maps.{or_else}
 use Rattle.ksi_mirror.specs.Mirrors.{MirrorState, list_among, list_of, rank_at, rank, IsRoot, IsList, IsMirror}
-use Rattle.ksi_mirror.specs.Whole.{lowest, kept_with, tree_as, items_from, second_from, second_for, with_second, seconds_for, journal_with, whole_of, first_tree}
+use Rattle.ksi_mirror.specs.Whole.{lowest, kept_with, tree_as, items_from, second_from, second_for, with_second, seconds_for, first_tree}
 
 -- ---- the items of a list make a round
 

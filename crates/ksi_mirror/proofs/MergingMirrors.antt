@@ -1,5 +1,5 @@
 -- The union of the lists of two mirrors is the union of the mirrors, and where the lists differ so do the mirrors.
-use Rattle.std.proofs.Common.{◌≡◌, ◌≢◌, ℕ, zero, suc, ◌+◌, ◌*◌, ◌<◌, ◌≤◌, Bool, true, false, ltb, eqb, List, [], ◌∷◌, length, map, Option, Some, None, refl, sym, ap, subst, ◌∙◌, arith}
+use Rattle.std.proofs.Common.{◌≡◌, ℕ, ◌+◌, ◌<◌, ◌≤◌, Bool, true, false, ltb, List, [], ◌∷◌, map, Option, Some, None, refl, sym, ap, subst, ◌∙◌, arith}
 use Rattle.std.specs.Prelude.{option_map}
 use Rattle.std.specs.List.{AllByRecursion}
 use Rattle.std.proofs.lemmas.Bool.{ltb-true, ltb-false}
@@ -7,9 +7,9 @@ use Rattle.ksi_aggtree.specs.declared.item.Item.{Item}
 use Rattle.ksi_mirror.specs.declared.sealed_list.SealedList.{SealedList}
 use Rattle.ksi_mirror.specs.declared.refusal.MergeRefusal.{MergeRefusal}
 use Rattle.ksi_mirror.specs.declared.refusal.MergeRefusal.TheVariants.{Starts, Conflict, Trees}
-use Rattle.ksi_mirror.specs.Maps.{Agree, AgreeAll, IsUnion, entry_at, or_else}
+use Rattle.ksi_mirror.specs.Maps.{Agree, entry_at, or_else}
 use Rattle.ksi_mirror.specs.Mirrors.{MirrorState, root_of, list_of, rank_at, rank, IsRoot, IsList, IsMirror}
-use Rattle.ksi_mirror.specs.Merging.{AgreeAt, Merges, FirstDifferAt, HaveRoots, HaveLists, AreTrees, IsMergeRefusal}
+use Rattle.ksi_mirror.specs.Merging.{Merges, FirstDifferAt, HaveRoots, HaveLists, AreTrees, IsMergeRefusal}
 use Rattle.ksi_mirror.specs.Keys.{DifferFirst, IsUnited}
 use Rattle.ksi_journal.specs.Journal.{RiseFrom}
 use Rattle.ksi_mirror.proofs.ByKeys.{rise_earlier, at_key, at_first, at_later, none_below}

@@ -1,6 +1,6 @@
 -- What whole elements say is a mirror: the state keeps what a mirror keeps.
-use Rattle.std.proofs.Common.{◌≡◌, ◌≢◌, ◌⊎◌, inl, inr, ℕ, zero, suc, ◌+◌, ◌-◌, ◌*◌, ◌^◌, ◌<◌, ◌≤◌, Bool, true, false, cond, ◌&&◌, ◌||◌, leb, eqb, List, [], ◌∷◌, ◌++◌, length, take, drop, Some, None, map, get_or, Result, Ok, Err, refl, sym, ap, subst, ◌∙◌, arith, length-append}
-use Rattle.std.specs.Prelude.{IfOk, IfSome}
+use Rattle.std.proofs.Common.{◌≡◌, ◌⊎◌, inl, inr, ℕ, zero, suc, ◌+◌, ◌-◌, ◌^◌, ◌<◌, ◌≤◌, Bool, true, false, cond, ◌&&◌, ◌||◌, leb, eqb, List, [], ◌∷◌, ◌++◌, length, take, drop, Some, None, map, get_or, Result, Ok, Err, refl, sym, ap, subst, ◌∙◌, arith, length-append}
+use Rattle.std.specs.Prelude.{IfSome}
 use Rattle.std.specs.List.{AllByRecursion}
 use Rattle.std.proofs.lemmas.Bool.{leb-true, eqb-true, eqb-false}
 use Rattle.std.proofs.lemmas.List.{map-append}
@@ -25,7 +25,7 @@ use Rattle.ksi_journal.specs.Elements.{or_named, rises, item_of, head_in, plain_
 use Rattle.ksi_mirror.specs.declared.stage.MirrorStage.{MirrorStage}
 use Rattle.ksi_mirror.specs.declared.stage.MirrorStage.TheVariants as stages
 use Rattle.ksi_mirror.specs.declared.sealed_list.SealedList.{SealedList}
-use Rattle.ksi_mirror.specs.Mirrors.{MirrorState, rank_at, rank, IsRoot, IsList, IsMirror}
+use Rattle.ksi_mirror.specs.Mirrors.{rank_at, rank, IsRoot, IsList, IsMirror}
 use Rattle.ksi_mirror.specs.Elements.{MirrorSaid, kinds_next, started, start_at, root_said, with_root, root_at, core_at, core_from, list_said, counts, opened, list_at, with_item, closed, added, item_at, end_at, element_read, mirror_order, nothing_yet}
 use Rattle.ksi_mirror.proofs.ByKeys.{least_behind, rise_more}
 

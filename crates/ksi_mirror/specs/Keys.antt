@@ -1,8 +1,8 @@
 -- The least entry of two lists, for the proof of the code that merges them.
-use Rattle.std.specs.Prelude.{◌≡◌, ◌≢◌, ℕ, suc, ◌<◌, ◌≤◌, ◌+◌, List, [], length, map, Option, Some, None, Result, Ok, Err}
+use Rattle.std.specs.Prelude.{◌≡◌, ◌≢◌, ℕ, ◌<◌, ◌≤◌, ◌+◌, List, [], length, map, Option, Some, None, Result, Ok, Err}
 use Rattle.std.specs.Borrow.{Bor}
 use Rattle.ksi_journal.specs.Journal.{RiseFrom}
-use Rattle.ksi_mirror.specs.Maps.{Agree, AgreeAll, entry_at, or_else}
+use Rattle.ksi_mirror.specs.Maps.{Agree, entry_at, or_else}
 
 -- of two entries of one key, in two maps that agree before it
 pub record DifferFirst {A : Type 0} (key : A → ℕ) (xs ys : List A) (x y : A) : Type 0 where

@@ -1,5 +1,5 @@
 -- What loading keeps, for its own proof.
-use Rattle.std.specs.Prelude.{ℕ, ◌≤◌, ◌<◌, ◌^◌}
+use Rattle.std.specs.Prelude.{ℕ, ◌≤◌}
 use Rattle.ksi_mirror.specs.Mirrors.{highest_core}
 
 -- a list whose items come is of a core

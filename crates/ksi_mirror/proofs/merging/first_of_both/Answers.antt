@@ -1,4 +1,4 @@
-use Rattle.std.proofs.Common.{sym, subst, arith}
+use Rattle.std.proofs.Common.{sym, subst}
 use Rattle.ksi_mirror.proofs.MergingMirrors.{lists_items, trees_refused, roots_differ, agree_before, lists_to}
 use Rattle.ksi_mirror.specs.Merging.{IsMergeRefusal}
 use Rattle.ksi_mirror.proofs.merging.first_of_both.Goals as goal

@@ -1,4 +1,4 @@
-use Rattle.ksi_mirror.proofs.MergingMirrors.{roots_rise_by, united_by, differ_by}
+use Rattle.ksi_mirror.proofs.MergingMirrors.{roots_rise_by}
 use Rattle.ksi_mirror.proofs.merging.merge.Goals as goal
 
 pub united-requires-clause-one : goal.united-requires-clause-one

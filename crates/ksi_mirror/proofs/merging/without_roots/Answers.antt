@@ -1,7 +1,7 @@
 use Rattle.std.proofs.Common.{sym, subst}
 use Rattle.ksi_mirror.specs.Mirrors.{rank}
 use Rattle.ksi_mirror.specs.Merging.{IsMergeRefusal}
-use Rattle.ksi_mirror.proofs.MergingMirrors.{roots_differ, united_by, differ_by, lists_rise_by}
+use Rattle.ksi_mirror.proofs.MergingMirrors.{roots_differ, united_by, lists_rise_by}
 use Rattle.ksi_mirror.proofs.merging.without_roots.Goals as goal
 
 pub united-requires-clause-one : goal.united-requires-clause-one

@@ -1,4 +1,4 @@
-use Rattle.std.proofs.Common.{[], map, subst, sym}
+use Rattle.std.proofs.Common.{map, subst, sym}
 use Rattle.ksi_journal.specs.Journal.{RiseFrom}
 use Rattle.ksi_mirror.proofs.ByKeys.{other_case}
 use Rattle.ksi_mirror.proofs.uniting.first_of.Goals as goal

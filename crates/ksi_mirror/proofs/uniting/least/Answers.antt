@@ -1,4 +1,4 @@
-use Rattle.std.proofs.Common.{◌≡◌, ◌<◌, ◌≤◌, ℕ, zero, suc, List, [], ◌∷◌, length, true, false, arith}
+use Rattle.std.proofs.Common.{◌≡◌, ◌<◌, ◌≤◌, List, [], ◌∷◌, length, true, false, arith}
 use Rattle.ksi_mirror.proofs.ByKeys.{alone_case, before_case, behind_case, both_case, differ_case, not_so}
 use Rattle.ksi_mirror.proofs.uniting.least.Goals as goal
 

@@ -1,4 +1,4 @@
-use Rattle.std.proofs.Common.{◌≡◌, ◌∷◌, ◌+◌, ◌∙◌, ℕ, List, drop, sym, ap, subst}
+use Rattle.std.proofs.Common.{◌∷◌, ◌+◌, ◌∙◌, ℕ, List, drop, sym, ap, subst}
 use Rattle.std.proofs.lemmas.List.{drop_more}
 use Rattle.ksi_mirror.proofs.JournalOf.{Journaling, journaling_begins, journaling_goes_on, journaling_refused}
 use Rattle.ksi_mirror.proofs.whole_journal.seconds.Goals as goal
