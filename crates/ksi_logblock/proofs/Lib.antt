@@ -6,6 +6,8 @@ pub mod Climbs
 pub mod Files
 pub mod Leading
 pub mod Leaves
+pub mod LogLines
+pub mod LogRefusals
 pub mod Outcomes
 pub mod Own
 pub mod Roots

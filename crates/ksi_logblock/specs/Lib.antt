@@ -7,3 +7,5 @@ pub mod Shown
 pub mod Elements
 pub mod File
 pub mod Kept
+pub mod Logs
+pub mod Lines

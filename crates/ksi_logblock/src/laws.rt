@@ -11,6 +11,8 @@ ghost use Rattle.ksi_logblock.specs.Blocks.{Masked, items_of, leaf_at, leaves_of
 ghost use Rattle.ksi_logblock.specs.File.{IsProofFile, IsProofFault, proof_text};
 ghost use Rattle.ksi_logblock.specs.Kept.{IsLineLink};
 ghost use Rattle.ksi_logblock.specs.Links.{most_links, plain_line_links, sides_of};
+ghost use Rattle.ksi_logblock.specs.declared.logs.LogRefusal.{LogRefusal};
+ghost use Rattle.ksi_logblock.specs.Logs.{IsLogRefusal, MakeBlock};
 ghost use Rattle.ksi_logblock.specs.declared.proof_fault.ProofFault.{ProofFault};
 ghost use Rattle.ksi_logblock.specs.Locating.{kept_root, located};
 ghost use Rattle.ksi_logblock.specs.Proofs.{root_by};
@@ -93,6 +95,14 @@ pub fn file_or_fault()
 {
     whole_or_fault::<Reading, ProofFault>();
 }
+
+/// The lines of a log make a block, or one refusal stands, and not both.
+pub fn log_or_refusal()
+    ensures one { (lines : List (List ℕ)) → MakeBlock lines ⊎ ((refusal : LogRefusal) × IsLogRefusal lines refusal) }
+    ensures not_both { (lines : List (List ℕ)) (refusal : LogRefusal) → MakeBlock lines → IsLogRefusal lines refusal → ⊥ }
+    ensures one_refusal { (lines : List (List ℕ)) (refusal other : LogRefusal) →
+        IsLogRefusal lines refusal → IsLogRefusal lines other → refusal ≡ other }
+{}
 
 /// No level passes 255 where a line and its proof lead to a root.
 pub(crate) fn low_levels()

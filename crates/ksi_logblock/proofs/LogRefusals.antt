@@ -1,0 +1,119 @@
+-- Lines make a block, or one line is the first that no block takes.
+use Rattle.std.proofs.Common.{◌≡◌, ℕ, ◌<◌, List, [], ◌∷◌, ◌++◌, length, refl, sym, ap, subst, ◌∙◌, append_assoc, append-nil, length-append, ◌⊎◌, inl, inr, arith}
+use Rattle.std.specs.List.{AllByRecursion}
+use Rattle.ksi_logblock.specs.Blocks.{longest_line, most_lines}
+use Rattle.ksi_logblock.specs.Logs.{AreTaken, IsLineTooLong, IsLineTooMany, IsLogRefusal, IsReached, IsShort, MakeBlock}
+use Rattle.ksi_logblock.specs.declared.logs.LogRefusal.{LogRefusal}
+use Rattle.ksi_logblock.specs.declared.logs.LogRefusal.TheVariants.{NoLines, TooManyLines, LineTooLong}
+use Rattle.ksi_logblock.proofs.Cases.{le_cases}
+
+abbrev Lines : Type 0
+Lines = List (List ℕ)
+
+-- ---- there is one
+
+short_more : (before : Lines) (line : List ℕ) → AllByRecursion IsShort before → IsShort line → AllByRecursion IsShort (before ++ line ∷ [])
+short_more [] line short here = (here, tt)
+short_more (first ∷ before) line short here = (short.0, short_more before line short.1 here)
+
+taken_more : (before : Lines) (line : List ℕ) → AreTaken before → length before < most_lines → IsShort line → AreTaken (before ++ line ∷ [])
+taken_more before line taken room short = record {
+  few = omega (arith, length-append before (line ∷ []));
+  short = short_more before line taken.short short;
+}
+
+abbrev Found : Lines → Type 0
+Found lines = AreTaken lines ⊎ ((refusal : LogRefusal) × IsLogRefusal lines refusal)
+
+found_behind : (lines before rest : Lines) → lines ≡ before ++ rest → AreTaken before → Found lines
+found_behind lines before [] e taken = inl (subst AreTaken (sym (e ∙ append-nil before)) taken)
+found_behind lines before (line ∷ others) e taken = elim (le_cases most_lines (length before)) [
+  | inl full ↦ (let few = taken.few in inr (TooManyLines, record { line = line; reached = record { before = before; others = others; split = e; number = omega arith; taken = taken } }))
+  | inr room ↦ elim (le_cases (length line) longest_line) [
+    | inl short ↦ found_behind lines (before ++ line ∷ []) others (e ∙ sym (append_assoc before (line ∷ []) others)) (taken_more before line taken room short)
+    | inr long ↦ inr (LineTooLong (length before) (length line), record { line = line; reached = record { before = before; others = others; split = e; number = refl; taken = taken }; room = room; size_is = refl; long = long })
+  ]
+]
+
+pub one_of : (lines : Lines) → MakeBlock lines ⊎ ((refusal : LogRefusal) × IsLogRefusal lines refusal)
+one_of [] = inr (NoLines, refl)
+one_of (line ∷ lines) = elim (found_behind (line ∷ lines) [] (line ∷ lines) refl (record { few = omega arith; short = tt })) [
+  | inl taken ↦ inl (record { some = omega arith; taken = taken })
+  | inr refusal ↦ inr refusal
+]
+
+-- ---- and not both
+
+none_reached : (lines : Lines) (k : ℕ) (line : List ℕ) → lines ≡ [] → IsReached lines k line → ⊥
+none_reached lines k line none reached =
+    let count : length lines ≡ length (reached.before ++ line ∷ reached.others) = ap length reached.split in
+    let no : length lines ≡ 0 = ap length none in
+    omega (arith, count, no, length-append reached.before (line ∷ reached.others))
+
+short_there : (before : Lines) (line : List ℕ) (others : Lines) → AllByRecursion IsShort (before ++ line ∷ others) → IsShort line
+short_there [] line others short = short.0
+short_there (first ∷ before) line others short = short_there before line others short.1
+
+pub not_both : (lines : Lines) (refusal : LogRefusal) → MakeBlock lines → IsLogRefusal lines refusal → ⊥
+not_both lines NoLines makes none = let no : length lines ≡ 0 = ap length none in let some = makes.some in omega (arith, no, some)
+not_both lines TooManyLines makes many =
+    let reached = many.reached in
+    let count : length lines ≡ length (reached.before ++ many.line ∷ reached.others) = ap length reached.split in
+    omega (arith, count, makes.taken.few, reached.number, length-append reached.before (many.line ∷ reached.others))
+not_both lines (LineTooLong k size) makes too =
+    let reached = too.reached in
+    let short : IsShort too.line = short_there reached.before too.line reached.others (subst (AllByRecursion IsShort) reached.split makes.taken.short) in
+    omega (arith, short, too.size_is, too.long)
+
+-- ---- and it is one
+
+short_before : (one two : Lines) (line other : List ℕ) (behind further : Lines) → one ++ line ∷ behind ≡ two ++ other ∷ further → length one < length two → AllByRecursion IsShort two → IsShort line
+short_before [] [] line other behind further e lt short = absurd (omega arith)
+short_before [] (first ∷ two) line other behind further e lt short = let same : line ≡ first = cc in subst IsShort (sym same) short.0
+short_before (x ∷ one) [] line other behind further e lt short = absurd (omega arith)
+short_before (x ∷ one) (first ∷ two) line other behind further e lt short = short_before one two line other behind further (cc) (omega arith) short.1
+
+same_there : (one two : Lines) (line other : List ℕ) (behind further : Lines) → one ++ line ∷ behind ≡ two ++ other ∷ further → length one ≡ length two → line ≡ other
+same_there [] [] line other behind further e count = cc
+same_there [] (first ∷ two) line other behind further e count = absurd (omega arith)
+same_there (x ∷ one) [] line other behind further e count = absurd (omega arith)
+same_there (x ∷ one) (first ∷ two) line other behind further e count = same_there one two line other behind further (cc) (omega arith)
+
+-- a line before one that is reached is short
+short_reached : (lines : Lines) (k other : ℕ) (line further : List ℕ) → IsReached lines k line → IsReached lines other further → k < other → IsShort line
+short_reached lines k other line further one two lt =
+    short_before one.before two.before line further one.others two.others (sym one.split ∙ two.split) (omega (arith, one.number, two.number)) two.taken.short
+
+many_or_long : (lines : Lines) (k size : ℕ) → IsLineTooMany lines → IsLineTooLong lines k size → ⊥
+many_or_long lines k size many long =
+    let short : IsShort long.line = short_reached lines k most_lines long.line many.line long.reached many.reached long.room in
+    omega (arith, short, long.size_is, long.long)
+
+first_long : (lines : Lines) (k size other further : ℕ) → IsLineTooLong lines k size → IsLineTooLong lines other further → k < other → ⊥
+first_long lines k size other further one two lt =
+    let short : IsShort one.line = short_reached lines k other one.line two.line one.reached two.reached lt in
+    omega (arith, short, one.size_is, one.long)
+
+one_long : (lines : Lines) (k size other further : ℕ) → IsLineTooLong lines k size → IsLineTooLong lines other further → LineTooLong k size ≡ LineTooLong other further
+one_long lines k size other further one two = elim (le_cases k other) [
+  | inr above ↦ absurd (first_long lines other further k size two one above)
+  | inl upto ↦ elim (le_cases other k) [
+    | inr below ↦ absurd (first_long lines k size other further one two below)
+    | inl from ↦ (let same : k ≡ other = omega arith in
+        let count : length one.reached.before ≡ length two.reached.before = sym one.reached.number ∙ same ∙ two.reached.number in
+        let line : one.line ≡ two.line = same_there one.reached.before two.reached.before one.line two.line one.reached.others two.reached.others (sym one.reached.split ∙ two.reached.split) count in
+        let sizes : size ≡ further = one.size_is ∙ ap length line ∙ sym two.size_is in
+        cc)
+  ]
+]
+
+pub one_refusal : (lines : Lines) (refusal other : LogRefusal) → IsLogRefusal lines refusal → IsLogRefusal lines other → refusal ≡ other
+one_refusal lines NoLines NoLines one two = refl
+one_refusal lines NoLines TooManyLines one two = absurd (none_reached lines most_lines two.line one two.reached)
+one_refusal lines NoLines (LineTooLong k size) one two = absurd (none_reached lines k two.line one two.reached)
+one_refusal lines TooManyLines NoLines one two = absurd (none_reached lines most_lines one.line two one.reached)
+one_refusal lines TooManyLines TooManyLines one two = refl
+one_refusal lines TooManyLines (LineTooLong k size) one two = absurd (many_or_long lines k size one two)
+one_refusal lines (LineTooLong k size) NoLines one two = absurd (none_reached lines k one.line two one.reached)
+one_refusal lines (LineTooLong k size) TooManyLines one two = absurd (many_or_long lines k size two one)
+one_refusal lines (LineTooLong k size) (LineTooLong other further) one two = one_long lines k size other further one two
