@@ -8,6 +8,7 @@ pub mod Leading
 pub mod Leaves
 pub mod LogLines
 pub mod LogRefusals
+pub mod LogTexts
 pub mod Outcomes
 pub mod Own
 pub mod Roots

@@ -1,7 +1,11 @@
 -- Lines make a block, or one line is the first that no block takes.
-use Rattle.std.proofs.Common.{◌≡◌, ℕ, ◌<◌, List, [], ◌∷◌, ◌++◌, length, refl, sym, ap, subst, ◌∙◌, append_assoc, append-nil, length-append, ◌⊎◌, inl, inr, arith}
+use Rattle.std.proofs.Common.{◌≡◌, ℕ, Err, ◌<◌, List, [], ◌∷◌, ◌++◌, length, refl, sym, ap, subst, ◌∙◌, append_assoc, append-nil, length-append, ◌⊎◌, inl, inr, arith}
 use Rattle.std.specs.List.{AllByRecursion}
-use Rattle.ksi_logblock.specs.Blocks.{longest_line, most_lines}
+use Rattle.ksi_imprint.specs.declared.refused.Refused.{Refused}
+use Rattle.ksi_imprint.specs.declared.refused.Refused.TheVariants.{Fault, NoMemory}
+use Rattle.ksi_imprint.specs.Refused.{IfRefused}
+use Rattle.ksi_logblock.specs.Lines.{IsLineRefusal}
+use Rattle.ksi_logblock.specs.Blocks.{Masked, longest_line, most_lines}
 use Rattle.ksi_logblock.specs.Logs.{AreTaken, IsLineTooLong, IsLineTooMany, IsLogRefusal, IsReached, IsShort, MakeBlock}
 use Rattle.ksi_logblock.specs.declared.logs.LogRefusal.{LogRefusal}
 use Rattle.ksi_logblock.specs.declared.logs.LogRefusal.TheVariants.{NoLines, TooManyLines, LineTooLong}
@@ -9,6 +13,17 @@ use Rattle.ksi_logblock.proofs.Cases.{le_cases}
 
 abbrev Lines : Type 0
 Lines = List (List ℕ)
+
+-- ---- a line that is not added
+
+pub not_added : (lines before others : Lines) (line : List ℕ) (refusal : Refused LogRefusal) → before ++ line ∷ others ≡ lines → AllByRecursion IsShort before
+    → IfRefused {T = Unit {0}} (Err refusal) (IsLineRefusal before line) (Unit {0}) → IfRefused {T = Masked} (Err refusal) (IsLogRefusal lines) (Unit {0})
+not_added lines before others line NoMemory e short is = tt
+not_added lines before others line (Fault NoLines) e short is = absurd is
+not_added lines before others line (Fault TooManyLines) e short is =
+    record { line = line; reached = record { before = before; others = others; split = sym e; number = sym is; taken = record { few = omega arith; short = short } } }
+not_added lines before others line (Fault (LineTooLong k size)) e short is =
+    record { line = line; reached = record { before = before; others = others; split = sym e; number = is.0; taken = record { few = omega (arith, is.0, is.1); short = short } }; room = is.1; size_is = is.2; long = is.3 }
 
 -- ---- there is one
 

@@ -1,5 +1,5 @@
 -- A log: its lines, and the first of them that no block takes.
-use Rattle.std.specs.Prelude.{◌≡◌, ℕ, ◌<◌, ◌≤◌, ◌==◌, List, [], ◌∷◌, ◌++◌, length, if◌then◌else◌}
+use Rattle.std.specs.Prelude.{◌≡◌, ◌≢◌, ◌⊎◌, ℕ, ◌<◌, ◌≤◌, ◌==◌, List, [], ◌∷◌, ◌++◌, length, if◌then◌else◌}
 use Rattle.std.specs.List.{AllByRecursion, onto_first}
 use Rattle.ksi_logblock.specs.declared.logs.LogRefusal.{LogRefusal}
 use Rattle.ksi_logblock.specs.declared.logs.LogRefusal.TheVariants.{NoLines, TooManyLines, LineTooLong}
@@ -9,6 +9,27 @@ use Rattle.ksi_logblock.specs.Blocks.{longest_line, most_lines}
 abbrev pub lines_of : List ℕ → List (List ℕ)
 lines_of [] = []
 lines_of (byte ∷ log) = if byte == 10 then [] ∷ lines_of log else onto_first byte (lines_of log)
+
+-- each line with a line feed behind it
+abbrev pub text_of : List (List ℕ) → List ℕ
+text_of [] = []
+text_of (line ∷ lines) = line ++ 10 ∷ text_of lines
+
+abbrev pub HasNoFeed : List ℕ → Type 0
+HasNoFeed line = AllByRecursion (λ byte. byte ≢ 10) line
+
+-- the last line is not empty, and lacks its line feed
+pub record LacksLast (log : List ℕ) (lines : List (List ℕ)) : Type 0 where
+  pub front : List (List ℕ)
+  pub last : List ℕ
+  pub split : lines ≡ front ++ last ∷ []
+  pub some : 0 < length last
+  pub text : log ≡ text_of front ++ last
+
+-- the log is the text of these lines, or lacks the last line feed
+pub record IsLogOf (log : List ℕ) (lines : List (List ℕ)) : Type 0 where
+  pub free : AllByRecursion HasNoFeed lines
+  pub text : (log ≡ text_of lines) ⊎ LacksLast log lines
 
 abbrev pub IsShort : List ℕ → Type 0
 IsShort line = length line ≤ longest_line

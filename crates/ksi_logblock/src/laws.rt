@@ -12,7 +12,7 @@ ghost use Rattle.ksi_logblock.specs.File.{IsProofFile, IsProofFault, proof_text}
 ghost use Rattle.ksi_logblock.specs.Kept.{IsLineLink};
 ghost use Rattle.ksi_logblock.specs.Links.{most_links, plain_line_links, sides_of};
 ghost use Rattle.ksi_logblock.specs.declared.logs.LogRefusal.{LogRefusal};
-ghost use Rattle.ksi_logblock.specs.Logs.{IsLogRefusal, MakeBlock};
+ghost use Rattle.ksi_logblock.specs.Logs.{IsLogOf, IsLogRefusal, MakeBlock, lines_of};
 ghost use Rattle.ksi_logblock.specs.declared.proof_fault.ProofFault.{ProofFault};
 ghost use Rattle.ksi_logblock.specs.Locating.{kept_root, located};
 ghost use Rattle.ksi_logblock.specs.Proofs.{root_by};
@@ -95,6 +95,13 @@ pub fn file_or_fault()
 {
     whole_or_fault::<Reading, ProofFault>();
 }
+
+/// A log is cut into its lines: they have no line feeds, and one stands behind each of them, but perhaps behind the last. Of no
+/// other lines it is the log.
+pub fn log_is_of_lines()
+    ensures cut { (log : List ℕ) → IsLogOf log (lines_of log) }
+    ensures alone { (log : List ℕ) (lines : List (List ℕ)) → IsLogOf log lines → lines ≡ lines_of log }
+{}
 
 /// The lines of a log make a block, or one refusal stands, and not both.
 pub fn log_or_refusal()
