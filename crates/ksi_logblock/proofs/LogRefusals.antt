@@ -17,8 +17,8 @@ Lines = List (List ℕ)
 -- ---- a line that is not added
 
 pub not_added : (lines before others : Lines) (line : List ℕ) (refusal : Refused LogRefusal) → before ++ line ∷ others ≡ lines → AllByRecursion IsShort before
-    → IfRefused {T = Unit {0}} (Err refusal) (IsLineRefusal before line) (Unit {0}) → IfRefused {T = Masked} (Err refusal) (IsLogRefusal lines) (Unit {0})
-not_added lines before others line NoMemory e short is = tt
+    → IfRefused {T = Unit {0}} (Err refusal) (IsLineRefusal before line) (Unit {0}) → IfRefused {T = Masked} (Err refusal) (IsLogRefusal lines) (0 < length lines)
+not_added lines before others line NoMemory e short is = let count : length (before ++ line ∷ others) ≡ length lines = ap length e in omega (arith, count, length-append before (line ∷ others))
 not_added lines before others line (Fault NoLines) e short is = absurd is
 not_added lines before others line (Fault TooManyLines) e short is =
     record { line = line; reached = record { before = before; others = others; split = sym e; number = sym is; taken = record { few = omega arith; short = short } } }

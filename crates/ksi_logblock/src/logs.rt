@@ -24,7 +24,7 @@ pub enum LogRefusal {
 /// The block of the lines of a log. They are lent.
 ///
 /// # Errors
-/// Of the lines that a block does not take, that which stands first; `NoLines` where there are none; or `NoMemory`.
+/// `NoLines` where there are none; else of the lines that a block does not take that which stands first, or `NoMemory`.
 pub fn block_of<'a, C: Compress>(
     alloc: Global,
     seed: [u8; 32],
@@ -32,7 +32,7 @@ pub fn block_of<'a, C: Compress>(
 ) -> Result<Block<'a, C>, Refused<LogRefusal>>
     ensures block { IfOk result (λ block. block ≡ record { seed = seed; lines = lines_of log.now }) }
     ensures taken { IsOk result → MakeBlock (lines_of log.now) }
-    ensures refused { IfRefused result (IsLogRefusal (lines_of log.now)) (Unit {0}) }
+    ensures refused { IfRefused result (IsLogRefusal (lines_of log.now)) (0 < length (lines_of log.now)) }
 {
     if log.is_empty() {
         return Err(Refused::Fault(LogRefusal::NoLines));
