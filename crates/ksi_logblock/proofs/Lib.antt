@@ -7,6 +7,7 @@ pub mod Files
 pub mod Leading
 pub mod Leaves
 pub mod LogLines
+pub mod LogReads
 pub mod LogRefusals
 pub mod LogTexts
 pub mod Outcomes

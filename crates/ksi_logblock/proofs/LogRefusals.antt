@@ -1,5 +1,5 @@
 -- Lines make a block, or one line is the first that no block takes.
-use Rattle.std.proofs.Common.{◌≡◌, ℕ, Err, ◌<◌, List, [], ◌∷◌, ◌++◌, length, refl, sym, ap, subst, ◌∙◌, append_assoc, append-nil, length-append, ◌⊎◌, inl, inr, arith}
+use Rattle.std.proofs.Common.{◌≡◌, ℕ, Err, ◌+◌, Option, Some, None, ◌<◌, List, [], ◌∷◌, ◌++◌, length, refl, sym, ap, subst, ◌∙◌, append_assoc, append-nil, length-append, ◌⊎◌, inl, inr, arith}
 use Rattle.std.specs.List.{AllByRecursion}
 use Rattle.ksi_imprint.specs.declared.refused.Refused.{Refused}
 use Rattle.ksi_imprint.specs.declared.refused.Refused.TheVariants.{Fault, NoMemory}
@@ -9,7 +9,8 @@ use Rattle.ksi_logblock.specs.Blocks.{Masked, longest_line, most_lines}
 use Rattle.ksi_logblock.specs.Logs.{AreTaken, IsLineTooLong, IsLineTooMany, IsLogRefusal, IsReached, IsShort, MakeBlock}
 use Rattle.ksi_logblock.specs.declared.logs.LogRefusal.{LogRefusal}
 use Rattle.ksi_logblock.specs.declared.logs.LogRefusal.TheVariants.{NoLines, TooManyLines, LineTooLong}
-use Rattle.ksi_logblock.proofs.Cases.{le_cases}
+use Rattle.ksi_logblock.specs.LogReading.{first_refusal, refusal_from}
+use Rattle.ksi_logblock.proofs.Cases.{le_cases, lt_cases}
 
 abbrev Lines : Type 0
 Lines = List (List ℕ)
@@ -37,25 +38,39 @@ taken_more before line taken room short = record {
   short = short_more before line taken.short short;
 }
 
-abbrev Found : Lines → Type 0
-Found lines = AreTaken lines ⊎ ((refusal : LogRefusal) × IsLogRefusal lines refusal)
+abbrev TakenUnless : Lines → Option LogRefusal → Type 0
+TakenUnless lines None = AreTaken lines
+TakenUnless lines (Some refusal) = IsLogRefusal lines refusal
 
-found_behind : (lines before rest : Lines) → lines ≡ before ++ rest → AreTaken before → Found lines
-found_behind lines before [] e taken = inl (subst AreTaken (sym (e ∙ append-nil before)) taken)
-found_behind lines before (line ∷ others) e taken = elim (le_cases most_lines (length before)) [
-  | inl full ↦ (let few = taken.few in inr (TooManyLines, record { line = line; reached = record { before = before; others = others; split = e; number = omega arith; taken = taken } }))
-  | inr room ↦ elim (le_cases (length line) longest_line) [
-    | inl short ↦ found_behind lines (before ++ line ∷ []) others (e ∙ sym (append_assoc before (line ∷ []) others)) (taken_more before line taken room short)
-    | inr long ↦ inr (LineTooLong (length before) (length line), record { line = line; reached = record { before = before; others = others; split = e; number = refl; taken = taken }; room = room; size_is = refl; long = long })
+told_from : (lines before rest : Lines) (k : ℕ) → k ≡ length before → lines ≡ before ++ rest → AreTaken before → TakenUnless lines (refusal_from k rest)
+told_from lines before [] k n e taken = subst AreTaken (sym (e ∙ append-nil before)) taken
+told_from lines before (line ∷ others) k n e taken = elim (lt_cases k most_lines) [
+  | inr full ↦ rw full.0 (let few = taken.few in let above = full.1 in record { line = line; reached = record { before = before; others = others; split = e; number = omega (arith, n, few, above); taken = taken } })
+  | inl room ↦ elim (lt_cases longest_line (length line)) [
+    | inl long ↦ rw (room.0, long.0) (record { line = line; reached = record { before = before; others = others; split = e; number = n; taken = taken }; room = room.1; size_is = refl; long = long.1 })
+    | inr short ↦ rw (room.0, short.0) (told_from lines (before ++ line ∷ []) others (k + 1) (omega (arith, n, length-append before (line ∷ []))) (e ∙ sym (append_assoc before (line ∷ []) others)) (taken_more before line taken (let below = room.1 in omega (arith, n, below)) short.1))
   ]
 ]
 
+-- what the first refusal tells of lines
+abbrev pub MakesUnless : Lines → Option LogRefusal → Type 0
+MakesUnless lines None = MakeBlock lines
+MakesUnless lines (Some refusal) = IsLogRefusal lines refusal
+
+some_taken : (lines : Lines) (first : Option LogRefusal) → 0 < length lines → TakenUnless lines first → MakesUnless lines first
+some_taken lines None some taken = record { some = some; taken = taken }
+some_taken lines (Some refusal) some is = is
+
+pub told : (lines : Lines) → MakesUnless lines (first_refusal lines)
+told [] = refl
+told (line ∷ lines) = some_taken (line ∷ lines) (refusal_from 0 (line ∷ lines)) (omega arith) (told_from (line ∷ lines) [] (line ∷ lines) 0 refl refl (record { few = omega arith; short = tt }))
+
 pub one_of : (lines : Lines) → MakeBlock lines ⊎ ((refusal : LogRefusal) × IsLogRefusal lines refusal)
-one_of [] = inr (NoLines, refl)
-one_of (line ∷ lines) = elim (found_behind (line ∷ lines) [] (line ∷ lines) refl (record { few = omega arith; short = tt })) [
-  | inl taken ↦ inl (record { some = omega arith; taken = taken })
-  | inr refusal ↦ inr refusal
-]
+one_of lines = of (first_refusal lines) (told lines)
+  where
+    of : (first : Option LogRefusal) → MakesUnless lines first → MakeBlock lines ⊎ ((refusal : LogRefusal) × IsLogRefusal lines refusal)
+    of None makes = inl makes
+    of (Some refusal) is = inr (refusal, is)
 
 -- ---- and not both
 

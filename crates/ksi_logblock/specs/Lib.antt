@@ -8,4 +8,5 @@ pub mod Elements
 pub mod File
 pub mod Kept
 pub mod Logs
+pub mod LogReading
 pub mod Lines

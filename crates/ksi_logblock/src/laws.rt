@@ -1,5 +1,5 @@
 //! What holds of blocks, for the layers above to cite. None of these functions does anything.
-ghost use Rattle.std.specs.Prelude.{◌≡◌, ◌<◌, ◌≤◌, ◌+◌, ◌↔◌, ◌⊎◌, ◌++◌, ℕ, List, Ok, length};
+ghost use Rattle.std.specs.Prelude.{◌≡◌, ◌<◌, ◌≤◌, ◌+◌, ◌↔◌, ◌⊎◌, ◌++◌, ℕ, List, Ok, Err, length};
 ghost use Rattle.std.specs.List.{AllByRecursion};
 ghost use Rattle.ksi_imprint.specs.Imprints.{IsImprint, join_text, zero_imprint};
 ghost use Rattle.ksi_split.specs.Ways.{way_of};
@@ -12,6 +12,7 @@ ghost use Rattle.ksi_logblock.specs.File.{IsProofFile, IsProofFault, proof_text}
 ghost use Rattle.ksi_logblock.specs.Kept.{IsLineLink};
 ghost use Rattle.ksi_logblock.specs.Links.{most_links, plain_line_links, sides_of};
 ghost use Rattle.ksi_logblock.specs.declared.logs.LogRefusal.{LogRefusal};
+ghost use Rattle.ksi_logblock.specs.LogReading.{log_at};
 ghost use Rattle.ksi_logblock.specs.Logs.{IsLogOf, IsLogRefusal, MakeBlock, lines_of};
 ghost use Rattle.ksi_logblock.specs.declared.proof_fault.ProofFault.{ProofFault};
 ghost use Rattle.ksi_logblock.specs.Locating.{kept_root, located};
@@ -109,6 +110,13 @@ pub fn log_or_refusal()
     ensures not_both { (lines : List (List ℕ)) (refusal : LogRefusal) → MakeBlock lines → IsLogRefusal lines refusal → ⊥ }
     ensures one_refusal { (lines : List (List ℕ)) (refusal other : LogRefusal) →
         IsLogRefusal lines refusal → IsLogRefusal lines other → refusal ≡ other }
+{}
+
+/// What `log_at` gives is the lines of a log where they make a block, or the refusal that stands.
+pub fn log_is_read()
+    ensures lines { (log : List ℕ) (lines : List (List ℕ)) →
+        (log_at log ≡ Ok lines) ↔ ((lines ≡ lines_of log) × MakeBlock (lines_of log)) }
+    ensures refusal { (log : List ℕ) (refusal : LogRefusal) → (log_at log ≡ Err refusal) ↔ IsLogRefusal (lines_of log) refusal }
 {}
 
 /// No level passes 255 where a line and its proof lead to a root.
