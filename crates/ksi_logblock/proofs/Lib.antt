@@ -12,6 +12,7 @@ pub mod LogRefusals
 pub mod LogTexts
 pub mod Outcomes
 pub mod Own
+pub mod ProofReads
 pub mod Roots
 pub mod Short
 pub mod Showing

@@ -10,3 +10,4 @@ pub mod Kept
 pub mod Logs
 pub mod LogReading
 pub mod Lines
+pub mod ProofReading

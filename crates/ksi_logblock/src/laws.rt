@@ -16,6 +16,7 @@ ghost use Rattle.ksi_logblock.specs.LogReading.{log_at};
 ghost use Rattle.ksi_logblock.specs.Logs.{IsLogOf, IsLogRefusal, MakeBlock, lines_of};
 ghost use Rattle.ksi_logblock.specs.declared.proof_fault.ProofFault.{ProofFault};
 ghost use Rattle.ksi_logblock.specs.Locating.{kept_root, located};
+ghost use Rattle.ksi_logblock.specs.ProofReading.{proof_at};
 ghost use Rattle.ksi_logblock.specs.Proofs.{root_by};
 ghost use Rattle.ksi_logblock.specs.Shown.{IsLine, LeadsToRoot, Shows};
 ghost use Rattle.ksi_logblock.specs.declared.line_proof.LineProof.{LineProof};
@@ -26,7 +27,7 @@ use crate::said::Reading;
 use ksi_aggchain::laws::one_climb;
 use ksi_aggtree::laws::{one_chain, one_round};
 use ksi_beside::laws::beside_a_tree;
-use ksi_order::whole_or_fault;
+use ksi_order::{walked_says, whole_or_fault};
 use ksi_split::laws::{one_answer, one_split, one_way};
 use ksi_tlv::{numeral_is_read, written_is_read};
 
@@ -95,6 +96,15 @@ pub fn file_or_fault()
         IsProofFault bytes fault → IsProofFault bytes other → fault ≡ other }
 {
     whole_or_fault::<Reading, ProofFault>();
+}
+
+/// What `proof_at` gives is the proof that the bytes are, or their first fault.
+pub fn proof_is_read()
+    ensures proof { (bytes : List ℕ) (proof : LineProof) → (proof_at bytes ≡ Ok proof) ↔ IsProofFile bytes proof }
+    ensures fault { (bytes : List ℕ) (fault : ProofFault) → (proof_at bytes ≡ Err fault) ↔ IsProofFault bytes fault }
+{
+    walked_says::<Reading, ProofFault>();
+    file_or_fault();
 }
 
 /// A log is cut into its lines: they have no line feeds, and one stands behind each of them, but perhaps behind the last. Of no
