@@ -10,4 +10,6 @@ mod files;
 #[cfg(test)]
 mod locations;
 #[cfg(test)]
+mod logs;
+#[cfg(test)]
 mod same;

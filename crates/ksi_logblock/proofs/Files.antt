@@ -36,7 +36,7 @@ same_rest : (bytes rest left : List ℕ) → bytes ≡ magic ++ rest → bytes �
 same_rest bytes rest left e f = append_cancel_left magic rest left (sym e ∙ f)
 
 -- whole elements end in a state that began with the mask
-whole_said : (items : Items) (t : Said) → IsWhole proof_order items nothing_yet t → t ≡ said_of (record { mask = t.mask; links = t.links })
+pub whole_said : (items : Items) (t : Said) → IsWhole proof_order items nothing_yet t → t ≡ said_of (record { mask = t.mask; links = t.links })
 whole_said items t whole = λ i. record { started = whole.ends i; mask = t.mask; links = t.links }
 
 module _ (laws : Laws) (bytes : List ℕ) where

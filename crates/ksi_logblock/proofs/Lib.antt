@@ -6,8 +6,13 @@ pub mod Climbs
 pub mod Files
 pub mod Leading
 pub mod Leaves
+pub mod LogLines
+pub mod LogReads
+pub mod LogRefusals
+pub mod LogTexts
 pub mod Outcomes
 pub mod Own
+pub mod ProofReads
 pub mod Roots
 pub mod Short
 pub mod Showing

@@ -7,3 +7,7 @@ pub mod Shown
 pub mod Elements
 pub mod File
 pub mod Kept
+pub mod Logs
+pub mod LogReading
+pub mod Lines
+pub mod ProofReading

@@ -1,5 +1,5 @@
 //! What holds of blocks, for the layers above to cite. None of these functions does anything.
-ghost use Rattle.std.specs.Prelude.{◌≡◌, ◌<◌, ◌≤◌, ◌+◌, ◌↔◌, ◌⊎◌, ◌++◌, ℕ, List, Ok, length};
+ghost use Rattle.std.specs.Prelude.{◌≡◌, ◌<◌, ◌≤◌, ◌+◌, ◌↔◌, ◌⊎◌, ◌++◌, ℕ, List, Ok, Err, length};
 ghost use Rattle.std.specs.List.{AllByRecursion};
 ghost use Rattle.ksi_imprint.specs.Imprints.{IsImprint, join_text, zero_imprint};
 ghost use Rattle.ksi_split.specs.Ways.{way_of};
@@ -11,8 +11,12 @@ ghost use Rattle.ksi_logblock.specs.Blocks.{Masked, items_of, leaf_at, leaves_of
 ghost use Rattle.ksi_logblock.specs.File.{IsProofFile, IsProofFault, proof_text};
 ghost use Rattle.ksi_logblock.specs.Kept.{IsLineLink};
 ghost use Rattle.ksi_logblock.specs.Links.{most_links, plain_line_links, sides_of};
+ghost use Rattle.ksi_logblock.specs.declared.logs.LogRefusal.{LogRefusal};
+ghost use Rattle.ksi_logblock.specs.LogReading.{log_at};
+ghost use Rattle.ksi_logblock.specs.Logs.{IsLogOf, IsLogRefusal, MakeBlock, lines_of};
 ghost use Rattle.ksi_logblock.specs.declared.proof_fault.ProofFault.{ProofFault};
 ghost use Rattle.ksi_logblock.specs.Locating.{kept_root, located};
+ghost use Rattle.ksi_logblock.specs.ProofReading.{proof_at};
 ghost use Rattle.ksi_logblock.specs.Proofs.{root_by};
 ghost use Rattle.ksi_logblock.specs.Shown.{IsLine, LeadsToRoot, Shows};
 ghost use Rattle.ksi_logblock.specs.declared.line_proof.LineProof.{LineProof};
@@ -23,7 +27,7 @@ use crate::said::Reading;
 use ksi_aggchain::laws::one_climb;
 use ksi_aggtree::laws::{one_chain, one_round};
 use ksi_beside::laws::beside_a_tree;
-use ksi_order::whole_or_fault;
+use ksi_order::{walked_says, whole_or_fault};
 use ksi_split::laws::{one_answer, one_split, one_way};
 use ksi_tlv::{numeral_is_read, written_is_read};
 
@@ -93,6 +97,37 @@ pub fn file_or_fault()
 {
     whole_or_fault::<Reading, ProofFault>();
 }
+
+/// What `proof_at` gives is the proof that the bytes are, or their first fault.
+pub fn proof_is_read()
+    ensures proof { (bytes : List ℕ) (proof : LineProof) → (proof_at bytes ≡ Ok proof) ↔ IsProofFile bytes proof }
+    ensures fault { (bytes : List ℕ) (fault : ProofFault) → (proof_at bytes ≡ Err fault) ↔ IsProofFault bytes fault }
+{
+    walked_says::<Reading, ProofFault>();
+    file_or_fault();
+}
+
+/// A log is cut into its lines: they have no line feeds, and one stands behind each of them, but perhaps behind the last. Of no
+/// other lines it is the log.
+pub fn log_is_of_lines()
+    ensures cut { (log : List ℕ) → IsLogOf log (lines_of log) }
+    ensures alone { (log : List ℕ) (lines : List (List ℕ)) → IsLogOf log lines → lines ≡ lines_of log }
+{}
+
+/// The lines of a log make a block, or one refusal stands, and not both.
+pub fn log_or_refusal()
+    ensures one { (lines : List (List ℕ)) → MakeBlock lines ⊎ ((refusal : LogRefusal) × IsLogRefusal lines refusal) }
+    ensures not_both { (lines : List (List ℕ)) (refusal : LogRefusal) → MakeBlock lines → IsLogRefusal lines refusal → ⊥ }
+    ensures one_refusal { (lines : List (List ℕ)) (refusal other : LogRefusal) →
+        IsLogRefusal lines refusal → IsLogRefusal lines other → refusal ≡ other }
+{}
+
+/// What `log_at` gives is the lines of a log where they make a block, or the refusal that stands.
+pub fn log_is_read()
+    ensures lines { (log : List ℕ) (lines : List (List ℕ)) →
+        (log_at log ≡ Ok lines) ↔ ((lines ≡ lines_of log) × MakeBlock (lines_of log)) }
+    ensures refusal { (log : List ℕ) (refusal : LogRefusal) → (log_at log ≡ Err refusal) ↔ IsLogRefusal (lines_of log) refusal }
+{}
 
 /// No level passes 255 where a line and its proof lead to a root.
 pub(crate) fn low_levels()

@@ -7,9 +7,9 @@
 //! The layer above may rely on this: `push` takes a line or says why not; `root` is the tree over the leaves; `proof` gives a
 //! line's own mask and chain, and leads to the root; [`root_of`] gives the imprint that a line and a proof lead to; and
 //! [`locate`] says of a line and a proof that lead to a kept block's root which line of the block it is, with its own mask and
-//! way, or has a clash of the hash function. A proof file is read and written both ways. Lines are lent, not copied; what a
-//! block keeps beside them is a leaf each. Only `push`, `proof`, `read_proof`, `write_proof` and a clash take memory. What holds of
-//! the definitions is in [`laws`].
+//! way, or has a clash of the hash function. [`block_of`] gives the block of a log's lines, or the first line that no block takes.
+//! A proof file is read and written both ways. Lines are lent, not copied; what a block keeps beside them is a leaf each. Only
+//! `push`, `block_of`, `proof`, `read_proof`, `write_proof` and a clash take memory. What holds of the definitions is in [`laws`].
 //!
 //! ```text
 //! let mut block = Block::<Sha>::new(alloc, seed);
@@ -27,6 +27,7 @@ mod kept;
 pub mod laws;
 mod line_proof;
 mod locating;
+mod logs;
 mod over;
 mod proof_fault;
 mod reading;
@@ -39,6 +40,7 @@ pub use ksi_aggchain::LevelFault;
 pub use ksi_imprint::{Clash, NoMemory, Refused};
 pub use line_proof::{LineLink, LineLinks, LineProof, MOST_LINKS};
 pub use locating::{LineRefusal, Located, locate};
+pub use logs::{LogRefusal, block_of};
 pub use proof_fault::ProofFault;
 pub use reading::read_proof;
 pub use writing::write_proof;
