@@ -19,8 +19,7 @@ use Rattle.ksi_signature.specs.declared.answer.Answer.TheVariants as answers
 use Rattle.ksi_aggregator.specs.declared.place.Place.{Place}
 use Rattle.ksi_aggregator.specs.Rows.{RoundState, RoundTurn, round_still, round_added, request_entry, submitted_entry, round_request, round_submission, round_close, round_response, fresh_round, round_restarted, response_where, closed_now}
 use Rattle.ksi_aggregator.specs.Rounds.{items_in, StandsAt, IsNew, SameRounds, ChangesOnly, IsTurn}
-use Rattle.ksi_signature.specs.declared.step.Step.{Step}
-use Rattle.ksi_aggregator.specs.declared.step.Send.{Send}
+use Rattle.ksi_aggregator.specs.declared.step.Step.{Step}
 use Rattle.ksi_aggregator.specs.Issuing.{from_request, IsAnswered, NotIssuedAt, NotIssued, AreFound, AreEarly}
 use Rattle.ksi_aggregator.proofs.Items.{read_more}
 
@@ -164,7 +163,7 @@ found_restarted old new places found restarted = λ t k n item at.
     closed_only false r k entry e = absurd (none-some entry e)
 
 -- whatever the step, what is found stays found
-pub found_step : {E : Type 0} (result : Result (Step Send) E) (old new : ℕ → RoundState) (second : ℕ) (turn : RoundTurn) (places : ℕ → Option Place) → AreFound old places
+pub found_step : {E : Type 0} (result : Result Step E) (old new : ℕ → RoundState) (second : ℕ) (turn : RoundTurn) (places : ℕ → Option Place) → AreFound old places
     → (ChangesOnly old new second turn.after → AreFound new places) → IfOk result (IsTurn old new second turn) → OnErr result (SameRounds old new) → AreFound new places
 found_step (Ok step) old new second turn places found after is same = after is.after
 found_step (Err e) old new second turn places found after is same = found_same old new places found same

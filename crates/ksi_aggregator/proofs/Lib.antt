@@ -2,3 +2,4 @@ pub mod Items
 pub mod Found
 pub mod Restart
 pub mod Words
+pub mod Storing

@@ -9,8 +9,7 @@ use Rattle.ksi_aggtree.specs.Entries.{has_from, is_full}
 use Rattle.ksi_signature.specs.declared.above.Above.{Above}
 use Rattle.ksi_signature.specs.declared.answer.Answer.{Answer}
 use Rattle.ksi_signature.specs.declared.answer.Answer.TheVariants as answers
-use Rattle.ksi_signature.specs.declared.step.Step.{Step}
-use Rattle.ksi_aggregator.specs.declared.step.Send.{Send}
+use Rattle.ksi_aggregator.specs.declared.step.Step.{Step}
 use Rattle.ksi_aggregator.specs.Rows.{RoundState, RoundTurn, round_still, round_added, request_entry, submitted_entry, round_request, round_submission, round_close, round_response, response_where, closed_now}
 use Rattle.ksi_aggregator.specs.Rounds.{IsTurn}
 use Rattle.ksi_aggregator.specs.Refusals.{IsFull, IsKnown, IsFullFor, AwaitsResponse}
@@ -32,8 +31,8 @@ mark answers.Nothing = 11
 mark answers.Last = 12
 
 -- what holds of a row's answer holds of the step's
-pub by_row : {E : Type 0} (result : Result (Step Send) E) (old new : ℕ → RoundState) (second : ℕ) (turn : RoundTurn) (r now : RoundState) (P : RoundState → Answer → Type 0)
-    → r ≡ now → IfOk result (IsTurn old new second turn) → P r turn.answer → IfOk result (λ (step : Step Send). P now step.answer)
+pub by_row : {E : Type 0} (result : Result Step E) (old new : ℕ → RoundState) (second : ℕ) (turn : RoundTurn) (r now : RoundState) (P : RoundState → Answer → Type 0)
+    → r ≡ now → IfOk result (IsTurn old new second turn) → P r turn.answer → IfOk result (λ (step : Step). P now step.answer)
 by_row (Ok step) old new second turn r now P same is p = subst (λ (answer : Answer). P now answer) (sym is.answer) (subst (λ (r : RoundState). P r turn.answer) same p)
 by_row (Err e) old new second turn r now P same is p = tt
 

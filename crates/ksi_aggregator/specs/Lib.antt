@@ -1,5 +1,6 @@
 pub mod Rows
 pub mod Responses
 pub mod Rounds
+pub mod Facts
 pub mod Refusals
 pub mod Issuing

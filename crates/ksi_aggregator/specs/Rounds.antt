@@ -1,5 +1,5 @@
 -- What an aggregator shows: its round of each second, and what a step makes of them.
-use Rattle.std.specs.Prelude.{◌≡◌, ◌≤◌, ℕ, true, ◌==◌, if◌then◌else◌, List, length, slice_get, unwrap_or, Some}
+use Rattle.std.specs.Prelude.{◌≡◌, ◌≤◌, ℕ, true, ◌==◌, if◌then◌else◌, List, length, slice_get, unwrap_or, option_map, Some}
 use Rattle.std.specs.Ordering.{nat_cmp}
 use Rattle.std.specs.BTreeMap.{is_at}
 use Rattle.std.specs.Map.{lookup}
@@ -7,8 +7,9 @@ use Rattle.ksi_aggtree.specs.declared.item.Item.{Item}
 use Rattle.ksi_aggtree.specs.declared.entries.Entry.{Entry}
 use Rattle.ksi_aggtree.specs.declared.entries.Origin.TheVariants as origins
 use Rattle.ksi_signature.specs.declared.above.Above.{Above}
-use Rattle.ksi_signature.specs.declared.step.Step.{Step}
-use Rattle.ksi_aggregator.specs.declared.step.Send.{Send}
+use Rattle.ksi_aggregator.specs.declared.fact.Fact.{Fact}
+use Rattle.ksi_aggregator.specs.declared.fact.RoundFact.{RoundFact}
+use Rattle.ksi_aggregator.specs.declared.step.Step.{Step}
 use Rattle.ksi_aggregator.specs.Responses.{has_lower}
 use Rattle.ksi_aggregator.specs.Rows.{RoundState, RoundTurn, fresh_round}
 
@@ -49,8 +50,13 @@ SameRounds old new = (t : ℕ) → new t ≡ old t
 abbrev pub ChangesOnly : (ℕ → RoundState) → (ℕ → RoundState) → ℕ → RoundState → Type 0
 ChangesOnly old new second round = (t : ℕ) → new t ≡ (if t == second then round else old t)
 
+-- the fact of a second
+abbrev pub fact_of : (second : ℕ) → RoundFact → Fact
+fact_of second what = record { second = second; what = what }
+
 -- the step is this turn of the second, and no other second changed
-pub record IsTurn (old new : ℕ → RoundState) (second : ℕ) (turn : RoundTurn) (step : Step Send) : Type 0 where
+pub record IsTurn (old new : ℕ → RoundState) (second : ℕ) (turn : RoundTurn) (step : Step) : Type 0 where
   pub after : ChangesOnly old new second turn.after
   pub answer : step.answer ≡ turn.answer
+  pub fact : step.fact ≡ option_map (fact_of second) turn.fact
   pub sends : step.sends ≡ turn.sends

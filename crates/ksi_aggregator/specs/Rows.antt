@@ -8,6 +8,8 @@ use Rattle.ksi_aggtree.specs.Entries.{items_of, has_from, is_full}
 use Rattle.ksi_signature.specs.declared.above.Above.{Above}
 use Rattle.ksi_signature.specs.declared.answer.Answer.{Answer}
 use Rattle.ksi_signature.specs.declared.answer.Answer.TheVariants as answers
+use Rattle.ksi_aggregator.specs.declared.fact.RoundFact.{RoundFact}
+use Rattle.ksi_aggregator.specs.declared.fact.RoundFact.TheVariants as what
 use Rattle.ksi_aggregator.specs.declared.step.Send.{Send}
 use Rattle.ksi_aggregator.specs.declared.step.Send.TheVariants as sends
 use Rattle.ksi_aggregator.specs.Responses.{responses}
@@ -22,21 +24,23 @@ pub record RoundState : Type 0 where
 abbrev pub fresh_round : RoundState
 fresh_round = record { open_items = []; closed = None; answered = None }
 
--- what a step makes of a round: the round after it, the answer, and what is sent
+-- what a step makes of a round: the round after it, the answer, what is stored for good, and what is sent
 pub record RoundTurn : Type 0 where
   pub after : RoundState
   pub answer : Answer
+  pub fact : Option RoundFact
   pub sends : List Send
 
 -- nothing changes
 abbrev pub round_still : RoundState → Answer → RoundTurn
-round_still r answer = record { after = r; answer = answer; sends = [] }
+round_still r answer = record { after = r; answer = answer; fact = None; sends = [] }
 
 -- the entry is added
 abbrev pub round_added : RoundState → Entry → Answer → RoundTurn
 round_added r entry answer = record {
   after = record { open_items = r.open_items ++ entry ∷ []; closed = r.closed; answered = r.answered };
   answer = answer;
+  fact = None;
   sends = [];
 }
 
@@ -84,6 +88,7 @@ module _ (image : List ℕ → List ℕ) where
   closed_now r = record {
     after = record { open_items = []; closed = Some r.open_items; answered = r.answered };
     answer = answers.Done;
+    fact = Some (what.Closed r.open_items);
     sends = submission_of r.open_items;
   }
 
@@ -98,6 +103,7 @@ module _ (image : List ℕ → List ℕ) where
   answered_now above entries r = record {
     after = record { open_items = r.open_items; closed = r.closed; answered = Some above };
     answer = answers.Done;
+    fact = Some (what.Answered above);
     sends = responses image above entries;
   }
 

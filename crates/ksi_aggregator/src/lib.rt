@@ -2,8 +2,9 @@
 //! the item of the round's tree to its parent, sends each response on with the chain of the lower aggregator's item, and
 //! issues the signatures of its requests.
 //!
-//! The layer above may rely on this: each call is its row of the step table of docs/PROTOCOL.md, for the second that it
-//! is given, and no other second changes; after a refusal for want of memory all is as it was; open rounds are lost at a
+//! A [`Step`] has a call's [`Answer`](ksi_signature::Answer), the [`Fact`] that is to be stored, if any, and what is to be
+//! sent. The layer above may rely on this: each call is its row of the step table of docs/PROTOCOL.md, for the second that
+//! it is given, and no other second changes; after a refusal for want of memory all is as it was; open rounds are lost at a
 //! restart, closed rounds and their first response stay; and what is issued is the signature of the request's item.
 //!
 //! ```text
@@ -17,6 +18,8 @@
 
 mod aggregator;
 mod copies;
+mod fact;
+pub mod laws;
 mod place;
 mod responses;
 mod round;
@@ -24,5 +27,6 @@ mod rounds;
 mod step;
 
 pub use aggregator::Aggregator;
+pub use fact::{ClosedItems, Fact, RoundFact};
 pub use ksi_imprint::NoMemory;
 pub use step::{Send, Step};

@@ -1,12 +1,13 @@
 //! The round of one second.
-ghost use Rattle.std.specs.Prelude.{◌≡◌, ◌≤◌, ◌<◌, ◌^◌, ◌↔◌, length, slice_get, is_some, Some, IsTrue, IfOk, IfSome, IfNone, OnErr};
+ghost use Rattle.std.specs.Prelude.{◌≡◌, ◌≤◌, ◌<◌, ◌^◌, ◌↔◌, length, slice_get, option_map, is_some, Some, IsTrue, IfOk, IfSome, IfNone, OnErr};
 ghost use Rattle.ksi_aggtree.specs.declared.item.Item.{Item};
 ghost use Rattle.ksi_aggtree.specs.Rounds.{leaf_level, highest_item};
 ghost use Rattle.ksi_aggregator.specs.Rows.{fresh_round, round_request, round_submission, round_close, round_response};
-ghost use Rattle.ksi_aggregator.specs.Rounds.{items_in, StandsAt, HasPlace};
+ghost use Rattle.ksi_aggregator.specs.Rounds.{items_in, fact_of, StandsAt, HasPlace};
 ghost use Rattle.ksi_aggregator.specs.Issuing.{IsIssuedAt, NotIssuedAt, from_request, issued_text};
 
-use crate::copies::copy_above;
+use crate::copies::{copies_of, copy_items};
+use crate::fact::{ClosedItems, Fact, RoundFact};
 use crate::responses::responses;
 use crate::step::{Send, Step};
 use ksi_aggtree::laws::metas_are_even;
@@ -74,66 +75,59 @@ impl<C: Compress> Round<C> {
     #[tactic(auto, unfolding(crate::specs::Rows::round_request))]
     pub(crate) fn request(
         &mut self,
-        alloc: Global,
         number: u64,
         imprint: Imprint,
         name: Option<Name>,
-    ) -> Result<Step, NoMemory>
-        ensures after { IfOk result (λ step. self.new ≡ (round_request number imprint name self.old).after) }
-        ensures answer { IfOk result (λ step. step.answer ≡ (round_request number imprint name self.old).answer) }
-        ensures sends { IfOk result (λ step. step.sends ≡ (round_request number imprint name self.old).sends) }
+    ) -> Result<Answer, NoMemory>
+        ensures after { IfOk result (λ answer. self.new ≡ (round_request number imprint name self.old).after) }
+        ensures answer { IfOk result (λ answer. answer ≡ (round_request number imprint name self.old).answer) }
         ensures unchanged { OnErr result (self.new ≡ self.old) }
     {
         if self.is_closed {
-            return Ok(Step::without_sends(alloc, Answer::Late));
+            return Ok(Answer::Late);
         }
         let entry = Entry {
             origin: Origin::Request(number),
             item: Item::new(imprint, 0).with_name(name),
         };
         match self.entries.add(entry) {
-            Ok(_) => Ok(Step::without_sends(alloc, Answer::Number(number))),
-            Err(Refused::Fault(AddRefusal::Full)) => Ok(Step::without_sends(alloc, Answer::Full)),
+            Ok(_) => Ok(Answer::Number(number)),
+            Err(Refused::Fault(AddRefusal::Full)) => Ok(Answer::Full),
             Err(Refused::NoMemory) => Err(NoMemory),
         }
     }
 
     /// Takes the item of an aggregator.
     #[tactic(auto, unfolding(crate::specs::Rows::round_submission))]
-    pub(crate) fn submission(
-        &mut self,
-        alloc: Global,
-        from: u32,
-        item: Item,
-    ) -> Result<Step, NoMemory>
+    pub(crate) fn submission(&mut self, from: u32, item: Item) -> Result<Answer, NoMemory>
         requires { leaf_level item ≤ highest_item }
-        ensures after { IfOk result (λ step. self.new ≡ (round_submission from item self.old).after) }
-        ensures answer { IfOk result (λ step. step.answer ≡ (round_submission from item self.old).answer) }
-        ensures sends { IfOk result (λ step. step.sends ≡ (round_submission from item self.old).sends) }
+        ensures after { IfOk result (λ answer. self.new ≡ (round_submission from item self.old).after) }
+        ensures answer { IfOk result (λ answer. answer ≡ (round_submission from item self.old).answer) }
         ensures unchanged { OnErr result (self.new ≡ self.old) }
     {
         if self.is_closed {
-            return Ok(Step::without_sends(alloc, Answer::Late));
+            return Ok(Answer::Late);
         }
         if self.entries.has_from(from) {
-            return Ok(Step::without_sends(alloc, Answer::Known));
+            return Ok(Answer::Known);
         }
         let entry = Entry {
             origin: Origin::Aggregator(from),
             item,
         };
         match self.entries.add(entry) {
-            Ok(_) => Ok(Step::without_sends(alloc, Answer::Done)),
-            Err(Refused::Fault(AddRefusal::Full)) => Ok(Step::without_sends(alloc, Answer::Full)),
+            Ok(_) => Ok(Answer::Done),
+            Err(Refused::Fault(AddRefusal::Full)) => Ok(Answer::Full),
             Err(Refused::NoMemory) => Err(NoMemory),
         }
     }
 
-    /// Closes the round.
+    /// Closes the round, which is one of this second.
     #[tactic(auto, unfolding(crate::specs::Rows::round_close))]
-    pub(crate) fn close(&mut self, alloc: Global) -> Result<Step, NoMemory>
+    pub(crate) fn close(&mut self, alloc: Global, second: u64) -> Result<Step, NoMemory>
         ensures after { IfOk result (λ step. self.new ≡ (round_close C.image self.old).after) }
         ensures answer { IfOk result (λ step. step.answer ≡ (round_close C.image self.old).answer) }
+        ensures fact { IfOk result (λ step. step.fact ≡ option_map (fact_of second) (round_close C.image self.old).fact) }
         ensures sends { IfOk result (λ step. step.sends ≡ (round_close C.image self.old).sends) }
         ensures unchanged { OnErr result (self.new ≡ self.old) }
     {
@@ -144,20 +138,31 @@ impl<C: Compress> Round<C> {
         if let Some(root) = self.entries.root() {
             sends.push(Send::Submission(Item::of(root)))?;
         }
+        let items = copy_items(alloc, &self.entries)?;
         self.response = None;
         self.is_closed = true;
         Ok(Step {
             answer: Answer::Done,
+            fact: Some(Fact {
+                second,
+                what: RoundFact::Closed(ClosedItems::from_vec(items)),
+            }),
             sends: Sends::from_vec(sends),
         })
     }
 
-    /// Takes the response to the round.
+    /// Takes the response to the round, which is one of this second.
     #[tactic(auto, unfolding(crate::specs::Rows::round_response))]
-    pub(crate) fn response(&mut self, alloc: Global, above: &Above) -> Result<Step, NoMemory>
+    pub(crate) fn response(
+        &mut self,
+        alloc: Global,
+        second: u64,
+        above: &Above,
+    ) -> Result<Step, NoMemory>
         requires { HasPlace self.old above.now }
         ensures after { IfOk result (λ step. self.new ≡ (round_response C.image above.now self.old).after) }
         ensures answer { IfOk result (λ step. step.answer ≡ (round_response C.image above.now self.old).answer) }
+        ensures fact { IfOk result (λ step. step.fact ≡ option_map (fact_of second) (round_response C.image above.now self.old).fact) }
         ensures sends { IfOk result (λ step. step.sends ≡ (round_response C.image above.now self.old).sends) }
         ensures unchanged { OnErr result (self.new ≡ self.old) }
     {
@@ -165,10 +170,14 @@ impl<C: Compress> Round<C> {
             return Ok(Step::without_sends(alloc, Answer::Nothing));
         }
         let sends = responses(alloc, &self.entries, above)?;
-        let first = copy_above(alloc, above)?;
+        let (first, stored) = copies_of(alloc, above)?;
         self.response = Some(first);
         Ok(Step {
             answer: Answer::Done,
+            fact: Some(Fact {
+                second,
+                what: RoundFact::Answered(stored),
+            }),
             sends,
         })
     }

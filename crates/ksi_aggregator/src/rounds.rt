@@ -75,7 +75,10 @@ impl<C: Compress> Rounds<C> {
     {
         make_room(self.alloc, &mut self.map, second)?;
         match self.map.get_mut(&second) {
-            Some(round) => round.request(self.alloc, number, imprint, name),
+            Some(round) => {
+                let answer = round.request(number, imprint, name)?;
+                Ok(Step::without_sends(self.alloc, answer))
+            }
             None => unreachable!(),
         }
     }
@@ -93,7 +96,10 @@ impl<C: Compress> Rounds<C> {
     {
         make_room(self.alloc, &mut self.map, second)?;
         match self.map.get_mut(&second) {
-            Some(round) => round.submission(self.alloc, aggregator, item),
+            Some(round) => {
+                let answer = round.submission(aggregator, item)?;
+                Ok(Step::without_sends(self.alloc, answer))
+            }
             None => unreachable!(),
         }
     }
@@ -105,7 +111,7 @@ impl<C: Compress> Rounds<C> {
     {
         make_room(self.alloc, &mut self.map, second)?;
         match self.map.get_mut(&second) {
-            Some(round) => round.close(self.alloc),
+            Some(round) => round.close(self.alloc, second),
             None => unreachable!(),
         }
     }
@@ -118,7 +124,7 @@ impl<C: Compress> Rounds<C> {
         ensures unchanged { OnErr result (SameRounds (round_at self.old) (round_at self.new)) }
     {
         match self.map.get_mut(&second) {
-            Some(round) => round.response(self.alloc, above),
+            Some(round) => round.response(self.alloc, second, above),
             None => Ok(Step::without_sends(self.alloc, Answer::Nothing)),
         }
     }

@@ -46,6 +46,13 @@ impl<C: Compress> Calendar<C> {
         Ok(Calendar { rows })
     }
 
+    /// The first second that has a root, or is to have one.
+    pub fn start(&self) -> u64
+        ensures { result ≡ self.now.start }
+    {
+        self.rows.start()
+    }
+
     /// How many seconds from the start on have a root.
     pub fn count(&self) -> u64
         ensures { result ≡ length self.now.roots }

@@ -1,5 +1,5 @@
 //! The calendar of what a core holds.
-ghost use Rattle.std.specs.Prelude.{◌≡◌, ◌↔◌, ℕ, ◌<◌, ◌≤◌, ◌+◌, ◌^◌, [], length, IfOk, IfErr, OnOk, Some, None};
+ghost use Rattle.std.specs.Prelude.{◌≡◌, ◌↔◌, ℕ, ◌<◌, ◌≤◌, ◌+◌, ◌^◌, [], length, IsOk, IfOk, IfErr, OnOk, Some, None};
 ghost use Rattle.ksi_calendar.specs.Covered.{first_missing, IsFirstMissing};
 ghost use Rattle.ksi_corenode.specs.Settled.{IsCalendarOf};
 ghost use Rattle.ksi_signature.specs.declared.answer.Answer.TheVariants.{Undecided};
@@ -26,6 +26,7 @@ impl<C: Compress> Core<C> {
             (step.answer ≡ Undecided s) ↔ IsFirstMissing (held_by self.now) self.now.start p s) }
         ensures fact { IfOk result (λ step. step.fact ≡ None) }
         ensures sends { IfOk result (λ step. step.sends ≡ []) }
+        ensures memory { IsOk result }
     {
         one_first_missing();
         let answer = self.published(p);

@@ -1,5 +1,5 @@
 //! Which seconds are held or sealed: those from the start on that are held, up to the first that is not, and the next one.
-ghost use Rattle.std.specs.Prelude.{◌≡◌, ◌↔◌, ◌+◌, ◌≤◌, ℕ, false, IfSome, IsNone, IsSome};
+ghost use Rattle.std.specs.Prelude.{◌≡◌, ◌↔◌, ◌+◌, ◌≤◌, ◌<◌, ℕ, false, IfSome, IsNone, IsSome};
 ghost use Rattle.ksi_calendar.specs.Covered.{first_missing};
 ghost use Rattle.ksi_corenode.specs.Settled.{IsSettled};
 ghost use Rattle.ksi_corenode.specs.Next.{IsNext, held_or_sealed};
@@ -27,6 +27,7 @@ impl<C: Compress> Core<C> {
         ensures first { result ≡ first_missing (held_by self.now) self.now.start p }
         ensures none { IsNone result ↔ ((t : ℕ) → self.now.start ≤ t → t ≤ p → IsSome (held_by self.now t)) }
         ensures most { steps.new ≤ steps.old + 1 }
+        ensures least { self.now.start ≤ p → steps.old < steps.new }
     {
         one_first_missing();
         let start = self.start();

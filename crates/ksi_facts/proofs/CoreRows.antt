@@ -27,7 +27,7 @@ use Rattle.ksi_corenode.specs.Rows.{submitted, submission_row, item_taken, seal_
 use Rattle.ksi_schedule.specs.declared.actor.Actor.TheVariants as actors
 use Rattle.ksi_world.specs.declared.message.Content.TheVariants as contents
 use Rattle.ksi_world.specs.Histories.{core_message}
-use Rattle.ksi_facts.specs.Deeds.{What, Deed, Accepted, Sealed, Tried, Promised, Cast, Holds, Heard, Restarted, facts_of, held_root, where_done, first, tries, decides, takes}
+use Rattle.ksi_facts.specs.Deeds.{Act, Deed, Accepted, Sealed, Tried, Promised, Cast, Holds, Heard, Restarted, facts_of, held_root, where_done, first, tries, decides, takes}
 use Rattle.ksi_facts.specs.Since.{Since, Reply, with_reply, since}
 use Rattle.ksi_facts.proofs.Standing.{IsHandSo, IsInHandSo, IsSo, did}
 use Rattle.ksi_facts.proofs.Hands.{last_idle, last_counted, voted_idle, voted_counted}
@@ -44,7 +44,7 @@ ballot_asked [] i t b some = absurd (omega (arith, some))
 ballot_asked (core ∷ others) i t b some = refl
 
 -- a root that is held where nothing was
-abbrev pub held_now : (root : List ℕ) → (held : Option (List ℕ)) → List What
+abbrev pub held_now : (root : List ℕ) → (held : Option (List ℕ)) → List Act
 held_now root None = Holds root ∷ []
 held_now root (Some held) = []
 
@@ -78,7 +78,7 @@ no_hand voters candidate (Some s) so = absurd so
 -- ONE DEED MORE
 
 module _ (image : List ℕ → List ℕ) (voters : List ℕ) {me : ℕ} (small : (y : ℕ) → is_voter voters y ≡ true → y < 9) (t : ℕ) (ds : List Deed) (s : SecondState) (so : IsSo image voters me ds s) where
-  abbrev After : List What → SecondState → Type 0
+  abbrev After : List Act → SecondState → Type 0
   After whats s' = IsSo image voters me (did t whats ++ ds) s'
 
   none_is : (o : Option (List Entry)) → is_some o ≡ false → o ≡ None
@@ -177,7 +177,7 @@ module _ (image : List ℕ → List ℕ) (voters : List ℕ) {me : ℕ} (small :
     trying : (candidate : Option (List ℕ)) → s.vote.candidate ≡ candidate → Trying (try_ballot_of candidate s.vote)
     trying None is = so
     trying (Some own) is = cond_both (eqb (greater_round s.vote) last_round) _ _ Trying (λ _. so)
-        (λ _. subst (λ (whats : List What). After whats (record s { vote = record s.vote { tried = next_ballot s.vote; hand = Some (new_hand (next_ballot s.vote)) } })) (sym (ballot_asked (voters_of core_plan t) i t (next_ballot s.vote) some)) (record {
+        (λ _. subst (λ (whats : List Act). After whats (record s { vote = record s.vote { tried = next_ballot s.vote; hand = Some (new_hand (next_ballot s.vote)) } })) (sym (ballot_asked (voters_of core_plan t) i t (next_ballot s.vote) some)) (record {
           kept = record { sealed = so.kept.sealed; candidate = so.kept.candidate; tried = refl; promised = so.kept.promised; vote = so.kept.vote; held = so.kept.held };
           open_is = so.open_is;
           shut = so.shut;
@@ -195,7 +195,7 @@ module _ (image : List ℕ → List ℕ) (voters : List ℕ) {me : ℕ} (small :
   small_here : (y : ℕ) → is_voter s.vote.voters y ≡ true → y < 9
   small_here y e = small y (ap (λ (vs : List ℕ). is_voter vs y) (sym so.voters_are) ∙ e)
 
-  abbrev Takes : List What → VoteState → Type 0
+  abbrev Takes : List Act → VoteState → Type 0
   Takes whats vote = After whats (record s { vote = vote })
 
   next_so : (b : ℕ) → Takes (where_done (news_answer (is_some (on_next s.vote b).1)) (Promised b)) (on_next s.vote b).0
@@ -336,7 +336,7 @@ module _ (image : List ℕ → List ℕ) (voters : List ℕ) {me : ℕ} (small :
 
         decided : (h : Hand) (d : List ℕ) → Hears from (votes.Voted b) (Some h) → P (record s.vote { held = Some (unwrap_or s.vote.held d); hand = Some h }, Decree d)
         decided h d has =
-            subst (λ (whats : List What). Takes (Heard from (votes.Voted b) ∷ whats) (record s.vote { held = Some (unwrap_or s.vote.held d); hand = Some h })) (sym (root_sent core_plan.cores i t d (held_root (facts_of ds)) some))
+            subst (λ (whats : List Act). Takes (Heard from (votes.Voted b) ∷ whats) (record s.vote { held = Some (unwrap_or s.vote.held d); hand = Some h })) (sym (root_sent core_plan.cores i t d (held_root (facts_of ds)) some))
             (subst (λ (o : Option (List ℕ)). Takes (Heard from (votes.Voted b) ∷ held_now d o) (record s.vote { held = Some (unwrap_or s.vote.held d); hand = Some h })) so.kept.held
             (holds h d has s.vote.held refl))
 

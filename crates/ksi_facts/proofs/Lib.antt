@@ -8,3 +8,4 @@ pub mod Growing
 pub mod NewFacts
 pub mod ReadOff
 pub mod Stepping
+pub mod Storing

@@ -28,7 +28,7 @@ use Rattle.ksi_schedule.specs.declared.actor.Actor.{Actor}
 use Rattle.ksi_schedule.specs.declared.actor.Actor.TheVariants as actors
 use Rattle.ksi_world.specs.declared.message.Content.TheVariants as contents
 use Rattle.ksi_world.specs.Histories.{core_message}
-use Rattle.ksi_facts.specs.Deeds.{What, Accepted, Sealed, Closed, Tried, Promised, Cast, Holds, Heard, Answered, facts_of, numbered, where_done, first, tries, decides, takes, is_actor, own}
+use Rattle.ksi_facts.specs.Deeds.{Act, Accepted, Sealed, Closed, Tried, Promised, Cast, Holds, Heard, Answered, facts_of, numbered, where_done, first, tries, decides, takes, is_actor, own}
 use Rattle.ksi_facts.specs.Steps.{came, rose, voted_anew, new_facts, new_round_facts}
 use Rattle.ksi_facts.proofs.Standing.{did}
 use Rattle.ksi_facts.proofs.CoreRows.{ballot_asked, held_now, root_sent}
@@ -39,11 +39,11 @@ use Rattle.ksi_facts.proofs.RoundRows.{none_is}
 not_below : (n : ℕ) → ltb n n ≡ false
 not_below n = le-ltb n n (omega arith)
 
-came_none : {A : Type 0} (fact : A → What) (o : Option A) → came fact o o ≡ []
+pub came_none : {A : Type 0} (fact : A → Act) (o : Option A) → came fact o o ≡ []
 came_none fact None = refl
 came_none fact (Some x) = refl
 
-rose_none : (fact : ℕ → What) (n : ℕ) → rose fact n n ≡ []
+rose_none : (fact : ℕ → Act) (n : ℕ) → rose fact n n ≡ []
 rose_none fact n = ap (λ (b : Bool). cond b (fact n ∷ []) []) (not_below n)
 
 voted_none : (o : Option Vote) → voted_anew o o ≡ []
@@ -55,37 +55,37 @@ module _ (s : SecondState) where
   with_vote v = record { vote = v; open_items = s.open_items; sealed = s.sealed }
 
   -- the parts of what a row adds
-  parts : (s' : SecondState) {a b c d e : List What} → came Sealed s.sealed s'.sealed ≡ a → rose Tried s.vote.tried s'.vote.tried ≡ b → rose Promised s.vote.promised s'.vote.promised ≡ c
+  pub parts : (s' : SecondState) {a b c d e : List Act} → came Sealed s.sealed s'.sealed ≡ a → rose Tried s.vote.tried s'.vote.tried ≡ b → rose Promised s.vote.promised s'.vote.promised ≡ c
       → voted_anew s.vote.vote s'.vote.vote ≡ d → came Holds s.vote.held s'.vote.held ≡ e → new_facts s s' ≡ a ++ b ++ c ++ d ++ e
   parts s' e1 e2 e3 e4 e5 = λ i. e1 i ++ e2 i ++ e3 i ++ e4 i ++ e5 i
 
-  sealed_stays : came Sealed s.sealed s.sealed ≡ []
+  pub sealed_stays : came Sealed s.sealed s.sealed ≡ []
   sealed_stays = came_none Sealed s.sealed
 
-  tried_stays : rose Tried s.vote.tried s.vote.tried ≡ []
+  pub tried_stays : rose Tried s.vote.tried s.vote.tried ≡ []
   tried_stays = rose_none Tried s.vote.tried
 
-  promise_stays : rose Promised s.vote.promised s.vote.promised ≡ []
+  pub promise_stays : rose Promised s.vote.promised s.vote.promised ≡ []
   promise_stays = rose_none Promised s.vote.promised
 
-  vote_stays : voted_anew s.vote.vote s.vote.vote ≡ []
+  pub vote_stays : voted_anew s.vote.vote s.vote.vote ≡ []
   vote_stays = voted_none s.vote.vote
 
-  root_stays : came Holds s.vote.held s.vote.held ≡ []
+  pub root_stays : came Holds s.vote.held s.vote.held ≡ []
   root_stays = came_none Holds s.vote.held
 
   -- all stays but the items that are open, and the ballot in hand
-  all_stays : (s' : SecondState) → s'.sealed ≡ s.sealed → s'.vote.tried ≡ s.vote.tried → s'.vote.promised ≡ s.vote.promised → s'.vote.vote ≡ s.vote.vote → s'.vote.held ≡ s.vote.held → new_facts s s' ≡ []
+  pub all_stays : (s' : SecondState) → s'.sealed ≡ s.sealed → s'.vote.tried ≡ s.vote.tried → s'.vote.promised ≡ s.vote.promised → s'.vote.vote ≡ s.vote.vote → s'.vote.held ≡ s.vote.held → new_facts s s' ≡ []
   all_stays s' e1 e2 e3 e4 e5 = parts s' (ap (came Sealed s.sealed) e1 ∙ sealed_stays) (ap (rose Tried s.vote.tried) e2 ∙ tried_stays) (ap (rose Promised s.vote.promised) e3 ∙ promise_stays)
       (ap (voted_anew s.vote.vote) e4 ∙ vote_stays) (ap (came Holds s.vote.held) e5 ∙ root_stays)
 
 -- A CORE'S ROWS
 
 module _ (t : ℕ) (s : SecondState) where
-  abbrev Adds : List What → SecondState → Type 0
+  abbrev Adds : List Act → SecondState → Type 0
   Adds whats s' = facts_of (did t whats) ≡ did t (new_facts s s')
 
-  added : (whats : List What) (s' : SecondState) (news : List What) → new_facts s s' ≡ news → facts_of (did t whats) ≡ did t news → Adds whats s'
+  added : (whats : List Act) (s' : SecondState) (news : List Act) → new_facts s s' ≡ news → facts_of (did t whats) ≡ did t news → Adds whats s'
   added whats s' news is same = same ∙ sym (ap (did t) is)
 
   still_adds : Adds [] s
@@ -105,7 +105,7 @@ module _ (t : ℕ) (s : SecondState) where
       Q : List Entry × Answer → Type 0
       Q row = P (item_taken s row)
 
-      same : (items : List Entry) (whats : List What) → facts_of (did t whats) ≡ [] → Adds whats (record s { open_items = items })
+      same : (items : List Entry) (whats : List Act) → facts_of (did t whats) ≡ [] → Adds whats (record s { open_items = items })
       same items whats none = added whats (record s { open_items = items }) [] (all_stays s (record s { open_items = items }) refl refl refl refl refl) none
 
   pub seal_adds : (image : List ℕ → List ℕ) → Adds (where_done (seal_row image s).answer (Sealed s.open_items)) (seal_row image s).after
@@ -122,7 +122,7 @@ module _ (t : ℕ) (s : SecondState) where
           (parts s (record { vote = s.vote; open_items = []; sealed = Some s.open_items }) (ap (λ (o : Option (List Entry)). came Sealed o (Some s.open_items)) none) (tried_stays s) (promise_stays s) (vote_stays s) (root_stays s)) refl
 
   -- a ballot of the next round is greater than the last one
-  greater : (tried promised me : ℕ) → ltb tried (16 * (max (tried / 16) (promised / 16) + 1) + me) ≡ true
+  pub greater : (tried promised me : ℕ) → ltb tried (16 * (max (tried / 16) (promised / 16) + 1) + me) ≡ true
   greater tried promised me = lt-ltb tried (16 * (max (tried / 16) (promised / 16) + 1) + me) (omega arith)
 
   pub ballot_adds : (core_plan : CorePlanState) (i : ℕ) → 0 < length (voters_of core_plan t) → Adds (tries (first (map (core_message i t) (ballot_row core_plan t i s).sends))) (ballot_row core_plan t i s).after
@@ -140,7 +140,7 @@ module _ (t : ℕ) (s : SecondState) where
       by (Some own) = cond_both (eqb (greater_round s.vote) last_round) _ _ P (λ _. still_adds)
           (λ _. added (tries (first (map (core_message i t) (to_each (voters_of core_plan t) (votes.NextBallot (next_ballot s.vote)))))) (with_vote s trying) (Tried (next_ballot s.vote) ∷ [])
           (parts s (with_vote s trying) (sealed_stays s) (ap (λ (b : Bool). cond b (Tried (next_ballot s.vote) ∷ []) []) (greater s.vote.tried s.vote.promised s.vote.me)) (promise_stays s) (vote_stays s) (root_stays s))
-          (ap (λ (whats : List What). facts_of (did t whats)) (ballot_asked (voters_of core_plan t) i t (next_ballot s.vote) some)))
+          (ap (λ (whats : List Act). facts_of (did t whats)) (ballot_asked (voters_of core_plan t) i t (next_ballot s.vote) some)))
 
   -- THE MESSAGES OF THE VOTE
 
@@ -221,7 +221,7 @@ module _ (t : ℕ) (s : SecondState) where
         decided : (h : Hand) (d : List ℕ) → P (holding d h, took.Decree d)
         decided h d = added (Heard from (votes.Voted b) ∷ decides (first (map (core_message i t) (to_each (cores_below core_plan.cores) (votes.Success d)))) s.vote.held) (with_vote s (holding d h)) (held_now d s.vote.held)
             (parts s (with_vote s (holding d h)) (sealed_stays s) (tried_stays s) (promise_stays s) (vote_stays s) (holds h d s.vote.held refl))
-            (ap (λ (whats : List What). facts_of (did t (Heard from (votes.Voted b) ∷ whats))) (root_sent core_plan.cores i t d s.vote.held some) ∙ heard_away d s.vote.held)
+            (ap (λ (whats : List Act). facts_of (did t (Heard from (votes.Voted b) ∷ whats))) (root_sent core_plan.cores i t d s.vote.held some) ∙ heard_away d s.vote.held)
 
         for_it : (h : Hand) (o : Option (List ℕ)) → P (on_voted_for o h s.vote from)
         for_it h None = idle_adds from (votes.Voted b)
@@ -245,13 +245,13 @@ module _ (t : ℕ) (s : SecondState) where
 -- AN AGGREGATOR'S ROWS
 
 module _ (t : ℕ) (r : RoundState) where
-  abbrev RoundAdds : List What → RoundState → Type 0
+  abbrev RoundAdds : List Act → RoundState → Type 0
   RoundAdds whats r' = facts_of (did t whats) ≡ did t (new_round_facts r r')
 
-  round_stays : new_round_facts r r ≡ []
+  pub round_stays : new_round_facts r r ≡ []
   round_stays = λ i. came_none Closed r.closed i ++ came_none Answered r.answered i
 
-  still_round : (whats : List What) → facts_of (did t whats) ≡ [] → RoundAdds whats r
+  still_round : (whats : List Act) → facts_of (did t whats) ≡ [] → RoundAdds whats r
   still_round whats none = none ∙ sym (ap (did t) round_stays)
 
   more : (new : Entry) → RoundAdds (Accepted new ∷ []) (record { open_items = r.open_items ++ new ∷ []; closed = r.closed; answered = r.answered })
@@ -313,14 +313,14 @@ actor_is (actors.Aggregator j) (actors.Aggregator i) e = ap (λ (k : ℕ). actor
 actor_is (actors.Core j) (actors.Aggregator i) e = absurd (false≢true e)
 actor_is (actors.Aggregator j) (actors.Core i) e = absurd (false≢true e)
 
-pub own_adds : (b a : Actor) (t : ℕ) (whats : Actor → List What) (news : List What) → facts_of (did t (whats a)) ≡ did t news → facts_of (own b a t (whats b)) ≡ own b a t news
+pub own_adds : (b a : Actor) (t : ℕ) (whats : Actor → List Act) (news : List Act) → facts_of (did t (whats a)) ≡ did t news → facts_of (own b a t (whats b)) ≡ own b a t news
 own_adds b a t whats news same = by (is_actor b a) refl
   where
     by : (mine : Bool) → is_actor b a ≡ mine → facts_of (cond mine (did t (whats b)) []) ≡ cond mine (did t news) []
     by true e = ap (λ (c : Actor). facts_of (did t (whats c))) (actor_is b a e) ∙ same
     by false e = refl
 
-pub none_adds : (b a : Actor) (t : ℕ) (news : List What) → news ≡ [] → [] ≡ own b a t news
+pub none_adds : (b a : Actor) (t : ℕ) (news : List Act) → news ≡ [] → [] ≡ own b a t news
 none_adds b a t news none = by (is_actor b a)
   where
     by : (mine : Bool) → [] ≡ cond mine (did t news) []

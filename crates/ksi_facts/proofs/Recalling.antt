@@ -29,7 +29,7 @@ use Rattle.ksi_world.specs.declared.message.Message.{Message}
 use Rattle.ksi_world.specs.Histories.{WorldState, Happening, held_in, core_message, round_message, message_of, at_core, at_round, unchanged, request_happens, publish_happens, core_restarts, aggregator_restarts, delivered, happens, first_world, run, after}
 use Rattle.ksi_world.specs.Histories as histories
 use Rattle.ksi_facts.specs.Seen.{Seen, seen_of, seen_from, seen}
-use Rattle.ksi_facts.specs.Deeds.{What, Deed, Accepted, Sealed, Closed, Answered, Restarted, of_second, facts_of, open_items, tried_ballot, held_root, numbered, where_done, first, tries, takes, is_actor, own, does, deeds}
+use Rattle.ksi_facts.specs.Deeds.{Act, Deed, Accepted, Sealed, Closed, Answered, Restarted, of_second, facts_of, open_items, tried_ballot, held_root, numbered, where_done, first, tries, takes, is_actor, own, does, deeds}
 use Rattle.ksi_facts.specs.Since.{Since, since}
 use Rattle.ksi_facts.specs.State.{own_candidate}
 use Rattle.ksi_facts.specs.Recalled.{IsStableState, IsStableRound, IsInHand, IsRecalledSecond, IsRecalledRound}
@@ -76,16 +76,16 @@ module _ (image : List ℕ → List ℕ) (plan : PlanState) (is : IsPlanned plan
   -- A TURN OF ONE ACTOR'S SECOND
 
   module _ (w : WorldState) (past : List Seen) (all : All w past) where
-    abbrev Does : Seen → (a : Actor) (u : ℕ) → (Actor → List What) → Type 0
+    abbrev Does : Seen → (a : Actor) (u : ℕ) → (Actor → List Act) → Type 0
     Does x a u whats = (b : Actor) → does b x.event x.taken x.answer x.sent (deeds b past) ≡ own b a u (whats b)
 
-    abbrev CoreAfter : (i u : ℕ) → List What → SecondState → Type 0
+    abbrev CoreAfter : (i u : ℕ) → List Act → SecondState → Type 0
     CoreAfter i u whats s = IsSo image (voters_of (core_plan_of plan) u) i (did u whats ++ Ds past (actors.Core i) u) s
 
-    abbrev RoundAfter : (k u : ℕ) → List What → RoundState → Type 0
+    abbrev RoundAfter : (k u : ℕ) → List Act → RoundState → Type 0
     RoundAfter k u whats r = IsRoundSo (did u whats ++ Ds past (actors.Aggregator k) u) r
 
-    module _ (x : Seen) (i u : ℕ) (whats : Actor → List What) where
+    module _ (x : Seen) (i u : ℕ) (whats : Actor → List Act) where
       core_turned : Does x (actors.Core i) u whats → (turn : Turn) → CoreAfter i u (whats (actors.Core i)) turn.after → All (at_core w i u turn).world (x ∷ past)
       core_turned does_it turn row = record {
         seconds = λ j t. observed past x (actors.Core i) u whats does_it image (voters_of (core_plan_of plan) t) j t (w.seconds j t) turn.after (eqb j i && eqb t u) refl

@@ -7,7 +7,7 @@ use Rattle.ksi_aggtree.specs.Entries.{has_from, is_full}
 use Rattle.ksi_signature.specs.declared.above.Above.{Above}
 use Rattle.ksi_signature.specs.declared.answer.Answer.TheVariants as answers
 use Rattle.ksi_aggregator.specs.Rows.{RoundState, RoundTurn, fresh_round, round_still, round_request, round_submission, submitted_entry, round_close, closed_now, round_response, response_where, round_restarted}
-use Rattle.ksi_facts.specs.Deeds.{What, Deed, Accepted, Closed, Answered, Restarted, numbered, where_done}
+use Rattle.ksi_facts.specs.Deeds.{Act, Deed, Accepted, Closed, Answered, Restarted, numbered, where_done}
 use Rattle.ksi_facts.proofs.Standing.{IsRoundSo, did}
 
 pub none_is : {A : Type 0} (o : Option A) → is_some o ≡ false → o ≡ None
@@ -19,7 +19,7 @@ some_is None e = absurd (cc e)
 some_is (Some x) e = (x, refl)
 
 module _ (t : ℕ) (ds : List Deed) (r : RoundState) (so : IsRoundSo ds r) where
-  abbrev After : List What → RoundState → Type 0
+  abbrev After : List Act → RoundState → Type 0
   After whats r' = IsRoundSo (did t whats ++ ds) r'
 
   -- an open round with one item more

@@ -10,7 +10,7 @@ use Rattle.ksi_aggtree.specs.declared.entries.Entry.{Entry}
 use Rattle.ksi_schedule.specs.declared.actor.Actor.{Actor}
 use Rattle.ksi_schedule.specs.declared.actor.Actor.TheVariants as actors
 use Rattle.ksi_facts.specs.Seen.{Seen}
-use Rattle.ksi_facts.specs.Deeds.{What, Deed, Did, Restarted, Accepted, Sealed, Closed, Tried, Promised, Cast, Holds, Answered, Heard, tried_ballot, is_of, of_second, is_fact, facts_of, open_items, is_actor, own, does, deeds}
+use Rattle.ksi_facts.specs.Deeds.{Act, Deed, Did, Restarted, Accepted, Sealed, Closed, Tried, Promised, Cast, Holds, Answered, Heard, tried_ballot, is_of, of_second, is_fact, facts_of, open_items, is_actor, own, does, deeds}
 use Rattle.ksi_facts.specs.Since.{Since, with_reply, since}
 use Rattle.ksi_facts.specs.Recalled.{IsStableState, IsStableRound, IsHand}
 
@@ -73,16 +73,16 @@ since_tried (Did t (Heard from m) ∷ ds) s is = by (since ds) is (since_tried d
 
 -- ONE EVENT MORE
 
-abbrev pub did : (second : ℕ) → List What → List Deed
+abbrev pub did : (second : ℕ) → List Act → List Deed
 did t whats = map (Did t) whats
 
-for_second : (t u : ℕ) (whats : List What) (b : Bool) → eqb t u ≡ b → filter (is_of t) (did u whats) ≡ cond b (did u whats) []
+for_second : (t u : ℕ) (whats : List Act) (b : Bool) → eqb t u ≡ b → filter (is_of t) (did u whats) ≡ cond b (did u whats) []
 for_second t u [] true e = refl
 for_second t u [] false e = refl
 for_second t u (w ∷ ws) true e = ap (λ (b : Bool). cond b (Did u w ∷ filter (is_of t) (did u ws)) (filter (is_of t) (did u ws))) e ∙ ap (λ (xs : List Deed). Did u w ∷ xs) (for_second t u ws true e)
 for_second t u (w ∷ ws) false e = ap (λ (b : Bool). cond b (Did u w ∷ filter (is_of t) (did u ws)) (filter (is_of t) (did u ws))) e ∙ for_second t u ws false e
 
-module _ (past : List Seen) (x : Seen) (a : Actor) (u : ℕ) (whats : Actor → List What) (does_it : (b : Actor) → does b x.event x.taken x.answer x.sent (deeds b past) ≡ own b a u (whats b)) where
+module _ (past : List Seen) (x : Seen) (a : Actor) (u : ℕ) (whats : Actor → List Act) (does_it : (b : Actor) → does b x.event x.taken x.answer x.sent (deeds b past) ≡ own b a u (whats b)) where
   -- what this adds to the deeds of an actor's second
   deeds_now : (b : Actor) (t : ℕ) (here : Bool) → (is_actor b a && eqb t u) ≡ here → of_second t (deeds b (x ∷ past)) ≡ cond here (did u (whats b)) [] ++ of_second t (deeds b past)
   unfolding deeds

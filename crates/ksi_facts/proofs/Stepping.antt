@@ -28,7 +28,7 @@ use Rattle.ksi_world.specs.declared.message.Message.{Message}
 use Rattle.ksi_world.specs.Histories.{WorldState, Happening, outcome_of, core_message, round_message, at_core, at_round, unchanged, delivered, happens, first_world, after}
 use Rattle.ksi_world.specs.Histories as histories
 use Rattle.ksi_facts.specs.Seen.{Seen, taken_from, seen_of, seen}
-use Rattle.ksi_facts.specs.Deeds.{What, Deed, Accepted, Sealed, Closed, Answered, Restarted, of_second, facts_of, facts, open_items, held_root, numbered, where_done, first, tries, takes, is_actor, own, receives, does, deeds}
+use Rattle.ksi_facts.specs.Deeds.{Act, Deed, Accepted, Sealed, Closed, Answered, Restarted, of_second, facts_of, facts, open_items, held_root, numbered, where_done, first, tries, takes, is_actor, own, receives, does, deeds}
 use Rattle.ksi_facts.specs.State.{second_seen, held_seen, round_seen, wire_seen, requests_seen, world_seen}
 use Rattle.ksi_facts.specs.Steps.{new_facts, new_round_facts, Step, idle, by_core, by_round, by_message, by_delivery, step_by_facts, IsStepByFacts}
 use Rattle.ksi_facts.proofs.Voters.{IsPlanned}
@@ -38,7 +38,7 @@ use Rattle.ksi_facts.proofs.NewFacts.{submission_adds, seal_adds, ballot_adds, r
 use Rattle.ksi_facts.proofs.ReadOff.{world_is}
 
 -- deeds that are no facts
-no_facts : (b a : Actor) (t : ℕ) (whats : List What) → facts_of (did t whats) ≡ [] → facts_of (own b a t whats) ≡ []
+no_facts : (b a : Actor) (t : ℕ) (whats : List Act) → facts_of (did t whats) ≡ [] → facts_of (own b a t whats) ≡ []
 no_facts b a t whats none = by (is_actor b a)
   where
     by : (mine : Bool) → facts_of (cond mine (did t whats) []) ≡ []

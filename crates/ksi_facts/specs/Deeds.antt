@@ -21,20 +21,20 @@ use Rattle.ksi_facts.specs.Seen.{Seen}
 
 -- what an actor did: it accepted an item, sealed or closed what it had accepted, tried or promised a ballot, cast a vote,
 -- came to hold a root, kept a response; or a LastVote or Voted came to it from a core
-pub data What : Type 0 where
-  Accepted : (item : Entry) → What
-  Sealed : (items : List Entry) → What
-  Closed : (items : List Entry) → What
-  Tried : (ballot : ℕ) → What
-  Promised : (ballot : ℕ) → What
-  Cast : (vote : Vote) → What
-  Holds : (root : List ℕ) → What
-  Answered : (above : Above) → What
-  Heard : (from : ℕ) → SynodMessage → What
+pub data Act : Type 0 where
+  Accepted : (item : Entry) → Act
+  Sealed : (items : List Entry) → Act
+  Closed : (items : List Entry) → Act
+  Tried : (ballot : ℕ) → Act
+  Promised : (ballot : ℕ) → Act
+  Cast : (vote : Vote) → Act
+  Holds : (root : List ℕ) → Act
+  Answered : (above : Above) → Act
+  Heard : (from : ℕ) → SynodMessage → Act
 
 -- it did so for a second, or restarted
 pub data Deed : Type 0 where
-  Did : (second : ℕ) → What → Deed
+  Did : (second : ℕ) → Act → Deed
   Restarted : Deed
 
 -- the deeds for a second; each restart is one
@@ -111,12 +111,12 @@ kept_response (_ ∷ older) = kept_response older
 -- WHAT AN EVENT IS SEEN TO BE
 
 -- it was done where the answer is Done
-abbrev pub where_done : Answer → What → List What
+abbrev pub where_done : Answer → Act → List Act
 where_done answers.Done what = what ∷ []
 where_done _ what = []
 
 -- a request is accepted under a number, with its name
-abbrev pub numbered : (imprint : List ℕ) → (name : Option (List ℕ)) → Answer → List What
+abbrev pub numbered : (imprint : List ℕ) → (name : Option (List ℕ)) → Answer → List Act
 numbered imprint name (answers.Number n) = Accepted (record { origin = origins.Request n; item = record { imprint = imprint; level = 0; name = name } }) ∷ []
 numbered imprint name _ = []
 
@@ -126,17 +126,17 @@ first [] = None
 first (m ∷ ms) = Some m.content
 
 -- a core that sends NextBallot tries that ballot
-abbrev pub tries : (sent : Option Content) → List What
+abbrev pub tries : (sent : Option Content) → List Act
 tries (Some (contents.Synod (votes.NextBallot ballot))) = Tried ballot ∷ []
 tries _ = []
 
 -- a core that sends Success at a Voted holds that root, where it held nothing
-abbrev pub decides : (sent : Option Content) → (held : Option (List ℕ)) → List What
+abbrev pub decides : (sent : Option Content) → (held : Option (List ℕ)) → List Act
 decides (Some (contents.Synod (votes.Success root))) None = Holds root ∷ []
 decides _ _ = []
 
 -- what a message that is delivered makes its addressee do, which held this root before
-abbrev pub takes : (sender : Actor) → Content → Answer → (sent : List Message) → (held : Option (List ℕ)) → List What
+abbrev pub takes : (sender : Actor) → Content → Answer → (sent : List Message) → (held : Option (List ℕ)) → List Act
 takes (actors.Aggregator from) (contents.Submission item) answer sent old = where_done answer (Accepted (record { origin = origins.Aggregator from; item = item }))
 takes (actors.Core from) (contents.Synod (votes.NextBallot ballot)) answer sent old = where_done answer (Promised ballot)
 takes (actors.Core from) (contents.Synod (votes.LastVote l)) answer sent old = Heard from (votes.LastVote l) ∷ []
@@ -153,7 +153,7 @@ is_actor (actors.Aggregator k) (actors.Aggregator i) = k == i
 is_actor _ _ = false
 
 -- these are deeds of the actor where it is this one
-abbrev pub own : Actor → Actor → (second : ℕ) → List What → List Deed
+abbrev pub own : Actor → Actor → (second : ℕ) → List Act → List Deed
 own actor this t whats = if is_actor actor this then map (Did t) whats else []
 
 -- what an actor does where this message, if any, is delivered

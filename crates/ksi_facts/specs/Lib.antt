@@ -4,3 +4,4 @@ pub mod Since
 pub mod State
 pub mod Steps
 pub mod Recalled
+pub mod Stored

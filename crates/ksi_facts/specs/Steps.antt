@@ -20,30 +20,30 @@ use Rattle.ksi_world.specs.declared.message.Content.TheVariants as contents
 use Rattle.ksi_world.specs.declared.message.Message.{Message}
 use Rattle.ksi_world.specs.Histories.{core_message, round_message, outcome_of, happens, after}
 use Rattle.ksi_facts.specs.Seen.{Seen, seen}
-use Rattle.ksi_facts.specs.Deeds.{What, Deed, Sealed, Closed, Tried, Promised, Cast, Holds, Answered, own, facts}
+use Rattle.ksi_facts.specs.Deeds.{Act, Deed, Sealed, Closed, Tried, Promised, Cast, Holds, Answered, own, facts}
 use Rattle.ksi_facts.specs.State.{second_seen, held_seen, round_seen, wire_seen, requests_seen}
 
 -- NEW FACTS: what a row makes of what is kept over restarts
 
 -- what is there now, and was not before
-abbrev pub came : {A : Type 0} → (A → What) → (old new : Option A) → List What
+abbrev pub came : {A : Type 0} → (A → Act) → (old new : Option A) → List Act
 came fact None (Some new) = fact new ∷ []
 came fact _ _ = []
 
 -- a greater ballot than before
-abbrev pub rose : (ℕ → What) → (old new : ℕ) → List What
+abbrev pub rose : (ℕ → Act) → (old new : ℕ) → List Act
 rose fact old new = if nat_lt old new then fact new ∷ [] else []
 
 -- a vote of a greater ballot than before
-abbrev pub voted_anew : (old new : Option Vote) → List What
+abbrev pub voted_anew : (old new : Option Vote) → List Act
 voted_anew old None = []
 voted_anew old (Some new) = if is_older old new.ballot then Cast new ∷ [] else []
 
-abbrev pub new_facts : (old new : SecondState) → List What
+abbrev pub new_facts : (old new : SecondState) → List Act
 new_facts old new = came Sealed old.sealed new.sealed ++ rose Tried old.vote.tried new.vote.tried ++ rose Promised old.vote.promised new.vote.promised
     ++ voted_anew old.vote.vote new.vote.vote ++ came Holds old.vote.held new.vote.held
 
-abbrev pub new_round_facts : (old new : RoundState) → List What
+abbrev pub new_round_facts : (old new : RoundState) → List Act
 new_round_facts old new = came Closed old.closed new.closed ++ came Answered old.answered new.answered
 
 -- A STEP: its answer, the facts that it adds for each actor, and the messages that it sends in order

@@ -1,9 +1,22 @@
 //! The laws. None of these functions does anything.
 ghost use Rattle.ksi_schedule.specs.Plans.{core_plan_of};
-ghost use Rattle.std.specs.Prelude.{◌≡◌, ◌++◌, ◌∷◌, [], ℕ, List, Some};
+ghost use Rattle.std.specs.Prelude.{◌≡◌, ◌++◌, ◌∷◌, [], ℕ, List, Option, Some};
 ghost use Rattle.ksi_aggtree.specs.declared.entries.Entry.{Entry};
+ghost use Rattle.ksi_aggtree.specs.declared.item.Item.{Item};
+ghost use Rattle.ksi_calendar.specs.Covered.{Roots};
+ghost use Rattle.ksi_signature.specs.declared.above.Above.{Above};
+ghost use Rattle.ksi_synod.specs.declared.messages.SynodMessage.{SynodMessage};
 ghost use Rattle.ksi_synod.specs.VoteState.{Hand};
-ghost use Rattle.ksi_synod.specs.CorePlans.{voters_of};
+ghost use Rattle.ksi_synod.specs.CorePlans.{CorePlanState, voters_of};
+ghost use Rattle.ksi_corenode.specs.SecondState.{SecondState};
+ghost use Rattle.ksi_corenode.specs.Turns.{Turn};
+ghost use Rattle.ksi_corenode.specs.Rows.{submission_row, seal_row, ballot_row, receive_row, tell_row, respond_row};
+ghost use Rattle.ksi_corenode.specs.CoreState as cores;
+ghost use Rattle.ksi_corenode.specs.CoreState.{CoreState, state_of};
+ghost use Rattle.ksi_corenode.specs.declared.step.Step as core_step;
+ghost use Rattle.ksi_aggregator.specs.Rows.{RoundState, RoundTurn, round_request, round_submission, round_close, round_response};
+ghost use Rattle.ksi_aggregator.specs.Rounds as rounds;
+ghost use Rattle.ksi_aggregator.specs.declared.step.Step as round_step;
 ghost use Rattle.ksi_schedule.specs.declared.actor.Actor.{Actor};
 ghost use Rattle.ksi_schedule.specs.declared.actor.Actor.TheVariants as actors;
 ghost use Rattle.ksi_schedule.specs.declared.event.Event.{Event};
@@ -15,9 +28,11 @@ ghost use Rattle.ksi_facts.specs.Seen.{seen};
 ghost use Rattle.ksi_facts.specs.Deeds.{Deed, of_second, deeds, facts, open_items, tried_ballot};
 ghost use Rattle.ksi_facts.specs.Since.{since};
 ghost use Rattle.ksi_facts.specs.State.{own_candidate, world_seen};
-ghost use Rattle.ksi_facts.specs.Steps.{IsStepByFacts};
+ghost use Rattle.ksi_facts.specs.Steps.{new_facts, new_round_facts, IsStepByFacts};
+ghost use Rattle.ksi_facts.specs.Stored.{AddsStored, RoundAddsStored, core_stores, round_stores};
 ghost use Rattle.ksi_facts.specs.Recalled.{IsStableState, IsStableRound, IsInHand, IsRecalled};
 
+use ksi_corenode::laws::rows_store_their_facts;
 use ksi_synod::voters_are_cores;
 
 /// Facts are only added, whatever happens later, and a restart adds none.
@@ -99,3 +114,28 @@ pub fn history_is_recalled()
 {
     voters_are_cores();
 }
+
+/// The facts that a row of the step table adds are what its turn stores.
+pub fn rows_add_what_they_store()
+    ensures submission { (from : ℕ) (item : Item) (s : SecondState) → AddsStored s (submission_row from item s) }
+    ensures seal { (image : List ℕ → List ℕ) (s : SecondState) → AddsStored s (seal_row image s) }
+    ensures ballot { (plan : CorePlanState) (second me : ℕ) (s : SecondState) → AddsStored s (ballot_row plan second me s) }
+    ensures receive { (plan : CorePlanState) (second from : ℕ) (m : SynodMessage) (s : SecondState) → AddsStored s (receive_row plan second from m s) }
+    ensures tell { (plan : CorePlanState) (second me : ℕ) (s : SecondState) → AddsStored s (tell_row plan second me s) }
+    ensures respond { (image : List ℕ → List ℕ) (held : Roots) (start second : ℕ) (s : SecondState) → AddsStored s (respond_row image held start second s) }
+    ensures request { (number : ℕ) (imprint : List ℕ) (name : Option (List ℕ)) (r : RoundState) → RoundAddsStored r (round_request number imprint name r) }
+    ensures item { (from : ℕ) (item : Item) (r : RoundState) → RoundAddsStored r (round_submission from item r) }
+    ensures close { (image : List ℕ → List ℕ) (r : RoundState) → RoundAddsStored r (round_close image r) }
+    ensures response { (image : List ℕ → List ℕ) (above : Above) (r : RoundState) → RoundAddsStored r (round_response image above r) }
+{
+    rows_store_their_facts();
+}
+
+/// So do the steps: the facts that the step of a core or of an aggregator adds for a second are its fact, where that is of
+/// this second, and none elsewhere.
+pub fn steps_add_what_they_store()
+    ensures core { (old new : CoreState) (second : ℕ) (turn : Turn) (step : core_step.Step) → cores.IsTurn old new second turn step → AddsStored (state_of old second) turn →
+        (t : ℕ) → new_facts (state_of old t) (state_of new t) ≡ core_stores step.fact t }
+    ensures aggregator { (old new : ℕ → RoundState) (second : ℕ) (turn : RoundTurn) (step : round_step.Step) → rounds.IsTurn old new second turn step → RoundAddsStored (old second) turn →
+        (t : ℕ) → new_round_facts (old t) (new t) ≡ round_stores step.fact t }
+{}

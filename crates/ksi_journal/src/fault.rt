@@ -8,8 +8,8 @@ pub enum JournalFault {
     Magic,
     /// J2: the header or the body at this place passes the end of what holds it.
     Tlv(usize),
-    /// J3: an element of a kind that may not stand there, a second before the start, or a second, number or time that
-    /// does not rise. In version 1 voters and items with a name may stand nowhere.
+    /// J3: an element of a kind that may not stand there; a second, kept or of voters, that is before the start or does
+    /// not rise; a number or time that does not rise. In version 1 voters and items with a name may stand nowhere.
     Order(usize),
     /// J4: the tree of a second's items has another imprint than its root: the second, the root, and that imprint.
     TreeRoot(u64, Imprint, Imprint),

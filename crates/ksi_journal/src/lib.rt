@@ -4,9 +4,10 @@
 //!
 //! A contract sees a [`Journal`] as a record of lists. The layer above may rely on this: [`load`] gives exactly the
 //! journal of the file that the bytes are, or the first fault in order of bytes, and computes each tree; in every
-//! journal the tree of a second has its root, and seconds, numbers and published times rise; `calendar` is that of the
-//! covered seconds, `root` and `first_missing` say what is kept, and `tree` lends the tree of a kept second; what
-//! [`write`] gives is the journal's text. The readers of a journal take no memory. What holds of the definitions is in `laws`.
+//! journal the tree of a second has its root, and the seconds of voters, the kept seconds, the numbers and the published
+//! times rise, no second being before the start; `calendar` is that of the covered seconds, `root` and `first_missing` say
+//! what is kept, and `tree` lends the tree of a kept second; what [`write`] gives is the journal's text. The readers of a
+//! journal take no memory. What holds of the definitions is in `laws`.
 //!
 //! ```text
 //! let journal = load::<Sha>(alloc, bytes)?;

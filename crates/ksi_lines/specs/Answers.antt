@@ -12,7 +12,7 @@ use Rattle.ksi_auditor.specs.declared.answer.Audit.TheVariants as answers
 use Rattle.ksi_lines.specs.Lines.{line_text, malformed_line, refused_for, refused_line}
 use Rattle.ksi_lines.specs.FaultWords.{signature_fault}
 
--- The signature is file word n. Want of memory is never a refusal of a definition, its row is only there to be total.
+-- The signature is file word n.
 abbrev pub not_extended_line : (n : ℕ) → ExtendRefusal → List ℕ
 not_extended_line n (refusals.Malformed fault) = malformed_line n (signature_fault fault)
 not_extended_line n (refusals.Refused refusal) = refused_line refusal
@@ -44,7 +44,6 @@ inside_line second way = line_text (codes "inside" ∷ decimal second ∷ way_te
 abbrev pub clash_line : (one two : List ℕ) → List ℕ
 clash_line one two = line_text (codes "clash" ∷ encode_lower one ∷ encode_lower two ∷ [])
 
--- want of memory is never an answer of a definition, its row is only there to be total
 abbrev pub audit_line : Audit → List ℕ
 audit_line (answers.Inside second way) = inside_line second way
 audit_line (answers.Beneath second item links) = line_text (codes "beneath" ∷ decimal second ∷ decimal item ∷ decimal links ∷ [])

@@ -7,7 +7,7 @@
 //!
 //! ```text
 //! let line = print(Text("accepted"), &[], &[Number(second)]);
-//! let line = signature_fault_line(1, fault)?;
+//! let line = signature_fault_line(1, fault);
 //! out.put(line.as_bytes())?;
 //! ```
 #![tactic(auto)]

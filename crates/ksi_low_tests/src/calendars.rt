@@ -121,6 +121,7 @@ fn chains_of_three_seconds_from_zero(rt: HostRuntime) -> Result<(), Fail> {
 #[test]
 fn zeros_stand_before_the_start(rt: HostRuntime) -> Result<(), Fail> {
     let calendar = calendar_of(rt.alloc(), 2, &[named(0x0a)])?;
+    same(&rt, "start", calendar.start(), 2);
     chain(&rt, &calendar, 2, 2, &[link(Right, 0x01)])?;
     chain(&rt, &calendar, 0, 2, &[link(Left, 0), link(Left, 0x0a)])?;
     roots(&rt, &calendar, &[(2, Some(0x0c)), (1, None)]);

@@ -2,7 +2,7 @@ ghost use Rattle.std.specs.Prelude.{◌≡◌, ◌<◌, ◌^◌, length, IfOk};
 ghost use Rattle.ksi_aggtree.specs.Rounds.{leaf_level};
 
 use crate::same::same;
-use ksi_aggregator::{Aggregator, NoMemory, Send, Step};
+use ksi_aggregator::{Aggregator, NoMemory, RoundFact, Send, Step};
 use ksi_aggtree::Item;
 use ksi_imprint::{Compress, Imprint, Sha};
 use ksi_signature::{
@@ -203,6 +203,46 @@ fn a_response_is_taken_once_and_after_the_close(rt: HostRuntime) {
     respond_twice(&rt, rt.alloc(), &mut upper);
 }
 
+/// What a step stores: the second, how many items of a closed round, and the root of a response.
+fn stored(step: &Result<Step, NoMemory>) -> Option<(u64, usize, Option<Imprint>)> {
+    match step {
+        Ok(step) => match &step.fact {
+            Some(fact) => Some(stored_for(fact.second, &fact.what)),
+            None => None,
+        },
+        Err(_) => None,
+    }
+}
+
+fn stored_for(second: u64, what: &RoundFact) -> (u64, usize, Option<Imprint>) {
+    match what {
+        RoundFact::Closed(items) => (second, items.as_slice().len(), None),
+        RoundFact::Answered(above) => (second, 0, Some(above.root)),
+    }
+}
+
+#[test]
+fn a_step_tells_what_it_stores(rt: HostRuntime) {
+    let mut upper = upper(&rt, rt.alloc());
+    let steps = [
+        upper.submission(3, T, item(b"c")),
+        upper.close(T),
+        upper.close(T),
+        respond(&mut upper, rt.alloc(), root()),
+        respond(&mut upper, rt.alloc(), Imprint::ZERO),
+    ];
+    let want = [
+        None,
+        Some((T, 3, None)),
+        None,
+        Some((T, 0, Some(root()))),
+        None,
+    ];
+    for (step, want) in steps.iter().zip(want.iter()) {
+        same(&rt, "stored", stored(step), *want);
+    }
+}
+
 /// The signature that an aggregator issues, read again.
 fn issued(alloc: Global, aggregator: &Aggregator<Sha>, number: u64) -> Option<Signature> {
     match aggregator.issued(number) {
@@ -283,7 +323,11 @@ fn is_below(signature: &Option<Signature>) -> bool {
 
 /// The only response that a step sends, to aggregator 1.
 fn sent_down(step: Step) -> Option<Above> {
-    let Step { answer: _, sends } = step;
+    let Step {
+        answer: _,
+        fact: _,
+        sends,
+    } = step;
     let mut sends = sends.into_vec();
     match sends.pop() {
         Some(Send::Response(1, below)) if sends.is_empty() => Some(below),

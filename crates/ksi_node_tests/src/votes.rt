@@ -2,7 +2,7 @@ ghost use Rattle.std.specs.Prelude.{◌<◌, ◌≤◌};
 
 use crate::same::same;
 use ksi_imprint::Imprint;
-use ksi_synod::{Begun, Instance, LastVote, SynodMessage, Took, Vote, Voters};
+use ksi_synod::{Begun, Instance, LastVote, Took, Vote, Voters};
 use std::process::Abort;
 
 fn imprint(byte: u8) -> Imprint {
@@ -112,21 +112,17 @@ fn a_restart_forgets_the_ballot_in_hand(rt: HostRuntime) {
 }
 
 /// What core 1 replies to core 2 after its vote in ballot 16.
-fn reported(rt: &impl Abort, decree: Imprint) -> Option<SynodMessage> {
+fn reported(rt: &impl Abort, decree: Imprint) -> Option<LastVote> {
     let mut voter = Instance::new(1, Voters::all(3));
     same(rt, "next", voter.on_next(16), reply(16, None));
     same(rt, "begin", voter.on_begin(16, decree), true);
-    voter.receive(2, &SynodMessage::NextBallot(18))
+    voter.on_next(18)
 }
 
 #[test]
 fn a_reported_vote_is_taken_over(rt: HostRuntime) {
     let a = imprint(1);
-    let told = SynodMessage::LastVote(LastVote {
-        ballot: 18,
-        vote: vote(16, 1),
-    });
-    same(&rt, "reply", reported(&rt, a), Some(told));
+    same(&rt, "reply", reported(&rt, a), reply(18, vote(16, 1)));
     let mut late = sealed(2, Voters::all(3), imprint(2));
     try_ballot(&rt, &mut late, Begun::Next(18));
     same(&rt, 1, late.on_last(1, 18, vote(16, 1)), Took::Added);

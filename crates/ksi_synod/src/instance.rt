@@ -3,10 +3,10 @@ ghost use Rattle.ksi_synod.specs.Ballots.{IsBallot, last_round, some_ballot};
 ghost use Rattle.ksi_synod.specs.declared.messages.Begun.TheVariants.{Unsealed, Last, Next};
 ghost use Rattle.ksi_synod.specs.declared.messages.Took.TheVariants.{Nothing};
 ghost use Rattle.ksi_synod.specs.VoteState.{fresh_vote, stable_of, vote_of};
-ghost use Rattle.ksi_synod.specs.Rows.{sealed_with, greater_round, try_ballot, on_next, counts_last, on_last, is_older, on_begin, voted_for, on_voted, on_success, restarted, decree_begun, vote_told, decree_told, receive, OfBallot, OfReply};
+ghost use Rattle.ksi_synod.specs.Rows.{sealed_with, greater_round, try_ballot, on_next, counts_last, on_last, is_older, on_begin, voted_for, on_voted, on_success, restarted};
 
 use crate::hand::InHand;
-use crate::messages::{Begun, LastVote, SynodMessage, Took, Vote};
+use crate::messages::{Begun, LastVote, Took, Vote};
 use crate::stable::Stable;
 use crate::voters::Voters;
 use ksi_imprint::Imprint;
@@ -297,75 +297,5 @@ impl Instance {
         ensures { self.new ≡ restarted self.old }
     {
         self.hand = None;
-    }
-
-    /// Takes a message by its step: what is to be sent for it. LastVote and Voted go back to the sender, BeginBallot to all
-    /// voters, Success to all cores.
-    #[tactic(auto, unfolding(crate::specs::Rows::receive))]
-    pub fn receive(&mut self, from: u8, message: &SynodMessage) -> Option<SynodMessage>
-        requires member { from < 9 }
-        requires ballot { OfBallot message.now }
-        ensures after { self.new ≡ (receive self.old from message.now).0 }
-        ensures sends { result ≡ (receive self.old from message.now).1 }
-        ensures reply { OfReply result }
-    {
-        match *message {
-            SynodMessage::NextBallot(ballot) => {
-                let last = self.on_next(ballot)?;
-                Some(SynodMessage::LastVote(last))
-            }
-            SynodMessage::LastVote(last) => {
-                let took = self.on_last(from, last.ballot, last.vote);
-                decree_begun(last.ballot, took)
-            }
-            SynodMessage::BeginBallot(ballot, decree) => {
-                let votes = self.on_begin(ballot, decree);
-                vote_told(ballot, votes)
-            }
-            SynodMessage::Voted(ballot) => {
-                let took = self.on_voted(from, ballot);
-                decree_told(took)
-            }
-            SynodMessage::Success(decree) => {
-                self.on_success(decree);
-                None
-            }
-        }
-    }
-}
-
-/// BeginBallot, where the sender's LastVote completed a majority.
-fn decree_begun(ballot: u64, took: Took) -> Option<SynodMessage>
-    requires ballot { IsBallot ballot }
-    ensures message { result ≡ decree_begun ballot took }
-    ensures reply { OfReply result }
-{
-    match took {
-        Took::Decree(decree) => Some(SynodMessage::BeginBallot(ballot, decree)),
-        _ => None,
-    }
-}
-
-/// Voted, where this core votes.
-fn vote_told(ballot: u64, votes: bool) -> Option<SynodMessage>
-    requires ballot { IsBallot ballot }
-    ensures message { result ≡ vote_told ballot votes }
-    ensures reply { OfReply result }
-{
-    if votes {
-        Some(SynodMessage::Voted(ballot))
-    } else {
-        None
-    }
-}
-
-/// Success, where the sender's Voted completed a majority.
-fn decree_told(took: Took) -> Option<SynodMessage>
-    ensures message { result ≡ decree_told took }
-    ensures reply { OfReply result }
-{
-    match took {
-        Took::Decree(decree) => Some(SynodMessage::Success(decree)),
-        _ => None,
     }
 }

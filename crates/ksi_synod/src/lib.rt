@@ -1,8 +1,9 @@
 //! The vote of the cores on one second: Lamport's Synod ("The Part-Time Parliament", section 2), whose decree is the root
 //! of the second.
 //!
-//! An [`Instance`] is one core's part. Each call takes one step, by a message or at a command, and answers what is to be
-//! sent; nothing is sent, stored or timed here, and no call takes memory. A contract sees an `Instance` as a `VoteState`,
+//! An [`Instance`] is one core's part. Each call takes one step, by one of the five messages or at a command, and answers
+//! what came of it; which call takes a message, what is to be sent and what to be stored is said where a core takes it
+//! (`ksi_corenode`). Nothing is sent, stored or timed here, and no call takes memory. A contract sees an `Instance` as a `VoteState`,
 //! and each call's answer and state are those of its row in `specs/Rows`. The layers above rely on these rows and on the
 //! laws of [`laws`], over every history of steps: agreement, validity and stability.
 //!
@@ -11,7 +12,7 @@
 //! core.candidate(root);
 //! let Begun::Next(ballot) = core.try_ballot() else { return };
 //! send_to_voters(SynodMessage::NextBallot(ballot));
-//! if let Some(reply) = core.receive(from, &message) { send(reply) }
+//! if let Took::Decree(decree) = core.on_last(from, ballot, vote) { begin(ballot, decree) }
 //! ```
 #![tactic(auto)]
 

@@ -2,8 +2,8 @@
 ghost use Rattle.std.specs.Prelude.{◌≡◌, ◌≢◌, ℕ, ◌+◌, ◌≤◌, ◌++◌};
 ghost use Rattle.ksi_ports.specs.Sure.{empty_where_none};
 ghost use Rattle.ksi_top.specs.Endings.{UnlessCut};
-ghost use Rattle.ksi_top.specs.Run.{run, saved_into};
-ghost use Rattle.ksi_words.specs.Words.{texts};
+ghost use Rattle.ksi_top.specs.Run.{most_calls, run, run_calls, saved_into};
+ghost use Rattle.ksi_words.specs.Words.{texts, command_of};
 
 use crate::ending::ksi;
 use crate::status::Status;
@@ -30,6 +30,10 @@ pub fn sure_run(
     ensures unsaved { result ≢ Status.Done →
         empty_where_none files.new.entries ≡ empty_where_none files.old.entries }
     ensures unput { result ≡ Status.NoMemory → out.new.written ≡ out.old.written }
+    ensures calls { files.new.counts.calls
+        ≤ files.old.counts.calls + run_calls (texts words.now) (empty_where_none files.old.entries) }
+    ensures few_calls { files.new.counts.calls ≤ files.old.counts.calls + most_calls (command_of (texts words.now)) }
+    ensures one_put { out.new.puts ≤ out.old.puts + 1 }
     ensures free { out.old.free ≤ out.new.free + 32767 }
 {
     ksi(alloc, words, files, out)

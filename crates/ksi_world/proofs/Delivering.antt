@@ -1,5 +1,5 @@
 -- A message that is delivered is taken by its addressee.
-use Rattle.std.proofs.Common.{◌≡◌, ℕ, ◌<◌, ◌≤◌, List, length, refl, sym, ap, subst, ◌∙◌, Option, Some, None}
+use Rattle.std.proofs.Common.{◌≡◌, ℕ, ◌<◌, ◌≤◌, List, length, refl, sym, ap, subst, ◌∙◌, arith, Option, Some, None}
 use Rattle.std.specs.Prelude.{slice_get}
 use Rattle.ksi_signature.specs.declared.above.Above.{Above}
 use Rattle.ksi_aggregator.specs.Rows.{round_response}
@@ -14,7 +14,12 @@ use Rattle.ksi_world.specs.declared.message.Message.{Message}
 use Rattle.ksi_schedule.specs.Plans.{PlanState}
 use Rattle.ksi_world.specs.Histories.{WorldState, at_round, taken, delivered, happens}
 use Rattle.ksi_world.specs.Sound.{depth_of, IsSent}
-use Rattle.ksi_world.specs.Nodes.{NodesState, Fits, IsReady, IsTaken, Happened, WasTaken}
+use Rattle.ksi_aggtree.specs.declared.item.Item.{Item}
+use Rattle.ksi_synod.specs.declared.messages.SynodMessage.{SynodMessage}
+use Rattle.ksi_corenode.specs.declared.event.CoreEvent.TheVariants as happenings
+use Rattle.ksi_world.specs.Nodes.{NodesState, Fits, IsReady, IsReadyCore, IsTaken, Happened, WasTaken}
+use Rattle.ksi_world.proofs.Depths.{core_parent}
+use Rattle.ksi_world.proofs.Sending.{leaf_most}
 
 -- a fact of a sender, an addressee and a content
 pub along : (P : Actor → Actor → Content → Type 0) (s s' a a' : Actor) (c c' : Content) → s ≡ s' → a ≡ a' → c ≡ c' → P s a c → P s' a' c'
@@ -46,3 +51,22 @@ response_sent plan (actors.Aggregator a) k above sent = sent
 pub response_taken : (image : List ℕ → List ℕ) (plan : PlanState) (w : WorldState) (sender : Actor) (k t : ℕ) (above : Above) → taken image plan w sender (actors.Aggregator k) t (contents.Response above) ≡ at_round plan w k t (round_response image above (w.rounds k t))
 response_taken image plan w (actors.Core j) k t above = refl
 response_taken image plan w (actors.Aggregator a) k t above = refl
+
+-- what a core is sent it may take
+pub vote_ready : (plan : PlanState) (from j t : ℕ) (m : SynodMessage) (nodes : NodesState) → IsTaken plan (actors.Core from) (actors.Core j) t (contents.Synod m) nodes → IsReadyCore plan j (happenings.Receive from t m) nodes
+vote_ready plan from j t m nodes taken = record {
+  world = taken.world;
+  plan_is = taken.plan_is;
+  fits = taken.fits;
+  there = taken.sent.1;
+  may = λ core start. (omega (arith, taken.sent.0, taken.plan_is.core_plan.few), taken.sent.2);
+}
+
+pub item_ready : (plan : PlanState) (from j t : ℕ) (item : Item) (nodes : NodesState) → IsTaken plan (actors.Aggregator from) (actors.Core j) t (contents.Submission item) nodes → IsReadyCore plan j (happenings.Submission from t item) nodes
+item_ready plan from j t item nodes taken = record {
+  world = taken.world;
+  plan_is = taken.plan_is;
+  fits = taken.fits;
+  there = core_parent plan taken.plan_is from j taken.sent.0 taken.sent.1;
+  may = λ core start. omega (arith, taken.sent.2, leaf_most item);
+}

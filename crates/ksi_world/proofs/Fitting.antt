@@ -1,23 +1,28 @@
 -- The nodes after a turn are those of the world after it.
 use Rattle.ksi_schedule.specs.Plans.{core_plan_of}
-use Rattle.std.proofs.Common.{◌≡◌, ℕ, zero, suc, ◌<◌, cond, eqb, List, [], ◌∷◌, ◌++◌, length, refl, sym, ap, subst, ◌∙◌, arith, inl, inr, Option, Some, length-set}
+use Rattle.std.proofs.Common.{◌≡◌, ℕ, zero, suc, ◌^◌, ◌<◌, ◌≤◌, cond, ◌&&◌, eqb, append-nil, List, [], ◌∷◌, ◌++◌, length, refl, sym, ap, subst, ◌∙◌, arith, inl, inr, Option, Some, length-set}
 use Rattle.std.specs.Prelude.{slice_get, map, OnErr, Result, Ok, Err}
-use Rattle.std.proofs.lemmas.Bool.{cond-true, cond-false, eq-eqb, ne_eqb}
+use Rattle.std.proofs.lemmas.Bool.{cond_both, cond-true, cond-false, eq-eqb, eqb-true, ne_eqb, and_parts}
 use Rattle.ksi_corenode.specs.SecondState.{SecondState}
-use Rattle.ksi_corenode.specs.Turns.{Turn}
+use Rattle.ksi_corenode.specs.Turns.{Turn, still}
 use Rattle.ksi_calendar.specs.Covered.{Roots}
-use Rattle.ksi_corenode.specs.Rows.{ballot_row, tell_row, receive_row, respond_row, publish_answer}
+use Rattle.ksi_corenode.specs.Rows.{submission_row, seal_row, ballot_row, tell_row, receive_row, respond_row, publish_answer}
+use Rattle.ksi_corenode.specs.declared.event.CoreEvent.{CoreEvent}
+use Rattle.ksi_corenode.specs.declared.event.CoreEvent.TheVariants as events
+use Rattle.ksi_corenode.specs.Events.{core_row, MayTake}
+use Rattle.ksi_synod.specs.CorePlans.{IsCorePlan}
+use Rattle.ksi_schedule.specs.declared.event.Event.{Event}
 use Rattle.ksi_corenode.specs.CoreState.{CoreState, state_of, held_by}
 use Rattle.ksi_aggregator.specs.Rows.{RoundState, RoundTurn, round_request}
 use Rattle.ksi_aggregator.specs.Rounds.{AggregatorState, rounds_of}
 use Rattle.ksi_synod.specs.declared.messages.SynodMessage.{SynodMessage}
-use Rattle.ksi_signature.specs.declared.answer.Answer.{Answer}
 use Rattle.ksi_world.specs.declared.outcome.Asked.{Asked}
 use Rattle.ksi_world.specs.declared.outcome.Outcome.{Outcome}
 use Rattle.ksi_world.specs.declared.message.Message.{Message}
-use Rattle.ksi_schedule.specs.Plans.{PlanState}
-use Rattle.ksi_world.specs.Histories.{WorldState, core_message, round_message, outcome_of, at_core, at_round, held_in, asked_with, request_happens, published_with, publish_happens}
-use Rattle.ksi_world.specs.Nodes.{NodesState, IsCore, AreCores, IsAggregator, AreAggregators, Fits, CoreStep, RoundStep, CoreRestart, RoundRestart, CoresStay, AggregatorsStay}
+use Rattle.ksi_schedule.specs.Plans.{PlanState, IsPlan, InRange}
+use Rattle.ksi_world.specs.Histories.{WorldState, put_at, core_message, round_message, outcome_of, at_core, at_round, held_in, asked_with, request_happens, published_with, publish_happens}
+use Rattle.ksi_schedule.specs.Events.{IsEvent}
+use Rattle.ksi_world.specs.Nodes.{NodesState, IsCore, AreCores, IsAggregator, AreAggregators, Fits, CoreStep, RoundStep, CoreRestart, RoundRestart, CoresStay, AggregatorsStay, EachCore, core_turn, IsReady, IsReadyCore}
 use Rattle.ksi_world.proofs.Turning.{get_set, cores_turned}
 use Rattle.ksi_world.proofs.RoundTurning.{aggregators_turned}
 
@@ -27,10 +32,45 @@ nodes_of cores aggregators wire requests published = record { cores = cores; agg
 pub same_function : {A B : Type 0} (f g : A → B) → ((x : A) → f x ≡ g x) → f ≡ g
 same_function f g same = λ i x. same x i
 
+-- what is put where it was
+put_still : {A : Type 0} (f : ℕ → ℕ → A) (j t i u : ℕ) → put_at f j t (f j t) i u ≡ f i u
+put_still f j t i u = cond_both (eqb i j && eqb u t) (f j t) (f i u) (λ x. x ≡ f i u)
+    (λ both. let same = and_parts (eqb i j) (eqb u t) both in ap (λ i. f i t) (sym (eqb-true i j same.0)) ∙ ap (λ u. f i u) (sym (eqb-true u t same.1))) (λ _. refl)
+
 -- two facts at an error
 pub both_errors : {A B : Type 0} (P Q : Type 0) (r : Result A B) → OnErr r P → OnErr r Q → OnErr r (P × Q)
 both_errors P Q (Ok x) p q = tt
 both_errors P Q (Err e) p q = (p, q)
+
+-- THE ROWS OF A CORE are those of its second in the world
+
+module _ (plan : PlanState) (w : WorldState) (j : ℕ) (core : CoreState) (is : IsCore plan (w.seconds j) j core) (t : ℕ) where
+  ballot_same : ballot_row core.plan t core.me (state_of core t) ≡ ballot_row (core_plan_of plan) t j (w.seconds j t)
+  ballot_same = ap (λ n. ballot_row n t core.me (state_of core t)) is.core_plan ∙ ap (λ me. ballot_row (core_plan_of plan) t me (state_of core t)) is.me ∙ ap (λ s. ballot_row (core_plan_of plan) t j s) (is.keeps t)
+
+  tell_same : tell_row core.plan t core.me (state_of core t) ≡ tell_row (core_plan_of plan) t j (w.seconds j t)
+  tell_same = ap (λ n. tell_row n t core.me (state_of core t)) is.core_plan ∙ ap (λ me. tell_row (core_plan_of plan) t me (state_of core t)) is.me ∙ ap (λ s. tell_row (core_plan_of plan) t j s) (is.keeps t)
+
+  receive_same : (from : ℕ) (m : SynodMessage) → receive_row core.plan t from m (state_of core t) ≡ receive_row (core_plan_of plan) t from m (w.seconds j t)
+  receive_same from m = ap (λ n. receive_row n t from m (state_of core t)) is.core_plan ∙ ap (λ s. receive_row (core_plan_of plan) t from m s) (is.keeps t)
+
+  held_same : held_by core ≡ held_in w j
+  held_same = same_function (held_by core) (held_in w j) (λ u. ap (λ (s : SecondState). s.vote.held) (is.keeps u))
+
+  respond_same : (image : List ℕ → List ℕ) → respond_row image (held_by core) core.start t (state_of core t) ≡ respond_row image (held_in w j) plan.start t (w.seconds j t)
+  respond_same image = ap (λ (held : Roots). respond_row image held core.start t (state_of core t)) held_same ∙ ap (λ start. respond_row image (held_in w j) start t (state_of core t)) is.start ∙ ap (λ s. respond_row image (held_in w j) plan.start t s) (is.keeps t)
+
+  publish_same : (image : List ℕ → List ℕ) → publish_answer image (held_by core) core.start t ≡ publish_answer image (held_in w j) plan.start t
+  publish_same image = ap (λ (held : Roots). publish_answer image held core.start t) held_same ∙ ap (λ start. publish_answer image (held_in w j) start t) is.start
+
+pub core_turn_is : (plan : PlanState) (w : WorldState) (j : ℕ) (core : CoreState) → IsCore plan (w.seconds j) j core → (image : List ℕ → List ℕ) (event : CoreEvent) → core_row image core event ≡ core_turn image plan w j event
+core_turn_is plan w j core is image (events.Submission from t item) = ap (submission_row from item) (is.keeps t)
+core_turn_is plan w j core is image (events.Seal t) = ap (seal_row image) (is.keeps t)
+core_turn_is plan w j core is image (events.Ballot t) = ballot_same plan w j core is t
+core_turn_is plan w j core is image (events.Receive from t m) = receive_same plan w j core is t from m
+core_turn_is plan w j core is image (events.Tell t) = tell_same plan w j core is t
+core_turn_is plan w j core is image (events.Respond t) = respond_same plan w j core is t image
+core_turn_is plan w j core is image (events.Publish t) = ap (λ s. still s (publish_answer image (held_by core) core.start t)) (is.keeps t) ∙ ap (λ a. still (w.seconds j t) a) (publish_same plan w j core is t image)
 
 module _ (plan : PlanState) (w : WorldState) (cores cores' : List CoreState) (aggregators aggregators' : List AggregatorState) (wire wire' : List Message) (requests requests' : List Asked) (published published' : List (ℕ × List ℕ)) (fits : Fits plan w (nodes_of cores aggregators wire requests published)) where
   -- a turn of a core
@@ -131,18 +171,20 @@ module _ (plan : PlanState) (w : WorldState) (cores cores' : List CoreState) (ag
       )
 
   -- a second that is to be published
-  pub publish_fits : (p : ℕ) (answer answer' : Answer) → CoresStay cores cores' → answer ≡ answer' → published' ≡ published_with published p answer →
-      Fits plan (publish_happens w p answer').world (nodes_of cores' aggregators wire requests published') × (outcome_of answer 0 ≡ (publish_happens w p answer').outcome)
-  publish_fits p answer answer' stay same put = (
-    record {
-      cores = let are = stay plan w.seconds fits.cores in record { many = are.many; each = are.each };
-      aggregators = record { many = fits.aggregators.many; each = fits.aggregators.each };
-      wire = fits.wire;
-      requests = fits.requests;
-      published = put ∙ ap (λ xs. published_with xs p answer) fits.published ∙ ap (λ a. published_with w.published p a) same;
-    },
-    ap (λ a. outcome_of a 0) same,
-  )
+  pub publish_fits : (image : List ℕ → List ℕ) (j p : ℕ) (outcome : Outcome) → CoreStep (λ core. core_row image core (events.Publish p)) j p cores cores' wire wire' outcome → published' ≡ published_with published p outcome.answer →
+      Fits plan (publish_happens w p (publish_answer image (held_in w j) plan.start p)).world (nodes_of cores' aggregators wire' requests published') × (outcome ≡ (publish_happens w p (publish_answer image (held_in w j) plan.start p)).outcome)
+  publish_fits image j p outcome step put =
+      let is = fits.cores.each j step.old step.at in
+      let r = core_fits (λ core. core_row image core (events.Publish p)) j p outcome (core_turn image plan w j (events.Publish p)) step (core_turn_is plan w j step.old is image (events.Publish p)) in (
+        record {
+          cores = record { many = r.0.cores.many; each = λ k core at. let here = r.0.cores.each k core at in record { me = here.me; core_plan = here.core_plan; start = here.start; keeps = λ t. here.keeps t ∙ put_still w.seconds j p k t } };
+          aggregators = record { many = r.0.aggregators.many; each = r.0.aggregators.each };
+          wire = r.0.wire ∙ append-nil w.wire;
+          requests = r.0.requests;
+          published = put ∙ ap (λ xs. published_with xs p outcome.answer) fits.published ∙ ap (λ (o : Outcome). published_with w.published p o.answer) r.1;
+        },
+        r.1,
+      )
 
 -- an element below the length is there
 pub get_there : {A : Type 0} (xs : List A) (i : ℕ) → i < length xs → (x : A) × (slice_get xs i ≡ Some x)
@@ -150,23 +192,18 @@ get_there [] i lt = absurd (omega (arith, lt))
 get_there (x ∷ xs) zero lt = (x, refl)
 get_there (x ∷ xs) (suc i) lt = get_there xs i (omega (arith, lt))
 
--- THE ROWS OF A CORE are those of its second in the world
+-- WHAT A CORE MAY TAKE
 
-module _ (plan : PlanState) (w : WorldState) (j : ℕ) (core : CoreState) (is : IsCore plan (w.seconds j) j core) (t : ℕ) where
-  pub ballot_same : ballot_row core.plan t core.me (state_of core t) ≡ ballot_row (core_plan_of plan) t j (w.seconds j t)
-  ballot_same = ap (λ n. ballot_row n t core.me (state_of core t)) is.core_plan ∙ ap (λ me. ballot_row (core_plan_of plan) t me (state_of core t)) is.me ∙ ap (λ s. ballot_row (core_plan_of plan) t j s) (is.keeps t)
+pub plans_are : (plan : PlanState) (w : WorldState) (cores : List CoreState) → IsPlan plan → AreCores plan w.seconds cores → EachCore (λ core. IsCorePlan core.plan) cores
+plans_are plan w cores is are j core at = subst (λ p. IsCorePlan p) (sym (are.each j core at).core_plan) is.core_plan
 
-  pub tell_same : tell_row core.plan t core.me (state_of core t) ≡ tell_row (core_plan_of plan) t j (w.seconds j t)
-  tell_same = ap (λ n. tell_row n t core.me (state_of core t)) is.core_plan ∙ ap (λ me. tell_row (core_plan_of plan) t me (state_of core t)) is.me ∙ ap (λ s. tell_row (core_plan_of plan) t j s) (is.keeps t)
+-- a second of the plan may be asked for
+pub asked_for : (plan : PlanState) (t : ℕ) → IsPlan plan → InRange plan t → (core : CoreState) → core.start ≡ plan.start → (core.start ≤ t) × (t < 2 ^ 63)
+asked_for plan t is range core start = (omega (arith, start, range.0), omega (arith, range.1, is.core_plan.early))
 
-  pub receive_same : (from : ℕ) (m : SynodMessage) → receive_row core.plan t from m (state_of core t) ≡ receive_row (core_plan_of plan) t from m (w.seconds j t)
-  receive_same from m = ap (λ n. receive_row n t from m (state_of core t)) is.core_plan ∙ ap (λ s. receive_row (core_plan_of plan) t from m s) (is.keeps t)
-
-  held_same : held_by core ≡ held_in w j
-  held_same = same_function (held_by core) (held_in w j) (λ u. ap (λ (s : SecondState). s.vote.held) (is.keeps u))
-
-  pub respond_same : (image : List ℕ → List ℕ) → respond_row image (held_by core) core.start t (state_of core t) ≡ respond_row image (held_in w j) plan.start t (w.seconds j t)
-  respond_same image = ap (λ (held : Roots). respond_row image held core.start t (state_of core t)) held_same ∙ ap (λ start. respond_row image (held_in w j) start t (state_of core t)) is.start ∙ ap (λ s. respond_row image (held_in w j) plan.start t s) (is.keeps t)
-
-  pub publish_same : (image : List ℕ → List ℕ) → publish_answer image (held_by core) core.start t ≡ publish_answer image (held_in w j) plan.start t
-  publish_same image = ap (λ (held : Roots). publish_answer image held core.start t) held_same ∙ ap (λ start. publish_answer image (held_in w j) start t) is.start
+-- an event of a core that may happen is one that it may take
+pub ready_core : (plan : PlanState) (event e : Event) (j t : ℕ) (came : CoreEvent) (nodes : NodesState) → IsReady plan event nodes → event ≡ e → (IsEvent plan e → (j < plan.cores) × InRange plan t) →
+    (IsPlan plan → InRange plan t → (core : CoreState) → core.start ≡ plan.start → MayTake core came) → IsReadyCore plan j came nodes
+ready_core plan event e j t came nodes ready is of may =
+    let at = of (subst (λ (e : Event). IsEvent plan e) is ready.event_is) in
+    record { world = ready.world; plan_is = ready.plan_is; fits = ready.fits; there = at.0; may = may ready.plan_is at.1 }

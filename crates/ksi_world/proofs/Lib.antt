@@ -14,7 +14,6 @@ pub mod Running
 pub mod Leaving
 pub mod Voting
 pub mod Voted
-pub mod Listing
 pub mod Skipping
 pub mod Lowest
 pub mod Asking

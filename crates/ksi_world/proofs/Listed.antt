@@ -1,5 +1,5 @@
--- What is listed for the seconds of the wire is what is kept.
-use Rattle.std.proofs.Common.{◌≡◌, ℕ, ◌^◌, ◌≤◌, cond, List, [], ◌∷◌, refl, sym, ap, subst, ◌∙◌, arith, ◌⊎◌, inl, inr, Option, Some, None}
+-- What is listed of the cores is what is kept.
+use Rattle.std.proofs.Common.{◌≡◌, ℕ, ◌^◌, ◌<◌, ◌≤◌, cond, List, [], refl, ap, subst, ◌∙◌, arith, Option, Some, None}
 use Rattle.std.specs.Prelude.{option_map, unwrap_or}
 use Rattle.std.specs.Str.{bytes_eq}
 use Rattle.ksi_imprint.specs.Imprints.{zero_imprint}
@@ -10,13 +10,12 @@ use Rattle.ksi_aggtree.specs.declared.second.Second.{Second}
 use Rattle.ksi_world.specs.Histories.{WorldState, held_in}
 use Rattle.ksi_world.specs.Sound.{IsSound}
 use Rattle.ksi_world.specs.Nodes.{NodesState, AreCores, Fits}
-use Rattle.ksi_world.specs.Records.{lowest, kept_root, kept_with, sealed_as, kept_items, kept_at, kept_seconds}
-use Rattle.ksi_world.specs.Deciding.{IsTold, In, IsRising}
-use Rattle.ksi_world.specs.Keeping.{root_among, sealed_among, items_among, second_among, kept_listed, AreListed}
+use Rattle.ksi_world.specs.Records.{lowest, kept_root, kept_with, sealed_as, kept_items, kept_at, kept_among, kept_seconds}
+use Rattle.ksi_world.specs.Deciding.{IsTold}
+use Rattle.ksi_world.specs.Keeping.{root_among, sealed_among, items_among, second_among, AreIdle}
 use Rattle.ksi_world.proofs.Fitting.{same_function}
 use Rattle.ksi_world.proofs.Voting.{IsVoted}
-use Rattle.ksi_world.proofs.Lowest.{first_lowest, lowest_some}
-use Rattle.ksi_world.proofs.Skipping.{listed_all}
+use Rattle.ksi_world.proofs.Lowest.{first_lowest, first_none}
 
 module _ (image : List ℕ → List ℕ) (plan : PlanState) (w : WorldState) where
   -- the cores show what the world's cores hold and sealed
@@ -49,28 +48,17 @@ module _ (image : List ℕ → List ℕ) (plan : PlanState) (w : WorldState) whe
     pub held_range : (j t : ℕ) (root : List ℕ) → held_in w j t ≡ Some root → InRange plan t
     held_range j t root held = told_range t (voted.told j t root held)
 
-    from_start : (from : ℕ) (ts : List ℕ) → ((t : ℕ) → In t ts → plan.start ≤ t) → IsRising from ts → IsRising plan.start ts
-    from_start from [] within rising = tt
-    from_start from (t ∷ ts) within rising = (within t (inl refl), rising.1)
+  pub listed_is : (nodes : NodesState) (kept : List Second) (start many : ℕ) → Fits plan w nodes → start ≡ plan.start → many ≡ 2 ^ 24 →
+      kept ≡ kept_among (second_among image nodes.cores) start many → kept ≡ kept_seconds image plan w
+  unfolding kept_seconds
+  listed_is nodes kept start many fits begins all are =
+      are
+      ∙ ap (λ (f : ℕ → Option Second). kept_among f start many) (same_function (second_among image nodes.cores) (kept_at image plan w) (second_same nodes.cores fits.cores))
+      ∙ ap (λ t. kept_among (kept_at image plan w) t many) begins
+      ∙ ap (λ n. kept_among (kept_at image plan w) plan.start n) all
 
-    pub listed_is : (nodes : NodesState) (kept : List Second) → Fits plan w nodes → AreListed image nodes.cores nodes.wire kept → kept ≡ kept_seconds image plan w
-    unfolding kept_seconds
-    listed_is nodes kept fits are =
-        are.kept_are
-        ∙ ap (λ (f : ℕ → Option Second). kept_listed f are.seconds) (same_function (second_among image nodes.cores) (kept_at image plan w) (second_same nodes.cores fits.cores))
-        ∙ listed_all (kept_at image plan w) plan.start (2 ^ 24) are.seconds
-        (from_start 0 are.seconds (λ t there. (range t there).0) are.told.rising)
-        range
-        (λ t le lt. covers t (kept_root plan w t) refl)
-      where
-        told_here : (t : ℕ) → IsTold nodes.wire t → IsTold w.wire t
-        told_here t told = subst (λ wire. IsTold wire t) fits.wire told
-
-        range : (t : ℕ) → In t are.seconds → InRange plan t
-        range t there = told_range t (told_here t (are.told.told t there))
-
-        covers : (t : ℕ) (o : Option (List ℕ)) → kept_root plan w t ≡ o → (kept_at image plan w t ≡ None) ⊎ In t are.seconds
-        covers t None is = inl (ap (option_map (λ root. kept_with t root (kept_items image plan w t root))) is)
-        covers t (Some root) is =
-            let holder = lowest_some (λ core. held_in w core t) 0 plan.cores root is in
-            inr (are.told.all t (subst (λ wire. IsTold wire t) (sym fits.wire) (voted.told holder.0 t root holder.3)))
+-- where no core holds anything, nothing is listed
+pub none_listed : (image : List ℕ → List ℕ) (cores : List CoreState) (from end : ℕ) → AreIdle cores from end → (t : ℕ) → from ≤ t → t < end → second_among image cores t ≡ None
+unfolding second_among
+none_listed image cores from end idle t low up =
+    ap (option_map (λ root. kept_with t root (items_among image cores t root))) (first_none (λ (core : CoreState). held_by core t) cores (λ j core at. idle j core at t low up))

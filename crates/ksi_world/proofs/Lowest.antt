@@ -12,6 +12,11 @@ first_lowest f g (x ∷ xs) from each =
     ap (λ o. or_else o (first_of f xs)) (each from 0 x (omega arith) refl)
     ∙ ap (λ o. or_else (g from) o) (first_lowest f g xs (suc from) (λ i j y is at. each i (suc j) y (omega (arith, is)) at))
 
+-- where none has something, nothing is found
+pub first_none : {A B : Type 0} (f : A → Option B) (xs : List A) → ((j : ℕ) (x : A) → slice_get xs j ≡ Some x → f x ≡ None) → first_of f xs ≡ None
+first_none f [] each = refl
+first_none f (x ∷ xs) each = ap (λ o. or_else o (first_of f xs)) (each 0 x refl) ∙ first_none f xs (λ j y at. each (suc j) y at)
+
 module _ {B : Type 0} (g : ℕ → Option B) where
   abbrev Finds : (from n : ℕ) → B → Type 0
   Finds from n x = (i : ℕ) × (from ≤ i) × (i < from + n) × (g i ≡ Some x)

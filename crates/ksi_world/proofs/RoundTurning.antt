@@ -5,8 +5,7 @@ use Rattle.std.proofs.lemmas.Bool.{cond_both}
 use Rattle.ksi_aggtree.specs.declared.item.Item.{Item}
 use Rattle.ksi_aggtree.specs.declared.entries.Entry.{Entry}
 use Rattle.ksi_aggtree.specs.Entries.{has_from, is_full}
-use Rattle.ksi_signature.specs.declared.step.Step.{Step}
-use Rattle.ksi_aggregator.specs.declared.step.Send as round_step
+use Rattle.ksi_aggregator.specs.declared.step.Step.{Step}
 use Rattle.ksi_aggregator.specs.Rows.{RoundState, RoundTurn, round_request, round_submission, round_close, submission_of}
 use Rattle.ksi_aggregator.specs.Rounds.{AggregatorState, rounds_of, SameRounds, IsTurn}
 use Rattle.ksi_world.specs.declared.outcome.Outcome.{Outcome}
@@ -18,7 +17,7 @@ use Rattle.ksi_world.specs.Histories.{put_at, round_message, outcome_of}
 use Rattle.ksi_world.specs.Nodes.{IsAggregator, AreAggregators, RoundStep, RoundMove, CanTake, response_row, AggregatorsStay}
 use Rattle.ksi_world.proofs.Turning.{get_set, put_here, put_other}
 
-pub round_turned : (row : RoundState → RoundTurn) (plan : PlanState) (k t : ℕ) (aggregators : List AggregatorState) (wire wire' : List Message) (old new : AggregatorState) (step : Step round_step.Send) (outcome : Outcome) →
+pub round_turned : (row : RoundState → RoundTurn) (plan : PlanState) (k t : ℕ) (aggregators : List AggregatorState) (wire wire' : List Message) (old new : AggregatorState) (step : Step) (outcome : Outcome) →
     slice_get aggregators k ≡ Some old → new.me ≡ old.me → IsTurn (rounds_of old) (rounds_of new) t (row (rounds_of old t)) step →
     wire' ≡ wire ++ map (round_message plan k t) step.sends → outcome ≡ outcome_of step.answer (length step.sends) →
     RoundStep row plan k t aggregators (set aggregators k new) wire wire' outcome
@@ -91,14 +90,14 @@ aggregators_turned plan rounds row k t aggregators aggregators' wire wire' outco
 -- A RESPONSE
 
 -- a step that was made, and what was posted of it
-pub moved : (row : RoundState → RoundTurn) (plan : PlanState) (k t : ℕ) (aggregators aggregators' : List AggregatorState) (wire wire' : List Message) (step : Step round_step.Send) (outcome : Outcome) →
+pub moved : (row : RoundState → RoundTurn) (plan : PlanState) (k t : ℕ) (aggregators aggregators' : List AggregatorState) (wire wire' : List Message) (step : Step) (outcome : Outcome) →
     RoundMove row k t aggregators aggregators' step → wire' ≡ wire ++ map (round_message plan k t) step.sends → outcome ≡ outcome_of step.answer (length step.sends) →
     RoundStep row plan k t aggregators aggregators' wire wire' outcome
 moved row plan k t aggregators aggregators' wire wire' step outcome move posted told = subst (λ xs. RoundStep row plan k t aggregators xs wire wire' outcome) (sym move.after)
     (round_turned row plan k t aggregators wire wire' move.old move.new step outcome move.at move.me move.turn posted told)
 
 -- what goes on is few
-pub few_taken : (image : List ℕ → List ℕ) (plan : PlanState) (k t : ℕ) (aggregators aggregators' : List AggregatorState) (content : Content) (step : Step round_step.Send) →
+pub few_taken : (image : List ℕ → List ℕ) (plan : PlanState) (k t : ℕ) (aggregators aggregators' : List AggregatorState) (content : Content) (step : Step) →
     CanTake image plan k t aggregators content → RoundMove (response_row image content) k t aggregators aggregators' step → length step.sends ≤ length plan.parents
 few_taken image plan k t aggregators aggregators' (contents.Response above) step can move = omega (arith, ap length move.turn.sends, (can move.old move.at).1)
 few_taken image plan k t aggregators aggregators' (contents.Synod m) step can move = absurd can

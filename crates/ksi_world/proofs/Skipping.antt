@@ -1,49 +1,48 @@
--- The kept ones of all seconds are those of the seconds that may be kept.
-use Rattle.std.proofs.Common.{◌≡◌, ℕ, zero, suc, ◌+◌, ◌<◌, ◌≤◌, List, [], ◌∷◌, refl, sym, ap, subst, ◌∙◌, arith, ◌⊎◌, inl, inr, Option, Some, None}
-use Rattle.std.proofs.lemmas.Bool.{cases_eq}
+-- Of the seconds from one on those are kept that are kept of the seconds that something is held for.
+use Rattle.std.proofs.Common.{◌≡◌, ℕ, zero, suc, ◌+◌, ◌-◌, ◌<◌, ◌≤◌, List, [], ◌∷◌, ◌++◌, refl, sym, ap, subst, ◌∙◌, arith, append-nil, append_assoc, Option, Some, None}
 use Rattle.ksi_aggtree.specs.declared.second.Second.{Second}
 use Rattle.ksi_world.specs.Records.{kept_before, kept_among}
-use Rattle.ksi_world.specs.Deciding.{In, IsRising}
-use Rattle.ksi_world.specs.Keeping.{kept_listed}
 use Rattle.ksi_world.specs.Validity.{AreRising, EachKept}
-use Rattle.ksi_world.proofs.Listing.{in_above}
+
+-- a second behind others, before others
+pub before_others : (xs : List Second) (o : Option Second) (later : List Second) → xs ++ kept_before o [] ++ later ≡ xs ++ kept_before o later
+before_others xs None later = ap (λ ys. ys ++ later) (append-nil xs)
+before_others xs (Some one) later = append_assoc xs (one ∷ []) later
 
 module _ (kept : ℕ → Option Second) where
-  -- each of n seconds from lo on is listed, or not kept
-  abbrev Covers : (lo n : ℕ) → List ℕ → Type 0
-  Covers lo n ts = (t : ℕ) → lo ≤ t → t < lo + n → (kept t ≡ None) ⊎ In t ts
+  -- those from one second on and before another
+  abbrev pub kept_to : (from end : ℕ) → List Second
+  kept_to from end = kept_among kept from (end - from)
 
-  -- each listed second is one of them
-  abbrev Within : (lo n : ℕ) → List ℕ → Type 0
-  Within lo n ts = (t : ℕ) → In t ts → (lo ≤ t) × (t < lo + n)
+  pub kept_next : (from end : ℕ) → from < end → kept_to from end ≡ kept_before (kept from) (kept_to (from + 1) end)
+  kept_next from end lt =
+      let more : end - from ≡ suc (end - suc from) = omega (arith, lt) in
+      let next : suc from ≡ from + 1 = omega arith in
+      ap (λ n. kept_among kept from n) more ∙ ap (λ u. kept_before (kept from) (kept_among kept u (end - u))) next
 
-  pub listed_all : (lo n : ℕ) (ts : List ℕ) → IsRising lo ts → Within lo n ts → Covers lo n ts → kept_listed kept ts ≡ kept_among kept lo n
-  listed_all lo zero [] rising within covers = refl
-  listed_all lo zero (t ∷ ts) rising within covers = let is = within t (inl refl) in absurd (omega (arith, is.0, is.1))
-  listed_all lo (suc n) [] rising within covers =
-      listed_all (suc lo) n [] tt (λ t there. absurd there) (λ t le lt. covers t (omega (arith, le)) (omega (arith, lt)))
-      ∙ elim (covers lo (omega arith) (omega arith)) [
-        | inl none ↦ ap (λ o. kept_before o (kept_among kept (suc lo) n)) (sym none)
-        | inr there ↦ absurd there
-      ]
-  listed_all lo (suc n) (t ∷ ts) rising within covers = elim (cases_eq lo t) [
-    | inl same ↦ ap (λ later. kept_before (kept t) later) (listed_all (suc t) n ts rising.1
-        (λ u there. (in_above (suc t) u ts rising.1 there, let is = within u (inr there) in omega (arith, is.1, same)))
-        (λ u le lt. elim (covers u (omega (arith, le, same)) (omega (arith, lt, same))) [
-          | inl none ↦ inl none
-          | inr there ↦ elim there [ inl here ↦ absurd (omega (arith, le, here)) | inr later ↦ inr later ]
-        ]))
-        ∙ subst (λ lo. kept_before (kept t) (kept_among kept (suc t) n) ≡ kept_among kept lo (suc n)) (sym same) refl
-    | inr ne ↦
-        let lt : lo < t = omega (arith, ne, rising.0) in
-        listed_all (suc lo) n (t ∷ ts) (omega (arith, lt), rising.1)
-        (λ u there. let is = within u there in (elim there [ inl here ↦ omega (arith, here, lt) | inr later ↦ omega (arith, lt, in_above (suc t) u ts rising.1 later) ], omega (arith, is.1)))
-        (λ u le up. covers u (omega (arith, le)) (omega (arith, up)))
-        ∙ elim (covers lo (omega arith) (omega arith)) [
-          | inl none ↦ ap (λ o. kept_before o (kept_among kept (suc lo) n)) (sym none)
-          | inr there ↦ elim there [ inl here ↦ absurd (ne here) | inr later ↦ absurd (omega (arith, lt, in_above (suc t) lo ts rising.1 later)) ]
-        ]
-  ]
+  -- seconds that are not kept are skipped
+  pub kept_skips : (n from to end : ℕ) → to ≡ from + n → to ≤ end → ((t : ℕ) → from ≤ t → t < to → kept t ≡ None) → kept_to from end ≡ kept_to to end
+  kept_skips zero from to end is le none = let same : from ≡ to = omega (arith, is) in ap (λ u. kept_among kept u (end - u)) same
+  kept_skips (suc n) from to end is le none =
+      kept_next from end (omega (arith, is, le))
+      ∙ ap (λ o. kept_before o (kept_to (from + 1) end)) (none from (omega arith) (omega (arith, is)))
+      ∙ kept_skips n (from + 1) to end (omega (arith, is)) le (λ t low up. none t (omega (arith, low)) up)
+
+  pub kept_none : (from end : ℕ) → from ≤ end → ((t : ℕ) → from ≤ t → t < end → kept t ≡ None) → kept_to from end ≡ []
+  kept_none from end le none =
+      let nothing : end - end ≡ 0 = omega arith in
+      let so : end ≡ from + (end - from) = omega (arith, le) in
+      let last : end ≤ end = omega arith in
+      kept_skips (end - from) from end end so last none ∙ ap (λ n. kept_among kept end n) nothing
+
+  -- a second that is not skipped
+  pub kept_goes : (xs : List Second) (from second end : ℕ) → from ≤ second → second < end → ((t : ℕ) → from ≤ t → t < second → kept t ≡ None) →
+      xs ++ kept_before (kept second) [] ++ kept_to (second + 1) end ≡ xs ++ kept_to from end
+  kept_goes xs from second end le lt none =
+      let so : second ≡ from + (second - from) = omega (arith, le) in
+      let up : second ≤ end = omega (arith, lt) in
+      before_others xs (kept second) (kept_to (second + 1) end)
+      ∙ ap (λ ys. xs ++ ys) (sym (kept_skips (second - from) from second end so up none ∙ kept_next second end lt))
 
   -- WHAT HOLDS OF EACH
 

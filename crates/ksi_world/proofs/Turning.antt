@@ -1,7 +1,7 @@
 -- One core or one aggregator of many takes a turn.
-use Rattle.std.proofs.Common.{◌≡◌, ◌≢◌, ℕ, zero, suc, ◌≤◌, cond, ◌&&◌, eqb, List, [], ◌∷◌, ◌++◌, length, refl, sym, ap, subst, ◌∙◌, arith, ◌⊎◌, inl, inr, is_some, Option, Some, None, length-append, set, length-set}
+use Rattle.std.proofs.Common.{◌≡◌, ◌≢◌, ℕ, zero, suc, ◌≤◌, true, false, cond, ◌&&◌, eqb, List, [], ◌∷◌, ◌++◌, length, refl, sym, ap, subst, ◌∙◌, arith, ◌⊎◌, inl, inr, is_some, Option, Some, None, length-append, set, length-set}
 use Rattle.std.specs.Prelude.{slice_get, map, OnErr, Result, Ok, Err}
-use Rattle.std.proofs.lemmas.Bool.{cond-false, cond_both, eq-eqb, ne_eqb, and_left}
+use Rattle.std.proofs.lemmas.Bool.{cond-false, cond_both, eq-eqb, eqb-true, ne_eqb, and_left, false≢true}
 use Rattle.std.proofs.lemmas.List.{length-map}
 use Rattle.ksi_synod.specs.declared.messages.SynodMessage.{SynodMessage}
 use Rattle.ksi_synod.specs.declared.messages.SynodMessage.TheVariants as message
@@ -12,14 +12,19 @@ use Rattle.ksi_corenode.specs.declared.step.Send.TheVariants as core_sends
 use Rattle.ksi_corenode.specs.declared.step.Step.{Step}
 use Rattle.ksi_corenode.specs.SecondState.{SecondState}
 use Rattle.ksi_corenode.specs.Turns.{Turn, told, to_each}
-use Rattle.ksi_corenode.specs.Rows.{ballot_row, receive_row, tell_row, seal_row, submission_row}
+use Rattle.ksi_calendar.specs.Covered.{Roots, first_missing}
+use Rattle.ksi_aggtree.specs.declared.entries.Entry.{Entry}
+use Rattle.ksi_corenode.specs.Rows.{ballot_row, receive_row, tell_row, seal_row, submission_row, is_mine, respond_where, respond_row}
+use Rattle.ksi_corenode.specs.declared.event.CoreEvent.{CoreEvent}
+use Rattle.ksi_corenode.specs.declared.event.CoreEvent.TheVariants as events
+use Rattle.ksi_corenode.specs.Events.{event_second, core_row}
 use Rattle.ksi_aggtree.specs.declared.item.Item.{Item}
-use Rattle.ksi_corenode.specs.CoreState.{CoreState, state_of, IsSame, IsTurn}
+use Rattle.ksi_corenode.specs.CoreState.{CoreState, state_of, held_by, IsSame, IsTurn}
 use Rattle.ksi_world.specs.declared.outcome.Outcome.{Outcome}
 use Rattle.ksi_world.specs.declared.message.Message.{Message}
 use Rattle.ksi_schedule.specs.Plans.{PlanState}
 use Rattle.ksi_world.specs.Histories.{put_at, core_message, outcome_of}
-use Rattle.ksi_world.specs.Nodes.{IsCore, AreCores, CoreStep, CoresStay}
+use Rattle.ksi_world.specs.Nodes.{IsCore, AreCores, CoreStep, CoresStay, is_respond}
 use Rattle.ksi_world.proofs.Voters.{VotersAreFew, VotersAreThere}
 
 -- an element after one was set is that one or was there
@@ -66,19 +71,6 @@ core_turned row j t cores wire wire' old new step outcome at is posted told = re
   told = told ∙ ap (λ answer. outcome_of answer (length step.sends)) is.answer ∙ ap (λ sends. outcome_of (row old).answer (length sends)) is.sends;
 }
 
--- an element set to itself
-set_same : {A : Type 0} (xs : List A) (j : ℕ) (x : A) → slice_get xs j ≡ Some x → xs ≡ set xs j x
-set_same [] j x at = refl
-set_same (y ∷ ys) zero x at = let same : y ≡ x = cc at in ap (λ z. z ∷ ys) same
-set_same (y ∷ ys) (suc j) x at = ap (λ zs. y ∷ zs) (set_same ys j x at)
-
--- one that leaves the core as it was
-pub core_told : (row : CoreState → Turn) (j t : ℕ) (cores : List CoreState) (wire wire' : List Message) (old : CoreState) (step : Step) (outcome : Outcome) →
-    slice_get cores j ≡ Some old → IsTurn old old t (row old) step → wire' ≡ wire ++ map (core_message j t) step.sends → outcome ≡ outcome_of step.answer (length step.sends) →
-    CoreStep row j t cores cores wire wire' outcome
-core_told row j t cores wire wire' old step outcome at is posted told =
-    subst (λ xs. CoreStep row j t cores xs wire wire' outcome) (sym (set_same cores j old at)) (core_turned row j t cores wire wire' old old step outcome at is posted told)
-
 pub core_same : (plan : PlanState) (seconds : ℕ → SecondState) (j : ℕ) (old new : CoreState) → IsSame old new → IsCore plan seconds j old → IsCore plan seconds j new
 core_same plan seconds j old new same is = record {
   me = same.me ∙ is.me;
@@ -123,25 +115,61 @@ module _ (there : VotersAreThere) (few : VotersAreFew) (core_plan : CorePlanStat
   few_told second from (Some (message.BeginBallot b d)) = few_voters second (message.BeginBallot b d)
   few_told second from (Some (message.Success d)) = few_cores (message.Success d)
 
-  pub few_ballot : (second me : ℕ) (s : SecondState) → length (ballot_row core_plan second me s).sends ≤ 9
+  few_ballot : (second me : ℕ) (s : SecondState) → length (ballot_row core_plan second me s).sends ≤ 9
   unfolding ballot_row
   few_ballot second me s = few_told second me _
 
-  pub few_receive : (second from : ℕ) (m : SynodMessage) (s : SecondState) → length (receive_row core_plan second from m s).sends ≤ 9
+  few_receive : (second from : ℕ) (m : SynodMessage) (s : SecondState) → length (receive_row core_plan second from m s).sends ≤ 9
   unfolding receive_row
   few_receive second from m s = few_told second from _
 
-  pub few_tell : (second me : ℕ) (s : SecondState) → length (tell_row core_plan second me s).sends ≤ 9
+  few_tell : (second me : ℕ) (s : SecondState) → length (tell_row core_plan second me s).sends ≤ 9
   unfolding tell_row
   few_tell second me s = few_told second me _
 
-pub none_sealed : (image : List ℕ → List ℕ) (s : SecondState) → (seal_row image s).sends ≡ []
+none_sealed : (image : List ℕ → List ℕ) (s : SecondState) → (seal_row image s).sends ≡ []
 unfolding seal_row
 none_sealed image s = cond_both (is_some s.sealed) _ _ (λ (turn : Turn). turn.sends ≡ []) (λ _. refl) (λ _. refl)
 
-pub none_submitted : (from : ℕ) (item : Item) (s : SecondState) → (submission_row from item s).sends ≡ []
+none_submitted : (from : ℕ) (item : Item) (s : SecondState) → (submission_row from item s).sends ≡ []
 unfolding submission_row
 none_submitted from item s = cond_both (is_some s.sealed) _ _ (λ (turn : Turn). turn.sends ≡ []) (λ _. refl) (λ _. refl)
+
+-- only to Respond more may be sent
+pub few_sent : VotersAreThere → VotersAreFew → (image : List ℕ → List ℕ) (core : CoreState) → IsCorePlan core.plan → (event : CoreEvent) → is_respond event ≡ false → length (core_row image core event).sends ≤ 9
+few_sent there few image core is (events.Submission from t item) other = omega (arith, ap length (none_submitted from item (state_of core t)))
+few_sent there few image core is (events.Seal t) other = omega (arith, ap length (none_sealed image (state_of core t)))
+few_sent there few image core is (events.Ballot t) other = few_ballot there few core.plan is t core.me (state_of core t)
+few_sent there few image core is (events.Receive from t m) other = few_receive there few core.plan is t from m (state_of core t)
+few_sent there few image core is (events.Tell t) other = few_tell there few core.plan is t core.me (state_of core t)
+few_sent there few image core is (events.Respond t) other = absurd (false≢true (sym other))
+few_sent there few image core is (events.Publish t) other = omega arith
+
+-- and it leaves the core as it was
+respond_leaves : (image : List ℕ → List ℕ) (held : Roots) (start t : ℕ) (s : SecondState) → (respond_row image held start t s).after ≡ s
+unfolding respond_row
+respond_leaves image held start t s = by s.sealed (first_missing held start t) (held t)
+  where
+    by : (sealed : Option (List Entry)) (missing : Option ℕ) (root : Option (List ℕ)) → (respond_where image held start t sealed missing root s).after ≡ s
+    by None missing root = refl
+    by (Some entries) (Some missing) root = refl
+    by (Some entries) None None = refl
+    by (Some entries) None (Some root) = cond_both (is_mine image entries root) _ _ (λ (turn : Turn). turn.after ≡ s) (λ _. refl) (λ _. refl)
+
+pub respond_same : (image : List ℕ → List ℕ) (old new : CoreState) (event : CoreEvent) (step : Step) → is_respond event ≡ true → IsTurn old new (event_second event) (core_row image old event) step → IsSame old new
+respond_same image old new (events.Submission from t item) step so is = absurd (false≢true so)
+respond_same image old new (events.Seal t) step so is = absurd (false≢true so)
+respond_same image old new (events.Ballot t) step so is = absurd (false≢true so)
+respond_same image old new (events.Receive from t m) step so is = absurd (false≢true so)
+respond_same image old new (events.Tell t) step so is = absurd (false≢true so)
+respond_same image old new (events.Publish t) step so is = absurd (false≢true so)
+respond_same image old new (events.Respond t) step so is = record {
+  me = is.me;
+  plan = is.plan;
+  start = is.start;
+  seconds = λ u. is.seconds u ∙ cond_both (eqb u t) (respond_row image (held_by old) old.start t (state_of old t)).after (state_of old u) (λ (s : SecondState). s ≡ state_of old u)
+      (λ same. respond_leaves image (held_by old) old.start t (state_of old t) ∙ ap (λ u. state_of old u) (sym (eqb-true u t same))) (λ _. refl);
+}
 
 -- THE CORES AFTER IT
 

@@ -1,5 +1,5 @@
 -- The messages after which a core may come to hold a root, and their seconds.
-use Rattle.std.specs.Prelude.{◌≡◌, ◌⊎◌, ℕ, suc, ◌≤◌, Bool, true, false, List, [], ◌∷◌, slice_get, Some}
+use Rattle.std.specs.Prelude.{◌≡◌, ℕ, Bool, true, false, List, slice_get, Some}
 use Rattle.ksi_synod.specs.declared.messages.SynodMessage.{SynodMessage}
 use Rattle.ksi_synod.specs.declared.messages.SynodMessage.TheVariants as votes
 use Rattle.ksi_world.specs.declared.message.Content.{Content}
@@ -25,20 +25,3 @@ pub record IsTold (wire : List Message) (second : ℕ) : Type 0 where
   pub at : slice_get wire number ≡ Some message
   pub about : message.second ≡ second
   pub decisive : decides message.content ≡ true
-
--- LISTS OF SECONDS
-
-abbrev pub In : (second : ℕ) → List ℕ → Type 0
-In t [] = ⊥
-In t (x ∷ xs) = (t ≡ x) ⊎ In t xs
-
--- they rise from this one on
-abbrev pub IsRising : (from : ℕ) → List ℕ → Type 0
-IsRising from [] = Unit {0}
-IsRising from (x ∷ xs) = (from ≤ x) × IsRising (suc x) xs
-
--- each second of such a message, once, rising
-pub record ListsTold (wire : List Message) (seconds : List ℕ) : Type 0 where
-  pub rising : IsRising 0 seconds
-  pub told : (second : ℕ) → In second seconds → IsTold wire second
-  pub all : (second : ℕ) → IsTold wire second → In second seconds

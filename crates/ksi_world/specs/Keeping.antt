@@ -1,13 +1,11 @@
 -- What a list of cores holds and sealed for a second.
-use Rattle.std.specs.Prelude.{◌≡◌, ℕ, if◌then◌else◌, List, [], ◌∷◌, Option, None, option_map, unwrap_or}
+use Rattle.std.specs.Prelude.{◌≡◌, ℕ, ◌≤◌, ◌<◌, if◌then◌else◌, List, [], ◌∷◌, slice_get, Option, Some, None, option_map, unwrap_or}
 use Rattle.std.specs.Str.{bytes_eq}
 use Rattle.ksi_imprint.specs.Imprints.{zero_imprint}
 use Rattle.ksi_aggtree.specs.declared.item.Item.{Item}
 use Rattle.ksi_corenode.specs.CoreState.{CoreState, state_of, held_by}
 use Rattle.ksi_aggtree.specs.declared.second.Second.{Second}
-use Rattle.ksi_world.specs.declared.message.Message.{Message}
-use Rattle.ksi_world.specs.Deciding.{ListsTold}
-use Rattle.ksi_world.specs.Records.{or_else, kept_before, kept_with, sealed_as}
+use Rattle.ksi_world.specs.Records.{or_else, kept_with, sealed_as}
 
 -- what the first has that has something
 abbrev pub first_of : {A B : Type 0} → (A → Option B) → List A → Option B
@@ -18,10 +16,13 @@ first_of f (x ∷ xs) = or_else (f x) (first_of f xs)
 abbrev pub root_among : List CoreState → (second : ℕ) → Option (List ℕ)
 root_among cores t = first_of (λ (core : CoreState). held_by core t) cores
 
--- those of the seconds that are kept
-abbrev pub kept_listed : (ℕ → Option Second) → List ℕ → List Second
-kept_listed kept [] = []
-kept_listed kept (t ∷ ts) = kept_before (kept t) (kept_listed kept ts)
+-- the core holds nothing for the seconds from one on and before another
+abbrev pub IsIdle : CoreState → (from end : ℕ) → Type 0
+IsIdle core from end = (t : ℕ) → from ≤ t → t < end → held_by core t ≡ None
+
+-- none of the cores holds anything for them
+abbrev pub AreIdle : List CoreState → (from end : ℕ) → Type 0
+AreIdle cores from end = (j : ℕ) (core : CoreState) → slice_get cores j ≡ Some core → IsIdle core from end
 
 module _ (image : List ℕ → List ℕ) where
   -- the sealed items of the first core whose candidate the root is
@@ -33,9 +34,3 @@ module _ (image : List ℕ → List ℕ) where
 
   unfoldable pub second_among : List CoreState → (second : ℕ) → Option Second
   second_among cores t = option_map (λ root. kept_with t root (items_among cores t root)) (root_among cores t)
-
-  -- the decided ones of all seconds of messages that decide
-  pub record AreListed (cores : List CoreState) (wire : List Message) (kept : List Second) : Type 0 where
-    pub seconds : List ℕ
-    pub told : ListsTold wire seconds
-    pub kept_are : kept ≡ kept_listed (second_among cores) seconds

@@ -1,8 +1,12 @@
 -- What the nodes and the wire of a world are, and what one turn makes of them.
 use Rattle.ksi_schedule.specs.Plans.{core_plan_of}
-use Rattle.std.specs.Prelude.{◌≡◌, ℕ, ◌≤◌, ◌==◌, if◌then◌else◌, List, ◌++◌, length, map, slice_get, slice_set, Some}
+use Rattle.std.specs.Prelude.{◌≡◌, ℕ, Bool, true, false, ◌<◌, ◌≤◌, ◌==◌, if◌then◌else◌, List, ◌++◌, length, map, slice_get, slice_set, Some}
 use Rattle.ksi_corenode.specs.SecondState.{SecondState}
-use Rattle.ksi_corenode.specs.Turns.{Turn}
+use Rattle.ksi_corenode.specs.Turns.{Turn, still}
+use Rattle.ksi_corenode.specs.declared.event.CoreEvent.{CoreEvent}
+use Rattle.ksi_corenode.specs.declared.event.CoreEvent.TheVariants as happenings
+use Rattle.ksi_corenode.specs.Events.{MayTake}
+use Rattle.ksi_corenode.specs.Rows.{submission_row, seal_row, ballot_row, receive_row, tell_row, respond_row, publish_answer}
 use Rattle.ksi_corenode.specs.CoreState.{CoreState, state_of}
 use Rattle.ksi_aggregator.specs.Rows.{RoundState, RoundTurn, round_still, round_response}
 use Rattle.ksi_aggregator.specs.Rounds.{AggregatorState, rounds_of, HasPlace, IsTurn}
@@ -10,14 +14,13 @@ use Rattle.ksi_schedule.specs.declared.event.Event.{Event}
 use Rattle.ksi_world.specs.declared.outcome.Asked.{Asked}
 use Rattle.ksi_world.specs.declared.outcome.Outcome.{Outcome}
 use Rattle.ksi_world.specs.declared.message.Message.{Message}
-use Rattle.ksi_aggregator.specs.declared.step.Send as round_step
-use Rattle.ksi_signature.specs.declared.step.Step.{Step}
+use Rattle.ksi_aggregator.specs.declared.step.Step.{Step}
 use Rattle.ksi_signature.specs.declared.answer.Answer.TheVariants as answers
 use Rattle.ksi_world.specs.declared.message.Content.{Content}
 use Rattle.ksi_world.specs.declared.message.Content.TheVariants as contents
 use Rattle.ksi_schedule.specs.declared.actor.Actor.{Actor}
 use Rattle.ksi_schedule.specs.Plans.{PlanState, IsPlan, InRange}
-use Rattle.ksi_world.specs.Histories.{WorldState, core_message, round_message, outcome_of, taken, happens, after}
+use Rattle.ksi_world.specs.Histories.{WorldState, held_in, core_message, round_message, outcome_of, at_core, taken, happens, after}
 use Rattle.ksi_schedule.specs.Events.{IsEvent, AreEvents}
 use Rattle.ksi_world.specs.Sound.{IsSent, IsSound}
 
@@ -58,6 +61,26 @@ pub record Fits (plan : PlanState) (w : WorldState) (nodes : NodesState) : Type 
   pub published : nodes.published ≡ w.published
 
 -- A TURN
+
+-- aggregators are to be answered
+abbrev pub is_respond : CoreEvent → Bool
+is_respond (happenings.Submission from t item) = false
+is_respond (happenings.Seal t) = false
+is_respond (happenings.Ballot t) = false
+is_respond (happenings.Receive from t m) = false
+is_respond (happenings.Tell t) = false
+is_respond (happenings.Respond t) = true
+is_respond (happenings.Publish t) = false
+
+-- the turn that an event makes of a second of core j
+abbrev pub core_turn : (List ℕ → List ℕ) → PlanState → WorldState → (core : ℕ) → CoreEvent → Turn
+core_turn image plan w j (happenings.Submission from t item) = submission_row from item (w.seconds j t)
+core_turn image plan w j (happenings.Seal t) = seal_row image (w.seconds j t)
+core_turn image plan w j (happenings.Ballot t) = ballot_row (core_plan_of plan) t j (w.seconds j t)
+core_turn image plan w j (happenings.Receive from t m) = receive_row (core_plan_of plan) t from m (w.seconds j t)
+core_turn image plan w j (happenings.Tell t) = tell_row (core_plan_of plan) t j (w.seconds j t)
+core_turn image plan w j (happenings.Respond t) = respond_row image (held_in w j) plan.start t (w.seconds j t)
+core_turn image plan w j (happenings.Publish t) = still (w.seconds j t) (publish_answer image (held_in w j) plan.start t)
 
 -- core j took a turn of the second, which is this function of the core
 pub record CoreStep (row : CoreState → Turn) (j second : ℕ) (cores cores' : List CoreState) (wire wire' : List Message) (outcome : Outcome) : Type 0 where
@@ -134,7 +157,7 @@ CanTake image plan k second aggregators (contents.Response above) = (a : Aggrega
 CanTake image plan k second aggregators _ = ⊥
 
 -- aggregator k made this step, which is this function of its round
-pub record RoundMove (row : RoundState → RoundTurn) (k second : ℕ) (aggregators aggregators' : List AggregatorState) (step : Step round_step.Send) : Type 0 where
+pub record RoundMove (row : RoundState → RoundTurn) (k second : ℕ) (aggregators aggregators' : List AggregatorState) (step : Step) : Type 0 where
   pub old : AggregatorState
   pub new : AggregatorState
   pub at : slice_get aggregators k ≡ Some old
@@ -151,6 +174,19 @@ pub record IsReady (plan : PlanState) (event : Event) (nodes : NodesState) : Typ
   pub sound : IsSound plan world
   pub fits : Fits plan world nodes
   pub event_is : IsEvent plan event
+
+-- the same of an event of core j, which may take it
+pub record IsReadyCore (plan : PlanState) (j : ℕ) (event : CoreEvent) (nodes : NodesState) : Type 0 where
+  pub world : WorldState
+  pub plan_is : IsPlan plan
+  pub fits : Fits plan world nodes
+  pub there : j < plan.cores
+  pub may : (core : CoreState) → core.start ≡ plan.start → MayTake core event
+
+-- whatever world the nodes were of, they are of what core j makes of it by its turn, and so is the outcome
+abbrev pub TookTurn : (List ℕ → List ℕ) → PlanState → (core second : ℕ) → CoreEvent → (nodes nodes' : NodesState) → Outcome → Type 0
+TookTurn image plan j second event nodes nodes' outcome = (w : WorldState) → Fits plan w nodes →
+    Fits plan (at_core w j second (core_turn image plan w j event)).world nodes' × (outcome ≡ (at_core w j second (core_turn image plan w j event)).outcome)
 
 -- whatever world the nodes were of, they are of what the event makes of it, and so is the outcome
 abbrev pub Happened : (List ℕ → List ℕ) → PlanState → Event → (nodes nodes' : NodesState) → Outcome → Type 0

@@ -1,20 +1,16 @@
 //! The kept seconds: what the cores hold, and whose items it is.
-ghost use Rattle.std.specs.Prelude.{◌≡◌, ◌<◌, [], IfOk, option_map};
+ghost use Rattle.std.specs.Prelude.{◌≡◌, ◌<◌, ◌≤◌, ◌+◌, ◌^◌, ◌++◌, [], IfOk, IfSome, IfNone, OnOk, option_map};
 ghost use Rattle.std.specs.Option.{option_copied};
 ghost use Rattle.ksi_aggtree.specs.Entries.{items_of};
 ghost use Rattle.ksi_corenode.specs.CoreState.{state_of};
-ghost use Rattle.ksi_world.specs.Records.{sealed_as};
-ghost use Rattle.ksi_world.specs.Deciding.{decides, ListsTold};
-ghost use Rattle.ksi_world.specs.Keeping.{root_among, sealed_among, items_among, second_among, kept_listed, AreListed};
+ghost use Rattle.ksi_world.specs.Records.{kept_before, kept_among, sealed_as};
+ghost use Rattle.ksi_world.specs.Keeping.{root_among, sealed_among, items_among, second_among, IsIdle, AreIdle};
 
-use crate::message::{Content, Message};
 use ksi_aggtree::{Entry, Item, Items, Second};
 use ksi_corenode::Core;
 use ksi_imprint::{Compress, Imprint, NoMemory};
 use ksi_schedule::Plan;
-use ksi_synod::SynodMessage;
 use std::alloc::Global;
-use std::collections::BTreeSet;
 use std::marker::Model;
 
 /// Kept seconds. A contract sees their list.
@@ -74,56 +70,67 @@ pub(crate) fn kept_under(plan: &Plan, seconds: Vec<Second>) -> Kept
     }
 }
 
-/// The kept seconds, rising. The cores hold nothing for a second that no message of the wire decides.
+/// The kept ones of so many seconds from the first one on, rising. Only seconds that a core holds or sealed something for
+/// are looked at.
 pub(crate) fn kept_seconds<C: Compress>(
     alloc: Global,
     cores: &[Core<C>],
-    wire: &[Message],
+    start: u64,
+    many: u64,
 ) -> Result<Vec<Second>, NoMemory>
-    ensures { IfOk result (λ kept. AreListed C.image cores.now wire.now kept.items) }
+    requires { start + many < 2 ^ 64 }
+    ensures { IfOk result (λ kept. kept.items ≡ kept_among (second_among C.image cores.now) start many) }
 {
-    let seconds = told_seconds(alloc, wire)?;
-    kept_of(alloc, cores, seconds)
-}
-
-/// The seconds of the messages that decide.
-fn told_seconds(alloc: Global, wire: &[Message]) -> Result<BTreeSet<u64>, NoMemory>
-    ensures { IfOk result (λ seconds. ListsTold wire.now seconds.keys) }
-{
-    let mut seconds = BTreeSet::new(alloc);
-    'reading: for message in wire {
-        if decides(&message.content) {
-            seconds.insert(message.second)?;
-        }
-    }
-    Ok(seconds)
-}
-
-/// Whether a core may come to hold a root after the message.
-fn decides(content: &Content) -> bool
-    ensures { result ≡ decides content.now }
-{
-    match content {
-        Content::Synod(vote) => matches!(vote, SynodMessage::Voted(_) | SynodMessage::Success(_)),
-        Content::Submission(_) | Content::Response(_) => false,
-    }
-}
-
-/// Those of the seconds that are decided.
-fn kept_of<C: Compress>(
-    alloc: Global,
-    cores: &[Core<C>],
-    seconds: BTreeSet<u64>,
-) -> Result<Vec<Second>, NoMemory>
-    ensures { IfOk result (λ kept. kept.items ≡ kept_listed (second_among C.image cores.now) seconds.keys) }
-{
+    let end = start + many;
     let mut kept = Vec::new(alloc);
-    'keeping: for second in seconds {
-        if let Some(decided) = kept_second(alloc, cores, second)? {
-            kept.push(decided)?;
-        }
+    let mut from = start;
+    'keeping: while let Some(second) = next_below(cores, from, end) {
+        put_kept(alloc, cores, second, &mut kept)?;
+        from = second + 1;
     }
     Ok(kept)
+}
+
+/// Puts a second behind the others, where it is decided.
+fn put_kept<C: Compress>(
+    alloc: Global,
+    cores: &[Core<C>],
+    second: u64,
+    kept: &mut Vec<Second>,
+) -> Result<(), NoMemory>
+    ensures { OnOk result (kept.new.items ≡ kept.old.items ++ kept_before (second_among C.image cores.now second) []) }
+{
+    if let Some(decided) = kept_second(alloc, cores, second)? {
+        kept.push(decided)?;
+    }
+    Ok(())
+}
+
+/// The first second from this one on and before the end that a core holds or sealed something for.
+fn next_below<C: Compress>(cores: &[Core<C>], from: u64, end: u64) -> Option<u64>
+    requires { from ≤ end }
+    ensures within { IfSome result (λ second. (from ≤ second) × (second < end)) }
+    ensures idle { IfSome result (AreIdle cores.now from) }
+    ensures none { IfNone result (AreIdle cores.now from end) }
+{
+    let mut next = end;
+    'asking: for core in cores {
+        next = next_of(core, from, next);
+    }
+    if next < end { Some(next) } else { None }
+}
+
+/// The same of one core, or the end.
+fn next_of<C: Compress>(core: &Core<C>, from: u64, end: u64) -> u64
+    requires { from ≤ end }
+    ensures behind { from ≤ result }
+    ensures within { result ≤ end }
+    ensures idle { IsIdle core.now from result }
+{
+    match core.next_second(from) {
+        Some(second) => second.min(end),
+        None => end,
+    }
 }
 
 /// The second with its root and items, where it is decided.

@@ -15,7 +15,7 @@
 //!
 //! ```text
 //! let mut world = World::<Sha>::new(alloc, &plan)?;
-//! let Outcome { answer, sent } = world.step(Event::Request(0, second, imprint))?;
+//! let Outcome { answer, sent } = world.step(Event::Request(0, second, imprint, None))?;
 //! world.step(Event::Close(0, second))?;
 //! world.step(Event::Deliver(0))?;
 //! for kept in world.kept()?.seconds.as_slice() { show(kept.second, kept.root) }

@@ -1,12 +1,14 @@
 //! All nodes, the wire between them, and what one event makes of them.
-ghost use Rattle.std.specs.Prelude.{◌≡◌, ◌<◌, ◌++◌, ◌∷◌, [], vec_len, vec_capacity, length, slice_get, Some, IfOk, OnErr};
+ghost use Rattle.std.specs.Prelude.{◌≡◌, ◌<◌, ◌+◌, ◌^◌, ◌++◌, ◌∷◌, [], vec_len, vec_capacity, length, slice_get, Some, IfOk, OnErr};
 ghost use Rattle.std.specs.Option.{option_copied};
 ghost use Rattle.ksi_signature.specs.declared.above.Above.{Above};
+ghost use Rattle.ksi_corenode.specs.Events.{event_second};
 ghost use Rattle.ksi_world.specs.declared.message.Message.{Message};
 ghost use Rattle.ksi_schedule.specs.Plans.{PlanState};
 ghost use Rattle.ksi_world.specs.Histories.{asked_with, outcome_of, first_world};
-ghost use Rattle.ksi_world.specs.Keeping.{AreListed};
-ghost use Rattle.ksi_world.specs.Nodes.{Fits, IsReady, IsTaken, Happened, WasTaken, StoodStill};
+ghost use Rattle.ksi_world.specs.Records.{kept_among};
+ghost use Rattle.ksi_world.specs.Keeping.{second_among};
+ghost use Rattle.ksi_world.specs.Nodes.{Fits, IsReady, IsReadyCore, IsTaken, Happened, TookTurn, WasTaken, StoodStill};
 
 use crate::kept::kept_seconds;
 use crate::letter::{Letter, letter_of};
@@ -16,11 +18,10 @@ use crate::published::put_answer;
 use crate::{aggregators, cores};
 use ksi_aggregator::Aggregator;
 use ksi_aggtree::{Item, Name, Second};
-use ksi_corenode::Core;
+use ksi_corenode::{Core, CoreEvent};
 use ksi_imprint::{Compress, Imprint, NoMemory};
 use ksi_schedule::{Actor, Event, Plan};
 use ksi_signature::{Above, Answer};
-use ksi_synod::SynodMessage;
 use std::alloc::Global;
 use std::marker::Model;
 
@@ -43,40 +44,14 @@ impl<C: Compress> Model for Nodes<C> {
 }
 
 impl<C: Compress> Nodes<C> {
-    /// A core seals a second.
-    fn seal(&mut self, core: u8, second: u64) -> Result<Outcome, NoMemory>
-        requires { (plan : PlanState) × IsReady plan (Event.Seal core second) self.old }
-        ensures ok { IfOk result (λ outcome. (plan : PlanState) → Happened C.image plan (Event.Seal core second) self.old self.new outcome) }
+    /// A core takes an event of a second.
+    fn take(&mut self, core: u8, second: u64, event: CoreEvent) -> Result<Outcome, NoMemory>
+        requires ready { (plan : PlanState) × IsReadyCore plan core event self.old }
+        requires second { event_second event ≡ second }
+        ensures ok { IfOk result (λ outcome. (plan : PlanState) → TookTurn C.image plan core second event self.old self.new outcome) }
         ensures err { OnErr result ((plan : PlanState) → StoodStill plan self.old self.new) }
     {
-        cores::seal(&mut self.cores, &mut self.wire, core, second)
-    }
-
-    /// A core tries a ballot for a second.
-    fn ballot(&mut self, core: u8, second: u64) -> Result<Outcome, NoMemory>
-        requires { (plan : PlanState) × IsReady plan (Event.Ballot core second) self.old }
-        ensures ok { IfOk result (λ outcome. (plan : PlanState) → Happened C.image plan (Event.Ballot core second) self.old self.new outcome) }
-        ensures err { OnErr result ((plan : PlanState) → StoodStill plan self.old self.new) }
-    {
-        cores::ballot(&mut self.cores, &mut self.wire, core, second)
-    }
-
-    /// A core tells what it holds for a second.
-    fn tell(&mut self, core: u8, second: u64) -> Result<Outcome, NoMemory>
-        requires { (plan : PlanState) × IsReady plan (Event.Tell core second) self.old }
-        ensures ok { IfOk result (λ outcome. (plan : PlanState) → Happened C.image plan (Event.Tell core second) self.old self.new outcome) }
-        ensures err { OnErr result ((plan : PlanState) → StoodStill plan self.old self.new) }
-    {
-        cores::tell(&self.cores, &mut self.wire, core, second)
-    }
-
-    /// A core answers the aggregators whose items it sealed for a second.
-    fn respond(&mut self, core: u8, second: u64) -> Result<Outcome, NoMemory>
-        requires { (plan : PlanState) × IsReady plan (Event.Respond core second) self.old }
-        ensures ok { IfOk result (λ outcome. (plan : PlanState) → Happened C.image plan (Event.Respond core second) self.old self.new outcome) }
-        ensures err { OnErr result ((plan : PlanState) → StoodStill plan self.old self.new) }
-    {
-        cores::respond(&self.cores, &mut self.wire, core, second)
+        cores::take(&mut self.cores, &mut self.wire, core, second, event)
     }
 
     /// A core restarts.
@@ -159,39 +134,10 @@ impl<C: Compress> Nodes<C> {
         ensures err { OnErr result ((plan : PlanState) → StoodStill plan self.old self.new) }
     {
         self.published.reserve(1)?;
-        let answer = cores::publish(&self.cores, core, second)?;
-        put_answer(&mut self.published, second, &answer);
-        Ok(Outcome { answer, sent: 0 })
-    }
-
-    /// A core takes a message of the vote.
-    fn vote(
-        &mut self,
-        from: u8,
-        to: u8,
-        second: u64,
-        vote: &SynodMessage,
-    ) -> Result<Outcome, NoMemory>
-        requires { (plan : PlanState) × IsTaken plan (Actor.Core from) (Actor.Core to) second (Content.Synod vote.now) self.old }
-        ensures ok { IfOk result (λ outcome. (plan : PlanState) → WasTaken C.image plan (Actor.Core from) (Actor.Core to) second (Content.Synod vote.now) self.old self.new outcome) }
-        ensures err { OnErr result ((plan : PlanState) → StoodStill plan self.old self.new) }
-    {
-        cores::receive(&mut self.cores, &mut self.wire, from, to, second, vote)
-    }
-
-    /// A core takes the item of an aggregator.
-    fn item_to_core(
-        &mut self,
-        from: u32,
-        to: u8,
-        second: u64,
-        item: Item,
-    ) -> Result<Outcome, NoMemory>
-        requires { (plan : PlanState) × IsTaken plan (Actor.Aggregator from) (Actor.Core to) second (Content.Submission item) self.old }
-        ensures ok { IfOk result (λ outcome. (plan : PlanState) → WasTaken C.image plan (Actor.Aggregator from) (Actor.Core to) second (Content.Submission item) self.old self.new outcome) }
-        ensures err { OnErr result ((plan : PlanState) → StoodStill plan self.old self.new) }
-    {
-        cores::submission(&mut self.cores, &mut self.wire, from, to, second, item)
+        let event = CoreEvent::Publish(second);
+        let outcome = cores::take(&mut self.cores, &mut self.wire, core, second, event)?;
+        put_answer(&mut self.published, second, &outcome.answer);
+        Ok(outcome)
     }
 
     /// An aggregator takes the item of another.
@@ -255,8 +201,12 @@ impl<C: Compress> Nodes<C> {
         let sender = message.sender;
         let second = message.second;
         match letter_of(message) {
-            Letter::Vote(from, to, vote) => self.vote(from, to, second, &vote),
-            Letter::ToCore(from, to, item) => self.item_to_core(from, to, second, item),
+            Letter::Vote(from, to, vote) => {
+                self.take(to, second, CoreEvent::Receive(from, second, vote))
+            }
+            Letter::ToCore(from, to, item) => {
+                self.take(to, second, CoreEvent::Submission(from, second, item))
+            }
             Letter::ToAggregator(from, to, item) => {
                 self.item_to_aggregator(plan, from, to, second, item)
             }
@@ -276,11 +226,11 @@ impl<C: Compress> Nodes<C> {
                 self.request(plan, aggregator, second, imprint, name)
             }
             Event::Close(aggregator, second) => self.close(plan, aggregator, second),
-            Event::Seal(core, second) => self.seal(core, second),
-            Event::Ballot(core, second) => self.ballot(core, second),
+            Event::Seal(core, second) => self.take(core, second, CoreEvent::Seal(second)),
+            Event::Ballot(core, second) => self.take(core, second, CoreEvent::Ballot(second)),
             Event::Deliver(number) => self.deliver(plan, number),
-            Event::Tell(core, second) => self.tell(core, second),
-            Event::Respond(core, second) => self.respond(core, second),
+            Event::Tell(core, second) => self.take(core, second, CoreEvent::Tell(second)),
+            Event::Respond(core, second) => self.take(core, second, CoreEvent::Respond(second)),
             Event::Publish(core, second) => self.publish(core, second),
             Event::RestartCore(core) => Ok(self.restart_core(core)),
             Event::RestartAggregator(aggregator) => Ok(self.restart_aggregator(aggregator)),
@@ -331,11 +281,12 @@ impl<C: Compress> Nodes<C> {
         self.requests.get(number as usize)
     }
 
-    /// The kept seconds, rising.
-    pub fn kept(&self, alloc: Global) -> Result<Vec<Second>, NoMemory>
-        ensures { IfOk result (λ kept. AreListed C.image self.now.cores self.now.wire kept.items) }
+    /// The kept ones of so many seconds from the first one on, rising.
+    pub fn kept(&self, alloc: Global, start: u64, many: u64) -> Result<Vec<Second>, NoMemory>
+        requires { start + many < 2 ^ 64 }
+        ensures { IfOk result (λ kept. kept.items ≡ kept_among (second_among C.image self.now.cores) start many) }
     {
-        kept_seconds(alloc, &self.cores, &self.wire)
+        kept_seconds(alloc, &self.cores, start, many)
     }
 
     /// The nodes of a plan before anything happened.

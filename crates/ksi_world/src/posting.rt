@@ -43,8 +43,12 @@ pub(crate) fn post_round(
     ensures wire { wire.new.items ≡ wire.old.items ++ map (round_message plan.now aggregator second) step.sends }
     ensures outcome { result ≡ outcome_of step.answer (length step.sends) }
 {
-    let answer = step.answer;
-    let sends = step.sends.into_vec();
+    let ksi_aggregator::Step {
+        answer,
+        fact: _,
+        sends,
+    } = step;
+    let sends = sends.into_vec();
     let sent = sends.len();
     'posting: for send in sends {
         put(wire, round_message(plan, aggregator, second, send));

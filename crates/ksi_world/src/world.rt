@@ -3,7 +3,7 @@ ghost use Rattle.ksi_corenode.specs.CoreState.{state_of};
 ghost use Rattle.ksi_world.specs.Histories.{happens, held_in, world_of};
 ghost use Rattle.ksi_world.specs.Records.{issued_of, IsIssuedOf, NotIssuedOf, kept_seconds};
 ghost use Rattle.ksi_world.specs.Validity.{AreRising, AreTimes, EachKept, IsKept};
-ghost use Rattle.ksi_schedule.specs.Plans.{IsPlan};
+ghost use Rattle.ksi_schedule.specs.Plans.{IsPlan, core_plan_of};
 ghost use Rattle.ksi_schedule.specs.Events.{with_event, IsEvent, AreEvents};
 
 use crate::kept::{Kept, kept_under};
@@ -127,6 +127,8 @@ impl<C: Compress> World<C> {
     pub fn core(&self, core: u8) -> &Core<C>
         requires { core < self.now.plan.cores }
         ensures me { result.now.me ≡ core }
+        ensures plan { result.now.plan ≡ core_plan_of self.now.plan }
+        ensures start { result.now.start ≡ self.now.plan.start }
         ensures seconds { (second : ℕ) → state_of result.now second ≡ (world_of C.image self.now).seconds core second }
     {
         self.nodes.core(core)
@@ -163,9 +165,17 @@ impl<C: Compress> World<C> {
         ensures trees { IfOk result (λ kept. EachKept (IsKept C.image) kept.seconds) }
     {
         steps_agree();
-        let seconds = self.nodes.kept(self.alloc)?;
+        let many = all_seconds();
+        let seconds = self.nodes.kept(self.alloc, self.plan.start(), many)?;
         Ok(kept_under(&self.plan, seconds))
     }
+}
+
+/// How many seconds a plan has.
+fn all_seconds() -> u64
+    ensures { result ≡ 2 ^ 24 }
+{
+    16_777_216
 }
 
 /// Puts an event behind the others, where there is room.

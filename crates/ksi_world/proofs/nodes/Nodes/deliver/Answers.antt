@@ -8,7 +8,7 @@ use Rattle.ksi_schedule.specs.declared.event.Event.TheVariants as events
 use Rattle.ksi_world.specs.declared.outcome.Outcome.{Outcome}
 use Rattle.ksi_world.specs.Nodes.{NodesState, IsTaken, WasTaken, Happened}
 use Rattle.ksi_world.proofs.LetterLemmas.{Says, letter_says}
-use Rattle.ksi_world.proofs.Delivering.{along, is_taken, happened_taken, happened_none}
+use Rattle.ksi_world.proofs.Delivering.{along, is_taken, happened_taken, happened_none, vote_ready, item_ready}
 use Rattle.ksi_world.proofs.nodes.Nodes.deliver.Goals as goal
 
 pub returns-in_default-clause-ok : goal.returns-in_default-clause-ok
@@ -16,43 +16,43 @@ returns-in_default-clause-ok g c = λ w fits.
     let at : slice_get c.args.self.now.wire c.args.number ≡ None = ap (λ (n : NodesState). slice_get n.wire c.args.number) (sym c.self.view_is) ∙ ap (λ xs. slice_get xs c.args.number) (sym c.deref.ensures.value) ∙ sym c.message_at.ensures ∙ ap option_copied c.in_default.is in
     subst (λ o. Happened g.C.Compress.image c.args.plan.now (events.Deliver c.args.number) c.args.self.now c.args.self.now o) (sym c.nothing.ensures) (happened_none g.C.Compress.image c.args.plan.now c.args.number c.args.self.now c.args.self.now at refl) w fits
 
-pub vote-requires : goal.vote-requires
-vote-requires g c =
+pub take-requires-clause-ready : goal.take-requires-clause-ready
+take-requires-clause-ready g c =
     let m = c.in-Some.message.now in
     let at : slice_get c.args.self.now.wire c.args.number ≡ Some m = ap (λ (n : NodesState). slice_get n.wire c.args.number) (sym c.self.view_is) ∙ ap (λ xs. slice_get xs c.args.number) (sym c.deref.ensures.value) ∙ sym c.message_at.ensures ∙ ap option_copied c.in-Some.is in
     let taken = is_taken c.args.plan.now c.args.number c.args.self.now m c.requires at in
     let says = subst (λ l. Says m.sender m.addressee m.content l) (sym c.letter_of.ensures ∙ c.in-Vote.is) (letter_says m.sender m.addressee m.content) in
-    (c.args.plan.now, along (λ s a content. IsTaken c.args.plan.now s a m.second content c.args.self.now) m.sender (actors.Core c.in-Vote.from) m.addressee (actors.Core c.in-Vote.to) m.content (contents.Synod c.in-Vote.vote) says.0 says.1 says.2 taken)
+    (c.args.plan.now, vote_ready c.args.plan.now c.in-Vote.from c.in-Vote.to m.second c.in-Vote.vote c.args.self.now (along (λ s a content. IsTaken c.args.plan.now s a m.second content c.args.self.now) m.sender (actors.Core c.in-Vote.from) m.addressee (actors.Core c.in-Vote.to) m.content (contents.Synod c.in-Vote.vote) says.0 says.1 says.2 taken))
 
 pub returns-in-Vote-clause-ok : goal.returns-in-Vote-clause-ok
 returns-in-Vote-clause-ok g c =
     let m = c.in-Some.message.now in
     let at : slice_get c.args.self.now.wire c.args.number ≡ Some m = ap (λ (n : NodesState). slice_get n.wire c.args.number) (sym c.self.view_is) ∙ ap (λ xs. slice_get xs c.args.number) (sym c.deref.ensures.value) ∙ sym c.message_at.ensures ∙ ap option_copied c.in-Some.is in
     let says = subst (λ l. Says m.sender m.addressee m.content l) (sym c.letter_of.ensures ∙ c.in-Vote.is) (letter_says m.sender m.addressee m.content) in
-    IfOk-weaker c.vote.result _ _ (λ (outcome : Outcome) was. happened_taken g.C.Compress.image c.args.plan.now c.args.number c.args.self.now c.vote.new.self outcome m at
-    (along (λ s a content. WasTaken g.C.Compress.image c.args.plan.now s a m.second content c.args.self.now c.vote.new.self outcome) (actors.Core c.in-Vote.from) m.sender (actors.Core c.in-Vote.to) m.addressee (contents.Synod c.in-Vote.vote) m.content (sym says.0) (sym says.1) (sym says.2) (was c.args.plan.now))) c.vote.ensures.ok
+    IfOk-weaker c.take.result _ _ (λ (outcome : Outcome) was. happened_taken g.C.Compress.image c.args.plan.now c.args.number c.args.self.now c.take.new.self outcome m at
+    (along (λ s a content. WasTaken g.C.Compress.image c.args.plan.now s a m.second content c.args.self.now c.take.new.self outcome) (actors.Core c.in-Vote.from) m.sender (actors.Core c.in-Vote.to) m.addressee (contents.Synod c.in-Vote.vote) m.content (sym says.0) (sym says.1) (sym says.2) (was c.args.plan.now))) c.take.ensures.ok
 
 pub returns-in-Vote-clause-err : goal.returns-in-Vote-clause-err
-returns-in-Vote-clause-err g c = on_err_weaker c.vote.result (λ still. still c.args.plan.now) c.vote.ensures.err
+returns-in-Vote-clause-err g c = on_err_weaker c.take.result (λ still. still c.args.plan.now) c.take.ensures.err
 
-pub item_to_core-requires : goal.item_to_core-requires
-item_to_core-requires g c =
+pub take-requires-in-ToCore-clause-ready : goal.take-requires-in-ToCore-clause-ready
+take-requires-in-ToCore-clause-ready g c =
     let m = c.in-Some.message.now in
     let at : slice_get c.args.self.now.wire c.args.number ≡ Some m = ap (λ (n : NodesState). slice_get n.wire c.args.number) (sym c.self.view_is) ∙ ap (λ xs. slice_get xs c.args.number) (sym c.deref.ensures.value) ∙ sym c.message_at.ensures ∙ ap option_copied c.in-Some.is in
     let taken = is_taken c.args.plan.now c.args.number c.args.self.now m c.requires at in
     let says = subst (λ l. Says m.sender m.addressee m.content l) (sym c.letter_of.ensures ∙ c.in-ToCore.is) (letter_says m.sender m.addressee m.content) in
-    (c.args.plan.now, along (λ s a content. IsTaken c.args.plan.now s a m.second content c.args.self.now) m.sender (actors.Aggregator c.in-ToCore.from) m.addressee (actors.Core c.in-ToCore.to) m.content (contents.Submission c.in-ToCore.item) says.0 says.1 says.2 taken)
+    (c.args.plan.now, item_ready c.args.plan.now c.in-ToCore.from c.in-ToCore.to m.second c.in-ToCore.item c.args.self.now (along (λ s a content. IsTaken c.args.plan.now s a m.second content c.args.self.now) m.sender (actors.Aggregator c.in-ToCore.from) m.addressee (actors.Core c.in-ToCore.to) m.content (contents.Submission c.in-ToCore.item) says.0 says.1 says.2 taken))
 
 pub returns-in-ToCore-clause-ok : goal.returns-in-ToCore-clause-ok
 returns-in-ToCore-clause-ok g c =
     let m = c.in-Some.message.now in
     let at : slice_get c.args.self.now.wire c.args.number ≡ Some m = ap (λ (n : NodesState). slice_get n.wire c.args.number) (sym c.self.view_is) ∙ ap (λ xs. slice_get xs c.args.number) (sym c.deref.ensures.value) ∙ sym c.message_at.ensures ∙ ap option_copied c.in-Some.is in
     let says = subst (λ l. Says m.sender m.addressee m.content l) (sym c.letter_of.ensures ∙ c.in-ToCore.is) (letter_says m.sender m.addressee m.content) in
-    IfOk-weaker c.item_to_core.result _ _ (λ (outcome : Outcome) was. happened_taken g.C.Compress.image c.args.plan.now c.args.number c.args.self.now c.item_to_core.new.self outcome m at
-    (along (λ s a content. WasTaken g.C.Compress.image c.args.plan.now s a m.second content c.args.self.now c.item_to_core.new.self outcome) (actors.Aggregator c.in-ToCore.from) m.sender (actors.Core c.in-ToCore.to) m.addressee (contents.Submission c.in-ToCore.item) m.content (sym says.0) (sym says.1) (sym says.2) (was c.args.plan.now))) c.item_to_core.ensures.ok
+    IfOk-weaker c.take-in-ToCore.result _ _ (λ (outcome : Outcome) was. happened_taken g.C.Compress.image c.args.plan.now c.args.number c.args.self.now c.take-in-ToCore.new.self outcome m at
+    (along (λ s a content. WasTaken g.C.Compress.image c.args.plan.now s a m.second content c.args.self.now c.take-in-ToCore.new.self outcome) (actors.Aggregator c.in-ToCore.from) m.sender (actors.Core c.in-ToCore.to) m.addressee (contents.Submission c.in-ToCore.item) m.content (sym says.0) (sym says.1) (sym says.2) (was c.args.plan.now))) c.take-in-ToCore.ensures.ok
 
 pub returns-in-ToCore-clause-err : goal.returns-in-ToCore-clause-err
-returns-in-ToCore-clause-err g c = on_err_weaker c.item_to_core.result (λ still. still c.args.plan.now) c.item_to_core.ensures.err
+returns-in-ToCore-clause-err g c = on_err_weaker c.take-in-ToCore.result (λ still. still c.args.plan.now) c.take-in-ToCore.ensures.err
 
 pub item_to_aggregator-requires : goal.item_to_aggregator-requires
 item_to_aggregator-requires g c =

@@ -15,9 +15,8 @@ returns-clause-seconds g c =
     let plan = c.self.inside.plan in
     let events = c.self.inside.events.items in
     let is = c.self.invariant in
-    let voted = after_voted image plan is.plan_is events is.are in
     c.kept_under.ensures.seconds
-    ∙ listed_is image plan (after image plan events) voted is.sound c.self.inside.nodes c.in_ok-seconds.seconds.items is.fits c.in_ok-seconds.ensures
+    ∙ listed_is image plan (after image plan events) c.self.inside.nodes c.in_ok-seconds.seconds.items c.start.result c.all_seconds-many.result is.fits c.start.ensures c.all_seconds-many.ensures c.in_ok-seconds.ensures
     ∙ ap (λ (h : History). kept_seconds image h.plan (world_of image h)) c.self.view_is
 
 pub returns-clause-rising : goal.returns-clause-rising
@@ -27,7 +26,7 @@ returns-clause-rising g c =
     let events = c.self.inside.events.items in
     let is = c.self.invariant in
     let voted = after_voted image plan is.plan_is events is.are in
-    let all : c.kept_under.result.seconds ≡ kept_seconds image plan (after image plan events) = c.kept_under.ensures.seconds ∙ listed_is image plan (after image plan events) voted is.sound c.self.inside.nodes c.in_ok-seconds.seconds.items is.fits c.in_ok-seconds.ensures in
+    let all : c.kept_under.result.seconds ≡ kept_seconds image plan (after image plan events) = c.kept_under.ensures.seconds ∙ listed_is image plan (after image plan events) c.self.inside.nodes c.in_ok-seconds.seconds.items c.start.result c.all_seconds-many.result is.fits c.start.ensures c.all_seconds-many.ensures c.in_ok-seconds.ensures in
     subst (λ start. AreRising start c.kept_under.result.seconds) (sym c.kept_under.ensures.start)
     (subst (λ ks. AreRising plan.start ks) (sym all) (kept_rising image plan is.plan_is c.steps_agree.ensures.validity (after image plan events) is.sound voted))
 
@@ -38,7 +37,7 @@ returns-clause-early g c =
     let events = c.self.inside.events.items in
     let is = c.self.invariant in
     let voted = after_voted image plan is.plan_is events is.are in
-    let all : c.kept_under.result.seconds ≡ kept_seconds image plan (after image plan events) = c.kept_under.ensures.seconds ∙ listed_is image plan (after image plan events) voted is.sound c.self.inside.nodes c.in_ok-seconds.seconds.items is.fits c.in_ok-seconds.ensures in
+    let all : c.kept_under.result.seconds ≡ kept_seconds image plan (after image plan events) = c.kept_under.ensures.seconds ∙ listed_is image plan (after image plan events) c.self.inside.nodes c.in_ok-seconds.seconds.items c.start.result c.all_seconds-many.result is.fits c.start.ensures c.all_seconds-many.ensures c.in_ok-seconds.ensures in
     subst (λ ks. EachKept (λ (one : Second). one.second < 2 ^ 63) ks) (sym all) (kept_early image plan is.plan_is c.steps_agree.ensures.validity (after image plan events) is.sound voted)
 
 pub returns-clause-trees : goal.returns-clause-trees
@@ -48,5 +47,5 @@ returns-clause-trees g c =
     let events = c.self.inside.events.items in
     let is = c.self.invariant in
     let voted = after_voted image plan is.plan_is events is.are in
-    let all : c.kept_under.result.seconds ≡ kept_seconds image plan (after image plan events) = c.kept_under.ensures.seconds ∙ listed_is image plan (after image plan events) voted is.sound c.self.inside.nodes c.in_ok-seconds.seconds.items is.fits c.in_ok-seconds.ensures in
+    let all : c.kept_under.result.seconds ≡ kept_seconds image plan (after image plan events) = c.kept_under.ensures.seconds ∙ listed_is image plan (after image plan events) c.self.inside.nodes c.in_ok-seconds.seconds.items c.start.result c.all_seconds-many.result is.fits c.start.ensures c.all_seconds-many.ensures c.in_ok-seconds.ensures in
     subst (λ ks. EachKept (IsKept image) ks) (sym all) (kept_trees image plan is.plan_is c.steps_agree.ensures.validity (after image plan events) is.sound voted)

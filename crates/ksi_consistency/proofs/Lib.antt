@@ -1,0 +1,11 @@
+pub mod Cases
+pub mod Parts
+pub mod Fronts
+pub mod Leading
+pub mod Accepting
+pub mod Strings
+pub mod Meeting
+pub mod Leafing
+pub mod Files
+pub mod Again
+pub mod Read

@@ -1,0 +1,17 @@
+//! Tests of the disk and of what stands on it: `ksi_disk`, `ksi_gates` and `ksi_nodestore`.
+//!
+//! They stand in a crate of their own, since a crate with tests is proved twice. Nothing is here for the layers above.
+#![tactic(auto)]
+
+#[cfg(test)]
+mod broken_files;
+#[cfg(test)]
+mod crashes;
+#[cfg(test)]
+mod disks;
+#[cfg(test)]
+mod headers;
+#[cfg(test)]
+mod images;
+#[cfg(test)]
+mod logs;

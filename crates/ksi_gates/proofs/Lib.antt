@@ -1,0 +1,5 @@
+pub mod Readings
+pub mod Standing
+pub mod Appended
+pub mod Steps
+pub mod Spelled

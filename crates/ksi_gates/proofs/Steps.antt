@@ -1,0 +1,62 @@
+-- The reading of a file by what stands in front.
+use Rattle.std.proofs.Common.{◌≡◌, ℕ, suc, ◌+◌, ◌≤◌, Bool, true, false, if◌then◌else◌, List, [], ◌∷◌, length, take, drop, Result, Ok, Err, IfOk, refl, sym, ◌∙◌, ap, inl, inr, arith, length-drop}
+use Rattle.std.proofs.lemmas.Bool.{cases_eq}
+use Rattle.std.proofs.lemmas.Bool.Decides.{nat_tests}
+use Rattle.std.proofs.lemmas.List.{length-take-le, drop-drop}
+use Rattle.ksi_gates.specs.declared.ending.Ending.TheVariants.{Closed, Broken}
+use Rattle.ksi_gates.specs.declared.front.Front.{Front}
+use Rattle.ksi_gates.specs.declared.front.Front.TheVariants as front
+use Rattle.ksi_gates.specs.declared.refusal.ReadRefusal.{ReadRefusal}
+use Rattle.ksi_gates.specs.Gates.{front_at, stated, is_whole, Reading, ends, behind, reading_after, reading_within, reading_at}
+use Rattle.ksi_gates.proofs.Readings.{closed_front, same_reading}
+
+pub at_closed : (place : ℕ) (bytes : List ℕ) → front.Closed ≡ front_at bytes → reading_at place bytes ≡ ends (Closed place)
+unfolding reading_at
+at_closed place bytes is = ap (λ (f : Front). reading_after (reading_within (length bytes)) place bytes f) (sym is)
+
+pub at_broken : (place : ℕ) (bytes : List ℕ) → front.Broken ≡ front_at bytes → reading_at place bytes ≡ ends (Broken place)
+unfolding reading_at
+at_broken place bytes is = ap (λ (f : Front). reading_after (reading_within (length bytes)) place bytes f) (sym is)
+
+whole_step : (rest content : List ℕ) (b : Bool) → is_whole rest ≡ b → front.Whole content ≡ (if b then front.Whole (take (stated rest) (drop 4 rest)) else front.Broken) → 4 + length content ≤ length rest
+whole_step rest content false whole is = absurd (cc is)
+whole_step rest content true whole is =
+    let within : 4 + stated rest ≤ length rest = grind (arith, nat_tests) in
+    let same : content ≡ take (stated rest) (drop 4 rest) = cc is in
+    let size : length (take (stated rest) (drop 4 rest)) ≡ stated rest = length-take-le (stated rest) (drop 4 rest) (omega (arith, length-drop 4 rest)) in
+    omega (arith, ap length same, size)
+
+-- a whole record and its gate are within the bytes
+pub whole_size : (bytes content : List ℕ) → front.Whole content ≡ front_at bytes → 5 + length content ≤ length bytes
+whole_size [] content is = absurd (cc is)
+whole_size (gate ∷ rest) content is = elim (cases_eq gate 1) [
+  | inr shut ↦ none (is ∙ closed_front gate rest shut)
+  | inl is_open ↦ let within : 4 + length content ≤ length rest = whole_step rest content (is_whole rest) refl (is ∙ ap (λ (k : ℕ). front_at (k ∷ rest)) is_open) in omega arith
+]
+  where
+    none : front.Whole content ≡ front.Closed → 5 + length content ≤ length (gate ∷ rest)
+    none same = absurd (cc same)
+
+pub at_whole : (place : ℕ) (bytes content : List ℕ) → front.Whole content ≡ front_at bytes → reading_at place bytes ≡ behind (content ∷ []) (reading_at (place + (5 + length content)) (drop (5 + length content) bytes))
+unfolding reading_at
+at_whole place bytes content is =
+    let next = place + (5 + length content) in
+    let rest = drop (5 + length content) bytes in
+    let within = whole_size bytes content is in
+    ap (λ (f : Front). reading_after (reading_within (length bytes)) place bytes f) (sym is)
+    ∙ ap (λ (r : Reading). behind (content ∷ []) r) (same_reading (length bytes) (suc (length rest)) next rest (omega (arith, within, length-drop (5 + length content) bytes)) (omega arith))
+
+-- the same in a file
+pub at_whole_in : (place : ℕ) (file content : List ℕ) → front.Whole content ≡ front_at (drop place file) → reading_at place (drop place file) ≡ behind (content ∷ []) (reading_at (place + (5 + length content)) (drop (place + (5 + length content)) file))
+at_whole_in place file content is = at_whole place (drop place file) content is ∙ ap (λ (l : List ℕ). behind (content ∷ []) (reading_at (place + (5 + length content)) l)) (drop-drop (5 + length content) place file)
+
+-- behind an open gate, where as many bytes stand as are stated
+pub open_whole : (file : List ℕ) (place count : ℕ) (result : Result Front ReadRefusal) → count ≡ stated (drop place file) → 4 + count ≤ length (drop place file) → IfOk result (λ found. found ≡ front.Whole (take count (drop (place + 4) file)))
+    → IfOk result (λ found. found ≡ (if is_whole (drop place file) then front.Whole (take (stated (drop place file)) (drop 4 (drop place file))) else front.Broken))
+open_whole file place count (Err refusal) states within is = tt
+open_whole file place count (Ok found) states within is =
+    let rest = drop place file in
+    let whole : is_whole rest ≡ true = let enough : 4 + stated rest ≤ length rest = omega arith in grind (arith, nat_tests) in
+    is
+    ∙ (λ i. front.Whole (take (states i) (sym (drop-drop 4 place file) i)))
+    ∙ sym (ap (λ (b : Bool). if b then front.Whole (take (stated rest) (drop 4 rest)) else front.Broken) whole)

@@ -1,0 +1,5 @@
+pub mod Gates
+pub mod Logs
+pub mod Drafts
+pub mod Reads
+pub mod Opens

@@ -1,0 +1,15 @@
+pub mod Again
+pub mod Answering
+pub mod BlockTree
+pub mod Cases
+pub mod Climbs
+pub mod Files
+pub mod Leading
+pub mod Leaves
+pub mod Outcomes
+pub mod Own
+pub mod Roots
+pub mod Short
+pub mod Showing
+pub mod Strings
+pub mod Trees

@@ -1,0 +1,44 @@
+//! Masked blocks of log lines: many lines are signed as one imprint, and the proof of a line says nothing of its neighbours.
+//!
+//! A line's mask is the hash of the leaf before it and of the block's seed, the first one's that of the zero imprint and the
+//! seed. A line's leaf is the join of its mask and the line's hash at level 1, and the root is that of the aggregation tree
+//! over the leaves (Buldas, Truu, Laanoja, Gerhards, "Efficient Record-Level Keyless Signatures for Audit Logs", 2014).
+//!
+//! The layer above may rely on this: `push` takes a line or says why not; `root` is the tree over the leaves; `proof` gives a
+//! line's own mask and chain, and leads to the root; [`root_of`] gives the imprint that a line and a proof lead to; and
+//! [`locate`] says of a line and a proof that lead to a kept block's root which line of the block it is, with its own mask and
+//! way, or has a clash of the hash function. A proof file is read and written both ways. Lines are lent, not copied; what a
+//! block keeps beside them is a leaf each. Only `push`, `proof`, `read_proof`, `write_proof` and a clash take memory. What holds of
+//! the definitions is in [`laws`].
+//!
+//! ```text
+//! let mut block = Block::<Sha>::new(alloc, seed);
+//! block.push(line)?;
+//! let proof = block.proof(alloc, 0)?;
+//! assert_eq!(root_of::<Sha>(line, &proof).ok(), block.root().map(|root| root.imprint));
+//! ```
+#![tactic(auto)]
+
+mod beneath;
+mod block;
+mod climbing;
+mod hashing;
+mod kept;
+pub mod laws;
+mod line_proof;
+mod locating;
+mod over;
+mod proof_fault;
+mod reading;
+mod said;
+mod writing;
+
+pub use block::{Block, LONGEST_LINE, MOST_LINES, PushRefusal};
+pub use climbing::root_of;
+pub use ksi_aggchain::LevelFault;
+pub use ksi_imprint::{Clash, NoMemory, Refused};
+pub use line_proof::{LineLink, LineLinks, LineProof, MOST_LINKS};
+pub use locating::{LineRefusal, Located, locate};
+pub use proof_fault::ProofFault;
+pub use reading::read_proof;
+pub use writing::write_proof;

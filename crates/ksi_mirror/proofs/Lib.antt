@@ -1,0 +1,11 @@
+pub mod ByKeys
+pub mod Differences
+pub mod Lookups
+pub mod MergingMirrors
+pub mod JournalOf
+pub mod Joining
+pub mod JoiningMirrors
+pub mod Files
+pub mod Sound
+pub mod Again
+pub mod Texts

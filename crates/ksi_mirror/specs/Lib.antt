@@ -1,0 +1,11 @@
+pub use Rattle.ksi_order.specs.Order
+pub use Rattle.ksi_order.specs.Sequence
+pub mod Maps
+pub mod Mirrors
+pub mod Merging
+pub mod Keys
+pub mod Whole
+pub mod Elements
+pub mod Loading
+pub mod File
+pub mod Written

@@ -1,0 +1,95 @@
+use crate::files::{ONE, mirror_of};
+use crate::same::same;
+use ksi_imprint::Imprint;
+use ksi_mirror::{MergeRefusal, Mirror, Refused, merge, write_mirror};
+use std::alloc::Global;
+use std::test::Fail;
+
+/// The same with another item, and so another root.
+const OTHER: &str =
+    "01046553f100 0229 01046553f100 0221 B 090b 01046553f100 0200 030101 0322 B 00 0600";
+
+fn merged(alloc: Global, one: &Mirror, two: &Mirror) -> Result<Mirror, Fail> {
+    match merge(alloc, one, two) {
+        Ok(mirror) => Ok(mirror),
+        Err(_) => Err(Fail::from("they are not merged")),
+    }
+}
+
+/// Whether three mirrors give these bytes when they are merged with the last of them first, or with the first.
+fn give(alloc: Global, words: [&str; 3], want: &str) -> Result<[bool; 2], Fail> {
+    let [one, two, three] = words;
+    let one = mirror_of(alloc, one)?;
+    let two = mirror_of(alloc, two)?;
+    let three = mirror_of(alloc, three)?;
+    let want = write_mirror(alloc, &mirror_of(alloc, want)?)?;
+    let left = merged(alloc, &merged(alloc, &one, &two)?, &three)?;
+    let right = merged(alloc, &one, &merged(alloc, &two, &three)?)?;
+    let left = write_mirror(alloc, &left)?;
+    let right = write_mirror(alloc, &right)?;
+    Ok([
+        left.as_slice() == want.as_slice(),
+        right.as_slice() == want.as_slice(),
+    ])
+}
+
+#[test]
+fn three_are_merged_in_every_order(rt: HostRuntime) -> Result<(), Fail> {
+    const A: &str = "010105 0226 010105 0221 A 0908 010105 0200 030101 0322 A 00 0600";
+    const B: &str = "010105 0226 010107 0221 B 0909 010105 020102 030101 0322 B 00 0600";
+    const C: &str = "010105 0226 010106 0221 zero 0908 010105 0200 030101 0322 A 00 0600";
+    const ALL: &str =
+        "010105 0226 010105 0221 A 0226 010106 0221 zero 0226 010107 0221 B 0908 010105 0200 030101 0322 A 00 0909 010105 020102 030101 0322 B 00 0600";
+    static ROWS: [[&str; 3]; 6] = [
+        [A, B, C],
+        [A, C, B],
+        [B, A, C],
+        [B, C, A],
+        [C, A, B],
+        [C, B, A],
+    ];
+    for words in ROWS {
+        same(&rt, "merged", give(rt.alloc(), words, ALL)?, [true; 2]);
+    }
+    same(&rt, "once", give(rt.alloc(), [ONE; 3], ONE)?, [true; 2]);
+    Ok(())
+}
+
+/// The refusal of two mirrors, if they are not merged.
+fn refusal_of(alloc: Global, one: &str, two: &str) -> Result<Option<MergeRefusal>, Fail> {
+    let one = mirror_of(alloc, one)?;
+    let two = mirror_of(alloc, two)?;
+    match merge(alloc, &one, &two) {
+        Err(Refused::Fault(refusal)) => Ok(Some(refusal)),
+        _ => Ok(None),
+    }
+}
+
+#[test]
+fn two_mirrors_that_differ(rt: HostRuntime) -> Result<(), Fail> {
+    const START: &str = "010106 0600";
+    const FIRST: &str =
+        "010105 0226 010107 0221 A 0908 010106 0200 030102 0322 A 00 0322 A 00 0909 010106 020101 030101 0322 A 00 0600";
+    const LATER: &str = "010105 0226 010107 0221 zero 0600";
+    const LISTS: &str =
+        "010105 0226 010107 0221 zero 0908 010106 0200 030102 0322 A 00 0322 A 01 0600";
+    const SHORT: &str = "010105 0908 010106 0200 030101 0322 A 00 0600";
+    const CORE: &str = "010105 0909 010106 020101 030101 0322 B 00 0600";
+    let hex = "e3b0c44298fc1c149afbf4c8996fb92427ae41e4649b934ca495991b7852b855";
+    let a = Imprint::from_hex(hex).unwrap_or(Imprint::ZERO);
+    let hex = "ba7816bf8f01cfea414140de5dae2223b00361a396177a9cb410ff61f20015ad";
+    let b = Imprint::from_hex(hex).unwrap_or(Imprint::ZERO);
+    let cases = [
+        (ONE, OTHER, MergeRefusal::Conflict(1_700_000_000, a, b)),
+        (START, FIRST, MergeRefusal::Starts(6, 5)),
+        (FIRST, LATER, MergeRefusal::Conflict(7, a, Imprint::ZERO)),
+        (FIRST, LISTS, MergeRefusal::Trees(6, 0, 1)),
+        (SHORT, FIRST, MergeRefusal::Trees(6, 0, 1)),
+        (FIRST, CORE, MergeRefusal::Trees(6, 1, 0)),
+    ];
+    for (one, two, refusal) in cases {
+        let told = refusal_of(rt.alloc(), one, two)?;
+        same(&rt, two, told, Some(refusal));
+    }
+    Ok(())
+}

@@ -1,0 +1,36 @@
+ghost use Rattle.std.specs.Prelude.{◌≡◌, ◌<◌, length, OnOk, IsOk};
+ghost use Rattle.ksi_disk.specs.Images.{Only};
+ghost use Rattle.ksi_disk.specs.Costs.{Affords, DiskCounts, Spends};
+ghost use Rattle.ksi_nodestore.specs.Headers.{empty_file};
+
+use crate::heads::MAGIC;
+use ksi_disk::{Disk, DiskFailed};
+use ksi_synod::CorePlan;
+
+/// Makes an empty disk the file of a core without facts, by one write and one sync.
+///
+/// # Errors
+///
+/// `DiskFailed`, and the count of faults rises. Then the disk is no node's.
+pub fn format<D: Disk>(me: u8, plan: &CorePlan, disk: &mut D) -> Result<(), DiskFailed>
+    requires empty { length (D.content disk.old) ≡ 0 }
+    requires core { me < plan.now.cores }
+    ensures written { OnOk result (D.content disk.new ≡ empty_file me plan.now.cores plan.now.start) }
+    ensures durable { OnOk result (Only (D.content disk.new) (D.images disk.new)) }
+    ensures counted { DiskCounts (D.faults disk.old) (D.faults disk.new) result }
+    ensures costs { Spends 19 2 (D.meter disk.old) (D.meter disk.new) }
+    ensures sure { Affords 19 2 (D.meter disk.old) → IsOk result }
+{
+    let text = text_of(me, plan.cores(), plan.start());
+    disk.write_at(0, &text)?;
+    disk.sync()
+}
+
+/// The header and a closed gate.
+fn text_of(me: u8, cores: u8, start: u64) -> [u8; 19]
+    ensures { result ≡ empty_file me cores start }
+{
+    let [a, b, c, d, e, f, g, h] = MAGIC;
+    let [s, t, u, v, w, x, y, z] = start.to_be_bytes();
+    [a, b, c, d, e, f, g, h, me, cores, s, t, u, v, w, x, y, z, 0]
+}

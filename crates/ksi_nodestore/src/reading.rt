@@ -1,0 +1,42 @@
+ghost use Rattle.std.specs.Int.{w64, from_be_bytes};
+ghost use Rattle.std.specs.Prelude.{◌≡◌, ◌≤◌, length, take};
+ghost use Rattle.ksi_nodestore.specs.Headers.{good_header, header_at};
+
+use crate::heads::{HEADER, Header, HeaderFault, MAGIC};
+
+/// The header in front of bytes.
+pub fn header(bytes: &[u8]) -> Result<Header, HeaderFault>
+    ensures { result ≡ header_at bytes.now }
+{
+    if bytes.len() < HEADER {
+        return Err(HeaderFault::NotFormatted);
+    }
+    let (magic, rest) = bytes.split_at(8);
+    if magic != MAGIC.as_slice() {
+        return Err(HeaderFault::NotFormatted);
+    }
+    let (_, start) = rest.split_at(2);
+    good(rest[0], rest[1], number(start))
+}
+
+/// The number in the first eight bytes.
+fn number(bytes: &[u8]) -> u64
+    requires { 8 ≤ length bytes.now }
+    ensures { result ≡ from_be_bytes w64 (take 8 bytes.now) }
+{
+    let (front, _) = bytes.split_at(8);
+    let mut number = [0; 8];
+    number.copy_from_slice(front);
+    u64::from_be_bytes(number)
+}
+
+/// A header of these numbers, where they are in their bounds.
+fn good(core: u8, cores: u8, start: u64) -> Result<Header, HeaderFault>
+    ensures { result ≡ good_header core cores start }
+{
+    if core < cores && cores <= 9 && start <= (1 << 63) - (1 << 24) {
+        Ok(Header { core, cores, start })
+    } else {
+        Err(HeaderFault::Bad(core, cores, start))
+    }
+}

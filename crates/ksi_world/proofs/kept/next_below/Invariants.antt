@@ -1,0 +1,12 @@
+use Rattle.std.proofs.Common.{◌≡◌, ◌≤◌, ◌<◌, ℕ, Some}
+use Rattle.std.specs.Prelude.{slice_get}
+use Rattle.ksi_corenode.specs.CoreState.{CoreState}
+use Rattle.ksi_world.specs.Keeping.{IsIdle}
+use Rattle.ksi_world.proofs.kept.next_below.Given as goal
+
+abbrev pub invariant-asking : goal.invariant-asking
+invariant-asking g l = record {
+  behind : l.from ≤ l.next;
+  within : l.next ≤ l.end;
+  idle : (j : ℕ) (core : CoreState) → j < l.core-index → slice_get l.cores j ≡ Some core → IsIdle core l.from l.next;
+}
