@@ -114,21 +114,26 @@ impl Node {
         self.core.restart();
         let mut other = self.kept.come_back(alloc)?;
         let same = are_same(&self.core, &other);
-        Ok(same && self.go_on(&mut other, n))
+        let alike = go_on(&mut self.core, &mut other, n);
+        Ok(same && alike)
     }
+}
 
-    fn go_on(&mut self, other: &mut Core<Sha>, first: u64) -> bool
-        requires { other.old.start ≡ 1700000000 }
-    {
-        let mut same = true;
-        let mut n = first;
-        'going: for _ in 0..20usize {
-            n = next(n);
-            let event = event_of(&self.core, n / 65_536);
-            same = same && takes_alike(&mut self.core, other, &event);
-        }
-        same && are_same(&self.core, other)
+/// Twenty events in both cores by the numbers that follow this one: whether they did the same.
+fn go_on(one: &mut Core<Sha>, other: &mut Core<Sha>, first: u64) -> bool
+    requires one { one.old.start ≡ 1700000000 }
+    requires other { other.old.start ≡ 1700000000 }
+    ensures one { one.new.start ≡ 1700000000 }
+{
+    let mut same = true;
+    let mut n = first;
+    'going: for _ in 0..20usize {
+        n = next(n);
+        let event = event_of(one, n / 65_536);
+        let alike = takes_alike(one, other, &event);
+        same = same && alike;
     }
+    same && are_same(one, other)
 }
 
 /// An event in both cores: whether they did the same.

@@ -1,5 +1,0 @@
-use Rattle.std.proofs.Common.{◌≡◌}
-use Rattle.ksi_node_tests.proofs.facts.Node.go_on.Given as goal
-
-abbrev pub invariant-going : goal.invariant-going
-invariant-going l = l.other.start ≡ 1700000000
