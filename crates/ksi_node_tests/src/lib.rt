@@ -10,6 +10,8 @@ mod cores;
 #[cfg(test)]
 mod entries;
 #[cfg(test)]
+mod facts;
+#[cfg(test)]
 mod generated;
 #[cfg(test)]
 mod named_items;
