@@ -9,7 +9,7 @@ use Rattle.ksi_consistency.proofs.Cases.{lt_cases, eq_cases}
 pub last_first : (front inner : List (List ℕ)) (x : List ℕ) → front ≡ inner ++ x ∷ [] → reverse front ≡ x ∷ reverse inner
 last_first front inner x is = ap reverse is ∙ reverse-append inner (x ∷ [])
 
-empty : {A : Type 0} (xs : List A) → length xs ≡ 0 → xs ≡ []
+pub empty : {A : Type 0} (xs : List A) → length xs ≡ 0 → xs ≡ []
 empty [] e = refl
 empty (x ∷ xs) e = absurd (omega (arith, e))
 

@@ -1,5 +1,5 @@
 -- Leaves of two calendars.
-use Rattle.std.proofs.Common.{◌≡◌, ℕ, ◌<◌, ◌≤◌, List, Bool, true, false, not, refl, sym, ap, ◌∙◌, inl, inr, arith}
+use Rattle.std.proofs.Common.{◌≡◌, ◌≢◌, ℕ, ◌<◌, ◌≤◌, List, Bool, true, false, not, refl, sym, ap, ◌∙◌, inl, inr, arith}
 use Rattle.std.specs.Str.{bytes_eq}
 use Rattle.std.proofs.lemmas.Slice.Eq.{bytes_eq-Decides}
 use Rattle.ksi_imprint.specs.Imprints.{zero_imprint}
@@ -26,4 +26,18 @@ agree_to old new begin last first second between end t to = elim (lt_cases t beg
     | inl same ↦ ap (calendar_leaf old) same.1 ∙ end ∙ sym (ap (calendar_leaf new) same.1)
     | inr other ↦ between t from.1 (omega (arith, other.1, to))
   ]
+]
+
+pub is_other : (a b : List ℕ) → not (bytes_eq a b) ≡ true → a ≢ b
+is_other a b e = by (bytes_eq a b) refl e
+  where
+    by : (t : Bool) → bytes_eq a b ≡ t → not t ≡ true → a ≢ b
+    by true is e = absurd (cc e)
+    by false is e = λ same. absurd (cc (sym is ∙ (bytes_eq-Decides a b).1 same))
+
+-- leaves that are the same before a second
+pub agree_before : (old new : Seconds) (begin second : ℕ) → begin ≤ old.start → begin ≤ new.start → ((t : ℕ) → begin ≤ t → t < second → calendar_leaf old t ≡ calendar_leaf new t) → (t : ℕ) → t < second → calendar_leaf old t ≡ calendar_leaf new t
+agree_before old new begin second one two between t to = elim (lt_cases t begin) [
+  | inl before ↦ early old t (omega (arith, before.1, one)) ∙ sym (early new t (omega (arith, before.1, two)))
+  | inr from ↦ between t from.1 to
 ]

@@ -6,6 +6,7 @@ pub mod Accepting
 pub mod Strings
 pub mod Meeting
 pub mod Leafing
+pub mod Finding
 pub mod Files
 pub mod Again
 pub mod Read

@@ -55,6 +55,11 @@ pub record IsHalves (halves : Halves) (one two : List ℕ) : Type 0 where
 abbrev pub IsFrontOf : (List ℕ → List ℕ) → (old new : Seconds) → (p1 p2 : ℕ) → List (List ℕ) → Type 0
 IsFrontOf image old new p1 p2 front = front_checked image p1 p2 (calendar_root image old p1) (calendar_root image new p2) front ≡ Ok tt
 
+-- a clash is of strings of joins
+abbrev pub IsShort : Compared → Type 0
+IsShort (answers.Clash clash) = (length clash.one ≡ 67) × (length clash.two ≡ 67)
+IsShort _ = Unit {0}
+
 -- what each answer says
 abbrev pub IsAnswer : (List ℕ → List ℕ) → (old new : Seconds) → (p1 p2 : ℕ) → List (List ℕ) → Compared → Type 0
 IsAnswer image old new p1 p2 front (answers.NotAccepted refusal) = front_checked image p1 p2 (calendar_root image old p1) (calendar_root image new p2) front ≡ Err refusal

@@ -2,6 +2,7 @@ pub mod Parts
 pub mod Front
 pub mod Checked
 pub mod Compared
+pub mod Answering
 pub mod Elements
 pub mod File
 pub mod Written

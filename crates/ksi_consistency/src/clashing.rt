@@ -5,6 +5,7 @@ ghost use Rattle.ksi_consistency.specs.Parts.{IsPart};
 ghost use Rattle.ksi_consistency.specs.Front.{count_of};
 ghost use Rattle.ksi_consistency.specs.Checked.{front_texts, roots_from, texts_from};
 ghost use Rattle.ksi_consistency.specs.Compared.{halves_text, IsFrontClash, IsHalves, IsKeptText, IsNodeClash};
+ghost use Rattle.ksi_consistency.specs.Answering.{clash_to, front_clash, part_text};
 
 use crate::differing::Differing;
 use crate::halves::{Halves, clash_of};
@@ -13,7 +14,7 @@ use crate::proving::check_part;
 use ksi_calendar::laws::one_calendar;
 use ksi_imprint::{Clash, Compress, Imprint, NoMemory};
 use ksi_split::high_bit;
-use ksi_split::laws::one_split;
+use ksi_split::laws::{one_split, one_way};
 use std::alloc::Global;
 
 /// The clash in a part whose trees are the same in two calendars, where a second in it has different leaves: of the first
@@ -30,10 +31,13 @@ pub(crate) fn clash_below<C: Compress>(
     requires to { two.now.second ≤ first + last }
     requires same { calendar_tree C.image two.now.old.calendar.now first (last + 1) ≡
         calendar_tree C.image two.now.new.calendar.now first (last + 1) }
-    ensures { IfOk result (IsFrontClash C.image two.now.old.calendar.now two.now.new.calendar.now
+    ensures shown { IfOk result (IsFrontClash C.image two.now.old.calendar.now two.now.new.calendar.now
         two.now.old.last two.now.new.last two.now.given two.now.front.now) }
+    ensures which { IfOk result (λ clash. clash ≡
+        clash_to C.image two.now.old.calendar.now two.now.new.calendar.now two.now.second first (last + 1)) }
 {
     one_split();
+    one_way();
     one_calendar();
     let half = high_bit(last);
     let old = two.old.halves(first, last);
@@ -64,6 +68,8 @@ fn lay<C: Compress>(
     ensures one { IfOk result (λ found. IfSome found (λ clash. clash.one ≡ halves_text joined.now)) }
     ensures two { IfOk result (λ found. IfSome found
         (λ clash. IsKeptText C.image kept.now.calendar.now kept.now.last clash.two)) }
+    ensures text { IfOk result (λ found. IfSome found
+        (λ clash. clash.two ≡ part_text C.image kept.now.calendar.now first (last + 1))) }
     ensures none { IfOk result (λ found. IfNone found
         (IsHalves joined.now (calendar_tree C.image kept.now.calendar.now first (split_of (last + 1)))
         (calendar_tree C.image kept.now.calendar.now (first + split_of (last + 1)) (last + 1 - split_of (last + 1))))) }
@@ -101,8 +107,11 @@ pub(crate) fn clash_in_front<C: Compress>(
           old = calendar_tree C.image two.now.old.calendar.now first (old + 1);
           new = calendar_tree C.image two.now.new.calendar.now first (new + 1);
         } }
-    ensures { IfOk result (IsFrontClash C.image two.now.old.calendar.now two.now.new.calendar.now
+    ensures shown { IfOk result (IsFrontClash C.image two.now.old.calendar.now two.now.new.calendar.now
         two.now.old.last two.now.new.last two.now.given two.now.front.now) }
+    ensures which { IfOk result (λ clash. clash ≡
+        front_clash C.image two.now.old.calendar.now two.now.new.calendar.now two.now.given two.now.second first
+        (old + 1) (new + 1) (reverse front.now)) }
 {
     one_split();
     let (x, inner) = match front.split_last() {

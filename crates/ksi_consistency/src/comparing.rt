@@ -2,9 +2,10 @@ ghost use Rattle.std.specs.Prelude.{◌≡◌, ◌≢◌, ◌≤◌, ◌↔◌, 
 ghost use Rattle.ksi_imprint.specs.declared.clash.Clash.{Clash};
 ghost use Rattle.ksi_calendar.specs.Calendar.{calendar_leaf, calendar_root, is_covered};
 ghost use Rattle.ksi_consistency.specs.Checked.{front_checked};
-ghost use Rattle.ksi_consistency.specs.Compared.{AgreeTo, DifferBy, IsAnswer, IsFrontClash, IsFrontOf};
+ghost use Rattle.ksi_consistency.specs.Compared.{AgreeTo, DifferBy, IsAnswer, IsFrontClash, IsFrontOf, IsShort};
+ghost use Rattle.ksi_consistency.specs.Answering.{compared, first_apart};
 ghost use Rattle.ksi_consistency.specs.declared.refusal.FrontRefusal.{FrontRefusal};
-ghost use Rattle.ksi_consistency.specs.declared.compared.Compared.TheVariants as compared;
+ghost use Rattle.ksi_consistency.specs.declared.compared.Compared.TheVariants as answers;
 
 use crate::clashing::clash_in_front;
 use crate::compared::Compared;
@@ -30,13 +31,16 @@ pub fn compare<C: Compress>(
     requires within { p1 ≤ p2 }
     requires old_covered { IsTrue (is_covered old.now p1) }
     requires new_covered { IsTrue (is_covered new.now p2) }
-    ensures refused { (refusal : FrontRefusal) → (result ≡ Ok (compared.NotAccepted refusal)) ↔
+    ensures answer { IfOk result (λ answer. answer ≡ compared C.image old.now new.now p1 p2 front.now) }
+    ensures shown { IfOk result (IsAnswer C.image old.now new.now p1 p2 front.now) }
+    ensures short { IfOk result IsShort }
+    ensures refused { (refusal : FrontRefusal) → (result ≡ Ok (answers.NotAccepted refusal)) ↔
         (front_checked C.image p1 p2 (calendar_root C.image old.now p1) (calendar_root C.image new.now p2) front.now ≡ Err refusal) }
-    ensures equal { (result ≡ Ok compared.Equal) ↔
+    ensures equal { (result ≡ Ok answers.Equal) ↔
         (IsFrontOf C.image old.now new.now p1 p2 front.now × AgreeTo old.now new.now p1) }
-    ensures clash { (clash : Clash) → result ≡ Ok (compared.Clash clash) →
+    ensures clash { (clash : Clash) → result ≡ Ok (answers.Clash clash) →
         IsFrontClash C.image old.now new.now p1 p2 (calendar_root C.image old.now p1) front.now clash }
-    ensures differ { (clash : Clash) → result ≡ Ok (compared.Clash clash) → DifferBy old.now new.now p1 }
+    ensures differ { (clash : Clash) → result ≡ Ok (answers.Clash clash) → DifferBy old.now new.now p1 }
     ensures memory { OnErr result (IsFrontOf C.image old.now new.now p1 p2 front.now × DifferBy old.now new.now p1) }
 {
     answer(alloc, old, new, p1, p2, front)
@@ -53,7 +57,9 @@ fn answer<C: Compress>(
     requires within { p1 ≤ p2 }
     requires old_covered { IsTrue (is_covered old.now p1) }
     requires new_covered { IsTrue (is_covered new.now p2) }
-    ensures answer { IfOk result (IsAnswer C.image old.now new.now p1 p2 front.now) }
+    ensures answer { IfOk result (λ answer. answer ≡ compared C.image old.now new.now p1 p2 front.now) }
+    ensures shown { IfOk result (IsAnswer C.image old.now new.now p1 p2 front.now) }
+    ensures short { IfOk result IsShort }
     ensures memory { OnErr result (IsFrontOf C.image old.now new.now p1 p2 front.now × DifferBy old.now new.now p1) }
 {
     let old = CalendarTo {
@@ -89,6 +95,7 @@ fn first_apart<C: Compress>(old: &CalendarTo<'_, C>, new: &CalendarTo<'_, C>) ->
     requires { old.now.last ≤ new.now.last }
     ensures some { IfSome result (λ t. t ≤ old.now.last) }
     ensures differ { IfSome result (λ t. calendar_leaf old.now.calendar.now t ≢ calendar_leaf new.now.calendar.now t) }
+    ensures first { result ≡ first_apart old.now.calendar.now new.now.calendar.now old.now.last }
     ensures none { IfNone result (AgreeTo old.now.calendar.now new.now.calendar.now old.now.last) }
 {
     let begin = old.calendar.start().min(new.calendar.start());

@@ -1,4 +1,4 @@
--- The lines of what is answered of a signature: why it is not extended, and where an audit finds it.
+-- The lines of what is answered: why a signature is not extended, where an audit finds it, and what a front shows.
 use Rattle.std.specs.Prelude.{ℕ, List, [], ◌∷◌, ◌++◌, codes}
 use Rattle.std.specs.Fmt.{decimal}
 use Rattle.hex.specs.Hex.{encode_lower}
@@ -9,6 +9,10 @@ use Rattle.ksi_extender.specs.declared.refusal.ExtendRefusal.{ExtendRefusal}
 use Rattle.ksi_extender.specs.declared.refusal.ExtendRefusal.TheVariants as refusals
 use Rattle.ksi_auditor.specs.declared.answer.Audit.{Audit}
 use Rattle.ksi_auditor.specs.declared.answer.Audit.TheVariants as answers
+use Rattle.ksi_consistency.specs.declared.refusal.FrontRefusal.{FrontRefusal}
+use Rattle.ksi_consistency.specs.declared.refusal.FrontRefusal.TheVariants as front_refusals
+use Rattle.ksi_consistency.specs.declared.compared.Compared.{Compared}
+use Rattle.ksi_consistency.specs.declared.compared.Compared.TheVariants as compared
 use Rattle.ksi_lines.specs.Lines.{line_text, malformed_line, refused_for, refused_line}
 use Rattle.ksi_lines.specs.FaultWords.{signature_fault}
 
@@ -44,11 +48,32 @@ inside_line second way = line_text (codes "inside" ∷ decimal second ∷ way_te
 abbrev pub clash_line : (one two : List ℕ) → List ℕ
 clash_line one two = line_text (codes "clash" ∷ encode_lower one ∷ encode_lower two ∷ [])
 
+-- a journal's start is after the second
+abbrev pub before_start_line : (second : ℕ) → List ℕ
+before_start_line second = line_text (codes "before" ∷ codes "start" ∷ decimal second ∷ [])
+
+-- the first second that a journal does not keep
+abbrev pub undecided_line : (second : ℕ) → List ℕ
+undecided_line second = line_text (codes "undecided" ∷ decimal second ∷ [])
+
 abbrev pub audit_line : Audit → List ℕ
 audit_line (answers.Inside second way) = inside_line second way
 audit_line (answers.Beneath second item links) = line_text (codes "beneath" ∷ decimal second ∷ decimal item ∷ decimal links ∷ [])
 audit_line (answers.Clash clash) = clash_line clash.one clash.two
 audit_line (answers.NotAccepted refusal) = refused_line refusal
-audit_line (answers.BeforeStart publication) = line_text (codes "before" ∷ codes "start" ∷ decimal publication ∷ [])
-audit_line (answers.Undecided second) = line_text (codes "undecided" ∷ decimal second ∷ [])
+audit_line (answers.BeforeStart publication) = before_start_line publication
+audit_line (answers.Undecided second) = undecided_line second
 audit_line (answers.NotDecided publication given kept) = line_text (codes "not" ∷ codes "decided" ∷ decimal publication ∷ hex_of given ∷ hex_of kept ∷ [])
+
+-- ---- what a front shows of two calendars
+
+abbrev pub not_front_line : FrontRefusal → List ℕ
+not_front_line (front_refusals.Length needed given) = refused_for (codes "F1" ∷ decimal needed ∷ decimal given ∷ [])
+not_front_line (front_refusals.OldDiffers computed given) = refused_for (codes "F2" ∷ hex_of computed ∷ hex_of given ∷ [])
+not_front_line (front_refusals.NewDiffers computed given) = refused_for (codes "F3" ∷ hex_of computed ∷ hex_of given ∷ [])
+
+-- the last second of the older calendar is p1
+abbrev pub compared_line : (p1 : ℕ) → Compared → List ℕ
+compared_line p1 (compared.NotAccepted refusal) = not_front_line refusal
+compared_line p1 compared.Equal = line_text (codes "equal" ∷ decimal p1 ∷ [])
+compared_line p1 (compared.Clash clash) = clash_line clash.one clash.two

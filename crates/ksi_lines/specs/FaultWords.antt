@@ -7,6 +7,8 @@ use Rattle.ksi_publications.specs.declared.fault.PublicationsFault.{Publications
 use Rattle.ksi_publications.specs.declared.fault.PublicationsFault.TheVariants as publications
 use Rattle.ksi_journal.specs.declared.fault.JournalFault.{JournalFault}
 use Rattle.ksi_journal.specs.declared.fault.JournalFault.TheVariants as journals
+use Rattle.ksi_consistency.specs.declared.fault.FrontFault.{FrontFault}
+use Rattle.ksi_consistency.specs.declared.fault.FrontFault.TheVariants as fronts
 use Rattle.ksi_schedule.specs.declared.fault.LineFault.{LineFault}
 use Rattle.ksi_schedule.specs.declared.fault.LineFault.TheVariants as lines
 use Rattle.ksi_schedule.specs.declared.fault.ScheduleFault.{ScheduleFault}
@@ -52,6 +54,13 @@ journal_fault (journals.Count second) = codes "J7" ∷ decimal second ∷ []
 journal_fault (journals.Ends place) = codes "J8" ∷ decimal place ∷ []
 journal_fault (journals.Name place) = codes "J9" ∷ decimal place ∷ []
 journal_fault (journals.Voters place) = codes "J10" ∷ decimal place ∷ []
+
+abbrev pub front_fault : FrontFault → List (List ℕ)
+front_fault fronts.Magic = codes "C1" ∷ []
+front_fault (fronts.Tlv place) = codes "C2" ∷ decimal place ∷ []
+front_fault (fronts.Order place) = codes "C3" ∷ decimal place ∷ []
+front_fault (fronts.Imprint place) = codes "C4" ∷ decimal place ∷ []
+front_fault (fronts.Number place) = codes "C5" ∷ decimal place ∷ []
 
 -- of a schedule the value is the line, from 1
 abbrev pub line_code : LineFault → List ℕ

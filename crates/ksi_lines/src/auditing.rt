@@ -2,7 +2,7 @@
 ghost use Rattle.std.specs.Prelude.{◌≡◌, ◌≤◌, ◌+◌, ◌++◌, IfOk, length};
 ghost use Rattle.arrayvec.specs.ArrayString.{array_string_len};
 ghost use Rattle.ksi_auditor.specs.Shown.{IsShort};
-ghost use Rattle.ksi_lines.specs.Answers.{audit_line, inside_line, clash_line, letter, letters, way_text};
+ghost use Rattle.ksi_lines.specs.Answers.{audit_line, before_start_line, undecided_line, inside_line, clash_line, letter, letters, way_text};
 
 use crate::line::Line;
 use crate::printing::Word::{Digest, Number, Text};
@@ -30,15 +30,27 @@ pub fn audit_line(alloc: Global, audit: &Audit) -> Result<Line, NoMemory>
         }
         Audit::Clash(clash) => clash_line(alloc, clash.one.as_slice(), clash.two.as_slice()),
         Audit::NotAccepted(refusal) => Ok(refusal_line(refusal)),
-        Audit::BeforeStart(publication) => {
-            Ok(print(Text("before"), &[Text("start")], &[Number(*publication)]))
-        }
-        Audit::Undecided(second) => Ok(print(Text("undecided"), &[], &[Number(*second)])),
+        Audit::BeforeStart(publication) => Ok(before_start_line(*publication)),
+        Audit::Undecided(second) => Ok(undecided_line(*second)),
         Audit::NotDecided(publication, given, kept) => {
             let values = [Number(*publication), Digest(given), Digest(kept)];
             Ok(print(Text("not"), &[Text("decided")], &values))
         }
     }
+}
+
+/// A journal's start is after the second.
+pub fn before_start_line(second: u64) -> Line
+    ensures { result ≡ before_start_line second }
+{
+    print(Text("before"), &[Text("start")], &[Number(second)])
+}
+
+/// The first second that a journal does not keep.
+pub fn undecided_line(second: u64) -> Line
+    ensures { result ≡ undecided_line second }
+{
+    print(Text("undecided"), &[], &[Number(second)])
 }
 
 fn inside_line(second: u64, way: &Way) -> Line
@@ -83,7 +95,7 @@ fn letter(side: Side) -> &'static str
 
 /// Two strings in hex, which are so short that a line holds both.
 #[tactic(auto, using(crate::proofs::LineLengths::hex_length))]
-fn clash_line(alloc: Global, one: &[u8], two: &[u8]) -> Result<Line, NoMemory>
+pub(crate) fn clash_line(alloc: Global, one: &[u8], two: &[u8]) -> Result<Line, NoMemory>
     requires one { length one.now ≤ 4130 }
     requires two { length two.now ≤ 4130 }
     ensures { IfOk result (λ line. line ≡ clash_line one.now two.now) }

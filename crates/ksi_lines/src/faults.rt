@@ -1,13 +1,14 @@
 // The line of a file that is not in its grammar: the fault's code and its values.
 ghost use Rattle.std.specs.Prelude.{◌≡◌, ◌≤◌, ◌∷◌, [], map, length};
 ghost use Rattle.std.specs.Fmt.{decimal};
-ghost use Rattle.ksi_lines.specs.FaultWords.{signature_fault, publications_fault, journal_fault, line_code, IsLineOf};
+ghost use Rattle.ksi_lines.specs.FaultWords.{signature_fault, publications_fault, journal_fault, front_fault, line_code, IsLineOf};
 ghost use Rattle.ksi_lines.specs.Lines.{malformed_line};
 ghost use Rattle.ksi_lines.specs.Printed.{word_text, room};
 
 use crate::line::Line;
 use crate::printing::Word::{self, Digest, Number, Text};
 use crate::printing::print;
+use ksi_consistency::FrontFault;
 use ksi_journal::JournalFault;
 use ksi_publications::PublicationsFault;
 use ksi_schedule::{LineFault, ScheduleFault};
@@ -71,6 +72,19 @@ pub fn journal_fault_line(n: usize, fault: &JournalFault) -> Line
         JournalFault::Ends(place) => at_place(n, "J8", *place),
         JournalFault::Name(place) => at_place(n, "J9", *place),
         JournalFault::Voters(place) => at_place(n, "J10", *place),
+    }
+}
+
+/// Of file word `n`, which is a front.
+pub fn front_fault_line(n: usize, fault: FrontFault) -> Line
+    ensures { result ≡ malformed_line n (front_fault fault) }
+{
+    match fault {
+        FrontFault::Magic => malformed(n, "C1", &[]),
+        FrontFault::Tlv(place) => at_place(n, "C2", place),
+        FrontFault::Order(place) => at_place(n, "C3", place),
+        FrontFault::Imprint(place) => at_place(n, "C4", place),
+        FrontFault::Number(place) => at_place(n, "C5", place),
     }
 }
 

@@ -75,6 +75,8 @@ fn says(text: &str, command: &Command<'_>) -> bool {
         Command::Make(_, out) => are(text, "make", out, "", "", ""),
         Command::Drill(_) => are(text, "drill", "", "", "", ""),
         Command::Migrate(old, new) => are(text, "migrate", old, new, "", ""),
+        Command::Front(journal, _, _, out) => are(text, "front", journal, out, "", ""),
+        Command::Compare(old, new, proof) => are(text, "compare", old, new, proof, ""),
     }
 }
 
@@ -85,6 +87,7 @@ fn number_of(command: &Command<'_>) -> u64 {
         Command::Extend(_, _, second, _) => *second,
         Command::Make(number, _) => *number,
         Command::Drill(number) => *number,
+        Command::Front(_, p1, p2, _) => p1.wrapping_sub(*p2),
         _ => 0,
     }
 }
@@ -115,7 +118,7 @@ fn is_told(
 
 #[test]
 fn each_command_is_told(rt: HostRuntime) -> Result<(), Fail> {
-    static ROWS: [(&str, &str, u64); 7] = [
+    static ROWS: [(&str, &str, u64); 8] = [
         ("sign j 18446744073709551615 s", "sign j s", u64::MAX),
         ("sign j 007 s", "sign j s", 7),
         (
@@ -125,12 +128,13 @@ fn each_command_is_told(rt: HostRuntime) -> Result<(), Fail> {
         ),
         ("make 007 f", "make f", 7),
         ("drill 18446744073709551615", "drill", u64::MAX),
+        ("front j 007 5 f", "front j f", 2),
         ("verify s ^ p", "verify s # p", 0),
         ("verify  # ", "verify  # ", 0),
     ];
     // what is asked just as it stands
     const ASKED: &str =
-        "replay f j;publish j p;verify s # p;verify verify # help;verify s-- # p=-;verify 0 # 1;audit j s # p;migrate j k";
+        "replay f j;publish j p;verify s # p;verify verify # help;verify s-- # p=-;verify 0 # 1;audit j s # p;migrate j k;compare j k f";
     for (line, text, number) in &ROWS {
         is_told(&rt, rt.alloc(), line, text, *number)?;
     }
@@ -143,13 +147,14 @@ fn each_command_is_told(rt: HostRuntime) -> Result<(), Fail> {
 const BAD_FIRST: &str = "make f 7;drill 18446744073709551616";
 
 const BAD_SECOND: &str =
-    "sign j 18446744073709551616 s;verify s 12 p;verify s #0 p;verify s  p;verify s e3b0c44298fc1c149afbf4c8996fb92427ae41e4649b934ca495991b7852b85 p;verify s e3b0c44298fc1c149afbf4c8996fb92427ae41e4649b934ca495991b7852b85g p";
+    "sign j 18446744073709551616 s;verify s 12 p;verify s #0 p;verify s  p;front j x 2 f;verify s e3b0c44298fc1c149afbf4c8996fb92427ae41e4649b934ca495991b7852b85 p;verify s e3b0c44298fc1c149afbf4c8996fb92427ae41e4649b934ca495991b7852b85g p";
 
-const BAD_THIRD: &str = "extend j s 9223372036854775808 t;extend j s # t;audit j s 12 p";
+const BAD_THIRD: &str =
+    "extend j s 9223372036854775808 t;extend j s # t;audit j s 12 p;front j 1 9223372036854775808 f";
 
 // Too few or too many words.
 const COUNTS: &str =
-    ";replay f;replay f j 1;sign j 1;publish j;extend j s 1;make 7;drill;drill 7 f;migrate;migrate j;migrate j k l;verify;verify s;verify s 12;verify s #;verify s # p q;verify s # p q r s t;verify s 12 p q;audit j s #;audit j s # p q";
+    ";replay f;replay f j 1;sign j 1;publish j;extend j s 1;make 7;drill;drill 7 f;migrate;migrate j;migrate j k l;verify;verify s;verify s 12;verify s #;verify s # p q;verify s # p q r s t;verify s 12 p q;audit j s #;audit j s # p q;front;front j 1 2;front j 1 2 f g;compare j k;compare j k f g";
 
 // Names of no command.
 const NAMES: &str =

@@ -10,3 +10,4 @@ pub mod Finishing
 pub mod Extending
 pub mod Replayed
 pub mod Migrating
+pub mod Keeping

@@ -1,9 +1,9 @@
 -- What a migration's report means.
-use Rattle.std.proofs.Common.{◌≡◌, ℕ, ◌+◌, ◌≤◌, List, [], length, Option, Some, Result, Ok, Err, refl, sym, ap, ◌∙◌}
-use Rattle.std.specs.Prelude.{IfOk, ◌↔◌, unwrap_or}
+use Rattle.std.proofs.Common.{◌≡◌, ℕ, ◌+◌, ◌≤◌, Bool, true, false, List, [], length, Option, Some, Result, Ok, Err, refl, sym, ap, ◌∙◌}
+use Rattle.std.specs.Prelude.{IfOk, ◌↔◌, nat_lt, unwrap_or}
 use Rattle.std.specs.Str.{bytes_eq}
 use Rattle.std.specs.declared.alloc.AllocError.{AllocError}
-use Rattle.std.proofs.lemmas.Bool.{le-ltb, cond-true}
+use Rattle.std.proofs.lemmas.Bool.{le-ltb, ltb-false, cond-true}
 use Rattle.std.proofs.lemmas.Slice.Eq.{bytes_eq-Decides}
 use Rattle.ksi_imprint.specs.Imprints.{imprint_of}
 use Rattle.ksi_ports.specs.Stored.{Held, with_file}
@@ -11,18 +11,22 @@ use Rattle.ksi_signature.specs.declared.signature.Signature.{Signature}
 use Rattle.ksi_extender.specs.Extended.{extended}
 use Rattle.ksi_extender.specs.Accepted.{first_time}
 use Rattle.ksi_auditor.specs.Audit as audits
+use Rattle.ksi_consistency.specs.Elements as fronts
 use Rattle.ksi_journal.specs.Journal.{Contents}
 use Rattle.ksi_journal.specs.File.{IsJournalFile}
 use Rattle.ksi_journal.specs.Reading.{journal_at}
 use Rattle.ksi_journal.specs.Written.{text_in}
 use Rattle.ksi_journal.specs.declared.version.Version.TheVariants.{Two}
 use Rattle.ksi_top.specs.declared.report.Report.{Report}
-use Rattle.ksi_top.specs.Reports.{Ran, and_then, behind, ends}
-use Rattle.ksi_top.specs.Loading.{content, file_limit, loaded, loaded_journal, loaded_publications, loaded_signature, publications_or_malformed, signature_limit, signature_or_malformed, within}
+use Rattle.ksi_top.specs.declared.status.Status.TheVariants.{TooLong}
+use Rattle.ksi_top.specs.Reports.{Ran, and_then, behind, ends, report}
+use Rattle.ksi_top.specs.Loading.{content, file_limit, front_or_malformed, journal_or_malformed, loaded, loaded_front, loaded_journal, loaded_publications, loaded_signature, publications_or_malformed, signature_limit, signature_or_malformed, too_long_line, within}
 use Rattle.ksi_top.specs.Sign.{signature_of, signed}
 use Rattle.ksi_top.specs.Publish.{published}
 use Rattle.ksi_top.specs.Extend.{extend_over, extended_report}
 use Rattle.ksi_top.specs.Audit.{audit_beside, audit_over, audited}
+use Rattle.ksi_top.specs.Front.{fronted}
+use Rattle.ksi_top.specs.Compare.{compare_beside, compare_over, compared_as}
 use Rattle.ksi_top.specs.Migrate.{GivesTheSame, IsMigrated, migrated}
 
 -- what is held under a name once it is saved there
@@ -59,8 +63,23 @@ beside_audited journal before after signature hash publications same others =
     (λ s. (audit_over journal s hash publications).ran after) (λ s. (audit_over journal s hash publications).ran before)
     (signature_same before after signature same) (λ s. over_audited journal s before after hash publications others)
 
-gives_the_same : (before after : Held) (old new : List ℕ) → loaded_journal 1 after new ≡ loaded_journal 1 before old → GivesTheSame before after old new
-gives_the_same before after old new is = record {
+over_compared : (old new : Contents) (before after : Held) (proof : List ℕ) → content after proof ≡ content before proof → (compare_over old new proof).ran after ≡ (compare_over old new proof).ran before
+unfolding loaded_front loaded
+over_compared old new before after proof same =
+    ap (λ (bytes : List ℕ). behind (and_then (within file_limit 3 bytes) (front_or_malformed 3)) (λ (f : fronts.Contents). ends (compared_as old new f))) same
+
+journal_same : (n : ℕ) (before after : Held) (name : List ℕ) → content after name ≡ content before name → loaded_journal n after name ≡ loaded_journal n before name
+unfolding loaded_journal loaded
+journal_same n before after name same = ap (λ (bytes : List ℕ). and_then (within file_limit n bytes) (journal_or_malformed n)) same
+
+beside_compared : (old : Contents) (before after : Held) (one other proof : List ℕ) → loaded_journal 2 after other ≡ loaded_journal 2 before one → content after proof ≡ content before proof
+    → (compare_beside old other proof).ran after ≡ (compare_beside old one proof).ran before
+beside_compared old before after one other proof same others =
+    behind_same (loaded_journal 2 after other) (loaded_journal 2 before one) (λ j. (compare_over old j proof).ran after) (λ j. (compare_over old j proof).ran before)
+    same (λ j. over_compared old j before after proof others)
+
+gives_the_same : (before after : Held) (old new : List ℕ) → loaded_journal 1 after new ≡ loaded_journal 1 before old → loaded_journal 2 after new ≡ loaded_journal 2 before old → GivesTheSame before after old new
+gives_the_same before after old new is beside = record {
   signs = λ number out. ap (λ (it : Result Contents Report). behind it (λ (j : Contents). ends (signed number out (signature_of number j.issued)))) is;
   publishes = λ out. ap (λ (it : Result Contents Report). behind it (λ (j : Contents). ends (published out j.publications))) is;
   extends = λ signature second out same.
@@ -69,15 +88,31 @@ gives_the_same before after old new is = record {
   audits = λ signature hash publications same others.
       behind_same (loaded_journal 1 after new) (loaded_journal 1 before old) (λ j. (audit_beside j signature hash publications).ran after) (λ j. (audit_beside j signature hash publications).ran before)
       is (λ j. beside_audited j before after signature hash publications same others);
+  fronts = λ p1 p2 out. ap (λ (it : Result Contents Report). behind it (λ (j : Contents). ends (fronted out p1 p2 j))) is;
+  compares = λ other proof same others.
+      behind_same (loaded_journal 1 after new) (loaded_journal 1 before old) (λ j. (compare_beside j other proof).ran after) (λ j. (compare_beside j other proof).ran before)
+      is (λ j. beside_compared j before after other other proof (journal_same 2 before after other same) others);
+  compares_with = λ other proof same others.
+      behind_same (loaded_journal 1 after other) (loaded_journal 1 before other) (λ j. (compare_beside j new proof).ran after) (λ j. (compare_beside j old proof).ran before)
+      (journal_same 1 before after other same) (λ j. beside_compared j before after old new proof beside others);
 }
 
 -- ---- the report
 
 module _ (journals_read : (bytes : List ℕ) (journal : Contents) → (journal_at imprint_of bytes ≡ Ok journal) ↔ IsJournalFile imprint_of bytes journal) where
   -- a journal file within the limit is read as its journal
-  read_as : (held : Held) (name bytes : List ℕ) (journal : Contents) → content held name ≡ bytes → length bytes ≤ file_limit → IsJournalFile imprint_of bytes journal → loaded_journal 1 held name ≡ Ok journal
+  read_as : (n : ℕ) (held : Held) (name bytes : List ℕ) (journal : Contents) → content held name ≡ bytes → length bytes ≤ file_limit → IsJournalFile imprint_of bytes journal → loaded_journal n held name ≡ Ok journal
   unfolding loaded_journal loaded
-  read_as held name bytes journal same few is = rw (same, le-ltb file_limit (length bytes) few, (journals_read bytes journal).1 is) refl
+  read_as n held name bytes journal same few is = rw (same, le-ltb file_limit (length bytes) few, (journals_read bytes journal).1 is) refl
+
+  -- what is read is within the limit
+  few_read : (held : Held) (name : List ℕ) (journal : Contents) → loaded_journal 1 held name ≡ Ok journal → length (content held name) ≤ file_limit
+  unfolding loaded_journal loaded
+  few_read held name journal is = by (nat_lt file_limit (length (content held name))) refl
+    where
+      by : (long : Bool) → nat_lt file_limit (length (content held name)) ≡ long → length (content held name) ≤ file_limit
+      by true e = absurd (let no : Err (report TooLong (too_long_line 1)) ≡ Ok journal = rw e at is in cc no)
+      by false e = ltb-false _ _ e
 
   pub migrate_means : (held : Held) (old new : List ℕ) (journal : Contents) (computed : Result Report AllocError) → loaded_journal 1 held old ≡ Ok journal → IsJournalFile imprint_of (content held old) journal
       → IfOk computed (λ report. report ≡ migrated new journal) → IfOk computed (λ _. IsJournalFile imprint_of (text_in Two journal) journal) → IfOk computed (IsMigrated held old new)
@@ -86,7 +121,9 @@ module _ (journals_read : (bytes : List ℕ) (journal : Contents) → (journal_a
     journal_is = is;
     reported = reported;
     again = again;
-    same = λ few. gives_the_same held (with_file held new (text_in Two journal)) old new
-        (read_as (with_file held new (text_in Two journal)) new (text_in Two journal) journal (saved_here held new (text_in Two journal)) few again ∙ sym loaded);
+    same = λ few.
+        let after = with_file held new (text_in Two journal) in
+        let read : (n : ℕ) → loaded_journal n after new ≡ Ok journal = λ n. read_as n after new (text_in Two journal) journal (saved_here held new (text_in Two journal)) few again in
+        gives_the_same held after old new (read 1 ∙ sym loaded) (read 2 ∙ sym (read_as 2 held old (content held old) journal refl (few_read held old journal loaded) is));
   }
   migrate_means held old new journal (Err none) loaded is reported again = tt

@@ -11,6 +11,9 @@ pub mod Verify
 pub mod Audit
 pub mod Make
 pub mod Drill
+pub mod Kept
+pub mod Front
+pub mod Compare
 pub mod Migrate
 pub mod Run
 pub mod Endings

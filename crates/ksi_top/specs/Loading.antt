@@ -10,13 +10,15 @@ use Rattle.ksi_publications.specs.Reading.{publications_at}
 use Rattle.ksi_imprint.specs.Imprints.{imprint_of}
 use Rattle.ksi_journal.specs.Journal.{Contents}
 use Rattle.ksi_journal.specs.Reading.{journal_at}
+use Rattle.ksi_consistency.specs.Elements as fronts
+use Rattle.ksi_consistency.specs.Reading.{front_at}
 use Rattle.ksi_schedule.specs.Events.{History}
 use Rattle.ksi_schedule.specs.Reading.{schedule_at}
 use Rattle.ksi_top.specs.declared.report.Report.{Report}
 use Rattle.ksi_top.specs.declared.report.Halt.{Halt}
 use Rattle.ksi_top.specs.declared.status.Status.TheVariants.{Malformed, TooLong}
 use Rattle.ksi_top.specs.Reports.{report, and_then}
-use Rattle.ksi_lines.specs.FaultWords.{signature_fault, publications_fault, journal_fault, schedule_fault}
+use Rattle.ksi_lines.specs.FaultWords.{signature_fault, publications_fault, journal_fault, front_fault, schedule_fault}
 use Rattle.ksi_lines.specs.Lines.{line_text, malformed_line}
 
 -- the most bytes that a signature file may have, and those of any other file
@@ -60,6 +62,9 @@ publications_or_malformed n bytes = or_malformed publications_fault n (publicati
 abbrev pub journal_or_malformed : ℕ → List ℕ → Result Contents Report
 journal_or_malformed n bytes = or_malformed journal_fault n (journal_at imprint_of bytes)
 
+abbrev pub front_or_malformed : ℕ → List ℕ → Result fronts.Contents Report
+front_or_malformed n bytes = or_malformed front_fault n (front_at bytes)
+
 abbrev pub schedule_or_malformed : ℕ → List ℕ → Result History Report
 schedule_or_malformed n bytes = or_malformed schedule_fault n (schedule_at bytes)
 
@@ -73,6 +78,9 @@ loaded_publications n held name = and_then (loaded file_limit n held name) (publ
 
 unfoldable pub loaded_journal : ℕ → Held → List ℕ → Result Contents Report
 loaded_journal n held name = and_then (loaded file_limit n held name) (journal_or_malformed n)
+
+unfoldable pub loaded_front : ℕ → Held → List ℕ → Result fronts.Contents Report
+loaded_front n held name = and_then (loaded file_limit n held name) (front_or_malformed n)
 
 unfoldable pub loaded_schedule : ℕ → Held → List ℕ → Result History Report
 loaded_schedule n held name = and_then (loaded file_limit n held name) (schedule_or_malformed n)

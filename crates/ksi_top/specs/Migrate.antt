@@ -15,6 +15,8 @@ use Rattle.ksi_top.specs.Sign.{sign_command}
 use Rattle.ksi_top.specs.Publish.{publish_command}
 use Rattle.ksi_top.specs.Extend.{extend_command}
 use Rattle.ksi_top.specs.Audit.{audit_command}
+use Rattle.ksi_top.specs.Front.{front_command}
+use Rattle.ksi_top.specs.Compare.{compare_command}
 
 abbrev pub migrated_line : ℕ → List ℕ
 migrated_line seconds = line_text (codes "migrated" ∷ decimal seconds ∷ [])
@@ -33,6 +35,12 @@ pub record GivesTheSame (before after : Held) (old new : List ℕ) : Type 0 wher
   pub audits : (signature hash publications : List ℕ) → content after signature ≡ content before signature →
       content after publications ≡ content before publications →
       (audit_command new signature hash publications).ran after ≡ (audit_command old signature hash publications).ran before
+  pub fronts : (p1 p2 : ℕ) (out : List ℕ) → (front_command new p1 p2 out).ran after ≡ (front_command old p1 p2 out).ran before
+  -- as the older journal, and as the newer one
+  pub compares : (other proof : List ℕ) → content after other ≡ content before other → content after proof ≡ content before proof →
+      (compare_command new other proof).ran after ≡ (compare_command old other proof).ran before
+  pub compares_with : (other proof : List ℕ) → content after other ≡ content before other → content after proof ≡ content before proof →
+      (compare_command other new proof).ran after ≡ (compare_command other old proof).ran before
 
 -- What is saved is a journal file of the journal that was loaded. So it is read as the old one, unless it passes the limit.
 pub record IsMigrated (held : Held) (old new : List ℕ) (report : Report) : Type 0 where

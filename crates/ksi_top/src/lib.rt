@@ -12,11 +12,14 @@
 #![tactic(auto)]
 
 mod audit;
+mod compare;
 mod completeness;
 mod drill;
 mod ending;
 mod extend;
+mod front;
 mod histories;
+mod kept;
 mod loading;
 mod make;
 mod migrate;

@@ -1,15 +1,17 @@
 // The file words that a command loads.
 ghost use Rattle.std.specs.Prelude.{◌≡◌, ◌≤◌, IsTrue, IfOk};
 ghost use Rattle.ksi_imprint.specs.Imprints.{imprint_of};
+ghost use Rattle.ksi_consistency.specs.File.{IsFrontFile};
 ghost use Rattle.ksi_journal.specs.File.{IsJournalFile};
 ghost use Rattle.ksi_publications.specs.File.{IsPublications};
 ghost use Rattle.ksi_schedule.specs.Spelled.{IsScheduleText};
-ghost use Rattle.ksi_top.specs.Loading.{content, loaded, loaded_journal, loaded_publications, loaded_schedule, file_limit};
+ghost use Rattle.ksi_top.specs.Loading.{content, loaded, loaded_front, loaded_journal, loaded_publications, loaded_schedule, file_limit};
 ghost use Rattle.ksi_top.specs.Promised.{IsLoaded};
 
-use crate::reading::{read_journal, read_publications, read_schedule};
+use crate::reading::{read_front, read_journal, read_publications, read_schedule};
 use crate::report::{Halt, Report};
 use crate::status::Status;
+use ksi_consistency::Front;
 use ksi_imprint::{Bytes, Sha};
 use ksi_journal::Journal;
 use ksi_lines::Word::{Number, Text};
@@ -51,6 +53,20 @@ pub(crate) fn load_journal<F: Files>(
 {
     let bytes = load_file(alloc, files, FILE_LIMIT, n, name)?;
     read_journal(alloc, n, bytes.as_slice())
+}
+
+/// The front that file word `n` is.
+pub(crate) fn load_front<F: Files>(
+    alloc: Global,
+    files: &mut F,
+    n: usize,
+    name: &str,
+) -> Result<Front, Halt>
+    ensures loaded { IsLoaded F.Files n file_limit (loaded_front n (F.held files.old) name.now) files.old files.new result }
+    ensures is { IsTrue F.tells → IfOk result (IsFrontFile (content (F.held files.old) name.now)) }
+{
+    let bytes = load_file(alloc, files, FILE_LIMIT, n, name)?;
+    read_front(alloc, n, bytes.as_slice())
 }
 
 /// The schedule that file word `n` is.

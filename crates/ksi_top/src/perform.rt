@@ -7,8 +7,10 @@ ghost use Rattle.ksi_top.specs.Run.{refused, row_of};
 ghost use Rattle.ksi_top.specs.Promised.{IsReported};
 
 use crate::audit::audit;
+use crate::compare::compare;
 use crate::drill::drill;
 use crate::extend::extend;
+use crate::front::front;
 use crate::make::make;
 use crate::migrate::migrate;
 use crate::publish::publish;
@@ -70,6 +72,8 @@ fn perform<F: Files>(alloc: Global, files: &mut F, command: &Command<'_>) -> Res
         Command::Make(number, out) => ended(make(alloc, *number, out)),
         Command::Drill(number) => ended(drill(alloc, *number)),
         Command::Migrate(old, new) => migrate(alloc, files, old, new),
+        Command::Front(journal, p1, p2, out) => front(alloc, files, journal, *p1, *p2, out),
+        Command::Compare(old, new, proof) => compare(alloc, files, old, new, proof),
     }
 }
 

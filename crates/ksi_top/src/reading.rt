@@ -1,21 +1,25 @@
 // Files read by their grammars.
 ghost use Rattle.std.specs.Prelude.{◌≡◌, IfOk};
 ghost use Rattle.ksi_imprint.specs.Imprints.{imprint_of};
+ghost use Rattle.ksi_consistency.specs.File.{IsFrontFile};
 ghost use Rattle.ksi_journal.specs.File.{IsJournalFile};
 ghost use Rattle.ksi_publications.specs.File.{IsPublications};
 ghost use Rattle.ksi_schedule.specs.Spelled.{IsScheduleText};
 ghost use Rattle.ksi_signature.specs.File.{IsSignature};
 ghost use Rattle.ksi_signature.specs.Seen.{seen, bytes_seen};
 ghost use Rattle.ksi_top.specs.Reports.{Gives, HaltsMalformed};
-ghost use Rattle.ksi_top.specs.Loading.{seen_or_halt, signature_or_malformed, publications_or_malformed, journal_or_malformed, schedule_or_malformed};
+ghost use Rattle.ksi_top.specs.Loading.{seen_or_halt, signature_or_malformed, publications_or_malformed, journal_or_malformed, front_or_malformed, schedule_or_malformed};
 
 use crate::report::{Halt, Report};
 use crate::status::Status;
+use ksi_consistency::Front;
+use ksi_consistency::laws::front_is_read;
 use ksi_imprint::{Refused, Sha};
 use ksi_journal::Journal;
 use ksi_journal::laws::journal_is_read;
 use ksi_lines::{
-    journal_fault_line, publications_fault_line, schedule_fault_line, signature_fault_line,
+    front_fault_line, journal_fault_line, publications_fault_line, schedule_fault_line,
+    signature_fault_line,
 };
 use ksi_publications::{Publications, publications_are_read};
 use ksi_schedule::{Schedule, schedule_is_read};
@@ -67,6 +71,23 @@ pub(crate) fn read_journal(alloc: Global, n: usize, bytes: &[u8]) -> Result<Jour
         Ok(journal) => Ok(journal),
         Err(Refused::Fault(fault)) => {
             let line = journal_fault_line(n, &fault);
+            Err(Halt::Reported(Report::new(Status::Malformed, line)))
+        }
+        Err(Refused::NoMemory) => Err(Halt::NoMemory),
+    }
+}
+
+/// The front that file word `n` is, or that it is none.
+pub(crate) fn read_front(alloc: Global, n: usize, bytes: &[u8]) -> Result<Front, Halt>
+    ensures told { Gives (front_or_malformed n bytes.now) result }
+    ensures is { IfOk result (IsFrontFile bytes.now) }
+    ensures halts { HaltsMalformed result }
+{
+    front_is_read();
+    match ksi_consistency::read_front(alloc, bytes) {
+        Ok(front) => Ok(front),
+        Err(Refused::Fault(fault)) => {
+            let line = front_fault_line(n, fault);
             Err(Halt::Reported(Report::new(Status::Malformed, line)))
         }
         Err(Refused::NoMemory) => Err(Halt::NoMemory),

@@ -6,6 +6,8 @@
 #[cfg(test)]
 mod failing_calls;
 #[cfg(test)]
+mod fronts;
+#[cfg(test)]
 mod generated;
 #[cfg(test)]
 mod hostile_bytes;

@@ -7,7 +7,7 @@ use Rattle.ksi_imprint.specs.declared.refused.Refused.{Refused}
 use Rattle.ksi_imprint.specs.declared.refused.Refused.TheVariants.{Fault, NoMemory}
 use Rattle.ksi_words.specs.Sorts.{Sort, file_word, hash_word, number_word, time_word, Of, value_of}
 use Rattle.ksi_words.specs.declared.asked.Command.{Command}
-use Rattle.ksi_words.specs.declared.asked.Command.TheVariants.{Replay, Sign, Publish, Extend, Verify, Audit, Make, Drill, Migrate}
+use Rattle.ksi_words.specs.declared.asked.Command.TheVariants.{Replay, Sign, Publish, Extend, Verify, Audit, Make, Drill, Migrate, Front, Compare}
 use Rattle.ksi_words.specs.declared.asked.WordsRefusal.{WordsRefusal}
 use Rattle.ksi_words.specs.declared.asked.WordsRefusal.TheVariants.{Words, BadWord}
 
@@ -22,6 +22,8 @@ pub data Asked : Type 0 where
   make : ℕ → List ℕ → Asked
   drill : ℕ → Asked
   migrate : List ℕ → List ℕ → Asked
+  front : List ℕ → ℕ → ℕ → List ℕ → Asked
+  compare : List ℕ → List ℕ → List ℕ → Asked
 
 -- what asks for a command, given what the words of these sorts stand for
 abbrev pub From : List Sort → Type 0
@@ -61,8 +63,14 @@ drill_row = record { name = codes "drill"; sorts = number_word ∷ []; asks = dr
 abbrev pub migrate_row : CommandForm
 migrate_row = record { name = codes "migrate"; sorts = file_word ∷ file_word ∷ []; asks = migrate }
 
+abbrev pub front_row : CommandForm
+front_row = record { name = codes "front"; sorts = file_word ∷ time_word ∷ time_word ∷ file_word ∷ []; asks = front }
+
+abbrev pub compare_row : CommandForm
+compare_row = record { name = codes "compare"; sorts = file_word ∷ file_word ∷ file_word ∷ []; asks = compare }
+
 abbrev pub table : List CommandForm
-table = replay_row ∷ sign_row ∷ publish_row ∷ extend_row ∷ verify_row ∷ audit_row ∷ make_row ∷ drill_row ∷ migrate_row ∷ []
+table = replay_row ∷ sign_row ∷ publish_row ∷ extend_row ∷ verify_row ∷ audit_row ∷ make_row ∷ drill_row ∷ migrate_row ∷ front_row ∷ compare_row ∷ []
 
 abbrev pub texts : List (String Global) → List (List ℕ)
 texts words = map string_bytes words
@@ -116,10 +124,13 @@ asked (Audit journal signature hash publications) = audit journal.now signature.
 asked (Make number out) = make number out.now
 asked (Drill number) = drill number
 asked (Migrate old new) = migrate old.now new.now
+asked (Front journal p1 p2 out) = front journal.now p1 p2 out.now
+asked (Compare old new proof) = compare old.now new.now proof.now
 
--- the second of a command, where it has one, is below 2^63
+-- the seconds of a command, where it has some, are below 2^63
 abbrev pub IsEarly : Command → Type 0
 IsEarly (Extend journal signature second out) = second < 2 ^ 63
+IsEarly (Front journal p1 p2 out) = (p1 < 2 ^ 63) × (p2 < 2 ^ 63)
 IsEarly _ = Unit {0}
 
 -- the words were read as they are

@@ -21,6 +21,11 @@ pub enum Command<'a> {
     Drill(u64),
     /// The journal's file, the file of the same journal to write.
     Migrate(&'a str, &'a str),
+    /// The journal's file, the last seconds of the older and of the newer calendar, both below 2^63, the front's file to
+    /// write.
+    Front(&'a str, u64, u64, &'a str),
+    /// The older journal's file, the newer one's file, the front's file.
+    Compare(&'a str, &'a str, &'a str),
 }
 
 /// Why words are no command.

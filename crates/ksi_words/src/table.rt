@@ -2,7 +2,7 @@
 ghost use Rattle.std.specs.Prelude.{◌≡◌, ◌<◌, ◌^◌, ℕ, IfOk, map};
 ghost use Rattle.ksi_schedule.specs.Decimal.{number_of};
 ghost use Rattle.ksi_words.specs.Sorts.{hash_of, time_of};
-ghost use Rattle.ksi_words.specs.Words.{Asks, asked_by, command_named, table, replay_row, sign_row, publish_row, extend_row, verify_row, audit_row, make_row, drill_row, migrate_row, word_at, IsEarly};
+ghost use Rattle.ksi_words.specs.Words.{Asks, asked_by, command_named, table, replay_row, sign_row, publish_row, extend_row, verify_row, audit_row, make_row, drill_row, migrate_row, front_row, compare_row, word_at, IsEarly};
 
 use crate::values::{hash, number, time};
 use crate::{Command, WordsRefusal};
@@ -15,7 +15,7 @@ pub(crate) struct CommandForm {
     pub(crate) words: usize,
 }
 
-pub(crate) static TABLE: [CommandForm; 9] = [
+pub(crate) static TABLE: [CommandForm; 11] = [
     CommandForm {
         name: "replay",
         words: 2,
@@ -52,6 +52,14 @@ pub(crate) static TABLE: [CommandForm; 9] = [
         name: "migrate",
         words: 2,
     },
+    CommandForm {
+        name: "front",
+        words: 4,
+    },
+    CommandForm {
+        name: "compare",
+        words: 3,
+    },
 ];
 
 /// The command of a name and the words after it.
@@ -69,6 +77,8 @@ pub(crate) fn asked<'a>(name: &str, words: &[&'a str]) -> Result<Command<'a>, Wo
         "make" => make(words),
         "drill" => drill(words),
         "migrate" => migrate(words),
+        "front" => front(words),
+        "compare" => compare(words),
         _ => Err(WordsRefusal::Words),
     }
 }
@@ -161,6 +171,26 @@ fn migrate<'a>(words: &[&'a str]) -> Result<Command<'a>, WordsRefusal>
         return Err(WordsRefusal::Words);
     };
     Ok(Command::Migrate(old, new))
+}
+
+fn front<'a>(words: &[&'a str]) -> Result<Command<'a>, WordsRefusal>
+    ensures reads { Asks (asked_by front_row (map (λ word. word.now) words.now)) result }
+    ensures early { IfOk result IsEarly }
+{
+    let [journal, p1, p2, out] = words else {
+        return Err(WordsRefusal::Words);
+    };
+    Ok(Command::Front(journal, time_at(2, p1)?, time_at(3, p2)?, out))
+}
+
+fn compare<'a>(words: &[&'a str]) -> Result<Command<'a>, WordsRefusal>
+    ensures reads { Asks (asked_by compare_row (map (λ word. word.now) words.now)) result }
+    ensures early { IfOk result IsEarly }
+{
+    let [old, new, proof] = words else {
+        return Err(WordsRefusal::Words);
+    };
+    Ok(Command::Compare(old, new, proof))
 }
 
 // The hash that word n is.

@@ -2,6 +2,10 @@ use Rattle.std.proofs.Common.{◌≡◌, ◌+◌, ◌-◌, ℕ, ◌<◌, ap, sym
 use Rattle.ksi_split.specs.Powers.{split_of}
 use Rattle.ksi_calendar.specs.Calendar.{calendar_tree}
 use Rattle.ksi_consistency.specs.declared.halves.Halves.{Halves}
+use Rattle.ksi_consistency.specs.Compared.{halves_text, IsNodeClash}
+use Rattle.ksi_consistency.specs.Answering.{clash_to, part_text}
+use Rattle.ksi_consistency.proofs.Finding.{Ways, apart, at_top, passed, same_clash, text_of, to_left, to_right}
+use Rattle.ksi_consistency.proofs.Meeting.{all_three}
 use Rattle.ksi_consistency.proofs.Parts.{left_part, right_part}
 use Rattle.ksi_consistency.proofs.clashing.+clash_below.Goals as goal
 
@@ -55,3 +59,63 @@ clash_below-requires-else-two-first g t c κs within =
         ),
       ),
     )
+
+-- ---- which clash it is
+
+pub returns-then-not-is_same-clause-which : goal.returns-then-not-is_same-clause-which
+returns-then-not-is_same-clause-which g t c =
+    let image = g.C.Compress.image in
+    let olds = c.args.two.now.old.calendar.now in
+    let news = c.args.two.now.new.calendar.now in
+    let first = c.args.first in
+    let n = c.args.last + 1 in
+    let h = c.high_bit-half.ensures in
+    let ways : Ways = record { left = c.one_way.ensures.left; right = c.one_way.ensures.right } in
+    let top = at_top image olds news ways c.args.two.now.second first n (omega (arith, h.most, h.greatest)) in
+    all_three c.clash_of.result (IsNodeClash image) (λ clash. clash.one ≡ halves_text c.halves-old.result) (λ clash. clash.two ≡ halves_text c.halves-new.result)
+    (λ clash. clash ≡ clash_to image olds news c.args.two.now.second first n)
+    c.clash_of.ensures.clash c.clash_of.ensures.one c.clash_of.ensures.two
+    (λ clash nodes one two. apart (part_text image olds first n) (part_text image news first n) top.0 clash
+    (one ∙ text_of image olds first n c.halves-old.result c.halves-old.ensures.left c.halves-old.ensures.right)
+    (two ∙ text_of image news first n c.halves-new.result c.halves-new.ensures.left c.halves-new.ensures.right) nodes.strings.differ ∙ sym top.1)
+
+pub returns-then-two-first-clause-which : goal.returns-then-two-first-clause-which
+returns-then-two-first-clause-which g t c =
+    let image = g.C.Compress.image in
+    let olds = c.args.two.now.old.calendar.now in
+    let news = c.args.two.now.new.calendar.now in
+    let second = c.args.two.now.second in
+    let first = c.args.first in
+    let n = c.args.last + 1 in
+    let h = c.high_bit-half.ensures in
+    let ways : Ways = record { left = c.one_way.ensures.left; right = c.one_way.ensures.right } in
+    let size : c.high_bit-half.result - 1 + 1 ≡ split_of n = omega (arith, h.value, h.most, h.greatest) in
+    let same : c.halves-old.result ≡ c.halves-new.result = c.is_same.ensures.0 c.if-not-is_same.false in
+    let texts : part_text image olds first n ≡ part_text image news first n
+    = sym (text_of image olds first n c.halves-old.result c.halves-old.ensures.left c.halves-old.ensures.right) ∙ ap halves_text same ∙ text_of image news first n c.halves-new.result c.halves-new.ensures.left c.halves-new.ensures.right in
+    same_clash c.clash_below.result (clash_to image olds news second first (c.high_bit-half.result - 1 + 1)) (clash_to image olds news second first n) c.clash_below.ensures.which
+    (ap (clash_to image olds news second first) size
+    ∙ sym (passed (part_text image olds first n) (part_text image news first n) (clash_to image olds news second first (split_of n)) texts)
+    ∙ sym (to_left image olds news ways second first n (omega (arith, h.most, h.greatest)) (omega (arith, c.if-two-first.true, h.value))))
+
+pub returns-else-two-first-clause-which : goal.returns-else-two-first-clause-which
+returns-else-two-first-clause-which g t c =
+    let image = g.C.Compress.image in
+    let olds = c.args.two.now.old.calendar.now in
+    let news = c.args.two.now.new.calendar.now in
+    let second = c.args.two.now.second in
+    let first = c.args.first in
+    let last = c.args.last in
+    let n = last + 1 in
+    let half = c.high_bit-half.result in
+    let h = c.high_bit-half.ensures in
+    let ways : Ways = record { left = c.one_way.ensures.left; right = c.one_way.ensures.right } in
+    let at : first + half ≡ first + split_of n = ap (λ (x : ℕ). first + x) h.value in
+    let rest : last - half + 1 ≡ n - split_of n = omega (arith, h.value, h.most) in
+    let same : c.halves-old.result ≡ c.halves-new.result = c.is_same.ensures.0 c.if-not-is_same.false in
+    let texts : part_text image olds first n ≡ part_text image news first n
+    = sym (text_of image olds first n c.halves-old.result c.halves-old.ensures.left c.halves-old.ensures.right) ∙ ap halves_text same ∙ text_of image news first n c.halves-new.result c.halves-new.ensures.left c.halves-new.ensures.right in
+    same_clash c.clash_below-else-two-first.result (clash_to image olds news second (first + half) (last - half + 1)) (clash_to image olds news second first n) c.clash_below-else-two-first.ensures.which
+    (ap (λ (x : ℕ). clash_to image olds news second x (last - half + 1)) at ∙ ap (clash_to image olds news second (first + split_of n)) rest
+    ∙ sym (passed (part_text image olds first n) (part_text image news first n) (clash_to image olds news second (first + split_of n) (n - split_of n)) texts)
+    ∙ sym (to_right image olds news ways second first n (omega (arith, h.most, h.greatest)) (omega (arith, c.if-two-first.false, h.value))))
