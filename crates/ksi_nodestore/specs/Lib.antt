@@ -1,1 +1,4 @@
 pub mod Headers
+pub mod Texts
+pub mod TextReading
+pub mod Writing

@@ -1,10 +1,16 @@
-//! The facts of a core on a disk: so far the header of its file, and an empty one.
+//! The facts of a core on a disk: so far the header of its file, an empty one, and how a fact is spelled as a record.
 #![tactic(auto)]
 
+mod entry_reading;
+mod fact_reading;
 mod formatting;
 mod heads;
+pub mod laws;
+mod numbers;
 mod reading;
+mod writing;
 
+pub use fact_reading::read_fact;
 pub use formatting::format;
 pub use heads::{HEADER, Header, HeaderFault};
 pub use reading::header;
