@@ -3,14 +3,22 @@
 
 mod entry_reading;
 mod fact_reading;
+mod folding;
 mod formatting;
+mod found;
+mod heading;
 mod heads;
 pub mod laws;
 mod numbers;
+mod opening;
 mod reading;
+mod refusal;
+mod store;
 mod writing;
 
 pub use fact_reading::read_fact;
 pub use formatting::format;
 pub use heads::{HEADER, Header, HeaderFault};
 pub use reading::header;
+pub use refusal::OpenRefusal;
+pub use store::NodeStore;
