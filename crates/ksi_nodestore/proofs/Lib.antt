@@ -1,3 +1,6 @@
 pub mod Spelled
 pub mod Sound
 pub mod Onward
+pub mod Sizes
+pub mod Rows
+pub mod Acknowledged

@@ -1,5 +1,5 @@
 -- A core goes on with the facts of records.
-use Rattle.std.proofs.Common.{◌≡◌, ℕ, suc, ◌+◌, ◌≤◌, ◌<◌, List, [], ◌∷◌, ◌++◌, length, take, drop, get_or, true, refl, sym, subst, ◌∙◌, ap, arith, append_assoc, length-append}
+use Rattle.std.proofs.Common.{◌≡◌, ◌⊎◌, inl, inr, ℕ, suc, ◌+◌, ◌≤◌, ◌<◌, List, [], ◌∷◌, ◌++◌, length, take, drop, get_or, true, Result, Ok, Err, OnOk, refl, sym, subst, ◌∙◌, ap, arith, append_assoc, length-append}
 use Rattle.std.proofs.lemmas.List.{take_more, take_all, take-append-drop, drop_more}
 use Rattle.ksi_synod.specs.CorePlans.{CorePlanState}
 use Rattle.ksi_corenode.specs.declared.fact.Fact.{Fact}
@@ -7,9 +7,12 @@ use Rattle.ksi_corenode.specs.Facts.{StableState, stable_state}
 use Rattle.ksi_corenode.specs.CoreState.{CoreState, state_of}
 use Rattle.ksi_corenode.specs.Lawful.{AreLawful, IsLawful, stored_by}
 use Rattle.ksi_corenode.specs.Restored.{IsOfFacts}
-use Rattle.ksi_gates.specs.Gates.{record_text, records_text}
+use Rattle.ksi_gates.specs.Gates.{record_text, records_text, reading_of}
+use Rattle.ksi_gates.specs.Logs.{OpensTo, IsBeforeOrAfter}
+use Rattle.ksi_nodestore.specs.Headers.{header_at}
 use Rattle.ksi_nodestore.specs.Texts.{IsTextOf}
-use Rattle.ksi_nodestore.specs.Stores.{AreTexts, AreFactsOf, IsCoreOf, IsFault, GoesOn}
+use Rattle.ksi_nodestore.proofs.Spelled.{one_fact}
+use Rattle.ksi_nodestore.specs.Stores.{AreTexts, AreFactsOf, IsCoreOf, IsFault, IsFileOf, GoesOn}
 
 pub texts_more : (facts : List Fact) (records : List (List ℕ)) (fact : Fact) (content : List ℕ) → AreTexts facts records → IsTextOf fact content → AreTexts (facts ++ fact ∷ []) (records ++ content ∷ [])
 texts_more [] [] fact content are is = (is, tt)
@@ -76,3 +79,49 @@ fault_here start facts records k place content within is here are none = record 
   here = here;
   none = none;
 }
+
+-- IMAGES OF A FILE
+
+pub file_before : (me : ℕ) (plan : CorePlanState) (facts : List Fact) (file image : List ℕ) → IsFileOf me plan facts file → OpensTo 18 (take 18 file) (reading_of 18 file).records image → IsFileOf me plan facts image
+file_before me plan facts file image is opens = record {
+  gate = opens.gate;
+  head = ap header_at opens.head ∙ is.head;
+  are = subst (λ (rs : List (List ℕ)). AreFactsOf plan.start facts rs) (sym opens.kept) is.are;
+  closed = opens.closed;
+}
+
+pub file_after : (me : ℕ) (plan : CorePlanState) (facts : List Fact) (fact : Fact) (content file image : List ℕ) → IsTextOf fact content → AreLawful plan.start (facts ++ fact ∷ []) → IsFileOf me plan facts file
+    → OpensTo 18 (take 18 file) ((reading_of 18 file).records ++ content ∷ []) image → IsFileOf me plan (facts ++ fact ∷ []) image
+file_after me plan facts fact content file image text lawful is opens = record {
+  gate = opens.gate;
+  head = ap header_at opens.head ∙ is.head;
+  are = record {
+    texts = subst (λ (rs : List (List ℕ)). AreTexts (facts ++ fact ∷ []) rs) (sym opens.kept) (texts_more facts (reading_of 18 file).records fact content is.are.texts text);
+    lawful = lawful;
+  };
+  closed = opens.closed;
+}
+
+pub file_either : (me : ℕ) (plan : CorePlanState) (facts : List Fact) (fact : Fact) (content file : List ℕ) → IsTextOf fact content → AreLawful plan.start (facts ++ fact ∷ []) → IsFileOf me plan facts file
+    → (image : List ℕ) → IsBeforeOrAfter 18 file content image → IsFileOf me plan facts image ⊎ IsFileOf me plan (facts ++ fact ∷ []) image
+file_either me plan facts fact content file text lawful is image (inl before) = inl (file_before me plan facts file image is before)
+file_either me plan facts fact content file text lawful is image (inr after) = inr (file_after me plan facts fact content file image text lawful is after)
+
+pub on_ok : {T E P Q : Type 0} → (r : Result T E) → OnOk r P → (P → Q) → OnOk r Q
+on_ok (Ok value) is more = more is
+on_ok (Err refusal) is more = tt
+
+-- ONE LIST OF FACTS
+
+same_facts : (facts others : List Fact) (records : List (List ℕ)) → AreTexts facts records → AreTexts others records → facts ≡ others
+same_facts [] [] [] one other = refl
+same_facts [] (o ∷ os) [] one other = absurd other
+same_facts (f ∷ fs) [] [] one other = absurd one
+same_facts (f ∷ fs) (o ∷ os) [] one other = absurd one
+same_facts [] [] (c ∷ cs) one other = absurd one
+same_facts [] (o ∷ os) (c ∷ cs) one other = absurd one
+same_facts (f ∷ fs) [] (c ∷ cs) one other = absurd other
+same_facts (f ∷ fs) (o ∷ os) (c ∷ cs) one other = let first = one_fact f o c one.0 other.0 in let rest = same_facts fs os cs one.1 other.1 in λ i. first i ∷ rest i
+
+pub one_file : (me : ℕ) (plan : CorePlanState) (facts others : List Fact) (file : List ℕ) → IsFileOf me plan facts file → IsFileOf me plan others file → facts ≡ others
+one_file me plan facts others file one other = same_facts facts others (reading_of 18 file).records one.are.texts other.are.texts

@@ -5,3 +5,4 @@ pub mod Writing
 pub mod Stores
 pub mod Refusals
 pub mod Opens
+pub mod Takes

@@ -99,3 +99,9 @@ HasNotFailed (Err (NotFormatted, disk)) = Unit {0}
 HasNotFailed (Err (Foreign core cores start, disk)) = Unit {0}
 HasNotFailed (Err (Malformed place, disk)) = Unit {0}
 HasNotFailed (Err (NoMemory, disk)) = Unit {0}
+
+-- the log of a file of these facts, which are on the disk for good
+pub record IsLogOf {D : Type 0} (content : D → List ℕ) (images : D → List ℕ → Type 0) (me : ℕ) (plan : CorePlanState) (facts : List Fact) (log : GateLog D) : Type 0 where
+  pub settled : IsSettled content images log
+  pub from : log.from ≡ 18
+  pub file : IsFileOf me plan facts (content log.disk)

@@ -131,7 +131,12 @@ impl<C: Compress, D: Disk> NodeStore<C, D> {
                     records,
                 } = found;
                 let log = GateLog::new(disk, HEADER as u64, gate);
-                Ok(NodeStore { core, log, records })
+                Ok(NodeStore {
+                    alloc,
+                    core,
+                    log,
+                    records,
+                })
             }
             Err(refusal) => Err((refusal, disk)),
         }

@@ -17,6 +17,39 @@ pub enum OpenRefusal {
     NoMemory,
 }
 
+/// Why a store did not take an event.
+#[derive(Clone, Copy, Debug, PartialEq, Eq)]
+pub enum TakeRefusal {
+    /// The disk failed, and its count of faults rose. The store is spent.
+    Failed,
+    /// The disk failed at an earlier event: its file is to be opened again.
+    Spent,
+    /// Memory was wanting.
+    NoMemory,
+}
+
+impl From<NoMemory> for TakeRefusal {
+    ghost use Rattle.std.specs.Prelude.{◌≡◌};
+    ghost use Rattle.ksi_nodestore.specs.declared.refusal.TakeRefusal.TheVariants.{NoMemory};
+
+    ghost from_gives = { λ _ refusal. refusal ≡ NoMemory };
+
+    fn from(_: NoMemory) -> Self {
+        TakeRefusal::NoMemory
+    }
+}
+
+impl From<DiskFailed> for TakeRefusal {
+    ghost use Rattle.std.specs.Prelude.{◌≡◌};
+    ghost use Rattle.ksi_nodestore.specs.declared.refusal.TakeRefusal.TheVariants.{Failed};
+
+    ghost from_gives = { λ _ refusal. refusal ≡ Failed };
+
+    fn from(_: DiskFailed) -> Self {
+        TakeRefusal::Failed
+    }
+}
+
 impl From<NoMemory> for OpenRefusal {
     ghost use Rattle.std.specs.Prelude.{◌≡◌};
     ghost use Rattle.ksi_nodestore.specs.declared.refusal.OpenRefusal.TheVariants.{NoMemory};
