@@ -4,3 +4,4 @@ pub mod Onward
 pub mod Sizes
 pub mod Rows
 pub mod Acknowledged
+pub mod Formatted
