@@ -30,7 +30,7 @@ fn opened(alloc: Global, file: &[u8], start: u64) -> Result<Result<Counts, OpenR
     Ok(
         match NodeStore::<Sha, MemDisk>::open(alloc, 0, &plan, disk) {
             Ok(store) => Ok(store.counts()),
-            Err((refusal, _)) => Err(refusal),
+            Err((refusal, _disk)) => Err(refusal),
         },
     )
 }
