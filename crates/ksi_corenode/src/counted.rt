@@ -1,5 +1,5 @@
 //! How many seconds a core sealed and holds.
-ghost use Rattle.std.specs.Prelude.{◌≡◌, ℕ, ◌≤◌, ◌<◌, ◌+◌, ◌^◌, false, is_some, if◌then◌else◌};
+ghost use Rattle.std.specs.Prelude.{◌≡◌, ℕ, ◌≤◌, ◌<◌, ◌+◌, ◌^◌, false, is_some, if◌then◌else◌, length};
 ghost use Rattle.ksi_corenode.specs.Counted.{count_below};
 ghost use Rattle.ksi_corenode.specs.Next.{held_or_sealed};
 ghost use Rattle.ksi_corenode.specs.CoreState.{state_of, held_by};
@@ -30,6 +30,13 @@ impl<C: Compress> Core<C> {
             second = self.next_before(second + 1);
         }
         counts
+    }
+
+    /// How many items of a second are open: sealing it now would store so many.
+    pub fn count_open(&self, second: u64) -> usize
+        ensures { result ≡ length (state_of self.now second).open_items }
+    {
+        self.seconds().count_open(second)
     }
 
     /// The first second from this one on that something is held or sealed for, 2^63 where there is none below.

@@ -19,7 +19,7 @@ use crate::fact::{SealedItems, What};
 use crate::stable::StablePart;
 use crate::stable_parts::StableParts;
 use crate::volatile::VolatilePart;
-use crate::volatile_parts::{forget_items, hand_of, open_items, put_hand, submit};
+use crate::volatile_parts::{count_open, forget_items, hand_of, open_items, put_hand, submit};
 use ksi_aggtree::{Entry, Item};
 use ksi_imprint::{Compress, Imprint, NoMemory};
 use ksi_signature::Answer;
@@ -207,6 +207,14 @@ impl<C: Compress> Seconds<C> {
         ensures { result ≡ stable_at self.now second }
     {
         part_from::<Brand>(&self.stable_parts, second, Blank::new(1))
+    }
+
+    /// How many items of a second are open.
+    #[tactic(auto, unfolding(crate::specs::CoreState::state_of, crate::specs::Stored::second_of))]
+    pub fn count_open(&self, second: u64) -> usize
+        ensures { result ≡ length (state_of self.now second).open_items }
+    {
+        count_open(&self.volatile_parts, second)
     }
 
     /// This core's part in the vote on a second.

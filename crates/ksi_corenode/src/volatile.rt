@@ -1,4 +1,4 @@
-ghost use Rattle.std.specs.Prelude.{◌≡◌, ◌≤◌, ◌++◌, ◌∷◌, [], IsTrue, IfOk, OnErr, unwrap_or, option_map};
+ghost use Rattle.std.specs.Prelude.{◌≡◌, length, ◌≤◌, ◌++◌, ◌∷◌, [], IsTrue, IfOk, OnErr, unwrap_or, option_map};
 ghost use Rattle.ksi_aggtree.specs.Rounds.{IsRound, leaf_level, highest_item};
 ghost use Rattle.ksi_aggtree.specs.Entries.{items_of, candidate_of};
 ghost use Rattle.ksi_corenode.specs.Rows.{taken};
@@ -55,6 +55,16 @@ impl<C: Compress> VolatilePart<C> {
         ensures { result ≡ self.now.hand }
     {
         self.hand
+    }
+
+    /// How many open items there are.
+    pub fn count(&self) -> usize
+        ensures { result ≡ length self.now.open_items }
+    {
+        match &self.tree {
+            Some(tree) => tree.count(),
+            None => 0,
+        }
     }
 
     /// A copy of the open items in order, which make a round.

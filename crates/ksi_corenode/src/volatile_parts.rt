@@ -1,5 +1,5 @@
 //! The volatile parts of those seconds that have a ballot in hand or open items.
-ghost use Rattle.std.specs.Prelude.{◌≡◌, ◌==◌, ℕ, ◌≤◌, ◌++◌, [], if◌then◌else◌, IfOk, OnOk, OnErr, IsSome};
+ghost use Rattle.std.specs.Prelude.{◌≡◌, ◌==◌, ℕ, ◌≤◌, ◌++◌, [], if◌then◌else◌, IfOk, OnOk, OnErr, IsSome, length};
 ghost use Rattle.std.specs.Ordering.{nat_cmp};
 ghost use Rattle.std.specs.BTreeMap.{is_at};
 ghost use Rattle.std.specs.Map.{lookup};
@@ -27,6 +27,20 @@ pub(crate) fn hand_of<C: Compress>(
     match volatile_parts.get(&second) {
         Some(volatile) => volatile.hand(),
         None => None,
+    }
+}
+
+/// How many items of a second are open.
+#[tactic(auto, unfolding(crate::specs::Stored::volatile_at))]
+pub(crate) fn count_open<C: Compress>(
+    volatile_parts: &BTreeMap<u64, VolatilePart<C>>,
+    second: u64,
+) -> usize
+    ensures { result ≡ length (volatile_at volatile_parts.now.entries second).open_items }
+{
+    match volatile_parts.get(&second) {
+        Some(volatile) => volatile.count(),
+        None => 0,
     }
 }
 

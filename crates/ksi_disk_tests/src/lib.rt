@@ -15,3 +15,5 @@ mod headers;
 mod images;
 #[cfg(test)]
 mod logs;
+#[cfg(test)]
+mod node_files;

@@ -3,3 +3,4 @@ pub mod Standing
 pub mod Appended
 pub mod Steps
 pub mod Spelled
+pub mod Endings

@@ -48,6 +48,11 @@ pub record Reading : Type 0 where
 abbrev pub ends : Ending → Reading
 ends ending = record { records = []; ending = ending }
 
+-- the place of the gate behind the records, or where it is missing or its record is cut off
+abbrev pub place_of : Ending → ℕ
+place_of (Closed place) = place
+place_of (Broken place) = place
+
 -- records, and what is read behind them
 abbrev pub behind : List (List ℕ) → Reading → Reading
 behind records reading = record { records = records ++ reading.records; ending = reading.ending }

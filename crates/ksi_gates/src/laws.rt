@@ -1,7 +1,7 @@
 //! What holds of the records of files, for the layers above to cite. These functions do nothing.
 ghost use Rattle.std.specs.Prelude.{◌≡◌, ◌≢◌, ◌<◌, ◌+◌, ◌^◌, ℕ, false, List, ◌∷◌, ◌++◌, length, All};
 ghost use Rattle.ksi_gates.specs.declared.ending.Ending.TheVariants.{Closed, Broken};
-ghost use Rattle.ksi_gates.specs.Gates.{behind, ends, is_whole, reading_of, records_text};
+ghost use Rattle.ksi_gates.specs.Gates.{behind, ends, is_whole, place_of, reading_of, records_text};
 
 /// What is read of records is what was spelled: up to a closed gate, whatever stands behind it; up to the end of the file,
 /// where a gate is missing; or up to an open gate whose record is cut off.
@@ -16,4 +16,10 @@ pub fn records_are_read_again()
 #[tactic(auto, using(crate::proofs::Spelled::closed_within))]
 pub fn closed_gates_are_in_the_file()
     ensures { (from : ℕ) (file : List ℕ) (gate : ℕ) → (reading_of from file).ending ≡ Closed gate → gate < length file }
+{}
+
+/// The records of a file stand one after the other, from its header up to their ending.
+#[tactic(auto, using(crate::proofs::Endings::records_end))]
+pub fn records_stand_one_after_the_other()
+    ensures { (from : ℕ) (file : List ℕ) → from + length (records_text (reading_of from file).records) ≡ place_of (reading_of from file).ending }
 {}

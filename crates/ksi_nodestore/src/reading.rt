@@ -1,8 +1,8 @@
-ghost use Rattle.std.specs.Int.{w64, from_be_bytes};
-ghost use Rattle.std.specs.Prelude.{◌≡◌, ◌≤◌, length, take};
+ghost use Rattle.std.specs.Prelude.{◌≡◌};
 ghost use Rattle.ksi_nodestore.specs.Headers.{good_header, header_at};
 
 use crate::heads::{HEADER, Header, HeaderFault, MAGIC};
+use crate::numbers::number8;
 
 /// The header in front of bytes.
 pub fn header(bytes: &[u8]) -> Result<Header, HeaderFault>
@@ -16,18 +16,7 @@ pub fn header(bytes: &[u8]) -> Result<Header, HeaderFault>
         return Err(HeaderFault::NotFormatted);
     }
     let (_, start) = rest.split_at(2);
-    good(rest[0], rest[1], number(start))
-}
-
-/// The number in the first eight bytes.
-fn number(bytes: &[u8]) -> u64
-    requires { 8 ≤ length bytes.now }
-    ensures { result ≡ from_be_bytes w64 (take 8 bytes.now) }
-{
-    let (front, _) = bytes.split_at(8);
-    let mut number = [0; 8];
-    number.copy_from_slice(front);
-    u64::from_be_bytes(number)
+    good(rest[0], rest[1], number8(start))
 }
 
 /// A header of these numbers, where they are in their bounds.

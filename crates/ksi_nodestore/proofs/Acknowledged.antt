@@ -1,0 +1,56 @@
+-- A store goes on with the fact of an event.
+use Rattle.std.proofs.Common.{◌≡◌, ◌⊎◌, inl, inr, ℕ, ◌+◌, ◌≤◌, ◌<◌, ◌^◌, List, [], ◌∷◌, ◌++◌, length, Bool, option_map, Option, Some, None, IfSome, refl, sym, subst, ◌∙◌, ap, arith, length-append}
+use Rattle.ksi_aggtree.specs.Rounds.{most_items}
+use Rattle.ksi_aggtree.specs.declared.entries.Entry.{Entry}
+use Rattle.ksi_synod.specs.CorePlans.{CorePlanState}
+use Rattle.ksi_corenode.specs.declared.fact.What.{What}
+use Rattle.ksi_corenode.specs.declared.fact.What.TheVariants.{Sealed, Tried, Promised, Cast, Holds}
+use Rattle.ksi_corenode.specs.declared.fact.Fact.{Fact}
+use Rattle.ksi_corenode.specs.declared.event.CoreEvent.{CoreEvent}
+use Rattle.ksi_corenode.specs.Facts.{StableState, stable_state, fact_of}
+use Rattle.ksi_corenode.specs.CoreState.{CoreState, state_of, IsTurn}
+use Rattle.ksi_corenode.specs.Events.{core_row, event_second}
+use Rattle.ksi_corenode.specs.Lawful.{IsLawful, MayStore, stored_by, with_new}
+use Rattle.ksi_corenode.specs.Restored.{HasFacts, IsWell}
+use Rattle.ksi_gates.specs.Drafts.{Draft}
+use Rattle.ksi_corenode.specs.declared.step.Step.{Step}
+use Rattle.ksi_gates.specs.declared.ending.Ending.{Ending}
+use Rattle.ksi_gates.specs.declared.ending.Ending.TheVariants.{Closed}
+use Rattle.ksi_gates.specs.Gates.{place_of, reading_of, record_text, records_text}
+use Rattle.ksi_nodestore.specs.Stores.{AreTexts}
+use Rattle.ksi_nodestore.proofs.Onward.{texts_size}
+use Rattle.ksi_nodestore.specs.Writing.{CanSpell, most_bytes}
+use Rattle.ksi_nodestore.specs.Takes.{HasRecordFor, IsReady, count_new}
+
+lawful_on : (start second : ℕ) (core : CoreState) (facts : List Fact) (row : Option What) → core.start ≡ start → ((t : ℕ) → stable_state (state_of core t) ≡ stored_by facts t)
+    → IfSome row (λ what. IsLawful core.start (stable_state (state_of core second)) (fact_of second what)) → IfSome (option_map (fact_of second) row) (λ fact. IsLawful start (stored_by facts fact.second) fact)
+lawful_on start second core facts None begins stored may = tt
+lawful_on start second core facts (Some what) begins stored may = subst (λ (n : ℕ). IsLawful n (stored_by facts second) (fact_of second what)) begins (subst (λ (s : StableState). IsLawful core.start s (fact_of second what)) (stored second) may)
+
+-- the fact that is added is lawful after those before
+pub lawful_for : (start second : ℕ) (core : CoreState) (facts : List Fact) (row : Option What) (fact : Option Fact) → core.start ≡ start → ((t : ℕ) → stable_state (state_of core t) ≡ stored_by facts t) → fact ≡ option_map (fact_of second) row
+    → IfSome row (λ what. IsLawful core.start (stable_state (state_of core second)) (fact_of second what)) → IfSome fact (λ fact. IsLawful start (stored_by facts fact.second) fact)
+lawful_for start second core facts row fact begins stored is may = subst (λ (f : Option Fact). IfSome f (λ fact. IsLawful start (stored_by facts fact.second) fact)) (sym is) (lawful_on start second core facts row begins stored may)
+
+-- there are no more records than bytes in them
+pub few_records : (records : List (List ℕ)) → length records ≤ length (records_text records)
+few_records [] = omega arith
+few_records (content ∷ contents) = omega (arith, few_records contents, length-append (record_text content) (records_text contents))
+
+-- so there is room to count one more
+pub room_left : (file : List ℕ) (from gate records : ℕ) (facts : List Fact) → records ≡ length facts → AreTexts facts (reading_of 18 file).records → from ≡ 18 → (reading_of from file).ending ≡ Closed gate → gate + 1 < 2 ^ 64
+    → 18 + length (records_text (reading_of 18 file).records) ≡ place_of (reading_of 18 file).ending → records + 1 < 2 ^ 64
+room_left file from gate records facts counted texts from_is standing within stand =
+    let here : (reading_of 18 file).ending ≡ Closed gate = subst (λ (n : ℕ). (reading_of n file).ending ≡ Closed gate) from_is standing in
+    omega (arith, counted, texts_size facts (reading_of 18 file).records texts, few_records (reading_of 18 file).records, stand, ap place_of here, within)
+
+pub counted_on : (records more : ℕ) (facts : List Fact) (fact : Option Fact) → records ≡ length facts → more ≡ count_new fact → records + more ≡ length (with_new facts fact)
+counted_on records more facts None counted is = omega arith
+counted_on records more facts (Some fact) counted is = omega (arith, length-append facts (fact ∷ []))
+
+-- the fact of a step is lawful after those that the core stored
+pub may_go_on : (image : List ℕ → List ℕ) (plan : CorePlanState) (facts : List Fact) (core new : CoreState) (event : CoreEvent) (step : Step) → HasFacts image plan facts core → IsTurn core new (event_second event) (core_row image core event) step
+    → IfSome (core_row image core event).fact (λ what. IsLawful core.start (stable_state (state_of core (event_second event))) (fact_of (event_second event) what))
+    → IfSome step.fact (λ fact. IsLawful plan.start (stored_by facts fact.second) fact)
+may_go_on image plan facts core new event step has turn may =
+    lawful_for plan.start (event_second event) core facts (core_row image core event).fact step.fact has.begins has.stored turn.fact may

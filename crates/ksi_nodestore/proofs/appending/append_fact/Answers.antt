@@ -1,0 +1,33 @@
+use Rattle.std.proofs.Common.{◌≡◌, ◌⊎◌, ◌∙◌, ℕ, List, [], ◌∷◌, ◌++◌, subst}
+use Rattle.ksi_disk.specs.ImageLaws.{leaves_more}
+use Rattle.ksi_gates.specs.Logs.{IsAfter, IsBeforeOrAfter}
+use Rattle.ksi_nodestore.specs.Stores.{IsFileOf}
+use Rattle.ksi_nodestore.proofs.Onward.{file_after, file_either, on_ok}
+use Rattle.ksi_nodestore.proofs.Sizes.{text_few}
+use Rattle.ksi_nodestore.proofs.appending.append_fact.Goals as goal
+
+pub append-requires-clause-size : goal.append-requires-clause-size
+append-requires-clause-size g c = text_few c.args.fact.now c.put_fact.new.record_.content c.put_fact.ensures.text c.requires.lawful
+
+pub returns-clause-kept : goal.returns-clause-kept
+returns-clause-kept g c = λ me plan facts is may.
+    let file = g.D.Disk.content c.args.log.now.disk in
+    let fact = c.args.fact.now in
+    let content = c.put_fact.new.record_.content in
+    let lawful = c.facts_one_by_one.ensures.more plan.start facts fact is.file.are.lawful may in
+    on_ok c.append.result c.append.ensures.acknowledged
+    (λ done. record {
+      settled = done.0;
+      from = c.append.ensures.from ∙ is.from;
+      file = file_after me plan facts fact content file (g.D.Disk.content c.append.new.self.disk) c.put_fact.ensures.text lawful is.file (subst (λ (n : ℕ). IsAfter n file content (g.D.Disk.content c.append.new.self.disk)) is.from done.1);
+    })
+
+pub returns-clause-any_moment : goal.returns-clause-any_moment
+returns-clause-any_moment g c = λ me plan facts is may.
+    let log = c.args.log.now in
+    let file = g.D.Disk.content log.disk in
+    let fact = c.args.fact.now in
+    let content = c.put_fact.new.record_.content in
+    let lawful = c.facts_one_by_one.ensures.more plan.start facts fact is.file.are.lawful may in
+    leaves_more g.D.Disk.moment g.D.Disk.images_since log.disk c.append.new.self.disk (IsBeforeOrAfter log.from file content) (λ image. IsFileOf me plan facts image ⊎ IsFileOf me plan (facts ++ fact ∷ []) image)
+    c.append.ensures.any_moment (λ image either. file_either me plan facts fact content file c.put_fact.ensures.text lawful is.file image (subst (λ (n : ℕ). IsBeforeOrAfter n file content image) is.from either))

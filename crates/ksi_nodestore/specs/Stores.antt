@@ -1,0 +1,64 @@
+-- What a node file says: the facts of a core, or where it is broken. And what opening one answers.
+use Rattle.std.specs.Prelude.{◌≡◌, ◌⊎◌, ℕ, ◌+◌, List, [], ◌∷◌, ◌++◌, length, take, true, false, Bool, Result, Ok, Err}
+use Rattle.ksi_synod.specs.CorePlans.{CorePlanState}
+use Rattle.ksi_corenode.specs.declared.fact.Fact.{Fact}
+use Rattle.ksi_corenode.specs.CoreState.{CoreState}
+use Rattle.ksi_corenode.specs.Lawful.{AreLawful, IsLawful, stored_by}
+use Rattle.ksi_corenode.specs.Restored.{IsOfFacts}
+use Rattle.ksi_gates.specs.declared.ending.Ending.TheVariants as ending
+use Rattle.ksi_gates.specs.Gates.{reading_of, records_text}
+use Rattle.ksi_nodestore.specs.declared.heads.Header.{Header}
+use Rattle.ksi_nodestore.specs.declared.heads.HeaderFault.TheVariants as fault
+use Rattle.ksi_nodestore.specs.Headers.{header_at}
+use Rattle.ksi_nodestore.specs.Texts.{IsTextOf}
+
+-- each record is the spelling of the fact at its place
+abbrev pub AreTexts : List Fact → List (List ℕ) → Type 0
+AreTexts [] [] = Unit {0}
+AreTexts [] (content ∷ contents) = ⊥
+AreTexts (fact ∷ facts) [] = ⊥
+AreTexts (fact ∷ facts) (content ∷ contents) = IsTextOf fact content × AreTexts facts contents
+
+-- the records spell these facts, each of which is lawful after those before it
+pub record AreFactsOf (start : ℕ) (facts : List Fact) (records : List (List ℕ)) : Type 0 where
+  pub texts : AreTexts facts records
+  pub lawful : AreLawful start facts
+
+-- the first 18 bytes are a header of these numbers, which are in their bounds or not
+abbrev pub HasNumbers : List ℕ → (core cores start : ℕ) → Type 0
+HasNumbers file core cores start =
+    (header_at (take 18 file) ≡ Ok (record { core = core; cores = cores; start = start })) ⊎ (header_at (take 18 file) ≡ Err (fault.Bad core cores start))
+
+-- the file of core me of a plan, with these facts in its records, up to a closed gate; what stands behind that does not count
+pub record IsFileOf (me : ℕ) (plan : CorePlanState) (facts : List Fact) (file : List ℕ) : Type 0 where
+  pub gate : ℕ
+  pub head : header_at (take 18 file) ≡ Ok (record { core = me; cores = plan.cores; start = plan.start })
+  pub are : AreFactsOf plan.start facts (reading_of 18 file).records
+  pub closed : (reading_of 18 file).ending ≡ ending.Closed gate
+
+-- a record at this place is no spelling of a fact that is lawful after the facts of the records before it
+pub record IsFault (start : ℕ) (records : List (List ℕ)) (place : ℕ) : Type 0 where
+  pub facts : List Fact
+  pub before : List (List ℕ)
+  pub content : List ℕ
+  pub others : List (List ℕ)
+  pub are : AreFactsOf start facts before
+  pub split : records ≡ before ++ content ∷ others
+  pub here : place ≡ 18 + length (records_text before)
+  pub none : (fact : Fact) → IsTextOf fact content → IsLawful start (stored_by facts fact.second) fact → ⊥
+
+-- a file is broken at this place: a record there is no fact's, or the records, which are facts', do not end at a closed gate
+abbrev pub IsMalformedAt : (start : ℕ) → List ℕ → (place : ℕ) → Type 0
+IsMalformedAt start file place =
+    IsFault start (reading_of 18 file).records place
+    ⊎ ((facts : List Fact) × AreFactsOf start facts (reading_of 18 file).records × ((reading_of 18 file).ending ≡ ending.Broken place))
+
+-- a core of facts goes on with a record: it is the core with the fact too, or the record is no lawful fact's
+abbrev pub GoesOn : (List ℕ → List ℕ) → (me : ℕ) → CorePlanState → List Fact → List ℕ → CoreState → Bool → Type 0
+GoesOn image me plan facts content core true =
+    (fact : Fact) × IsTextOf fact content × AreLawful plan.start (facts ++ fact ∷ []) × IsOfFacts image me plan (facts ++ fact ∷ []) core
+GoesOn image me plan facts content core false = (fact : Fact) → IsTextOf fact content → IsLawful plan.start (stored_by facts fact.second) fact → ⊥
+
+-- the core of the facts that the records spell
+abbrev pub IsCoreOf : (List ℕ → List ℕ) → (me : ℕ) → CorePlanState → List (List ℕ) → CoreState → Type 0
+IsCoreOf image me plan records core = (facts : List Fact) × AreFactsOf plan.start facts records × IsOfFacts image me plan facts core

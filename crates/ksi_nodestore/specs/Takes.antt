@@ -1,0 +1,94 @@
+-- What taking an event leaves of a store.
+use Rattle.std.specs.Prelude.{◌≡◌, ◌⊎◌, ℕ, ◌+◌, ◌≤◌, Bool, true, false, is_some, List, [], length, IsErrOf, option_map, Option, Some, None, IfSome, Result, Ok, Err}
+use Rattle.ksi_ports.specs.Outside.{Raises}
+use Rattle.ksi_synod.specs.CorePlans.{CorePlanState}
+use Rattle.ksi_corenode.specs.declared.fact.What.{What}
+use Rattle.ksi_corenode.specs.declared.fact.Fact.{Fact}
+use Rattle.ksi_corenode.specs.declared.event.CoreEvent.{CoreEvent}
+use Rattle.ksi_corenode.specs.declared.step.Step.{Step}
+use Rattle.ksi_corenode.specs.CoreState.{CoreState, IsSame, held_by, state_of}
+use Rattle.ksi_corenode.specs.Events.{core_row, event_second}
+use Rattle.ksi_corenode.specs.Facts.{fact_of}
+use Rattle.ksi_corenode.specs.Lawful.{with_new}
+use Rattle.ksi_disk.specs.Costs.{Affords, Meter, Spends}
+use Rattle.ksi_gates.specs.Drafts.{Draft}
+use Rattle.ksi_nodestore.specs.declared.refusal.TakeRefusal.{TakeRefusal}
+use Rattle.ksi_nodestore.specs.declared.refusal.TakeRefusal.TheVariants.{Failed, Spent, NoMemory}
+use Rattle.ksi_nodestore.specs.declared.store.NodeStore.{NodeStore}
+use Rattle.ksi_nodestore.specs.Texts.{fact_text}
+use Rattle.ksi_nodestore.specs.Writing.{CanSpell, most_bytes}
+use Rattle.ksi_nodestore.specs.Stores.{IsFileOf}
+use Rattle.ksi_nodestore.specs.Opens.{IsStoreOf}
+
+-- the fact that an event adds to a core, if any
+abbrev pub fact_added : (List ℕ → List ℕ) → CoreState → CoreEvent → Option Fact
+fact_added image core event = option_map (fact_of (event_second event)) (core_row image core event).fact
+
+-- a file of these facts, with one more or without it
+abbrev pub IsFileBeforeOrAfter : (me : ℕ) → CorePlanState → List Fact → Option Fact → List ℕ → Type 0
+IsFileBeforeOrAfter me plan facts more file = IsFileOf me plan facts file ⊎ IsFileOf me plan (with_new facts more) file
+
+-- for an event that adds a fact a record has so much room
+abbrev pub HasRoomFor : (List ℕ → List ℕ) → CoreState → CoreEvent → Option ℕ → Type 0
+HasRoomFor image core event None = (core_row image core event).fact ≡ None
+HasRoomFor image core event (Some room) = IfSome (core_row image core event).fact (λ what. most_bytes what ≤ room)
+
+-- the count of faults after an event: it rises where the disk failed, and stays else
+abbrev pub TakeCounts : {T : Type 0} → ℕ → ℕ → Result T TakeRefusal → Type 0
+TakeCounts before now (Ok value) = now ≡ before
+TakeCounts before now (Err Failed) = Raises before now
+TakeCounts before now (Err Spent) = now ≡ before
+TakeCounts before now (Err NoMemory) = now ≡ before
+
+-- what a refusal leaves: after a failure the store is spent, and any other leaves it as it was
+pub record IsUnchanged {C D : Type 0} (old new : NodeStore C D) : Type 0 where
+  pub core : IsSame old.core new.core
+  pub log : new.log ≡ old.log
+  pub records : new.records ≡ old.records
+
+abbrev pub TakeLeaves : {C D : Type 0} → (old new : NodeStore C D) → Result Step TakeRefusal → Type 0
+TakeLeaves old new (Ok step) = new.log.is_spent ≡ false
+TakeLeaves old new (Err Failed) = new.log.is_spent ≡ true
+TakeLeaves old new (Err Spent) = (old.log.is_spent ≡ true) × IsUnchanged old new
+TakeLeaves old new (Err NoMemory) = IsUnchanged old new
+
+-- a record of the fact has five bytes more than its text, and the closed gate behind it one; without a fact nothing is taken
+abbrev pub SpendsFor : Option Fact → Option Meter → Option Meter → Type 0
+SpendsFor None old new = new ≡ old
+SpendsFor (Some fact) old new = Spends (length (fact_text fact) + 6) 4 old new
+
+abbrev pub AffordsFor : Option Fact → Option Meter → Type 0
+AffordsFor None meter = Unit {0}
+AffordsFor (Some fact) meter = Affords (length (fact_text fact) + 6) 4 meter
+
+-- an empty record with room for the fact of an event; none where the event adds none
+abbrev pub HasRecordFor : (List ℕ → List ℕ) → CoreState → CoreEvent → Option Draft → Type 0
+HasRecordFor image core event None = (core_row image core event).fact ≡ None
+HasRecordFor image core event (Some draft) = (draft.content ≡ []) × IfSome (core_row image core event).fact (λ what. most_bytes what ≤ draft.room)
+
+-- where there is a fact there is an empty record with room for it
+abbrev pub IsReady : Option Draft → Option Fact → Type 0
+IsReady draft None = Unit {0}
+IsReady None (Some fact) = ⊥
+IsReady (Some draft) (Some fact) = (draft.content ≡ []) × (most_bytes fact.what ≤ draft.room) × CanSpell fact.what
+
+-- what an event takes of a disk that tells what it still takes, and that it does not fail while there is enough
+pub record IsCost {T : Type 0} (fact : Option Fact) (old new : Option Meter) (result : Result T TakeRefusal) : Type 0 where
+  pub spends : SpendsFor fact old new
+  pub sure : AffordsFor fact old → IsErrOf result Failed → ⊥
+
+-- it is the store of some facts, which are in its file
+abbrev pub IsStore : {C D : Type 0} → (List ℕ → List ℕ) → (content : D → List ℕ) (images : D → List ℕ → Type 0) → NodeStore C D → Type 0
+IsStore image content images store = (me : ℕ) × (plan : CorePlanState) × (facts : List Fact) × IsStoreOf image content images me plan facts store
+
+-- how many facts that are
+abbrev pub count_new : Option Fact → ℕ
+count_new None = 0
+count_new (Some fact) = 1
+
+-- what is stored for a second, and what it holds
+abbrev pub is_sealed_at : CoreState → ℕ → Bool
+is_sealed_at core t = is_some (state_of core t).sealed
+
+abbrev pub is_held_at : CoreState → ℕ → Bool
+is_held_at core t = is_some (held_by core t)

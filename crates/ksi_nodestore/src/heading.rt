@@ -1,0 +1,57 @@
+// Whose file it is.
+ghost use Rattle.std.specs.Prelude.{◌≡◌, ◌<◌, ℕ, List, length, take, OnOk, IsErrOf};
+ghost use Rattle.ksi_disk.specs.Costs.{Affords};
+ghost use Rattle.ksi_gates.specs.Reads.{WroteNothing};
+ghost use Rattle.ksi_nodestore.specs.declared.refusal.OpenRefusal.TheVariants.{Failed};
+ghost use Rattle.ksi_nodestore.specs.Opens.{CountsReads, HeadsAs};
+
+use crate::heads::{HEADER, HeaderFault};
+use crate::{OpenRefusal, header};
+use ksi_disk::Disk;
+use ksi_synod::CorePlan;
+
+/// Reads the header of a file of so many bytes, and looks whether it is that of core `me` of a plan.
+pub(crate) fn read_header<D: Disk>(
+    me: u8,
+    plan: &CorePlan,
+    disk: &mut D,
+    len: u64,
+) -> Result<(), OpenRefusal>
+    requires member { me < plan.now.cores }
+    requires len { len ≡ length (D.content disk.old) }
+    ensures head { HeadsAs me plan.now (D.content disk.old) result }
+    ensures stays { OnOk result (D.content disk.new ≡ D.content disk.old) }
+    ensures nothing { WroteNothing D.images D.moment D.images_since D.meter disk.old disk.new }
+    ensures counted { CountsReads (D.faults disk.old) (D.faults disk.new) result }
+    ensures sure { Affords 0 0 (D.meter disk.old) → IsErrOf result Failed → ⊥ }
+{
+    if len < HEADER as u64 {
+        return Err(OpenRefusal::NotFormatted);
+    }
+    let mut front = [0; HEADER];
+    disk.read(0, &mut front)?;
+    look_at(me, plan, &front)
+}
+
+/// Looks whether these bytes are the header of core `me` of a plan.
+fn look_at(me: u8, plan: &CorePlan, front: &[u8]) -> Result<(), OpenRefusal>
+    requires member { me < plan.now.cores }
+    ensures head { (file : List ℕ) → take 18 file ≡ front.now → HeadsAs me plan.now file result }
+    ensures calm { (faults : ℕ) → CountsReads faults faults result }
+    ensures sure { IsErrOf result Failed → ⊥ }
+{
+    match header(front) {
+        Ok(head) => {
+            if head.core == me && head.cores == plan.cores() && head.start == plan.start() {
+                Ok(())
+            } else {
+                Err(OpenRefusal::Foreign(head.core, head.cores, head.start))
+            }
+        }
+        Err(HeaderFault::NotFormatted) => Err(OpenRefusal::NotFormatted),
+        Err(HeaderFault::Bad(core, cores, start)) => {
+            let _ = plan.cores();
+            Err(OpenRefusal::Foreign(core, cores, start))
+        }
+    }
+}
