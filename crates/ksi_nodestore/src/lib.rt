@@ -5,8 +5,8 @@
 //! for its record first, then the core's step, then the record, and only then the step is handed out. So want of memory
 //! leaves all as it was. After a failure of the disk the store is spent: its file is to be opened again.
 //!
-//! The layers above rely on three things. What is opened is the core of the facts in the file, and each refusal comes exactly
-//! where its definition says. For a crash at any moment each image is a file of the facts acknowledged before, with that of
+//! The layers above rely on three things. What is opened is the core of the facts in the file, and each refusal says truly
+//! what is wrong with it. For a crash at any moment each image is a file of the facts acknowledged before, with that of
 //! the event in work or without it. A core that is made of the facts in such a file is the core after a restart ([`laws`]).
 //!
 //! ```text
