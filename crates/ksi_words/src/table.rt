@@ -1,10 +1,10 @@
 // The commands: a row of the table each, and what the words after its name ask for.
 ghost use Rattle.std.specs.Prelude.{◌≡◌, ◌<◌, ◌^◌, ℕ, IfOk, map};
 ghost use Rattle.ksi_schedule.specs.Decimal.{number_of};
-ghost use Rattle.ksi_words.specs.Sorts.{hash_of, time_of};
-ghost use Rattle.ksi_words.specs.Words.{Asks, asked_by, command_named, table, replay_row, sign_row, publish_row, extend_row, verify_row, audit_row, make_row, drill_row, migrate_row, front_row, compare_row, word_at, IsEarly};
+ghost use Rattle.ksi_words.specs.Sorts.{hash_of, seed_of, time_of};
+ghost use Rattle.ksi_words.specs.Words.{Asks, asked_by, command_named, block_table, table, replay_row, sign_row, publish_row, extend_row, verify_row, audit_row, make_row, drill_row, migrate_row, front_row, compare_row, block_row, line_row, checkline_row, locate_row, word_at, IsEarly};
 
-use crate::values::{hash, number, time};
+use crate::values::{hash, number, seed, time};
 use crate::{Command, WordsRefusal};
 use ksi_imprint::Imprint;
 
@@ -15,7 +15,7 @@ pub(crate) struct CommandForm {
     pub(crate) words: usize,
 }
 
-pub(crate) static TABLE: [CommandForm; 11] = [
+pub(crate) static TABLE: [CommandForm; 15] = [
     CommandForm {
         name: "replay",
         words: 2,
@@ -60,6 +60,22 @@ pub(crate) static TABLE: [CommandForm; 11] = [
         name: "compare",
         words: 3,
     },
+    CommandForm {
+        name: "block",
+        words: 2,
+    },
+    CommandForm {
+        name: "line",
+        words: 4,
+    },
+    CommandForm {
+        name: "checkline",
+        words: 4,
+    },
+    CommandForm {
+        name: "locate",
+        words: 4,
+    },
 ];
 
 /// The command of a name and the words after it.
@@ -79,6 +95,20 @@ pub(crate) fn asked<'a>(name: &str, words: &[&'a str]) -> Result<Command<'a>, Wo
         "migrate" => migrate(words),
         "front" => front(words),
         "compare" => compare(words),
+        _ => asked_of_blocks(name, words),
+    }
+}
+
+/// The same of the commands of masked blocks.
+fn asked_of_blocks<'a>(name: &str, words: &[&'a str]) -> Result<Command<'a>, WordsRefusal>
+    ensures reads { Asks (command_named block_table name.now (map (λ word. word.now) words.now)) result }
+    ensures early { IfOk result IsEarly }
+{
+    match name {
+        "block" => block(words),
+        "line" => line(words),
+        "checkline" => checkline(words),
+        "locate" => locate(words),
         _ => Err(WordsRefusal::Words),
     }
 }
@@ -193,11 +223,58 @@ fn compare<'a>(words: &[&'a str]) -> Result<Command<'a>, WordsRefusal>
     Ok(Command::Compare(old, new, proof))
 }
 
+fn block<'a>(words: &[&'a str]) -> Result<Command<'a>, WordsRefusal>
+    ensures reads { Asks (asked_by block_row (map (λ word. word.now) words.now)) result }
+    ensures early { IfOk result IsEarly }
+{
+    let [log, seed] = words else {
+        return Err(WordsRefusal::Words);
+    };
+    Ok(Command::Block(log, seed_at(2, seed)?))
+}
+
+fn line<'a>(words: &[&'a str]) -> Result<Command<'a>, WordsRefusal>
+    ensures reads { Asks (asked_by line_row (map (λ word. word.now) words.now)) result }
+    ensures early { IfOk result IsEarly }
+{
+    let [log, seed, number, out] = words else {
+        return Err(WordsRefusal::Words);
+    };
+    Ok(Command::Line(log, seed_at(2, seed)?, number_at(3, number)?, out))
+}
+
+fn checkline<'a>(words: &[&'a str]) -> Result<Command<'a>, WordsRefusal>
+    ensures reads { Asks (asked_by checkline_row (map (λ word. word.now) words.now)) result }
+    ensures early { IfOk result IsEarly }
+{
+    let [signature, publications, line, proof] = words else {
+        return Err(WordsRefusal::Words);
+    };
+    Ok(Command::CheckLine(signature, publications, line, proof))
+}
+
+fn locate<'a>(words: &[&'a str]) -> Result<Command<'a>, WordsRefusal>
+    ensures reads { Asks (asked_by locate_row (map (λ word. word.now) words.now)) result }
+    ensures early { IfOk result IsEarly }
+{
+    let [log, seed, line, proof] = words else {
+        return Err(WordsRefusal::Words);
+    };
+    Ok(Command::Locate(log, seed_at(2, seed)?, line, proof))
+}
+
 // The hash that word n is.
 fn hash_at(n: usize, word: &str) -> Result<Imprint, WordsRefusal>
     ensures { result ≡ word_at n (hash_of word.now) }
 {
     hash(word).ok_or(WordsRefusal::BadWord(n))
+}
+
+// The seed that word n is.
+fn seed_at(n: usize, word: &str) -> Result<[u8; 32], WordsRefusal>
+    ensures { result ≡ word_at n (seed_of word.now) }
+{
+    seed(word).ok_or(WordsRefusal::BadWord(n))
 }
 
 // The number that word n is.
