@@ -1,7 +1,7 @@
 // The line of a file that is not in its grammar: the fault's code and its values.
 ghost use Rattle.std.specs.Prelude.{◌≡◌, ◌≤◌, ◌∷◌, [], map, length};
 ghost use Rattle.std.specs.Fmt.{decimal};
-ghost use Rattle.ksi_lines.specs.FaultWords.{signature_fault, publications_fault, journal_fault, front_fault, line_code, IsLineOf};
+ghost use Rattle.ksi_lines.specs.FaultWords.{signature_fault, publications_fault, journal_fault, front_fault, proof_fault, line_code, IsLineOf};
 ghost use Rattle.ksi_lines.specs.Lines.{malformed_line};
 ghost use Rattle.ksi_lines.specs.Printed.{word_text, room};
 
@@ -10,6 +10,7 @@ use crate::printing::Word::{self, Digest, Number, Text};
 use crate::printing::print;
 use ksi_consistency::FrontFault;
 use ksi_journal::JournalFault;
+use ksi_logblock::ProofFault;
 use ksi_publications::PublicationsFault;
 use ksi_schedule::{LineFault, ScheduleFault};
 use ksi_signature::SignatureFault;
@@ -110,6 +111,20 @@ fn line_code(fault: LineFault) -> &'static str
         LineFault::TooManyEvents => "L6",
         LineFault::Header => "L7",
         LineFault::Name => "L8",
+    }
+}
+
+/// Of file word `n`, which is the proof of a line.
+pub fn proof_fault_line(n: usize, fault: ProofFault) -> Line
+    ensures { result ≡ malformed_line n (proof_fault fault) }
+{
+    match fault {
+        ProofFault::Magic => malformed(n, "G1", &[]),
+        ProofFault::Tlv(place) => at_place(n, "G2", place),
+        ProofFault::Order(place) => at_place(n, "G3", place),
+        ProofFault::Imprint(place) => at_place(n, "G4", place),
+        ProofFault::Number(place) => at_place(n, "G5", place),
+        ProofFault::Links(place) => at_place(n, "G6", place),
     }
 }
 
