@@ -12,6 +12,8 @@
 #![tactic(auto)]
 
 mod audit;
+mod block;
+mod checkline;
 mod compare;
 mod completeness;
 mod drill;
@@ -20,7 +22,10 @@ mod extend;
 mod front;
 mod histories;
 mod kept;
+mod line_of;
 mod loading;
+mod locate;
+mod log;
 mod make;
 mod migrate;
 mod perform;

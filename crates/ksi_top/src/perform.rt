@@ -7,10 +7,14 @@ ghost use Rattle.ksi_top.specs.Run.{refused, row_of};
 ghost use Rattle.ksi_top.specs.Promised.{IsReported};
 
 use crate::audit::audit;
+use crate::block::block;
+use crate::checkline::checkline;
 use crate::compare::compare;
 use crate::drill::drill;
 use crate::extend::extend;
 use crate::front::front;
+use crate::line_of::line;
+use crate::locate::locate;
 use crate::make::make;
 use crate::migrate::migrate;
 use crate::publish::publish;
@@ -74,6 +78,12 @@ fn perform<F: Files>(alloc: Global, files: &mut F, command: &Command<'_>) -> Res
         Command::Migrate(old, new) => migrate(alloc, files, old, new),
         Command::Front(journal, p1, p2, out) => front(alloc, files, journal, *p1, *p2, out),
         Command::Compare(old, new, proof) => compare(alloc, files, old, new, proof),
+        Command::Block(log, seed) => block(alloc, files, log, seed),
+        Command::Line(log, seed, k, out) => line(alloc, files, log, seed, *k, out),
+        Command::CheckLine(signature, publications, entry, proof) => {
+            checkline(alloc, files, signature, publications, entry, proof)
+        }
+        Command::Locate(log, seed, entry, proof) => locate(alloc, files, log, seed, entry, proof),
     }
 }
 
