@@ -1,5 +1,5 @@
 -- What is reported of a log, by whether its lines make a block.
-use Rattle.std.proofs.Common.{◌≡◌, ◌⊎◌, ◌↔◌, ℕ, List, Result, Ok, Err, inl, inr, refl, sym, ap, subst, ◌∙◌, arith}
+use Rattle.std.proofs.Common.{◌≡◌, ◌↔◌, ℕ, List, Result, Ok, Err, inl, inr, refl, sym, ap, subst, ◌∙◌, arith}
 use Rattle.std.specs.Prelude.{IfOk}
 use Rattle.std.specs.declared.alloc.AllocError.{AllocError}
 use Rattle.std.proofs.lemmas.Result.{IfOk-weaker}
@@ -8,7 +8,7 @@ use Rattle.ksi_logblock.specs.Blocks.{Masked}
 use Rattle.ksi_logblock.specs.LogReading.{log_at}
 use Rattle.ksi_logblock.specs.Logs.{IsLogOf, IsLogRefusal, MakeBlock, lines_of}
 use Rattle.ksi_top.specs.declared.report.Report.{Report}
-use Rattle.ksi_top.specs.Log.{IsBlockTold, IsLogRefused, IsLogTold, log_refused, masked, of_log}
+use Rattle.ksi_top.specs.Log.{IsLogTold, log_refused, masked, of_log}
 use Rattle.ksi_top.proofs.Ends.{IsEnd}
 
 -- the laws of logs

@@ -14,6 +14,8 @@ mod hostile_bytes;
 #[cfg(test)]
 mod later_files;
 #[cfg(test)]
+mod masked_blocks;
+#[cfg(test)]
 mod migrations;
 #[cfg(test)]
 mod names;

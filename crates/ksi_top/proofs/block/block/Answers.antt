@@ -1,4 +1,4 @@
-use Rattle.std.proofs.Common.{ℕ, List, ◌∙◌, subst, arith, rules}
+use Rattle.std.proofs.Common.{ℕ, List, ◌∙◌, subst, rules}
 use Rattle.std.specs.Prelude.{IfOk}
 use Rattle.ksi_logblock.specs.LogReading.{log_at}
 use Rattle.ksi_top.specs.Block.{TellsRoot, block_told, blocked}

@@ -1,4 +1,4 @@
-use Rattle.std.proofs.Common.{Ok, ℕ, List, refl}
+use Rattle.std.proofs.Common.{Ok, refl}
 use Rattle.ksi_top.specs.Block.{TellsRoot, block_told}
 use Rattle.ksi_top.proofs.Logs.{LogLaws, means_of, refusal_means, refused_of, told_of}
 use Rattle.ksi_top.proofs.block.blocked.Goals as goal

@@ -1,4 +1,4 @@
-use Rattle.std.proofs.Common.{List, ℕ, ◌∙◌, subst, arith, rules}
+use Rattle.std.proofs.Common.{List, ℕ, subst, arith, rules}
 use Rattle.ksi_signature.specs.Seen.{seen}
 use Rattle.ksi_top.specs.Loading.{content}
 use Rattle.ksi_top.specs.CheckLine.{IsLineCheckedBy, checkline_by}

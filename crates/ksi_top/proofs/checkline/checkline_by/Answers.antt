@@ -1,4 +1,4 @@
-use Rattle.std.proofs.Common.{◌≡◌, List, ℕ, Result, Ok, Err, refl, sym, ap, ◌∙◌, subst, arith, rules}
+use Rattle.std.proofs.Common.{◌≡◌, List, ℕ, Result, Ok, Err, refl, arith, rules}
 use Rattle.ksi_imprint.specs.Imprints.{imprint_of}
 use Rattle.ksi_aggchain.specs.declared.climbing.LevelFault.{LevelFault}
 use Rattle.ksi_signature.specs.declared.signature.Signature.{Signature}

@@ -1,4 +1,4 @@
-use Rattle.std.proofs.Common.{List, ℕ, ◌∙◌, subst, arith, rules}
+use Rattle.std.proofs.Common.{List, ℕ, subst, arith, rules}
 use Rattle.ksi_top.specs.Loading.{content}
 use Rattle.ksi_top.specs.Locate.{IsLocated, locate_over}
 use Rattle.ksi_top.proofs.Performing.{halted, performed_behind}

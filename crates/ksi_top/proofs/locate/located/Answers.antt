@@ -1,4 +1,4 @@
-use Rattle.std.proofs.Common.{Ok, ℕ, List, refl}
+use Rattle.std.proofs.Common.{ℕ, List, refl}
 use Rattle.ksi_top.specs.Locate.{TellsWhere, located_told}
 use Rattle.ksi_top.proofs.Logs.{LogLaws, means_of, refusal_means, refused_of, told_of}
 use Rattle.ksi_top.proofs.locate.located.Goals as goal
