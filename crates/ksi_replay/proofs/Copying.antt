@@ -1,5 +1,5 @@
 -- The mirror of a core has what the core holds and has sealed.
-use Rattle.std.proofs.Common.{◌≡◌, ◌⊎◌, inl, inr, ℕ, ◌+◌, ◌^◌, ◌<◌, ◌≤◌, List, [], ◌∷◌, ◌++◌, length, Option, Some, None, refl, sym, ap, subst, ◌∙◌, arith}
+use Rattle.std.proofs.Common.{◌≡◌, ℕ, ◌^◌, ◌<◌, ◌≤◌, List, [], ◌∷◌, length, Option, Some, None, refl, sym, subst, arith}
 use Rattle.std.specs.Prelude.{IfSome}
 use Rattle.std.specs.List.{AllByRecursion}
 use Rattle.ksi_imprint.specs.Imprints.{IsImprint}
@@ -7,14 +7,12 @@ use Rattle.ksi_aggtree.specs.declared.item.Item.{Item}
 use Rattle.ksi_aggtree.specs.declared.entries.Entry.{Entry}
 use Rattle.ksi_aggtree.specs.Entries.{items_of}
 use Rattle.ksi_aggtree.specs.Names.{IsName}
-use Rattle.ksi_aggtree.specs.Rounds.{IsRound, some_items}
-use Rattle.ksi_schedule.specs.declared.event.Event.{Event}
+use Rattle.ksi_aggtree.specs.Rounds.{IsRound}
 use Rattle.ksi_schedule.specs.Plans.{PlanState, IsPlan, InRange}
-use Rattle.ksi_schedule.specs.Events.{History, AreEvents}
-use Rattle.ksi_world.specs.Histories.{WorldState, held_in, world_of}
+use Rattle.ksi_world.specs.Histories.{WorldState, held_in}
 use Rattle.ksi_mirror.specs.declared.sealed_list.SealedList.{SealedList}
 use Rattle.ksi_mirror.specs.Mirrors.{MirrorState, root_of, list_of, IsRoot, IsList, IsMirror}
-use Rattle.ksi_replay.specs.Mirrors.{some_sealed, sealed_in, list_with, mirror_in, mirror_of, HasSealedImprints}
+use Rattle.ksi_replay.specs.Mirrors.{some_sealed, sealed_in, mirror_in, HasSealedImprints}
 use Rattle.ksi_replay.proofs.Lawful.{are_items}
 use Rattle.ksi_replay.proofs.Listing.{IsWithin, roots_has, roots_rise, roots_are, lists_of_others, lists_has, lists_rise, lists_are}
 

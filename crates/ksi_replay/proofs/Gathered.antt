@@ -14,7 +14,7 @@ use Rattle.ksi_mirror.specs.Mirrors.{MirrorState, root_of, list_of}
 use Rattle.ksi_mirror.specs.Merging.{MayMerge, Merges}
 use Rattle.ksi_replay.specs.Mirrors.{some_sealed, sealed_in, mirror_in, mirror_of}
 use Rattle.ksi_replay.specs.Gatherings.{Gathering, Copy, Both, history_to, ComesTo, HasEndOf, HasAllEnds}
-use Rattle.ksi_replay.proofs.Copying.{IsPlanned, sealed_entries, sealed_core, mirror_roots, mirror_lists, mirror_others}
+use Rattle.ksi_replay.proofs.Copying.{IsPlanned, sealed_entries, mirror_roots, mirror_lists, mirror_others}
 
 -- ---- unions
 

@@ -1,5 +1,5 @@
 -- The journal of the merged mirrors of all cores at the end of a history has its start and its kept seconds.
-use Rattle.std.proofs.Common.{◌≡◌, ◌≢◌, ℕ, zero, suc, ◌+◌, ◌^◌, ◌<◌, ◌≤◌, Bool, true, false, cond, eqb, ltb, List, [], ◌∷◌, map, Option, Some, None, Result, Ok, Err, refl, sym, ap, subst, ◌∙◌, arith}
+use Rattle.std.proofs.Common.{◌≡◌, ◌≢◌, ℕ, zero, suc, ◌+◌, ◌^◌, ◌<◌, ◌≤◌, Bool, true, false, cond, eqb, ltb, List, [], ◌∷◌, map, Option, Some, None, Ok, refl, sym, ap, subst, ◌∙◌, arith}
 use Rattle.std.specs.Prelude.{option_map, unwrap_or}
 use Rattle.std.specs.List.{AllByRecursion}
 use Rattle.std.specs.Str.{bytes_eq}
@@ -8,23 +8,20 @@ use Rattle.std.proofs.lemmas.Slice.Eq.{bytes_eq-Decides}
 use Rattle.ksi_imprint.specs.Imprints.{IsImprint, zero_imprint}
 use Rattle.ksi_aggtree.specs.declared.item.Item.{Item}
 use Rattle.ksi_aggtree.specs.declared.entries.Entry.{Entry}
-use Rattle.ksi_aggtree.specs.declared.second.Second.{Second}
 use Rattle.ksi_aggtree.specs.Entries.{items_of, candidate_of}
-use Rattle.ksi_aggtree.specs.Rounds.{tree_of}
 use Rattle.ksi_schedule.specs.Plans.{PlanState, IsPlan, InRange}
 use Rattle.ksi_schedule.specs.Events.{History, AreEvents}
 use Rattle.ksi_world.specs.Histories.{WorldState, held_in, world_of}
 use Rattle.ksi_world.specs.Records as records
 use Rattle.ksi_world.specs.Records.{kept_root, kept_items, kept_at, kept_among, kept_before, kept_seconds, sealed_as}
 use Rattle.ksi_world.specs.Validity.{IsProposed}
-use Rattle.ksi_journal.specs.Journal.{Contents, RiseFrom}
-use Rattle.ksi_mirror.specs.declared.refusal.WholeRefusal.{WholeRefusal}
+use Rattle.ksi_journal.specs.Journal.{RiseFrom}
 use Rattle.ksi_mirror.specs.Maps as maps
 use Rattle.ksi_mirror.specs.Mirrors.{MirrorState, root_among, root_of, list_of, IsRoot, IsMirror}
 use Rattle.ksi_mirror.specs.Whole as whole
 use Rattle.ksi_mirror.specs.Whole.{tree_as, items_from, second_for, seconds_for, with_second, journal_with, whole_of}
 use Rattle.ksi_replay.specs.Journals.{journal_of}
-use Rattle.ksi_replay.specs.Mirrors.{put_before, those_from, each_second, root_with, some_sealed, sealed_in}
+use Rattle.ksi_replay.specs.Mirrors.{put_before, those_from, each_second, root_with, some_sealed}
 use Rattle.ksi_replay.specs.Gatherings.{Gathering, ComesTo, HasAllEnds, seconds_alone}
 use Rattle.ksi_replay.proofs.Listing.{roots_has, roots_rise, roots_are}
 use Rattle.ksi_replay.proofs.Gathered.{WorldLaws, lowest_some, lowest_there, root_kept, list_sealed, list_none, starts}
