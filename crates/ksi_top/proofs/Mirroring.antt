@@ -1,9 +1,7 @@
 -- What the reports of merged mirrors, and of the journal of one, mean.
 use Rattle.std.proofs.Common.{◌≡◌, ℕ, ◌≤◌, Bool, true, false, List, length, Result, Ok, Err, refl, sym, ap, subst, ◌∙◌, arith}
-use Rattle.std.specs.Prelude.{IfOk, ◌↔◌, nat_lt}
-use Rattle.std.specs.declared.alloc.AllocError.{AllocError}
+use Rattle.std.specs.Prelude.{◌↔◌, nat_lt}
 use Rattle.std.proofs.lemmas.Bool.{le-ltb, ltb-false}
-use Rattle.ksi_imprint.specs.Imprints.{imprint_of}
 use Rattle.ksi_ports.specs.Stored.{Held}
 use Rattle.ksi_journal.specs.Journal.{Contents}
 use Rattle.ksi_mirror.specs.declared.refusal.MergeRefusal.{MergeRefusal}
@@ -12,13 +10,12 @@ use Rattle.ksi_mirror.specs.File.{IsMirrorFile}
 use Rattle.ksi_mirror.specs.Merged.{merged_of, merged_then, SameOrRefused}
 use Rattle.ksi_mirror.specs.Mirrors.{MirrorState, IsMirror}
 use Rattle.ksi_mirror.specs.Reading.{mirror_at}
-use Rattle.ksi_mirror.specs.Whole.{whole_of}
 use Rattle.ksi_top.specs.declared.report.Report.{Report}
 use Rattle.ksi_top.specs.declared.status.Status.TheVariants.{TooLong}
-use Rattle.ksi_top.specs.Reports.{Ran, and_then, behind, ends, report, reported_behind}
+use Rattle.ksi_top.specs.Reports.{ends, report, reported_behind}
 use Rattle.ksi_top.specs.Loading.{content, file_limit, loaded, loaded_mirror, too_long_line}
-use Rattle.ksi_top.specs.Merge.{AreAlike, IsMergeAnswer, IsMerged, IsMergedBy, IsMergedOver, merge_over, merge_ran, merged, merged_report, merged_saved}
-use Rattle.ksi_top.specs.Whole.{IsWholeAnswer, IsWholeOf, made_whole, whole_report}
+use Rattle.ksi_top.specs.Merge.{AreAlike, IsMerged, IsMergedOver, merge_over, merge_ran, merged, merged_report, merged_saved}
+use Rattle.ksi_top.specs.Whole.{whole_report}
 use Rattle.ksi_top.proofs.Ends.{IsEnd, saving_ends}
 
 -- ---- merging
