@@ -2,4 +2,5 @@ pub mod Lines
 pub mod FaultWords
 pub mod Answers
 pub mod Blocks
+pub mod Mirrors
 pub mod Printed

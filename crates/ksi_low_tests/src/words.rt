@@ -90,6 +90,8 @@ fn says(text: &str, command: &Command<'_>) -> bool {
         Command::Locate(log, seed, line, proof) => {
             are(text, "locate", log, seed_sign(seed), line, proof)
         }
+        Command::Merge(one, two, out) => are(text, "merge", one, two, out, ""),
+        Command::Whole(mirror, journal) => are(text, "whole", mirror, journal, "", ""),
     }
 }
 
@@ -150,7 +152,7 @@ fn each_command_is_told(rt: HostRuntime) -> Result<(), Fail> {
     ];
     // what is asked just as it stands
     const ASKED: &str =
-        "replay f j;publish j p;verify s # p;verify verify # help;verify s-- # p=-;verify 0 # 1;audit j s # p;migrate j k;compare j k f;block g #;checkline s p l f;locate g # l f";
+        "replay f j;publish j p;verify s # p;verify verify # help;verify s-- # p=-;verify 0 # 1;audit j s # p;migrate j k;compare j k f;block g #;checkline s p l f;locate g # l f;merge m n o;whole m j";
     for (line, text, number) in &ROWS {
         is_told(&rt, rt.alloc(), line, text, *number)?;
     }
@@ -170,7 +172,7 @@ const BAD_THIRD: &str =
 
 // Too few or too many words.
 const COUNTS: &str =
-    ";replay f;replay f j 1;sign j 1;publish j;extend j s 1;make 7;drill;drill 7 f;migrate;migrate j;migrate j k l;verify;verify s;verify s 12;verify s #;verify s # p q;verify s # p q r s t;verify s 12 p q;audit j s #;audit j s # p q;front;front j 1 2;front j 1 2 f g;compare j k;compare j k f g;block g;block g # f;line g # 1;line g # 1 f g;checkline s p l;checkline s p l f g;locate g # l;locate g # l f g";
+    ";replay f;replay f j 1;sign j 1;publish j;extend j s 1;make 7;drill;drill 7 f;migrate;migrate j;migrate j k l;verify;verify s;verify s 12;verify s #;verify s # p q;verify s # p q r s t;verify s 12 p q;audit j s #;audit j s # p q;front;front j 1 2;front j 1 2 f g;compare j k;compare j k f g;merge m n;merge m n o p;whole m;whole m j k;block g;block g # f;line g # 1;line g # 1 f g;checkline s p l;checkline s p l f g;locate g # l;locate g # l f g";
 
 // Names of no command.
 const NAMES: &str =

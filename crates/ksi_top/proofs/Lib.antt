@@ -12,3 +12,4 @@ pub mod Replayed
 pub mod Migrating
 pub mod Keeping
 pub mod Logs
+pub mod Mirroring

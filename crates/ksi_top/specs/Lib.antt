@@ -20,6 +20,8 @@ pub mod Block
 pub mod LineOf
 pub mod CheckLine
 pub mod Locate
+pub mod Merge
+pub mod Whole
 pub mod Run
 pub mod Endings
 pub mod Promised

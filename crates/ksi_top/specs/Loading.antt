@@ -14,6 +14,8 @@ use Rattle.ksi_consistency.specs.Elements as fronts
 use Rattle.ksi_consistency.specs.Reading.{front_at}
 use Rattle.ksi_logblock.specs.declared.line_proof.LineProof.{LineProof}
 use Rattle.ksi_logblock.specs.ProofReading.{proof_at}
+use Rattle.ksi_mirror.specs.Mirrors.{MirrorState}
+use Rattle.ksi_mirror.specs.Reading.{mirror_at}
 use Rattle.ksi_schedule.specs.Events.{History}
 use Rattle.ksi_schedule.specs.Reading.{schedule_at}
 use Rattle.ksi_top.specs.declared.report.Report.{Report}
@@ -73,6 +75,10 @@ schedule_or_malformed n bytes = or_malformed schedule_fault n (schedule_at bytes
 abbrev pub proof_or_malformed : ℕ → List ℕ → Result LineProof Report
 proof_or_malformed n bytes = or_malformed proof_fault n (proof_at bytes)
 
+-- the faults of a mirror are those of a journal
+abbrev pub mirror_or_malformed : ℕ → List ℕ → Result MirrorState Report
+mirror_or_malformed n bytes = or_malformed journal_fault n (mirror_at bytes)
+
 -- ---- what file word n is read as: the report of its fault stands in the place of what passes its limit, or is malformed
 
 unfoldable pub loaded_signature : ℕ → Held → List ℕ → Result Signature Report
@@ -92,3 +98,5 @@ loaded_schedule n held name = and_then (loaded file_limit n held name) (schedule
 
 unfoldable pub loaded_proof : ℕ → Held → List ℕ → Result LineProof Report
 loaded_proof n held name = and_then (loaded file_limit n held name) (proof_or_malformed n)
+unfoldable pub loaded_mirror : ℕ → Held → List ℕ → Result MirrorState Report
+loaded_mirror n held name = and_then (loaded file_limit n held name) (mirror_or_malformed n)

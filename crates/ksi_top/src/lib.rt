@@ -27,6 +27,7 @@ mod loading;
 mod locate;
 mod log;
 mod make;
+mod merge;
 mod migrate;
 mod perform;
 mod publish;
@@ -37,6 +38,7 @@ mod sign;
 mod status;
 mod sure;
 mod verify;
+mod whole;
 
 pub use ending::ksi;
 pub use status::Status;

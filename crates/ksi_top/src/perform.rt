@@ -16,6 +16,7 @@ use crate::front::front;
 use crate::line_of::line;
 use crate::locate::locate;
 use crate::make::make;
+use crate::merge::merge;
 use crate::migrate::migrate;
 use crate::publish::publish;
 use crate::replay::replay;
@@ -23,6 +24,7 @@ use crate::report::{Halt, Report, ended};
 use crate::sign::sign;
 use crate::status::Status;
 use crate::verify::verify;
+use crate::whole::whole;
 use ksi_imprint::Refused;
 use ksi_lines::Word::{Number, Text};
 use ksi_lines::print;
@@ -84,6 +86,8 @@ fn perform<F: Files>(alloc: Global, files: &mut F, command: &Command<'_>) -> Res
             checkline(alloc, files, signature, publications, entry, proof)
         }
         Command::Locate(log, seed, entry, proof) => locate(alloc, files, log, seed, entry, proof),
+        Command::Merge(one, two, out) => merge(alloc, files, one, two, out),
+        Command::Whole(mirror, journal) => whole(alloc, files, mirror, journal),
     }
 }
 

@@ -1,6 +1,7 @@
 // Every command with each of its calls failing in turn.
+use crate::mirrors;
 use crate::same::same;
-use crate::text::{each_ends, words};
+use crate::text::{each_ends, hold_each, words};
 use crate::whole_paths::{held, replayed};
 use ksi_ports::{MemFiles, MemSink, SureFiles, SureSink};
 use ksi_top::{Status, ksi, sure_run};
@@ -11,7 +12,7 @@ use std::test::Fail;
 // A command, how often it calls on the files, how many bytes it saves under "o", and the first three that it puts.
 type Row = (&'static str, u64, Option<usize>, &'static [u8]);
 
-const ROWS: [Row; 15] = [
+const ROWS: [Row; 17] = [
     ("replay f o", 2, Some(766), b"eve"),
     ("sign j 0 o", 2, Some(615), b"sig"),
     ("publish j o", 2, Some(68), b"pub"),
@@ -27,6 +28,8 @@ const ROWS: [Row; 15] = [
     ("line g Z 0 o", 2, Some(80), b"lin"),
     ("checkline s p l q", 4, None, b"ref"),
     ("locate g Z l q", 3, None, b"in "),
+    ("merge m m o", 3, Some(108), b"mer"),
+    ("whole m o", 2, Some(98), b"who"),
 ];
 
 // The files that some of them read beside those of a whole path.
@@ -36,7 +39,7 @@ line g Z 0 q = line 0";
 // The files of a whole path, of which the call of this number fails.
 fn failing_at(alloc: Global, whole: &MemFiles, call: u64) -> Result<MemFiles, Fail> {
     let mut files = MemFiles::new(alloc, vec![in alloc; call]?);
-    for name in ["f", "j", "s", "p", "c", "g", "l", "q"] {
+    for name in ["f", "j", "s", "p", "c", "g", "l", "q", "m"] {
         files.hold(name, held(whole, name)?)?;
     }
     Ok(files)
@@ -91,6 +94,7 @@ fn each_failing_call_ends_the_run(rt: HostRuntime) -> Result<(), Fail> {
     let mut whole = replayed(&rt, rt.alloc())?;
     whole.hold("g", b"a\nb\n")?;
     whole.hold("l", b"a")?;
+    hold_each(rt.alloc(), &mut whole, mirrors::ONE)?;
     each_ends(&rt, rt.alloc(), &mut whole, Status::Done, MADE)?;
     for row in ROWS {
         each_call_fails(&rt, rt.alloc(), &whole, &row)?;
@@ -99,7 +103,7 @@ fn each_failing_call_ends_the_run(rt: HostRuntime) -> Result<(), Fail> {
 }
 
 /// Each command over files that hold nothing, and how it ends.
-const SURE: [(&str, Status); 15] = [
+const SURE: [(&str, Status); 17] = [
     ("replay s j", Status::Malformed),
     ("sign j 0 o", Status::Malformed),
     ("publish j o", Status::Malformed),
@@ -115,6 +119,8 @@ const SURE: [(&str, Status); 15] = [
     ("line g Z 0 o", Status::Refused),
     ("checkline s p l q", Status::Malformed),
     ("locate g Z l q", Status::Malformed),
+    ("merge m n o", Status::Malformed),
+    ("whole m j", Status::Malformed),
 ];
 
 #[test]

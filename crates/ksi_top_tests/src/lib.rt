@@ -18,6 +18,8 @@ mod masked_blocks;
 #[cfg(test)]
 mod migrations;
 #[cfg(test)]
+mod mirrors;
+#[cfg(test)]
 mod names;
 #[cfg(test)]
 mod runs;

@@ -1,5 +1,5 @@
 -- A name that is no row's.
-use Rattle.std.proofs.Common.{◌≡◌, Bool, true, false, List, [], ◌∷◌, ◌++◌, Err, refl, sym}
+use Rattle.std.proofs.Common.{◌≡◌, Bool, true, false, List, [], ◌∷◌, Err, refl, sym}
 use Rattle.std.proofs.lemmas.Slice.Eq.{bytes_eq-Decides}
 use Rattle.std.specs.Str.{bytes_eq}
 use Rattle.clap.specs.Walk.{Text}
@@ -18,8 +18,3 @@ differs one other false e not = e
 pub unnamed_refused : (rows : List CommandForm) (name : Text) (words : List Text) → IsUnnamed rows name → command_named rows name words ≡ Err Words
 unnamed_refused [] name words unnamed = refl
 unnamed_refused (row ∷ rows) name words unnamed = rw (differs row.name name (bytes_eq row.name name) refl unnamed.0) (unnamed_refused rows name words unnamed.1)
-
--- it is looked up among the others
-pub unnamed_later : (rows others : List CommandForm) (name : Text) (words : List Text) → IsUnnamed rows name → command_named (rows ++ others) name words ≡ command_named others name words
-unnamed_later [] others name words unnamed = refl
-unnamed_later (row ∷ rows) others name words unnamed = rw (differs row.name name (bytes_eq row.name name) refl unnamed.0) (unnamed_later rows others name words unnamed.1)

@@ -34,6 +34,10 @@ pub enum Command<'a> {
     CheckLine(&'a str, &'a str, &'a str, &'a str),
     /// The log's file, the seed of its masks, the line's file, the proof's file.
     Locate(&'a str, [u8; 32], &'a str, &'a str),
+    /// The files of two mirrors, the file of their union to write.
+    Merge(&'a str, &'a str, &'a str),
+    /// The mirror's file, the journal's file to write.
+    Whole(&'a str, &'a str),
 }
 
 /// Why words are no command.
