@@ -28,8 +28,8 @@ pub use blocks::{level_line, located_line, log_refused_line, no_line_line};
 pub use comparing::compared_line;
 pub use extending::not_extended_line;
 pub use faults::{
-    front_fault_line, journal_fault_line, proof_fault_line, publications_fault_line,
-    schedule_fault_line, signature_fault_line,
+    front_fault_line, journal_fault_line, node_fault_line, proof_fault_line,
+    publications_fault_line, schedule_fault_line, signature_fault_line,
 };
 pub use line::Line;
 pub use merging::{not_merged_line, not_whole_line};

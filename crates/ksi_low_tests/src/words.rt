@@ -92,6 +92,7 @@ fn says(text: &str, command: &Command<'_>) -> bool {
         }
         Command::Merge(one, two, out) => are(text, "merge", one, two, out, ""),
         Command::Whole(mirror, journal) => are(text, "whole", mirror, journal, "", ""),
+        Command::Inspect(node) => are(text, "inspect", node, "", "", ""),
     }
 }
 
@@ -152,7 +153,7 @@ fn each_command_is_told(rt: HostRuntime) -> Result<(), Fail> {
     ];
     // what is asked just as it stands
     const ASKED: &str =
-        "replay f j;publish j p;verify s # p;verify verify # help;verify s-- # p=-;verify 0 # 1;audit j s # p;migrate j k;compare j k f;block g #;checkline s p l f;locate g # l f;merge m n o;whole m j";
+        "replay f j;publish j p;verify s # p;verify verify # help;verify s-- # p=-;verify 0 # 1;audit j s # p;migrate j k;compare j k f;block g #;checkline s p l f;locate g # l f;merge m n o;whole m j;inspect n";
     for (line, text, number) in &ROWS {
         is_told(&rt, rt.alloc(), line, text, *number)?;
     }
@@ -172,7 +173,7 @@ const BAD_THIRD: &str =
 
 // Too few or too many words.
 const COUNTS: &str =
-    ";replay f;replay f j 1;sign j 1;publish j;extend j s 1;make 7;drill;drill 7 f;migrate;migrate j;migrate j k l;verify;verify s;verify s 12;verify s #;verify s # p q;verify s # p q r s t;verify s 12 p q;audit j s #;audit j s # p q;front;front j 1 2;front j 1 2 f g;compare j k;compare j k f g;merge m n;merge m n o p;whole m;whole m j k;block g;block g # f;line g # 1;line g # 1 f g;checkline s p l;checkline s p l f g;locate g # l;locate g # l f g";
+    ";replay f;replay f j 1;sign j 1;publish j;extend j s 1;make 7;drill;drill 7 f;migrate;migrate j;migrate j k l;verify;verify s;verify s 12;verify s #;verify s # p q;verify s # p q r s t;verify s 12 p q;audit j s #;audit j s # p q;front;front j 1 2;front j 1 2 f g;compare j k;compare j k f g;merge m n;merge m n o p;whole m;whole m j k;inspect;inspect n n;block g;block g # f;line g # 1;line g # 1 f g;checkline s p l;checkline s p l f g;locate g # l;locate g # l f g";
 
 // Names of no command.
 const NAMES: &str =

@@ -22,6 +22,7 @@ pub mod CheckLine
 pub mod Locate
 pub mod Merge
 pub mod Whole
+pub mod Inspect
 pub mod Run
 pub mod Endings
 pub mod Promised

@@ -21,6 +21,7 @@ mod ending;
 mod extend;
 mod front;
 mod histories;
+mod inspect;
 mod kept;
 mod line_of;
 mod loading;

@@ -5,13 +5,14 @@ ghost use Rattle.ksi_consistency.specs.File.{IsFrontFile};
 ghost use Rattle.ksi_journal.specs.File.{IsJournalFile};
 ghost use Rattle.ksi_logblock.specs.File.{IsProofFile};
 ghost use Rattle.ksi_mirror.specs.File.{IsMirrorFile};
+ghost use Rattle.ksi_nodestore.specs.Inspecting.{IsInspected};
 ghost use Rattle.ksi_publications.specs.File.{IsPublications};
 ghost use Rattle.ksi_schedule.specs.Spelled.{IsScheduleText};
-ghost use Rattle.ksi_top.specs.Loading.{content, loaded, loaded_front, loaded_journal, loaded_proof, loaded_publications, loaded_schedule, loaded_mirror, file_limit};
+ghost use Rattle.ksi_top.specs.Loading.{content, loaded, loaded_front, loaded_journal, loaded_proof, loaded_publications, loaded_schedule, loaded_mirror, loaded_node, file_limit};
 ghost use Rattle.ksi_top.specs.Promised.{IsLoaded};
 
 use crate::reading::{
-    read_front, read_journal, read_mirror, read_proof, read_publications, read_schedule,
+    read_front, read_journal, read_mirror, read_node, read_proof, read_publications, read_schedule,
 };
 use crate::report::{Halt, Report};
 use crate::status::Status;
@@ -22,6 +23,7 @@ use ksi_lines::Word::{Number, Text};
 use ksi_lines::print;
 use ksi_logblock::LineProof;
 use ksi_mirror::Mirror;
+use ksi_nodestore::Inspected;
 use ksi_ports::{Files, LoadRefusal};
 use ksi_publications::Publications;
 use ksi_schedule::Schedule;
@@ -115,6 +117,20 @@ pub(crate) fn load_mirror<F: Files>(
 {
     let bytes = load_file(alloc, files, FILE_LIMIT, n, name)?;
     read_mirror(alloc, n, bytes.as_slice())
+}
+
+/// What the node file says that file word `n` is.
+pub(crate) fn load_node<F: Files>(
+    alloc: Global,
+    files: &mut F,
+    n: usize,
+    name: &str,
+) -> Result<Inspected, Halt>
+    ensures loaded { IsLoaded F.Files n file_limit (loaded_node n (F.held files.old) name.now) files.old files.new result }
+    ensures is { IsTrue F.tells → IfOk result (IsInspected (content (F.held files.old) name.now)) }
+{
+    let bytes = load_file(alloc, files, FILE_LIMIT, n, name)?;
+    read_node(alloc, n, bytes.as_slice())
 }
 
 /// The bytes of file word `n`, at most `limit` of them.

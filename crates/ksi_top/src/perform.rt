@@ -13,6 +13,7 @@ use crate::compare::compare;
 use crate::drill::drill;
 use crate::extend::extend;
 use crate::front::front;
+use crate::inspect::inspect;
 use crate::line_of::line;
 use crate::locate::locate;
 use crate::make::make;
@@ -88,6 +89,7 @@ fn perform<F: Files>(alloc: Global, files: &mut F, command: &Command<'_>) -> Res
         Command::Locate(log, seed, entry, proof) => locate(alloc, files, log, seed, entry, proof),
         Command::Merge(one, two, out) => merge(alloc, files, one, two, out),
         Command::Whole(mirror, journal) => whole(alloc, files, mirror, journal),
+        Command::Inspect(node) => inspect(alloc, files, node),
     }
 }
 

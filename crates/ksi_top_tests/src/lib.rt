@@ -22,6 +22,8 @@ mod mirrors;
 #[cfg(test)]
 mod names;
 #[cfg(test)]
+mod nodes;
+#[cfg(test)]
 mod runs;
 #[cfg(test)]
 mod same;

@@ -38,6 +38,8 @@ pub enum Command<'a> {
     Merge(&'a str, &'a str, &'a str),
     /// The mirror's file, the journal's file to write.
     Whole(&'a str, &'a str),
+    /// The node file.
+    Inspect(&'a str),
 }
 
 /// Why words are no command.

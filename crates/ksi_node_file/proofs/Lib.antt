@@ -1,0 +1,2 @@
+pub mod FactsMore
+pub mod Onwards
