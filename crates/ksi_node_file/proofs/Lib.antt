@@ -1,2 +1,0 @@
-pub mod FactsMore
-pub mod Onwards

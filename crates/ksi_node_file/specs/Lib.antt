@@ -1,2 +1,0 @@
-pub mod CoreFacts
-pub mod Followed
