@@ -1,7 +1,7 @@
 // The line of a file that is not in its grammar: the fault's code and its values.
 ghost use Rattle.std.specs.Prelude.{◌≡◌, ◌≤◌, ◌∷◌, [], map, length};
 ghost use Rattle.std.specs.Fmt.{decimal};
-ghost use Rattle.ksi_lines.specs.FaultWords.{signature_fault, publications_fault, journal_fault, front_fault, line_code, IsLineOf};
+ghost use Rattle.ksi_lines.specs.FaultWords.{signature_fault, publications_fault, journal_fault, front_fault, node_fault, line_code, IsLineOf};
 ghost use Rattle.ksi_lines.specs.Lines.{malformed_line};
 ghost use Rattle.ksi_lines.specs.Printed.{word_text, room};
 
@@ -10,6 +10,7 @@ use crate::printing::Word::{self, Digest, Number, Text};
 use crate::printing::print;
 use ksi_consistency::FrontFault;
 use ksi_journal::JournalFault;
+use ksi_nodestore::NodeFault;
 use ksi_publications::PublicationsFault;
 use ksi_schedule::{LineFault, ScheduleFault};
 use ksi_signature::SignatureFault;
@@ -94,6 +95,20 @@ pub fn schedule_fault_line(n: usize, fault: &ScheduleFault) -> Line
 {
     match fault {
         ScheduleFault::Line(fault, line) => malformed(n, line_code(*fault), &[Number(*line)]),
+    }
+}
+
+/// Of file word `n`, which is a node file.
+pub fn node_fault_line(n: usize, fault: NodeFault) -> Line
+    ensures { result ≡ malformed_line n (node_fault fault) }
+{
+    match fault {
+        NodeFault::NotFormatted => malformed(n, "N1", &[]),
+        NodeFault::Malformed(place) => malformed(n, "N2", &[Number(place)]),
+        NodeFault::Bad(core, cores, start) => {
+            let values = [Number(core as u64), Number(cores as u64), Number(start)];
+            malformed(n, "N3", &values)
+        }
     }
 }
 

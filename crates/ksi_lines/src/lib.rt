@@ -25,7 +25,7 @@ pub use auditing::{audit_line, before_start_line, undecided_line};
 pub use comparing::compared_line;
 pub use extending::not_extended_line;
 pub use faults::{
-    front_fault_line, journal_fault_line, publications_fault_line, schedule_fault_line,
+    front_fault_line, journal_fault_line, node_fault_line, publications_fault_line, schedule_fault_line,
     signature_fault_line,
 };
 pub use line::Line;

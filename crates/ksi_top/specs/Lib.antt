@@ -15,6 +15,7 @@ pub mod Kept
 pub mod Front
 pub mod Compare
 pub mod Migrate
+pub mod Inspect
 pub mod Run
 pub mod Endings
 pub mod Promised

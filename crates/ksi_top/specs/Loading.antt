@@ -14,11 +14,13 @@ use Rattle.ksi_consistency.specs.Elements as fronts
 use Rattle.ksi_consistency.specs.Reading.{front_at}
 use Rattle.ksi_schedule.specs.Events.{History}
 use Rattle.ksi_schedule.specs.Reading.{schedule_at}
+use Rattle.ksi_nodestore.specs.declared.inspected.Inspected.{Inspected}
+use Rattle.ksi_nodestore.specs.Inspecting.{inspected}
 use Rattle.ksi_top.specs.declared.report.Report.{Report}
 use Rattle.ksi_top.specs.declared.report.Halt.{Halt}
 use Rattle.ksi_top.specs.declared.status.Status.TheVariants.{Malformed, TooLong}
 use Rattle.ksi_top.specs.Reports.{report, and_then}
-use Rattle.ksi_lines.specs.FaultWords.{signature_fault, publications_fault, journal_fault, front_fault, schedule_fault}
+use Rattle.ksi_lines.specs.FaultWords.{signature_fault, publications_fault, journal_fault, front_fault, schedule_fault, node_fault}
 use Rattle.ksi_lines.specs.Lines.{line_text, malformed_line}
 
 -- the most bytes that a signature file may have, and those of any other file
@@ -68,6 +70,9 @@ front_or_malformed n bytes = or_malformed front_fault n (front_at bytes)
 abbrev pub schedule_or_malformed : ℕ → List ℕ → Result History Report
 schedule_or_malformed n bytes = or_malformed schedule_fault n (schedule_at bytes)
 
+abbrev pub node_or_malformed : ℕ → List ℕ → Result Inspected Report
+node_or_malformed n bytes = or_malformed node_fault n (inspected bytes)
+
 -- ---- what file word n is read as: the report of its fault stands in the place of what passes its limit, or is malformed
 
 unfoldable pub loaded_signature : ℕ → Held → List ℕ → Result Signature Report
@@ -84,3 +89,6 @@ loaded_front n held name = and_then (loaded file_limit n held name) (front_or_ma
 
 unfoldable pub loaded_schedule : ℕ → Held → List ℕ → Result History Report
 loaded_schedule n held name = and_then (loaded file_limit n held name) (schedule_or_malformed n)
+
+unfoldable pub loaded_node : ℕ → Held → List ℕ → Result Inspected Report
+loaded_node n held name = and_then (loaded file_limit n held name) (node_or_malformed n)

@@ -19,6 +19,7 @@ mod ending;
 mod extend;
 mod front;
 mod histories;
+mod inspect;
 mod kept;
 mod loading;
 mod make;

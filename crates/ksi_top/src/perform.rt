@@ -11,6 +11,7 @@ use crate::compare::compare;
 use crate::drill::drill;
 use crate::extend::extend;
 use crate::front::front;
+use crate::inspect::inspect;
 use crate::make::make;
 use crate::migrate::migrate;
 use crate::publish::publish;
@@ -74,6 +75,7 @@ fn perform<F: Files>(alloc: Global, files: &mut F, command: &Command<'_>) -> Res
         Command::Migrate(old, new) => migrate(alloc, files, old, new),
         Command::Front(journal, p1, p2, out) => front(alloc, files, journal, *p1, *p2, out),
         Command::Compare(old, new, proof) => compare(alloc, files, old, new, proof),
+        Command::Inspect(node) => inspect(alloc, files, node),
     }
 }
 

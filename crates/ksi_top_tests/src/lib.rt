@@ -18,6 +18,8 @@ mod migrations;
 #[cfg(test)]
 mod names;
 #[cfg(test)]
+mod nodes;
+#[cfg(test)]
 mod runs;
 #[cfg(test)]
 mod same;

@@ -1,5 +1,5 @@
 -- The command that the words of a command line ask for.
-use Rattle.std.specs.Prelude.{◌≡◌, ℕ, ◌+◌, ◌<◌, ◌^◌, List, [], ◌∷◌, map, length, Bool, false, ◌==◌, codes, Option, Some, None, Result, Ok, Err, if◌then◌else◌, String, string_bytes, ⊤}
+use Rattle.std.specs.Prelude.{◌≡◌, ℕ, ◌+◌, ◌<◌, ◌^◌, List, [], ◌∷◌, map, length, Bool, false, ◌==◌, codes, Option, Some, None, Result, Ok, Err, IfOk, if◌then◌else◌, String, string_bytes, ⊤}
 use Rattle.std.specs.List.{list_any}
 use Rattle.std.specs.Str.{bytes_eq}
 use Rattle.std.specs.declared.alloc.Global.{Global}
@@ -7,7 +7,7 @@ use Rattle.ksi_imprint.specs.declared.refused.Refused.{Refused}
 use Rattle.ksi_imprint.specs.declared.refused.Refused.TheVariants.{Fault, NoMemory}
 use Rattle.ksi_words.specs.Sorts.{Sort, file_word, hash_word, number_word, time_word, Of, value_of}
 use Rattle.ksi_words.specs.declared.asked.Command.{Command}
-use Rattle.ksi_words.specs.declared.asked.Command.TheVariants.{Replay, Sign, Publish, Extend, Verify, Audit, Make, Drill, Migrate, Front, Compare}
+use Rattle.ksi_words.specs.declared.asked.Command.TheVariants.{Replay, Sign, Publish, Extend, Verify, Audit, Make, Drill, Migrate, Front, Compare, Inspect}
 use Rattle.ksi_words.specs.declared.asked.WordsRefusal.{WordsRefusal}
 use Rattle.ksi_words.specs.declared.asked.WordsRefusal.TheVariants.{Words, BadWord}
 
@@ -24,6 +24,7 @@ pub data Asked : Type 0 where
   migrate : List ℕ → List ℕ → Asked
   front : List ℕ → ℕ → ℕ → List ℕ → Asked
   compare : List ℕ → List ℕ → List ℕ → Asked
+  inspect : List ℕ → Asked
 
 -- what asks for a command, given what the words of these sorts stand for
 abbrev pub From : List Sort → Type 0
@@ -69,8 +70,11 @@ front_row = record { name = codes "front"; sorts = file_word ∷ time_word ∷ t
 abbrev pub compare_row : CommandForm
 compare_row = record { name = codes "compare"; sorts = file_word ∷ file_word ∷ file_word ∷ []; asks = compare }
 
+abbrev pub inspect_row : CommandForm
+inspect_row = record { name = codes "inspect"; sorts = file_word ∷ []; asks = inspect }
+
 abbrev pub table : List CommandForm
-table = replay_row ∷ sign_row ∷ publish_row ∷ extend_row ∷ verify_row ∷ audit_row ∷ make_row ∷ drill_row ∷ migrate_row ∷ front_row ∷ compare_row ∷ []
+table = replay_row ∷ sign_row ∷ publish_row ∷ extend_row ∷ verify_row ∷ audit_row ∷ make_row ∷ drill_row ∷ migrate_row ∷ front_row ∷ compare_row ∷ inspect_row ∷ []
 
 abbrev pub texts : List (String Global) → List (List ℕ)
 texts words = map string_bytes words
@@ -126,6 +130,7 @@ asked (Drill number) = drill number
 asked (Migrate old new) = migrate old.now new.now
 asked (Front journal p1 p2 out) = front journal.now p1 p2 out.now
 asked (Compare old new proof) = compare old.now new.now proof.now
+asked (Inspect node) = inspect node.now
 
 -- the seconds of a command, where it has some, are below 2^63
 abbrev pub IsEarly : Command → Type 0
@@ -137,6 +142,11 @@ IsEarly _ = Unit {0}
 abbrev pub Asks : Result Asked WordsRefusal → Result Command WordsRefusal → Type 0
 Asks expected (Ok command) = expected ≡ Ok (asked command)
 Asks expected (Err refusal) = expected ≡ Err refusal
+
+-- and the seconds of the command are early
+pub record AsksEarly (expected : Result Asked WordsRefusal) (result : Result Command WordsRefusal) : Type 0 where
+  pub reads : Asks expected result
+  pub early : IfOk result IsEarly
 
 -- or there was no memory to read them
 abbrev pub Reads : Result Asked WordsRefusal → Result Command (Refused WordsRefusal) → Type 0

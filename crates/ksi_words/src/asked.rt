@@ -26,6 +26,8 @@ pub enum Command<'a> {
     Front(&'a str, u64, u64, &'a str),
     /// The older journal's file, the newer one's file, the front's file.
     Compare(&'a str, &'a str, &'a str),
+    /// The node file.
+    Inspect(&'a str),
 }
 
 /// Why words are no command.

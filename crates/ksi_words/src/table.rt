@@ -2,7 +2,7 @@
 ghost use Rattle.std.specs.Prelude.{◌≡◌, ◌<◌, ◌^◌, ℕ, IfOk, map};
 ghost use Rattle.ksi_schedule.specs.Decimal.{number_of};
 ghost use Rattle.ksi_words.specs.Sorts.{hash_of, time_of};
-ghost use Rattle.ksi_words.specs.Words.{Asks, asked_by, command_named, table, replay_row, sign_row, publish_row, extend_row, verify_row, audit_row, make_row, drill_row, migrate_row, front_row, compare_row, word_at, IsEarly};
+ghost use Rattle.ksi_words.specs.Words.{Asks, AsksEarly, asked_by, command_named, table, replay_row, sign_row, publish_row, extend_row, verify_row, audit_row, make_row, drill_row, migrate_row, front_row, compare_row, inspect_row, word_at, IsEarly};
 
 use crate::values::{hash, number, time};
 use crate::{Command, WordsRefusal};
@@ -15,7 +15,7 @@ pub(crate) struct CommandForm {
     pub(crate) words: usize,
 }
 
-pub(crate) static TABLE: [CommandForm; 11] = [
+pub(crate) static TABLE: [CommandForm; 12] = [
     CommandForm {
         name: "replay",
         words: 2,
@@ -60,12 +60,15 @@ pub(crate) static TABLE: [CommandForm; 11] = [
         name: "compare",
         words: 3,
     },
+    CommandForm {
+        name: "inspect",
+        words: 1,
+    },
 ];
 
 /// The command of a name and the words after it.
 pub(crate) fn asked<'a>(name: &str, words: &[&'a str]) -> Result<Command<'a>, WordsRefusal>
-    ensures reads { Asks (command_named table name.now (map (λ word. word.now) words.now)) result }
-    ensures early { IfOk result IsEarly }
+    ensures { AsksEarly (command_named table name.now (map (λ word. word.now) words.now)) result }
 {
     match name {
         "replay" => replay(words),
@@ -79,6 +82,7 @@ pub(crate) fn asked<'a>(name: &str, words: &[&'a str]) -> Result<Command<'a>, Wo
         "migrate" => migrate(words),
         "front" => front(words),
         "compare" => compare(words),
+        "inspect" => inspect(words),
         _ => Err(WordsRefusal::Words),
     }
 }
@@ -191,6 +195,16 @@ fn compare<'a>(words: &[&'a str]) -> Result<Command<'a>, WordsRefusal>
         return Err(WordsRefusal::Words);
     };
     Ok(Command::Compare(old, new, proof))
+}
+
+fn inspect<'a>(words: &[&'a str]) -> Result<Command<'a>, WordsRefusal>
+    ensures reads { Asks (asked_by inspect_row (map (λ word. word.now) words.now)) result }
+    ensures early { IfOk result IsEarly }
+{
+    let [node] = words else {
+        return Err(WordsRefusal::Words);
+    };
+    Ok(Command::Inspect(node))
 }
 
 // The hash that word n is.
