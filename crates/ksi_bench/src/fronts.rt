@@ -39,7 +39,7 @@ fn front(
 ) -> Result<Vec<Imprint>, NoMemory>
     requires start { calendar.now.start ≡ 1700000000 }
 {
-    if first > last || last >= calendar.count() {
+    if first > last || last >= SECONDS || last >= calendar.count() {
         return Ok(Vec::new(alloc));
     }
     Ok(prove(alloc, calendar, START + first, START + last)?.into_vec())
