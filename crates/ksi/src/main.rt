@@ -1,7 +1,7 @@
 //! The program: one command over the files and the output of the system.
 //!
 //! `ksi COMMAND WORD ..` runs one of the commands `replay`, `sign`, `publish`, `extend`, `verify`, `audit`, `make`,
-//! `drill`, `migrate`, `front` and `compare`, prints at most one line and ends with the run's status.
+//! `drill`, `migrate`, `front`, `compare` and `inspect`, prints at most one line and ends with the run's status.
 #![tactic(auto)]
 
 use ksi_ports::{HostFiles, HostSink};

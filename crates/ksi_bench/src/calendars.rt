@@ -9,10 +9,10 @@ use ksi_imprint::{Imprint, NoMemory, Sha};
 use std::alloc::Global;
 
 /// The first second.
-const START: u64 = 1_700_000_000;
+pub(crate) const START: u64 = 1_700_000_000;
 
 /// How many seconds the calendar has whose roots and chains are asked for.
-const SECONDS: u64 = 1_048_576;
+pub(crate) const SECONDS: u64 = 1_048_576;
 
 /// Appends so many seconds.
 pub(crate) fn append(rt: &HostRuntime, count: u64) -> Option<Timed> {
@@ -38,7 +38,7 @@ pub(crate) fn chain(rt: &HostRuntime, count: u64) -> Option<Timed> {
     since(rt, begun, byte)
 }
 
-fn calendar(alloc: Global) -> Result<Calendar<Sha>, NoMemory>
+pub(crate) fn calendar(alloc: Global) -> Result<Calendar<Sha>, NoMemory>
     ensures { IfOk result (λ calendar. calendar.start ≡ 1700000000) }
 {
     let roots = imprints(alloc, SECONDS)?;
@@ -94,7 +94,7 @@ fn chain_byte(calendar: &Calendar<Sha>, place: u64) -> Result<u8, NoMemory>
 }
 
 /// The next of numbers that come in no order (Marsaglia's xorshift).
-fn next(place: u64) -> u64 {
+pub(crate) fn next(place: u64) -> u64 {
     let one = place ^ (place << 13);
     let two = one ^ (one >> 7);
     two ^ (two << 17)

@@ -1,7 +1,9 @@
-//! Files that are held: signatures verified, journals and publications files loaded.
+//! Files that are held: signatures verified, journals and publications files loaded, blocks made of logs.
 
 use crate::clock::{Timed, now, since};
+use crate::joins::last_byte;
 use ksi_imprint::{Bytes, Compress, Imprint, Sha};
+use ksi_logblock::block_of;
 use ksi_ports::{Files, HostFiles};
 use ksi_publications::Publications;
 use ksi_verifier::{BytesVerdict, verify_bytes};
@@ -39,6 +41,18 @@ pub(crate) fn publications(rt: &HostRuntime, count: u64, names: &[String]) -> Op
     for _ in 0..count {
         let publications = ksi_publications::read(rt.alloc(), bytes.as_slice()).ok()?;
         byte ^= (publications.pairs().len() % 256) as u8;
+    }
+    since(rt, begun, byte)
+}
+
+/// Makes the block of a log, and its root, so many times.
+pub(crate) fn block(rt: &HostRuntime, count: u64, names: &[String]) -> Option<Timed> {
+    let log = file(rt, names.get(0)?.as_str())?;
+    let begun = now(rt)?;
+    let mut byte = 0;
+    for _ in 0..count {
+        let block = block_of::<Sha>(rt.alloc(), [1; 32], log.as_slice()).ok()?;
+        byte ^= last_byte(&block.root()?.imprint);
     }
     since(rt, begun, byte)
 }

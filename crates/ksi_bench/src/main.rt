@@ -5,6 +5,7 @@
 mod calendars;
 mod clock;
 mod files;
+mod fronts;
 mod joins;
 mod line;
 mod trees;
@@ -46,9 +47,12 @@ fn timed(rt: &HostRuntime, kernel: &str, count: u64, names: &[String]) -> Option
         "cal_append" => calendars::append(rt, count),
         "cal_root" => calendars::root(rt, count),
         "cal_chain" => calendars::chain(rt, count),
+        "cal_front" => fronts::proved(rt, count),
+        "cal_check" => fronts::checked(rt, count),
         "verify" => files::verify(rt, count, names),
         "journal" => files::journal(rt, count, names),
         "pubs" => files::publications(rt, count, names),
+        "logblock" => files::block(rt, count, names),
         _ => None,
     }
 }

@@ -108,6 +108,10 @@ meter_of disk = meter_unless disk.failing disk.room disk.turns
 abbrev pub new_disk : List ℕ → ℕ → ℕ → List ℕ → StoredDisk
 new_disk start room turns failing = record { start = start; deeds = []; failing = failing; calls = 0; faults = 0; room = room; turns = turns }
 
+-- a disk that takes so many bytes, and so many writes and syncs, from now on
+abbrev pub with_room : StoredDisk → ℕ → ℕ → StoredDisk
+with_room disk room turns = record disk { room = room; turns = turns }
+
 -- one call more, and one fault more where it failed
 abbrev pub after_call : StoredDisk → Bool → StoredDisk
 after_call disk failed = record disk { calls = count_up 1 disk.calls; faults = if failed then count_up 1 disk.faults else disk.faults }

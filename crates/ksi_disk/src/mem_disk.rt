@@ -1,8 +1,8 @@
-ghost use Rattle.std.specs.Prelude.{◌≡◌, ◌≤◌, ◌<◌, ◌+◌, ◌-◌, ◌^◌, length, take, drop, IfOk, OnOk, is_err};
+ghost use Rattle.std.specs.Prelude.{◌≡◌, ◌≤◌, ◌<◌, ◌+◌, ◌-◌, ◌^◌, length, take, drop, IfOk, OnErr, OnOk, is_err};
 ghost use Rattle.std.specs.Bool.{OnTrue};
 ghost use Rattle.ksi_ports.specs.Outside.{Raises};
 ghost use Rattle.ksi_disk.specs.Costs.{DiskCounts};
-ghost use Rattle.ksi_disk.specs.Deeds.{new_disk, content_of, is_next_listed, after_call, with_deed, wrote, synced, write_fails, after_write, sync_fails, after_sync, deeds_at, image_by, IsImage, IsImageSince, meter_of};
+ghost use Rattle.ksi_disk.specs.Deeds.{new_disk, with_room, content_of, is_next_listed, after_call, with_deed, wrote, synced, write_fails, after_write, sync_fails, after_sync, deeds_at, image_by, IsImage, IsImageSince, meter_of};
 ghost use Rattle.ksi_disk.specs.DeedLaws.{content_is_image, counts_now, only_now};
 
 use crate::marks::{Mark, note_sync, note_write};
@@ -105,6 +105,22 @@ impl MemDisk {
         ensures within { length (content_of self.now) + self.now.room < 2 ^ 64 }
     {
         (self.room, self.turns)
+    }
+
+    /// From now on the disk takes so many bytes, and so many writes and syncs.
+    ///
+    /// # Errors
+    /// `NoMemory`: all is as it was.
+    pub fn make_room(&mut self, room: usize, turns: usize) -> Result<(), NoMemory>
+        ensures made { OnOk result (self.new ≡ with_room self.old room turns) }
+        ensures unchanged { OnErr result (self.new ≡ self.old) }
+    {
+        self.content.reserve(room)?;
+        self.pieces.reserve(room)?;
+        self.marks.reserve(turns)?;
+        self.room = room;
+        self.turns = turns;
+        Ok(())
     }
 
     /// How many moments there were since the disk was made: one for each sync that succeeded, and for each write that found

@@ -17,3 +17,5 @@ mod images;
 mod logs;
 #[cfg(test)]
 mod node_files;
+#[cfg(test)]
+mod stopped_cores;

@@ -1,36 +1,55 @@
 use crate::journals::{ONE, behind, has_fault, journal_of, leaf, named};
 use crate::same::same;
-use ksi_journal::{JournalFault, Refused, Version, VersionRefusal, write, write_version};
+use ksi_imprint::Tiny;
+use ksi_journal::{Journal, JournalFault, Refused, Version, VersionRefusal, write, write_version};
 use std::alloc::Global;
 use std::test::Fail;
 
 /// The magic of version 2.
 const TWO: &str = "4b53494a524e4c32";
 
-/// How many bytes a journal is written in, whether these are those of this version, whether its text in version 2 is that
-/// one, and whether in version 1 it is that one or is refused.
+/// Whether a journal is written so in version 2.
+fn is_in_two(alloc: Global, journal: &Journal<Tiny>, two: &[u8]) -> bool {
+    match write_version(alloc, journal, Version::Two) {
+        Ok(text) => text.as_slice() == two,
+        Err(_) => false,
+    }
+}
+
+/// Whether a journal is written so in version 1, or is refused where it wants version 2.
+fn is_in_one(alloc: Global, journal: &Journal<Tiny>, one: &[u8], version: Version) -> bool {
+    match (write_version(alloc, journal, Version::One), version) {
+        (Ok(text), Version::One) => text.as_slice() == one,
+        (Err(Refused::Fault(VersionRefusal::NeedsTwo)), Version::Two) => true,
+        _ => false,
+    }
+}
+
+/// Whether a journal is written so, in the version that it has.
+fn is_written(alloc: Global, journal: &Journal<Tiny>, text: &[u8]) -> Result<bool, Fail> {
+    let written = write(alloc, journal)?;
+    Ok(written.as_slice() == text)
+}
+
+/// Whether a journal is written as these bytes, whether its text in version 2 is that one, and whether in version 1 it is
+/// that one or is refused.
+fn are_texts(alloc: Global, one: &[u8], two: &[u8], version: Version) -> Result<[bool; 3], Fail> {
+    let journal = journal_of(alloc, two)?;
+    let own = match version {
+        Version::One => one,
+        Version::Two => two,
+    };
+    let written = is_written(alloc, &journal, own)?;
+    let in_two = is_in_two(alloc, &journal, two);
+    Ok([written, in_two, is_in_one(alloc, &journal, one, version)])
+}
+
+/// How many bytes a journal has in either version, and whether it is written so.
 fn writes(alloc: Global, words: &str, version: Version) -> Result<(usize, [bool; 3]), Fail> {
     let one = behind(alloc, ONE, words)?;
     let two = behind(alloc, TWO, words)?;
-    let journal = journal_of(alloc, two.as_slice())?;
-    let written = write(alloc, &journal)?;
-    let in_two = match write_version(alloc, &journal, Version::Two) {
-        Ok(text) => text.as_slice() == two.as_slice(),
-        Err(_) => false,
-    };
-    let in_one = write_version(alloc, &journal, Version::One);
-    let (text, told) = match version {
-        Version::One => (
-            one.as_slice(),
-            matches!(&in_one, Ok(text) if text.as_slice() == one.as_slice()),
-        ),
-        Version::Two => (
-            two.as_slice(),
-            matches!(&in_one, Err(Refused::Fault(VersionRefusal::NeedsTwo))),
-        ),
-    };
-    let same = written.as_slice() == text;
-    Ok((written.as_slice().len(), [same, in_two, told]))
+    let texts = are_texts(alloc, one.as_slice(), two.as_slice(), version)?;
+    Ok((two.as_slice().len(), texts))
 }
 
 #[test]

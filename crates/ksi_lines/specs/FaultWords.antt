@@ -9,6 +9,10 @@ use Rattle.ksi_journal.specs.declared.fault.JournalFault.{JournalFault}
 use Rattle.ksi_journal.specs.declared.fault.JournalFault.TheVariants as journals
 use Rattle.ksi_consistency.specs.declared.fault.FrontFault.{FrontFault}
 use Rattle.ksi_consistency.specs.declared.fault.FrontFault.TheVariants as fronts
+use Rattle.ksi_logblock.specs.declared.proof_fault.ProofFault.{ProofFault}
+use Rattle.ksi_logblock.specs.declared.proof_fault.ProofFault.TheVariants as proofs
+use Rattle.ksi_nodestore.specs.declared.inspected.NodeFault.{NodeFault}
+use Rattle.ksi_nodestore.specs.declared.inspected.NodeFault.TheVariants as nodes
 use Rattle.ksi_schedule.specs.declared.fault.LineFault.{LineFault}
 use Rattle.ksi_schedule.specs.declared.fault.LineFault.TheVariants as lines
 use Rattle.ksi_schedule.specs.declared.fault.ScheduleFault.{ScheduleFault}
@@ -79,3 +83,16 @@ schedule_fault at = line_code at.0 ∷ decimal at.1 ∷ []
 -- the line of a fault of a schedule
 abbrev pub IsLineOf : ℕ → ScheduleFault → List ℕ → Type 0
 IsLineOf n (schedules.Line fault line) text = text ≡ malformed_line n (schedule_fault (fault, line))
+
+abbrev pub proof_fault : ProofFault → List (List ℕ)
+proof_fault proofs.Magic = codes "G1" ∷ []
+proof_fault (proofs.Tlv place) = codes "G2" ∷ decimal place ∷ []
+proof_fault (proofs.Order place) = codes "G3" ∷ decimal place ∷ []
+proof_fault (proofs.Imprint place) = codes "G4" ∷ decimal place ∷ []
+proof_fault (proofs.Number place) = codes "G5" ∷ decimal place ∷ []
+proof_fault (proofs.Links place) = codes "G6" ∷ decimal place ∷ []
+
+abbrev pub node_fault : NodeFault → List (List ℕ)
+node_fault nodes.NotFormatted = codes "N1" ∷ []
+node_fault (nodes.Malformed place) = codes "N2" ∷ decimal place ∷ []
+node_fault (nodes.Bad core cores start) = codes "N3" ∷ decimal core ∷ decimal cores ∷ decimal start ∷ []

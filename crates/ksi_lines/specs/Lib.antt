@@ -1,4 +1,6 @@
 pub mod Lines
 pub mod FaultWords
 pub mod Answers
+pub mod Blocks
+pub mod Mirrors
 pub mod Printed

@@ -96,8 +96,8 @@ fn letter(side: Side) -> &'static str
 /// Two strings in hex, which are so short that a line holds both.
 #[tactic(auto, using(crate::proofs::LineLengths::hex_length))]
 pub(crate) fn clash_line(alloc: Global, one: &[u8], two: &[u8]) -> Result<Line, NoMemory>
-    requires one { length one.now ≤ 4130 }
-    requires two { length two.now ≤ 4130 }
+    requires one { length one.now ≤ 8000 }
+    requires two { length two.now ≤ 8000 }
     ensures { IfOk result (λ line. line ≡ clash_line one.now two.now) }
 {
     let one = hex::encode(alloc, one)?;

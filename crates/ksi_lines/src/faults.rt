@@ -1,7 +1,7 @@
 // The line of a file that is not in its grammar: the fault's code and its values.
 ghost use Rattle.std.specs.Prelude.{◌≡◌, ◌≤◌, ◌∷◌, [], map, length};
 ghost use Rattle.std.specs.Fmt.{decimal};
-ghost use Rattle.ksi_lines.specs.FaultWords.{signature_fault, publications_fault, journal_fault, front_fault, line_code, IsLineOf};
+ghost use Rattle.ksi_lines.specs.FaultWords.{signature_fault, publications_fault, journal_fault, front_fault, proof_fault, line_code, IsLineOf, node_fault};
 ghost use Rattle.ksi_lines.specs.Lines.{malformed_line};
 ghost use Rattle.ksi_lines.specs.Printed.{word_text, room};
 
@@ -10,6 +10,8 @@ use crate::printing::Word::{self, Digest, Number, Text};
 use crate::printing::print;
 use ksi_consistency::FrontFault;
 use ksi_journal::JournalFault;
+use ksi_logblock::ProofFault;
+use ksi_nodestore::NodeFault;
 use ksi_publications::PublicationsFault;
 use ksi_schedule::{LineFault, ScheduleFault};
 use ksi_signature::SignatureFault;
@@ -97,6 +99,20 @@ pub fn schedule_fault_line(n: usize, fault: &ScheduleFault) -> Line
     }
 }
 
+/// Of file word `n`, which is a node file.
+pub fn node_fault_line(n: usize, fault: NodeFault) -> Line
+    ensures { result ≡ malformed_line n (node_fault fault) }
+{
+    match fault {
+        NodeFault::NotFormatted => malformed(n, "N1", &[]),
+        NodeFault::Malformed(place) => malformed(n, "N2", &[Number(place)]),
+        NodeFault::Bad(core, cores, start) => {
+            let values = [Number(core as u64), Number(cores as u64), Number(start)];
+            malformed(n, "N3", &values)
+        }
+    }
+}
+
 fn line_code(fault: LineFault) -> &'static str
     ensures code { result.now ≡ line_code fault }
     ensures short { length result.now ≤ 3 }
@@ -110,6 +126,20 @@ fn line_code(fault: LineFault) -> &'static str
         LineFault::TooManyEvents => "L6",
         LineFault::Header => "L7",
         LineFault::Name => "L8",
+    }
+}
+
+/// Of file word `n`, which is the proof of a line.
+pub fn proof_fault_line(n: usize, fault: ProofFault) -> Line
+    ensures { result ≡ malformed_line n (proof_fault fault) }
+{
+    match fault {
+        ProofFault::Magic => malformed(n, "G1", &[]),
+        ProofFault::Tlv(place) => at_place(n, "G2", place),
+        ProofFault::Order(place) => at_place(n, "G3", place),
+        ProofFault::Imprint(place) => at_place(n, "G4", place),
+        ProofFault::Number(place) => at_place(n, "G5", place),
+        ProofFault::Links(place) => at_place(n, "G6", place),
     }
 }
 

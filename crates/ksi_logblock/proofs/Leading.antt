@@ -1,5 +1,5 @@
 -- Each proof of a block leads to its root, along its line's way.
-use Rattle.std.proofs.Common.{◌≡◌, ℕ, zero, suc, ◌<◌, ◌≤◌, List, [], ◌∷◌, ◌++◌, length, map, reverse, append-nil, Result, Ok, Err, refl, sym, ap, ◌∙◌, arith}
+use Rattle.std.proofs.Common.{◌≡◌, ℕ, zero, suc, ◌<◌, ◌≤◌, List, [], ◌∷◌, ◌++◌, length, map, reverse, append-nil, Result, Ok, Err, refl, sym, ap, ap₂, ◌∙◌, arith}
 use Rattle.std.specs.Prelude.{IfOk, ◌↔◌}
 use Rattle.std.proofs.lemmas.List.{length-map}
 use Rattle.ksi_imprint.specs.Imprints.{zero_imprint}
@@ -16,9 +16,9 @@ use Rattle.ksi_aggtree.specs.Rounds.{IsRound, as_node, item_at, leaf_level, tree
 use Rattle.ksi_logblock.specs.declared.line_proof.LineLink.{LineLink}
 use Rattle.ksi_logblock.specs.declared.line_proof.LineProof.{LineProof}
 use Rattle.ksi_logblock.specs.Blocks.{Masked, items_of, leaf_item, leaves_of, line_at, mask_at}
-use Rattle.ksi_logblock.specs.Links.{plain_line_links, sides_of}
+use Rattle.ksi_logblock.specs.Links.{line_link_of, plain_line_links, sides_of}
 use Rattle.ksi_logblock.specs.Locating.{kept_root}
-use Rattle.ksi_logblock.specs.Proofs.{imprint_or_fault, leaf_node, root_by}
+use Rattle.ksi_logblock.specs.Proofs.{imprint_or_fault, leaf_node, own_proof, root_by}
 use Rattle.ksi_logblock.proofs.Leaves.{leaf_here, leaves_count}
 use Rattle.ksi_logblock.proofs.Roots.{item_is}
 
@@ -38,6 +38,15 @@ line_sides (link ∷ links) = ap (λ (sides : List Side). link.side ∷ sides) (
 chain_sides : (links : List Link) → map (λ (link : PlainLink). link.side) (plain_links links) ≡ map (λ (link : Link). link.side) links
 chain_sides [] = refl
 chain_sides (link ∷ links) = ap (λ (sides : List Side). link.side ∷ sides) (chain_sides links)
+
+-- the links of a proof, from what climbing sees of them
+links_again : (links : List LineLink) → map line_link_of (plain_line_links links) ≡ links
+links_again [] = refl
+links_again (link ∷ links) = ap (λ (others : List LineLink). link ∷ others) (links_again links)
+
+pub own_led : (image : List ℕ → List ℕ) (block : Masked) (proof : LineProof) (k : ℕ) → proof.mask ≡ mask_at image block k → plain_line_links proof.links ≡ plain_links (chain_of image (items_of image block) k) → proof ≡ own_proof image block k
+own_led image block proof k mask links =
+    ap₂ (λ (m : List ℕ) (l : List LineLink). record { mask = m; links = l }) mask (sym (links_again proof.links) ∙ ap (map line_link_of) links)
 
 module _ (image : List ℕ → List ℕ) (block : Masked) (proof : LineProof) (k : ℕ) (there : k < length block.lines) (mask : proof.mask ≡ mask_at image block k) (links : plain_line_links proof.links ≡ plain_links (chain_of image (items_of image block) k)) where
   abbrev items : List Item

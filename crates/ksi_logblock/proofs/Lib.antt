@@ -18,3 +18,4 @@ pub mod Short
 pub mod Showing
 pub mod Strings
 pub mod Trees
+pub mod Standing

@@ -6,7 +6,9 @@ use Rattle.ksi_aggchain.specs.declared.node.Node.{Node}
 use Rattle.ksi_aggtree.specs.declared.item.Item.{Item}
 use Rattle.ksi_aggtree.specs.Paths.{links_from, name_links, chain_of}
 use Rattle.ksi_aggtree.specs.Rounds.{aggregation_join, leaf, leaf_of_place, item_at, no_item, root_from, root_of, tree_of, tree_path}
-use Rattle.ksi_logblock.specs.Blocks.{Masked, leaf_item, leaves_of, block_root}
+use Rattle.ksi_logblock.specs.Blocks.{Masked, items_of, leaf_item, leaves_of, block_root}
+use Rattle.ksi_imprint.specs.Imprints.{zero_imprint}
+use Rattle.ksi_logblock.proofs.Leaves.{leaves_count}
 
 abbrev pub TreesFit : Type 0
 TreesFit = (join : Node → Node → Node) (leaf : ℕ → Node) (k lo n : ℕ) → n ≤ 2 ^ k → tree join leaf lo n ≡ tree_within join leaf k lo n
@@ -20,6 +22,11 @@ item_is leaves k d within = get_or-map leaf_item leaves k d no_item within
 some_root : (n : ℕ) (x : Node) → 0 < n → root_from n x ≡ Some x
 some_root zero x some = absurd (omega (arith, some))
 some_root (suc n) x some = refl
+
+pub block_some : (image : List ℕ → List ℕ) (block : Masked) → 0 < length block.lines → block_root image block ≡ Some (tree_of image (items_of image block))
+block_some image block some =
+    let n = length-map (leaves_of image block) leaf_item ∙ leaves_count image block.seed zero_imprint block.lines in
+    some_root (length (items_of image block)) (tree_of image (items_of image block)) (omega (arith, n, some))
 
 module _ (image : List ℕ → List ℕ) where
   abbrev pub within : List (List ℕ) → Node

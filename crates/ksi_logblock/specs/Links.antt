@@ -11,6 +11,10 @@ most_links = 63
 abbrev pub plain_line_link : LineLink → PlainLink
 plain_line_link link = record { side = link.side; correction = link.correction; sibling = link.sibling; raw = false }
 
+-- a link of imprints as the proof of a line has it
+abbrev pub line_link_of : PlainLink → LineLink
+line_link_of link = record { side = link.side; correction = link.correction; sibling = link.sibling }
+
 abbrev pub plain_line_links : List LineLink → List PlainLink
 plain_line_links links = map plain_line_link links
 

@@ -1,11 +1,13 @@
--- What a line's proof leads to.
-use Rattle.std.specs.Prelude.{ℕ, List, Result, Ok, Err}
+-- What a line's proof leads to, and the proof of each line of a block.
+use Rattle.std.specs.Prelude.{ℕ, List, map, Result, Ok, Err}
 use Rattle.ksi_aggchain.specs.declared.node.Node.{Node}
 use Rattle.ksi_aggchain.specs.declared.climbing.LevelFault.{LevelFault}
 use Rattle.ksi_aggchain.specs.Climbing.{climbed}
+use Rattle.ksi_aggchain.specs.Owned.{plain_links}
+use Rattle.ksi_aggtree.specs.Paths.{chain_of}
 use Rattle.ksi_logblock.specs.declared.line_proof.LineProof.{LineProof}
-use Rattle.ksi_logblock.specs.Blocks.{leaf_text}
-use Rattle.ksi_logblock.specs.Links.{plain_line_links}
+use Rattle.ksi_logblock.specs.Blocks.{Masked, items_of, leaf_text, mask_at}
+use Rattle.ksi_logblock.specs.Links.{line_link_of, plain_line_links}
 
 -- the node that a line's links climb from: its leaf, at level 1
 abbrev pub leaf_node : (List ℕ → List ℕ) → List ℕ → List ℕ → Node
@@ -18,3 +20,7 @@ imprint_or_fault (Err fault) = Err fault
 -- the imprint that a line and its proof lead to, or the first link whose level passes 255
 abbrev pub root_by : (List ℕ → List ℕ) → List ℕ → LineProof → Result (List ℕ) LevelFault
 root_by image line proof = imprint_or_fault (climbed image 0 (leaf_node image proof.mask line) (plain_line_links proof.links))
+
+-- the proof of line k: its own mask and chain
+abbrev pub own_proof : (List ℕ → List ℕ) → Masked → ℕ → LineProof
+own_proof image block k = record { mask = mask_at image block k; links = map line_link_of (plain_links (chain_of image (items_of image block) k)) }

@@ -1,13 +1,15 @@
 -- What the answers about a line and its proof show.
-use Rattle.std.specs.Prelude.{◌≡◌, ◌≢◌, ℕ, ◌<◌, List, length, Ok, Err}
-use Rattle.ksi_imprint.specs.Imprints.{IsClash}
+use Rattle.std.specs.Prelude.{◌≡◌, ◌≢◌, ◌⊎◌, ℕ, ◌<◌, ◌≤◌, List, length, Ok, Err}
+use Rattle.std.specs.List.{AllByRecursion}
+use Rattle.ksi_imprint.specs.Imprints.{IsClash, IsImprint}
+use Rattle.ksi_imprint.specs.declared.clash.Clash as clashes
 use Rattle.ksi_split.specs.Ways.{way_of}
 use Rattle.ksi_logblock.specs.declared.line_proof.LineProof.{LineProof}
 use Rattle.ksi_logblock.specs.declared.locating.Located.{Located}
 use Rattle.ksi_logblock.specs.declared.locating.Located.TheVariants.{NotAccepted, In, Clash}
 use Rattle.ksi_logblock.specs.declared.locating.LineRefusal.{LineRefusal}
 use Rattle.ksi_logblock.specs.declared.locating.LineRefusal.TheVariants.{Level, RootDiffers}
-use Rattle.ksi_logblock.specs.Blocks.{Masked, line_at, mask_at}
+use Rattle.ksi_logblock.specs.Blocks.{Masked, line_at, longest_line, mask_at}
 use Rattle.ksi_logblock.specs.Links.{sides_of}
 use Rattle.ksi_logblock.specs.Locating.{kept_root}
 use Rattle.ksi_logblock.specs.Proofs.{root_by}
@@ -37,3 +39,17 @@ abbrev pub HasClash : Located → Type 0
 HasClash (NotAccepted refusal) = ⊥
 HasClash (In k) = ⊥
 HasClash (Clash clash) = Unit {0}
+
+-- so short strings that a line can show both
+abbrev pub IsShortAnswer : Located → Type 0
+IsShortAnswer (Clash clash) = (length clash.one ≤ longest_line) × (length clash.two ≤ longest_line)
+IsShortAnswer _ = Unit {0}
+
+-- the mask and the siblings of a proof are imprints
+pub record HasImprints (proof : LineProof) : Type 0 where
+  pub mask : IsImprint proof.mask
+  pub siblings : AllByRecursion (λ link. length link.sibling ≡ 33) proof.links
+
+-- the line stands in the block, with its mask and sides, or two different strings have one hash
+abbrev pub StandsOrClash : (List ℕ → List ℕ) → Masked → List ℕ → LineProof → Type 0
+StandsOrClash image block line proof = ((k : ℕ) × IsLine image block line proof k) ⊎ ((clash : clashes.Clash) × IsClash image clash)

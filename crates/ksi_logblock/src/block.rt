@@ -4,7 +4,7 @@ ghost use Rattle.ksi_aggchain.specs.Owned.{plain_links};
 ghost use Rattle.ksi_split.specs.Ways.{way_of};
 ghost use Rattle.ksi_aggtree.specs.Nodes.{node_text};
 ghost use Rattle.ksi_logblock.specs.Locating.{kept_root};
-ghost use Rattle.ksi_logblock.specs.Proofs.{root_by};
+ghost use Rattle.ksi_logblock.specs.Proofs.{own_proof, root_by};
 ghost use Rattle.ksi_aggtree.specs.Paths.{chain_of};
 ghost use Rattle.ksi_aggtree.specs.Rounds.{tree_from};
 ghost use Rattle.std.specs.Str.{bytes_eq};
@@ -139,6 +139,7 @@ impl<'a, C: Compress> Block<'a, C> {
         ensures links { IfOk result (λ proof. plain_line_links proof.links ≡ plain_links (chain_of C.image (items_of C.image self.now) k)) }
         ensures way { IfOk result (λ proof. sides_of proof.links ≡ way_of k (length self.now.lines)) }
         ensures root { IfOk result (λ proof. root_by C.image (line_at self.now k) proof ≡ Ok (kept_root C.image self.now)) }
+        ensures own { IfOk result (λ proof. proof ≡ own_proof C.image self.now k) }
     {
         own_proofs();
         let _count = self.count();

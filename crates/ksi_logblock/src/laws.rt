@@ -1,13 +1,14 @@
 //! What holds of blocks, for the layers above to cite. None of these functions does anything.
-ghost use Rattle.std.specs.Prelude.{◌≡◌, ◌<◌, ◌≤◌, ◌+◌, ◌↔◌, ◌⊎◌, ◌++◌, ℕ, List, Ok, Err, length};
+ghost use Rattle.std.specs.Prelude.{◌≡◌, ◌<◌, ◌≤◌, ◌+◌, ◌↔◌, ◌⊎◌, ◌++◌, ℕ, List, Some, Ok, Err, length};
 ghost use Rattle.std.specs.List.{AllByRecursion};
 ghost use Rattle.ksi_imprint.specs.Imprints.{IsImprint, join_text, zero_imprint};
 ghost use Rattle.ksi_split.specs.Ways.{way_of};
 ghost use Rattle.ksi_aggchain.specs.Climbing.{level_after};
 ghost use Rattle.ksi_aggchain.specs.Owned.{plain_links};
 ghost use Rattle.ksi_aggtree.specs.Paths.{chain_of};
+ghost use Rattle.ksi_aggtree.specs.Rounds.{tree_of};
 ghost use Rattle.ksi_aggchain.specs.Links.{highest_level};
-ghost use Rattle.ksi_logblock.specs.Blocks.{Masked, items_of, leaf_at, leaves_of, line_at, mask_at, most_lines};
+ghost use Rattle.ksi_logblock.specs.Blocks.{Masked, block_root, items_of, leaf_at, leaves_of, line_at, mask_at, most_lines};
 ghost use Rattle.ksi_logblock.specs.File.{IsProofFile, IsProofFault, proof_text};
 ghost use Rattle.ksi_logblock.specs.Kept.{IsLineLink};
 ghost use Rattle.ksi_logblock.specs.Links.{most_links, plain_line_links, sides_of};
@@ -17,8 +18,8 @@ ghost use Rattle.ksi_logblock.specs.Logs.{IsLogOf, IsLogRefusal, MakeBlock, line
 ghost use Rattle.ksi_logblock.specs.declared.proof_fault.ProofFault.{ProofFault};
 ghost use Rattle.ksi_logblock.specs.Locating.{kept_root, located};
 ghost use Rattle.ksi_logblock.specs.ProofReading.{proof_at};
-ghost use Rattle.ksi_logblock.specs.Proofs.{root_by};
-ghost use Rattle.ksi_logblock.specs.Shown.{IsLine, LeadsToRoot, Shows};
+ghost use Rattle.ksi_logblock.specs.Proofs.{own_proof, root_by};
+ghost use Rattle.ksi_logblock.specs.Shown.{HasImprints, IsLine, LeadsToRoot, Shows, StandsOrClash};
 ghost use Rattle.ksi_logblock.specs.declared.line_proof.LineProof.{LineProof};
 ghost use Rattle.ksi_logblock.specs.declared.locating.Located.TheVariants as answers;
 
@@ -52,10 +53,19 @@ pub(crate) fn own_proofs()
     ensures way { (image : List ℕ → List ℕ) (block : Masked) (proof : LineProof) (k : ℕ) → k < length block.lines →
         proof.mask ≡ mask_at image block k → plain_line_links proof.links ≡ plain_links (chain_of image (items_of image block) k) →
         sides_of proof.links ≡ way_of k (length block.lines) }
+    ensures own { (image : List ℕ → List ℕ) (block : Masked) (proof : LineProof) (k : ℕ) →
+        proof.mask ≡ mask_at image block k → plain_line_links proof.links ≡ plain_links (chain_of image (items_of image block) k) →
+        proof ≡ own_proof image block k }
 {
     one_chain();
     one_climb();
 }
+
+/// A block that has lines has a root.
+pub fn lines_have_a_root()
+    ensures { (image : List ℕ → List ℕ) (block : Masked) → 0 < length block.lines →
+        block_root image block ≡ Some (tree_of image (items_of image block)) }
+{}
 
 /// Whatever is answered of a line and a proof over a block shows what it says, for every hash function whose images are
 /// imprints; and the line is found exactly where it stands in the block, and its proof has its own mask and sides.
@@ -74,6 +84,15 @@ pub fn location_shows()
     one_answer();
     one_split();
     one_way();
+}
+
+/// Whatever proof leads to the root of a block shows its line in the block, or two different strings have one hash.
+pub fn leading_proof_shows()
+    ensures { (image : List ℕ → List ℕ) (block : Masked) (line : List ℕ) (proof : LineProof) →
+        ((bytes : List ℕ) → IsImprint (image bytes)) → 0 < length block.lines → HasImprints proof →
+        LeadsToRoot image block line proof → StandsOrClash image block line proof }
+{
+    location_shows();
 }
 
 /// The file of a proof is a file of that proof.

@@ -4,9 +4,10 @@ ghost use Rattle.std.specs.List.{AllByRecursion};
 ghost use Rattle.ksi_beside.specs.Beside.{IsApart, IsShortWalk, differing, laid_from};
 ghost use Rattle.ksi_aggchain.specs.Climbing.{level_after};
 ghost use Rattle.ksi_aggchain.specs.Links.{highest_level};
+ghost use Rattle.ksi_logblock.specs.Logs.{IsShort};
 ghost use Rattle.ksi_logblock.specs.Links.{most_links, plain_line_links, sides_of};
 ghost use Rattle.ksi_logblock.specs.Locating.{block_text, compared, first_pair, found, line_named, line_pairs, line_rungs, located};
-ghost use Rattle.ksi_logblock.specs.Shown.{Shows, HasClash, IsLine, LeadsToRoot};
+ghost use Rattle.ksi_logblock.specs.Shown.{Shows, HasClash, IsLine, IsShortAnswer, LeadsToRoot};
 ghost use Rattle.ksi_logblock.specs.declared.locating.Located.TheVariants as answers;
 
 use crate::block::Block;
@@ -61,6 +62,7 @@ pub fn locate<C: Compress>(
     ensures shown { IfOk result (Shows C.image block.now line.now proof.now) }
     ensures inside { IfOk result (λ answer. (k : ℕ) → (answer ≡ answers.In k) ↔
         (LeadsToRoot C.image block.now line.now proof.now × IsLine C.image block.now line.now proof.now k)) }
+    ensures short { AllByRecursion IsShort block.now.lines → IsShort line.now → IfOk result IsShortAnswer }
     ensures memory { OnErr result (HasClash (located C.image block.now line.now proof.now)) }
 {
     location_shows();
@@ -78,6 +80,7 @@ fn answer<C: Compress>(
 ) -> Result<Located, NoMemory>
     requires { 0 < length block.now.lines }
     ensures answer { IfOk result (λ answer. answer ≡ located C.image block.now line.now proof.now) }
+    ensures short { AllByRecursion IsShort block.now.lines → IsShort line.now → IfOk result IsShortAnswer }
     ensures memory { OnErr result (HasClash (located C.image block.now line.now proof.now)) }
 {
     low_levels();
@@ -103,6 +106,7 @@ fn compare<C: Compress>(
     requires some { 0 < length block.now.lines }
     requires levels { level_after 1 (plain_line_links proof.now.links) ≤ highest_level }
     ensures answer { IfOk result (λ answer. answer ≡ compared C.image block.now line.now proof.now) }
+    ensures short { AllByRecursion IsShort block.now.lines → IsShort line.now → IfOk result IsShortAnswer }
     ensures memory { OnErr result (HasClash (compared C.image block.now line.now proof.now)) }
 {
     match line_named(block, proof) {
@@ -153,6 +157,7 @@ fn lay_beside<C: Compress>(
     requires there { IfSome named (λ k. k < length block.now.lines) }
     requires levels { level_after 1 (plain_line_links proof.now.links) ≤ highest_level }
     ensures answer { IfOk result (λ answer. answer ≡ found named (first_pair C.image block.now line.now proof.now named)) }
+    ensures short { AllByRecursion IsShort block.now.lines → IsShort line.now → IfOk result IsShortAnswer }
     ensures memory { OnErr result (HasClash (found named (first_pair C.image block.now line.now proof.now named))) }
 {
     let walk = along_line::<C>(alloc, block, line, proof)?;
@@ -221,6 +226,7 @@ fn compare_lines<C: Compress>(
 ) -> Result<Located, NoMemory>
     requires { IfSome named (λ k. k < length block.now.lines) }
     ensures answer { IfOk result (λ answer. answer ≡ found named (differing (line_pairs block.now line.now named))) }
+    ensures short { AllByRecursion IsShort block.now.lines → IsShort line.now → IfOk result IsShortAnswer }
     ensures memory { OnErr result (HasClash (found named (differing (line_pairs block.now line.now named)))) }
 {
     let k = match named {

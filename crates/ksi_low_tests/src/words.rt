@@ -1,6 +1,6 @@
 use crate::same::same;
 use ksi_imprint::{Imprint, Refused};
-use ksi_words::{Command, WordsRefusal, command, hash, number, time};
+use ksi_words::{Command, WordsRefusal, command, hash, number, seed, time};
 use std::alloc::Global;
 use std::process::Abort;
 use std::str::Split;
@@ -35,6 +35,11 @@ fn sign(imprint: &Imprint) -> &'static str {
         Some(other) if other == *imprint => "#",
         _ => "other",
     }
+}
+
+/// `#` for the seed of those digits.
+fn seed_sign(seed: &[u8; 32]) -> &'static str {
+    sign(&Imprint::of_digest(seed))
 }
 
 fn is_next(words: &mut Split<'_, char>, word: &str) -> bool {
@@ -77,6 +82,17 @@ fn says(text: &str, command: &Command<'_>) -> bool {
         Command::Migrate(old, new) => are(text, "migrate", old, new, "", ""),
         Command::Front(journal, _, _, out) => are(text, "front", journal, out, "", ""),
         Command::Compare(old, new, proof) => are(text, "compare", old, new, proof, ""),
+        Command::Block(log, seed) => are(text, "block", log, seed_sign(seed), "", ""),
+        Command::Line(log, seed, _, out) => are(text, "line", log, seed_sign(seed), out, ""),
+        Command::CheckLine(signature, publications, line, proof) => {
+            are(text, "checkline", signature, publications, line, proof)
+        }
+        Command::Locate(log, seed, line, proof) => {
+            are(text, "locate", log, seed_sign(seed), line, proof)
+        }
+        Command::Merge(one, two, out) => are(text, "merge", one, two, out, ""),
+        Command::Whole(mirror, journal) => are(text, "whole", mirror, journal, "", ""),
+        Command::Inspect(node) => are(text, "inspect", node, "", "", ""),
     }
 }
 
@@ -88,6 +104,7 @@ fn number_of(command: &Command<'_>) -> u64 {
         Command::Make(number, _) => *number,
         Command::Drill(number) => *number,
         Command::Front(_, p1, p2, _) => p1.wrapping_sub(*p2),
+        Command::Line(_, _, k, _) => *k,
         _ => 0,
     }
 }
@@ -118,7 +135,7 @@ fn is_told(
 
 #[test]
 fn each_command_is_told(rt: HostRuntime) -> Result<(), Fail> {
-    static ROWS: [(&str, &str, u64); 8] = [
+    static ROWS: [(&str, &str, u64); 10] = [
         ("sign j 18446744073709551615 s", "sign j s", u64::MAX),
         ("sign j 007 s", "sign j s", 7),
         (
@@ -130,11 +147,13 @@ fn each_command_is_told(rt: HostRuntime) -> Result<(), Fail> {
         ("drill 18446744073709551615", "drill", u64::MAX),
         ("front j 007 5 f", "front j f", 2),
         ("verify s ^ p", "verify s # p", 0),
+        ("line g # 007 f", "line g # f", 7),
+        ("block g ^", "block g #", 0),
         ("verify  # ", "verify  # ", 0),
     ];
     // what is asked just as it stands
     const ASKED: &str =
-        "replay f j;publish j p;verify s # p;verify verify # help;verify s-- # p=-;verify 0 # 1;audit j s # p;migrate j k;compare j k f";
+        "replay f j;publish j p;verify s # p;verify verify # help;verify s-- # p=-;verify 0 # 1;audit j s # p;migrate j k;compare j k f;block g #;checkline s p l f;locate g # l f;merge m n o;whole m j;inspect n";
     for (line, text, number) in &ROWS {
         is_told(&rt, rt.alloc(), line, text, *number)?;
     }
@@ -147,14 +166,14 @@ fn each_command_is_told(rt: HostRuntime) -> Result<(), Fail> {
 const BAD_FIRST: &str = "make f 7;drill 18446744073709551616";
 
 const BAD_SECOND: &str =
-    "sign j 18446744073709551616 s;verify s 12 p;verify s #0 p;verify s  p;front j x 2 f;verify s e3b0c44298fc1c149afbf4c8996fb92427ae41e4649b934ca495991b7852b85 p;verify s e3b0c44298fc1c149afbf4c8996fb92427ae41e4649b934ca495991b7852b85g p";
+    "sign j 18446744073709551616 s;verify s 12 p;verify s #0 p;verify s  p;front j x 2 f;verify s e3b0c44298fc1c149afbf4c8996fb92427ae41e4649b934ca495991b7852b85 p;verify s e3b0c44298fc1c149afbf4c8996fb92427ae41e4649b934ca495991b7852b85g p;block g 12;line g #0 x f;locate g  l f";
 
 const BAD_THIRD: &str =
-    "extend j s 9223372036854775808 t;extend j s # t;audit j s 12 p;front j 1 9223372036854775808 f";
+    "extend j s 9223372036854775808 t;extend j s # t;audit j s 12 p;front j 1 9223372036854775808 f;line g # x f";
 
 // Too few or too many words.
 const COUNTS: &str =
-    ";replay f;replay f j 1;sign j 1;publish j;extend j s 1;make 7;drill;drill 7 f;migrate;migrate j;migrate j k l;verify;verify s;verify s 12;verify s #;verify s # p q;verify s # p q r s t;verify s 12 p q;audit j s #;audit j s # p q;front;front j 1 2;front j 1 2 f g;compare j k;compare j k f g";
+    ";replay f;replay f j 1;sign j 1;publish j;extend j s 1;make 7;drill;drill 7 f;migrate;migrate j;migrate j k l;verify;verify s;verify s 12;verify s #;verify s # p q;verify s # p q r s t;verify s 12 p q;audit j s #;audit j s # p q;front;front j 1 2;front j 1 2 f g;compare j k;compare j k f g;merge m n;merge m n o p;whole m;whole m j k;inspect;inspect n n;block g;block g # f;line g # 1;line g # 1 f g;checkline s p l;checkline s p l f g;locate g # l;locate g # l f g";
 
 // Names of no command.
 const NAMES: &str =
@@ -220,6 +239,13 @@ fn numbers_have_1_to_20_digits_and_times_are_below_2_to_the_63(rt: HostRuntime) 
     for word in WORDS.split(';') {
         same(&rt, word, (number(word), time(word)), (None, None));
     }
+}
+
+#[test]
+fn a_seed_is_the_bytes_of_64_hex_digits(rt: HostRuntime) {
+    let digest = seed(CAPITALS).map(|seed| Imprint::of_digest(&seed));
+    same(&rt, "digits", digest, hash(DIGITS));
+    same(&rt, "12", seed("12"), None);
 }
 
 #[test]

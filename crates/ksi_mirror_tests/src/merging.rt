@@ -1,6 +1,6 @@
 use crate::files::{ONE, mirror_of};
 use crate::same::same;
-use ksi_imprint::Imprint;
+use ksi_imprint::{Bytes, Imprint};
 use ksi_mirror::{MergeRefusal, Mirror, Refused, merge, write_mirror};
 use std::alloc::Global;
 use std::test::Fail;
@@ -16,21 +16,47 @@ fn merged(alloc: Global, one: &Mirror, two: &Mirror) -> Result<Mirror, Fail> {
     }
 }
 
-/// Whether three mirrors give these bytes when they are merged with the last of them first, or with the first.
-fn give(alloc: Global, words: [&str; 3], want: &str) -> Result<[bool; 2], Fail> {
-    let [one, two, three] = words;
+fn pair(alloc: Global, one: &str, two: &str) -> Result<Mirror, Fail> {
     let one = mirror_of(alloc, one)?;
     let two = mirror_of(alloc, two)?;
+    merged(alloc, &one, &two)
+}
+
+/// The bytes of three mirrors, the last of which is merged behind the first two.
+fn left(alloc: Global, words: [&str; 3]) -> Result<Bytes, Fail> {
+    let [one, two, three] = words;
+    let pair = pair(alloc, one, two)?;
     let three = mirror_of(alloc, three)?;
-    let want = write_mirror(alloc, &mirror_of(alloc, want)?)?;
-    let left = merged(alloc, &merged(alloc, &one, &two)?, &three)?;
-    let right = merged(alloc, &one, &merged(alloc, &two, &three)?)?;
-    let left = write_mirror(alloc, &left)?;
-    let right = write_mirror(alloc, &right)?;
-    Ok([
-        left.as_slice() == want.as_slice(),
-        right.as_slice() == want.as_slice(),
-    ])
+    written(alloc, &pair, &three)
+}
+
+/// The bytes of three mirrors, the first of which is merged before the last two.
+fn right(alloc: Global, words: [&str; 3]) -> Result<Bytes, Fail> {
+    let [one, two, three] = words;
+    let one = mirror_of(alloc, one)?;
+    let pair = pair(alloc, two, three)?;
+    written(alloc, &one, &pair)
+}
+
+fn written(alloc: Global, one: &Mirror, two: &Mirror) -> Result<Bytes, Fail> {
+    let merged = merged(alloc, one, two)?;
+    Ok(write_mirror(alloc, &merged)?)
+}
+
+/// Whether these bytes are a mirror's.
+fn is_mirror(alloc: Global, text: &[u8], words: &str) -> Result<bool, Fail> {
+    let mirror = mirror_of(alloc, words)?;
+    let wanted = write_mirror(alloc, &mirror)?;
+    Ok(wanted.as_slice() == text)
+}
+
+/// Whether three mirrors give this one when they are merged with the last of them behind, or with the first before.
+fn give(alloc: Global, words: [&str; 3], want: &str) -> Result<[bool; 2], Fail> {
+    let text = left(alloc, words)?;
+    let is_left = is_mirror(alloc, text.as_slice(), want)?;
+    let text = right(alloc, words)?;
+    let is_right = is_mirror(alloc, text.as_slice(), want)?;
+    Ok([is_left, is_right])
 }
 
 #[test]

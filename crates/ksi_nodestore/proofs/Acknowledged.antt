@@ -1,26 +1,20 @@
 -- A store goes on with the fact of an event.
-use Rattle.std.proofs.Common.{◌≡◌, ◌⊎◌, inl, inr, ℕ, ◌+◌, ◌≤◌, ◌<◌, ◌^◌, List, [], ◌∷◌, ◌++◌, length, Bool, option_map, Option, Some, None, IfSome, refl, sym, subst, ◌∙◌, ap, arith, length-append}
-use Rattle.ksi_aggtree.specs.Rounds.{most_items}
-use Rattle.ksi_aggtree.specs.declared.entries.Entry.{Entry}
+use Rattle.std.proofs.Common.{◌≡◌, ℕ, ◌+◌, ◌≤◌, ◌<◌, ◌^◌, List, [], ◌∷◌, length, option_map, Option, Some, None, IfSome, sym, subst, ap, arith, length-append}
 use Rattle.ksi_synod.specs.CorePlans.{CorePlanState}
 use Rattle.ksi_corenode.specs.declared.fact.What.{What}
-use Rattle.ksi_corenode.specs.declared.fact.What.TheVariants.{Sealed, Tried, Promised, Cast, Holds}
 use Rattle.ksi_corenode.specs.declared.fact.Fact.{Fact}
 use Rattle.ksi_corenode.specs.declared.event.CoreEvent.{CoreEvent}
 use Rattle.ksi_corenode.specs.Facts.{StableState, stable_state, fact_of}
 use Rattle.ksi_corenode.specs.CoreState.{CoreState, state_of, IsTurn}
 use Rattle.ksi_corenode.specs.Events.{core_row, event_second}
-use Rattle.ksi_corenode.specs.Lawful.{IsLawful, MayStore, stored_by, with_new}
-use Rattle.ksi_corenode.specs.Restored.{HasFacts, IsWell}
-use Rattle.ksi_gates.specs.Drafts.{Draft}
+use Rattle.ksi_corenode.specs.Lawful.{IsLawful, stored_by, with_new}
+use Rattle.ksi_corenode.specs.Restored.{HasFacts}
 use Rattle.ksi_corenode.specs.declared.step.Step.{Step}
-use Rattle.ksi_gates.specs.declared.ending.Ending.{Ending}
 use Rattle.ksi_gates.specs.declared.ending.Ending.TheVariants.{Closed}
 use Rattle.ksi_gates.specs.Gates.{place_of, reading_of, record_text, records_text}
 use Rattle.ksi_nodestore.specs.Stores.{AreTexts}
 use Rattle.ksi_nodestore.proofs.Onward.{texts_size}
-use Rattle.ksi_nodestore.specs.Writing.{CanSpell, most_bytes}
-use Rattle.ksi_nodestore.specs.Takes.{HasRecordFor, IsReady, count_new}
+use Rattle.ksi_nodestore.specs.Takes.{count_new}
 
 lawful_on : (start second : ℕ) (core : CoreState) (facts : List Fact) (row : Option What) → core.start ≡ start → ((t : ℕ) → stable_state (state_of core t) ≡ stored_by facts t)
     → IfSome row (λ what. IsLawful core.start (stable_state (state_of core second)) (fact_of second what)) → IfSome (option_map (fact_of second) row) (λ fact. IsLawful start (stored_by facts fact.second) fact)

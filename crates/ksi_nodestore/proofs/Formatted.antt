@@ -1,12 +1,10 @@
 -- The file of a core without facts.
-use Rattle.std.specs.Int.{w64, from_be_bytes, to_be_bytes}
 use Rattle.std.specs.List.{All}
-use Rattle.std.proofs.Common.{◌≡◌, ◌≢◌, ℕ, ◌+◌, ◌-◌, ◌≤◌, ◌<◌, ◌^◌, Bool, true, if◌then◌else◌, List, [], ◌∷◌, ◌++◌, length, take, Result, Ok, Err, refl, ◌∙◌, ap, subst, sym, arith}
+use Rattle.std.proofs.Common.{◌≡◌, ◌≢◌, ℕ, ◌+◌, ◌-◌, ◌≤◌, ◌<◌, ◌^◌, Bool, true, if◌then◌else◌, List, [], ◌∷◌, ◌++◌, length, Ok, Err, ◌∙◌, ap, subst, sym, arith}
 use Rattle.std.proofs.lemmas.Nat.{from_be_bytes-to_be_bytes_8}
 use Rattle.std.proofs.lemmas.Bool.Decides.{nat_tests}
 use Rattle.std.proofs.lemmas.List.Elements.{All-nil}
 use Rattle.ksi_synod.specs.CorePlans.{CorePlanState, IsCorePlan}
-use Rattle.ksi_corenode.specs.declared.fact.Fact.{Fact}
 use Rattle.ksi_corenode.specs.Lawful.{AreLawful}
 use Rattle.ksi_gates.specs.declared.ending.Ending.TheVariants.{Closed}
 use Rattle.ksi_gates.specs.Gates.{Reading, behind, ends, reading_of, records_text}

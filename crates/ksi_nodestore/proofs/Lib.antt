@@ -5,3 +5,7 @@ pub mod Sizes
 pub mod Rows
 pub mod Acknowledged
 pub mod Formatted
+pub mod Tested
+pub mod Folded
+pub mod Tellings
+pub mod Writings

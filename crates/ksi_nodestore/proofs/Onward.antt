@@ -1,18 +1,17 @@
 -- A core goes on with the facts of records.
-use Rattle.std.proofs.Common.{◌≡◌, ◌⊎◌, inl, inr, ℕ, suc, ◌+◌, ◌≤◌, ◌<◌, List, [], ◌∷◌, ◌++◌, length, take, drop, get_or, true, Result, Ok, Err, OnOk, refl, sym, subst, ◌∙◌, ap, arith, append_assoc, length-append}
-use Rattle.std.proofs.lemmas.List.{take_more, take_all, take-append-drop, drop_more}
+use Rattle.std.proofs.Common.{◌≡◌, ◌⊎◌, inl, inr, ℕ, suc, ◌+◌, ◌≤◌, ◌<◌, List, [], ◌∷◌, ◌++◌, length, take, drop, get_or, true, Result, Ok, Err, OnOk, refl, sym, subst, ◌∙◌, ap, arith, length-append}
+use Rattle.std.proofs.lemmas.List.{take_more, take-append-drop, drop_more}
 use Rattle.ksi_synod.specs.CorePlans.{CorePlanState}
 use Rattle.ksi_corenode.specs.declared.fact.Fact.{Fact}
 use Rattle.ksi_corenode.specs.Facts.{StableState, stable_state}
 use Rattle.ksi_corenode.specs.CoreState.{CoreState, state_of}
 use Rattle.ksi_corenode.specs.Lawful.{AreLawful, IsLawful, stored_by}
-use Rattle.ksi_corenode.specs.Restored.{IsOfFacts}
 use Rattle.ksi_gates.specs.Gates.{record_text, records_text, reading_of}
 use Rattle.ksi_gates.specs.Logs.{OpensTo, IsBeforeOrAfter}
 use Rattle.ksi_nodestore.specs.Headers.{header_at}
 use Rattle.ksi_nodestore.specs.Texts.{IsTextOf}
 use Rattle.ksi_nodestore.proofs.Spelled.{one_fact}
-use Rattle.ksi_nodestore.specs.Stores.{AreTexts, AreFactsOf, IsCoreOf, IsFault, IsFileOf, GoesOn}
+use Rattle.ksi_nodestore.specs.Stores.{AreTexts, AreFactsOf, HasNoFact, IsCoreOf, IsFault, IsFileOf, GoesOn}
 
 pub texts_more : (facts : List Fact) (records : List (List ℕ)) (fact : Fact) (content : List ℕ) → AreTexts facts records → IsTextOf fact content → AreTexts (facts ++ fact ∷ []) (records ++ content ∷ [])
 texts_more [] [] fact content are is = (is, tt)
@@ -68,7 +67,7 @@ core_more image me plan records k content core within is of new on = (
 )
 
 pub fault_here : (start : ℕ) (facts : List Fact) (records : List (List ℕ)) (k place : ℕ) (content : List ℕ) → k < length records → content ≡ get_or records k content → place ≡ 18 + length (records_text (take k records))
-    → AreFactsOf start facts (take k records) → ((fact : Fact) → IsTextOf fact content → IsLawful start (stored_by facts fact.second) fact → ⊥) → IsFault start records place
+    → AreFactsOf start facts (take k records) → HasNoFact start facts content → IsFault start records place
 fault_here start facts records k place content within is here are none = record {
   facts = facts;
   before = take k records;
@@ -110,6 +109,11 @@ file_either me plan facts fact content file text lawful is image (inr after) = i
 pub on_ok : {T E P Q : Type 0} → (r : Result T E) → OnOk r P → (P → Q) → OnOk r Q
 on_ok (Ok value) is more = more is
 on_ok (Err refusal) is more = tt
+
+-- two facts of an Ok, the second of which has a condition
+pub on_both : {T E P Q R S : Type 0} → (r : Result T E) → OnOk r P → (Q → OnOk r R) → (P → (Q → R) → S) → OnOk r S
+on_both (Ok value) is also both = both is also
+on_both (Err refusal) is also both = tt
 
 -- ONE LIST OF FACTS
 

@@ -1,15 +1,15 @@
 -- How many bytes spellings have.
-use Rattle.std.specs.Int.{w32, w64, to_be_bytes}
 use Rattle.std.specs.List.{All, flat_map}
-use Rattle.std.proofs.Common.{◌≡◌, ℕ, ◌+◌, ◌*◌, ◌≤◌, ◌<◌, ◌^◌, List, [], ◌∷◌, ◌++◌, length, Option, Some, None, IfSome, ap, arith, length-append}
+use Rattle.std.proofs.Common.{ℕ, ◌+◌, ◌*◌, ◌≤◌, ◌<◌, ◌^◌, List, [], ◌∷◌, length, Option, Some, None, IfSome, ap, arith, length-append}
 use Rattle.std.proofs.lemmas.List.Elements.{All-head, All-tail}
 use Rattle.ksi_aggtree.specs.Names.{IsName}
 use Rattle.ksi_aggtree.specs.declared.entries.Entry.{Entry}
 use Rattle.ksi_corenode.specs.declared.fact.What.{What}
 use Rattle.ksi_corenode.specs.declared.fact.What.TheVariants.{Sealed, Tried, Promised, Cast, Holds}
 use Rattle.ksi_corenode.specs.declared.fact.Fact.{Fact}
-use Rattle.ksi_nodestore.specs.Texts.{name_text, number_of, entry_text, what_text, tag_of, fact_text, IsSpelled, FitsWhat, IsTextOf}
-use Rattle.ksi_nodestore.specs.Writing.{CanSpell}
+use Rattle.ksi_nodestore.specs.Texts.{name_text, entry_text, what_text, fact_text, IsSpelled, FitsWhat, IsTextOf}
+use Rattle.ksi_disk.specs.Costs.{Affords, Meter}
+use Rattle.ksi_nodestore.specs.Writing.{CanSpell, most_bytes}
 
 name_few : (name : Option (List ℕ)) → IfSome name IsName → length (name_text name) ≤ 65
 name_few None is = omega arith
@@ -34,3 +34,15 @@ what_few (Holds root) fits can = let size = fits.size in omega (arith, size)
 
 pub text_few : (fact : Fact) (bytes : List ℕ) → IsTextOf fact bytes → CanSpell fact.what → length bytes < 2 ^ 32
 text_few fact bytes is can = omega (arith, ap length is.text, what_few fact.what is.what can)
+
+what_most : (what : What) → FitsWhat what → length (what_text what) + 9 ≤ most_bytes what
+what_most (Sealed items) fits = omega (arith, entries_few items fits.1)
+what_most (Tried ballot) fits = omega arith
+what_most (Promised ballot) fits = omega arith
+what_most (Cast vote) fits = let size = fits.1.size in omega (arith, size)
+what_most (Holds root) fits = let size = fits.size in omega (arith, size)
+
+-- what affords the most affords the text
+pub affords_text : (fact : Fact) (bytes : List ℕ) (meter : Option Meter) → IsTextOf fact bytes → Affords (most_bytes fact.what + 6) 4 meter → Affords (length (fact_text fact) + 6) 4 meter
+affords_text fact bytes None is affords = affords
+affords_text fact bytes (Some meter) is affords = (omega (arith, what_most fact.what is.what, affords.0), affords.1)

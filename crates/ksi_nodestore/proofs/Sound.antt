@@ -1,7 +1,7 @@
 -- What is read has this spelling.
 use Rattle.std.specs.Int.{w32, w64, from_be_bytes, to_be_bytes}
-use Rattle.std.specs.List.{All, flat_map}
-use Rattle.std.proofs.Common.{◌≡◌, ℕ, zero, suc, ◌+◌, ◌-◌, ◌≤◌, ◌<◌, ◌^◌, nat_le, Bool, true, false, if◌then◌else◌, List, [], ◌∷◌, ◌++◌, length, take, drop, slice_index, option_map, Option, Some, None, IfSome, refl, sym, subst, ◌∙◌, ap, arith, append_assoc, length-append, length-drop}
+use Rattle.std.specs.List.{flat_map}
+use Rattle.std.proofs.Common.{◌≡◌, ℕ, zero, suc, ◌+◌, ◌≤◌, ◌<◌, ◌^◌, nat_le, Bool, true, false, if◌then◌else◌, List, [], ◌∷◌, ◌++◌, length, take, drop, slice_index, option_map, Option, Some, None, IfSome, refl, sym, subst, ◌∙◌, ap, arith, append_assoc, length-append, length-drop}
 use Rattle.std.proofs.Math.Seq.{take-append-add, take-add}
 use Rattle.std.proofs.lemmas.List.{append-nil, take-append-drop, drop-drop, drop_all, flat_map_more}
 use Rattle.ksi_aggtree.specs.Names.{IsName}
@@ -9,7 +9,7 @@ use Rattle.ksi_aggtree.specs.declared.entries.Entry.{Entry}
 use Rattle.ksi_corenode.specs.declared.fact.What.{What}
 use Rattle.ksi_corenode.specs.declared.fact.Fact.{Fact}
 use Rattle.ksi_corenode.specs.Facts.{fact_of}
-use Rattle.ksi_nodestore.specs.Texts.{name_text, entry_text, what_text, tag_of, fact_text, IsSpelled, FitsWhat, IsTextOf}
+use Rattle.ksi_nodestore.specs.Texts.{name_text, entry_text, what_text, tag_of, IsSpelled, FitsWhat, IsTextOf}
 use Rattle.ksi_nodestore.specs.TextReading.{entry_at, more_entries, entries_at, what_at, fact_at}
 use Rattle.ksi_nodestore.proofs.Spelled.{fact_again}
 

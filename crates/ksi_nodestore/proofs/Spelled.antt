@@ -1,9 +1,9 @@
 -- What is spelled is read again.
 use Rattle.std.specs.Int.{w32, w64, from_be_bytes, to_be_bytes}
 use Rattle.std.specs.List.{All, flat_map}
-use Rattle.std.proofs.Common.{◌≡◌, ℕ, zero, suc, ◌+◌, ◌≤◌, ◌<◌, ◌^◌, ◌==◌, ◌&&◌, nat_le, Bool, true, false, if◌then◌else◌, List, [], ◌∷◌, ◌++◌, length, take, drop, slice_index, option_map, Option, Some, None, IfSome, Ok, refl, sym, subst, ◌∙◌, ap, arith, append_assoc, length-append}
+use Rattle.std.proofs.Common.{◌≡◌, ℕ, ◌≤◌, ◌<◌, ◌^◌, ◌==◌, ◌&&◌, nat_le, Bool, true, false, if◌then◌else◌, List, [], ◌∷◌, ◌++◌, length, take, drop, slice_index, option_map, Option, Some, None, IfSome, Ok, refl, ◌∙◌, ap, arith, append_assoc, length-append}
 use Rattle.std.proofs.lemmas.Nat.{from_be_bytes-to_be_bytes_4, from_be_bytes-to_be_bytes_8}
-use Rattle.std.proofs.lemmas.List.{take_at, drop_at, take_all}
+use Rattle.std.proofs.lemmas.List.{take_at, drop_at}
 use Rattle.std.proofs.lemmas.List.Elements.{All-head, All-tail}
 use Rattle.std.proofs.lemmas.Bool.Decides.{nat_tests}
 use Rattle.ksi_imprint.specs.Imprints.{IsImprint}
@@ -19,7 +19,7 @@ use Rattle.ksi_corenode.specs.declared.fact.Fact.{Fact}
 use Rattle.ksi_corenode.specs.Facts.{fact_of}
 use Rattle.ksi_corenode.specs.Lawful.{is_submitted}
 use Rattle.ksi_nodestore.specs.Texts.{name_text, number_of, entry_text, what_text, tag_of, fact_text, IsSpelled, FitsWhat, IsTextOf, IsReadOf}
-use Rattle.ksi_nodestore.specs.TextReading.{is_name, name_in, name_at, entry_of, entry_behind, entry_at, more_entries, entries_at, sealed_at, ballot_at, vote_of, cast_at, root_of, what_at, fact_at}
+use Rattle.ksi_nodestore.specs.TextReading.{is_name, name_in, name_at, entry_of, entry_behind, entry_at, more_entries, entries_at, vote_of, root_of, what_at, fact_at}
 
 imprint_again : (imprint : List ℕ) → IsImprint imprint → imprint_at imprint ≡ Ok imprint
 imprint_again [] is = absurd (omega (arith, is.size))

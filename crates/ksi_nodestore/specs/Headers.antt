@@ -1,6 +1,6 @@
 -- What stands in front of a node file.
 use Rattle.std.specs.Int.{w64, from_be_bytes, to_be_bytes}
-use Rattle.std.specs.Prelude.{ℕ, ◌-◌, ◌^◌, nat_le, nat_lt, ◌&&◌, Bool, bytes_eq, if◌then◌else◌, List, [], ◌∷◌, ◌++◌, length, take, drop, slice_index, Result, Ok, Err}
+use Rattle.std.specs.Prelude.{ℕ, ◌-◌, ◌^◌, ◌<◌, ◌≤◌, nat_le, nat_lt, ◌&&◌, Bool, bytes_eq, if◌then◌else◌, List, [], ◌∷◌, ◌++◌, length, take, drop, slice_index, Result, Ok, Err}
 use Rattle.ksi_nodestore.specs.declared.heads.Header.{Header}
 use Rattle.ksi_nodestore.specs.declared.heads.HeaderFault.{HeaderFault}
 use Rattle.ksi_nodestore.specs.declared.heads.HeaderFault.TheVariants.{NotFormatted, Bad}
@@ -16,6 +16,11 @@ header_text core cores start = magic ++ core ∷ cores ∷ to_be_bytes w64 start
 -- a core of one to nine, and a start that leaves room for 2^24 seconds below 2^63
 abbrev pub is_good : ℕ → ℕ → ℕ → Bool
 is_good core cores start = nat_lt core cores && nat_le cores 9 && nat_le start (2 ^ 63 - 2 ^ 24)
+
+pub record IsGood (header : Header) : Type 0 where
+  pub member : header.core < header.cores
+  pub few : header.cores ≤ 9
+  pub early : header.start ≤ 2 ^ 63 - 2 ^ 24
 
 abbrev pub good_header : ℕ → ℕ → ℕ → Result Header HeaderFault
 good_header core cores start =

@@ -2,7 +2,10 @@ pub mod Headers
 pub mod Texts
 pub mod TextReading
 pub mod Writing
+pub mod Spelling
+pub mod FactReading
 pub mod Stores
 pub mod Refusals
 pub mod Opens
 pub mod Takes
+pub mod Inspecting

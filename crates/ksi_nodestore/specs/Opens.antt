@@ -25,6 +25,14 @@ IsRefused me plan file (Foreign core cores start) = HasNumbers file core cores s
 IsRefused me plan file (Malformed place) = (header_at (take 18 file) ≡ Ok (record { core = me; cores = plan.cores; start = plan.start })) × IsMalformedAt plan.start file place
 IsRefused me plan file NoMemory = Unit {0}
 
+-- a refusal that is not of the file
+abbrev pub IsOutside : OpenRefusal → Type 0
+IsOutside Failed = Unit {0}
+IsOutside NotFormatted = ⊥
+IsOutside (Foreign core cores start) = ⊥
+IsOutside (Malformed place) = ⊥
+IsOutside NoMemory = Unit {0}
+
 -- the count of faults after reads: it rises where the disk failed, and stays else
 abbrev pub CountsReads : {T : Type 0} → ℕ → ℕ → Result T OpenRefusal → Type 0
 CountsReads before now (Ok value) = now ≡ before

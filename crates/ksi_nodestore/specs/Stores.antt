@@ -1,5 +1,5 @@
 -- What a node file says: the facts of a core, or where it is broken. And what opening one answers.
-use Rattle.std.specs.Prelude.{◌≡◌, ◌⊎◌, ℕ, ◌+◌, List, [], ◌∷◌, ◌++◌, length, take, true, false, Bool, Result, Ok, Err}
+use Rattle.std.specs.Prelude.{◌≡◌, ◌⊎◌, ℕ, ◌+◌, List, [], ◌∷◌, ◌++◌, length, take, true, false, Bool, None, Ok, Err}
 use Rattle.ksi_synod.specs.CorePlans.{CorePlanState}
 use Rattle.ksi_corenode.specs.declared.fact.Fact.{Fact}
 use Rattle.ksi_corenode.specs.CoreState.{CoreState}
@@ -7,10 +7,10 @@ use Rattle.ksi_corenode.specs.Lawful.{AreLawful, IsLawful, stored_by}
 use Rattle.ksi_corenode.specs.Restored.{IsOfFacts}
 use Rattle.ksi_gates.specs.declared.ending.Ending.TheVariants as ending
 use Rattle.ksi_gates.specs.Gates.{reading_of, records_text}
-use Rattle.ksi_nodestore.specs.declared.heads.Header.{Header}
 use Rattle.ksi_nodestore.specs.declared.heads.HeaderFault.TheVariants as fault
 use Rattle.ksi_nodestore.specs.Headers.{header_at}
 use Rattle.ksi_nodestore.specs.Texts.{IsTextOf}
+use Rattle.ksi_nodestore.specs.FactReading.{next_fact}
 
 -- each record is the spelling of the fact at its place
 abbrev pub AreTexts : List Fact → List (List ℕ) → Type 0
@@ -36,6 +36,11 @@ pub record IsFileOf (me : ℕ) (plan : CorePlanState) (facts : List Fact) (file 
   pub are : AreFactsOf plan.start facts (reading_of 18 file).records
   pub closed : (reading_of 18 file).ending ≡ ending.Closed gate
 
+-- the content is no spelling of a fact that is lawful after these, and is read as none
+pub record HasNoFact (start : ℕ) (facts : List Fact) (content : List ℕ) : Type 0 where
+  pub lawful : (fact : Fact) → IsTextOf fact content → IsLawful start (stored_by facts fact.second) fact → ⊥
+  pub read : next_fact start facts content ≡ None
+
 -- a record at this place is no spelling of a fact that is lawful after the facts of the records before it
 pub record IsFault (start : ℕ) (records : List (List ℕ)) (place : ℕ) : Type 0 where
   pub facts : List Fact
@@ -45,7 +50,7 @@ pub record IsFault (start : ℕ) (records : List (List ℕ)) (place : ℕ) : Typ
   pub are : AreFactsOf start facts before
   pub split : records ≡ before ++ content ∷ others
   pub here : place ≡ 18 + length (records_text before)
-  pub none : (fact : Fact) → IsTextOf fact content → IsLawful start (stored_by facts fact.second) fact → ⊥
+  pub none : HasNoFact start facts content
 
 -- a file is broken at this place: a record there is no fact's, or the records, which are facts', do not end at a closed gate
 abbrev pub IsMalformedAt : (start : ℕ) → List ℕ → (place : ℕ) → Type 0
@@ -57,7 +62,7 @@ IsMalformedAt start file place =
 abbrev pub GoesOn : (List ℕ → List ℕ) → (me : ℕ) → CorePlanState → List Fact → List ℕ → CoreState → Bool → Type 0
 GoesOn image me plan facts content core true =
     (fact : Fact) × IsTextOf fact content × AreLawful plan.start (facts ++ fact ∷ []) × IsOfFacts image me plan (facts ++ fact ∷ []) core
-GoesOn image me plan facts content core false = (fact : Fact) → IsTextOf fact content → IsLawful plan.start (stored_by facts fact.second) fact → ⊥
+GoesOn image me plan facts content core false = HasNoFact plan.start facts content
 
 -- the core of the facts that the records spell
 abbrev pub IsCoreOf : (List ℕ → List ℕ) → (me : ℕ) → CorePlanState → List (List ℕ) → CoreState → Type 0

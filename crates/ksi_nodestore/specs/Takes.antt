@@ -2,7 +2,6 @@
 use Rattle.std.specs.Prelude.{◌≡◌, ◌⊎◌, ℕ, ◌+◌, ◌≤◌, Bool, true, false, is_some, List, [], length, IsErrOf, option_map, Option, Some, None, IfSome, Result, Ok, Err}
 use Rattle.ksi_ports.specs.Outside.{Raises}
 use Rattle.ksi_synod.specs.CorePlans.{CorePlanState}
-use Rattle.ksi_corenode.specs.declared.fact.What.{What}
 use Rattle.ksi_corenode.specs.declared.fact.Fact.{Fact}
 use Rattle.ksi_corenode.specs.declared.event.CoreEvent.{CoreEvent}
 use Rattle.ksi_corenode.specs.declared.step.Step.{Step}
@@ -18,7 +17,9 @@ use Rattle.ksi_nodestore.specs.declared.store.NodeStore.{NodeStore}
 use Rattle.ksi_nodestore.specs.Texts.{fact_text}
 use Rattle.ksi_nodestore.specs.Writing.{CanSpell, most_bytes}
 use Rattle.ksi_nodestore.specs.Stores.{IsFileOf}
-use Rattle.ksi_nodestore.specs.Opens.{IsStoreOf}
+use Rattle.ksi_gates.specs.declared.log.GateLog.{GateLog}
+use Rattle.ksi_nodestore.specs.Opens.{IsLogOf, IsStoreOf}
+use Rattle.ksi_nodestore.specs.Spelling.{node_text}
 
 -- the fact that an event adds to a core, if any
 abbrev pub fact_added : (List ℕ → List ℕ) → CoreState → CoreEvent → Option Fact
@@ -61,6 +62,11 @@ abbrev pub AffordsFor : Option Fact → Option Meter → Type 0
 AffordsFor None meter = Unit {0}
 AffordsFor (Some fact) meter = Affords (length (fact_text fact) + 6) 4 meter
 
+-- there is enough for the most bytes that such a fact has
+abbrev pub AffordsMost : Option Fact → Option Meter → Type 0
+AffordsMost None meter = Unit {0}
+AffordsMost (Some fact) meter = Affords (most_bytes fact.what + 6) 4 meter
+
 -- an empty record with room for the fact of an event; none where the event adds none
 abbrev pub HasRecordFor : (List ℕ → List ℕ) → CoreState → CoreEvent → Option Draft → Type 0
 HasRecordFor image core event None = (core_row image core event).fact ≡ None
@@ -76,6 +82,7 @@ IsReady (Some draft) (Some fact) = (draft.content ≡ []) × (most_bytes fact.wh
 pub record IsCost {T : Type 0} (fact : Option Fact) (old new : Option Meter) (result : Result T TakeRefusal) : Type 0 where
   pub spends : SpendsFor fact old new
   pub sure : AffordsFor fact old → IsErrOf result Failed → ⊥
+  pub enough : AffordsMost fact old → IsErrOf result Failed → ⊥
 
 -- it is the store of some facts, which are in its file
 abbrev pub IsStore : {C D : Type 0} → (List ℕ → List ℕ) → (content : D → List ℕ) (images : D → List ℕ → Type 0) → NodeStore C D → Type 0
@@ -92,3 +99,15 @@ is_sealed_at core t = is_some (state_of core t).sealed
 
 abbrev pub is_held_at : CoreState → ℕ → Bool
 is_held_at core t = is_some (held_by core t)
+
+-- ---- in the code
+
+-- a log has the facts with one more, if any; its file is nothing but its spelling where it was before
+pub record HasKept {D : Type 0} (content : D → List ℕ) (images : D → List ℕ → Type 0) (me : ℕ) (plan : CorePlanState) (facts : List Fact) (more : Option Fact) (old new : GateLog D) : Type 0 where
+  pub log : IsLogOf content images me plan (with_new facts more) new
+  pub exact : content old.disk ≡ node_text me plan facts → content new.disk ≡ node_text me plan (with_new facts more)
+
+-- a store took an event that adds this fact, if any; its file is nothing but its spelling where it was before
+pub record HasTaken {C D : Type 0} (image : List ℕ → List ℕ) (content : D → List ℕ) (images : D → List ℕ → Type 0) (me : ℕ) (plan : CorePlanState) (facts : List Fact) (more : Option Fact) (old new : NodeStore C D) : Type 0 where
+  pub stored : IsStoreOf image content images me plan (with_new facts more) new
+  pub exact : content old.log.disk ≡ node_text me plan facts → content new.log.disk ≡ node_text me plan (with_new facts more)

@@ -6,7 +6,6 @@ use Rattle.ksi_imprint.specs.declared.fault.ImprintFault.{ImprintFault}
 use Rattle.ksi_aggtree.specs.declared.entries.Entry.{Entry}
 use Rattle.ksi_aggtree.specs.declared.entries.Origin.TheVariants as origins
 use Rattle.ksi_aggtree.specs.Names.{are_name_bytes, most_letters}
-use Rattle.ksi_synod.specs.declared.messages.Vote.{Vote}
 use Rattle.ksi_corenode.specs.declared.fact.What.{What}
 use Rattle.ksi_corenode.specs.declared.fact.What.TheVariants.{Sealed, Tried, Promised, Cast, Holds}
 use Rattle.ksi_corenode.specs.declared.fact.Fact.{Fact}

@@ -3,7 +3,7 @@ ghost use Rattle.std.specs.Prelude.{◌≡◌, ◌<◌, ◌^◌, IfOk, IfSome};
 ghost use Rattle.std.specs.Int.{w64, to_be_bytes};
 ghost use Rattle.ksi_imprint.specs.Reading.{imprint_at};
 ghost use Rattle.ksi_nodestore.specs.Texts.{tag_of, what_text, FitsWhat, IsReadOf};
-ghost use Rattle.ksi_nodestore.specs.TextReading.{ballot_at, cast_at, root_of, sealed_at, what_at};
+ghost use Rattle.ksi_nodestore.specs.TextReading.{ballot_at, cast_at, fact_at, root_of, sealed_at, what_at};
 
 use crate::entry_reading::read_entries;
 use crate::numbers::{number4, number8};
@@ -17,7 +17,8 @@ use std::alloc::Global;
 /// # Errors
 /// `NoMemory`: nothing is read.
 pub fn read_fact(alloc: Global, bytes: &[u8]) -> Result<Option<Fact>, NoMemory>
-    ensures { IfOk result (IsReadOf bytes.now) }
+    ensures sound { IfOk result (IsReadOf bytes.now) }
+    ensures read { IfOk result (λ found. found ≡ fact_at bytes.now) }
 {
     if bytes.len() < 9 {
         return Ok(None);

@@ -6,6 +6,8 @@ ghost use Rattle.ksi_corenode.specs.Rows.{restart_row};
 ghost use Rattle.ksi_corenode.specs.Restored.{HasFacts, IsOfFacts};
 ghost use Rattle.ksi_nodestore.specs.Headers.{empty_file};
 ghost use Rattle.ksi_nodestore.specs.Stores.{IsFileOf};
+ghost use Rattle.ksi_nodestore.specs.Opens.{IsOutside, IsRefused};
+ghost use Rattle.ksi_nodestore.specs.declared.refusal.OpenRefusal.{OpenRefusal};
 ghost use Rattle.ksi_corenode.specs.declared.fact.Fact.{Fact};
 ghost use Rattle.ksi_nodestore.specs.Texts.{fact_text, IsReadOf, IsTextOf};
 
@@ -36,3 +38,8 @@ pub fn a_new_file_has_no_facts()
     facts_one_by_one();
     records_are_read_again();
 }
+
+/// A file of facts is opened, unless the disk fails or memory is wanting.
+pub fn files_of_facts_are_opened()
+    ensures { (me : ℕ) (plan : CorePlanState) (facts : List Fact) (file : List ℕ) (refusal : OpenRefusal) → IsFileOf me plan facts file → IsRefused me plan file refusal → IsOutside refusal }
+{}

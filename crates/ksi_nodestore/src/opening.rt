@@ -1,5 +1,5 @@
 // Opening a node file.
-ghost use Rattle.std.specs.Prelude.{◌≡◌, ◌<◌, ◌+◌, ◌^◌, ℕ, List, length, take, Ok, OnOk, IsErrOf};
+ghost use Rattle.std.specs.Prelude.{◌≡◌, ◌<◌, ◌+◌, ◌^◌, ℕ, List, length, take, Ok, IfOk, OnOk, IsErrOf};
 ghost use Rattle.ksi_disk.specs.Images.{AddsNone, LeavesOnly, Only};
 ghost use Rattle.ksi_disk.specs.Costs.{Affords, Spends};
 ghost use Rattle.ksi_gates.specs.Gates.{place_of, reading_of, records_text};
@@ -114,6 +114,7 @@ impl<C: Compress, D: Disk> NodeStore<C, D> {
     pub fn open(alloc: Global, me: u8, plan: &CorePlan, disk: D) -> Result<Self, (OpenRefusal, D)>
         requires member { me < plan.now.cores }
         ensures opens { OpensAs C.image D.content D.images me plan.now (D.content disk) result }
+        ensures stays { IfOk result (λ store. D.content store.log.disk ≡ D.content disk) }
         ensures no_image { AddsNone (D.images disk) (D.images (disk_after result)) }
         ensures any_moment { LeavesOnly D.moment D.images_since disk (disk_after result) (D.images disk) }
         ensures counted { OpenCounts (D.faults disk) D.faults result }

@@ -1,12 +1,13 @@
-ghost use Rattle.std.specs.Prelude.{◌≡◌};
-ghost use Rattle.ksi_nodestore.specs.Headers.{good_header, header_at};
+ghost use Rattle.std.specs.Prelude.{◌≡◌, IfOk};
+ghost use Rattle.ksi_nodestore.specs.Headers.{good_header, header_at, IsGood};
 
 use crate::heads::{HEADER, Header, HeaderFault, MAGIC};
 use crate::numbers::number8;
 
 /// The header in front of bytes.
 pub fn header(bytes: &[u8]) -> Result<Header, HeaderFault>
-    ensures { result ≡ header_at bytes.now }
+    ensures head { result ≡ header_at bytes.now }
+    ensures bounds { IfOk result IsGood }
 {
     if bytes.len() < HEADER {
         return Err(HeaderFault::NotFormatted);
@@ -21,7 +22,8 @@ pub fn header(bytes: &[u8]) -> Result<Header, HeaderFault>
 
 /// A header of these numbers, where they are in their bounds.
 fn good(core: u8, cores: u8, start: u64) -> Result<Header, HeaderFault>
-    ensures { result ≡ good_header core cores start }
+    ensures head { result ≡ good_header core cores start }
+    ensures bounds { IfOk result IsGood }
 {
     if core < cores && cores <= 9 && start <= (1 << 63) - (1 << 24) {
         Ok(Header { core, cores, start })

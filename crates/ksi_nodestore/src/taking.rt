@@ -9,7 +9,8 @@ ghost use Rattle.ksi_disk.specs.Images.{LeavesOnly};
 ghost use Rattle.ksi_corenode.specs.Counted.{count_below};
 ghost use Rattle.ksi_nodestore.specs.declared.refusal.TakeRefusal.TheVariants.{Spent};
 ghost use Rattle.ksi_nodestore.specs.Opens.{IsStoreOf};
-ghost use Rattle.ksi_nodestore.specs.Takes.{count_new, fact_added, is_held_at, is_sealed_at, IsCost, IsFileBeforeOrAfter, IsStore, TakeCounts, TakeLeaves};
+ghost use Rattle.ksi_nodestore.specs.Spelling.{node_text};
+ghost use Rattle.ksi_nodestore.specs.Takes.{count_new, fact_added, is_held_at, is_sealed_at, HasTaken, IsCost, IsFileBeforeOrAfter, IsStore, TakeCounts, TakeLeaves};
 
 use crate::appending::keep;
 use crate::room::record_for;
@@ -35,6 +36,8 @@ impl<C: Compress, D: Disk> NodeStore<C, D> {
         requires asked { IsAsked self.old.core (event_second event) }
         ensures turn { IfOk result (λ step. IsTurn self.old.core self.new.core (event_second event) (core_row C.image self.old.core event) step) }
         ensures stored { (me : ℕ) (plan : CorePlanState) (facts : List Fact) → IsStoreOf C.image D.content D.images me plan facts self.old → IfOk result (λ step. IsStoreOf C.image D.content D.images me plan (with_new facts step.fact) self.new) }
+        ensures exact { (me : ℕ) (plan : CorePlanState) (facts : List Fact) → IsStoreOf C.image D.content D.images me plan facts self.old → D.content self.old.log.disk ≡ node_text me plan facts →
+            IfOk result (λ step. D.content self.new.log.disk ≡ node_text me plan (with_new facts step.fact)) }
         ensures any_moment { (me : ℕ) (plan : CorePlanState) (facts : List Fact) → IsStoreOf C.image D.content D.images me plan facts self.old →
             LeavesOnly D.moment D.images_since self.old.log.disk self.new.log.disk (IsFileBeforeOrAfter me plan facts (fact_added C.image self.old.core event)) }
         ensures spent { (result ≡ Err Spent) ↔ (self.old.log.is_spent ≡ true) }
@@ -84,7 +87,7 @@ impl<C: Compress, D: Disk> NodeStore<C, D> {
         requires event { MayTake self.old.core event.now }
         requires asked { IsAsked self.old.core (event_second event.now) }
         ensures turn { IfOk result (λ step. IsTurn self.old.core self.new.core (event_second event.now) (core_row C.image self.old.core event.now) step) }
-        ensures stored { (me : ℕ) (plan : CorePlanState) (facts : List Fact) → IsStoreOf C.image D.content D.images me plan facts self.old → IfOk result (λ step. IsStoreOf C.image D.content D.images me plan (with_new facts step.fact) self.new) }
+        ensures stored { (me : ℕ) (plan : CorePlanState) (facts : List Fact) → IsStoreOf C.image D.content D.images me plan facts self.old → IfOk result (λ step. HasTaken C.image D.content D.images me plan facts step.fact self.old self.new) }
         ensures any_moment { (me : ℕ) (plan : CorePlanState) (facts : List Fact) → IsStoreOf C.image D.content D.images me plan facts self.old →
             LeavesOnly D.moment D.images_since self.old.log.disk self.new.log.disk (IsFileBeforeOrAfter me plan facts (fact_added C.image self.old.core event.now)) }
         ensures leaves { TakeLeaves self.old self.new result }

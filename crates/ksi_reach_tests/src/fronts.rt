@@ -55,23 +55,21 @@ fn made(
     Ok(())
 }
 
+/// Both seconds, the first bytes of both roots, and those of the front's imprints.
+static FRONTS: [(u64, u64, u8, u8, &[u8]); 4] = [
+    (0, 2, 0x0a, 0x3e, &[0x14, 0x1e]),
+    (1, 2, 0x1f, 0x3e, &[0x1e]),
+    (2, 3, 0x3e, 0x67, &[0x1e, 0x28, 0x1f]),
+    (2, 2, 0x3e, 0x3e, &[]),
+];
+
 #[test]
 fn fronts_of_four_seconds(rt: HostRuntime) -> Result<(), Fail> {
     let calendar = calendar_of::<Tiny>(rt.alloc(), &[0x0a, 0x14, 0x1e, 0x28])?;
-    made(
-        &rt,
-        rt.alloc(),
-        &calendar,
-        &(0, 2, 0x0a, 0x3e, &[0x14, 0x1e]),
-    )?;
-    made(&rt, rt.alloc(), &calendar, &(1, 2, 0x1f, 0x3e, &[0x1e]))?;
-    made(
-        &rt,
-        rt.alloc(),
-        &calendar,
-        &(2, 3, 0x3e, 0x67, &[0x1e, 0x28, 0x1f]),
-    )?;
-    made(&rt, rt.alloc(), &calendar, &(2, 2, 0x3e, 0x3e, &[]))?;
+    for row in &FRONTS {
+        assert!(rt; row.0 <= row.1 && row.1 < 4);
+        made(&rt, rt.alloc(), &calendar, row)?;
+    }
     Ok(())
 }
 
@@ -156,17 +154,36 @@ fn word(compared: &Compared) -> (&'static str, usize, usize) {
     }
 }
 
+/// What the front of one imprint, or of none, shows of a calendar of three seconds and an older one, for seconds 1 and 2.
+fn shown(
+    alloc: Global,
+    old: &Calendar<Tiny>,
+    new: &[u8],
+    front: &[Imprint],
+) -> Result<(&'static str, usize, usize), NoMemory>
+    requires old { (old.now.start ≡ 0) × (length old.now.roots ≡ 2) }
+    requires new { length new.now ≡ 3 }
+{
+    let new = calendar_of::<Tiny>(alloc, new)?;
+    Ok(word(&compare(alloc, old, &new, 1, 2, front)?))
+}
+
+/// The roots of the newer calendar, how many imprints the front has, and what it shows.
+type Row = ([u8; 3], usize, (&'static str, usize, usize));
+
+static ROWS: [Row; 3] = [
+    ([0x14, 0x0a, 0x1e], 1, ("clash", 67, 67)),
+    ([0x0a, 0x14, 0x1e], 1, ("equal", 0, 0)),
+    ([0x0a, 0x14, 0x1e], 0, ("not accepted", 0, 0)),
+];
+
 #[test]
 fn two_calendars_of_one_root(rt: HostRuntime) -> Result<(), Fail> {
     let old = calendar_of::<Tiny>(rt.alloc(), &[0x0a, 0x14])?;
-    let new = calendar_of::<Tiny>(rt.alloc(), &[0x14, 0x0a, 0x1e])?;
-    let same_front = calendar_of::<Tiny>(rt.alloc(), &[0x0a, 0x14, 0x1e])?;
     let front = [named(0x1e)];
-    let clash = compare(rt.alloc(), &old, &new, 1, 2, &front)?;
-    same(&rt, "other leaves", word(&clash), ("clash", 67, 67));
-    let equal = compare(rt.alloc(), &old, &same_front, 1, 2, &front)?;
-    same(&rt, "the same leaves", word(&equal), ("equal", 0, 0));
-    let none = compare(rt.alloc(), &old, &same_front, 1, 2, &[])?;
-    same(&rt, "no imprint", word(&none), ("not accepted", 0, 0));
+    for (new, imprints, want) in &ROWS {
+        let front = front.get(..*imprints).unwrap_or(&[]);
+        same(&rt, *imprints, shown(rt.alloc(), &old, new, front)?, *want);
+    }
     Ok(())
 }

@@ -38,7 +38,7 @@ each_kept P (one ∷ kept) all = (all.0, each_kept P kept all.1)
 
 -- WHAT RISES
 
-rise_earlier : (least most : ℕ) (ns : List ℕ) → least ≤ most → RiseFrom most ns → RiseFrom least ns
+pub rise_earlier : (least most : ℕ) (ns : List ℕ) → least ≤ most → RiseFrom most ns → RiseFrom least ns
 rise_earlier least most [] le rise = tt
 rise_earlier least most (n ∷ ns) le rise = (omega (arith, le, rise.0), rise.1)
 
@@ -132,7 +132,7 @@ are_publications from (x ∷ xs) times imprints = (record { early = times.1; imp
 
 -- A KEPT SECOND
 
-are_items : (items : List Item) → ((k : ℕ) → leaf_level (item_at items k) ≤ 239) → AllByRecursion (λ item. IsImprint item.imprint × IfSome item.name IsName) items → AllByRecursion IsItem items
+pub are_items : (items : List Item) → ((k : ℕ) → leaf_level (item_at items k) ≤ 239) → AllByRecursion (λ item. IsImprint item.imprint × IfSome item.name IsName) items → AllByRecursion IsItem items
 are_items [] low imprints = tt
 are_items (item ∷ items) low imprints = (record { imprint = imprints.0.0; low = low 0; name = imprints.0.1 }, are_items items (λ k. low (suc k)) imprints.1)
 

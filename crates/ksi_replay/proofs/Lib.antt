@@ -1,1 +1,6 @@
 pub mod Lawful
+pub mod Listing
+pub mod Copying
+pub mod CoreCopied
+pub mod Gathered
+pub mod Wholeness

@@ -84,7 +84,7 @@ fn imprints_of(seconds: &[Second])
 }
 
 /// All have imprints, and names where they have any, as their types keep it.
-fn imprints_in(items: &[Item])
+pub(crate) fn imprints_in(items: &[Item])
     ensures { AllByRecursion (λ item. IsImprint item.imprint × IfSome item.name IsName) items.now }
 {
     'items: for item in items {

@@ -8,6 +8,8 @@ mod drills;
 #[cfg(test)]
 mod generated;
 #[cfg(test)]
+mod mirrors;
+#[cfg(test)]
 mod replays;
 #[cfg(test)]
 mod same;

@@ -11,3 +11,5 @@ pub mod Extending
 pub mod Replayed
 pub mod Migrating
 pub mod Keeping
+pub mod Logs
+pub mod Mirroring

@@ -15,6 +15,14 @@ pub mod Kept
 pub mod Front
 pub mod Compare
 pub mod Migrate
+pub mod Log
+pub mod Block
+pub mod LineOf
+pub mod CheckLine
+pub mod Locate
+pub mod Merge
+pub mod Whole
+pub mod Inspect
 pub mod Run
 pub mod Endings
 pub mod Promised

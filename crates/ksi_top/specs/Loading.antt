@@ -12,16 +12,22 @@ use Rattle.ksi_journal.specs.Journal.{Contents}
 use Rattle.ksi_journal.specs.Reading.{journal_at}
 use Rattle.ksi_consistency.specs.Elements as fronts
 use Rattle.ksi_consistency.specs.Reading.{front_at}
+use Rattle.ksi_logblock.specs.declared.line_proof.LineProof.{LineProof}
+use Rattle.ksi_logblock.specs.ProofReading.{proof_at}
+use Rattle.ksi_mirror.specs.Mirrors.{MirrorState}
+use Rattle.ksi_mirror.specs.Reading.{mirror_at}
 use Rattle.ksi_schedule.specs.Events.{History}
 use Rattle.ksi_schedule.specs.Reading.{schedule_at}
+use Rattle.ksi_nodestore.specs.declared.inspected.Inspected.{Inspected}
+use Rattle.ksi_nodestore.specs.Inspecting.{inspected}
 use Rattle.ksi_top.specs.declared.report.Report.{Report}
 use Rattle.ksi_top.specs.declared.report.Halt.{Halt}
 use Rattle.ksi_top.specs.declared.status.Status.TheVariants.{Malformed, TooLong}
 use Rattle.ksi_top.specs.Reports.{report, and_then}
-use Rattle.ksi_lines.specs.FaultWords.{signature_fault, publications_fault, journal_fault, front_fault, schedule_fault}
+use Rattle.ksi_lines.specs.FaultWords.{signature_fault, publications_fault, journal_fault, front_fault, schedule_fault, proof_fault, node_fault}
 use Rattle.ksi_lines.specs.Lines.{line_text, malformed_line}
 
--- the most bytes that a signature file may have, and those of any other file
+-- the most bytes that a signature file may have, and those of any other file but that of a line
 abbrev pub signature_limit : ℕ
 signature_limit = 65539
 
@@ -68,6 +74,16 @@ front_or_malformed n bytes = or_malformed front_fault n (front_at bytes)
 abbrev pub schedule_or_malformed : ℕ → List ℕ → Result History Report
 schedule_or_malformed n bytes = or_malformed schedule_fault n (schedule_at bytes)
 
+abbrev pub proof_or_malformed : ℕ → List ℕ → Result LineProof Report
+proof_or_malformed n bytes = or_malformed proof_fault n (proof_at bytes)
+
+-- the faults of a mirror are those of a journal
+abbrev pub mirror_or_malformed : ℕ → List ℕ → Result MirrorState Report
+mirror_or_malformed n bytes = or_malformed journal_fault n (mirror_at bytes)
+
+abbrev pub node_or_malformed : ℕ → List ℕ → Result Inspected Report
+node_or_malformed n bytes = or_malformed node_fault n (inspected bytes)
+
 -- ---- what file word n is read as: the report of its fault stands in the place of what passes its limit, or is malformed
 
 unfoldable pub loaded_signature : ℕ → Held → List ℕ → Result Signature Report
@@ -84,3 +100,12 @@ loaded_front n held name = and_then (loaded file_limit n held name) (front_or_ma
 
 unfoldable pub loaded_schedule : ℕ → Held → List ℕ → Result History Report
 loaded_schedule n held name = and_then (loaded file_limit n held name) (schedule_or_malformed n)
+
+unfoldable pub loaded_proof : ℕ → Held → List ℕ → Result LineProof Report
+loaded_proof n held name = and_then (loaded file_limit n held name) (proof_or_malformed n)
+
+unfoldable pub loaded_mirror : ℕ → Held → List ℕ → Result MirrorState Report
+loaded_mirror n held name = and_then (loaded file_limit n held name) (mirror_or_malformed n)
+
+unfoldable pub loaded_node : ℕ → Held → List ℕ → Result Inspected Report
+loaded_node n held name = and_then (loaded file_limit n held name) (node_or_malformed n)

@@ -12,6 +12,8 @@
 #![tactic(auto)]
 
 mod audit;
+mod block;
+mod checkline;
 mod compare;
 mod completeness;
 mod drill;
@@ -19,9 +21,14 @@ mod ending;
 mod extend;
 mod front;
 mod histories;
+mod inspect;
 mod kept;
+mod line_of;
 mod loading;
+mod locate;
+mod log;
 mod make;
+mod merge;
 mod migrate;
 mod perform;
 mod publish;
@@ -32,6 +39,7 @@ mod sign;
 mod status;
 mod sure;
 mod verify;
+mod whole;
 
 pub use ending::ksi;
 pub use status::Status;

@@ -7,11 +7,17 @@ ghost use Rattle.ksi_top.specs.Run.{refused, row_of};
 ghost use Rattle.ksi_top.specs.Promised.{IsReported};
 
 use crate::audit::audit;
+use crate::block::block;
+use crate::checkline::checkline;
 use crate::compare::compare;
 use crate::drill::drill;
 use crate::extend::extend;
 use crate::front::front;
+use crate::inspect::inspect;
+use crate::line_of::line;
+use crate::locate::locate;
 use crate::make::make;
+use crate::merge::merge;
 use crate::migrate::migrate;
 use crate::publish::publish;
 use crate::replay::replay;
@@ -19,6 +25,7 @@ use crate::report::{Halt, Report, ended};
 use crate::sign::sign;
 use crate::status::Status;
 use crate::verify::verify;
+use crate::whole::whole;
 use ksi_imprint::Refused;
 use ksi_lines::Word::{Number, Text};
 use ksi_lines::print;
@@ -74,6 +81,15 @@ fn perform<F: Files>(alloc: Global, files: &mut F, command: &Command<'_>) -> Res
         Command::Migrate(old, new) => migrate(alloc, files, old, new),
         Command::Front(journal, p1, p2, out) => front(alloc, files, journal, *p1, *p2, out),
         Command::Compare(old, new, proof) => compare(alloc, files, old, new, proof),
+        Command::Block(log, seed) => block(alloc, files, log, seed),
+        Command::Line(log, seed, k, out) => line(alloc, files, log, seed, *k, out),
+        Command::CheckLine(signature, publications, entry, proof) => {
+            checkline(alloc, files, signature, publications, entry, proof)
+        }
+        Command::Locate(log, seed, entry, proof) => locate(alloc, files, log, seed, entry, proof),
+        Command::Merge(one, two, out) => merge(alloc, files, one, two, out),
+        Command::Whole(mirror, journal) => whole(alloc, files, mirror, journal),
+        Command::Inspect(node) => inspect(alloc, files, node),
     }
 }
 

@@ -14,9 +14,15 @@ mod hostile_bytes;
 #[cfg(test)]
 mod later_files;
 #[cfg(test)]
+mod masked_blocks;
+#[cfg(test)]
 mod migrations;
 #[cfg(test)]
+mod mirrors;
+#[cfg(test)]
 mod names;
+#[cfg(test)]
+mod nodes;
 #[cfg(test)]
 mod runs;
 #[cfg(test)]

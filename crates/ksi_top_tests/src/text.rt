@@ -24,15 +24,27 @@ fn meant(c: char) -> Option<&'static str> {
     }
 }
 
+// What a letter stands for; one before a digit from 1 to 9 is that of a code and stands for itself.
+fn push_meant(whole: &mut String, letter: Option<char>, next: char) -> Result<(), Fail> {
+    let Some(c) = letter else {
+        return Ok(());
+    };
+    match meant(c) {
+        Some(meant) if !matches!(next, '1'..='9') => whole.push_str(meant)?,
+        _ => whole.push(c)?,
+    }
+    Ok(())
+}
+
 // A text in which letters stand for what they mean.
 pub(crate) fn expanded(alloc: Global, text: &str) -> Result<String, Fail> {
     let mut whole = String::new(alloc);
+    let mut before = None;
     for c in text.chars() {
-        match meant(c) {
-            Some(meant) => whole.push_str(meant)?,
-            None => whole.push(c)?,
-        }
+        push_meant(&mut whole, before, c)?;
+        before = Some(c);
     }
+    push_meant(&mut whole, before, ' ')?;
     Ok(whole)
 }
 

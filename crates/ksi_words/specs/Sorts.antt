@@ -1,5 +1,5 @@
 -- The sorts of words that stand after a command's name, and what a word of each stands for.
-use Rattle.std.specs.Prelude.{ℕ, ◌^◌, List, nat_lt, Option, Some, None, Result, Ok, Err, if◌then◌else◌}
+use Rattle.std.specs.Prelude.{ℕ, ◌^◌, List, drop, nat_lt, option_map, Option, Some, None, Result, Ok, Err, if◌then◌else◌}
 use Rattle.ksi_schedule.specs.Decimal.{number_of}
 use Rattle.ksi_imprint.specs.Reading.{hex_at}
 use Rattle.ksi_imprint.specs.declared.fault.HexFault.{HexFault}
@@ -10,6 +10,7 @@ pub data Sort : Type 0 where
   number_word : Sort
   -- a number below 2^63
   time_word : Sort
+  seed_word : Sort
 
 -- the number, where it is below 2^63
 abbrev pub if_early : Option ℕ → Option ℕ
@@ -27,15 +28,21 @@ read_hash (Err fault) = None
 unfoldable pub hash_of : List ℕ → Option (List ℕ)
 hash_of word = read_hash (hex_at word)
 
+-- the 32 bytes of 64 hex digits, which are those of the digest that they write
+abbrev pub seed_of : List ℕ → Option (List ℕ)
+seed_of word = option_map (drop 1) (hash_of word)
+
 -- what a word of a sort stands for: a file word stands for itself
 abbrev pub Of : Sort → Type 0
 Of file_word = List ℕ
 Of hash_word = List ℕ
 Of number_word = ℕ
 Of time_word = ℕ
+Of seed_word = List ℕ
 
 abbrev pub value_of : (sort : Sort) → List ℕ → Option (Of sort)
 value_of file_word word = Some word
 value_of hash_word word = hash_of word
 value_of number_word word = number_of word
 value_of time_word word = time_of word
+value_of seed_word word = seed_of word

@@ -5,9 +5,9 @@ use Rattle.std.specs.Str.{bytes_eq}
 use Rattle.std.specs.declared.alloc.Global.{Global}
 use Rattle.ksi_imprint.specs.declared.refused.Refused.{Refused}
 use Rattle.ksi_imprint.specs.declared.refused.Refused.TheVariants.{Fault, NoMemory}
-use Rattle.ksi_words.specs.Sorts.{Sort, file_word, hash_word, number_word, time_word, Of, value_of}
+use Rattle.ksi_words.specs.Sorts.{Sort, file_word, hash_word, number_word, time_word, seed_word, Of, value_of}
 use Rattle.ksi_words.specs.declared.asked.Command.{Command}
-use Rattle.ksi_words.specs.declared.asked.Command.TheVariants.{Replay, Sign, Publish, Extend, Verify, Audit, Make, Drill, Migrate, Front, Compare}
+use Rattle.ksi_words.specs.declared.asked.Command.TheVariants.{Replay, Sign, Publish, Extend, Verify, Audit, Make, Drill, Migrate, Front, Compare, Block, Line, CheckLine, Locate, Merge, Whole, Inspect}
 use Rattle.ksi_words.specs.declared.asked.WordsRefusal.{WordsRefusal}
 use Rattle.ksi_words.specs.declared.asked.WordsRefusal.TheVariants.{Words, BadWord}
 
@@ -24,6 +24,13 @@ pub data Asked : Type 0 where
   migrate : List ℕ → List ℕ → Asked
   front : List ℕ → ℕ → ℕ → List ℕ → Asked
   compare : List ℕ → List ℕ → List ℕ → Asked
+  block : List ℕ → List ℕ → Asked
+  line : List ℕ → List ℕ → ℕ → List ℕ → Asked
+  checkline : List ℕ → List ℕ → List ℕ → List ℕ → Asked
+  locate : List ℕ → List ℕ → List ℕ → List ℕ → Asked
+  merge : List ℕ → List ℕ → List ℕ → Asked
+  whole : List ℕ → List ℕ → Asked
+  inspect : List ℕ → Asked
 
 -- what asks for a command, given what the words of these sorts stand for
 abbrev pub From : List Sort → Type 0
@@ -69,8 +76,29 @@ front_row = record { name = codes "front"; sorts = file_word ∷ time_word ∷ t
 abbrev pub compare_row : CommandForm
 compare_row = record { name = codes "compare"; sorts = file_word ∷ file_word ∷ file_word ∷ []; asks = compare }
 
+abbrev pub block_row : CommandForm
+block_row = record { name = codes "block"; sorts = file_word ∷ seed_word ∷ []; asks = block }
+
+abbrev pub line_row : CommandForm
+line_row = record { name = codes "line"; sorts = file_word ∷ seed_word ∷ number_word ∷ file_word ∷ []; asks = line }
+
+abbrev pub checkline_row : CommandForm
+checkline_row = record { name = codes "checkline"; sorts = file_word ∷ file_word ∷ file_word ∷ file_word ∷ []; asks = checkline }
+
+abbrev pub locate_row : CommandForm
+locate_row = record { name = codes "locate"; sorts = file_word ∷ seed_word ∷ file_word ∷ file_word ∷ []; asks = locate }
+
+abbrev pub merge_row : CommandForm
+merge_row = record { name = codes "merge"; sorts = file_word ∷ file_word ∷ file_word ∷ []; asks = merge }
+
+abbrev pub whole_row : CommandForm
+whole_row = record { name = codes "whole"; sorts = file_word ∷ file_word ∷ []; asks = whole }
+
+abbrev pub inspect_row : CommandForm
+inspect_row = record { name = codes "inspect"; sorts = file_word ∷ []; asks = inspect }
+
 abbrev pub table : List CommandForm
-table = replay_row ∷ sign_row ∷ publish_row ∷ extend_row ∷ verify_row ∷ audit_row ∷ make_row ∷ drill_row ∷ migrate_row ∷ front_row ∷ compare_row ∷ []
+table = replay_row ∷ sign_row ∷ publish_row ∷ extend_row ∷ verify_row ∷ audit_row ∷ make_row ∷ drill_row ∷ migrate_row ∷ front_row ∷ compare_row ∷ block_row ∷ line_row ∷ checkline_row ∷ locate_row ∷ merge_row ∷ whole_row ∷ inspect_row ∷ []
 
 abbrev pub texts : List (String Global) → List (List ℕ)
 texts words = map string_bytes words
@@ -126,6 +154,13 @@ asked (Drill number) = drill number
 asked (Migrate old new) = migrate old.now new.now
 asked (Front journal p1 p2 out) = front journal.now p1 p2 out.now
 asked (Compare old new proof) = compare old.now new.now proof.now
+asked (Block log seed) = block log.now seed
+asked (Line log seed k out) = line log.now seed k out.now
+asked (CheckLine signature publications entry proof) = checkline signature.now publications.now entry.now proof.now
+asked (Locate log seed entry proof) = locate log.now seed entry.now proof.now
+asked (Merge one two out) = merge one.now two.now out.now
+asked (Whole mirror journal) = whole mirror.now journal.now
+asked (Inspect node) = inspect node.now
 
 -- the seconds of a command, where it has some, are below 2^63
 abbrev pub IsEarly : Command → Type 0
@@ -133,9 +168,9 @@ IsEarly (Extend journal signature second out) = second < 2 ^ 63
 IsEarly (Front journal p1 p2 out) = (p1 < 2 ^ 63) × (p2 < 2 ^ 63)
 IsEarly _ = Unit {0}
 
--- the words were read as they are
+-- the words were read as they are, and the seconds of the command are below 2^63
 abbrev pub Asks : Result Asked WordsRefusal → Result Command WordsRefusal → Type 0
-Asks expected (Ok command) = expected ≡ Ok (asked command)
+Asks expected (Ok command) = (expected ≡ Ok (asked command)) × IsEarly command
 Asks expected (Err refusal) = expected ≡ Err refusal
 
 -- or there was no memory to read them

@@ -26,6 +26,20 @@ pub enum Command<'a> {
     Front(&'a str, u64, u64, &'a str),
     /// The older journal's file, the newer one's file, the front's file.
     Compare(&'a str, &'a str, &'a str),
+    /// The log's file, the seed of its masks.
+    Block(&'a str, [u8; 32]),
+    /// The log's file, the seed of its masks, the number of the line, the proof's file to write.
+    Line(&'a str, [u8; 32], u64, &'a str),
+    /// The signature's file, the publications' file, the line's file, the proof's file.
+    CheckLine(&'a str, &'a str, &'a str, &'a str),
+    /// The log's file, the seed of its masks, the line's file, the proof's file.
+    Locate(&'a str, [u8; 32], &'a str, &'a str),
+    /// The files of two mirrors, the file of their union to write.
+    Merge(&'a str, &'a str, &'a str),
+    /// The mirror's file, the journal's file to write.
+    Whole(&'a str, &'a str),
+    /// The node file.
+    Inspect(&'a str),
 }
 
 /// Why words are no command.
@@ -33,6 +47,6 @@ pub enum Command<'a> {
 pub enum WordsRefusal {
     /// They have no command's form.
     Words,
-    /// The word of this number, counted from 1 behind the command's name, is no number or hash.
+    /// The word of this number, counted from 1 behind the command's name, is no number, hash or seed.
     BadWord(usize),
 }

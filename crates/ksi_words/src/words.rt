@@ -15,7 +15,7 @@ use std::alloc::Global;
 /// shows, and none begins with a dash. Its file words are borrowed from `words`.
 ///
 /// Unless there is no memory, the fault `Words` comes exactly where they have no such form, and `BadWord(n)` exactly where
-/// they have and word `n` after the name is the first that is no number or hash where one has to stand. Each second that is
+/// they have and word `n` after the name is the first that is no number, hash or seed where one has to stand. Each second that is
 /// asked for is below 2^63.
 pub fn command<'a>(alloc: Global, words: &'a [String]) -> Result<Command<'a>, Refused<WordsRefusal>>
     ensures reads { Reads (command_of (texts words.now)) result }

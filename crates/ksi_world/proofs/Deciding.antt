@@ -59,7 +59,7 @@ module _ (image : List ℕ → List ℕ) (plan : PlanState) (is : IsPlan plan) w
       law (voters_of (core_plan_of plan) t) (votes_at (after image plan es).seconds t) vote.said vote.reached one other d e
 
   module _ (law : StepsValid) (w : WorldState) (sound : IsSound plan w) (voted : IsVoted image plan w.seconds w.wire) where
-    round_is : (j t : ℕ) (entries : List Entry) → (w.seconds j t).sealed ≡ Some entries → IsRound (items_of entries)
+    pub round_is : (j t : ℕ) (entries : List Entry) → (w.seconds j t).sealed ≡ Some entries → IsRound (items_of entries)
     round_is j t entries at = let f : Entry → Item = λ e. e.item in record {
       few = omega (arith, length-map entries f, (voted.sealed j t).few entries at);
       low = λ k. omega (arith, are_low plan is (actors.Core j) (length w.requests) entries (sound.sealed j t entries at) k);

@@ -182,7 +182,7 @@ module _ (image : List ℕ → List ℕ) (plan : PlanState) where
   run_grew [] w = grew_same w
   run_grew (e ∷ es) w = grew_both w (happens image plan w e).world (run image plan (happens image plan w e).world es) (happens_grew w e) (run_grew es (happens image plan w e).world)
 
-  run_both : (before later : List Event) (w : WorldState) → run image plan w (before ++ later) ≡ run image plan (run image plan w before) later
+  pub run_both : (before later : List Event) (w : WorldState) → run image plan w (before ++ later) ≡ run image plan (run image plan w before) later
   run_both [] later w = refl
   run_both (e ∷ es) later w = run_both es later (happens image plan w e).world
 

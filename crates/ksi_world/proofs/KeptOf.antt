@@ -41,7 +41,7 @@ use Rattle.ksi_world.proofs.Rooted.{root_kept, after_roots}
 use Rattle.ksi_world.proofs.Skipping.{among_each}
 
 module _ (P : List ℕ → Type 0) where
-  entries_items : (entries : List Entry) → OfEntries P entries → AllByRecursion (OfItem P) (items_of entries)
+  pub entries_items : (entries : List Entry) → OfEntries P entries → AllByRecursion (OfItem P) (items_of entries)
   entries_items [] of = tt
   entries_items (entry ∷ entries) of = (of.0, entries_items entries of.1)
 

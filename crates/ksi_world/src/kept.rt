@@ -185,7 +185,10 @@ fn kept_items<C: Compress>(
 }
 
 /// The items without their origins.
-fn items_of(alloc: Global, entries: &[Entry]) -> Result<Items, NoMemory>
+///
+/// # Errors
+/// `NoMemory`.
+pub fn items_of(alloc: Global, entries: &[Entry]) -> Result<Items, NoMemory>
     ensures { IfOk result (λ items. items ≡ items_of entries.now) }
 {
     let mut items = Vec::with_capacity(alloc, entries.len())?;

@@ -32,9 +32,10 @@ mod nodes;
 mod outcome;
 mod posting;
 mod published;
+pub mod sealing;
 mod world;
 
-pub use kept::{Kept, Seconds};
+pub use kept::{Kept, Seconds, items_of};
 pub use ksi_aggtree::Second;
 pub use ksi_imprint::NoMemory;
 pub use ksi_schedule::{Actor, Event, Parents, Plan};

@@ -1,5 +1,4 @@
-use Rattle.std.proofs.Common.{◌≡◌, ◌+◌, ◌≤◌, ◌∙◌, ℕ, List, [], true, false, Bool, ap, sym, subst, arith, length, take, get_or, refl}
-use Rattle.ksi_gates.specs.Gates.{records_text}
+use Rattle.std.proofs.Common.{◌≡◌, ◌+◌, ℕ, List, [], Bool, sym, subst, arith, get_or, refl}
 use Rattle.ksi_nodestore.specs.Stores.{GoesOn}
 use Rattle.ksi_nodestore.proofs.Onward.{core_more, fault_here, place_more, place_within}
 use Rattle.ksi_nodestore.proofs.folding.fold_records.Goals as goal

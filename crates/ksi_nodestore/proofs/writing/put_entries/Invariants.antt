@@ -1,5 +1,5 @@
 use Rattle.std.specs.List.{All, flat_map}
-use Rattle.std.proofs.Common.{◌≡◌, ◌+◌, ◌-◌, ◌*◌, ◌≤◌, ◌++◌, length, take}
+use Rattle.std.proofs.Common.{◌≡◌, ◌-◌, ◌*◌, ◌≤◌, ◌++◌, length, take}
 use Rattle.ksi_nodestore.specs.Texts.{entry_text, IsSpelled}
 use Rattle.ksi_nodestore.proofs.writing.put_entries.Given as goal
 

@@ -1,4 +1,4 @@
-use Rattle.std.proofs.Common.{◌≡◌, ℕ, List, ◌<◌, ◌∙◌, ap, sym, subst, arith}
+use Rattle.std.proofs.Common.{ℕ, List, ◌<◌, ◌∙◌, ap, sym, subst, arith}
 use Rattle.ksi_gates.specs.Gates.{reading_of}
 use Rattle.ksi_nodestore.specs.Stores.{IsFileOf}
 use Rattle.ksi_nodestore.proofs.Onward.{texts_size}

@@ -1,4 +1,4 @@
-use Rattle.std.proofs.Common.{◌≡◌, ◌+◌, ◌<◌, ◌^◌, ◌∙◌, ℕ, List, Option, subst, arith}
+use Rattle.std.proofs.Common.{◌∙◌, Option, subst, arith}
 use Rattle.ksi_corenode.specs.declared.fact.Fact.{Fact}
 use Rattle.ksi_corenode.specs.Events.{event_second}
 use Rattle.ksi_disk.specs.Images.{LeavesOnly}
@@ -34,14 +34,18 @@ returns-clause-stored g c = λ me plan facts is.
     let row = c.steps_are_lawful.ensures.fact g.C.Compress.image self.core event c.requires.event c.requires.asked (is.has.well (event_second event)) in
     let may = may_go_on g.C.Compress.image plan facts self.core c.take.new.self event step is.has turn row in
     let log : IsLogOf g.D.Disk.content g.D.Disk.images me plan facts self.log = record { settled = is.settled; from = is.from; file = is.file } in
-    let kept = c.in_ok-keep.ensures.kept me plan facts log may in
+    let has = c.in_ok-keep.ensures.kept me plan facts log may in
+    let kept = has.log in
     record {
-      mine = turn.me ∙ is.mine;
-      has = c.steps_are_lawful.ensures.facts g.C.Compress.image plan facts self.core c.take.new.self event step is.has c.requires.event c.requires.asked turn;
-      counted = counted_on self.records c.count_of.result facts step.fact is.counted c.count_of.ensures.count;
-      settled = kept.settled;
-      from = kept.from;
-      file = kept.file;
+      stored = record {
+        mine = turn.me ∙ is.mine;
+        has = c.steps_are_lawful.ensures.facts g.C.Compress.image plan facts self.core c.take.new.self event step is.has c.requires.event c.requires.asked turn;
+        counted = counted_on self.records c.count_of.result facts step.fact is.counted c.count_of.ensures.count;
+        settled = kept.settled;
+        from = kept.from;
+        file = kept.file;
+      };
+      exact = has.exact;
     }
 
 pub returns-clause-any_moment : goal.returns-clause-any_moment
@@ -66,4 +70,4 @@ returns-clause-leaves g c =
     let row = c.steps_are_lawful.ensures.fact g.C.Compress.image self.core event c.requires.event c.requires.asked (is.has.well (event_second event)) in
     let may = may_go_on g.C.Compress.image plan facts self.core c.take.new.self event c.in_ok-step.step is.has turn row in
     let log : IsLogOf g.D.Disk.content g.D.Disk.images me plan facts self.log = record { settled = is.settled; from = is.from; file = is.file } in
-    (c.in_ok-keep.ensures.kept me plan facts log may).settled.fresh
+    (c.in_ok-keep.ensures.kept me plan facts log may).log.settled.fresh

@@ -1,0 +1,45 @@
+-- Which facts records spell one after the other, as a function of the records.
+use Rattle.std.specs.Prelude.{ℕ, ◌+◌, ◌^◌, ◌==◌, nat_le, nat_lt, ◌&&◌, not, Bool, is_some, if◌then◌else◌, List, [], ◌∷◌, ◌++◌, length, Option, Some, None, Result, Ok, Err}
+use Rattle.std.specs.List.{list_all}
+use Rattle.ksi_aggtree.specs.Rounds.{most_items}
+use Rattle.ksi_synod.specs.Rows.{is_older}
+use Rattle.ksi_corenode.specs.declared.fact.What.{What}
+use Rattle.ksi_corenode.specs.declared.fact.What.TheVariants.{Sealed, Tried, Promised, Cast, Holds}
+use Rattle.ksi_corenode.specs.declared.fact.Fact.{Fact}
+use Rattle.ksi_corenode.specs.Facts.{StableState}
+use Rattle.ksi_corenode.specs.Lawful.{is_fit, stored_by}
+use Rattle.ksi_nodestore.specs.TextReading.{fact_at}
+
+abbrev pub is_ballot : ℕ → Bool
+is_ballot ballot = nat_le 16 ballot && nat_lt ballot (2 ^ 36)
+
+-- whether this may be stored of a second after its stable part
+abbrev pub may_store : StableState → What → Bool
+may_store s (Sealed items) = not (is_some s.sealed) && (nat_le (length items) most_items && list_all is_fit items)
+may_store s (Tried ballot) = is_some s.sealed && (nat_lt s.tried ballot && is_ballot ballot)
+may_store s (Promised ballot) = nat_lt s.promised ballot && is_ballot ballot
+may_store s (Cast vote) = (vote.ballot == s.promised) && (is_older s.vote vote.ballot && is_ballot vote.ballot)
+may_store s (Holds root) = not (is_some s.held)
+
+-- whether a fact is lawful after the stable part of its second
+abbrev pub is_lawful : (start : ℕ) → StableState → Fact → Bool
+is_lawful start s fact = nat_le start fact.second && (nat_lt fact.second (2 ^ 63) && may_store s fact.what)
+
+abbrev pub where_lawful : (start : ℕ) → List Fact → Option Fact → Option Fact
+where_lawful start facts None = None
+where_lawful start facts (Some fact) = if is_lawful start (stored_by facts fact.second) fact then Some fact else None
+
+-- the fact that a content spells, where it is lawful after these
+abbrev pub next_fact : (start : ℕ) → List Fact → List ℕ → Option Fact
+next_fact start facts content = where_lawful start facts (fact_at content)
+
+-- a record at a place spells this fact, or none
+abbrev pub gone_on : (others : List Fact → ℕ → Result (List Fact) ℕ) → List Fact → (place : ℕ) → List ℕ → Option Fact → Result (List Fact) ℕ
+gone_on others facts place content None = Err place
+gone_on others facts place content (Some fact) = others (facts ++ fact ∷ []) (place + (5 + length content))
+
+-- the facts that records from a place on spell behind these, each lawful after those before it; or the place of the first
+-- record that spells none
+abbrev pub facts_read : (start : ℕ) → List (List ℕ) → List Fact → (place : ℕ) → Result (List Fact) ℕ
+facts_read start [] facts place = Ok facts
+facts_read start (content ∷ contents) facts place = gone_on (facts_read start contents) facts place content (next_fact start facts content)
