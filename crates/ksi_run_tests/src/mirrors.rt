@@ -90,7 +90,12 @@ fn is_file(alloc: Global, moments: &[Moment]) -> Option<(bool, usize)> {
 fn the_mirror_of_a_core(rt: HostRuntime) {
     static ROWS: [&[Moment]; 3] = [&[(10, 0)], &[(10, 0), (10, 0)], &[(6, 0), (10, 0), (9, 0)]];
     for moments in ROWS {
-        same(&rt, moments.len(), is_file(rt.alloc(), moments), Some((true, 98)));
+        same(
+            &rt,
+            moments.len(),
+            is_file(rt.alloc(), moments),
+            Some((true, 98)),
+        );
     }
 }
 
@@ -126,7 +131,12 @@ fn mirrors_of_seven_come_to_its_seconds(rt: HostRuntime) -> Result<(), Fail> {
     };
     let want = (file, journal);
     for moments in ORDERS {
-        same(&rt, moments.len(), comes_to(rt.alloc(), text, moments, &want), Some([true; 2]));
+        same(
+            &rt,
+            moments.len(),
+            comes_to(rt.alloc(), text, moments, &want),
+            Some([true; 2]),
+        );
     }
     Ok(())
 }

@@ -53,7 +53,8 @@ fn mirrors_are_merged(rt: HostRuntime) -> Result<(), Fail> {
         same(&rt, one, files.bytes(one), files.bytes(other));
     }
     same(&rt, "x", files.bytes("x").is_none(), true);
-    let union = "4b53494d49525231 01046553f100 0229 01046553f100 022101A 090b 01046553f100 0200 030101 032201A00 090c 01046553f100 020101 030101 032201B00 0600";
+    let union =
+        "4b53494d49525231 01046553f100 0229 01046553f100 022101A 090b 01046553f100 0200 030101 032201A00 090c 01046553f100 020101 030101 032201B00 0600";
     holds(&rt, rt.alloc(), &files, "q", 158, union)?;
     let journal = "4b53494a524e4c31 01046553f100 022c 01046553f100 022101A 030101 032201A00 0600";
     holds(&rt, rt.alloc(), &files, "j", 98, journal)
