@@ -2,8 +2,8 @@
 //!
 //! A contract sees a [`Line`] as its bytes, at most 32,767 of them. The layers above may rely on this: [`print`] gives exactly
 //! the texts of its words, parted by single spaces, and a line feed; and the line of a fault of a file, of a check that fails,
-//! of a signature that is not extended, of an audit and of what a front shows is exactly its definition (`FaultWords`,
-//! `Lines`, `Answers`).
+//! of a signature that is not extended, of an audit, of what a front shows and of mirrors is exactly its definition
+//! (`FaultWords`, `Lines`, `Answers`, `Mirrors`).
 //! Only the line of a clash takes memory.
 //!
 //! ```text
@@ -18,6 +18,7 @@ mod comparing;
 mod extending;
 mod faults;
 mod line;
+mod merging;
 mod printing;
 mod refusals;
 
@@ -29,5 +30,6 @@ pub use faults::{
     signature_fault_line,
 };
 pub use line::Line;
+pub use merging::{not_merged_line, not_whole_line};
 pub use printing::{Word, print};
 pub use refusals::refusal_line;

@@ -77,6 +77,8 @@ fn says(text: &str, command: &Command<'_>) -> bool {
         Command::Migrate(old, new) => are(text, "migrate", old, new, "", ""),
         Command::Front(journal, _, _, out) => are(text, "front", journal, out, "", ""),
         Command::Compare(old, new, proof) => are(text, "compare", old, new, proof, ""),
+        Command::Merge(one, two, out) => are(text, "merge", one, two, out, ""),
+        Command::Whole(mirror, journal) => are(text, "whole", mirror, journal, "", ""),
     }
 }
 
@@ -134,7 +136,7 @@ fn each_command_is_told(rt: HostRuntime) -> Result<(), Fail> {
     ];
     // what is asked just as it stands
     const ASKED: &str =
-        "replay f j;publish j p;verify s # p;verify verify # help;verify s-- # p=-;verify 0 # 1;audit j s # p;migrate j k;compare j k f";
+        "replay f j;publish j p;verify s # p;verify verify # help;verify s-- # p=-;verify 0 # 1;audit j s # p;migrate j k;compare j k f;merge m n o;whole m j";
     for (line, text, number) in &ROWS {
         is_told(&rt, rt.alloc(), line, text, *number)?;
     }
@@ -154,7 +156,7 @@ const BAD_THIRD: &str =
 
 // Too few or too many words.
 const COUNTS: &str =
-    ";replay f;replay f j 1;sign j 1;publish j;extend j s 1;make 7;drill;drill 7 f;migrate;migrate j;migrate j k l;verify;verify s;verify s 12;verify s #;verify s # p q;verify s # p q r s t;verify s 12 p q;audit j s #;audit j s # p q;front;front j 1 2;front j 1 2 f g;compare j k;compare j k f g";
+    ";replay f;replay f j 1;sign j 1;publish j;extend j s 1;make 7;drill;drill 7 f;migrate;migrate j;migrate j k l;verify;verify s;verify s 12;verify s #;verify s # p q;verify s # p q r s t;verify s 12 p q;audit j s #;audit j s # p q;front;front j 1 2;front j 1 2 f g;compare j k;compare j k f g;merge m n;merge m n o p;whole m;whole m j k";
 
 // Names of no command.
 const NAMES: &str =

@@ -9,3 +9,6 @@ pub mod Files
 pub mod Sound
 pub mod Again
 pub mod Texts
+pub mod Read
+pub mod UnionOf
+pub mod MergedOf

@@ -9,3 +9,5 @@ pub mod Elements
 pub mod Loading
 pub mod File
 pub mod Written
+pub mod Reading
+pub mod Merged

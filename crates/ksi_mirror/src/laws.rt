@@ -1,16 +1,18 @@
 //! What holds of unions and of merging, for the layers above to cite. None of these functions does anything.
-ghost use Rattle.std.specs.Prelude.{◌≡◌, ◌↔◌, ◌⊎◌, ℕ, List, Option};
+ghost use Rattle.std.specs.Prelude.{◌≡◌, ◌↔◌, ◌⊎◌, ℕ, List, Option, Ok, Err};
 ghost use Rattle.ksi_journal.specs.declared.fault.JournalFault.{JournalFault};
 ghost use Rattle.ksi_mirror.specs.declared.refusal.MergeRefusal.{MergeRefusal};
 ghost use Rattle.ksi_mirror.specs.Maps.{AgreeAll, IsUnion};
 ghost use Rattle.ksi_mirror.specs.Mirrors.{MirrorState, root_of, list_of, IsMirror};
 ghost use Rattle.ksi_mirror.specs.Merging.{MayMerge, Merges, IsMergeRefusal};
+ghost use Rattle.ksi_mirror.specs.Merged.{merged_of, merged_then, SameOrRefused};
 ghost use Rattle.ksi_mirror.specs.File.{IsMirrorFile, IsMirrorFault};
+ghost use Rattle.ksi_mirror.specs.Reading.{mirror_at};
 ghost use Rattle.ksi_mirror.specs.Written.{mirror_text};
 
 use crate::loading::MirrorLoading;
 use ksi_journal::JournalFault;
-use ksi_order::whole_or_fault;
+use ksi_order::{walked_says, whole_or_fault};
 use ksi_tlv::{numeral_is_read, written_is_read};
 
 /// The union of two finite maps that agree: of one map with itself it is that map; it is the same in either order; and
@@ -55,6 +57,26 @@ pub fn merged_or_refused()
         IsMergeRefusal one two refusal → IsMergeRefusal one two other → refusal ≡ other }
 {}
 
+/// The function that merges two mirrors gives their union, which is a mirror, or the reason why they have none.
+pub fn merged_is_merging()
+    ensures merged { (one two : MirrorState) → IsMirror one → IsMirror two → (merged : MirrorState) →
+        (merged_of one two ≡ Ok merged) ↔ (IsMirror merged × Merges one two merged) }
+    ensures refused { (one two : MirrorState) → IsMirror one → IsMirror two → (refusal : MergeRefusal) →
+        (merged_of one two ≡ Err refusal) ↔ IsMergeRefusal one two refusal }
+{}
+
+/// Merging as a function is idempotent, commutative and associative. Whatever the order, two or three mirrors give the same
+/// one, or are refused, perhaps for different reasons; and merging one of them again changes nothing.
+pub fn merged_is_a_join()
+    ensures same { (one : MirrorState) → IsMirror one → merged_of one one ≡ Ok one }
+    ensures either { (one two : MirrorState) → IsMirror one → IsMirror two → SameOrRefused (merged_of one two) (merged_of two one) }
+    ensures any_order { (one two three : MirrorState) → IsMirror one → IsMirror two → IsMirror three →
+        SameOrRefused (merged_then (merged_of one two) (λ first. merged_of first three))
+        (merged_then (merged_of two three) (λ second. merged_of one second)) }
+    ensures again { (one two merged : MirrorState) → IsMirror one → IsMirror two →
+        merged_of one two ≡ Ok merged → merged_of merged one ≡ Ok merged }
+{}
+
 /// Bytes are a mirror's file or have a first fault, and not both; and they are of one mirror and have one first fault.
 pub fn mirror_or_fault()
     ensures one { (bytes : List ℕ) →
@@ -67,6 +89,14 @@ pub fn mirror_or_fault()
         IsMirrorFault bytes fault → IsMirrorFault bytes other → fault ≡ other }
 {
     whole_or_fault::<MirrorLoading, JournalFault>();
+}
+
+/// What is read in bytes is the mirror that they are, or their first fault.
+pub fn mirror_is_read()
+    ensures mirror { (bytes : List ℕ) (mirror : MirrorState) → (mirror_at bytes ≡ Ok mirror) ↔ IsMirrorFile bytes mirror }
+    ensures fault { (bytes : List ℕ) (fault : JournalFault) → (mirror_at bytes ≡ Err fault) ↔ IsMirrorFault bytes fault }
+{
+    walked_says::<MirrorLoading, JournalFault>();
 }
 
 /// The text of a mirror is a file of that mirror.

@@ -1,11 +1,13 @@
 //! The union of two mirrors.
 ghost use Rattle.std.specs.Prelude.{◌≡◌, ◌≢◌, IfOk};
-ghost use Rattle.ksi_imprint.specs.Refused.{IfRefused};
+ghost use Rattle.ksi_imprint.specs.Refused.{IfRefused, OrNoMemory};
 ghost use Rattle.ksi_mirror.specs.Mirrors.{rank};
 ghost use Rattle.ksi_mirror.specs.Keys.{DifferFirst, IsUnited};
+ghost use Rattle.ksi_mirror.specs.Merged.{merged_of};
 ghost use Rattle.ksi_mirror.specs.Merging.{Merges, IsMergeRefusal, AreTrees};
 
 use crate::entries::first_difference;
+use crate::laws::merged_is_merging;
 use crate::mirror::Mirror;
 use crate::parts::MirrorParts;
 use crate::refusal::MergeRefusal;
@@ -14,14 +16,32 @@ use crate::uniting::united;
 use ksi_imprint::{Imprint, Refused};
 use std::alloc::Global;
 
-/// What either mirror has, in one pass over both. Both orders give the same mirror or are both refused, and so are three
-/// mirrors in any order ([`merging_is_a_join`](crate::laws::merging_is_a_join)).
+/// What either mirror has, in one pass over both. Whatever the order, two or three mirrors give the same one or are refused
+/// ([`merged_is_a_join`](crate::laws::merged_is_a_join)).
 ///
 /// # Errors
 /// `Starts` exactly where the starts differ; else at the least second for which they have something different `Conflict`
 /// exactly where its roots differ, else `Trees` with the lowest core whose lists differ and the first place where they do.
 /// `NoMemory`.
 pub fn merge(alloc: Global, one: &Mirror, two: &Mirror) -> Result<Mirror, Refused<MergeRefusal>>
+    ensures merged { IfOk result (Merges one.now two.now) }
+    ensures refused { IfRefused result (IsMergeRefusal one.now two.now) (Unit {0}) }
+    ensures answer { OrNoMemory (merged_of one.now two.now) result }
+{
+    merged_is_merging();
+    one.is_mirror();
+    two.is_mirror();
+    match union_of(alloc, one, two) {
+        Ok(merged) => {
+            merged.is_mirror();
+            Ok(merged)
+        }
+        Err(refused) => Err(refused),
+    }
+}
+
+/// The union of both.
+fn union_of(alloc: Global, one: &Mirror, two: &Mirror) -> Result<Mirror, Refused<MergeRefusal>>
     ensures merged { IfOk result (Merges one.now two.now) }
     ensures refused { IfRefused result (IsMergeRefusal one.now two.now) (Unit {0}) }
 {

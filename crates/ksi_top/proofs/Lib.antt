@@ -11,3 +11,4 @@ pub mod Extending
 pub mod Replayed
 pub mod Migrating
 pub mod Keeping
+pub mod Mirroring

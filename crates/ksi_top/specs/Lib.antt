@@ -15,6 +15,8 @@ pub mod Kept
 pub mod Front
 pub mod Compare
 pub mod Migrate
+pub mod Merge
+pub mod Whole
 pub mod Run
 pub mod Endings
 pub mod Promised

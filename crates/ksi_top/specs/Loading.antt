@@ -12,6 +12,8 @@ use Rattle.ksi_journal.specs.Journal.{Contents}
 use Rattle.ksi_journal.specs.Reading.{journal_at}
 use Rattle.ksi_consistency.specs.Elements as fronts
 use Rattle.ksi_consistency.specs.Reading.{front_at}
+use Rattle.ksi_mirror.specs.Mirrors.{MirrorState}
+use Rattle.ksi_mirror.specs.Reading.{mirror_at}
 use Rattle.ksi_schedule.specs.Events.{History}
 use Rattle.ksi_schedule.specs.Reading.{schedule_at}
 use Rattle.ksi_top.specs.declared.report.Report.{Report}
@@ -68,6 +70,10 @@ front_or_malformed n bytes = or_malformed front_fault n (front_at bytes)
 abbrev pub schedule_or_malformed : ℕ → List ℕ → Result History Report
 schedule_or_malformed n bytes = or_malformed schedule_fault n (schedule_at bytes)
 
+-- the faults of a mirror are those of a journal
+abbrev pub mirror_or_malformed : ℕ → List ℕ → Result MirrorState Report
+mirror_or_malformed n bytes = or_malformed journal_fault n (mirror_at bytes)
+
 -- ---- what file word n is read as: the report of its fault stands in the place of what passes its limit, or is malformed
 
 unfoldable pub loaded_signature : ℕ → Held → List ℕ → Result Signature Report
@@ -84,3 +90,6 @@ loaded_front n held name = and_then (loaded file_limit n held name) (front_or_ma
 
 unfoldable pub loaded_schedule : ℕ → Held → List ℕ → Result History Report
 loaded_schedule n held name = and_then (loaded file_limit n held name) (schedule_or_malformed n)
+
+unfoldable pub loaded_mirror : ℕ → Held → List ℕ → Result MirrorState Report
+loaded_mirror n held name = and_then (loaded file_limit n held name) (mirror_or_malformed n)

@@ -22,6 +22,7 @@ mod histories;
 mod kept;
 mod loading;
 mod make;
+mod merge;
 mod migrate;
 mod perform;
 mod publish;
@@ -32,6 +33,7 @@ mod sign;
 mod status;
 mod sure;
 mod verify;
+mod whole;
 
 pub use ending::ksi;
 pub use status::Status;

@@ -3,12 +3,13 @@ ghost use Rattle.std.specs.Prelude.{◌≡◌, ◌≤◌, IsTrue, IfOk};
 ghost use Rattle.ksi_imprint.specs.Imprints.{imprint_of};
 ghost use Rattle.ksi_consistency.specs.File.{IsFrontFile};
 ghost use Rattle.ksi_journal.specs.File.{IsJournalFile};
+ghost use Rattle.ksi_mirror.specs.File.{IsMirrorFile};
 ghost use Rattle.ksi_publications.specs.File.{IsPublications};
 ghost use Rattle.ksi_schedule.specs.Spelled.{IsScheduleText};
-ghost use Rattle.ksi_top.specs.Loading.{content, loaded, loaded_front, loaded_journal, loaded_publications, loaded_schedule, file_limit};
+ghost use Rattle.ksi_top.specs.Loading.{content, loaded, loaded_front, loaded_journal, loaded_publications, loaded_schedule, loaded_mirror, file_limit};
 ghost use Rattle.ksi_top.specs.Promised.{IsLoaded};
 
-use crate::reading::{read_front, read_journal, read_publications, read_schedule};
+use crate::reading::{read_front, read_journal, read_mirror, read_publications, read_schedule};
 use crate::report::{Halt, Report};
 use crate::status::Status;
 use ksi_consistency::Front;
@@ -16,6 +17,7 @@ use ksi_imprint::{Bytes, Sha};
 use ksi_journal::Journal;
 use ksi_lines::Word::{Number, Text};
 use ksi_lines::print;
+use ksi_mirror::Mirror;
 use ksi_ports::{Files, LoadRefusal};
 use ksi_publications::Publications;
 use ksi_schedule::Schedule;
@@ -81,6 +83,20 @@ pub(crate) fn load_schedule<F: Files>(
 {
     let bytes = load_file(alloc, files, FILE_LIMIT, n, name)?;
     read_schedule(alloc, n, bytes.as_slice())
+}
+
+/// The mirror that file word `n` is.
+pub(crate) fn load_mirror<F: Files>(
+    alloc: Global,
+    files: &mut F,
+    n: usize,
+    name: &str,
+) -> Result<Mirror, Halt>
+    ensures loaded { IsLoaded F.Files n file_limit (loaded_mirror n (F.held files.old) name.now) files.old files.new result }
+    ensures is { IsTrue F.tells → IfOk result (IsMirrorFile (content (F.held files.old) name.now)) }
+{
+    let bytes = load_file(alloc, files, FILE_LIMIT, n, name)?;
+    read_mirror(alloc, n, bytes.as_slice())
 }
 
 /// The bytes of file word `n`, at most `limit` of them.

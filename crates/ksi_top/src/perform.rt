@@ -12,6 +12,7 @@ use crate::drill::drill;
 use crate::extend::extend;
 use crate::front::front;
 use crate::make::make;
+use crate::merge::merge;
 use crate::migrate::migrate;
 use crate::publish::publish;
 use crate::replay::replay;
@@ -19,6 +20,7 @@ use crate::report::{Halt, Report, ended};
 use crate::sign::sign;
 use crate::status::Status;
 use crate::verify::verify;
+use crate::whole::whole;
 use ksi_imprint::Refused;
 use ksi_lines::Word::{Number, Text};
 use ksi_lines::print;
@@ -74,6 +76,8 @@ fn perform<F: Files>(alloc: Global, files: &mut F, command: &Command<'_>) -> Res
         Command::Migrate(old, new) => migrate(alloc, files, old, new),
         Command::Front(journal, p1, p2, out) => front(alloc, files, journal, *p1, *p2, out),
         Command::Compare(old, new, proof) => compare(alloc, files, old, new, proof),
+        Command::Merge(one, two, out) => merge(alloc, files, one, two, out),
+        Command::Whole(mirror, journal) => whole(alloc, files, mirror, journal),
     }
 }
 

@@ -3,12 +3,13 @@ ghost use Rattle.std.specs.Prelude.{◌≡◌, IfOk};
 ghost use Rattle.ksi_imprint.specs.Imprints.{imprint_of};
 ghost use Rattle.ksi_consistency.specs.File.{IsFrontFile};
 ghost use Rattle.ksi_journal.specs.File.{IsJournalFile};
+ghost use Rattle.ksi_mirror.specs.File.{IsMirrorFile};
 ghost use Rattle.ksi_publications.specs.File.{IsPublications};
 ghost use Rattle.ksi_schedule.specs.Spelled.{IsScheduleText};
 ghost use Rattle.ksi_signature.specs.File.{IsSignature};
 ghost use Rattle.ksi_signature.specs.Seen.{seen, bytes_seen};
 ghost use Rattle.ksi_top.specs.Reports.{Gives, HaltsMalformed};
-ghost use Rattle.ksi_top.specs.Loading.{seen_or_halt, signature_or_malformed, publications_or_malformed, journal_or_malformed, front_or_malformed, schedule_or_malformed};
+ghost use Rattle.ksi_top.specs.Loading.{seen_or_halt, signature_or_malformed, publications_or_malformed, journal_or_malformed, front_or_malformed, schedule_or_malformed, mirror_or_malformed};
 
 use crate::report::{Halt, Report};
 use crate::status::Status;
@@ -21,6 +22,8 @@ use ksi_lines::{
     front_fault_line, journal_fault_line, publications_fault_line, schedule_fault_line,
     signature_fault_line,
 };
+use ksi_mirror::Mirror;
+use ksi_mirror::laws::mirror_is_read;
 use ksi_publications::{Publications, publications_are_read};
 use ksi_schedule::{Schedule, schedule_is_read};
 use ksi_signature::{SignatureView, signature_is_read, view};
@@ -105,6 +108,23 @@ pub(crate) fn read_schedule(alloc: Global, n: usize, bytes: &[u8]) -> Result<Sch
         Ok(schedule) => Ok(schedule),
         Err(Refused::Fault(fault)) => {
             let line = schedule_fault_line(n, &fault);
+            Err(Halt::Reported(Report::new(Status::Malformed, line)))
+        }
+        Err(Refused::NoMemory) => Err(Halt::NoMemory),
+    }
+}
+
+/// The mirror that file word `n` is, or that it is none.
+pub(crate) fn read_mirror(alloc: Global, n: usize, bytes: &[u8]) -> Result<Mirror, Halt>
+    ensures told { Gives (mirror_or_malformed n bytes.now) result }
+    ensures is { IfOk result (IsMirrorFile bytes.now) }
+    ensures halts { HaltsMalformed result }
+{
+    mirror_is_read();
+    match ksi_mirror::load_mirror(alloc, bytes) {
+        Ok(mirror) => Ok(mirror),
+        Err(Refused::Fault(fault)) => {
+            let line = journal_fault_line(n, &fault);
             Err(Halt::Reported(Report::new(Status::Malformed, line)))
         }
         Err(Refused::NoMemory) => Err(Halt::NoMemory),

@@ -1,6 +1,7 @@
 // Every command with each of its calls failing in turn.
+use crate::mirrors;
 use crate::same::same;
-use crate::text::{each_ends, words};
+use crate::text::{each_ends, hold_each, words};
 use crate::whole_paths::{held, replayed};
 use ksi_ports::{MemFiles, MemSink, SureFiles, SureSink};
 use ksi_top::{Status, ksi, sure_run};
@@ -11,7 +12,7 @@ use std::test::Fail;
 // A command, how often it calls on the files, how many bytes it saves under "o", and the first three that it puts.
 type Row = (&'static str, u64, Option<usize>, &'static [u8]);
 
-const ROWS: [Row; 11] = [
+const ROWS: [Row; 13] = [
     ("replay f o", 2, Some(766), b"eve"),
     ("sign j 0 o", 2, Some(615), b"sig"),
     ("publish j o", 2, Some(68), b"pub"),
@@ -23,12 +24,14 @@ const ROWS: [Row; 11] = [
     ("migrate j o", 2, Some(766), b"mig"),
     ("front j T T o", 2, Some(20), b"fro"),
     ("compare j j c", 3, None, b"equ"),
+    ("merge m m o", 3, Some(108), b"mer"),
+    ("whole m o", 2, Some(98), b"who"),
 ];
 
 // The files of a whole path, of which the call of this number fails.
 fn failing_at(alloc: Global, whole: &MemFiles, call: u64) -> Result<MemFiles, Fail> {
     let mut files = MemFiles::new(alloc, vec![in alloc; call]?);
-    for name in ["f", "j", "s", "p", "c"] {
+    for name in ["f", "j", "s", "p", "c", "m"] {
         files.hold(name, held(whole, name)?)?;
     }
     Ok(files)
@@ -81,6 +84,7 @@ fn each_call_fails(
 #[test]
 fn each_failing_call_ends_the_run(rt: HostRuntime) -> Result<(), Fail> {
     let mut whole = replayed(&rt, rt.alloc())?;
+    hold_each(rt.alloc(), &mut whole, mirrors::ONE)?;
     let front = "front j T T c = front T T 0";
     each_ends(&rt, rt.alloc(), &mut whole, Status::Done, front)?;
     for row in ROWS {
@@ -90,7 +94,7 @@ fn each_failing_call_ends_the_run(rt: HostRuntime) -> Result<(), Fail> {
 }
 
 /// Each command over files that hold nothing, and how it ends.
-const SURE: [(&str, Status); 11] = [
+const SURE: [(&str, Status); 13] = [
     ("replay s j", Status::Malformed),
     ("sign j 0 o", Status::Malformed),
     ("publish j o", Status::Malformed),
@@ -102,6 +106,8 @@ const SURE: [(&str, Status); 11] = [
     ("migrate j o", Status::Malformed),
     ("front j 5 6 o", Status::Malformed),
     ("compare j k c", Status::Malformed),
+    ("merge m n o", Status::Malformed),
+    ("whole m j", Status::Malformed),
 ];
 
 #[test]

@@ -16,6 +16,8 @@ mod later_files;
 #[cfg(test)]
 mod migrations;
 #[cfg(test)]
+mod mirrors;
+#[cfg(test)]
 mod names;
 #[cfg(test)]
 mod runs;

@@ -7,7 +7,7 @@ use Rattle.ksi_imprint.specs.declared.refused.Refused.{Refused}
 use Rattle.ksi_imprint.specs.declared.refused.Refused.TheVariants.{Fault, NoMemory}
 use Rattle.ksi_words.specs.Sorts.{Sort, file_word, hash_word, number_word, time_word, Of, value_of}
 use Rattle.ksi_words.specs.declared.asked.Command.{Command}
-use Rattle.ksi_words.specs.declared.asked.Command.TheVariants.{Replay, Sign, Publish, Extend, Verify, Audit, Make, Drill, Migrate, Front, Compare}
+use Rattle.ksi_words.specs.declared.asked.Command.TheVariants.{Replay, Sign, Publish, Extend, Verify, Audit, Make, Drill, Migrate, Front, Compare, Merge, Whole}
 use Rattle.ksi_words.specs.declared.asked.WordsRefusal.{WordsRefusal}
 use Rattle.ksi_words.specs.declared.asked.WordsRefusal.TheVariants.{Words, BadWord}
 
@@ -24,6 +24,8 @@ pub data Asked : Type 0 where
   migrate : List ℕ → List ℕ → Asked
   front : List ℕ → ℕ → ℕ → List ℕ → Asked
   compare : List ℕ → List ℕ → List ℕ → Asked
+  merge : List ℕ → List ℕ → List ℕ → Asked
+  whole : List ℕ → List ℕ → Asked
 
 -- what asks for a command, given what the words of these sorts stand for
 abbrev pub From : List Sort → Type 0
@@ -69,8 +71,14 @@ front_row = record { name = codes "front"; sorts = file_word ∷ time_word ∷ t
 abbrev pub compare_row : CommandForm
 compare_row = record { name = codes "compare"; sorts = file_word ∷ file_word ∷ file_word ∷ []; asks = compare }
 
+abbrev pub merge_row : CommandForm
+merge_row = record { name = codes "merge"; sorts = file_word ∷ file_word ∷ file_word ∷ []; asks = merge }
+
+abbrev pub whole_row : CommandForm
+whole_row = record { name = codes "whole"; sorts = file_word ∷ file_word ∷ []; asks = whole }
+
 abbrev pub table : List CommandForm
-table = replay_row ∷ sign_row ∷ publish_row ∷ extend_row ∷ verify_row ∷ audit_row ∷ make_row ∷ drill_row ∷ migrate_row ∷ front_row ∷ compare_row ∷ []
+table = replay_row ∷ sign_row ∷ publish_row ∷ extend_row ∷ verify_row ∷ audit_row ∷ make_row ∷ drill_row ∷ migrate_row ∷ front_row ∷ compare_row ∷ merge_row ∷ whole_row ∷ []
 
 abbrev pub texts : List (String Global) → List (List ℕ)
 texts words = map string_bytes words
@@ -126,6 +134,8 @@ asked (Drill number) = drill number
 asked (Migrate old new) = migrate old.now new.now
 asked (Front journal p1 p2 out) = front journal.now p1 p2 out.now
 asked (Compare old new proof) = compare old.now new.now proof.now
+asked (Merge one two out) = merge one.now two.now out.now
+asked (Whole mirror journal) = whole mirror.now journal.now
 
 -- the seconds of a command, where it has some, are below 2^63
 abbrev pub IsEarly : Command → Type 0
@@ -133,9 +143,9 @@ IsEarly (Extend journal signature second out) = second < 2 ^ 63
 IsEarly (Front journal p1 p2 out) = (p1 < 2 ^ 63) × (p2 < 2 ^ 63)
 IsEarly _ = Unit {0}
 
--- the words were read as they are
+-- the words were read as they are, and the seconds of the command are below 2^63
 abbrev pub Asks : Result Asked WordsRefusal → Result Command WordsRefusal → Type 0
-Asks expected (Ok command) = expected ≡ Ok (asked command)
+Asks expected (Ok command) = (expected ≡ Ok (asked command)) × IsEarly command
 Asks expected (Err refusal) = expected ≡ Err refusal
 
 -- or there was no memory to read them

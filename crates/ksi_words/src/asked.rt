@@ -26,6 +26,10 @@ pub enum Command<'a> {
     Front(&'a str, u64, u64, &'a str),
     /// The older journal's file, the newer one's file, the front's file.
     Compare(&'a str, &'a str, &'a str),
+    /// The files of two mirrors, the file of their union to write.
+    Merge(&'a str, &'a str, &'a str),
+    /// The mirror's file, the journal's file to write.
+    Whole(&'a str, &'a str),
 }
 
 /// Why words are no command.

@@ -2,7 +2,7 @@
 ghost use Rattle.std.specs.Prelude.{◌≡◌, ◌<◌, ◌^◌, ℕ, IfOk, map};
 ghost use Rattle.ksi_schedule.specs.Decimal.{number_of};
 ghost use Rattle.ksi_words.specs.Sorts.{hash_of, time_of};
-ghost use Rattle.ksi_words.specs.Words.{Asks, asked_by, command_named, table, replay_row, sign_row, publish_row, extend_row, verify_row, audit_row, make_row, drill_row, migrate_row, front_row, compare_row, word_at, IsEarly};
+ghost use Rattle.ksi_words.specs.Words.{Asks, asked_by, command_named, table, replay_row, sign_row, publish_row, extend_row, verify_row, audit_row, make_row, drill_row, migrate_row, front_row, compare_row, merge_row, whole_row, word_at};
 
 use crate::values::{hash, number, time};
 use crate::{Command, WordsRefusal};
@@ -15,7 +15,7 @@ pub(crate) struct CommandForm {
     pub(crate) words: usize,
 }
 
-pub(crate) static TABLE: [CommandForm; 11] = [
+pub(crate) static TABLE: [CommandForm; 13] = [
     CommandForm {
         name: "replay",
         words: 2,
@@ -60,12 +60,19 @@ pub(crate) static TABLE: [CommandForm; 11] = [
         name: "compare",
         words: 3,
     },
+    CommandForm {
+        name: "merge",
+        words: 3,
+    },
+    CommandForm {
+        name: "whole",
+        words: 2,
+    },
 ];
 
 /// The command of a name and the words after it.
 pub(crate) fn asked<'a>(name: &str, words: &[&'a str]) -> Result<Command<'a>, WordsRefusal>
-    ensures reads { Asks (command_named table name.now (map (λ word. word.now) words.now)) result }
-    ensures early { IfOk result IsEarly }
+    ensures { Asks (command_named table name.now (map (λ word. word.now) words.now)) result }
 {
     match name {
         "replay" => replay(words),
@@ -79,13 +86,14 @@ pub(crate) fn asked<'a>(name: &str, words: &[&'a str]) -> Result<Command<'a>, Wo
         "migrate" => migrate(words),
         "front" => front(words),
         "compare" => compare(words),
+        "merge" => merge(words),
+        "whole" => whole(words),
         _ => Err(WordsRefusal::Words),
     }
 }
 
 fn replay<'a>(words: &[&'a str]) -> Result<Command<'a>, WordsRefusal>
-    ensures reads { Asks (asked_by replay_row (map (λ word. word.now) words.now)) result }
-    ensures early { IfOk result IsEarly }
+    ensures { Asks (asked_by replay_row (map (λ word. word.now) words.now)) result }
 {
     let [schedule, journal] = words else {
         return Err(WordsRefusal::Words);
@@ -94,8 +102,7 @@ fn replay<'a>(words: &[&'a str]) -> Result<Command<'a>, WordsRefusal>
 }
 
 fn sign<'a>(words: &[&'a str]) -> Result<Command<'a>, WordsRefusal>
-    ensures reads { Asks (asked_by sign_row (map (λ word. word.now) words.now)) result }
-    ensures early { IfOk result IsEarly }
+    ensures { Asks (asked_by sign_row (map (λ word. word.now) words.now)) result }
 {
     let [journal, number, out] = words else {
         return Err(WordsRefusal::Words);
@@ -104,8 +111,7 @@ fn sign<'a>(words: &[&'a str]) -> Result<Command<'a>, WordsRefusal>
 }
 
 fn publish<'a>(words: &[&'a str]) -> Result<Command<'a>, WordsRefusal>
-    ensures reads { Asks (asked_by publish_row (map (λ word. word.now) words.now)) result }
-    ensures early { IfOk result IsEarly }
+    ensures { Asks (asked_by publish_row (map (λ word. word.now) words.now)) result }
 {
     let [journal, out] = words else {
         return Err(WordsRefusal::Words);
@@ -114,8 +120,7 @@ fn publish<'a>(words: &[&'a str]) -> Result<Command<'a>, WordsRefusal>
 }
 
 fn extend<'a>(words: &[&'a str]) -> Result<Command<'a>, WordsRefusal>
-    ensures reads { Asks (asked_by extend_row (map (λ word. word.now) words.now)) result }
-    ensures early { IfOk result IsEarly }
+    ensures { Asks (asked_by extend_row (map (λ word. word.now) words.now)) result }
 {
     let [journal, signature, publication, out] = words else {
         return Err(WordsRefusal::Words);
@@ -124,8 +129,7 @@ fn extend<'a>(words: &[&'a str]) -> Result<Command<'a>, WordsRefusal>
 }
 
 fn verify<'a>(words: &[&'a str]) -> Result<Command<'a>, WordsRefusal>
-    ensures reads { Asks (asked_by verify_row (map (λ word. word.now) words.now)) result }
-    ensures early { IfOk result IsEarly }
+    ensures { Asks (asked_by verify_row (map (λ word. word.now) words.now)) result }
 {
     let [signature, hash, publications] = words else {
         return Err(WordsRefusal::Words);
@@ -134,8 +138,7 @@ fn verify<'a>(words: &[&'a str]) -> Result<Command<'a>, WordsRefusal>
 }
 
 fn audit<'a>(words: &[&'a str]) -> Result<Command<'a>, WordsRefusal>
-    ensures reads { Asks (asked_by audit_row (map (λ word. word.now) words.now)) result }
-    ensures early { IfOk result IsEarly }
+    ensures { Asks (asked_by audit_row (map (λ word. word.now) words.now)) result }
 {
     let [journal, signature, hash, publications] = words else {
         return Err(WordsRefusal::Words);
@@ -144,8 +147,7 @@ fn audit<'a>(words: &[&'a str]) -> Result<Command<'a>, WordsRefusal>
 }
 
 fn make<'a>(words: &[&'a str]) -> Result<Command<'a>, WordsRefusal>
-    ensures reads { Asks (asked_by make_row (map (λ word. word.now) words.now)) result }
-    ensures early { IfOk result IsEarly }
+    ensures { Asks (asked_by make_row (map (λ word. word.now) words.now)) result }
 {
     let [number, out] = words else {
         return Err(WordsRefusal::Words);
@@ -154,8 +156,7 @@ fn make<'a>(words: &[&'a str]) -> Result<Command<'a>, WordsRefusal>
 }
 
 fn drill<'a>(words: &[&'a str]) -> Result<Command<'a>, WordsRefusal>
-    ensures reads { Asks (asked_by drill_row (map (λ word. word.now) words.now)) result }
-    ensures early { IfOk result IsEarly }
+    ensures { Asks (asked_by drill_row (map (λ word. word.now) words.now)) result }
 {
     let [number] = words else {
         return Err(WordsRefusal::Words);
@@ -164,8 +165,7 @@ fn drill<'a>(words: &[&'a str]) -> Result<Command<'a>, WordsRefusal>
 }
 
 fn migrate<'a>(words: &[&'a str]) -> Result<Command<'a>, WordsRefusal>
-    ensures reads { Asks (asked_by migrate_row (map (λ word. word.now) words.now)) result }
-    ensures early { IfOk result IsEarly }
+    ensures { Asks (asked_by migrate_row (map (λ word. word.now) words.now)) result }
 {
     let [old, new] = words else {
         return Err(WordsRefusal::Words);
@@ -174,8 +174,7 @@ fn migrate<'a>(words: &[&'a str]) -> Result<Command<'a>, WordsRefusal>
 }
 
 fn front<'a>(words: &[&'a str]) -> Result<Command<'a>, WordsRefusal>
-    ensures reads { Asks (asked_by front_row (map (λ word. word.now) words.now)) result }
-    ensures early { IfOk result IsEarly }
+    ensures { Asks (asked_by front_row (map (λ word. word.now) words.now)) result }
 {
     let [journal, p1, p2, out] = words else {
         return Err(WordsRefusal::Words);
@@ -184,13 +183,30 @@ fn front<'a>(words: &[&'a str]) -> Result<Command<'a>, WordsRefusal>
 }
 
 fn compare<'a>(words: &[&'a str]) -> Result<Command<'a>, WordsRefusal>
-    ensures reads { Asks (asked_by compare_row (map (λ word. word.now) words.now)) result }
-    ensures early { IfOk result IsEarly }
+    ensures { Asks (asked_by compare_row (map (λ word. word.now) words.now)) result }
 {
     let [old, new, proof] = words else {
         return Err(WordsRefusal::Words);
     };
     Ok(Command::Compare(old, new, proof))
+}
+
+fn merge<'a>(words: &[&'a str]) -> Result<Command<'a>, WordsRefusal>
+    ensures { Asks (asked_by merge_row (map (λ word. word.now) words.now)) result }
+{
+    let [one, two, out] = words else {
+        return Err(WordsRefusal::Words);
+    };
+    Ok(Command::Merge(one, two, out))
+}
+
+fn whole<'a>(words: &[&'a str]) -> Result<Command<'a>, WordsRefusal>
+    ensures { Asks (asked_by whole_row (map (λ word. word.now) words.now)) result }
+{
+    let [mirror, journal] = words else {
+        return Err(WordsRefusal::Words);
+    };
+    Ok(Command::Whole(mirror, journal))
 }
 
 // The hash that word n is.

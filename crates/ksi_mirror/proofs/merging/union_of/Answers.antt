@@ -1,5 +1,5 @@
 use Rattle.ksi_mirror.proofs.MergingMirrors.{roots_rise_by}
-use Rattle.ksi_mirror.proofs.merging.merge.Goals as goal
+use Rattle.ksi_mirror.proofs.merging.union_of.Goals as goal
 
 pub united-requires-clause-one : goal.united-requires-clause-one
 united-requires-clause-one c = roots_rise_by c.args.one.now c.roots.result.now c.roots.ensures.mirror c.roots.ensures.roots
