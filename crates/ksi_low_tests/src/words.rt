@@ -79,6 +79,7 @@ fn says(text: &str, command: &Command<'_>) -> bool {
         Command::Compare(old, new, proof) => are(text, "compare", old, new, proof, ""),
         Command::Merge(one, two, out) => are(text, "merge", one, two, out, ""),
         Command::Whole(mirror, journal) => are(text, "whole", mirror, journal, "", ""),
+        Command::Mirror(schedule, _, out) => are(text, "mirror", schedule, out, "", ""),
     }
 }
 
@@ -88,6 +89,7 @@ fn number_of(command: &Command<'_>) -> u64 {
         Command::Sign(_, number, _) => *number,
         Command::Extend(_, _, second, _) => *second,
         Command::Make(number, _) => *number,
+        Command::Mirror(_, core, _) => *core,
         Command::Drill(number) => *number,
         Command::Front(_, p1, p2, _) => p1.wrapping_sub(*p2),
         _ => 0,
@@ -120,7 +122,7 @@ fn is_told(
 
 #[test]
 fn each_command_is_told(rt: HostRuntime) -> Result<(), Fail> {
-    static ROWS: [(&str, &str, u64); 8] = [
+    static ROWS: [(&str, &str, u64); 9] = [
         ("sign j 18446744073709551615 s", "sign j s", u64::MAX),
         ("sign j 007 s", "sign j s", 7),
         (
@@ -130,6 +132,7 @@ fn each_command_is_told(rt: HostRuntime) -> Result<(), Fail> {
         ),
         ("make 007 f", "make f", 7),
         ("drill 18446744073709551615", "drill", u64::MAX),
+        ("mirror f 2 m", "mirror f m", 2),
         ("front j 007 5 f", "front j f", 2),
         ("verify s ^ p", "verify s # p", 0),
         ("verify  # ", "verify  # ", 0),
@@ -149,14 +152,14 @@ fn each_command_is_told(rt: HostRuntime) -> Result<(), Fail> {
 const BAD_FIRST: &str = "make f 7;drill 18446744073709551616";
 
 const BAD_SECOND: &str =
-    "sign j 18446744073709551616 s;verify s 12 p;verify s #0 p;verify s  p;front j x 2 f;verify s e3b0c44298fc1c149afbf4c8996fb92427ae41e4649b934ca495991b7852b85 p;verify s e3b0c44298fc1c149afbf4c8996fb92427ae41e4649b934ca495991b7852b85g p";
+    "sign j 18446744073709551616 s;mirror f x m;verify s 12 p;verify s #0 p;verify s  p;front j x 2 f;verify s e3b0c44298fc1c149afbf4c8996fb92427ae41e4649b934ca495991b7852b85 p;verify s e3b0c44298fc1c149afbf4c8996fb92427ae41e4649b934ca495991b7852b85g p";
 
 const BAD_THIRD: &str =
     "extend j s 9223372036854775808 t;extend j s # t;audit j s 12 p;front j 1 9223372036854775808 f";
 
 // Too few or too many words.
 const COUNTS: &str =
-    ";replay f;replay f j 1;sign j 1;publish j;extend j s 1;make 7;drill;drill 7 f;migrate;migrate j;migrate j k l;verify;verify s;verify s 12;verify s #;verify s # p q;verify s # p q r s t;verify s 12 p q;audit j s #;audit j s # p q;front;front j 1 2;front j 1 2 f g;compare j k;compare j k f g;merge m n;merge m n o p;whole m;whole m j k";
+    ";replay f;replay f j 1;sign j 1;publish j;extend j s 1;make 7;drill;drill 7 f;migrate;migrate j;migrate j k l;verify;verify s;verify s 12;verify s #;verify s # p q;verify s # p q r s t;verify s 12 p q;audit j s #;audit j s # p q;front;front j 1 2;front j 1 2 f g;compare j k;compare j k f g;merge m n;merge m n o p;whole m;whole m j k;mirror f 1;mirror f 1 m n";
 
 // Names of no command.
 const NAMES: &str =

@@ -15,6 +15,7 @@ pub mod Kept
 pub mod Front
 pub mod Compare
 pub mod Migrate
+pub mod Mirror
 pub mod Merge
 pub mod Whole
 pub mod Run

@@ -4,7 +4,7 @@ use Rattle.std.specs.Fmt.{decimal}
 use Rattle.ksi_ports.specs.Stored.{Held, with_file}
 use Rattle.ksi_words.specs.declared.asked.WordsRefusal.{WordsRefusal}
 use Rattle.ksi_words.specs.declared.asked.WordsRefusal.TheVariants.{Words, BadWord}
-use Rattle.ksi_words.specs.Words.{Asked, replay, sign, publish, extend, verify, audit, make, drill, migrate, front, compare, merge, whole, command_of}
+use Rattle.ksi_words.specs.Words.{Asked, replay, sign, publish, extend, verify, audit, make, drill, migrate, front, compare, merge, whole, mirror, command_of}
 use Rattle.ksi_lines.specs.Lines.{line_text}
 use Rattle.ksi_top.specs.declared.report.Report.{Report}
 use Rattle.ksi_top.specs.declared.status.Status.TheVariants as statuses
@@ -22,6 +22,7 @@ use Rattle.ksi_top.specs.Front.{front_command}
 use Rattle.ksi_top.specs.Compare.{compare_command}
 use Rattle.ksi_top.specs.Merge.{merge_command}
 use Rattle.ksi_top.specs.Whole.{whole_command}
+use Rattle.ksi_top.specs.Mirror.{mirror_command}
 
 -- each command: its files, its saves, what it reports, and what that means
 abbrev pub row_of : Asked → CommandRow
@@ -37,7 +38,8 @@ row_of (migrate old new) = migrate_command old new
 row_of (front journal p1 p2 out) = front_command journal p1 p2 out
 row_of (compare old new proof) = compare_command old new proof
 row_of (merge one two out) = merge_command one two out
-row_of (whole mirror journal) = whole_command mirror journal
+row_of (whole of journal) = whole_command of journal
+row_of (mirror schedule core out) = mirror_command schedule core out
 
 -- the headline: what the result of a command means, over the files that were held
 abbrev pub Headline : Asked → Held → Report → Type 0

@@ -24,6 +24,7 @@ mod loading;
 mod make;
 mod merge;
 mod migrate;
+mod mirror;
 mod perform;
 mod publish;
 mod reading;

@@ -14,6 +14,7 @@ use crate::front::front;
 use crate::make::make;
 use crate::merge::merge;
 use crate::migrate::migrate;
+use crate::mirror::mirror;
 use crate::publish::publish;
 use crate::replay::replay;
 use crate::report::{Halt, Report, ended};
@@ -78,6 +79,7 @@ fn perform<F: Files>(alloc: Global, files: &mut F, command: &Command<'_>) -> Res
         Command::Compare(old, new, proof) => compare(alloc, files, old, new, proof),
         Command::Merge(one, two, out) => merge(alloc, files, one, two, out),
         Command::Whole(mirror, journal) => whole(alloc, files, mirror, journal),
+        Command::Mirror(schedule, core, out) => mirror(alloc, files, schedule, *core, out),
     }
 }
 

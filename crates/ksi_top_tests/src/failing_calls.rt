@@ -12,7 +12,7 @@ use std::test::Fail;
 // A command, how often it calls on the files, how many bytes it saves under "o", and the first three that it puts.
 type Row = (&'static str, u64, Option<usize>, &'static [u8]);
 
-const ROWS: [Row; 13] = [
+const ROWS: [Row; 14] = [
     ("replay f o", 2, Some(766), b"eve"),
     ("sign j 0 o", 2, Some(615), b"sig"),
     ("publish j o", 2, Some(68), b"pub"),
@@ -26,6 +26,7 @@ const ROWS: [Row; 13] = [
     ("compare j j c", 3, None, b"equ"),
     ("merge m m o", 3, Some(108), b"mer"),
     ("whole m o", 2, Some(98), b"who"),
+    ("mirror f 0 o", 2, Some(108), b"mir"),
 ];
 
 // The files of a whole path, of which the call of this number fails.
@@ -94,7 +95,7 @@ fn each_failing_call_ends_the_run(rt: HostRuntime) -> Result<(), Fail> {
 }
 
 /// Each command over files that hold nothing, and how it ends.
-const SURE: [(&str, Status); 13] = [
+const SURE: [(&str, Status); 14] = [
     ("replay s j", Status::Malformed),
     ("sign j 0 o", Status::Malformed),
     ("publish j o", Status::Malformed),
@@ -108,6 +109,7 @@ const SURE: [(&str, Status); 13] = [
     ("compare j k c", Status::Malformed),
     ("merge m n o", Status::Malformed),
     ("whole m j", Status::Malformed),
+    ("mirror s 0 j", Status::Malformed),
 ];
 
 #[test]

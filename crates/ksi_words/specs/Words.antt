@@ -7,7 +7,7 @@ use Rattle.ksi_imprint.specs.declared.refused.Refused.{Refused}
 use Rattle.ksi_imprint.specs.declared.refused.Refused.TheVariants.{Fault, NoMemory}
 use Rattle.ksi_words.specs.Sorts.{Sort, file_word, hash_word, number_word, time_word, Of, value_of}
 use Rattle.ksi_words.specs.declared.asked.Command.{Command}
-use Rattle.ksi_words.specs.declared.asked.Command.TheVariants.{Replay, Sign, Publish, Extend, Verify, Audit, Make, Drill, Migrate, Front, Compare, Merge, Whole}
+use Rattle.ksi_words.specs.declared.asked.Command.TheVariants.{Replay, Sign, Publish, Extend, Verify, Audit, Make, Drill, Migrate, Front, Compare, Merge, Whole, Mirror}
 use Rattle.ksi_words.specs.declared.asked.WordsRefusal.{WordsRefusal}
 use Rattle.ksi_words.specs.declared.asked.WordsRefusal.TheVariants.{Words, BadWord}
 
@@ -26,6 +26,7 @@ pub data Asked : Type 0 where
   compare : List ℕ → List ℕ → List ℕ → Asked
   merge : List ℕ → List ℕ → List ℕ → Asked
   whole : List ℕ → List ℕ → Asked
+  mirror : List ℕ → ℕ → List ℕ → Asked
 
 -- what asks for a command, given what the words of these sorts stand for
 abbrev pub From : List Sort → Type 0
@@ -77,8 +78,11 @@ merge_row = record { name = codes "merge"; sorts = file_word ∷ file_word ∷ f
 abbrev pub whole_row : CommandForm
 whole_row = record { name = codes "whole"; sorts = file_word ∷ file_word ∷ []; asks = whole }
 
+abbrev pub mirror_row : CommandForm
+mirror_row = record { name = codes "mirror"; sorts = file_word ∷ number_word ∷ file_word ∷ []; asks = mirror }
+
 abbrev pub table : List CommandForm
-table = replay_row ∷ sign_row ∷ publish_row ∷ extend_row ∷ verify_row ∷ audit_row ∷ make_row ∷ drill_row ∷ migrate_row ∷ front_row ∷ compare_row ∷ merge_row ∷ whole_row ∷ []
+table = replay_row ∷ sign_row ∷ publish_row ∷ extend_row ∷ verify_row ∷ audit_row ∷ make_row ∷ drill_row ∷ migrate_row ∷ front_row ∷ compare_row ∷ merge_row ∷ whole_row ∷ mirror_row ∷ []
 
 abbrev pub texts : List (String Global) → List (List ℕ)
 texts words = map string_bytes words
@@ -135,7 +139,8 @@ asked (Migrate old new) = migrate old.now new.now
 asked (Front journal p1 p2 out) = front journal.now p1 p2 out.now
 asked (Compare old new proof) = compare old.now new.now proof.now
 asked (Merge one two out) = merge one.now two.now out.now
-asked (Whole mirror journal) = whole mirror.now journal.now
+asked (Whole of journal) = whole of.now journal.now
+asked (Mirror schedule core out) = mirror schedule.now core out.now
 
 -- the seconds of a command, where it has some, are below 2^63
 abbrev pub IsEarly : Command → Type 0

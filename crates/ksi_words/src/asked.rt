@@ -30,6 +30,8 @@ pub enum Command<'a> {
     Merge(&'a str, &'a str, &'a str),
     /// The mirror's file, the journal's file to write.
     Whole(&'a str, &'a str),
+    /// The schedule's file, the number of the core, the mirror's file to write.
+    Mirror(&'a str, u64, &'a str),
 }
 
 /// Why words are no command.

@@ -2,7 +2,7 @@
 ghost use Rattle.std.specs.Prelude.{◌≡◌, ◌<◌, ◌^◌, ℕ, IfOk, map};
 ghost use Rattle.ksi_schedule.specs.Decimal.{number_of};
 ghost use Rattle.ksi_words.specs.Sorts.{hash_of, time_of};
-ghost use Rattle.ksi_words.specs.Words.{Asks, asked_by, command_named, table, replay_row, sign_row, publish_row, extend_row, verify_row, audit_row, make_row, drill_row, migrate_row, front_row, compare_row, merge_row, whole_row, word_at};
+ghost use Rattle.ksi_words.specs.Words.{Asks, asked_by, command_named, table, replay_row, sign_row, publish_row, extend_row, verify_row, audit_row, make_row, drill_row, migrate_row, front_row, compare_row, merge_row, whole_row, mirror_row, word_at};
 
 use crate::values::{hash, number, time};
 use crate::{Command, WordsRefusal};
@@ -15,7 +15,7 @@ pub(crate) struct CommandForm {
     pub(crate) words: usize,
 }
 
-pub(crate) static TABLE: [CommandForm; 13] = [
+pub(crate) static TABLE: [CommandForm; 14] = [
     CommandForm {
         name: "replay",
         words: 2,
@@ -68,6 +68,10 @@ pub(crate) static TABLE: [CommandForm; 13] = [
         name: "whole",
         words: 2,
     },
+    CommandForm {
+        name: "mirror",
+        words: 3,
+    },
 ];
 
 /// The command of a name and the words after it.
@@ -88,6 +92,7 @@ pub(crate) fn asked<'a>(name: &str, words: &[&'a str]) -> Result<Command<'a>, Wo
         "compare" => compare(words),
         "merge" => merge(words),
         "whole" => whole(words),
+        "mirror" => mirror(words),
         _ => Err(WordsRefusal::Words),
     }
 }
@@ -207,6 +212,15 @@ fn whole<'a>(words: &[&'a str]) -> Result<Command<'a>, WordsRefusal>
         return Err(WordsRefusal::Words);
     };
     Ok(Command::Whole(mirror, journal))
+}
+
+fn mirror<'a>(words: &[&'a str]) -> Result<Command<'a>, WordsRefusal>
+    ensures { Asks (asked_by mirror_row (map (λ word. word.now) words.now)) result }
+{
+    let [schedule, core, out] = words else {
+        return Err(WordsRefusal::Words);
+    };
+    Ok(Command::Mirror(schedule, number_at(2, core)?, out))
 }
 
 // The hash that word n is.
