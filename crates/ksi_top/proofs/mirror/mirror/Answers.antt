@@ -1,5 +1,4 @@
 use Rattle.std.proofs.Common.{rules}
-use Rattle.ksi_imprint.specs.Imprints.{imprint_of}
 use Rattle.ksi_top.specs.Mirror.{mirrored}
 use Rattle.ksi_top.proofs.Copying.{mirrored_ends, mirror_means}
 use Rattle.ksi_top.proofs.Ends.{ends_as}
@@ -14,11 +13,5 @@ pub returns : goal.returns
 returns g c =
     performed_last g.F.Files _ _ _ _ (λ h held. mirrored c.args.core c.args.out.now h) _ _ _ _ c.mirrored.result _
     (mirrored_ends _ _ _) c.in_ok-schedule.ensures.loaded c.ended.ensures (ends_as 1 _ _ c.mirrored.ensures (mirrored_ends _ _ _)) (λ tells. c.mirrored.ensures)
-    (λ tells.
-    let spelled = c.in_ok-schedule.ensures.is tells in
-    let history = c.spelled_is_schedule.ensures.history _ _ spelled in
-    mirror_means _ _ _ _ c.mirrored.result spelled (c.history_has_mirrors.ensures.spelled _ _ spelled) c.written_is_mirror.ensures
-    (record {
-      merge = c.mirrors_of_a_history_merge.ensures.merge imprint_of _ history.plan history.events;
-      whole = c.mirrors_of_a_history_merge.ensures.whole imprint_of _ history.plan history.events;
-    }) c.mirrored.ensures)
+    (λ tells. mirror_means _ _ _ _ c.mirrored.result (c.in_ok-schedule.ensures.is tells) c.spelled_is_schedule.ensures.history c.history_has_mirrors.ensures.spelled
+    c.written_is_mirror.ensures c.mirrors_of_a_history_merge.ensures.merge c.mirrors_of_a_history_merge.ensures.whole c.mirrored.ensures)
