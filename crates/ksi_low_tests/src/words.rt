@@ -93,6 +93,7 @@ fn says(text: &str, command: &Command<'_>) -> bool {
         Command::Merge(one, two, out) => are(text, "merge", one, two, out, ""),
         Command::Whole(mirror, journal) => are(text, "whole", mirror, journal, "", ""),
         Command::Inspect(node) => are(text, "inspect", node, "", "", ""),
+        Command::Mirror(schedule, _, out) => are(text, "mirror", schedule, out, "", ""),
     }
 }
 
@@ -105,6 +106,7 @@ fn number_of(command: &Command<'_>) -> u64 {
         Command::Drill(number) => *number,
         Command::Front(_, p1, p2, _) => p1.wrapping_sub(*p2),
         Command::Line(_, _, k, _) => *k,
+        Command::Mirror(_, core, _) => *core,
         _ => 0,
     }
 }
@@ -135,9 +137,10 @@ fn is_told(
 
 #[test]
 fn each_command_is_told(rt: HostRuntime) -> Result<(), Fail> {
-    static ROWS: [(&str, &str, u64); 10] = [
+    static ROWS: [(&str, &str, u64); 11] = [
         ("sign j 18446744073709551615 s", "sign j s", u64::MAX),
         ("sign j 007 s", "sign j s", 7),
+        ("mirror f 2 m", "mirror f m", 2),
         (
             "extend j s 9223372036854775807 t",
             "extend j s t",
@@ -166,14 +169,14 @@ fn each_command_is_told(rt: HostRuntime) -> Result<(), Fail> {
 const BAD_FIRST: &str = "make f 7;drill 18446744073709551616";
 
 const BAD_SECOND: &str =
-    "sign j 18446744073709551616 s;verify s 12 p;verify s #0 p;verify s  p;front j x 2 f;verify s e3b0c44298fc1c149afbf4c8996fb92427ae41e4649b934ca495991b7852b85 p;verify s e3b0c44298fc1c149afbf4c8996fb92427ae41e4649b934ca495991b7852b85g p;block g 12;line g #0 x f;locate g  l f";
+    "sign j 18446744073709551616 s;mirror f x m;verify s 12 p;verify s #0 p;verify s  p;front j x 2 f;verify s e3b0c44298fc1c149afbf4c8996fb92427ae41e4649b934ca495991b7852b85 p;verify s e3b0c44298fc1c149afbf4c8996fb92427ae41e4649b934ca495991b7852b85g p;block g 12;line g #0 x f;locate g  l f";
 
 const BAD_THIRD: &str =
     "extend j s 9223372036854775808 t;extend j s # t;audit j s 12 p;front j 1 9223372036854775808 f;line g # x f";
 
 // Too few or too many words.
 const COUNTS: &str =
-    ";replay f;replay f j 1;sign j 1;publish j;extend j s 1;make 7;drill;drill 7 f;migrate;migrate j;migrate j k l;verify;verify s;verify s 12;verify s #;verify s # p q;verify s # p q r s t;verify s 12 p q;audit j s #;audit j s # p q;front;front j 1 2;front j 1 2 f g;compare j k;compare j k f g;merge m n;merge m n o p;whole m;whole m j k;inspect;inspect n n;block g;block g # f;line g # 1;line g # 1 f g;checkline s p l;checkline s p l f g;locate g # l;locate g # l f g";
+    ";replay f;replay f j 1;sign j 1;publish j;extend j s 1;make 7;drill;drill 7 f;migrate;migrate j;migrate j k l;verify;verify s;verify s 12;verify s #;verify s # p q;verify s # p q r s t;verify s 12 p q;audit j s #;audit j s # p q;front;front j 1 2;front j 1 2 f g;compare j k;compare j k f g;merge m n;merge m n o p;whole m;whole m j k;inspect;inspect n n;mirror f 1;mirror f 1 m n;block g;block g # f;line g # 1;line g # 1 f g;checkline s p l;checkline s p l f g;locate g # l;locate g # l f g";
 
 // Names of no command.
 const NAMES: &str =

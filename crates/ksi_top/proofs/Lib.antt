@@ -9,6 +9,7 @@ pub mod Reporting
 pub mod Finishing
 pub mod Extending
 pub mod Replayed
+pub mod Copying
 pub mod Migrating
 pub mod Keeping
 pub mod Logs

@@ -20,6 +20,7 @@ pub mod Block
 pub mod LineOf
 pub mod CheckLine
 pub mod Locate
+pub mod Mirror
 pub mod Merge
 pub mod Whole
 pub mod Inspect

@@ -30,6 +30,7 @@ mod log;
 mod make;
 mod merge;
 mod migrate;
+mod mirror;
 mod perform;
 mod publish;
 mod reading;

@@ -19,6 +19,7 @@ use crate::locate::locate;
 use crate::make::make;
 use crate::merge::merge;
 use crate::migrate::migrate;
+use crate::mirror::mirror;
 use crate::publish::publish;
 use crate::replay::replay;
 use crate::report::{Halt, Report, ended};
@@ -90,6 +91,7 @@ fn perform<F: Files>(alloc: Global, files: &mut F, command: &Command<'_>) -> Res
         Command::Merge(one, two, out) => merge(alloc, files, one, two, out),
         Command::Whole(mirror, journal) => whole(alloc, files, mirror, journal),
         Command::Inspect(node) => inspect(alloc, files, node),
+        Command::Mirror(schedule, core, out) => mirror(alloc, files, schedule, *core, out),
     }
 }
 

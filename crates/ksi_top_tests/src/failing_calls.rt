@@ -12,7 +12,7 @@ use std::test::Fail;
 // A command, how often it calls on the files, how many bytes it saves under "o", and the first three that it puts.
 type Row = (&'static str, u64, Option<usize>, &'static [u8]);
 
-const ROWS: [Row; 18] = [
+const ROWS: [Row; 19] = [
     ("replay f o", 2, Some(766), b"eve"),
     ("sign j 0 o", 2, Some(615), b"sig"),
     ("publish j o", 2, Some(68), b"pub"),
@@ -31,6 +31,7 @@ const ROWS: [Row; 18] = [
     ("merge m m o", 3, Some(108), b"mer"),
     ("whole m o", 2, Some(98), b"who"),
     ("inspect n", 1, None, b"cor"),
+    ("mirror f 0 o", 2, Some(108), b"mir"),
 ];
 
 // A node file without facts.
@@ -108,7 +109,7 @@ fn each_failing_call_ends_the_run(rt: HostRuntime) -> Result<(), Fail> {
 }
 
 /// Each command over files that hold nothing, and how it ends.
-const SURE: [(&str, Status); 18] = [
+const SURE: [(&str, Status); 19] = [
     ("replay s j", Status::Malformed),
     ("sign j 0 o", Status::Malformed),
     ("publish j o", Status::Malformed),
@@ -127,6 +128,7 @@ const SURE: [(&str, Status); 18] = [
     ("merge m n o", Status::Malformed),
     ("whole m j", Status::Malformed),
     ("inspect n", Status::Malformed),
+    ("mirror s 0 j", Status::Malformed),
 ];
 
 #[test]

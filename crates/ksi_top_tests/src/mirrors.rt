@@ -1,7 +1,7 @@
 // Mirrors, merged and made journals.
 use crate::same::same;
 use crate::text::{each_ends, hold_each};
-use crate::whole_paths::holds;
+use crate::whole_paths::{holds, replayed};
 use ksi_ports::MemFiles;
 use ksi_top::Status;
 use std::test::Fail;
@@ -58,6 +58,26 @@ fn mirrors_are_merged(rt: HostRuntime) -> Result<(), Fail> {
     holds(&rt, rt.alloc(), &files, "q", 158, union)?;
     let journal = "4b53494a524e4c31 01046553f100 022c 01046553f100 022101A 030101 032201A00 0600";
     holds(&rt, rt.alloc(), &files, "j", 98, journal)
+}
+
+const MIRRORED: &str = "mirror f 0 w = mirror 0 1
+merge w w o = merged 1
+whole o j = whole 1";
+
+const NO_CORES: &str = "mirror f 1 x = no core 1
+mirror f 18446744073709551615 x = no core 18446744073709551615";
+
+#[test]
+fn the_mirror_of_a_core_is_saved(rt: HostRuntime) -> Result<(), Fail> {
+    let mut files = replayed(&rt, rt.alloc())?;
+    hold_each(rt.alloc(), &mut files, ONE)?;
+    each_ends(&rt, rt.alloc(), &mut files, Status::Done, MIRRORED)?;
+    each_ends(&rt, rt.alloc(), &mut files, Status::Refused, NO_CORES)?;
+    for one in ["w", "o"] {
+        same(&rt, one, files.bytes(one), files.bytes("m"));
+    }
+    same(&rt, "x", files.bytes("x").is_none(), true);
+    holds(&rt, rt.alloc(), &files, "j", 98, "4b53494a524e4c31")
 }
 
 const NO_MIRRORS: &str = "j = 4b53494a524e4c31 010105 0600

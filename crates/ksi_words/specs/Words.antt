@@ -7,7 +7,7 @@ use Rattle.ksi_imprint.specs.declared.refused.Refused.{Refused}
 use Rattle.ksi_imprint.specs.declared.refused.Refused.TheVariants.{Fault, NoMemory}
 use Rattle.ksi_words.specs.Sorts.{Sort, file_word, hash_word, number_word, time_word, seed_word, Of, value_of}
 use Rattle.ksi_words.specs.declared.asked.Command.{Command}
-use Rattle.ksi_words.specs.declared.asked.Command.TheVariants.{Replay, Sign, Publish, Extend, Verify, Audit, Make, Drill, Migrate, Front, Compare, Block, Line, CheckLine, Locate, Merge, Whole, Inspect}
+use Rattle.ksi_words.specs.declared.asked.Command.TheVariants.{Replay, Sign, Publish, Extend, Verify, Audit, Make, Drill, Migrate, Front, Compare, Block, Line, CheckLine, Locate, Merge, Whole, Inspect, Mirror}
 use Rattle.ksi_words.specs.declared.asked.WordsRefusal.{WordsRefusal}
 use Rattle.ksi_words.specs.declared.asked.WordsRefusal.TheVariants.{Words, BadWord}
 
@@ -31,6 +31,7 @@ pub data Asked : Type 0 where
   merge : List ℕ → List ℕ → List ℕ → Asked
   whole : List ℕ → List ℕ → Asked
   inspect : List ℕ → Asked
+  mirror : List ℕ → ℕ → List ℕ → Asked
 
 -- what asks for a command, given what the words of these sorts stand for
 abbrev pub From : List Sort → Type 0
@@ -97,8 +98,11 @@ whole_row = record { name = codes "whole"; sorts = file_word ∷ file_word ∷ [
 abbrev pub inspect_row : CommandForm
 inspect_row = record { name = codes "inspect"; sorts = file_word ∷ []; asks = inspect }
 
+abbrev pub mirror_row : CommandForm
+mirror_row = record { name = codes "mirror"; sorts = file_word ∷ number_word ∷ file_word ∷ []; asks = mirror }
+
 abbrev pub table : List CommandForm
-table = replay_row ∷ sign_row ∷ publish_row ∷ extend_row ∷ verify_row ∷ audit_row ∷ make_row ∷ drill_row ∷ migrate_row ∷ front_row ∷ compare_row ∷ block_row ∷ line_row ∷ checkline_row ∷ locate_row ∷ merge_row ∷ whole_row ∷ inspect_row ∷ []
+table = replay_row ∷ sign_row ∷ publish_row ∷ extend_row ∷ verify_row ∷ audit_row ∷ make_row ∷ drill_row ∷ migrate_row ∷ front_row ∷ compare_row ∷ block_row ∷ line_row ∷ checkline_row ∷ locate_row ∷ merge_row ∷ whole_row ∷ inspect_row ∷ mirror_row ∷ []
 
 abbrev pub texts : List (String Global) → List (List ℕ)
 texts words = map string_bytes words
@@ -159,8 +163,9 @@ asked (Line log seed k out) = line log.now seed k out.now
 asked (CheckLine signature publications entry proof) = checkline signature.now publications.now entry.now proof.now
 asked (Locate log seed entry proof) = locate log.now seed entry.now proof.now
 asked (Merge one two out) = merge one.now two.now out.now
-asked (Whole mirror journal) = whole mirror.now journal.now
+asked (Whole of journal) = whole of.now journal.now
 asked (Inspect node) = inspect node.now
+asked (Mirror schedule core out) = mirror schedule.now core out.now
 
 -- the seconds of a command, where it has some, are below 2^63
 abbrev pub IsEarly : Command → Type 0

@@ -40,6 +40,8 @@ pub enum Command<'a> {
     Whole(&'a str, &'a str),
     /// The node file.
     Inspect(&'a str),
+    /// The schedule's file, the number of the core, the mirror's file to write.
+    Mirror(&'a str, u64, &'a str),
 }
 
 /// Why words are no command.
