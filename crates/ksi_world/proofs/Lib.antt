@@ -37,3 +37,4 @@ pub mod Wiring
 pub mod Beyond
 pub mod KeptOf
 pub mod Counting
+pub mod AskedCores

@@ -23,6 +23,7 @@
 #![tactic(auto)]
 
 mod aggregators;
+mod core_events;
 mod cores;
 mod kept;
 pub mod laws;
@@ -34,6 +35,7 @@ mod posting;
 mod published;
 mod world;
 
+pub use core_events::events_are_turns;
 pub use kept::{Kept, Seconds};
 pub use ksi_aggtree::Second;
 pub use ksi_imprint::NoMemory;
