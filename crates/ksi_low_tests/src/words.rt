@@ -94,6 +94,7 @@ fn says(text: &str, command: &Command<'_>) -> bool {
         Command::Whole(mirror, journal) => are(text, "whole", mirror, journal, "", ""),
         Command::Inspect(node) => are(text, "inspect", node, "", "", ""),
         Command::Mirror(schedule, _, out) => are(text, "mirror", schedule, out, "", ""),
+        Command::Node(schedule, _, out) => are(text, "node", schedule, out, "", ""),
     }
 }
 
@@ -107,6 +108,7 @@ fn number_of(command: &Command<'_>) -> u64 {
         Command::Front(_, p1, p2, _) => p1.wrapping_sub(*p2),
         Command::Line(_, _, k, _) => *k,
         Command::Mirror(_, core, _) => *core,
+        Command::Node(_, core, _) => *core,
         _ => 0,
     }
 }
@@ -137,10 +139,11 @@ fn is_told(
 
 #[test]
 fn each_command_is_told(rt: HostRuntime) -> Result<(), Fail> {
-    static ROWS: [(&str, &str, u64); 11] = [
+    static ROWS: [(&str, &str, u64); 12] = [
         ("sign j 18446744073709551615 s", "sign j s", u64::MAX),
         ("sign j 007 s", "sign j s", 7),
         ("mirror f 2 m", "mirror f m", 2),
+        ("node f 2 n", "node f n", 2),
         (
             "extend j s 9223372036854775807 t",
             "extend j s t",

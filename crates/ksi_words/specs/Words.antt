@@ -7,7 +7,7 @@ use Rattle.ksi_imprint.specs.declared.refused.Refused.{Refused}
 use Rattle.ksi_imprint.specs.declared.refused.Refused.TheVariants.{Fault, NoMemory}
 use Rattle.ksi_words.specs.Sorts.{Sort, file_word, hash_word, number_word, time_word, seed_word, Of, value_of}
 use Rattle.ksi_words.specs.declared.asked.Command.{Command}
-use Rattle.ksi_words.specs.declared.asked.Command.TheVariants.{Replay, Sign, Publish, Extend, Verify, Audit, Make, Drill, Migrate, Front, Compare, Block, Line, CheckLine, Locate, Merge, Whole, Inspect, Mirror}
+use Rattle.ksi_words.specs.declared.asked.Command.TheVariants.{Replay, Sign, Publish, Extend, Verify, Audit, Make, Drill, Migrate, Front, Compare, Block, Line, CheckLine, Locate, Merge, Whole, Inspect, Mirror, Node}
 use Rattle.ksi_words.specs.declared.asked.WordsRefusal.{WordsRefusal}
 use Rattle.ksi_words.specs.declared.asked.WordsRefusal.TheVariants.{Words, BadWord}
 
@@ -32,6 +32,7 @@ pub data Asked : Type 0 where
   whole : List ℕ → List ℕ → Asked
   inspect : List ℕ → Asked
   mirror : List ℕ → ℕ → List ℕ → Asked
+  node : List ℕ → ℕ → List ℕ → Asked
 
 -- what asks for a command, given what the words of these sorts stand for
 abbrev pub From : List Sort → Type 0
@@ -101,8 +102,11 @@ inspect_row = record { name = codes "inspect"; sorts = file_word ∷ []; asks = 
 abbrev pub mirror_row : CommandForm
 mirror_row = record { name = codes "mirror"; sorts = file_word ∷ number_word ∷ file_word ∷ []; asks = mirror }
 
+abbrev pub node_row : CommandForm
+node_row = record { name = codes "node"; sorts = file_word ∷ number_word ∷ file_word ∷ []; asks = node }
+
 abbrev pub table : List CommandForm
-table = replay_row ∷ sign_row ∷ publish_row ∷ extend_row ∷ verify_row ∷ audit_row ∷ make_row ∷ drill_row ∷ migrate_row ∷ front_row ∷ compare_row ∷ block_row ∷ line_row ∷ checkline_row ∷ locate_row ∷ merge_row ∷ whole_row ∷ inspect_row ∷ mirror_row ∷ []
+table = replay_row ∷ sign_row ∷ publish_row ∷ extend_row ∷ verify_row ∷ audit_row ∷ make_row ∷ drill_row ∷ migrate_row ∷ front_row ∷ compare_row ∷ block_row ∷ line_row ∷ checkline_row ∷ locate_row ∷ merge_row ∷ whole_row ∷ inspect_row ∷ mirror_row ∷ node_row ∷ []
 
 abbrev pub texts : List (String Global) → List (List ℕ)
 texts words = map string_bytes words
@@ -164,8 +168,9 @@ asked (CheckLine signature publications entry proof) = checkline signature.now p
 asked (Locate log seed entry proof) = locate log.now seed entry.now proof.now
 asked (Merge one two out) = merge one.now two.now out.now
 asked (Whole of journal) = whole of.now journal.now
-asked (Inspect node) = inspect node.now
+asked (Inspect of) = inspect of.now
 asked (Mirror schedule core out) = mirror schedule.now core out.now
+asked (Node schedule core out) = node schedule.now core out.now
 
 -- the seconds of a command, where it has some, are below 2^63
 abbrev pub IsEarly : Command → Type 0

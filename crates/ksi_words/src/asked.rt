@@ -42,6 +42,8 @@ pub enum Command<'a> {
     Inspect(&'a str),
     /// The schedule's file, the number of the core, the mirror's file to write.
     Mirror(&'a str, u64, &'a str),
+    /// The schedule's file, the number of the core, the node file to write.
+    Node(&'a str, u64, &'a str),
 }
 
 /// Why words are no command.

@@ -2,7 +2,7 @@
 ghost use Rattle.std.specs.Prelude.{◌≡◌, ◌<◌, ◌^◌, ℕ, IfOk, map};
 ghost use Rattle.ksi_schedule.specs.Decimal.{number_of};
 ghost use Rattle.ksi_words.specs.Sorts.{hash_of, seed_of, time_of};
-ghost use Rattle.ksi_words.specs.Words.{Asks, asked_by, command_named, table, replay_row, sign_row, publish_row, extend_row, verify_row, audit_row, make_row, drill_row, migrate_row, front_row, compare_row, block_row, line_row, checkline_row, locate_row, merge_row, whole_row, inspect_row, mirror_row, word_at};
+ghost use Rattle.ksi_words.specs.Words.{Asks, asked_by, command_named, table, replay_row, sign_row, publish_row, extend_row, verify_row, audit_row, make_row, drill_row, migrate_row, front_row, compare_row, block_row, line_row, checkline_row, locate_row, merge_row, whole_row, inspect_row, mirror_row, node_row, word_at};
 
 use crate::values::{hash, number, seed, time};
 use crate::{Command, WordsRefusal};
@@ -15,7 +15,7 @@ pub(crate) struct CommandForm {
     pub(crate) words: usize,
 }
 
-pub(crate) static TABLE: [CommandForm; 19] = [
+pub(crate) static TABLE: [CommandForm; 20] = [
     CommandForm {
         name: "replay",
         words: 2,
@@ -92,6 +92,10 @@ pub(crate) static TABLE: [CommandForm; 19] = [
         name: "mirror",
         words: 3,
     },
+    CommandForm {
+        name: "node",
+        words: 3,
+    },
 ];
 
 /// The command of a name and the words after it.
@@ -118,6 +122,7 @@ pub(crate) fn asked<'a>(name: &str, words: &[&'a str]) -> Result<Command<'a>, Wo
         "whole" => whole(words),
         "inspect" => inspect(words),
         "mirror" => mirror(words),
+        "node" => node(words),
         _ => Err(WordsRefusal::Words),
     }
 }
@@ -291,6 +296,15 @@ fn mirror<'a>(words: &[&'a str]) -> Result<Command<'a>, WordsRefusal>
         return Err(WordsRefusal::Words);
     };
     Ok(Command::Mirror(schedule, number_at(2, core)?, out))
+}
+
+fn node<'a>(words: &[&'a str]) -> Result<Command<'a>, WordsRefusal>
+    ensures { Asks (asked_by node_row (map (λ word. word.now) words.now)) result }
+{
+    let [schedule, core, out] = words else {
+        return Err(WordsRefusal::Words);
+    };
+    Ok(Command::Node(schedule, number_at(2, core)?, out))
 }
 
 // The seed that word n is.
