@@ -21,6 +21,7 @@ pub mod LineOf
 pub mod CheckLine
 pub mod Locate
 pub mod Mirror
+pub mod Node
 pub mod Merge
 pub mod Whole
 pub mod Inspect

@@ -4,7 +4,7 @@ use Rattle.std.specs.Fmt.{decimal}
 use Rattle.ksi_ports.specs.Stored.{Held, with_file}
 use Rattle.ksi_words.specs.declared.asked.WordsRefusal.{WordsRefusal}
 use Rattle.ksi_words.specs.declared.asked.WordsRefusal.TheVariants.{Words, BadWord}
-use Rattle.ksi_words.specs.Words.{Asked, replay, sign, publish, extend, verify, audit, make, drill, migrate, front, compare, block, line, checkline, locate, merge, whole, inspect, mirror, command_of}
+use Rattle.ksi_words.specs.Words.{Asked, replay, sign, publish, extend, verify, audit, make, drill, migrate, front, compare, block, line, checkline, locate, merge, whole, inspect, mirror, node, command_of}
 use Rattle.ksi_lines.specs.Lines.{line_text}
 use Rattle.ksi_top.specs.declared.report.Report.{Report}
 use Rattle.ksi_top.specs.declared.status.Status.TheVariants as statuses
@@ -28,6 +28,7 @@ use Rattle.ksi_top.specs.Merge.{merge_command}
 use Rattle.ksi_top.specs.Whole.{whole_command}
 use Rattle.ksi_top.specs.Inspect.{inspect_command}
 use Rattle.ksi_top.specs.Mirror.{mirror_command}
+use Rattle.ksi_top.specs.Node.{node_command}
 
 -- each command: its files, its saves, what it reports, and what that means
 abbrev pub row_of : Asked → CommandRow
@@ -47,9 +48,10 @@ row_of (line log seed k out) = line_command log seed k out
 row_of (checkline signature publications entry proof) = checkline_command signature publications entry proof
 row_of (locate log seed entry proof) = locate_command log seed entry proof
 row_of (merge one two out) = merge_command one two out
-row_of (inspect node) = inspect_command node
+row_of (inspect of) = inspect_command of
 row_of (whole of journal) = whole_command of journal
 row_of (mirror schedule core out) = mirror_command schedule core out
+row_of (node schedule core out) = node_command schedule core out
 
 -- the headline: what the result of a command means, over the files that were held
 abbrev pub Headline : Asked → Held → Report → Type 0

@@ -31,6 +31,7 @@ mod make;
 mod merge;
 mod migrate;
 mod mirror;
+mod node;
 mod perform;
 mod publish;
 mod reading;

@@ -20,6 +20,7 @@ use crate::make::make;
 use crate::merge::merge;
 use crate::migrate::migrate;
 use crate::mirror::mirror;
+use crate::node::node;
 use crate::publish::publish;
 use crate::replay::replay;
 use crate::report::{Halt, Report, ended};
@@ -92,6 +93,7 @@ fn perform<F: Files>(alloc: Global, files: &mut F, command: &Command<'_>) -> Res
         Command::Whole(mirror, journal) => whole(alloc, files, mirror, journal),
         Command::Inspect(node) => inspect(alloc, files, node),
         Command::Mirror(schedule, core, out) => mirror(alloc, files, schedule, *core, out),
+        Command::Node(schedule, core, out) => node(alloc, files, schedule, *core, out),
     }
 }
 

@@ -32,6 +32,7 @@ const ROWS: [Row; 19] = [
     ("whole m o", 2, Some(98), b"who"),
     ("inspect n", 1, None, b"cor"),
     ("mirror f 0 o", 2, Some(108), b"mir"),
+    ("node f 0 o", 2, Some(222), b"nod"),
 ];
 
 // A node file without facts.
@@ -129,6 +130,7 @@ const SURE: [(&str, Status); 19] = [
     ("whole m j", Status::Malformed),
     ("inspect n", Status::Malformed),
     ("mirror s 0 j", Status::Malformed),
+    ("node s 0 j", Status::Malformed),
 ];
 
 #[test]

@@ -1,5 +1,7 @@
 // Files of what a core stored.
+use crate::same::same;
 use crate::text::{each_ends, hold_each};
+use crate::whole_paths::{NO_EVENTS, replayed, scheduled};
 use ksi_ports::MemFiles;
 use ksi_top::Status;
 use std::alloc::Global;
@@ -67,4 +69,48 @@ fn a_node_file_is_told(rt: HostRuntime) -> Result<(), Fail> {
 fn faults_of_node_files_are_told(rt: HostRuntime) -> Result<(), Fail> {
     let mut files = held(rt.alloc(), BROKEN)?;
     each_ends(&rt, rt.alloc(), &mut files, Status::Malformed, FAULTS)
+}
+
+// What the core of one request stored, and what is told of it.
+const SAVED: &str = "node f 0 n = node 0 records 5
+inspect n = core 0 records 5 sealed 1 held 1";
+
+const NO_CORES: &str = "node f 1 x = no core 1
+node f 256 x = no core 256
+node f 18446744073709551615 x = no core 18446744073709551615";
+
+// The same request, where the core restarts after each step.
+const RESTARTED: &str =
+    "ksi-schedule 1\ncores 1\nstart T\naggregator 0 parent c0\nrestart c0\nrequest 0 T A\nclose 0 T\ndeliver 0\nseal 0 T\nrestart c0\nballot 0 T\nrestart c0\n";
+
+#[test]
+fn what_a_core_stored_is_saved(rt: HostRuntime) -> Result<(), Fail> {
+    let mut files = replayed(&rt, rt.alloc())?;
+    hold_each(rt.alloc(), &mut files, FILES)?;
+    each_ends(&rt, rt.alloc(), &mut files, Status::Done, SAVED)?;
+    each_ends(&rt, rt.alloc(), &mut files, Status::Refused, NO_CORES)?;
+    same(&rt, "n", files.bytes("n"), files.bytes("one"));
+    same(&rt, "x", files.bytes("x").is_none(), true);
+    Ok(())
+}
+
+#[test]
+fn a_core_of_no_events_stored_nothing(rt: HostRuntime) -> Result<(), Fail> {
+    let mut files = scheduled(rt.alloc(), NO_EVENTS)?;
+    hold_each(rt.alloc(), &mut files, FILES)?;
+    each_ends(&rt, rt.alloc(), &mut files, Status::Done, "node f 0 n = node 0 records 0")?;
+    same(&rt, "n", files.bytes("n"), files.bytes("none"));
+    Ok(())
+}
+
+#[test]
+fn a_restart_stores_nothing(rt: HostRuntime) -> Result<(), Fail> {
+    let mut files = scheduled(rt.alloc(), RESTARTED)?;
+    each_ends(
+        &rt,
+        rt.alloc(),
+        &mut files,
+        Status::Done,
+        "node f 0 n = node 0 records 2\ninspect n = core 0 records 2 sealed 1 held 0",
+    )
 }
