@@ -66,18 +66,13 @@ fn issued(alloc: Global, journal: &Journal<Sha>) -> Result<Vec<u8>, Fail> {
     Ok(bytes)
 }
 
-/// The verdict on the bytes of a signature of the hash of no bytes, over the publication of second T.
-fn verdict_at_t(alloc: Global, journal: &Journal<Sha>, bytes: &[u8]) -> Result<BytesVerdict, Fail> {
-    let publications = published(alloc, journal, T)?;
-    Ok(verify_bytes::<Sha>(bytes, &Sha::of(b""), &publications))
-}
-
 #[test]
 fn an_issued_signature_is_accepted_and_inside(rt: HostRuntime) -> Result<(), Fail> {
     let journal = journal(rt.alloc(), JOURNAL)?;
     let bytes = issued(rt.alloc(), &journal)?;
+    let publications = published(rt.alloc(), &journal, T)?;
+    let verdict = verify_bytes::<Sha>(bytes.as_slice(), &Sha::of(b""), &publications);
     same(&rt, "size", bytes.as_slice().len(), 615);
-    let verdict = verdict_at_t(rt.alloc(), &journal, bytes.as_slice())?;
     same(&rt, "verdict", verdict, BytesVerdict::Accepted(T));
     let alone = is_alone(rt.alloc(), &journal, bytes.as_slice())?;
     same(&rt, "audit", alone, true);

@@ -19,7 +19,7 @@ use Rattle.ksi_replay.specs.Mirrors.{mirror_of}
 use Rattle.ksi_top.specs.declared.report.Report.{Report}
 use Rattle.ksi_top.specs.declared.status.Status.TheVariants as statuses
 use Rattle.ksi_top.specs.Reports.{report}
-use Rattle.ksi_top.specs.Mirror.{IsMirrored, MirrorsMerge, mirror_saved, mirrored, no_core_line}
+use Rattle.ksi_top.specs.Mirror.{IsMirrored, mirror_saved, mirrored, no_core_line}
 use Rattle.ksi_top.proofs.Ends.{IsEnd}
 
 pub mirrored_ends : (core : ℕ) (out : List ℕ) (h : History) → IsEnd 1 (mirrored core out h)
