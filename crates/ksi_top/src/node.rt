@@ -1,12 +1,13 @@
 // The command `node`.
 ghost use Rattle.std.specs.Prelude.{◌≡◌, ◌<◌, IfOk};
 ghost use Rattle.ksi_top.specs.Promised.{Performed};
-ghost use Rattle.ksi_top.specs.Node.{IsNodeOver, SavesNode, node_command, node_saved, noded};
+ghost use Rattle.ksi_top.specs.Node.{IsNodeOver, SavesNode, node_command, node_line, node_saved, noded};
+ghost use Rattle.ksi_top.specs.Reports.{saving};
 
 use crate::loading::load_schedule;
 use crate::report::{Halt, Report, Saved, ended};
 use crate::status::Status;
-use ksi_imprint::{NoMemory, Sha};
+use ksi_imprint::{Bytes, NoMemory, Sha};
 use ksi_lines::Word::{Number, Text};
 use ksi_lines::print;
 use ksi_node_file::{NodeFile, node_file};
@@ -28,12 +29,7 @@ pub(crate) fn node<F: Files>(
     ended(noded(alloc, &schedule, core, out))
 }
 
-fn noded(
-    alloc: Global,
-    schedule: &Schedule,
-    core: u64,
-    out: &str,
-) -> Result<Report, NoMemory>
+fn noded(alloc: Global, schedule: &Schedule, core: u64, out: &str) -> Result<Report, NoMemory>
     ensures told { IfOk result (λ report. report ≡ noded out.now core schedule.now) }
     ensures over { IfOk result (IsNodeOver schedule.now core out.now) }
 {
@@ -46,21 +42,28 @@ fn noded(
 }
 
 /// Of a core of the plan.
-fn node_saved(
-    alloc: Global,
-    schedule: &Schedule,
-    core: u8,
-    out: &str,
-) -> Result<Report, NoMemory>
+fn node_saved(alloc: Global, schedule: &Schedule, core: u8, out: &str) -> Result<Report, NoMemory>
     requires { core < schedule.now.plan.cores }
     ensures told { IfOk result (λ report. report ≡ node_saved out.now core schedule.now) }
     ensures saved { IfOk result (SavesNode schedule.now core out.now) }
 {
     let NodeFile { bytes, records } = node_file::<Sha>(alloc, schedule, core)?;
+    saving(alloc, u64::from(core), records, bytes, out)
+}
+
+fn saving(
+    alloc: Global,
+    core: u64,
+    records: u64,
+    bytes: Bytes,
+    out: &str,
+) -> Result<Report, NoMemory>
+    ensures { IfOk result (λ report. report ≡ saving (node_line core records) out.now bytes) }
+{
     let line = print(
         Text("node"),
         &[],
-        &[Number(u64::from(core)), Text("records"), Number(records)],
+        &[Number(core), Text("records"), Number(records)],
     );
     Ok(Report::saving(line, Saved::named(alloc, out, bytes)?))
 }
