@@ -38,3 +38,4 @@ pub mod Beyond
 pub mod KeptOf
 pub mod Counting
 pub mod SealedStays
+pub mod AskedCores

@@ -9,3 +9,4 @@ pub mod Validity
 pub mod Keeping
 pub mod Joined
 pub mod Wire
+pub mod CoreEvents

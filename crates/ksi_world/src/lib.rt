@@ -23,6 +23,7 @@
 #![tactic(auto)]
 
 mod aggregators;
+mod core_events;
 mod cores;
 mod kept;
 pub mod laws;
@@ -35,6 +36,7 @@ mod published;
 pub mod sealing;
 mod world;
 
+pub use core_events::events_are_turns;
 pub use kept::{Kept, Seconds, items_of};
 pub use ksi_aggtree::Second;
 pub use ksi_imprint::NoMemory;

@@ -1,0 +1,2 @@
+pub mod CoreFacts
+pub mod Followed
