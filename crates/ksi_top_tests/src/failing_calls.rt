@@ -12,7 +12,7 @@ use std::test::Fail;
 // A command, how often it calls on the files, how many bytes it saves under "o", and the first three that it puts.
 type Row = (&'static str, u64, Option<usize>, &'static [u8]);
 
-const ROWS: [Row; 19] = [
+const ROWS: [Row; 20] = [
     ("replay f o", 2, Some(766), b"eve"),
     ("sign j 0 o", 2, Some(615), b"sig"),
     ("publish j o", 2, Some(68), b"pub"),
@@ -110,7 +110,7 @@ fn each_failing_call_ends_the_run(rt: HostRuntime) -> Result<(), Fail> {
 }
 
 /// Each command over files that hold nothing, and how it ends.
-const SURE: [(&str, Status); 19] = [
+const SURE: [(&str, Status); 20] = [
     ("replay s j", Status::Malformed),
     ("sign j 0 o", Status::Malformed),
     ("publish j o", Status::Malformed),

@@ -98,7 +98,13 @@ fn what_a_core_stored_is_saved(rt: HostRuntime) -> Result<(), Fail> {
 fn a_core_of_no_events_stored_nothing(rt: HostRuntime) -> Result<(), Fail> {
     let mut files = scheduled(rt.alloc(), NO_EVENTS)?;
     hold_each(rt.alloc(), &mut files, FILES)?;
-    each_ends(&rt, rt.alloc(), &mut files, Status::Done, "node f 0 n = node 0 records 0")?;
+    each_ends(
+        &rt,
+        rt.alloc(),
+        &mut files,
+        Status::Done,
+        "node f 0 n = node 0 records 0",
+    )?;
     same(&rt, "n", files.bytes("n"), files.bytes("none"));
     Ok(())
 }
