@@ -5,5 +5,6 @@ pub mod Compared
 pub mod Answering
 pub mod Elements
 pub mod File
+pub mod Wanting
 pub mod Written
 pub mod Reading

@@ -37,7 +37,7 @@ impl Model for Loading {
 }
 
 impl Loading {
-    ghost use Rattle.std.specs.Prelude.{◌≢◌, Err};
+    ghost use Rattle.std.specs.Prelude.{◌≡◌, ◌≢◌, Err, IsOk};
     ghost use Rattle.ksi_tlv.specs.Views.{view_placed};
     ghost use Rattle.ksi_order.specs.Order.{Steps};
     ghost use Rattle.ksi_imprint.specs.declared.refused.Refused.TheVariants as refused;
@@ -71,6 +71,7 @@ impl Loading {
     #[tactic(auto, unfolding(crate::specs::Elements::old_at))]
     fn old(&mut self, at: &Placed<'_>) -> Result<(), Refused<FrontFault>>
         ensures read { Steps (old_at self.old (view_placed at.now)) self.new result }
+        ensures memory { result ≢ Err refused.NoMemory }
     {
         match time(at) {
             Ok(second) => {
@@ -86,6 +87,7 @@ impl Loading {
     #[tactic(auto, unfolding(crate::specs::Elements::new_at))]
     fn new_second(&mut self, at: &Placed<'_>) -> Result<(), Refused<FrontFault>>
         ensures read { Steps (new_at self.old (view_placed at.now)) self.new result }
+        ensures memory { result ≢ Err refused.NoMemory }
     {
         match time(at) {
             Ok(second) => {
@@ -103,6 +105,7 @@ impl Loading {
     #[tactic(auto, unfolding(crate::specs::Elements::next_at))]
     fn next_imprint(&mut self, at: &Placed<'_>) -> Result<(), Refused<FrontFault>>
         ensures read { Steps (next_at self.old (view_placed at.now)) self.new result }
+        ensures wanting { result ≡ Err refused.NoMemory → IsOk (next_at self.old (view_placed at.now)) }
     {
         match imprint(at) {
             Ok(next) => {
@@ -118,10 +121,11 @@ impl Loading {
 
 impl Ordered<FrontFault> for Loading {
     ghost use Rattle.ksi_consistency.specs.Elements.{front_order};
+    ghost use Rattle.ksi_consistency.specs.Wanting.{WantsFor};
 
     ghost order = { front_order };
 
-    ghost wants = { λ s at. Unit {0} };
+    ghost wants = { WantsFor };
 
     fn may_stand(&self, kind: u16) -> bool {
         match self.stage {

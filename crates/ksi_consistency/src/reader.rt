@@ -1,6 +1,7 @@
 ghost use Rattle.std.specs.Prelude.{◌≡◌, ◌++◌, IfOk};
 ghost use Rattle.ksi_imprint.specs.Refused.{IfRefused};
 ghost use Rattle.ksi_consistency.specs.File.{magic, IsFrontFile, IsFrontFault};
+ghost use Rattle.ksi_consistency.specs.Wanting.{IsWantingInside};
 
 use crate::fault::FrontFault;
 use crate::loading::Loading;
@@ -16,10 +17,10 @@ pub(crate) const MAGIC: &[u8] = b"KSIFRNT1";
 /// Reads the file of a front.
 ///
 /// # Errors
-/// The first fault in order of bytes, or `NoMemory`.
+/// The first fault in order of bytes, or `NoMemory`: only for an imprint behind both seconds, up to which there is no fault.
 pub fn read_front(alloc: Global, bytes: &[u8]) -> Result<Front, Refused<FrontFault>>
     ensures front { IfOk result (λ front. IsFrontFile bytes.now front) }
-    ensures fault { IfRefused result (IsFrontFault bytes.now) (Unit {0}) }
+    ensures fault { IfRefused result (IsFrontFault bytes.now) (IsWantingInside bytes.now) }
 {
     let Some(rest) = after_magic(bytes, MAGIC) else {
         return Err(Refused::Fault(FrontFault::Magic));

@@ -1,5 +1,5 @@
 -- The reading of a file by what stands in front.
-use Rattle.std.proofs.Common.{◌≡◌, ℕ, suc, ◌+◌, ◌≤◌, Bool, true, false, if◌then◌else◌, List, [], ◌∷◌, length, take, drop, Result, Ok, Err, IfOk, refl, sym, ◌∙◌, ap, inl, inr, arith, length-drop}
+use Rattle.std.proofs.Common.{◌≡◌, ℕ, suc, ◌+◌, ◌≤◌, ◌<◌, Bool, true, false, if◌then◌else◌, List, [], ◌∷◌, length, take, drop, Result, Ok, Err, IfOk, IsTrue, refl, sym, subst, ◌∙◌, ap, inl, inr, arith, length-drop}
 use Rattle.std.proofs.lemmas.Bool.{cases_eq}
 use Rattle.std.proofs.lemmas.Bool.Decides.{nat_tests}
 use Rattle.std.proofs.lemmas.List.{length-take-le, drop-drop}
@@ -7,7 +7,9 @@ use Rattle.ksi_gates.specs.declared.ending.Ending.TheVariants.{Closed, Broken}
 use Rattle.ksi_gates.specs.declared.front.Front.{Front}
 use Rattle.ksi_gates.specs.declared.front.Front.TheVariants as front
 use Rattle.ksi_gates.specs.declared.refusal.ReadRefusal.{ReadRefusal}
+use Rattle.ksi_gates.specs.declared.refusal.ReadRefusal.TheVariants.{Failed, NoMemory}
 use Rattle.ksi_gates.specs.Gates.{front_at, stated, is_whole, Reading, ends, behind, reading_after, reading_within, reading_at}
+use Rattle.ksi_gates.specs.Reads.{IfWanting}
 use Rattle.ksi_gates.proofs.Readings.{closed_front, same_reading}
 
 pub at_closed : (place : ℕ) (bytes : List ℕ) → front.Closed ≡ front_at bytes → reading_at place bytes ≡ ends (Closed place)
@@ -60,3 +62,25 @@ open_whole file place count (Ok found) states within is =
     is
     ∙ (λ i. front.Whole (take (states i) (sym (drop-drop 4 place file) i)))
     ∙ sym (ap (λ (b : Bool). if b then front.Whole (take (stated rest) (drop 4 rest)) else front.Broken) whole)
+
+-- ---- where memory may be wanting
+
+pub wanting_by : {T : Type 0} (result : Result T ReadRefusal) (here there : Type 0) → (here → there) → IfWanting result here → IfWanting result there
+wanting_by (Ok value) here there shows wanting = tt
+wanting_by (Err Failed) here there shows wanting = tt
+wanting_by (Err NoMemory) here there shows wanting = shows wanting
+
+pub wanting_where : {T : Type 0} (result : Result T ReadRefusal) (holds : Type 0) → holds → IfWanting result holds
+wanting_where (Ok value) holds shown = tt
+wanting_where (Err Failed) holds shown = tt
+wanting_where (Err NoMemory) holds shown = shown
+
+-- a record is read
+pub record_is_read : (content : List ℕ) (reading others : Reading) → reading ≡ behind (content ∷ []) others → 0 < length reading.records
+record_is_read content reading others is = subst (λ (r : Reading). 0 < length r.records) (sym is) (omega arith)
+
+pub whole_is_read : (place gate : ℕ) (rest : List ℕ) → gate ≡ 1 → IsTrue (is_whole rest) → 0 < length (reading_at place (gate ∷ rest)).records
+whole_is_read place gate rest is_open whole =
+    let content = take (stated rest) (drop 4 rest) in
+    let is : front.Whole content ≡ front_at (gate ∷ rest) = grind (arith, nat_tests) in
+    record_is_read content _ _ (at_whole place (gate ∷ rest) content is)

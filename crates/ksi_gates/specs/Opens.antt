@@ -1,5 +1,5 @@
 -- What the opening of a log answers.
-use Rattle.std.specs.Prelude.{◌≡◌, ℕ, List, Result, Ok, Err}
+use Rattle.std.specs.Prelude.{◌≡◌, ◌<◌, ℕ, List, length, Result, Ok, Err}
 use Rattle.ksi_ports.specs.Outside.{Raises}
 use Rattle.ksi_gates.specs.declared.ending.Ending.TheVariants as ending
 use Rattle.ksi_gates.specs.declared.opened.Opened.{Opened}
@@ -15,11 +15,11 @@ pub record IsOpened {D : Type 0} (content : D → List ℕ) (images : D → List
   pub stays : content opened.log.disk ≡ file
   pub read : opened.records.items ≡ (reading_of from file).records
 
--- what is answered of a file: its log, or the place where it is broken
+-- what is answered of a file: its log, or the place where it is broken; memory is wanting only where it has a record
 abbrev pub OpensAs : {D : Type 0} → (content : D → List ℕ) (images : D → List ℕ → Type 0) (from : ℕ) (file : List ℕ) → Result (Opened D) (OpenRefusal × D) → Type 0
 OpensAs content images from file (Ok opened) = IsOpened content images from file opened
 OpensAs content images from file (Err (Failed, disk)) = Unit {0}
-OpensAs content images from file (Err (NoMemory, disk)) = Unit {0}
+OpensAs content images from file (Err (NoMemory, disk)) = 0 < length (reading_of from file).records
 OpensAs content images from file (Err (Broken place, disk)) = (reading_of from file).ending ≡ ending.Broken place
 
 -- the disk, in the log or handed back

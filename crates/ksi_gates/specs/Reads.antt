@@ -22,6 +22,12 @@ ReadCounts before now (Ok value) = now ≡ before
 ReadCounts before now (Err Failed) = Raises before now
 ReadCounts before now (Err NoMemory) = now ≡ before
 
+-- memory was wanting only where this holds
+abbrev pub IfWanting : {T : Type 0} → Result T ReadRefusal → Type 0 → Type 0
+IfWanting (Ok value) holds = Unit {0}
+IfWanting (Err Failed) holds = Unit {0}
+IfWanting (Err NoMemory) holds = holds
+
 -- a step of the reading of a file: one record more, and the place of the next gate; or the ending
 abbrev pub IsStep : List ℕ → ℕ → List (List ℕ) → List (List ℕ) → Step → Type 0
 IsStep file place old new (Next next) =

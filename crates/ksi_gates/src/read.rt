@@ -1,8 +1,8 @@
-ghost use Rattle.std.specs.Prelude.{◌≡◌, ◌≤◌, ◌<◌, ◌+◌, ◌^◌, [], ◌∷◌, ◌++◌, if◌then◌else◌, take, drop, length, IfOk, OnOk, IsErrOf};
+ghost use Rattle.std.specs.Prelude.{◌≡◌, ◌≤◌, ◌<◌, ◌+◌, ◌^◌, [], ◌∷◌, ◌++◌, if◌then◌else◌, take, drop, length, IfOk, OnOk, IsErrOf, IsTrue};
 ghost use Rattle.ksi_disk.specs.Costs.{Affords};
 ghost use Rattle.ksi_gates.specs.declared.front.Front.TheVariants as front;
-ghost use Rattle.ksi_gates.specs.Gates.{front_at, is_whole, stated, reading_of};
-ghost use Rattle.ksi_gates.specs.Reads.{IsStep, ReadCounts, WroteNothing};
+ghost use Rattle.ksi_gates.specs.Gates.{front_at, is_whole, stated, reading_at, reading_of};
+ghost use Rattle.ksi_gates.specs.Reads.{IfWanting, IsStep, ReadCounts, WroteNothing};
 
 use crate::front::{Front, Step};
 use crate::parts::{read_content, read_gate, read_length};
@@ -25,7 +25,7 @@ pub struct LogRead {
 ///
 /// # Errors
 ///
-/// `Failed`, and the disk's count of faults rises. `NoMemory` where memory was wanting.
+/// `Failed`, and the disk's count of faults rises. `NoMemory` where memory was wanting: only where the file has a record.
 pub fn read_log<D: Disk>(
     alloc: Global,
     disk: &mut D,
@@ -40,6 +40,7 @@ pub fn read_log<D: Disk>(
     ensures nothing { WroteNothing D.images D.moment D.images_since D.meter disk.old disk.new }
     ensures counted { ReadCounts (D.faults disk.old) (D.faults disk.new) result }
     ensures sure { Affords 0 0 (D.meter disk.old) → IsErrOf result ReadRefusal.Failed → ⊥ }
+    ensures wanting { IfWanting result (0 < length (reading_of from (D.content disk.old)).records) }
 {
     let mut records = Vec::new(alloc);
     let mut place = from;
@@ -65,6 +66,7 @@ fn read_step<D: Disk>(
     ensures nothing { WroteNothing D.images D.moment D.images_since D.meter disk.old disk.new }
     ensures counted { ReadCounts (D.faults disk.old) (D.faults disk.new) result }
     ensures sure { Affords 0 0 (D.meter disk.old) → IsErrOf result ReadRefusal.Failed → ⊥ }
+    ensures wanting { IfWanting result (0 < length (reading_at place (drop place (D.content disk.old))).records) }
 {
     match read_front(alloc, disk, place, len)? {
         Front::Closed => Ok(Step::End(Ending::Closed(place))),
@@ -99,6 +101,7 @@ fn read_front<D: Disk>(
     ensures nothing { WroteNothing D.images D.moment D.images_since D.meter disk.old disk.new }
     ensures counted { ReadCounts (D.faults disk.old) (D.faults disk.new) result }
     ensures sure { Affords 0 0 (D.meter disk.old) → IsErrOf result ReadRefusal.Failed → ⊥ }
+    ensures wanting { IfWanting result (0 < length (reading_at place (drop place (D.content disk.old))).records) }
 {
     if place == len {
         return Ok(Front::Broken);
@@ -123,6 +126,7 @@ fn read_open<D: Disk>(
     ensures nothing { WroteNothing D.images D.moment D.images_since D.meter disk.old disk.new }
     ensures counted { ReadCounts (D.faults disk.old) (D.faults disk.new) result }
     ensures sure { Affords 0 0 (D.meter disk.old) → IsErrOf result ReadRefusal.Failed → ⊥ }
+    ensures wanting { IfWanting result (IsTrue (is_whole (drop place (D.content disk.old)))) }
 {
     if len - place < 4 {
         return Ok(Front::Broken);

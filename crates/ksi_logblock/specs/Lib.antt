@@ -6,6 +6,7 @@ pub mod Locating
 pub mod Shown
 pub mod Elements
 pub mod File
+pub mod Wanting
 pub mod Kept
 pub mod Logs
 pub mod LogReading

@@ -97,12 +97,12 @@ impl Reading {
 }
 
 impl Ordered<ProofFault> for Reading {
-    ghost use Rattle.std.specs.Prelude.{IsOk};
-    ghost use Rattle.ksi_logblock.specs.Elements.{element_read, proof_order};
+    ghost use Rattle.ksi_logblock.specs.Elements.{proof_order};
+    ghost use Rattle.ksi_logblock.specs.Wanting.{WantsFor};
 
     ghost order = { proof_order };
 
-    ghost wants = { λ s at. IsOk (element_read s at) };
+    ghost wants = { WantsFor };
 
     fn may_stand(&self, kind: u16) -> bool {
         if self.started {

@@ -22,10 +22,10 @@ use std::alloc::Global;
 /// # Errors
 /// `Starts` exactly where the starts differ; else at the least second for which they have something different `Conflict`
 /// exactly where its roots differ, else `Trees` with the lowest core whose lists differ and the first place where they do.
-/// `NoMemory`.
+/// `NoMemory` only where the starts are the same.
 pub fn merge(alloc: Global, one: &Mirror, two: &Mirror) -> Result<Mirror, Refused<MergeRefusal>>
     ensures merged { IfOk result (Merges one.now two.now) }
-    ensures refused { IfRefused result (IsMergeRefusal one.now two.now) (Unit {0}) }
+    ensures refused { IfRefused result (IsMergeRefusal one.now two.now) (one.now.start ≡ two.now.start) }
     ensures answer { OrNoMemory (merged_of one.now two.now) result }
 {
     merged_is_merging();
@@ -43,7 +43,7 @@ pub fn merge(alloc: Global, one: &Mirror, two: &Mirror) -> Result<Mirror, Refuse
 /// The union of both.
 fn union_of(alloc: Global, one: &Mirror, two: &Mirror) -> Result<Mirror, Refused<MergeRefusal>>
     ensures merged { IfOk result (Merges one.now two.now) }
-    ensures refused { IfRefused result (IsMergeRefusal one.now two.now) (Unit {0}) }
+    ensures refused { IfRefused result (IsMergeRefusal one.now two.now) (one.now.start ≡ two.now.start) }
 {
     if one.start() != two.start() {
         return Err(Refused::Fault(MergeRefusal::Starts(one.start(), two.start())));
@@ -65,7 +65,7 @@ fn with_roots(
     requires start { one.now.start ≡ two.now.start }
     requires roots { IsUnited (λ root. root.0) one.now.roots two.now.roots roots.items }
     ensures merged { IfOk result (Merges one.now two.now) }
-    ensures refused { IfRefused result (IsMergeRefusal one.now two.now) (Unit {0}) }
+    ensures refused { IfRefused result (IsMergeRefusal one.now two.now) (one.now.start ≡ two.now.start) }
 {
     match united(alloc, one.lists(), two.lists()) {
         Ok(lists) => {
@@ -92,7 +92,7 @@ fn without_roots(
     requires start { one.now.start ≡ two.now.start }
     requires differ { DifferFirst (λ root. root.0) one.now.roots two.now.roots first.now second.now }
     ensures merged { IfOk result (Merges one.now two.now) }
-    ensures refused { IfRefused result (IsMergeRefusal one.now two.now) (Unit {0}) }
+    ensures refused { IfRefused result (IsMergeRefusal one.now two.now) (one.now.start ≡ two.now.start) }
 {
     let (list, other) = match united(alloc, one.lists(), two.lists()) {
         Ok(_) => return Err(Refused::Fault(conflict(first, second))),

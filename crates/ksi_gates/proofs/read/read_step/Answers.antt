@@ -1,6 +1,6 @@
 use Rattle.std.proofs.Common.{◌≡◌, ◌+◌, ◌∙◌, [], ◌∷◌, ℕ, length, drop, ap, sym, subst, refl, arith, length-drop}
 use Rattle.ksi_gates.specs.Gates.{behind, reading_at}
-use Rattle.ksi_gates.proofs.Steps.{at_closed, at_broken, at_whole_in, whole_size}
+use Rattle.ksi_gates.proofs.Steps.{at_closed, at_broken, at_whole_in, record_is_read, wanting_where, whole_size}
 use Rattle.ksi_gates.proofs.read.read_step.Goals as goal
 
 pub overflow_add-next-in-Whole : goal.overflow_add-next-in-Whole
@@ -36,3 +36,9 @@ returns-in_ok-keep-in-Whole-clause-step g c =
         omega (arith, within, size, length-drop place file),
       ),
     )
+
+pub returns-in_err-keep-in-Whole-clause-wanting : goal.returns-in_err-keep-in-Whole-clause-wanting
+returns-in_err-keep-in-Whole-clause-wanting g c =
+    let file = g.D.Disk.content c.args.disk.now in
+    let is = sym c.in-Whole.is ∙ c.in_ok-read_front.ensures.front in
+    wanting_where c.from_residual-in_err-keep-in-Whole.result _ (record_is_read c.in-Whole.content _ _ (at_whole_in c.args.place file c.in-Whole.content is))
