@@ -11,7 +11,7 @@ use Rattle.ksi_logblock.specs.declared.locating.LineRefusal.{LineRefusal}
 use Rattle.ksi_logblock.specs.declared.locating.LineRefusal.TheVariants.{Level, RootDiffers}
 use Rattle.ksi_logblock.specs.Blocks.{Masked, line_at, longest_line, mask_at}
 use Rattle.ksi_logblock.specs.Links.{sides_of}
-use Rattle.ksi_logblock.specs.Locating.{kept_root}
+use Rattle.ksi_logblock.specs.Locating.{kept_root, located}
 use Rattle.ksi_logblock.specs.Proofs.{root_by}
 
 -- line k of the block is this line, and the proof's mask and sides are its own
@@ -50,6 +50,8 @@ pub record HasImprints (proof : LineProof) : Type 0 where
   pub mask : IsImprint proof.mask
   pub siblings : AllByRecursion (λ link. length link.sibling ≡ 33) proof.links
 
--- the line stands in the block, with its mask and sides, or two different strings have one hash
+-- the line stands in the block, with its mask and sides, or the strings that it is located by are different and have one hash
 abbrev pub StandsOrClash : (List ℕ → List ℕ) → Masked → List ℕ → LineProof → Type 0
-StandsOrClash image block line proof = ((k : ℕ) × IsLine image block line proof k) ⊎ ((clash : clashes.Clash) × IsClash image clash)
+StandsOrClash image block line proof =
+    ((k : ℕ) × IsLine image block line proof k)
+    ⊎ ((clash : clashes.Clash) × (located image block line proof ≡ Clash clash) × IsClash image clash)

@@ -86,7 +86,8 @@ pub fn location_shows()
     one_way();
 }
 
-/// Whatever proof leads to the root of a block shows its line in the block, or two different strings have one hash.
+/// Whatever proof leads to the root of a block shows its line in the block, or the two strings that it is located by are different
+/// and have one hash.
 pub fn leading_proof_shows()
     ensures { (image : List ℕ → List ℕ) (block : Masked) (line : List ℕ) (proof : LineProof) →
         ((bytes : List ℕ) → IsImprint (image bytes)) → 0 < length block.lines → HasImprints proof →
