@@ -3,9 +3,10 @@
 //! A link says on which side of its join a node stands, what the join has beside it, and how many levels more than one
 //! it goes up (Buldas, Kroonmaa, Laanoja, "Keyless Signatures' Infrastructure", 2013).
 //!
-//! The layer above may rely on this: `climb` gives exactly the item that the links lead to, or the first link whose
+//! The layer above may rely on this: `climb` gives exactly the node that the links lead to, or the first link whose
 //! level passes 255; `shape` is the number that has the links' sides as its bits, below a leading one; `find_bare`
-//! is the first right link whose raw sibling begins as an imprint does. No call takes memory. What holds of climbing and of shapes is in `laws`.
+//! is the first right link whose raw sibling begins as an imprint does. No call takes memory. What holds of climbing and
+//! of shapes is in `laws`.
 //!
 //! ```text
 //! let links = [Link { side: Side::Left, correction: 0, sibling: Sibling::Imprint(sibling) }];

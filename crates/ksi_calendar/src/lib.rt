@@ -6,8 +6,9 @@
 //!
 //! The layer above may rely on this: `root_to` is the root of that tree; the links of `chain_to` climb from a second's
 //! leaf to it along the second's way; `node` is the tree of the part that sides lead to. Only `new`, `append`, `append_all`
-//! and the chains take memory, and after a refused `append` or `append_all` all is as it was. A chain takes at most 126 steps, each the read of
-//! one stored node, and one step at least for each link. What holds of the definitions is in `laws`.
+//! and the chains take memory, and after a refused `append` or `append_all` all is as it was. A chain takes at most 126
+//! steps, each the read of one stored node, and one step at least for each link. What holds of the definitions is in
+//! `laws`.
 //!
 //! ```text
 //! let mut calendar = Calendar::<Sha>::new(alloc, 2)?;

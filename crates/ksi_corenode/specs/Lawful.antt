@@ -64,11 +64,11 @@ pub record IsLawful (start : ℕ) (s : StableState) (fact : Fact) : Type 0 where
 abbrev pub AreLawful : (start : ℕ) → List Fact → Type 0
 AreLawful start facts = (k : ℕ) (fact : Fact) → slice_get facts k ≡ Some fact → IsLawful start (stored_by (take k facts) fact.second) fact
 
--- ---- in the code
-
 -- an item that is fit for a core's round: its leaf is of a level that a round takes, and an aggregator submitted it
 abbrev pub is_fit : Entry → Bool
 is_fit entry = nat_le (leaf_level entry.item) highest_item && is_submitted entry.origin
+
+-- ---- in the code
 
 -- what a fact other than a sealing asks of the vote
 abbrev pub MayStoreVote : VoteState → What → Type 0

@@ -4,8 +4,8 @@
 //! its images: a write, failed or not, may be torn in each of them until a sync succeeds, and then what a read gives is the
 //! only one. `DiskFailed` comes only where the count of faults rose, and every other answer leaves it.
 //!
-//! A `MemDisk` fails where it is told to, and where a write finds no room or a call no turn; one without listed calls tells
-//! how much it still takes. It gives its images at each moment of its calls.
+//! A `MemDisk` fails where it is told to, and where a write finds no room, or a write or a sync no turn; one without listed
+//! calls tells how much it still takes. It gives its images at each moment of its calls.
 //!
 //! ```text
 //! let mut disk = MemDisk::new(alloc, b"", 100, 4, failing)?;

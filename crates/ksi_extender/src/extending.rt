@@ -34,8 +34,8 @@ use std::sync::ledger::{Blank, Ledger};
 /// seconds from 0 to `p`, and the record of that root. What it had of both is not looked at beyond its grammar.
 ///
 /// # Errors
-/// The first of these that stands: the bytes are no signature; V2 to V6, then V15; the chains lead to the zero imprint (V9); their
-/// time is before the journal's start, or after `p`; a second from the start to `p` is not kept; the root that is kept
+/// The first of these that stands: the bytes are no signature; V2 to V6, then V15; the chains lead to the zero imprint
+/// (V9); their time is before the journal's start, or after `p`; a second from the start to `p` is not kept; the root that is kept
 /// for their time is another than the one that they lead to; the new content has more than 65,535 bytes. `NoMemory` may
 /// come only where all of these were looked at but the last.
 pub fn extend<C: Compress>(

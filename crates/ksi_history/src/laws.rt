@@ -40,8 +40,8 @@ use ksi_world::laws::{
     validity,
 };
 
-/// Chains without a bare link that climb from an imprint at level 0 to an item pass the checks of aggregation chains, as they are issued: they
-/// lead to this item, in the second that they were issued for.
+/// Chains without a bare link that climb from an imprint at level 0 to a node pass the checks of aggregation chains, as they
+/// are issued: they lead to this node, in the second that they were issued for.
 pub fn issued_is_aggregated()
     ensures { (image : List ℕ → List ℕ) (second : ℕ) (input : List ℕ) (links : List Link) (above : Above) (top : Node) →
         AreNotBare (own_chain input links ∷ above.chains) →

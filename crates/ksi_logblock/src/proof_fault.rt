@@ -1,11 +1,11 @@
 /// What is wrong with a proof file. A place is the offset of an element's first byte in the file.
 #[derive(Clone, Copy, PartialEq, Eq, Debug)]
 pub enum ProofFault {
-    /// G1: the file begins with another magic.
+    /// G1: the first eight bytes are others, or there are fewer.
     Magic,
     /// G2: the header or the body at this place passes the end of what holds it.
     Tlv(usize),
-    /// G3: an element of another kind stands there, or one is missing.
+    /// G3: an element of a kind that may not stand there, or the end of the file or of a link where one is missing.
     Order(usize),
     /// G4: no imprint of SHA-256.
     Imprint(usize),

@@ -1,8 +1,7 @@
 // Stores on a disk in memory of which no call fails.
-ghost use Rattle.std.specs.Prelude.{◌≡◌, ◌<◌, [], IfOk};
+ghost use Rattle.std.specs.Prelude.{◌≡◌, ◌<◌, ℕ, List, [], IfOk};
 ghost use Rattle.ksi_synod.specs.CorePlans.{CorePlanState};
 ghost use Rattle.ksi_corenode.specs.declared.fact.Fact.{Fact};
-ghost use Rattle.std.specs.Prelude.{ℕ, List};
 ghost use Rattle.ksi_corenode.specs.Events.{event_second, IsAsked, MayTake};
 ghost use Rattle.ksi_disk.specs.Deeds.{content_of};
 ghost use Rattle.ksi_nodestore.specs.Spelling.{node_text};

@@ -106,7 +106,7 @@ fn place_of(ending: Ending) -> u64
 
 impl<C: Compress, D: Disk> NodeStore<C, D> {
     /// Opens the file of core `me` of a plan, by one sync and reads; nothing is written. The core is that of the facts in the
-    /// file. A refusal hands the disk back.
+    /// file. A refusal hands the disk back: what content it then has is told no further than that it is one of its images.
     ///
     /// # Errors
     ///

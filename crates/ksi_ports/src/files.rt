@@ -80,9 +80,9 @@ pub trait Files {
     ///
     /// # Errors
     ///
-    /// `Failed` where the file could not be read: the counts of faults and of failed loads rise. `TooLong` where it has more than `most` bytes:
-    /// `most + 1` were taken. `NoMemory` where memory was wanting: the call may be left out of the count of calls. No load
-    /// takes more than `most + 1` bytes.
+    /// `Failed` where the file could not be read: the counts of faults and of failed loads rise. `TooLong` where it has more
+    /// than `most` bytes: `most + 1` were taken. `NoMemory` where memory was wanting: the call may be left out of the count
+    /// of calls. No load takes more than `most + 1` bytes.
     fn load(&mut self, alloc: Global, name: &str, most: usize) -> Result<Bytes, LoadRefusal>
         ensures later { calls self.old ≤ calls self.new }
         ensures called { LoadCalls (calls self.old) (calls self.new) result }

@@ -25,7 +25,8 @@
 //!
 //! Of it the layer above may rely on this: `root`, `node` and `path` are those of the tree over all leaves to `last`,
 //! joined as the implementation of [`Joins`] says, and none of them but `path` takes memory; after a refused `append` or
-//! `append_all` all is as it was. A step is one read of a kept part, and `path_counted` says how many steps it takes at least and at most.
+//! `append_all` all is as it was. A step is one read of a kept part, and `path_counted` says how many steps it takes at
+//! least and at most.
 //!
 //! ```text
 //! let mut rows = Rows::<u64, Sums>::new(alloc, 2, 0)?;

@@ -3,8 +3,8 @@
 //!
 //! An [`Instance`] is one core's part. Each call takes one step, by one of the five messages or at a command, and answers
 //! what came of it; which call takes a message, what is to be sent and what to be stored is said where a core takes it
-//! (`ksi_corenode`). Nothing is sent, stored or timed here, and no call takes memory. A contract sees an `Instance` as a `VoteState`,
-//! and each call's answer and state are those of its row in `specs/Rows`. The layers above rely on these rows and on the
+//! (`ksi_corenode`). Nothing is sent, stored or timed here, and no call takes memory. A contract sees an `Instance` as a
+//! `VoteState`, and each call's answer and state are those of its row in `specs/Rows`. The layers above rely on these rows and on the
 //! laws of [`laws`], over every history of steps: agreement, validity and stability.
 //!
 //! ```text

@@ -5,6 +5,6 @@ use ksi_aggchain::Node;
 pub struct Aggregated {
     /// The second that each chain states.
     pub time: u64,
-    /// The item that the chains lead to, from the first one's input hash at level 0.
+    /// The node that the chains lead to, from the first one's input hash at level 0.
     pub item: Node,
 }

@@ -39,7 +39,7 @@ pub trait AnyChain {
     fn compare_index(&self, k: u64, higher: &Self) -> Result<(), Refusal>
         ensures { result ≡ same_parts k 0 (without_last (plain self.now).index) (plain higher.now).index };
 
-    /// The item that the links lead to from an item.
+    /// The node that the links lead to from a node.
     ///
     /// # Errors
     /// `Over` with the first link whose level passes 255.

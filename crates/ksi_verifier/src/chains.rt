@@ -11,7 +11,7 @@ use crate::refusal::Refusal;
 use ksi_aggchain::{LevelFault, Node};
 use ksi_imprint::{Compress, Imprint};
 
-/// V2 to V6 and V15: the time of the chains and the item that they lead to.
+/// V2 to V6 and V15: the time of the chains and the node that they lead to.
 pub(crate) fn check_chains<C: Compress, T: AnyChain>(chains: &[T]) -> Result<Aggregated, Refusal>
     requires { 0 < length chains.now }
     ensures { result ≡ chains_checked C.image (map T.plain chains.now) }
@@ -112,7 +112,7 @@ fn first_break(
     }
 }
 
-/// The item that chain `k` leads to, from its own input hash at a level.
+/// The node that chain `k` leads to, from its own input hash at a level.
 fn climb_one<C: Compress, T: AnyChain>(k: u64, level: u8, chain: &T) -> Result<Node, Refusal>
     ensures { result ≡ top_of C.image k level (T.plain chain.now) }
 {

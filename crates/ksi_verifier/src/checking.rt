@@ -84,7 +84,7 @@ pub(crate) fn check<C: Compress, T: AnyChain>(
     }
 }
 
-/// The checks V8 to V14, where the chains come to an item.
+/// The checks V8 to V14, where the chains come to a node.
 fn check_above<C: Compress>(
     aggregated: &Aggregated,
     calendar: &CalendarPart<'_>,

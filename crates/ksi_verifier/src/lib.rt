@@ -10,7 +10,7 @@
 //! the second that the signature proves, and its clause `accepted` says what an accepted signature is, without an order of
 //! checks; [`verify_view`] does the same for a lent signature, by the same body, and [`verify_bytes`] for bytes, whose
 //! first fault it gives where they are no signature; [`aggregate_view`] does V2 to V6 and V15 of a lent signature
-//! alone, and gives the chains' time and the item that they lead to. No call takes memory, so that none may want it. In
+//! alone, and gives the chains' time and the node that they lead to. No call takes memory, so that none may want it. In
 //! [`laws`] stands what the checks mean whatever their order: `accepted` turns an accepted signature into the facts that
 //! make it one, and back.
 //!
