@@ -14,7 +14,8 @@ use std::alloc::Global;
 ///
 /// # Errors
 ///
-/// `Failed`, and the disk's count of faults rises; `NoMemory`, only where the file has a record; `Broken` where the records do not end at a closed gate.
+/// `Failed`, and the disk's count of faults rises; `NoMemory`, only where the file has a record; `Broken` where the records do
+/// not end at a closed gate.
 pub fn open_log<D: Disk>(alloc: Global, disk: D, from: u64) -> Result<Opened<D>, (OpenRefusal, D)>
     ensures opens { OpensAs D.content D.images from (D.content disk) result }
     ensures no_image { AddsNone (D.images disk) (D.images (disk_after result)) }
