@@ -1,6 +1,5 @@
 -- Where the records of a file end.
-use Rattle.std.specs.Int.{w32, to_be_bytes}
-use Rattle.std.proofs.Common.{◌≡◌, ℕ, zero, suc, ◌+◌, List, [], ◌∷◌, ◌++◌, length, drop, arith, length-append}
+use Rattle.std.proofs.Common.{◌≡◌, ℕ, zero, suc, ◌+◌, List, length, drop, arith, length-append}
 use Rattle.ksi_gates.specs.declared.front.Front.{Front}
 use Rattle.ksi_gates.specs.declared.front.Front.TheVariants as front
 use Rattle.ksi_gates.specs.Gates.{front_at, record_text, records_text, Reading, reading_after, reading_within, reading_at, reading_of, place_of}
