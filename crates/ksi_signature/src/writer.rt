@@ -1,4 +1,4 @@
-ghost use Rattle.std.specs.Prelude.{◌≡◌, ◌++◌, ◌∷◌, [], ◌⊎◌, ℕ, Some, None, Err, IfSome, IfOk, OnOk, map, flat_map};
+ghost use Rattle.std.specs.Prelude.{◌≡◌, ◌++◌, ◌∷◌, [], ◌⊎◌, ℕ, Some, None, Err, IfSome, IfOk, OnOk, map, flat_map, option_map};
 ghost use Rattle.ksi_imprint.specs.declared.refused.Refused.TheVariants as refused;
 ghost use Rattle.ksi_signature.specs.declared.refusal.WriteRefusal.TheVariants as refusals;
 ghost use Rattle.std.specs.List.{AllByRecursion};
@@ -86,14 +86,21 @@ fn put_chain(
     ensures long { TellsLong (chain_sizes chain.now) result }
     ensures kept { OnOk result (IsAggregation chain.now) }
 {
-    let input_body = match &chain.input_body {
-        Some(bytes) => Some(bytes.as_slice()),
-        None => None,
-    };
+    let input_body = input_body_of(chain);
     let index = chain.index.as_slice();
     let links = chain.links.as_slice();
     let body = chain_body(alloc, chain.time, index, input_body, &chain.input, links)?;
     put_body(writer, CHAIN, body.bytes())
+}
+
+/// What was hashed into the input of a chain, where it is told.
+fn input_body_of(chain: &AggregationChain) -> Option<&[u8]>
+    ensures { option_map (λ content. content.now) result ≡ chain.now.input_body }
+{
+    match &chain.input_body {
+        Some(bytes) => Some(bytes.as_slice()),
+        None => None,
+    }
 }
 
 fn put_calendar(
