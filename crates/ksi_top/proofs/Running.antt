@@ -119,7 +119,7 @@ run_finished {F = F} {K = K} files_kind sink_kind words old mid new before now r
     let saves : IsTrue files_kind.tells → saves_of report.saved ≡ saves_of ran.saved = λ tells. ap (λ (it : Report). saves_of it.saved) (one.told tells) in
     let at : F → K → Outside = λ it out. outside (files_kind.held it) (files_kind.saves it) (files_kind.faults it) (files_kind.load_faults it) (sink_kind.written out) (sink_kind.puts out) (sink_kind.faults out) in
     let leaves : result ≡ Fault → FaultLeaves files_kind.tells sink_kind.tells ran (at old before) (at new now) =
-        λ is. leaves_behind files_kind.tells sink_kind.tells ran report (at old before) (at mid before) (at new now) one.told one.stays cause.quiet.saves cause.quiet.faults cause.quiet.load_faults refl refl refl (two.fault is) in
+    λ is. leaves_behind files_kind.tells sink_kind.tells ran report (at old before) (at mid before) (at new now) one.told one.stays cause.quiet.saves cause.quiet.faults cause.quiet.load_faults refl refl refl (two.fault is) in
     record {
       status = λ tells. subst (λ (it : Report). UnlessCut result (result ≡ it.status)) (one.told tells) two.status;
       saved = λ tells. subst (λ (held : Held). UnlessCut result (files_kind.held new ≡ saved_into ran.saved held)) (one.stays tells)
@@ -140,9 +140,11 @@ run_finished {F = F} {K = K} files_kind sink_kind words old mid new before now r
       words_line = λ tells. uncut_weaker result (sink_kind.written now ≡ sink_kind.written before ++ report.line) (WordsLine (command_of words) (sink_kind.written before) (sink_kind.written now))
           (λ same. words_line (command_of words) report (sink_kind.written before) (sink_kind.written now) cause.words same) (two.put tells);
       too_long = λ is.
-          let long : report.status ≡ TooLong = sym (subst (λ (it : Status). UnlessCut it (it ≡ report.status)) is two.status) in
-          (report.line, (λ tells. subst (λ (it : Status). UnlessCut it (sink_kind.written now ≡ sink_kind.written before ++ report.line)) is (two.put tells)),
-          subst (λ (it : F). TookTooMuch (command_of words) (counts_of files_kind old) (counts_of files_kind it) report.line) (sym (unsaved (not_done report.status long))) (cause.too_long long));
+          let long : report.status ≡ TooLong = sym (subst (λ (it : Status). UnlessCut it (it ≡ report.status)) is two.status) in (
+            report.line,
+            (λ tells. subst (λ (it : Status). UnlessCut it (sink_kind.written now ≡ sink_kind.written before ++ report.line)) is (two.put tells)),
+            subst (λ (it : F). TookTooMuch (command_of words) (counts_of files_kind old) (counts_of files_kind it) report.line) (sym (unsaved (not_done report.status long))) (cause.too_long long),
+          );
       one_line = two.one_line;
       one_put = two.one_put;
       short_put = two.short_put;
