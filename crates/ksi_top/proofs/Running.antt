@@ -1,5 +1,5 @@
 -- A run, by what was reported: the report ends it, or a fault or want of memory did before.
-use Rattle.std.proofs.Common.{Bool, ◌≡◌, ◌≢◌, ◌⊎◌, ℕ, ◌+◌, ◌<◌, ◌≤◌, List, [], ◌++◌, length, Option, Some, None, IsTrue, Result, Ok, Err, inl, inr, refl, sym, ap, subst, ◌∙◌, arith}
+use Rattle.std.proofs.Common.{Bool, ◌≡◌, ◌≢◌, ◌⊎◌, ℕ, ◌+◌, ◌<◌, ◌≤◌, List, [], ◌++◌, length, None, IsTrue, Result, Ok, Err, inl, inr, refl, sym, ap, subst, ◌∙◌, arith}
 use Rattle.std.specs.Prelude.{IfOk, IfErr}
 use Rattle.std.proofs.lemmas.List.{append-nil}
 use Rattle.std.proofs.lemmas.Result.{IfOk-weaker}
@@ -15,10 +15,10 @@ use Rattle.ksi_top.specs.declared.report.Halt.TheVariants as halts
 use Rattle.ksi_top.specs.declared.status.Status.{Status}
 use Rattle.ksi_top.specs.declared.status.Status.TheVariants.{Done, Refused, Words, Malformed, Fault, NoMemory, Clash, TooLong}
 use Rattle.ksi_top.specs.Reports.{saves_of}
-use Rattle.ksi_top.specs.Causes.{Counts, Faulty, Quiet, counts_of}
+use Rattle.ksi_top.specs.Causes.{Faulty, Quiet, counts_of}
 use Rattle.ksi_top.specs.Endings.{FaultLeaves, NamesStay, Outside, TookTooMuch, UnlessCut, WordsLine, WordsStatus, at_load, at_put, at_save, outside}
 use Rattle.ksi_top.specs.Promised.{Finished, HasCause, IsReported, IsRun, WordsCaused}
-use Rattle.ksi_top.specs.Run.{Headline, files_of, most_calls, refused, row_of, run, run_calls, run_loads, saved_into}
+use Rattle.ksi_top.specs.Run.{Headline, files_of, most_calls, refused, row_of, run, saved_into}
 use Rattle.ksi_top.proofs.Finishing.{uncut}
 
 -- ---- by the status
