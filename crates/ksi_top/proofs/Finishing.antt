@@ -12,7 +12,7 @@ use Rattle.ksi_top.specs.Promised.{Finished, Puts, Saves}
 use Rattle.ksi_top.specs.Run.{saved_into}
 
 -- a fact that holds, whatever cut the run short
-uncut : (status : Status) (P : Type 0) → P → UnlessCut status P
+pub uncut : (status : Status) (P : Type 0) → P → UnlessCut status P
 uncut Done P is = is
 uncut Refused P is = is
 uncut Words P is = is

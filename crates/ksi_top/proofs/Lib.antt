@@ -7,6 +7,7 @@ pub mod Read
 pub mod Accepting
 pub mod Reporting
 pub mod Finishing
+pub mod Running
 pub mod Extending
 pub mod Replayed
 pub mod Copying

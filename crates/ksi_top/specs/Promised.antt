@@ -1,5 +1,6 @@
--- What is promised of the parts of the top call: of each file that is loaded, of each command, of the words, and of the end.
-use Rattle.std.specs.Prelude.{◌≡◌, ◌≢◌, ℕ, ◌+◌, ◌<◌, ◌≤◌, ◌++◌, IsTrue, IfOk, IfErr, List, length, Option, None, Result, Ok, Err}
+-- What is promised of the parts of the top call: of each file that is loaded, of each command, of the words, of the end, and of
+-- a run.
+use Rattle.std.specs.Prelude.{◌≡◌, ◌≢◌, ◌⊎◌, ℕ, ◌+◌, ◌<◌, ◌≤◌, ◌++◌, IsTrue, IfOk, IfErr, List, length, Option, None, Result, Ok, Err}
 use Rattle.ksi_ports.specs.Outside.{Rose, ExtendsByFront, SaveCounts}
 use Rattle.ksi_ports.specs.Stored.{Held}
 use Rattle.ksi_ports.specs.declared.files.Files as files
@@ -15,8 +16,8 @@ use Rattle.ksi_top.specs.declared.status.Status.{Status}
 use Rattle.ksi_top.specs.declared.status.Status.TheVariants.{Done, Words, Fault, NoMemory, TooLong}
 use Rattle.ksi_top.specs.Reports.{CommandRow, Gives, Reports, Means, IsTooLong, Unloaded, saves_of}
 use Rattle.ksi_top.specs.Causes.{Counts, Quiet, Faulty, LoadCaused, ReportCaused, counts_of}
-use Rattle.ksi_top.specs.Run.{Headline, files_of, refused, row_of, run, run_loads, saved_into}
-use Rattle.ksi_top.specs.Endings.{FaultLeaves, NamesStay, TookTooMuch, UnlessCut, outside}
+use Rattle.ksi_top.specs.Run.{Headline, files_of, most_calls, refused, row_of, run, run_calls, run_loads, saved_into}
+use Rattle.ksi_top.specs.Endings.{FaultLeaves, NamesStay, TookTooMuch, UnlessCut, WordsLine, WordsStatus, outside}
 
 -- a file word that is loaded and read
 pub record IsLoaded {F T : Type 0} (kind : files.Ghosts F) (n limit : ℕ) (expected : Result T Report) (old new : F) (result : Result T Halt) : Type 0 where
@@ -132,3 +133,37 @@ pub record Finished {F K : Type 0} (files_kind : files.Ghosts F) (sink_kind : si
   pub sink_fault : sink_kind.faults before < sink_kind.faults now → result ≡ Fault
   pub unsaved : result ≢ Done → result ≢ Fault → IsTrue files_kind.tells → files_kind.held new ≡ files_kind.held old
   pub unput : result ≡ NoMemory → (sink_kind.puts now ≡ sink_kind.puts before) × (IsTrue sink_kind.tells → sink_kind.written now ≡ sink_kind.written before)
+
+-- ---- a run: it reports, then it ends
+
+-- what the top call promises of a run of words, but that it is complete
+pub record IsRun {F K : Type 0} (files_kind : files.Ghosts F) (sink_kind : sinks.Ghosts K) (given : List (List ℕ)) (old new : F) (before now : K) (result : Status) : Type 0 where
+  pub status : IsTrue files_kind.tells → UnlessCut result (result ≡ (run given (files_kind.held old)).status)
+  pub saved : IsTrue files_kind.tells → UnlessCut result (files_kind.held new ≡ saved_into (run given (files_kind.held old)).saved (files_kind.held old))
+  pub put : IsTrue files_kind.tells → IsTrue sink_kind.tells → UnlessCut result (sink_kind.written now ≡ sink_kind.written before ++ (run given (files_kind.held old)).line)
+  pub headline : IsTrue files_kind.tells → IfOk (command_of given) (λ asked. UnlessCut result (Headline asked (files_kind.held old) (run given (files_kind.held old))))
+  pub calls : IsTrue files_kind.tells → files_kind.calls new ≤ files_kind.calls old + run_calls given (files_kind.held old)
+  pub few_calls : files_kind.calls new ≤ files_kind.calls old + most_calls (command_of given)
+  pub untouched : IfErr (command_of given) (λ _. files_kind.calls new ≡ files_kind.calls old)
+  pub fault_rose : result ≡ Fault → Rose (files_kind.faults old) (files_kind.faults new) ⊎ Rose (sink_kind.faults before) (sink_kind.faults now)
+  pub fault : result ≡ Fault →
+      FaultLeaves files_kind.tells sink_kind.tells (run given (files_kind.held old))
+      (outside (files_kind.held old) (files_kind.saves old) (files_kind.faults old) (files_kind.load_faults old) (sink_kind.written before) (sink_kind.puts before) (sink_kind.faults before))
+      (outside (files_kind.held new) (files_kind.saves new) (files_kind.faults new) (files_kind.load_faults new) (sink_kind.written now) (sink_kind.puts now) (sink_kind.faults now))
+  pub files_fault : files_kind.faults old < files_kind.faults new → result ≡ Fault
+  pub sink_fault : sink_kind.faults before < sink_kind.faults now → result ≡ Fault
+  pub unsaved : result ≢ Done → result ≢ Fault → IsTrue files_kind.tells → files_kind.held new ≡ files_kind.held old
+  pub unput : result ≡ NoMemory → (sink_kind.puts now ≡ sink_kind.puts before) × (IsTrue sink_kind.tells → sink_kind.written now ≡ sink_kind.written before)
+  pub wanting : IsTrue files_kind.tells → result ≡ NoMemory → (run given (files_kind.held old)).status ≡ TooLong → files_kind.calls new < files_kind.calls old + run_loads (command_of given) (files_kind.held old)
+  pub words : UnlessCut result (WordsStatus (command_of given) result)
+  pub words_line : IsTrue sink_kind.tells → UnlessCut result (WordsLine (command_of given) (sink_kind.written before) (sink_kind.written now))
+  pub too_long : result ≡ TooLong →
+      (line : List ℕ) × (IsTrue sink_kind.tells → sink_kind.written now ≡ sink_kind.written before ++ line)
+      × TookTooMuch (command_of given) (counts_of files_kind old) (counts_of files_kind new) line
+  pub one_line : IsTrue sink_kind.tells → (line : List ℕ) × (sink_kind.written now ≡ sink_kind.written before ++ line) × (length line ≤ 32767)
+  pub one_put : sink_kind.puts now ≤ sink_kind.puts before + 1
+  pub short_put : sink_kind.given now ≤ sink_kind.given before + 32767
+  pub free : sink_kind.free before ≤ sink_kind.free now + 32767
+  pub no_save : result ≢ Done → result ≢ Fault → files_kind.saves new ≡ files_kind.saves old
+  pub quiet : result ≢ Fault → (files_kind.faults new ≡ files_kind.faults old) × (sink_kind.faults now ≡ sink_kind.faults before)
+  pub later : (files_kind.faults old ≤ files_kind.faults new) × (files_kind.taken old ≤ files_kind.taken new) × (sink_kind.faults before ≤ sink_kind.faults now)

@@ -2,7 +2,7 @@
 ghost use Rattle.std.specs.Prelude.{◌≡◌, ◌≢◌, ◌⊎◌, ℕ, ◌+◌, ◌<◌, ◌≤◌, ◌++◌, List, length, IsTrue, IfErr, IfOk, None};
 ghost use Rattle.ksi_ports.specs.Outside.{Rose};
 ghost use Rattle.ksi_top.specs.Endings.{FaultLeaves, TookTooMuch, UnlessCut, WordsLine, WordsStatus, outside};
-ghost use Rattle.ksi_top.specs.Promised.{Finished, Puts, Saves};
+ghost use Rattle.ksi_top.specs.Promised.{Finished, IsRun, Puts, Saves};
 ghost use Rattle.ksi_top.specs.Causes.{counts};
 ghost use Rattle.ksi_top.specs.Complete.{Complete};
 ghost use Rattle.ksi_top.specs.Run.{Headline, most_calls, run, run_calls, run_loads, saved_into};
@@ -93,8 +93,22 @@ pub fn ksi<F: Files, K: Sink>(alloc: Global, words: &[String], files: &mut F, ou
         × (K.faults out.old ≤ K.faults out.new) }
 {
     issued_is_accepted();
+    run_words(alloc, words, files, out)
+}
+
+/// Reports, then saves the result and puts the line.
+fn run_words<F: Files, K: Sink>(
+    alloc: Global,
+    words: &[String],
+    files: &mut F,
+    out: &mut K,
+) -> Status
+    requires { 32767 ≤ K.free out.old }
+    ensures { IsRun F.Files K.Sink (texts words.now) files.old files.new out.old out.new result }
+{
     match report_of(alloc, words, files) {
-        Ok(report) | Err(Halt::Reported(report)) => finish(alloc, &report, files, out),
+        Ok(report) => finish(alloc, &report, files, out),
+        Err(Halt::Reported(report)) => finish(alloc, &report, files, out),
         Err(Halt::Fault) => Status::Fault,
         Err(Halt::NoMemory) => Status::NoMemory,
     }
