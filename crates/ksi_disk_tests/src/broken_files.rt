@@ -1,112 +1,65 @@
+use crate::logs::opened;
 use ksi_disk::MemDisk;
 use ksi_gates::{OpenRefusal, open_log};
 use ksi_imprint::Bytes;
 use std::alloc::Global;
 use std::test::Fail;
 
-struct Row {
-    file: &'static [u8],
-    records: usize,
-    broken: Option<u64>,
-}
-
 // Files with a header of two bytes: how many records they have, or where they are broken.
-static ROWS: [Row; 11] = [
-    Row {
-        file: b"",
-        records: 0,
-        broken: Some(2),
-    },
-    Row {
-        file: b"hh",
-        records: 0,
-        broken: Some(2),
-    },
-    Row {
-        file: b"hh\x00",
-        records: 0,
-        broken: None,
-    },
-    Row {
-        file: b"hh\x07what stands behind is not looked at",
-        records: 0,
-        broken: None,
-    },
-    Row {
-        file: b"hh\x01",
-        records: 0,
-        broken: Some(2),
-    },
-    Row {
-        file: b"hh\x01\x00\x00\x00",
-        records: 0,
-        broken: Some(2),
-    },
-    Row {
-        file: b"hh\x01\x00\x00\x00\x02a",
-        records: 0,
-        broken: Some(2),
-    },
-    Row {
-        file: b"hh\x01\x00\x00\x00\x02ab",
-        records: 1,
-        broken: Some(9),
-    },
-    Row {
-        file: b"hh\x01\x00\x00\x00\x02ab\x00",
-        records: 1,
-        broken: None,
-    },
-    Row {
-        file: b"hh\x01\x00\x00\x00\x00\x01\x00\x00\x00\x01c\xff\x01",
-        records: 2,
-        broken: None,
-    },
-    Row {
-        file: b"hh\x01\x00\x00\x00\x00\x01\x01\x00\x00\x00c\x00",
-        records: 1,
-        broken: Some(7),
-    },
+static ROWS: [(&[u8], Result<usize, u64>); 11] = [
+    (b"", Err(2)),
+    (b"hh", Err(2)),
+    (b"hh\x00", Ok(0)),
+    (b"hh\x07what stands behind is not looked at", Ok(0)),
+    (b"hh\x01", Err(2)),
+    (b"hh\x01\x00\x00\x00", Err(2)),
+    (b"hh\x01\x00\x00\x00\x02a", Err(2)),
+    (b"hh\x01\x00\x00\x00\x02ab", Err(9)),
+    (b"hh\x01\x00\x00\x00\x02ab\x00", Ok(1)),
+    (
+        b"hh\x01\x00\x00\x00\x00\x01\x00\x00\x00\x01c\xff\x01",
+        Ok(2),
+    ),
+    (b"hh\x01\x00\x00\x00\x00\x01\x01\x00\x00\x00c\x00", Err(7)),
 ];
 
-fn opens_so(alloc: Global, row: &Row) -> Result<bool, Fail> {
-    let disk = MemDisk::new(alloc, row.file, 0, 1, Vec::new(alloc))?;
-    Ok(match open_log(alloc, disk, 2) {
-        Ok(opened) => row.broken.is_none() && opened.records.len() == row.records,
-        Err((OpenRefusal::Broken(place), disk)) => {
-            row.broken == Some(place) && disk.bytes() == row.file
+// What the opening tells: of a broken file where, and that its disk is left as it was.
+fn told(want: &Result<usize, u64>) -> Result<usize, (OpenRefusal, bool)> {
+    match want {
+        Ok(records) => Ok(*records),
+        Err(place) => Err((OpenRefusal::Broken(*place), true)),
+    }
+}
+
+#[test]
+fn a_file_is_read_up_to_the_first_gate_that_is_not_open(rt: HostRuntime) -> Result<(), Fail> {
+    for (file, want) in &ROWS {
+        assert!(rt; opened(rt.alloc(), file, 2)? == told(want));
+    }
+    Ok(())
+}
+
+fn are_ab_and_c(records: &[Bytes]) -> bool {
+    match records {
+        [first, second] => {
+            first.as_slice() == b"ab".as_slice() && second.as_slice() == b"c".as_slice()
         }
+        _ => false,
+    }
+}
+
+// Opens a file of two records, whose contents are these.
+fn opens_to_ab_and_c(alloc: Global) -> Result<bool, Fail> {
+    let file = b"\x01\x00\x00\x00\x02ab\x01\x00\x00\x00\x01c\x02";
+    let disk = MemDisk::new(alloc, file, 0, 1, Vec::new(alloc))?;
+    Ok(match open_log(alloc, disk, 0) {
+        Ok(opened) => are_ab_and_c(&opened.records),
         Err(_) => false,
     })
 }
 
 #[test]
-fn a_file_is_read_up_to_the_first_gate_that_is_not_open(rt: HostRuntime) -> Result<(), Fail> {
-    for row in &ROWS {
-        assert!(rt; opens_so(rt.alloc(), row)?);
-    }
-    Ok(())
-}
-
-fn contents(alloc: Global) -> Result<Vec<Bytes>, Fail> {
-    let disk = MemDisk::new(
-        alloc,
-        b"\x01\x00\x00\x00\x02ab\x01\x00\x00\x00\x01c\x02",
-        0,
-        1,
-        Vec::new(alloc),
-    )?;
-    match open_log(alloc, disk, 0) {
-        Ok(opened) => Ok(opened.records),
-        Err(_) => Ok(Vec::new(alloc)),
-    }
-}
-
-#[test]
 fn the_contents_are_those_behind_the_gates(rt: HostRuntime) -> Result<(), Fail> {
-    let records = contents(rt.alloc())?;
-    assert_eq!(rt; records.len(), 2);
-    assert!(rt; records[0].as_slice() == b"ab".as_slice());
-    assert!(rt; records[1].as_slice() == b"c".as_slice());
+    assert!(rt; opens_to_ab_and_c(rt.alloc())?);
     Ok(())
 }

@@ -1,6 +1,5 @@
-use crate::logs::appended;
+use crate::logs::{appended, both_appended, opened};
 use ksi_disk::{Fate, MemDisk};
-use ksi_gates::open_log;
 use std::alloc::Global;
 use std::test::Fail;
 
@@ -16,15 +15,6 @@ static FATES: [Fate; 9] = [
     Fate::Filled(255),
 ];
 
-// How many records an image opens to.
-fn records_in(alloc: Global, image: &[u8]) -> Result<Option<usize>, Fail> {
-    let disk = MemDisk::new(alloc, image, 0, 1, Vec::new(alloc))?;
-    Ok(match open_log(alloc, disk, 2) {
-        Ok(opened) => Some(opened.records.len()),
-        Err(_) => None,
-    })
-}
-
 // Whether each image at that moment opens to so many records, or to one more where that may be.
 fn all_open(
     alloc: Global,
@@ -38,8 +28,8 @@ fn all_open(
     }
     for fate in &FATES {
         let image = disk.image(alloc, moment, *fate)?;
-        let found = records_in(alloc, image.as_slice())?;
-        if found != Some(least) && found != Some(most) {
+        let found = opened(alloc, image.as_slice(), 2)?;
+        if found != Ok(least) && found != Ok(most) {
             return Ok(false);
         }
     }
@@ -64,10 +54,8 @@ static MOMENTS: [(usize, usize); 11] = [
 #[test]
 fn a_crash_at_any_moment_leaves_whole_records(rt: HostRuntime) -> Result<(), Fail> {
     let alloc = rt.alloc();
-    let disk = MemDisk::new(alloc, b"hh\x00", 18, 10, Vec::new(alloc))?;
-    let (_, disk) = appended(alloc, disk, b"abc")?;
-    let (_, disk) = appended(alloc, disk, b"xyz")?;
-    assert_eq!(rt; disk.moments(), 10);
+    let (_, disk) = both_appended(alloc, b"hh\x00")?;
+    assert!(rt; disk.moments() == 10);
     for (moment, (least, most)) in MOMENTS.iter().enumerate() {
         assert!(rt; all_open(alloc, &disk, moment, *least, *most)?);
     }

@@ -126,8 +126,8 @@ fn room_and_turns_end(rt: HostRuntime) -> Result<(), Fail> {
 fn a_write_goes_through(rt: HostRuntime) -> Result<(), Fail> {
     let alloc = rt.alloc();
     let mut disk = MemDisk::new(alloc, b"abc", 9, 2, Vec::new(alloc))?;
-    assert_eq!(rt; write_through(&mut disk, 1, b"xyz"), Ok(()));
+    assert!(rt; write_through(&mut disk, 1, b"xyz").is_ok());
     assert!(rt; disk.bytes() == b"axyz".as_slice());
-    assert_eq!(rt; disk.sync(), Err(DiskFailed));
+    assert!(rt; disk.sync() == Err(DiskFailed));
     Ok(())
 }

@@ -1,5 +1,5 @@
 use ksi_disk::MemDisk;
-use ksi_gates::{Record, open_log};
+use ksi_gates::{OpenRefusal, Record, open_log};
 use std::alloc::Global;
 use std::test::Fail;
 
@@ -19,15 +19,33 @@ pub fn appended(alloc: Global, disk: MemDisk, content: &[u8; 3]) -> Result<(bool
     }
 }
 
-#[test]
-fn records_are_written_behind_their_gates(rt: HostRuntime) -> Result<(), Fail> {
-    let alloc = rt.alloc();
-    let disk = MemDisk::new(alloc, b"hh\x09garbage", 18, 10, Vec::new(alloc))?;
+/// A disk of these bytes, with room for two records, after both are appended. Whether they were acknowledged, and the disk.
+pub fn both_appended(alloc: Global, file: &[u8]) -> Result<(bool, MemDisk), Fail> {
+    let disk = MemDisk::new(alloc, file, 18, 10, Vec::new(alloc))?;
     let (first, disk) = appended(alloc, disk, b"abc")?;
     let (second, disk) = appended(alloc, disk, b"xyz")?;
-    assert!(rt; first && second);
+    Ok((first && second, disk))
+}
+
+/// How many records a file opens to behind a header of so many bytes; or the refusal, and whether the disk is left as it was.
+pub fn opened(
+    alloc: Global,
+    file: &[u8],
+    from: u64,
+) -> Result<Result<usize, (OpenRefusal, bool)>, Fail> {
+    let disk = MemDisk::new(alloc, file, 0, 1, Vec::new(alloc))?;
+    Ok(match open_log(alloc, disk, from) {
+        Ok(opened) => Ok(opened.records.len()),
+        Err((refusal, disk)) => Err((refusal, disk.bytes() == file)),
+    })
+}
+
+#[test]
+fn records_are_written_behind_their_gates(rt: HostRuntime) -> Result<(), Fail> {
+    let (acknowledged, disk) = both_appended(rt.alloc(), b"hh\x09garbage")?;
+    assert!(rt; acknowledged);
     assert!(rt; disk.bytes() == b"hh\x01\x00\x00\x00\x03abc\x01\x00\x00\x00\x03xyz\x00".as_slice());
     assert!(rt; disk.left() == (0, 0));
-    assert_eq!(rt; disk.faults(), 0);
+    assert!(rt; disk.faults() == 0);
     Ok(())
 }

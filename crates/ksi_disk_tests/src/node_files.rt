@@ -22,7 +22,11 @@ static FILE: [u8; 222] = [
 ];
 
 // What the opening of a file tells of it.
-fn opened(alloc: Global, file: &[u8], start: u64) -> Result<Result<Counts, OpenRefusal>, Fail>
+pub(crate) fn opened(
+    alloc: Global,
+    file: &[u8],
+    start: u64,
+) -> Result<Result<Counts, OpenRefusal>, Fail>
     requires { start ≤ 2 ^ 62 }
 {
     let disk = MemDisk::new(alloc, file, 0, 1, Vec::new(alloc))?;

@@ -4,11 +4,12 @@ ghost use Rattle.ksi_corenode.specs.CoreState.{CoreState};
 ghost use Rattle.ksi_corenode.specs.Events.{event_second, IsAsked, MayTake};
 ghost use Rattle.ksi_synod.specs.Rows.{OfBallot};
 
+use crate::node_files::opened;
 use ksi_aggtree::Item;
 use ksi_corenode::CoreEvent;
 use ksi_disk::{Disk, Fate, MemDisk};
 use ksi_imprint::{Compress, Imprint, Sha};
-use ksi_nodestore::{Counts, NodeStore, format};
+use ksi_nodestore::{NodeStore, format};
 use ksi_synod::{CorePlan, LastVote, SynodMessage};
 use std::alloc::Global;
 use std::marker::Model;
@@ -131,23 +132,15 @@ static FATES: [Fate; 12] = [
 /// Whether an image opens to a core with so many facts, or with one more where that may be: the first is that the second is
 /// sealed, and the fifth that its root is held.
 fn opens_to(alloc: Global, image: &[u8], least: u64, most: u64) -> Result<bool, Fail> {
-    let disk = MemDisk::new(alloc, image, 0, 1, Vec::new(alloc))?;
-    Ok(
-        match NodeStore::<Sha, MemDisk>::open(alloc, 0, &CorePlan::new(1, START), disk) {
-            Ok(store) => {
-                let Counts {
-                    records,
-                    sealed,
-                    held,
-                } = store.counts();
-                least <= records
-                    && records <= most
-                    && sealed == u64::from(records >= 1)
-                    && held == u64::from(records >= 5)
-            }
-            Err(_) => false,
-        },
-    )
+    Ok(match opened(alloc, image, START)? {
+        Ok(counts) => {
+            least <= counts.records
+                && counts.records <= most
+                && counts.sealed == u64::from(counts.records >= 1)
+                && counts.held == u64::from(counts.records >= 5)
+        }
+        Err(_) => false,
+    })
 }
 
 /// Whether all images of that moment open so. Behind the file's two moments and the opening's each fact has four: it is
@@ -169,7 +162,7 @@ fn all_open(alloc: Global, disk: &MemDisk, moment: usize) -> Result<bool, Fail> 
 fn a_core_is_opened_again_whenever_it_is_stopped(rt: HostRuntime) -> Result<(), Fail> {
     let alloc = rt.alloc();
     let disk = run(alloc, Vec::new(alloc))?;
-    assert_eq!(rt; (disk.moments(), disk.calls()), (23, 26));
+    assert!(rt; disk.moments() == 23 && disk.calls() == 26);
     for moment in 2..24usize {
         assert!(rt; all_open(alloc, &disk, moment)?);
     }

@@ -1,34 +1,55 @@
 use crate::same::same;
-use ksi_imprint::{Imprint, Sha};
-use ksi_journal::write;
+use ksi_imprint::{Bytes, Sha};
+use ksi_journal::{Journal, write};
 use ksi_mirror::{JournalFault, Mirror, Refused, load_mirror, whole, write_mirror};
 use std::alloc::Global;
 use std::test::Fail;
 
-/// The SHA-256 of no bytes, and of `abc`, as imprints.
-const A: &str = "01e3b0c44298fc1c149afbf4c8996fb92427ae41e4649b934ca495991b7852b855";
+/// The names of imprints, in hex: of no bytes, of `abc`, and the zero imprint.
+static NAMES: [(&str, &str); 3] = [
+    (
+        "A",
+        "01e3b0c44298fc1c149afbf4c8996fb92427ae41e4649b934ca495991b7852b855",
+    ),
+    (
+        "B",
+        "01ba7816bf8f01cfea414140de5dae2223b00361a396177a9cb410ff61f20015ad",
+    ),
+    (
+        "zero",
+        "010000000000000000000000000000000000000000000000000000000000000000",
+    ),
+];
 
-const B: &str = "01ba7816bf8f01cfea414140de5dae2223b00361a396177a9cb410ff61f20015ad";
-
-/// The bytes of words, each in hex or the name of an imprint.
-pub(crate) fn bytes(alloc: Global, words: &str) -> Result<Vec<u8>, Fail> {
-    let mut bytes = Vec::new(alloc);
-    for word in words.split_whitespace() {
-        match word {
-            "A" => bytes.extend_from_slice(&hex::decode(alloc, A)?)?,
-            "B" => bytes.extend_from_slice(&hex::decode(alloc, B)?)?,
-            "zero" => bytes.extend_from_slice(Imprint::ZERO.bytes())?,
-            _ => bytes.extend_from_slice(&hex::decode(alloc, word)?)?,
+/// What a word stands for in hex: the imprint of this name, or itself.
+fn meant(word: &str) -> &str {
+    for (name, hex) in &NAMES {
+        if *name == word {
+            return *hex;
         }
     }
+    word
+}
+
+/// Puts what the words stand for behind the bytes.
+fn push_words(alloc: Global, bytes: &mut Vec<u8>, words: &str) -> Result<(), Fail> {
+    for word in words.split_whitespace() {
+        bytes.extend_from_slice(&hex::decode(alloc, meant(word))?)?;
+    }
+    Ok(())
+}
+
+/// The bytes that words stand for.
+fn bytes(alloc: Global, words: &str) -> Result<Vec<u8>, Fail> {
+    let mut bytes = Vec::new(alloc);
+    push_words(alloc, &mut bytes, words)?;
     Ok(bytes)
 }
 
 /// The magic, and what these words stand for behind it.
-pub(crate) fn file(alloc: Global, words: &str) -> Result<Vec<u8>, Fail> {
-    let mut text = Vec::new(alloc);
-    text.extend_from_slice(b"KSIMIRR1")?;
-    text.extend_from_slice(&bytes(alloc, words)?)?;
+fn file(alloc: Global, words: &str) -> Result<Vec<u8>, Fail> {
+    let mut text = b"KSIMIRR1".to_vec(alloc)?;
+    push_words(alloc, &mut text, words)?;
     Ok(text)
 }
 
@@ -52,17 +73,17 @@ fn fault_of(alloc: Global, words: &str) -> Result<Option<JournalFault>, Fail> {
     }
 }
 
-/// The bytes of the journal that a mirror of these words makes, or of the refusal's second.
-fn journal_of(alloc: Global, words: &str) -> Result<Vec<u8>, Fail> {
+/// The bytes of the mirror of words that have no fault.
+pub(crate) fn written(alloc: Global, words: &str) -> Result<Bytes, Fail> {
     let mirror = mirror_of(alloc, words)?;
-    match whole::<Sha>(alloc, &mirror) {
-        Ok(journal) => {
-            let mut text = Vec::new(alloc);
-            text.extend_from_slice(write(alloc, &journal)?.as_slice())?;
-            Ok(text)
-        }
-        Err(_) => Ok(Vec::new(alloc)),
-    }
+    Ok(write_mirror(alloc, &mirror)?)
+}
+
+/// Whether the file of these words comes back when it is loaded and written, and how many bytes it has.
+fn comes_back(alloc: Global, words: &str) -> Result<(bool, usize), Fail> {
+    let written = written(alloc, words)?;
+    let text = file(alloc, words)?;
+    Ok((written.as_slice() == text.as_slice(), text.len()))
 }
 
 #[test]
@@ -76,14 +97,25 @@ fn what_is_written_is_loaded(rt: HostRuntime) -> Result<(), Fail> {
             144,
         ),
     ];
-    for (words, size) in ROWS {
-        let text = file(rt.alloc(), words)?;
-        let mirror = mirror_of(rt.alloc(), words)?;
-        let written = write_mirror(rt.alloc(), &mirror)?;
-        let told = (written.as_slice() == text.as_slice(), text.len());
-        same(&rt, words, told, (true, size));
+    for (words, size) in &ROWS {
+        same(&rt, *words, comes_back(rt.alloc(), words)?, (true, *size));
     }
     Ok(())
+}
+
+/// Whether the bytes of a journal are what these words stand for.
+fn is_written(alloc: Global, journal: &Journal<Sha>, words: &str) -> Result<bool, Fail> {
+    let text = write(alloc, journal)?;
+    let want = bytes(alloc, words)?;
+    Ok(text.as_slice() == want.as_slice())
+}
+
+/// Whether a mirror makes the journal of these words, or is refused where there are none.
+fn makes(alloc: Global, mirror: &Mirror, want: &str) -> Result<bool, Fail> {
+    match whole::<Sha>(alloc, mirror) {
+        Ok(journal) => is_written(alloc, &journal, want),
+        Err(_) => Ok(want.is_empty()),
+    }
 }
 
 #[test]
@@ -102,10 +134,9 @@ fn the_journal_of_a_mirror(rt: HostRuntime) -> Result<(), Fail> {
             "",
         ),
     ];
-    for (words, want) in ROWS {
-        let told = journal_of(rt.alloc(), words)?;
-        let want = bytes(rt.alloc(), want)?;
-        same(&rt, words, told.as_slice() == want.as_slice(), true);
+    for (words, want) in &ROWS {
+        let mirror = mirror_of(rt.alloc(), words)?;
+        same(&rt, *words, makes(rt.alloc(), &mirror, want)?, true);
     }
     Ok(())
 }

@@ -1,6 +1,6 @@
-use crate::files::{ONE, mirror_of};
+use crate::files::{ONE, mirror_of, written};
 use crate::same::same;
-use ksi_imprint::{Bytes, Imprint};
+use ksi_imprint::{Bytes, Compress, Imprint, Sha};
 use ksi_mirror::{MergeRefusal, Mirror, Refused, merge, write_mirror};
 use std::alloc::Global;
 use std::test::Fail;
@@ -22,41 +22,50 @@ fn pair(alloc: Global, one: &str, two: &str) -> Result<Mirror, Fail> {
     merged(alloc, &one, &two)
 }
 
-/// The bytes of three mirrors, the last of which is merged behind the first two.
-fn left(alloc: Global, words: [&str; 3]) -> Result<Bytes, Fail> {
-    let [one, two, three] = words;
-    let pair = pair(alloc, one, two)?;
-    let three = mirror_of(alloc, three)?;
-    written(alloc, &pair, &three)
-}
-
-/// The bytes of three mirrors, the first of which is merged before the last two.
-fn right(alloc: Global, words: [&str; 3]) -> Result<Bytes, Fail> {
-    let [one, two, three] = words;
-    let one = mirror_of(alloc, one)?;
-    let pair = pair(alloc, two, three)?;
-    written(alloc, &one, &pair)
-}
-
-fn written(alloc: Global, one: &Mirror, two: &Mirror) -> Result<Bytes, Fail> {
+/// The bytes of two mirrors that are merged.
+fn union(alloc: Global, one: &Mirror, two: &Mirror) -> Result<Bytes, Fail> {
     let merged = merged(alloc, one, two)?;
     Ok(write_mirror(alloc, &merged)?)
 }
 
-/// Whether these bytes are a mirror's.
-fn is_mirror(alloc: Global, text: &[u8], words: &str) -> Result<bool, Fail> {
-    let mirror = mirror_of(alloc, words)?;
-    let wanted = write_mirror(alloc, &mirror)?;
-    Ok(wanted.as_slice() == text)
+/// The bytes of three mirrors, the last of which is merged behind the first two.
+fn left(alloc: Global, words: &[&str; 3]) -> Result<Bytes, Fail> {
+    let pair = pair(alloc, words[0], words[1])?;
+    let three = mirror_of(alloc, words[2])?;
+    union(alloc, &pair, &three)
 }
 
-/// Whether three mirrors give this one when they are merged with the last of them behind, or with the first before.
-fn give(alloc: Global, words: [&str; 3], want: &str) -> Result<[bool; 2], Fail> {
+/// The bytes of three mirrors, the first of which is merged before the last two.
+fn right(alloc: Global, words: &[&str; 3]) -> Result<Bytes, Fail> {
+    let one = mirror_of(alloc, words[0])?;
+    let pair = pair(alloc, words[1], words[2])?;
+    union(alloc, &one, &pair)
+}
+
+/// Whether these bytes are a mirror's.
+fn is_mirror(alloc: Global, text: &Bytes, words: &str) -> Result<bool, Fail> {
+    let wanted = written(alloc, words)?;
+    Ok(wanted.as_slice() == text.as_slice())
+}
+
+/// Whether three mirrors give this one when they are merged with the last of them behind.
+fn give_left(alloc: Global, words: &[&str; 3], want: &str) -> Result<bool, Fail> {
     let text = left(alloc, words)?;
-    let is_left = is_mirror(alloc, text.as_slice(), want)?;
+    is_mirror(alloc, &text, want)
+}
+
+/// The same with the first of them before.
+fn give_right(alloc: Global, words: &[&str; 3], want: &str) -> Result<bool, Fail> {
     let text = right(alloc, words)?;
-    let is_right = is_mirror(alloc, text.as_slice(), want)?;
-    Ok([is_left, is_right])
+    is_mirror(alloc, &text, want)
+}
+
+/// Whether they give this one either way.
+fn give(alloc: Global, words: &[&str; 3], want: &str) -> Result<[bool; 2], Fail> {
+    Ok([
+        give_left(alloc, words, want)?,
+        give_right(alloc, words, want)?,
+    ])
 }
 
 #[test]
@@ -74,10 +83,10 @@ fn three_are_merged_in_every_order(rt: HostRuntime) -> Result<(), Fail> {
         [C, A, B],
         [C, B, A],
     ];
-    for words in ROWS {
+    for words in &ROWS {
         same(&rt, "merged", give(rt.alloc(), words, ALL)?, [true; 2]);
     }
-    same(&rt, "once", give(rt.alloc(), [ONE; 3], ONE)?, [true; 2]);
+    same(&rt, "once", give(rt.alloc(), &[ONE; 3], ONE)?, [true; 2]);
     Ok(())
 }
 
@@ -101,10 +110,7 @@ fn two_mirrors_that_differ(rt: HostRuntime) -> Result<(), Fail> {
         "010105 0226 010107 0221 zero 0908 010106 0200 030102 0322 A 00 0322 A 01 0600";
     const SHORT: &str = "010105 0908 010106 0200 030101 0322 A 00 0600";
     const CORE: &str = "010105 0909 010106 020101 030101 0322 B 00 0600";
-    let hex = "e3b0c44298fc1c149afbf4c8996fb92427ae41e4649b934ca495991b7852b855";
-    let a = Imprint::from_hex(hex).unwrap_or(Imprint::ZERO);
-    let hex = "ba7816bf8f01cfea414140de5dae2223b00361a396177a9cb410ff61f20015ad";
-    let b = Imprint::from_hex(hex).unwrap_or(Imprint::ZERO);
+    let (a, b) = (Sha::of(b""), Sha::of(b"abc"));
     let cases = [
         (ONE, OTHER, MergeRefusal::Conflict(1_700_000_000, a, b)),
         (START, FIRST, MergeRefusal::Starts(6, 5)),

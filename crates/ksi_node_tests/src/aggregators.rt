@@ -174,24 +174,21 @@ fn close_upper(rt: &impl Abort, upper: &mut Aggregator<Sha>) {
     submits(rt, upper.close(T), Item::new(root(), 1));
 }
 
-/// That round with its response, and what the step was.
-fn answered(rt: &impl Abort, alloc: Global) -> (Aggregator<Sha>, Result<Step, NoMemory>) {
-    let mut upper = upper(rt, alloc);
-    close_upper(rt, &mut upper);
-    let step = respond(&mut upper, alloc, root());
-    (upper, step)
-}
-
 fn respond_early(rt: &impl Abort, alloc: Global, upper: &mut Aggregator<Sha>) {
     only(rt, respond(upper, alloc, root()), Answer::Nothing);
     close_upper(rt, upper);
     not_issued(rt, upper, 1);
 }
 
-fn respond_twice(rt: &impl Abort, alloc: Global, upper: &mut Aggregator<Sha>) {
+/// The response of the core to the closed round, which is sent on to aggregator 1.
+fn respond_once(rt: &impl Abort, alloc: Global, upper: &mut Aggregator<Sha>) {
     let step = respond(upper, alloc, root());
     let want = (Answer::Done, 1, None);
     same(rt, "the response", told(&step), Some(want));
+}
+
+fn respond_twice(rt: &impl Abort, alloc: Global, upper: &mut Aggregator<Sha>) {
+    respond_once(rt, alloc, upper);
     only(rt, respond(upper, alloc, Imprint::ZERO), Answer::Nothing);
     not_issued(rt, upper, 0);
 }
@@ -204,8 +201,8 @@ fn a_response_is_taken_once_and_after_the_close(rt: HostRuntime) {
 }
 
 /// What a step stores: the second, how many items of a closed round, and the root of a response.
-fn stored(step: &Result<Step, NoMemory>) -> Option<(u64, usize, Option<Imprint>)> {
-    match step {
+fn stored(step: Result<Step, NoMemory>) -> Option<(u64, usize, Option<Imprint>)> {
+    match &step {
         Ok(step) => match &step.fact {
             Some(fact) => Some(stored_for(fact.second, &fact.what)),
             None => None,
@@ -224,23 +221,16 @@ fn stored_for(second: u64, what: &RoundFact) -> (u64, usize, Option<Imprint>) {
 #[test]
 fn a_step_tells_what_it_stores(rt: HostRuntime) {
     let mut upper = upper(&rt, rt.alloc());
-    let steps = [
-        upper.submission(3, T, item(b"c")),
-        upper.close(T),
-        upper.close(T),
-        respond(&mut upper, rt.alloc(), root()),
-        respond(&mut upper, rt.alloc(), Imprint::ZERO),
+    let told = [
+        stored(upper.submission(3, T, item(b"c"))),
+        stored(upper.close(T)),
+        stored(upper.close(T)),
+        stored(respond(&mut upper, rt.alloc(), root())),
+        stored(respond(&mut upper, rt.alloc(), Imprint::ZERO)),
     ];
-    let want = [
-        None,
-        Some((T, 3, None)),
-        None,
-        Some((T, 0, Some(root()))),
-        None,
-    ];
-    for (step, want) in steps.iter().zip(want.iter()) {
-        same(&rt, "stored", stored(step), *want);
-    }
+    let closed = Some((T, 3, None));
+    let answered = Some((T, 0, Some(root())));
+    same(&rt, "stored", told, [None, closed, None, answered, None]);
 }
 
 /// The signature that an aggregator issues, read again.
@@ -304,7 +294,9 @@ fn is_beside(signature: &Option<Signature>) -> bool {
 
 #[test]
 fn a_request_beside_a_submission_is_issued(rt: HostRuntime) {
-    let (upper, _) = answered(&rt, rt.alloc());
+    let mut upper = upper(&rt, rt.alloc());
+    close_upper(&rt, &mut upper);
+    respond_once(&rt, rt.alloc(), &mut upper);
     let signature = issued(rt.alloc(), &upper, 1);
     same(&rt, "issued", is_beside(&signature), true);
 }
@@ -321,20 +313,6 @@ fn is_below(signature: &Option<Signature>) -> bool {
     }
 }
 
-/// The only response that a step sends, to aggregator 1.
-fn sent_down(step: Step) -> Option<Above> {
-    let Step {
-        answer: _,
-        fact: _,
-        sends,
-    } = step;
-    let mut sends = sends.into_vec();
-    match sends.pop() {
-        Some(Send::Response(1, below)) if sends.is_empty() => Some(below),
-        _ => None,
-    }
-}
-
 /// The answer to what is sent down, where that has few chains.
 fn take(lower: &mut Aggregator<Sha>, below: &Above) -> Option<Answer> {
     if below.chains.as_slice().len() > 7 {
@@ -346,21 +324,30 @@ fn take(lower: &mut Aggregator<Sha>, below: &Above) -> Option<Answer> {
     }
 }
 
-fn send_down(rt: &impl Abort, lower: &mut Aggregator<Sha>, step: Step) {
-    let below = sent_down(step);
-    same(rt, "whether it is sent", below.is_some(), true);
-    if let Some(below) = below {
-        same(rt, "taken", take(lower, &below), Some(Answer::Done));
+/// The answer to a step that sends a response to aggregator 1 alone.
+fn take_sent(lower: &mut Aggregator<Sha>, step: &Result<Step, NoMemory>) -> Option<Answer> {
+    match step {
+        Ok(step) => match step.sends.as_slice() {
+            [Send::Response(1, below)] => take(lower, below),
+            _ => None,
+        },
+        Err(_) => None,
     }
+}
+
+/// The step of aggregator 0 at the response to that round.
+fn answered(rt: &impl Abort, alloc: Global) -> Result<Step, NoMemory> {
+    let mut upper = upper(rt, alloc);
+    close_upper(rt, &mut upper);
+    respond(&mut upper, alloc, root())
 }
 
 /// Aggregator 1 with what aggregator 0 sends it.
 fn answered_below(rt: &impl Abort, alloc: Global) -> Aggregator<Sha> {
     let mut lower = lower(rt, alloc);
-    let (_, step) = answered(rt, alloc);
-    if let Ok(step) = step {
-        send_down(rt, &mut lower, step);
-    }
+    let step = answered(rt, alloc);
+    let told = take_sent(&mut lower, &step);
+    same(rt, "taken", told, Some(Answer::Done));
     lower
 }
 

@@ -14,6 +14,8 @@ mod facts;
 #[cfg(test)]
 mod generated;
 #[cfg(test)]
+mod moves;
+#[cfg(test)]
 mod named_items;
 #[cfg(test)]
 mod named_worlds;

@@ -1,6 +1,9 @@
 //! Worlds of requests and aggregators with names.
+use crate::moves::Move::{Close, Deliver, Respond};
+use crate::moves::Reply::Done;
+use crate::moves::{Row, go};
 use crate::same::same;
-use crate::worlds::{T, decide, go, has_indexes, issued, step, world};
+use crate::worlds::{T, decide, has_indexes, issued, step, world};
 use ksi_aggtree::{Item, Name};
 use ksi_imprint::{Compress, Sha};
 use ksi_world::{Answer, Event, World};
@@ -16,13 +19,13 @@ const THREE: &str =
 
 /// The name of a request, the indexes of its signature and how many bytes it has, where an aggregator whose name is `bob`
 /// stands above it: the chain of the core's round has a link for that name, and the own chain one for the request's.
-const ROWS: [(&[u8], &[&[u64]], usize); 2] = [
+static ROWS: [(&[u8], &[&[u64]], usize); 2] = [
     (b"", &[&[3, 1], &[3]], 629),
     (b"al", &[&[3, 3], &[3]], 641),
 ];
 
 /// The same of a request of the lowest of three aggregators.
-const CASCADE: [(&[u8], &[&[u64]]); 2] = [
+static CASCADE: [(&[u8], &[&[u64]]); 2] = [
     (b"", &[&[3, 1, 3, 1], &[3, 1, 3], &[3, 1], &[3]]),
     (b"Z.9_-x", &[&[3, 1, 3, 3], &[3, 1, 3], &[3, 1], &[3]]),
 ];
@@ -35,14 +38,8 @@ fn ask(rt: &impl Abort, world: &mut World<Sha>, aggregator: u32, name: &[u8]) {
 
 /// The request goes up to core 0, and the response down to aggregator 0.
 fn issue(rt: &impl Abort, world: &mut World<Sha>) {
-    const UP: [(Event, Answer, usize); 2] = [
-        (Event::Close(0, T), Answer::Done, 1),
-        (Event::Deliver(0), Answer::Done, 0),
-    ];
-    const DOWN: [(Event, Answer, usize); 2] = [
-        (Event::Respond(0, T), Answer::Done, 1),
-        (Event::Deliver(6), Answer::Done, 0),
-    ];
+    static UP: [Row; 2] = [(Close(0, T), Done, 1), (Deliver(0), Done, 0)];
+    static DOWN: [Row; 2] = [(Respond(0, T), Done, 1), (Deliver(6), Done, 0)];
     go(rt, world, &UP);
     decide(rt, world, 1);
     go(rt, world, &DOWN);
@@ -84,19 +81,19 @@ fn a_name_is_a_link_of_the_chain_above(rt: HostRuntime) -> Result<(), Fail> {
 
 /// The request goes up three aggregators to core 0, and the response down again.
 fn issue_below(rt: &impl Abort, world: &mut World<Sha>) {
-    const UP: [(Event, Answer, usize); 6] = [
-        (Event::Close(2, T), Answer::Done, 1),
-        (Event::Deliver(0), Answer::Done, 0),
-        (Event::Close(1, T), Answer::Done, 1),
-        (Event::Deliver(1), Answer::Done, 0),
-        (Event::Close(0, T), Answer::Done, 1),
-        (Event::Deliver(2), Answer::Done, 0),
+    static UP: [Row; 6] = [
+        (Close(2, T), Done, 1),
+        (Deliver(0), Done, 0),
+        (Close(1, T), Done, 1),
+        (Deliver(1), Done, 0),
+        (Close(0, T), Done, 1),
+        (Deliver(2), Done, 0),
     ];
-    const DOWN: [(Event, Answer, usize); 4] = [
-        (Event::Respond(0, T), Answer::Done, 1),
-        (Event::Deliver(8), Answer::Done, 1),
-        (Event::Deliver(9), Answer::Done, 1),
-        (Event::Deliver(10), Answer::Done, 0),
+    static DOWN: [Row; 4] = [
+        (Respond(0, T), Done, 1),
+        (Deliver(8), Done, 1),
+        (Deliver(9), Done, 1),
+        (Deliver(10), Done, 0),
     ];
     go(rt, world, &UP);
     decide(rt, world, 3);

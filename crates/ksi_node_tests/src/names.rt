@@ -2,7 +2,7 @@ use crate::same::same;
 use ksi_aggtree::Name;
 
 /// A piece of text, and its metadata where it is a name.
-const ROWS: [(&[u8], Option<&[u8]>); 12] = [
+static ROWS: [(&[u8], Option<&[u8]>); 12] = [
     (b"bob", Some(b"\x7e\x02\x01\x01\x01\x04bob\x00")),
     (b"al", Some(b"\x7e\x01\x01\x01\x03al\x00")),
     (b"Z.9_-x", Some(b"\x7e\x01\x01\x01\x07Z.9_-x\x00")),

@@ -1,12 +1,15 @@
 //! Plans in which not all cores vote on each second.
 use crate::cores::{last_vote, only, sends};
+use crate::moves::Move::{Ballot, Close, Deliver, Respond, RestartCore, Seal};
+use crate::moves::Reply::{Done, Nothing};
+use crate::moves::{Row, go};
 use crate::same::same;
-use crate::worlds::{counts, go, issued, kept, request, world};
+use crate::worlds::{counts, issued, kept, request, world};
 use ksi_corenode::Core;
 use ksi_imprint::{Imprint, Sha};
 use ksi_schedule::read_schedule;
 use ksi_synod::SynodMessage;
-use ksi_world::{Answer, Event, World};
+use ksi_world::{Answer, World};
 use std::alloc::Global;
 use std::process::Abort;
 use std::test::Fail;
@@ -80,13 +83,13 @@ fn a_core_asks_the_voters_of_each_second(rt: HostRuntime) -> Result<(), Fail> {
 #[test]
 fn one_voter_decides_for_another_core(rt: HostRuntime) -> Result<(), Fail> {
     let mut world = world(rt.alloc(), ONE_VOTES)?;
-    const ROWS: [(Event, Answer, usize); 6] = [
-        (Event::Seal(0, T), Answer::Done, 0),
-        (Event::Ballot(0, T), Answer::Done, 1),
-        (Event::Deliver(0), Answer::Done, 1),
-        (Event::Deliver(1), Answer::Done, 1),
-        (Event::Deliver(2), Answer::Done, 1),
-        (Event::Deliver(3), Answer::Done, 3),
+    static ROWS: [Row; 6] = [
+        (Seal(0, T), Done, 0),
+        (Ballot(0, T), Done, 1),
+        (Deliver(0), Done, 1),
+        (Deliver(1), Done, 1),
+        (Deliver(2), Done, 1),
+        (Deliver(3), Done, 3),
     ];
     go(&rt, &mut world, &ROWS);
     counts(&rt, &world, [6, 7, 0]);
@@ -96,15 +99,15 @@ fn one_voter_decides_for_another_core(rt: HostRuntime) -> Result<(), Fail> {
 
 /// Ballots of three seconds are open, each among other voters.
 fn open_three(rt: &impl Abort, world: &mut World<Sha>) {
-    const ROWS: [(Event, Answer, usize); 8] = [
-        (Event::Close(0, T), Answer::Done, 1),
-        (Event::Deliver(0), Answer::Done, 0),
-        (Event::Seal(0, T), Answer::Done, 0),
-        (Event::Seal(0, T + 1), Answer::Done, 0),
-        (Event::Seal(2, T + 2), Answer::Done, 0),
-        (Event::Ballot(0, T), Answer::Done, 3),
-        (Event::Ballot(0, T + 1), Answer::Done, 1),
-        (Event::Ballot(2, T + 2), Answer::Done, 2),
+    static ROWS: [Row; 8] = [
+        (Close(0, T), Done, 1),
+        (Deliver(0), Done, 0),
+        (Seal(0, T), Done, 0),
+        (Seal(0, T + 1), Done, 0),
+        (Seal(2, T + 2), Done, 0),
+        (Ballot(0, T), Done, 3),
+        (Ballot(0, T + 1), Done, 1),
+        (Ballot(2, T + 2), Done, 2),
     ];
     request(rt, world, 0, T, b"", Answer::Number(0));
     go(rt, world, &ROWS);
@@ -112,62 +115,62 @@ fn open_three(rt: &impl Abort, world: &mut World<Sha>) {
 
 /// Core 0 restarts with a decree begun on the second second, whose voter has voted.
 fn restart_begun(rt: &impl Abort, world: &mut World<Sha>) {
-    const ROWS: [(Event, Answer, usize); 9] = [
-        (Event::Deliver(1), Answer::Done, 1),
-        (Event::Deliver(4), Answer::Done, 1),
-        (Event::Deliver(5), Answer::Done, 1),
-        (Event::Deliver(7), Answer::Done, 0),
-        (Event::Deliver(8), Answer::Done, 1),
-        (Event::Deliver(9), Answer::Done, 0),
-        (Event::RestartCore(0), Answer::Done, 0),
-        (Event::Deliver(10), Answer::Done, 1),
-        (Event::Deliver(11), Answer::Nothing, 0),
+    static ROWS: [Row; 9] = [
+        (Deliver(1), Done, 1),
+        (Deliver(4), Done, 1),
+        (Deliver(5), Done, 1),
+        (Deliver(7), Done, 0),
+        (Deliver(8), Done, 1),
+        (Deliver(9), Done, 0),
+        (RestartCore(0), Done, 0),
+        (Deliver(10), Done, 1),
+        (Deliver(11), Nothing, 0),
     ];
     go(rt, world, &ROWS);
 }
 
 /// Core 2 goes on with the third second, which the restart does not touch.
 fn decide_last(rt: &impl Abort, world: &mut World<Sha>) {
-    const ROWS: [(Event, Answer, usize); 7] = [
-        (Event::Deliver(6), Answer::Done, 1),
-        (Event::Deliver(12), Answer::Done, 2),
-        (Event::Deliver(13), Answer::Done, 1),
-        (Event::Deliver(14), Answer::Done, 1),
-        (Event::Deliver(15), Answer::Done, 0),
-        (Event::Deliver(16), Answer::Done, 3),
-        (Event::Deliver(18), Answer::Done, 0),
+    static ROWS: [Row; 7] = [
+        (Deliver(6), Done, 1),
+        (Deliver(12), Done, 2),
+        (Deliver(13), Done, 1),
+        (Deliver(14), Done, 1),
+        (Deliver(15), Done, 0),
+        (Deliver(16), Done, 3),
+        (Deliver(18), Done, 0),
     ];
     go(rt, world, &ROWS);
 }
 
 /// Core 0 tries the first second again, and responds once it holds its root.
 fn decide_first(rt: &impl Abort, world: &mut World<Sha>) {
-    const ROWS: [(Event, Answer, usize); 12] = [
-        (Event::Ballot(0, T), Answer::Done, 3),
-        (Event::Deliver(21), Answer::Done, 1),
-        (Event::Deliver(22), Answer::Done, 1),
-        (Event::Deliver(23), Answer::Done, 0),
-        (Event::Deliver(24), Answer::Done, 3),
-        (Event::Deliver(26), Answer::Done, 1),
-        (Event::Deliver(27), Answer::Done, 1),
-        (Event::Deliver(28), Answer::Done, 0),
-        (Event::Deliver(29), Answer::Done, 3),
-        (Event::Deliver(2), Answer::Nothing, 0),
-        (Event::Respond(0, T), Answer::Done, 1),
-        (Event::Deliver(33), Answer::Done, 0),
+    static ROWS: [Row; 12] = [
+        (Ballot(0, T), Done, 3),
+        (Deliver(21), Done, 1),
+        (Deliver(22), Done, 1),
+        (Deliver(23), Done, 0),
+        (Deliver(24), Done, 3),
+        (Deliver(26), Done, 1),
+        (Deliver(27), Done, 1),
+        (Deliver(28), Done, 0),
+        (Deliver(29), Done, 3),
+        (Deliver(2), Nothing, 0),
+        (Respond(0, T), Done, 1),
+        (Deliver(33), Done, 0),
     ];
     go(rt, world, &ROWS);
 }
 
 /// Core 0 tries the next second again: its voter tells the vote that it cast before the restart.
 fn decide_next(rt: &impl Abort, world: &mut World<Sha>) {
-    const ROWS: [(Event, Answer, usize); 6] = [
-        (Event::Ballot(0, T + 1), Answer::Done, 1),
-        (Event::Deliver(34), Answer::Done, 1),
-        (Event::Deliver(35), Answer::Done, 1),
-        (Event::Deliver(36), Answer::Done, 1),
-        (Event::Deliver(37), Answer::Done, 3),
-        (Event::Deliver(17), Answer::Done, 0),
+    static ROWS: [Row; 6] = [
+        (Ballot(0, T + 1), Done, 1),
+        (Deliver(34), Done, 1),
+        (Deliver(35), Done, 1),
+        (Deliver(36), Done, 1),
+        (Deliver(37), Done, 3),
+        (Deliver(17), Done, 0),
     ];
     go(rt, world, &ROWS);
 }

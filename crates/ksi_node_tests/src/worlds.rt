@@ -3,6 +3,9 @@ ghost use Rattle.ksi_aggtree.specs.Names.{IsName};
 ghost use Rattle.ksi_schedule.specs.Plans.{InRange};
 ghost use Rattle.ksi_schedule.specs.Events.{IsEvent};
 
+use crate::moves::Move::{Ballot, Close, Deliver, Respond, Seal};
+use crate::moves::Reply::{Done, Known, Late, Nothing};
+use crate::moves::{Row, go};
 use crate::same::same;
 use ksi_aggtree::{Item, Name};
 use ksi_imprint::{Compress, Imprint, Sha};
@@ -104,13 +107,6 @@ pub(crate) fn step(
     sent: usize,
 ) {
     same(rt, "the event", told(world, event), Some((answer, sent)));
-}
-
-/// The events have these answers and send so many messages each.
-pub(crate) fn go(rt: &impl Abort, world: &mut World<Sha>, rows: &[(Event, Answer, usize)]) {
-    'going: for (event, answer, sent) in rows {
-        step(rt, world, *event, *answer, *sent);
-    }
 }
 
 /// A request of the hash of these bytes.
@@ -293,11 +289,11 @@ fn submit_two(rt: &impl Abort, world: &mut World<Sha>) {
 }
 
 fn answer_two(rt: &impl Abort, world: &mut World<Sha>) {
-    const ROWS: [(Event, Answer, usize); 4] = [
-        (Event::Respond(0, T), Answer::Done, 1),
-        (Event::Deliver(7), Answer::Done, 1),
-        (Event::Deliver(8), Answer::Done, 0),
-        (Event::Deliver(8), Answer::Nothing, 0),
+    static ROWS: [Row; 4] = [
+        (Respond(0, T), Done, 1),
+        (Deliver(7), Done, 1),
+        (Deliver(8), Done, 0),
+        (Deliver(8), Nothing, 0),
     ];
     go(rt, world, &ROWS);
 }
@@ -328,12 +324,12 @@ fn restart_open(rt: &impl Abort, world: &mut World<Sha>) {
 }
 
 fn deliver_again(rt: &impl Abort, world: &mut World<Sha>) {
-    const ROWS: [(Event, Answer, usize); 5] = [
-        (Event::Close(0, T + 1), Answer::Done, 1),
-        (Event::Deliver(0), Answer::Done, 0),
-        (Event::Deliver(0), Answer::Known, 0),
-        (Event::Seal(0, T + 1), Answer::Done, 0),
-        (Event::Deliver(0), Answer::Late, 0),
+    static ROWS: [Row; 5] = [
+        (Close(0, T + 1), Done, 1),
+        (Deliver(0), Done, 0),
+        (Deliver(0), Known, 0),
+        (Seal(0, T + 1), Done, 0),
+        (Deliver(0), Late, 0),
     ];
     go(rt, world, &ROWS);
 }
@@ -357,17 +353,17 @@ fn a_restart_forgets_what_is_open(rt: HostRuntime) -> Result<(), Fail> {
 }
 
 fn try_two_ballots(rt: &impl Abort, world: &mut World<Sha>) {
-    const ROWS: [(Event, Answer, usize); 10] = [
-        (Event::Seal(0, T), Answer::Done, 0),
-        (Event::Seal(2, T), Answer::Done, 0),
-        (Event::Ballot(0, T), Answer::Done, 3),
-        (Event::Ballot(2, T), Answer::Done, 3),
-        (Event::Deliver(0), Answer::Done, 1),
-        (Event::Deliver(1), Answer::Done, 1),
-        (Event::Deliver(6), Answer::Done, 0),
-        (Event::Deliver(7), Answer::Done, 3),
-        (Event::Deliver(4), Answer::Done, 1),
-        (Event::Deliver(9), Answer::Nothing, 0),
+    static ROWS: [Row; 10] = [
+        (Seal(0, T), Done, 0),
+        (Seal(2, T), Done, 0),
+        (Ballot(0, T), Done, 3),
+        (Ballot(2, T), Done, 3),
+        (Deliver(0), Done, 1),
+        (Deliver(1), Done, 1),
+        (Deliver(6), Done, 0),
+        (Deliver(7), Done, 3),
+        (Deliver(4), Done, 1),
+        (Deliver(9), Nothing, 0),
     ];
     go(rt, world, &ROWS);
 }

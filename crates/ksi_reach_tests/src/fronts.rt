@@ -29,46 +29,47 @@ fn calendar_of<C: Compress>(alloc: Global, firsts: &[u8]) -> Result<Calendar<C>,
     Ok(calendar)
 }
 
-/// Makes a front, looks at its imprints, and checks it.
-fn made(
-    rt: &impl Abort,
-    alloc: Global,
-    calendar: &Calendar<Tiny>,
-    row: &(u64, u64, u8, u8, &[u8]),
-) -> Result<(), NoMemory>
-    requires within { row.now.0 ≤ row.now.1 }
-    requires covered { IsTrue (is_covered calendar.now row.now.1) }
-{
-    let (p1, p2, old, new, firsts) = row;
-    let front = prove(alloc, calendar, *p1, *p2)?;
-    let list = front.as_slice();
-    same(rt, "count", list.len(), firsts.len());
-    for (x, first) in list.iter().zip(*firsts) {
-        same(rt, "imprint", *x, named(*first));
-    }
-    same(
-        rt,
-        "check",
-        check::<Tiny>(*p1, *p2, named(*old), named(*new), list),
-        Ok(()),
-    );
-    Ok(())
-}
+/// Both seconds of a front, the first bytes of both roots, and those of its imprints.
+type Made = (u64, u64, u8, u8, &'static [u8]);
 
-/// Both seconds, the first bytes of both roots, and those of the front's imprints.
-static FRONTS: [(u64, u64, u8, u8, &[u8]); 4] = [
+static FRONTS: [Made; 4] = [
     (0, 2, 0x0a, 0x3e, &[0x14, 0x1e]),
     (1, 2, 0x1f, 0x3e, &[0x1e]),
     (2, 3, 0x3e, 0x67, &[0x1e, 0x28, 0x1f]),
     (2, 2, 0x3e, 0x3e, &[]),
 ];
 
+/// Whether a front has the imprints of a row.
+fn has_imprints(front: &[Imprint], row: &Made) -> bool {
+    let mut same = front.len() == row.4.len();
+    for (imprint, first) in front.iter().zip(row.4) {
+        same = same && *imprint == named(*first);
+    }
+    same
+}
+
+/// Whether a front is accepted between the roots of a row.
+fn is_accepted(front: &[Imprint], row: &Made) -> bool
+    requires { row.now.0 ≤ row.now.1 }
+{
+    check::<Tiny>(row.0, row.1, named(row.2), named(row.3), front).is_ok()
+}
+
+/// Whether the front that is made of a calendar is that of a row.
+fn is_made(alloc: Global, calendar: &Calendar<Tiny>, row: &Made) -> Result<bool, NoMemory>
+    requires within { row.now.0 ≤ row.now.1 }
+    requires covered { IsTrue (is_covered calendar.now row.now.1) }
+{
+    let front = prove(alloc, calendar, row.0, row.1)?;
+    Ok(has_imprints(front.as_slice(), row) && is_accepted(front.as_slice(), row))
+}
+
 #[test]
 fn fronts_of_four_seconds(rt: HostRuntime) -> Result<(), Fail> {
     let calendar = calendar_of::<Tiny>(rt.alloc(), &[0x0a, 0x14, 0x1e, 0x28])?;
     for row in &FRONTS {
         assert!(rt; row.0 <= row.1 && row.1 < 4);
-        made(&rt, rt.alloc(), &calendar, row)?;
+        assert!(rt; is_made(rt.alloc(), &calendar, row)?);
     }
     Ok(())
 }
@@ -141,49 +142,52 @@ fn fronts_of_forty_seconds(rt: HostRuntime) -> Result<(), Fail> {
     Ok(())
 }
 
-/// A word for what is shown, and the lengths of both strings of a clash.
-fn word(compared: &Compared) -> (&'static str, usize, usize) {
+/// What a front shows of two calendars, and the lengths of both strings of a clash.
+#[derive(Clone, Copy, PartialEq, Eq)]
+enum Shown {
+    NotAccepted,
+    Equal,
+    Clash(usize, usize),
+}
+
+fn told(compared: &Compared) -> Shown {
     match compared {
-        Compared::NotAccepted(_) => ("not accepted", 0, 0),
-        Compared::Equal => ("equal", 0, 0),
-        Compared::Clash(clash) => (
-            "clash",
-            clash.one.as_slice().len(),
-            clash.two.as_slice().len(),
-        ),
+        Compared::NotAccepted(_) => Shown::NotAccepted,
+        Compared::Equal => Shown::Equal,
+        Compared::Clash(clash) => {
+            Shown::Clash(clash.one.as_slice().len(), clash.two.as_slice().len())
+        }
     }
 }
 
-/// What the front of one imprint, or of none, shows of a calendar of three seconds and an older one, for seconds 1 and 2.
-fn shown(
+/// What the front of so many imprints shows of a calendar of three seconds and an older one, for seconds 1 and 2.
+fn shown_by(
     alloc: Global,
     old: &Calendar<Tiny>,
     new: &[u8],
-    front: &[Imprint],
-) -> Result<(&'static str, usize, usize), NoMemory>
+    imprints: usize,
+) -> Result<Shown, NoMemory>
     requires old { (old.now.start ≡ 0) × (length old.now.roots ≡ 2) }
     requires new { length new.now ≡ 3 }
 {
     let new = calendar_of::<Tiny>(alloc, new)?;
-    Ok(word(&compare(alloc, old, &new, 1, 2, front)?))
+    let front = [named(0x1e)];
+    let front = front.get(..imprints).unwrap_or(&[]);
+    Ok(told(&compare(alloc, old, &new, 1, 2, front)?))
 }
 
 /// The roots of the newer calendar, how many imprints the front has, and what it shows.
-type Row = ([u8; 3], usize, (&'static str, usize, usize));
-
-static ROWS: [Row; 3] = [
-    ([0x14, 0x0a, 0x1e], 1, ("clash", 67, 67)),
-    ([0x0a, 0x14, 0x1e], 1, ("equal", 0, 0)),
-    ([0x0a, 0x14, 0x1e], 0, ("not accepted", 0, 0)),
+static ROWS: [([u8; 3], usize, Shown); 3] = [
+    ([0x14, 0x0a, 0x1e], 1, Shown::Clash(67, 67)),
+    ([0x0a, 0x14, 0x1e], 1, Shown::Equal),
+    ([0x0a, 0x14, 0x1e], 0, Shown::NotAccepted),
 ];
 
 #[test]
 fn two_calendars_of_one_root(rt: HostRuntime) -> Result<(), Fail> {
     let old = calendar_of::<Tiny>(rt.alloc(), &[0x0a, 0x14])?;
-    let front = [named(0x1e)];
     for (new, imprints, want) in &ROWS {
-        let front = front.get(..*imprints).unwrap_or(&[]);
-        same(&rt, *imprints, shown(rt.alloc(), &old, new, front)?, *want);
+        assert!(rt; shown_by(rt.alloc(), &old, new, *imprints)? == *want);
     }
     Ok(())
 }

@@ -12,7 +12,7 @@ use std::test::Fail;
 // A command, how often it calls on the files, how many bytes it saves under "o", and the first three that it puts.
 type Row = (&'static str, u64, Option<usize>, &'static [u8]);
 
-const ROWS: [Row; 20] = [
+static ROWS: [Row; 20] = [
     ("replay f o", 2, Some(766), b"eve"),
     ("sign j 0 o", 2, Some(615), b"sig"),
     ("publish j o", 2, Some(68), b"pub"),
@@ -103,14 +103,14 @@ fn each_failing_call_ends_the_run(rt: HostRuntime) -> Result<(), Fail> {
     hold_each(rt.alloc(), &mut whole, mirrors::ONE)?;
     hold_each(rt.alloc(), &mut whole, NODE)?;
     each_ends(&rt, rt.alloc(), &mut whole, Status::Done, MADE)?;
-    for row in ROWS {
-        each_call_fails(&rt, rt.alloc(), &whole, &row)?;
+    for row in &ROWS {
+        each_call_fails(&rt, rt.alloc(), &whole, row)?;
     }
     Ok(())
 }
 
 /// Each command over files that hold nothing, and how it ends.
-const SURE: [(&str, Status); 20] = [
+static SURE: [(&str, Status); 20] = [
     ("replay s j", Status::Malformed),
     ("sign j 0 o", Status::Malformed),
     ("publish j o", Status::Malformed),
@@ -136,11 +136,11 @@ const SURE: [(&str, Status); 20] = [
 #[test]
 fn over_files_that_do_not_fail_no_run_does(rt: HostRuntime) -> Result<(), Fail> {
     let mut files = SureFiles::new(rt.alloc());
-    for (line, want) in SURE {
+    for (line, want) in &SURE {
         let mut out = SureSink::new(rt.alloc(), 32_767)?;
         let words = words(rt.alloc(), line)?;
         let status = sure_run(rt.alloc(), &words, &mut files, &mut out);
-        same(&rt, line, status, want);
+        same(&rt, *line, status, *want);
     }
     Ok(())
 }

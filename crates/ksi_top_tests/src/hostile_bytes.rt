@@ -39,7 +39,7 @@ fn no_front_of_a_signature_is_one(rt: HostRuntime) -> Result<(), Fail> {
 }
 
 // The elements of the journal begin behind its magic of eight bytes, and its last one ends at 766.
-const JOURNAL: [Cuts; 13] = [
+static JOURNAL: [Cuts; 13] = [
     (0, 7, "malformed 1 J1"),
     (8, 8, "malformed 1 J8 8"),
     (9, 13, "malformed 1 J2 8"),
@@ -59,8 +59,8 @@ const JOURNAL: [Cuts; 13] = [
 fn no_front_of_a_journal_is_one(rt: HostRuntime) -> Result<(), Fail> {
     let files = replayed(&rt, rt.alloc())?;
     let whole = held(&files, "j")?;
-    for cuts in JOURNAL {
-        each_front_is(&rt, rt.alloc(), "publish x o", whole, &cuts)?;
+    for cuts in &JOURNAL {
+        each_front_is(&rt, rt.alloc(), "publish x o", whole, cuts)?;
     }
     Ok(())
 }

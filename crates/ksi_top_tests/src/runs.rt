@@ -222,7 +222,7 @@ fn a_file_that_passes_its_limit_is_too_long(rt: HostRuntime) -> Result<(), Fail>
 
 #[test]
 fn each_status_has_its_number(rt: HostRuntime) {
-    const STATUSES: [Status; 8] = [
+    static STATUSES: [Status; 8] = [
         Status::Done,
         Status::Refused,
         Status::Words,

@@ -6,22 +6,39 @@ use std::alloc::Global;
 use std::process::Abort;
 use std::test::Fail;
 
-// A stands for the SHA-256 of no bytes, B for that of "abc", Z for 32 zero bytes, G and K for the aggregation chain and
-// the calendar chain of a signature of A at second 0, T for a second.
+// A stands for the SHA-256 of no bytes, B for that of "abc", Z for 32 zero bytes, T for a second, G and K for the aggregation
+// chain and the calendar chain of a signature of A at second 0.
+static LETTERS: [(char, &str); 6] = [
+    (
+        'A',
+        "e3b0c44298fc1c149afbf4c8996fb92427ae41e4649b934ca495991b7852b855",
+    ),
+    (
+        'B',
+        "ba7816bf8f01cfea414140de5dae2223b00361a396177a9cb410ff61f20015ad",
+    ),
+    (
+        'Z',
+        "0000000000000000000000000000000000000000000000000000000000000000",
+    ),
+    ('T', "1700000000"),
+    (
+        'G',
+        "8801002b0200030101052101e3b0c44298fc1c149afbf4c8996fb92427ae41e4649b934ca495991b7852b855060101",
+    ),
+    (
+        'K',
+        "8802002701000200052101e3b0c44298fc1c149afbf4c8996fb92427ae41e4649b934ca495991b7852b855",
+    ),
+];
+
 fn meant(c: char) -> Option<&'static str> {
-    match c {
-        'A' => Some("e3b0c44298fc1c149afbf4c8996fb92427ae41e4649b934ca495991b7852b855"),
-        'B' => Some("ba7816bf8f01cfea414140de5dae2223b00361a396177a9cb410ff61f20015ad"),
-        'Z' => Some("0000000000000000000000000000000000000000000000000000000000000000"),
-        'T' => Some("1700000000"),
-        'G' => Some(
-            "8801002b0200030101052101e3b0c44298fc1c149afbf4c8996fb92427ae41e4649b934ca495991b7852b855060101",
-        ),
-        'K' => Some(
-            "8802002701000200052101e3b0c44298fc1c149afbf4c8996fb92427ae41e4649b934ca495991b7852b855",
-        ),
-        _ => None,
+    for (letter, text) in &LETTERS {
+        if *letter == c {
+            return Some(*text);
+        }
     }
+    None
 }
 
 // What a letter stands for; one before a digit from 1 to 9 is that of a code and stands for itself.

@@ -170,7 +170,7 @@ fn is_malformed(rt: &impl Abort, alloc: Global, schedule: &str, put: &str) -> Re
 
 #[test]
 fn faults_of_schedules_are_told(rt: HostRuntime) -> Result<(), Fail> {
-    const ROWS: [(&str, &str); 7] = [
+    static ROWS: [(&str, &str); 7] = [
         ("x", "malformed 1 L7 1"),
         (
             "ksi-schedule 2\ncores 3\nstart T\nmembers T c1 c1\n",
@@ -197,7 +197,7 @@ fn faults_of_schedules_are_told(rt: HostRuntime) -> Result<(), Fail> {
             "malformed 1 L1 5",
         ),
     ];
-    for (schedule, put) in ROWS {
+    for (schedule, put) in &ROWS {
         is_malformed(&rt, rt.alloc(), schedule, put)?;
     }
     Ok(())
