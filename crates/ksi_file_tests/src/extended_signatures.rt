@@ -10,7 +10,7 @@ use std::process::Abort;
 use std::test::Fail;
 
 /// The record of second 0, whose hash is that of no bytes, as it is written.
-const RECORD: [u8; 10] = [0x88, 0x03, 0x00, 0x27, 0x10, 0x25, 0x02, 0x00, 0x04, 0x21];
+static RECORD: [u8; 10] = [0x88, 0x03, 0x00, 0x27, 0x10, 0x25, 0x02, 0x00, 0x04, 0x21];
 
 fn hash() -> Imprint {
     match Imprint::read(&S0[15..48]) {
@@ -49,12 +49,18 @@ fn extended(alloc: Global, bytes: &[u8], size: usize) -> Result<Bytes, Refused<W
     with_calendar(alloc, bytes, &calendar(alloc), &published)
 }
 
-/// The same of a view of the bytes.
+/// The same of a view of the bytes, nothing where it is refused.
 fn renewed(alloc: Global, bytes: &[u8]) -> Option<Bytes> {
-    let published = record(alloc, 0).ok()?;
+    match record(alloc, 0) {
+        Ok(published) => renewed_with(alloc, bytes, &published),
+        Err(_) => None,
+    }
+}
+
+fn renewed_with(alloc: Global, bytes: &[u8], published: &PublicationRecord) -> Option<Bytes> {
     let lent = view(bytes).ok()?;
     lent.is_of_its_bytes();
-    lent.with_calendar(alloc, &calendar(alloc), &published).ok()
+    lent.with_calendar(alloc, &calendar(alloc), published).ok()
 }
 
 fn is_extended_to(rt: &impl Abort, alloc: Global, bytes: &[u8], wanted: &[u8]) {
@@ -84,10 +90,10 @@ fn puts_the_record_behind(rt: HostRuntime) -> Result<(), Fail> {
 }
 
 /// What stands before the rest of `S0`'s chain where the chain has flags and its first element a long form.
-const FLAGGED: [u8; 8] = [0xe8, 0x01, 0x00, 0x2d, 0xc0, 0x02, 0x00, 0x00];
+static FLAGGED: [u8; 8] = [0xe8, 0x01, 0x00, 0x2d, 0xc0, 0x02, 0x00, 0x00];
 
 /// An unknown element to be passed on, in a long form.
-const LONG: [u8; 5] = [0xe0, 0x1e, 0x00, 0x01, 0xff];
+static LONG: [u8; 5] = [0xe0, 0x1e, 0x00, 0x01, 0xff];
 
 /// Whether a signature of these parts is extended to one of those, the calendar chain and the record.
 fn extends_to(

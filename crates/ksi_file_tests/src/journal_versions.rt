@@ -31,9 +31,14 @@ fn is_written(alloc: Global, journal: &Journal<Tiny>, text: &[u8]) -> Result<boo
     Ok(written.as_slice() == text)
 }
 
-/// Whether a journal is written as these bytes, whether its text in version 2 is that one, and whether in version 1 it is
-/// that one or is refused.
-fn are_texts(alloc: Global, one: &[u8], two: &[u8], version: Version) -> Result<[bool; 3], Fail> {
+/// How many bytes a journal has in version 2; whether it is written as these bytes, whether its text in version 2 is that
+/// one, and whether in version 1 it is that one or is refused.
+fn are_texts(
+    alloc: Global,
+    one: &[u8],
+    two: &[u8],
+    version: Version,
+) -> Result<(usize, [bool; 3]), Fail> {
     let journal = journal_of(alloc, two)?;
     let own = match version {
         Version::One => one,
@@ -41,15 +46,15 @@ fn are_texts(alloc: Global, one: &[u8], two: &[u8], version: Version) -> Result<
     };
     let written = is_written(alloc, &journal, own)?;
     let in_two = is_in_two(alloc, &journal, two);
-    Ok([written, in_two, is_in_one(alloc, &journal, one, version)])
+    let in_one = is_in_one(alloc, &journal, one, version);
+    Ok((two.len(), [written, in_two, in_one]))
 }
 
-/// How many bytes a journal has in either version, and whether it is written so.
+/// The same of a journal of these words.
 fn writes(alloc: Global, words: &str, version: Version) -> Result<(usize, [bool; 3]), Fail> {
     let one = behind(alloc, ONE, words)?;
     let two = behind(alloc, TWO, words)?;
-    let texts = are_texts(alloc, one.as_slice(), two.as_slice(), version)?;
-    Ok((two.as_slice().len(), texts))
+    are_texts(alloc, one.as_slice(), two.as_slice(), version)
 }
 
 #[test]

@@ -1,6 +1,6 @@
 use crate::same::same;
 use ksi_aggchain::Node;
-use ksi_imprint::{Compress, Imprint, Tiny};
+use ksi_imprint::{Bytes, Compress, Imprint, NoMemory, Tiny};
 use ksi_journal::{Journal, JournalFault, Parts, Refused, load, write};
 use ksi_split::Side;
 use ksi_split::Side::{Left, Right};
@@ -10,9 +10,7 @@ use std::test::Fail;
 
 /// The imprint whose digest has this first byte, and zero bytes behind it.
 pub(crate) fn named(first: u8) -> Imprint {
-    let mut digest = [0; 32];
-    digest[0] = first;
-    Imprint::of_digest(&digest)
+    Tiny::of(&[first])
 }
 
 fn pair() -> Imprint {
@@ -86,14 +84,22 @@ pub(crate) fn journal_of(alloc: Global, text: &[u8]) -> Result<Journal<Tiny>, Fa
     }
 }
 
-fn is_written(
-    rt: &impl Abort,
-    alloc: Global,
-    journal: &Journal<Tiny>,
-    text: &[u8],
-) -> Result<(), Fail> {
-    let written = write(alloc, journal)?;
-    same(rt, "written", written.as_slice(), text);
+/// The journal of these words.
+fn loaded(alloc: Global, words: &str) -> Result<Journal<Tiny>, Fail> {
+    let text = bytes(alloc, words)?;
+    journal_of(alloc, text.as_slice())
+}
+
+/// What is written of the journal that a text is.
+fn rewritten(alloc: Global, text: &[u8]) -> Result<Bytes, Fail> {
+    let journal = journal_of(alloc, text)?;
+    Ok(write(alloc, &journal)?)
+}
+
+fn is_written_again(rt: &impl Abort, alloc: Global, words: &str) -> Result<(), Fail> {
+    let text = bytes(alloc, words)?;
+    let written = rewritten(alloc, text.as_slice())?;
+    same(rt, "written", written.as_slice(), text.as_slice());
     Ok(())
 }
 
@@ -116,16 +122,16 @@ fn first_missing(rt: &impl Abort, journal: &Journal<Tiny>, rows: &[(u64, Option<
 
 #[test]
 fn the_empty_journal_is_sixteen_bytes(rt: HostRuntime) -> Result<(), Fail> {
-    let text = bytes(rt.alloc(), "4b53494a524e4c31 01046553f100 0600")?;
-    let journal = journal_of(rt.alloc(), text.as_slice())?;
-    const MISSING: [(u64, Option<u64>); 2] = [
+    const WORDS: &str = "4b53494a524e4c31 01046553f100 0600";
+    static MISSING: [(u64, Option<u64>); 2] = [
         (1_700_000_000, Some(1_700_000_000)),
         (1_699_999_999, None),
     ];
+    let journal = loaded(rt.alloc(), WORDS)?;
     same(&rt, "start", journal.start(), 1_700_000_000);
     same(&rt, "root", journal.root(1_700_000_000), None);
     first_missing(&rt, &journal, &MISSING);
-    is_written(&rt, rt.alloc(), &journal, text.as_slice())
+    is_written_again(&rt, rt.alloc(), WORDS)
 }
 
 fn holds_two_roots(rt: &impl Abort, journal: &Journal<Tiny>) {
@@ -136,7 +142,7 @@ fn holds_two_roots(rt: &impl Abort, journal: &Journal<Tiny>) {
         (8, Some(pair())),
     ];
     roots(rt, journal, &rows);
-    const MISSING: [(u64, Option<u64>); 2] = [(6, None), (9, Some(7))];
+    static MISSING: [(u64, Option<u64>); 2] = [(6, None), (9, Some(7))];
     first_missing(rt, journal, &MISSING);
 }
 
@@ -187,15 +193,14 @@ fn holds_two_trees(rt: &impl Abort, journal: &Journal<Tiny>) {
 fn what_is_loaded_is_written_again(rt: HostRuntime) -> Result<(), Fail> {
     const WORDS: &str =
         "4b53494a524e4c31 010105 0229010105 0221 one 030101 0322 one 00 0228010106 0221 zero 0300 0229010108 0221 pair 030102 0322 two 00 0322 three 00 040701000203070809 0526010106 0221 four 0600";
-    let text = bytes(rt.alloc(), WORDS)?;
-    let journal = journal_of(rt.alloc(), text.as_slice())?;
+    let journal = loaded(rt.alloc(), WORDS)?;
     holds_two_roots(&rt, &journal);
     holds_one_publication(&rt, &journal);
     holds_two_trees(&rt, &journal);
-    is_written(&rt, rt.alloc(), &journal, text.as_slice())
+    is_written_again(&rt, rt.alloc(), WORDS)
 }
 
-fn of_nothing(alloc: Global) -> Result<Journal<Tiny>, Fail> {
+fn of_nothing(alloc: Global) -> Result<Journal<Tiny>, NoMemory> {
     let parts = Parts {
         start: 5,
         voters: Vec::new(alloc),
@@ -203,7 +208,7 @@ fn of_nothing(alloc: Global) -> Result<Journal<Tiny>, Fail> {
         issued: Vec::new(alloc),
         publications: Vec::new(alloc),
     };
-    Ok(Journal::new(alloc, parts)?)
+    Journal::new(alloc, parts)
 }
 
 #[test]

@@ -1,7 +1,9 @@
 // Names of aggregators and requests.
 use crate::same::same;
 use crate::schedule_texts::{expanded, have_fault, imprint, is_printed_as, schedule_of};
+use ksi_imprint::Bytes;
 use ksi_schedule::{Actor, Event, LineFault, Name, Parent, Schedule, ScheduleFault, print};
+use std::alloc::Global;
 use std::process::Abort;
 use std::test::Fail;
 
@@ -9,7 +11,7 @@ use std::test::Fail;
 #[test]
 fn each_line_with_a_name_has_its_fault(rt: HostRuntime) -> Result<(), Fail> {
     const HEADER: &str = "ksi-schedule 2|cores 2|start 100|aggregator 0 parent c0|";
-    const ROWS: [(&str, Option<ScheduleFault>); 8] = [
+    static ROWS: [(&str, Option<ScheduleFault>); 8] = [
         (
             "request 0 100 #;request 0 100 # al;request 0 100 # A.b_c-9;request 0 100 # *;aggregator 1 parent a0 name bob|aggregator 2 parent c1 name *|request 2 100 # 7|request 1 100 #",
             None,
@@ -43,8 +45,8 @@ fn each_line_with_a_name_has_its_fault(rt: HostRuntime) -> Result<(), Fail> {
             Some(ScheduleFault::Line(LineFault::Header, 5)),
         ),
     ];
-    for (texts, fault) in ROWS {
-        have_fault(&rt, rt.alloc(), HEADER, texts, fault)?;
+    for (texts, fault) in &ROWS {
+        have_fault(&rt, rt.alloc(), HEADER, texts, *fault)?;
     }
     have_fault(
         &rt,
@@ -58,7 +60,7 @@ fn each_line_with_a_name_has_its_fault(rt: HostRuntime) -> Result<(), Fail> {
 
 #[test]
 fn each_text_with_a_name_is_printed_in_one_way(rt: HostRuntime) -> Result<(), Fail> {
-    const ROWS: [(&str, &str); 4] = [
+    static ROWS: [(&str, &str); 4] = [
         (
             "ksi-schedule 2|cores 1|start 7|aggregator 00 parent c0|request 00 007 ^ al",
             "ksi-schedule 2|cores 1|start 7|aggregator 0 parent c0|request 0 7 # al|",
@@ -76,7 +78,7 @@ fn each_text_with_a_name_is_printed_in_one_way(rt: HostRuntime) -> Result<(), Fa
             "ksi-schedule 2|cores 3|start 7|members 7 c1|aggregator 0 parent c1 name *|aggregator 1 parent a0|request 1 8 # *|",
         ),
     ];
-    for (text, again) in ROWS {
+    for (text, again) in &ROWS {
         is_printed_as(&rt, rt.alloc(), text, again)?;
     }
     Ok(())
@@ -103,17 +105,21 @@ fn are_named(rt: &impl Abort, schedule: &Schedule) {
     same(rt, "events", schedule.events(), events.as_slice());
 }
 
+/// The names of a text's schedule are those two; what is printed of it.
+fn printed_with_names(rt: &impl Abort, alloc: Global, text: &[u8]) -> Result<Bytes, Fail> {
+    let schedule = schedule_of(alloc, text)?;
+    are_named(rt, &schedule);
+    Ok(print(alloc, &schedule)?)
+}
+
 #[test]
 fn names_without_a_line_of_members_are_read_again(rt: HostRuntime) -> Result<(), Fail> {
     let text = expanded(
         rt.alloc(),
         "ksi-schedule 2|cores 1|start 7|aggregator 0 parent c0 name bob|aggregator 1 parent a0|request 1 7 # al|request 0 8 #|",
     )?;
-    let schedule = schedule_of(rt.alloc(), text.as_slice())?;
-    are_named(&rt, &schedule);
-    let printed = print(rt.alloc(), &schedule)?;
-    let again = schedule_of(rt.alloc(), printed.as_slice())?;
-    are_named(&rt, &again);
+    let printed = printed_with_names(&rt, rt.alloc(), text.as_slice())?;
+    printed_with_names(&rt, rt.alloc(), printed.as_slice())?;
     Ok(())
 }
 

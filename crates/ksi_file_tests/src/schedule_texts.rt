@@ -9,21 +9,31 @@ use std::test::Fail;
 
 const DIGITS: &str = "e3b0c44298fc1c149afbf4c8996fb92427ae41e4649b934ca495991b7852b855";
 
-// A name of 64 letters.
-const LONGEST: &str = "abcdefghijklmnopqrstuvwxyzABCDEFGHIJKLMNOPQRSTUVWXYZ0123456789._";
+// What a sign of a text stands for, each other byte standing for itself: a line feed, 64 hex digits, the same as capitals,
+// and a name of 64 letters.
+static SIGNS: [(u8, &[u8]); 4] = [
+    (b'|', b"\n"),
+    (
+        b'#',
+        b"e3b0c44298fc1c149afbf4c8996fb92427ae41e4649b934ca495991b7852b855",
+    ),
+    (
+        b'^',
+        b"E3B0C44298FC1C149AFBF4C8996FB92427AE41E4649B934CA495991B7852B855",
+    ),
+    (
+        b'*',
+        b"abcdefghijklmnopqrstuvwxyzABCDEFGHIJKLMNOPQRSTUVWXYZ0123456789._",
+    ),
+];
 
-const CAPITALS: &str = "E3B0C44298FC1C149AFBF4C8996FB92427AE41E4649B934CA495991B7852B855";
-
-// A byte of a text in which `|` stands for a line feed, `#` for 64 hex digits, `^` for the same as capitals and `*` for a
-// name of 64 letters.
 pub(crate) fn spelled(byte: &u8) -> &[u8] {
-    match *byte {
-        b'|' => b"\n",
-        b'#' => DIGITS.as_bytes(),
-        b'^' => CAPITALS.as_bytes(),
-        b'*' => LONGEST.as_bytes(),
-        _ => slice::from_ref(byte),
+    for (sign, text) in &SIGNS {
+        if sign == byte {
+            return text;
+        }
     }
+    slice::from_ref(byte)
 }
 
 pub(crate) fn spell(whole: &mut Vec<u8>, text: &str) -> Result<(), NoMemory> {
@@ -73,7 +83,16 @@ pub(crate) fn is_printed_as(
     is_printed(rt, alloc, &schedule, again.as_slice())
 }
 
-// The fault of lines behind those of a header; none where they are read.
+// The fault of a text; none where it is read.
+pub(crate) fn fault_of_text(alloc: Global, text: &[u8]) -> Result<Option<ScheduleFault>, NoMemory> {
+    match read_schedule(alloc, text) {
+        Ok(_) => Ok(None),
+        Err(Refused::Fault(fault)) => Ok(Some(fault)),
+        Err(Refused::NoMemory) => Err(NoMemory),
+    }
+}
+
+// The same of lines behind those of a header.
 pub(crate) fn fault_of(
     alloc: Global,
     header: &str,
@@ -81,11 +100,7 @@ pub(crate) fn fault_of(
 ) -> Result<Option<ScheduleFault>, NoMemory> {
     let mut text = expanded(alloc, header)?;
     spell(&mut text, lines)?;
-    match read_schedule(alloc, text.as_slice()) {
-        Ok(_) => Ok(None),
-        Err(Refused::Fault(fault)) => Ok(Some(fault)),
-        Err(Refused::NoMemory) => Err(NoMemory),
-    }
+    fault_of_text(alloc, text.as_slice())
 }
 
 pub(crate) fn has_fault(

@@ -1,6 +1,6 @@
 use crate::same::same;
 use crate::schedule_texts::{
-    expanded, has_fault, have_fault, imprint, is_printed, is_printed_as, schedule_of,
+    expanded, fault_of_text, has_fault, have_fault, imprint, is_printed, is_printed_as, schedule_of,
 };
 use ksi_schedule::{
     Actor, Event, Events, LineFault, Parent, Parents, Plan, Refused, Schedule, ScheduleFault,
@@ -57,7 +57,7 @@ fn twelve_events_are_read_and_printed_again(rt: HostRuntime) -> Result<(), Fail>
 
 #[test]
 fn each_text_is_printed_in_one_way(rt: HostRuntime) -> Result<(), Fail> {
-    const ROWS: [(&str, &str); 5] = [
+    static ROWS: [(&str, &str); 5] = [
         (
             "ksi-schedule 1|cores 1|start 0",
             "ksi-schedule 1|cores 1|start 0|",
@@ -79,7 +79,7 @@ fn each_text_is_printed_in_one_way(rt: HostRuntime) -> Result<(), Fail> {
             "ksi-schedule 1|cores 2|start 7|aggregator 0 parent c1|aggregator 1 parent a0|request 1 16777222 #|tell 1 7|restart c1|restart a1|",
         ),
     ];
-    for (text, again) in ROWS {
+    for (text, again) in &ROWS {
         is_printed_as(&rt, rt.alloc(), text, again)?;
     }
     Ok(())
@@ -90,7 +90,7 @@ fn each_text_is_printed_in_one_way(rt: HostRuntime) -> Result<(), Fail> {
 fn each_line_behind_the_header_has_its_fault(rt: HostRuntime) -> Result<(), Fail> {
     const HEADER: &str =
         "ksi-schedule 1|cores 2|start 100|aggregator 0 parent c0|aggregator 1 parent a0|";
-    const ROWS: [(&str, Option<ScheduleFault>); 9] = [
+    static ROWS: [(&str, Option<ScheduleFault>); 9] = [
         (
             "seal 0 100;seal 0 100|;seal 1 16777315;request 1 100 #",
             None,
@@ -128,8 +128,8 @@ fn each_line_behind_the_header_has_its_fault(rt: HostRuntime) -> Result<(), Fail
             Some(ScheduleFault::Line(LineFault::Header, 6)),
         ),
     ];
-    for (texts, fault) in ROWS {
-        have_fault(&rt, rt.alloc(), HEADER, texts, fault)?;
+    for (texts, fault) in &ROWS {
+        have_fault(&rt, rt.alloc(), HEADER, texts, *fault)?;
     }
     Ok(())
 }
@@ -138,7 +138,7 @@ fn each_line_behind_the_header_has_its_fault(rt: HostRuntime) -> Result<(), Fail
 #[test]
 fn each_line_that_says_who_votes_has_its_fault(rt: HostRuntime) -> Result<(), Fail> {
     const HEADER: &str = "ksi-schedule 2|cores 3|start 100|";
-    const ROWS: [(&str, Option<ScheduleFault>); 9] = [
+    static ROWS: [(&str, Option<ScheduleFault>); 9] = [
         (
             ";members 100 c0;members 100 c0 c1 c2|members 16777315 c1|aggregator 0 parent c0|seal 0 100;seal 0 100",
             None,
@@ -176,8 +176,8 @@ fn each_line_that_says_who_votes_has_its_fault(rt: HostRuntime) -> Result<(), Fa
             Some(ScheduleFault::Line(LineFault::Header, 5)),
         ),
     ];
-    for (texts, fault) in ROWS {
-        have_fault(&rt, rt.alloc(), HEADER, texts, fault)?;
+    for (texts, fault) in &ROWS {
+        have_fault(&rt, rt.alloc(), HEADER, texts, *fault)?;
     }
     has_fault(
         &rt,
@@ -198,29 +198,29 @@ fn say_who_votes(alloc: Global, text: &mut Vec<u8>, lines: u64) -> Result<(), Fa
     Ok(())
 }
 
+// The fault of a schedule of so many such lines.
+fn fault_of_voters(alloc: Global, lines: u64) -> Result<Option<ScheduleFault>, Fail> {
+    let mut text = expanded(alloc, "ksi-schedule 2|cores 1|start 0|")?;
+    say_who_votes(alloc, &mut text, lines)?;
+    Ok(fault_of_text(alloc, text.as_slice())?)
+}
+
 #[test]
 fn two_hundred_and_fifty_six_lines_may_say_who_votes(rt: HostRuntime) -> Result<(), Fail> {
-    const LINES: [(u64, Option<ScheduleFault>); 3] = [
+    static LINES: [(u64, Option<ScheduleFault>); 3] = [
         (255, None),
         (256, None),
         (257, Some(ScheduleFault::Line(LineFault::Header, 260))),
     ];
-    for (lines, want) in LINES {
-        let mut text = expanded(rt.alloc(), "ksi-schedule 2|cores 1|start 0|")?;
-        say_who_votes(rt.alloc(), &mut text, lines)?;
-        let read = read_schedule(rt.alloc(), text.as_slice());
-        let fault = match read {
-            Err(Refused::Fault(fault)) => Some(fault),
-            _ => None,
-        };
-        same(&rt, "fault", fault, want);
+    for (lines, want) in &LINES {
+        same(&rt, *lines, fault_of_voters(rt.alloc(), *lines)?, *want);
     }
     Ok(())
 }
 
 #[test]
 fn each_line_of_the_header_has_its_fault(rt: HostRuntime) -> Result<(), Fail> {
-    const ROWS: [(&str, &str, Option<ScheduleFault>); 4] = [
+    static ROWS: [(&str, &str, Option<ScheduleFault>); 4] = [
         (
             "",
             ";|;ksi-schedule 3|cores 1|start 0;ksi-schedule 2 |cores 1|start 0;ksi-schedule  1|cores 1|start 0;ksi-schedule 01|cores 1|start 0;cores 1|start 0",
@@ -238,8 +238,8 @@ fn each_line_of_the_header_has_its_fault(rt: HostRuntime) -> Result<(), Fail> {
         ),
         ("ksi-schedule 1|cores 1", "|start 9223372036837998592", None),
     ];
-    for (header, texts, fault) in ROWS {
-        have_fault(&rt, rt.alloc(), header, texts, fault)?;
+    for (header, texts, fault) in &ROWS {
+        have_fault(&rt, rt.alloc(), header, texts, *fault)?;
     }
     Ok(())
 }
@@ -248,7 +248,7 @@ fn each_line_of_the_header_has_its_fault(rt: HostRuntime) -> Result<(), Fail> {
 fn eight_aggregators_may_stand_above_one_another(rt: HostRuntime) -> Result<(), Fail> {
     const CHAIN: &str =
         "ksi-schedule 1|cores 1|start 0|aggregator 0 parent c0|aggregator 1 parent a0|aggregator 2 parent a1|aggregator 3 parent a2|aggregator 4 parent a3|aggregator 5 parent a4|aggregator 6 parent a5|aggregator 7 parent a6|";
-    const ROWS: [(&str, Option<ScheduleFault>); 3] = [
+    static ROWS: [(&str, Option<ScheduleFault>); 3] = [
         ("", None),
         (
             "aggregator 8 parent a7|",
@@ -256,8 +256,8 @@ fn eight_aggregators_may_stand_above_one_another(rt: HostRuntime) -> Result<(), 
         ),
         ("aggregator 8 parent a6|", None),
     ];
-    for (lines, fault) in ROWS {
-        has_fault(&rt, rt.alloc(), CHAIN, lines, fault)?;
+    for (lines, fault) in &ROWS {
+        has_fault(&rt, rt.alloc(), CHAIN, lines, *fault)?;
     }
     Ok(())
 }

@@ -8,7 +8,7 @@ use std::process::Abort;
 use std::test::Fail;
 
 /// One chain and a calendar chain without links, all of second 0; each hash is that of no bytes.
-pub(crate) const S0: [u8; 94] = [
+pub(crate) static S0: [u8; 94] = [
     0x88, 0x00, 0x00, 0x5a, 0x88, 0x01, 0x00, 0x2b, 0x02, 0x00, 0x03, 0x01, 0x01, 0x05, 0x21, 0x01,
     0xe3, 0xb0, 0xc4, 0x42, 0x98, 0xfc, 0x1c, 0x14, 0x9a, 0xfb, 0xf4, 0xc8, 0x99, 0x6f, 0xb9, 0x24,
     0x27, 0xae, 0x41, 0xe4, 0x64, 0x9b, 0x93, 0x4c, 0xa4, 0x95, 0x99, 0x1b, 0x78, 0x52, 0xb8, 0x55,
@@ -37,7 +37,7 @@ fn changed(place: usize, byte: u8) -> [u8; 94] {
 
 #[test]
 fn answers_the_first_fault(rt: HostRuntime) {
-    const ROWS: [(usize, u8, SignatureFault); 9] = [
+    static ROWS: [(usize, u8, SignatureFault); 9] = [
         (7, 0xff, SignatureFault::Tlv(4)),
         (9, 0x29, SignatureFault::Number(8)),
         (9, 0x2a, SignatureFault::Tlv(8)),
@@ -48,8 +48,8 @@ fn answers_the_first_fault(rt: HostRuntime) {
         (48, 0x1e, SignatureFault::UnknownCritical(0x1e, 48)),
         (1, 0x01, SignatureFault::NotSignature(0x801)),
     ];
-    for (place, byte, want) in ROWS {
-        same(&rt, place, check(&changed(place, byte)), Err(want));
+    for (place, byte, want) in &ROWS {
+        same(&rt, *place, check(&changed(*place, *byte)), Err(*want));
     }
 }
 
@@ -81,7 +81,7 @@ fn has_fault(
 
 #[test]
 fn links_have_one_sibling(rt: HostRuntime) -> Result<(), Fail> {
-    const ROWS: [(&[u8], Result<(), SignatureFault>); 6] = [
+    static ROWS: [(&[u8], Result<(), SignatureFault>); 6] = [
         (&[0x03, 0x01, 0xff], Ok(())),
         (&[], Err(SignatureFault::Sibling(51))),
         (&[0x03, 0x00], Err(SignatureFault::Sibling(53))),
@@ -95,8 +95,8 @@ fn links_have_one_sibling(rt: HostRuntime) -> Result<(), Fail> {
         ),
         (&[0x01, 0x02, 0x01, 0x00], Err(SignatureFault::Number(53))),
     ];
-    for (body, want) in ROWS {
-        has_fault(&rt, rt.alloc(), body, want)?;
+    for (body, want) in &ROWS {
+        has_fault(&rt, rt.alloc(), body, *want)?;
     }
     Ok(())
 }

@@ -12,7 +12,7 @@ use std::test::Fail;
 
 #[test]
 fn answers_the_first_fault(rt: HostRuntime) {
-    const ROWS: [(&[u8], SignatureFault); 3] = [
+    static ROWS: [(&[u8], SignatureFault); 3] = [
         (&[], SignatureFault::Tlv(0)),
         (
             &[0x88, 0x01, 0x00, 0x00],
@@ -20,8 +20,8 @@ fn answers_the_first_fault(rt: HostRuntime) {
         ),
         (&[0x88, 0x00, 0x00, 0x00], SignatureFault::Missing(0x801, 0)),
     ];
-    for (bytes, want) in ROWS {
-        same(&rt, bytes.len(), view(bytes).err(), Some(want));
+    for (bytes, want) in &ROWS {
+        same(&rt, bytes.len(), view(bytes).err(), Some(*want));
     }
     same(
         &rt,
@@ -53,37 +53,43 @@ fn first_three(mut parts: IndexParts<'_>) -> (Option<u64>, Option<u64>, Option<u
     (parts.next(), parts.next(), parts.next())
 }
 
-fn shows_chains(rt: &impl Abort, chains: &[ChainView<'_>]) {
-    const ROWS: [Row<'static>; 2] = [(5, 2, 0, Some(b"abc"), 2), (0, 1, 1, None, 0)];
-    same(rt, "chains", chains.len(), 2);
-    for (place, want) in ROWS.into_iter().enumerate() {
-        if place < chains.len() {
-            same(rt, place, row_of(&chains[place]), want);
-            same(rt, "input", is_hash(&chains[place].input()), true);
-        }
-    }
+fn shows_chain(rt: &impl Abort, chain: &ChainView<'_>, want: Row<'static>) {
+    same(rt, "chain", row_of(chain), want);
+    same(rt, "input", is_hash(&chain.input()), true);
 }
 
-fn shows_index(rt: &impl Abort, chains: &[ChainView<'_>]) {
-    if let [low, high] = chains {
-        same(
-            rt,
-            "low",
-            first_three(low.index()),
-            (Some(300), Some(0), None),
-        );
-        same(rt, "high", first_three(high.index()), (Some(1), None, None));
-    }
+fn shows_both(rt: &impl Abort, low: &ChainView<'_>, high: &ChainView<'_>) {
+    shows_chain(rt, low, (5, 2, 0, Some(b"abc"), 2));
+    shows_chain(rt, high, (0, 1, 1, None, 0));
+}
+
+fn shows_index(rt: &impl Abort, low: &ChainView<'_>, high: &ChainView<'_>) {
+    let parts = (Some(300), Some(0), None);
+    same(rt, "low", first_three(low.index()), parts);
+    same(rt, "high", first_three(high.index()), (Some(1), None, None));
+}
+
+/// Whether a link is so.
+fn is_link(link: &LinkView<'_>, side: Side, correction: u8, sibling: &[u8]) -> bool {
+    (link.side, link.correction, link.sibling) == (side, correction, sibling)
 }
 
 /// A raw sibling on the left, two levels up, and metadata on the right.
-fn shows_links(rt: &impl Abort, links: &[LinkView<'_>]) {
-    const ROWS: [(Side, u8, &[u8]); 2] = [(Side::Left, 2, &[0xff]), (Side::Right, 0, &[1, 2])];
-    for (place, want) in ROWS.into_iter().enumerate() {
-        if place < links.len() {
-            let link = links[place];
-            same(rt, place, (link.side, link.correction, link.sibling), want);
+fn are_two_links(links: &[LinkView<'_>]) -> bool {
+    match links {
+        [raw, metadata] => {
+            is_link(raw, Side::Left, 2, &[0xff]) && is_link(metadata, Side::Right, 0, &[1, 2])
         }
+        _ => false,
+    }
+}
+
+fn shows_chains(rt: &impl Abort, chains: &[ChainView<'_>]) {
+    same(rt, "chains", chains.len(), 2);
+    if let [low, high] = chains {
+        shows_both(rt, low, high);
+        shows_index(rt, low, high);
+        same(rt, "links", are_two_links(low.links().as_slice()), true);
     }
 }
 
@@ -113,8 +119,6 @@ fn shows_record(rt: &impl Abort, publication: Option<RecordView<'_>>) {
 
 fn shows_two_chains(rt: &impl Abort, view: &SignatureView<'_>) {
     shows_chains(rt, view.chains());
-    shows_index(rt, view.chains());
-    shows_links(rt, view.chains()[0].links().as_slice());
     shows_calendar(rt, view.calendar());
     shows_record(rt, view.publication());
 }

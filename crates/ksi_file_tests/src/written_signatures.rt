@@ -43,7 +43,7 @@ fn hash_is_rewritten(rt: &impl Abort, alloc: Global, front: &[u8]) -> Result<(),
 
 #[test]
 fn writes_what_it_read(rt: HostRuntime) -> Result<(), Fail> {
-    const LINKS: [(&[u8], &[u8]); 3] = [
+    static LINKS: [(&[u8], &[u8]); 3] = [
         (&[0x03, 0x01, 0xff], &[0x03, 0x01, 0xff]),
         (&[0x01, 0x00, 0x04, 0x01, 0x05], &[0x04, 0x01, 0x05]),
         (
@@ -53,7 +53,7 @@ fn writes_what_it_read(rt: HostRuntime) -> Result<(), Fail> {
     ];
     hash_is_rewritten(&rt, rt.alloc(), &[0x02, 0x21])?;
     hash_is_rewritten(&rt, rt.alloc(), &[0x01, 0x01, 0xff, 0x02, 0x21])?;
-    for (link, wanted) in LINKS {
+    for (link, wanted) in &LINKS {
         link_is_rewritten(&rt, rt.alloc(), link, wanted)?;
     }
     Ok(())
@@ -114,25 +114,24 @@ fn with_input(alloc: Global, size: usize) -> Result<Signature, NoMemory> {
     })
 }
 
-fn written_size(
-    alloc: Global,
-    size: usize,
-) -> Result<Result<usize, Refused<WriteRefusal>>, NoMemory> {
+fn written_size(alloc: Global, size: usize) -> Result<usize, Refused<WriteRefusal>> {
     let signature = with_input(alloc, size)?;
-    Ok(write(alloc, &signature).map(|bytes| bytes.as_slice().len()))
+    match write(alloc, &signature) {
+        Ok(bytes) => Ok(bytes.as_slice().len()),
+        Err(refused) => Err(refused),
+    }
 }
 
 /// The chain has 47 bytes beside the input data, and the signature 4 beside the chain.
 #[test]
-fn the_first_body_above_the_limit_is_too_long(rt: HostRuntime) -> Result<(), Fail> {
-    const ROWS: [(usize, Result<usize, Refused<WriteRefusal>>); 4] = [
+fn the_first_body_above_the_limit_is_too_long(rt: HostRuntime) {
+    static ROWS: [(usize, Result<usize, Refused<WriteRefusal>>); 4] = [
         (65_484, Ok(65_539)),
         (65_485, Err(Refused::Fault(WriteRefusal::TooLong(65_536)))),
         (65_489, Err(Refused::Fault(WriteRefusal::TooLong(65_536)))),
         (70_000, Err(Refused::Fault(WriteRefusal::TooLong(70_000)))),
     ];
-    for (size, wanted) in ROWS {
-        same(&rt, size, written_size(rt.alloc(), size)?, wanted);
+    for (size, wanted) in &ROWS {
+        same(&rt, *size, written_size(rt.alloc(), *size), *wanted);
     }
-    Ok(())
 }
