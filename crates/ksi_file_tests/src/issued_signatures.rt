@@ -1,37 +1,29 @@
+// Signatures that are issued from the links of a round and what stands above it.
 ghost use Rattle.std.specs.Prelude.{IfOk};
 ghost use Rattle.ksi_signature.specs.Above.{IsNode, IsNameLink};
 
-use crate::same::same;
-use crate::signatures::{S0, joined};
+use crate::text::{hash, is_text};
 use ksi_aggchain::{Link, Sibling};
 use ksi_calchain::CalendarLink;
 use ksi_imprint::{Bytes, Imprint, NoMemory};
-use ksi_signature::{
-    Above, AboveChain, AboveChains, AboveLinks, AggregationChain, CalendarChain, CalendarLinks,
-    Signature, issue, read,
-};
+use ksi_signature::{Above, AboveChain, AboveChains, AboveLinks, CalendarLinks, issue};
 use ksi_split::Side;
 use std::alloc::Global;
-use std::process::Abort;
 use std::test::Fail;
 
-fn hash() -> Imprint {
-    match Imprint::read(&S0[15..48]) {
-        Ok(imprint) => imprint,
-        Err(_) => Imprint::ZERO,
+/// No chain and no link above the round of the hash of no bytes.
+fn nothing(alloc: Global) -> Above {
+    Above {
+        root: hash(),
+        chains: AboveChains::from_vec(Vec::new(alloc)),
+        calendar: CalendarLinks::from_vec(Vec::new(alloc)),
     }
 }
 
 #[test]
 fn issues_without_links(rt: HostRuntime) -> Result<(), Fail> {
-    let above = Above {
-        root: hash(),
-        chains: AboveChains::from_vec(Vec::new(rt.alloc())),
-        calendar: CalendarLinks::from_vec(Vec::new(rt.alloc())),
-    };
-    let bytes = issue(rt.alloc(), 0, &hash(), &[], &above)?;
-    same(&rt, "issued", bytes.as_slice(), &S0);
-    Ok(())
+    let text = issue(rt.alloc(), 0, &hash(), &[], &nothing(rt.alloc()))?;
+    is_text(&rt, rt.alloc(), "issued = 8800005a G K", text.as_slice())
 }
 
 /// The metadata of the name `al`.
@@ -47,23 +39,14 @@ fn link_of_al(alloc: Global) -> Result<Link, NoMemory>
     })
 }
 
+const NAMED: &str =
+    "issued = 88000066 88010037 0200 030103 0521 A 060101 070a 0408 7e01010103616c00 K";
+
 #[test]
 fn issues_an_item_with_a_name(rt: HostRuntime) -> Result<(), Fail> {
-    let above = Above {
-        root: hash(),
-        chains: AboveChains::from_vec(Vec::new(rt.alloc())),
-        calendar: CalendarLinks::from_vec(Vec::new(rt.alloc())),
-    };
-    let mut links = Vec::new(rt.alloc());
-    links.push(link_of_al(rt.alloc())?)?;
-    let bytes = issue(rt.alloc(), 0, &hash(), links.as_slice(), &above)?;
-    let head = [
-        0x88, 0x00, 0x00, 0x66, 0x88, 0x01, 0x00, 0x37, 0x02, 0x00, 0x03, 0x01, 0x03,
-    ];
-    let link = [0x07, 0x0a, 0x04, 0x08];
-    let wanted = joined(rt.alloc(), &[&head, &S0[13..51], &link, &AL, &S0[51..]])?;
-    same(&rt, "issued", bytes.as_slice(), wanted.as_slice());
-    Ok(())
+    let links = [link_of_al(rt.alloc())?];
+    let text = issue(rt.alloc(), 0, &hash(), &links, &nothing(rt.alloc()))?;
+    is_text(&rt, rt.alloc(), NAMED, text.as_slice())
 }
 
 fn link(side: Side, correction: u8) -> Link
@@ -104,65 +87,13 @@ fn above_both(alloc: Global) -> Result<Above, NoMemory> {
     })
 }
 
-/// The signature of an item that is a round's only one, read again.
-fn issued(alloc: Global, second: u64, above: &Above) -> Option<Signature> {
-    if second < 9_223_372_036_854_775_808 {
-        let bytes = issue(alloc, second, &hash(), &[], above).ok()?;
-        read(alloc, bytes.as_slice()).ok()
-    } else {
-        None
-    }
-}
-
-/// Whether the chain of second 5 has this index, this input and this first link.
-fn is_chain(
-    chain: &AggregationChain,
-    index: &[u64],
-    input: Imprint,
-    wanted: Option<(Side, u8)>,
-) -> bool {
-    let first = chain.links.as_slice().first();
-    chain.time == 5
-        && chain.index.as_slice() == index
-        && chain.input == input
-        && first.map(|link| (link.side, link.correction)) == wanted
-}
-
-fn are_three_chains(chains: &[AggregationChain]) -> bool {
-    match chains {
-        [own, middle, top] => {
-            is_chain(own, &[3, 2, 1], hash(), None)
-                && is_chain(middle, &[3, 2], Imprint::ZERO, Some((Side::Right, 2)))
-                && is_chain(top, &[3], Imprint::ZERO, Some((Side::Left, 0)))
-        }
-        _ => false,
-    }
-}
-
-fn is_of_second_5(calendar: &CalendarChain) -> bool {
-    (calendar.publication, calendar.time, calendar.input) == (5, 5, Imprint::ZERO)
-        && calendar.links.as_slice().len() == 1
-}
-
-fn is_below_two_chains(rt: &impl Abort, signature: &Signature) {
-    let calendar = signature.calendar.as_ref().is_some_and(is_of_second_5);
-    same(
-        rt,
-        "chains",
-        are_three_chains(signature.chains.as_slice()),
-        true,
-    );
-    same(rt, "calendar", calendar, true);
-    same(rt, "publication", signature.publication.is_none(), true);
-}
+/// Worked out by hand: the item's own chain, the lower and the upper one above it, and the calendar chain.
+const BELOW_TWO: &str =
+    "issued = 88000136 88010032 020105 030103 030102 030101 0521 A 060101 88010057 020105 030103 030102 0521 zero 060101 0826 010102 0221 A 88010051 020105 030103 0521 zero 060101 0723 0221 A 8802004c 010105 020105 0521 zero 0821 A";
 
 #[test]
 fn issues_below_two_chains(rt: HostRuntime) -> Result<(), Fail> {
     let above = above_both(rt.alloc())?;
-    let issued = issued(rt.alloc(), 5, &above);
-    same(&rt, "issued", issued.is_some(), true);
-    if let Some(signature) = issued {
-        is_below_two_chains(&rt, &signature);
-    }
-    Ok(())
+    let text = issue(rt.alloc(), 5, &hash(), &[], &above)?;
+    is_text(&rt, rt.alloc(), BELOW_TWO, text.as_slice())
 }

@@ -1,17 +1,14 @@
-// Schedules as texts: how the tests write them, and what they ask of them.
-use crate::same::same;
-use ksi_imprint::Imprint;
-use ksi_schedule::{NoMemory, Refused, Schedule, ScheduleFault, print, read_schedule};
+// Schedules as rows of text, and what comes of them.
+use crate::text::{is_refused, same, sides};
+use ksi_schedule::{NoMemory, Schedule, print, read_schedule};
 use std::alloc::Global;
 use std::process::Abort;
 use std::slice;
 use std::test::Fail;
 
-const DIGITS: &str = "e3b0c44298fc1c149afbf4c8996fb92427ae41e4649b934ca495991b7852b855";
-
-// What a sign of a text stands for, each other byte standing for itself: a line feed, 64 hex digits, the same as capitals,
-// and a name of 64 letters.
-static SIGNS: [(u8, &[u8]); 4] = [
+/// What a sign of a text stands for, each other byte standing for itself: a line feed, 64 hex digits, the same as capitals, a
+/// name of 64 letters, and a byte that is no text.
+static SIGNS: [(u8, &[u8]); 5] = [
     (b'|', b"\n"),
     (
         b'#',
@@ -25,9 +22,10 @@ static SIGNS: [(u8, &[u8]); 4] = [
         b'*',
         b"abcdefghijklmnopqrstuvwxyzABCDEFGHIJKLMNOPQRSTUVWXYZ0123456789._",
     ),
+    (b'~', b"\xff"),
 ];
 
-pub(crate) fn spelled(byte: &u8) -> &[u8] {
+fn spelled(byte: &u8) -> &[u8] {
     for (sign, text) in &SIGNS {
         if sign == byte {
             return text;
@@ -36,94 +34,64 @@ pub(crate) fn spelled(byte: &u8) -> &[u8] {
     slice::from_ref(byte)
 }
 
-pub(crate) fn spell(whole: &mut Vec<u8>, text: &str) -> Result<(), NoMemory> {
+fn spell(whole: &mut Vec<u8>, text: &str) -> Result<(), NoMemory> {
     for byte in text.as_bytes() {
         whole.extend_from_slice(spelled(byte))?;
     }
     Ok(())
 }
 
-pub(crate) fn expanded(alloc: Global, text: &str) -> Result<Vec<u8>, NoMemory> {
+/// Lines behind those of a header.
+pub(crate) fn spelled_behind(
+    alloc: Global,
+    header: &str,
+    lines: &str,
+) -> Result<Vec<u8>, NoMemory> {
     let mut whole = Vec::new(alloc);
-    spell(&mut whole, text)?;
+    spell(&mut whole, header)?;
+    spell(&mut whole, lines)?;
     Ok(whole)
 }
 
-pub(crate) fn schedule_of(alloc: Global, text: &[u8]) -> Result<Schedule, Fail> {
-    match read_schedule(alloc, text) {
+pub(crate) fn schedule_of(alloc: Global, text: &str) -> Result<Schedule, Fail> {
+    let text = spelled_behind(alloc, text, "")?;
+    match read_schedule(alloc, text.as_slice()) {
         Ok(schedule) => Ok(schedule),
         Err(_) => Err(Fail::from("not read")),
     }
 }
 
-pub(crate) fn is_printed(
+/// A schedule is printed as the lines on the right side of a row behind those of a header.
+fn is_printed(
     rt: &impl Abort,
     alloc: Global,
+    header: &str,
+    row: &str,
     schedule: &Schedule,
-    text: &[u8],
 ) -> Result<(), Fail> {
     let printed = print(alloc, schedule)?;
-    same(rt, "printed", printed.as_slice(), text);
+    let want = spelled_behind(alloc, header, sides(row).1)?;
+    same(rt, row, printed.as_slice(), want.as_slice());
     Ok(())
 }
 
-pub(crate) fn imprint() -> Imprint {
-    Imprint::from_hex(DIGITS).unwrap_or(Imprint::ZERO)
-}
-
-pub(crate) fn is_printed_as(
-    rt: &impl Abort,
-    alloc: Global,
-    text: &str,
-    again: &str,
-) -> Result<(), Fail> {
-    let text = expanded(alloc, text)?;
-    let again = expanded(alloc, again)?;
-    let schedule = schedule_of(alloc, text.as_slice())?;
-    is_printed(rt, alloc, &schedule, again.as_slice())
-}
-
-// The fault of a text; none where it is read.
-pub(crate) fn fault_of_text(alloc: Global, text: &[u8]) -> Result<Option<ScheduleFault>, NoMemory> {
-    match read_schedule(alloc, text) {
-        Ok(_) => Ok(None),
-        Err(Refused::Fault(fault)) => Ok(Some(fault)),
-        Err(Refused::NoMemory) => Err(NoMemory),
+/// The lines on the left side of a row, behind those of a header, are printed as those on its right side, or have that fault.
+fn is_read(rt: &impl Abort, alloc: Global, header: &str, row: &str) -> Result<(), Fail> {
+    let text = spelled_behind(alloc, header, sides(row).0)?;
+    match read_schedule(alloc, text.as_slice()) {
+        Ok(schedule) => is_printed(rt, alloc, header, row, &schedule),
+        Err(refused) => is_refused(rt, alloc, row, Some(refused)),
     }
 }
 
-// The same of lines behind those of a header.
-pub(crate) fn fault_of(
-    alloc: Global,
-    header: &str,
-    lines: &str,
-) -> Result<Option<ScheduleFault>, NoMemory> {
-    let mut text = expanded(alloc, header)?;
-    spell(&mut text, lines)?;
-    fault_of_text(alloc, text.as_slice())
-}
-
-pub(crate) fn has_fault(
+pub(crate) fn are_read(
     rt: &impl Abort,
     alloc: Global,
     header: &str,
-    lines: &str,
-    want: Option<ScheduleFault>,
-) -> Result<(), NoMemory> {
-    same(rt, lines, fault_of(alloc, header, lines)?, want);
-    Ok(())
-}
-
-// The same of texts with `;` between them. One text of many rows is quicker to prove than a table of them.
-pub(crate) fn have_fault(
-    rt: &impl Abort,
-    alloc: Global,
-    header: &str,
-    texts: &str,
-    want: Option<ScheduleFault>,
-) -> Result<(), NoMemory> {
-    for lines in texts.split(';') {
-        has_fault(rt, alloc, header, lines, want)?;
+    rows: &str,
+) -> Result<(), Fail> {
+    for row in rows.lines() {
+        is_read(rt, alloc, header, row)?;
     }
     Ok(())
 }

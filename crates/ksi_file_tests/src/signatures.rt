@@ -1,236 +1,132 @@
-use crate::same::same;
-use ksi_aggchain::{Link, Sibling};
-use ksi_imprint::{Bytes, NoMemory};
-use ksi_signature::{AggregationChain, Signature, SignatureFault, check, read};
-use ksi_split::Side;
+// Signatures: their first faults, and what is written of them.
+use crate::text::{bytes, is_refused, is_so, is_text, same, sides};
+use ksi_imprint::{Bytes, Imprint, NoMemory};
+use ksi_signature::{AggregationChain, Chains, Index, Links, Signature, check, read, view, write};
 use std::alloc::Global;
 use std::process::Abort;
 use std::test::Fail;
 
-/// One chain and a calendar chain without links, all of second 0; each hash is that of no bytes.
-pub(crate) static S0: [u8; 94] = [
-    0x88, 0x00, 0x00, 0x5a, 0x88, 0x01, 0x00, 0x2b, 0x02, 0x00, 0x03, 0x01, 0x01, 0x05, 0x21, 0x01,
-    0xe3, 0xb0, 0xc4, 0x42, 0x98, 0xfc, 0x1c, 0x14, 0x9a, 0xfb, 0xf4, 0xc8, 0x99, 0x6f, 0xb9, 0x24,
-    0x27, 0xae, 0x41, 0xe4, 0x64, 0x9b, 0x93, 0x4c, 0xa4, 0x95, 0x99, 0x1b, 0x78, 0x52, 0xb8, 0x55,
-    0x06, 0x01, 0x01, 0x88, 0x02, 0x00, 0x27, 0x01, 0x00, 0x02, 0x00, 0x05, 0x21, 0x01, 0xe3, 0xb0,
-    0xc4, 0x42, 0x98, 0xfc, 0x1c, 0x14, 0x9a, 0xfb, 0xf4, 0xc8, 0x99, 0x6f, 0xb9, 0x24, 0x27, 0xae,
-    0x41, 0xe4, 0x64, 0x9b, 0x93, 0x4c, 0xa4, 0x95, 0x99, 0x1b, 0x78, 0x52, 0xb8, 0x55,
-];
+/// Bytes and their first fault. Those with `07` before the calendar chain have a link with the body behind it.
+const FAULTS: &str = " = Tlv(0)
+88010000 = NotSignature(2049)
+88000000 = Missing(2049, 0)
+8800005a G 88020027 0100 0200 0521 01e3b0c44298fc1c149afbf4c8996fb92427ae41e4649b934ca495991b7852b8 = Tlv(0)
+8800005a 880100ff 0200 030101 0521 A 060101 K = Tlv(4)
+8800005a 8801002b 0229 030101 0521 A 060101 K = Number(8)
+8800005a 8801002b 022a 030101 0521 A 060101 K = Tlv(8)
+8800005a 8801002b 0200 030101 0522 A 060101 K = Imprint(13)
+8800005a 8801002b 0200 030101 0521 02 D 060101 K = Imprint(13)
+8800005a 8801002b 0200 030101 0521 A 060102 K = Algorithm(2)
+8800005a 8804002b 0200 030101 0521 A 060101 K = RefusedElement(2052, 4)
+8800005a 8801002b 0200 030101 0521 A 1e0101 K = UnknownCritical(30, 48)
+8801005a G K = NotSignature(2049)
+8800005f 88010030 0200 030101 0521 A 060101 0703 0301ff K = None
+8800005c 8801002d 0200 030101 0521 A 060101 0700 K = Sibling(51)
+8800005e 8801002f 0200 030101 0521 A 060101 0702 0300 K = Sibling(53)
+88000061 88010032 0200 030101 0521 A 060101 0705 0301ff 0400 K = Sibling(56)
+88000060 88010031 0200 030101 0521 A 060101 0704 0100 0100 K = Repeated(1, 55)
+88000060 88010031 0200 030101 0521 A 060101 0704 0102 0100 K = Number(53)";
 
-/// The parts one after the other.
-pub(crate) fn joined(alloc: Global, parts: &[&[u8]]) -> Result<Bytes, NoMemory> {
-    let mut bytes = Vec::new(alloc);
-    for part in parts {
-        bytes.extend_from_slice(part)?;
-    }
-    Ok(Bytes::from_vec(bytes))
-}
-
-/// `S0` with another byte at a place.
-fn changed(place: usize, byte: u8) -> [u8; 94] {
-    let mut bytes = S0;
-    if place < 94 {
-        bytes[place] = byte;
-    }
-    bytes
-}
-
-#[test]
-fn answers_the_first_fault(rt: HostRuntime) {
-    static ROWS: [(usize, u8, SignatureFault); 9] = [
-        (7, 0xff, SignatureFault::Tlv(4)),
-        (9, 0x29, SignatureFault::Number(8)),
-        (9, 0x2a, SignatureFault::Tlv(8)),
-        (14, 0x22, SignatureFault::Imprint(13)),
-        (15, 0x02, SignatureFault::Imprint(13)),
-        (50, 0x02, SignatureFault::Algorithm(2)),
-        (5, 0x04, SignatureFault::RefusedElement(0x804, 4)),
-        (48, 0x1e, SignatureFault::UnknownCritical(0x1e, 48)),
-        (1, 0x01, SignatureFault::NotSignature(0x801)),
-    ];
-    for (place, byte, want) in &ROWS {
-        same(&rt, *place, check(&changed(*place, *byte)), Err(*want));
-    }
-}
-
-/// A signature whose chain has one link with this body, of at most 63 bytes.
-pub(crate) fn with_link(alloc: Global, body: &[u8]) -> Result<Bytes, NoMemory> {
-    let size = body.len().min(63) as u8;
-    joined(
-        alloc,
-        &[
-            &[0x88, 0x00, 0x00, 0x5c + size, 0x88, 0x01, 0x00, 0x2d + size],
-            &S0[8..51],
-            &[0x07, size],
-            body,
-            &S0[51..],
-        ],
-    )
-}
-
-fn has_fault(
-    rt: &impl Abort,
-    alloc: Global,
-    body: &[u8],
-    want: Result<(), SignatureFault>,
-) -> Result<(), NoMemory> {
-    let bytes = with_link(alloc, body)?;
-    same(rt, body.len(), check(bytes.as_slice()), want);
-    Ok(())
+/// A check, a view and a reading of a row's bytes have its fault.
+fn has_fault(rt: &impl Abort, alloc: Global, row: &str) -> Result<(), Fail> {
+    let text = bytes(alloc, sides(row).0)?;
+    same(
+        rt,
+        row,
+        check(text.as_slice()).err(),
+        view(text.as_slice()).err(),
+    );
+    is_refused(rt, alloc, row, read(alloc, text.as_slice()).err())
 }
 
 #[test]
-fn links_have_one_sibling(rt: HostRuntime) -> Result<(), Fail> {
-    static ROWS: [(&[u8], Result<(), SignatureFault>); 6] = [
-        (&[0x03, 0x01, 0xff], Ok(())),
-        (&[], Err(SignatureFault::Sibling(51))),
-        (&[0x03, 0x00], Err(SignatureFault::Sibling(53))),
-        (
-            &[0x03, 0x01, 0xff, 0x04, 0x00],
-            Err(SignatureFault::Sibling(56)),
-        ),
-        (
-            &[0x01, 0x00, 0x01, 0x00],
-            Err(SignatureFault::Repeated(1, 55)),
-        ),
-        (&[0x01, 0x02, 0x01, 0x00], Err(SignatureFault::Number(53))),
-    ];
-    for (body, want) in &ROWS {
-        has_fault(&rt, rt.alloc(), body, *want)?;
+fn answers_the_first_fault(rt: HostRuntime) -> Result<(), Fail> {
+    for row in FAULTS.lines() {
+        has_fault(&rt, rt.alloc(), row)?;
     }
-    Ok(())
-}
-
-/// Of the first chain: its time, index and input body.
-fn first_chain(signature: &Signature) -> Option<(u64, &[u64], Option<&[u8]>)> {
-    match signature.chains.as_slice() {
-        [chain, ..] => Some((chain.time, chain.index.as_slice(), body_of(chain))),
-        [] => None,
-    }
-}
-
-fn body_of(chain: &AggregationChain) -> Option<&[u8]> {
-    match &chain.input_body {
-        Some(body) => Some(body.as_slice()),
-        None => None,
-    }
-}
-
-/// Of the calendar chain: both times and the number of links.
-fn calendar(signature: &Signature) -> Option<(u64, u64, usize)> {
-    match &signature.calendar {
-        Some(chain) => Some((chain.publication, chain.time, chain.links.as_slice().len())),
-        None => None,
-    }
-}
-
-/// Of the publication record: its time and the number of references and of repository addresses.
-fn publication(signature: &Signature) -> Option<(u64, usize, usize)> {
-    match &signature.publication {
-        Some(record) => Some((
-            record.time,
-            record.references.as_slice().len(),
-            record.repositories.as_slice().len(),
-        )),
-        None => None,
-    }
-}
-
-/// Whether the links are a raw sibling on the left, two levels up, and metadata on the right.
-fn are_raw_and_metadata(links: &[Link]) -> bool {
-    match links {
-        [raw, metadata] => {
-            (raw.side, raw.correction, raw.sibling.bytes()) == (Side::Left, 2, [0xff].as_slice())
-                && (metadata.side, metadata.correction) == (Side::Right, 0)
-                && metadata.sibling.bytes() == [1, 2].as_slice()
-                && matches!(raw.sibling, Sibling::Legacy(_))
-                && matches!(metadata.sibling, Sibling::Metadata(_))
-        }
-        _ => false,
-    }
-}
-
-/// Whether the longer index comes first.
-fn are_two_chains(chains: &[AggregationChain]) -> bool {
-    match chains {
-        [low, high] => {
-            high.index.as_slice() == [1].as_slice() && are_raw_and_metadata(low.links.as_slice())
-        }
-        _ => false,
-    }
-}
-
-fn says_what_s0_says(rt: &impl Abort, signature: &Signature) {
-    same(rt, "chains", signature.chains.as_slice().len(), 1);
-    same(rt, "chain", first_chain(signature), Some((0, &[1], None)));
-    same(rt, "calendar", calendar(signature), Some((0, 0, 0)));
-    same(rt, "publication", publication(signature), None);
-}
-
-fn is_read_as_s0(rt: &impl Abort, alloc: Global, bytes: &[u8]) {
-    let answer = read(alloc, bytes);
-    same(rt, "read", answer.is_ok(), true);
-    if let Ok(signature) = answer {
-        says_what_s0_says(rt, &signature);
-    }
-}
-
-#[test]
-fn reads_in_any_order(rt: HostRuntime) -> Result<(), Fail> {
-    let turned = joined(rt.alloc(), &[&S0[..4], &S0[51..], &S0[4..51]])?;
-    is_read_as_s0(&rt, rt.alloc(), &S0);
-    is_read_as_s0(&rt, rt.alloc(), turned.as_slice());
     Ok(())
 }
 
 /// Worked out by hand: two chains, of one and of two index parts, a calendar chain without an aggregation time and a
 /// publication record, with unknown elements in each, a long header of a short kind and numbers with zeros before them.
-pub(crate) fn two_chains(alloc: Global) -> Result<Bytes, NoMemory> {
-    joined(
-        alloc,
-        &[
-            &[0x88, 0x00, 0x01, 0x02],
-            &S0[4..51],
-            &[0x88, 0x01, 0x00, 0x4a, 0x80, 0x02, 0x00, 0x02, 0x00, 0x05],
-            &[0x03, 0x03, 0x00, 0x01, 0x2c, 0x03, 0x00],
-            &[0x04, 0x03, 0x61, 0x62, 0x63],
-            &S0[13..51],
-            &[0x07, 0x08, 0x01, 0x01, 0x02, 0x03, 0x01, 0xff, 0x5e, 0x00],
-            &[0x08, 0x04, 0x04, 0x02, 0x01, 0x02, 0x5e, 0x00],
-            &[0x88, 0x02, 0x00, 0x4c, 0x01, 0x01, 0x09],
-            &S0[13..48],
-            &[0x07, 0x21],
-            &S0[15..48],
-            &[0x5e, 0x01, 0x00],
-            &[
-                0x88, 0x03, 0x00, 0x2f, 0x10, 0x26, 0x02, 0x01, 0x09, 0x04, 0x21,
-            ],
-            &S0[15..48],
-            &[0x09, 0x01, 0xaa, 0x0a, 0x00, 0x5e, 0x00, 0x5e, 0x00],
-        ],
-    )
+pub(crate) const TWO_CHAINS: &str =
+    "88000102 G 8801004a 80020002 0005 0303 00012c 0300 0403 616263 0521 A 060101 0708 010102 0301ff 5e00 0804 04020102 5e00 8802004c 010109 0521 A 0721 A 5e0100 8803002f 1026 020109 0421 A 0901aa 0a00 5e00 5e00";
+
+/// The signature of these words.
+pub(crate) fn signature_of(alloc: Global, words: &str) -> Result<Signature, Fail> {
+    let text = bytes(alloc, words)?;
+    match read(alloc, text.as_slice()) {
+        Ok(signature) => Ok(signature),
+        Err(_) => Err(Fail::from("it is not read")),
+    }
 }
 
-fn says_two_chains(rt: &impl Abort, signature: &Signature) {
-    const CHAIN: (u64, &[u64], Option<&[u8]>) = (5, &[300, 0], Some(b"abc"));
-    same(rt, "chain", first_chain(signature), Some(CHAIN));
-    same(
-        rt,
-        "chains",
-        are_two_chains(signature.chains.as_slice()),
-        true,
-    );
-    same(rt, "calendar", calendar(signature), Some((9, 9, 1)));
-    same(rt, "publication", publication(signature), Some((9, 1, 1)));
+/// Signatures that are read, and what is written of them: it stands in the order of the format, without what is unknown.
+const WRITTEN: &str = "8800005a G K = 8800005a G K
+88000102 G 8801004a 80020002 0005 0303 00012c 0300 0403 616263 0521 A 060101 0708 010102 0301ff 5e00 0804 04020102 5e00 8802004c 010109 0521 A 0721 A 5e0100 8803002f 1026 020109 0421 A 0901aa 0a00 5e00 5e00 = 880000f6 88010042 020105 0302012c 0300 0403616263 0521 A 060101 0706 010102 0301ff 0804 04020102 G 8802004c 010109 020109 0521 A 0721 A 8803002d 1026 020109 0421 A 0901aa 0a00
+880000f6 88010042 020105 0302012c 0300 0403616263 0521 A 060101 0706 010102 0301ff 0804 04020102 G 8802004c 010109 020109 0521 A 0721 A 8803002d 1026 020109 0421 A 0901aa 0a00 = 880000f6 88010042 020105 0302012c 0300 0403616263 0521 A 060101 0706 010102 0301ff 0804 04020102 G 8802004c 010109 020109 0521 A 0721 A 8803002d 1026 020109 0421 A 0901aa 0a00
+8800007f 88010050 0200 030101 0521 A 060101 0723 0221 A K = 8800007f 88010050 0200 030101 0521 A 060101 0723 0221 A K
+88000082 88010053 0200 030101 0521 A 060101 0726 0101ff 0221 A K = 88000082 88010053 0200 030101 0521 A 060101 0726 0101ff 0221 A K
+8800005f 88010030 0200 030101 0521 A 060101 0703 0301ff K = 8800005f 88010030 0200 030101 0521 A 060101 0703 0301ff K
+88000061 88010032 0200 030101 0521 A 060101 0705 0100 040105 K = 8800005f 88010030 0200 030101 0521 A 060101 0703 040105 K
+88000063 88010034 0200 030101 0521 A 060101 0707 0301ff 01020007 K = 88000062 88010033 0200 030101 0521 A 060101 0706 010107 0301ff K";
+
+/// What is written of a signature are the words on the right side of a row.
+fn is_written(rt: &impl Abort, alloc: Global, row: &str) -> Result<(), Fail> {
+    let signature = signature_of(alloc, sides(row).0)?;
+    match write(alloc, &signature) {
+        Ok(text) => is_text(rt, alloc, row, text.as_slice()),
+        Err(refused) => is_so(rt, alloc, row, refused),
+    }
 }
 
 #[test]
-fn reads_what_each_element_says(rt: HostRuntime) -> Result<(), Fail> {
-    let bytes = two_chains(rt.alloc())?;
-    let answer = read(rt.alloc(), bytes.as_slice());
-    same(&rt, "read", answer.is_ok(), true);
-    if let Ok(signature) = answer {
-        says_two_chains(&rt, &signature);
+fn writes_in_the_order_of_the_format(rt: HostRuntime) -> Result<(), Fail> {
+    for row in WRITTEN.lines() {
+        is_written(&rt, rt.alloc(), row)?;
+    }
+    Ok(())
+}
+
+/// One chain with so many bytes of input data and nothing else.
+fn with_input(alloc: Global, size: usize) -> Result<Signature, NoMemory> {
+    let mut parts = Vec::new(alloc);
+    parts.push(1)?;
+    let chain = AggregationChain {
+        time: 0,
+        index: Index::from_vec(parts),
+        input_body: Some(Bytes::from_vec(vec![in alloc; 0; size]?)),
+        input: Imprint::ZERO,
+        links: Links::from_vec(Vec::new(alloc)),
+    };
+    let mut chains = Vec::new(alloc);
+    chains.push(chain)?;
+    Ok(Signature {
+        chains: Chains::from_vec(chains),
+        calendar: None,
+        publication: None,
+    })
+}
+
+/// How many bytes the input data has, and the whole signature: the chain has 47 bytes beside the input data, and the signature
+/// 4 beside the chain.
+const SIZES: &str = "65484 = 65539
+65485 = TooLong(65536)
+65489 = TooLong(65536)
+70000 = TooLong(70000)";
+
+fn has_size(rt: &impl Abort, alloc: Global, row: &str) -> Result<(), Fail> {
+    let signature = with_input(alloc, sides(row).0.parse()?)?;
+    match write(alloc, &signature) {
+        Ok(text) => is_so(rt, alloc, row, text.as_slice().len()),
+        Err(refused) => is_refused(rt, alloc, row, Some(refused)),
+    }
+}
+
+#[test]
+fn the_first_body_above_the_limit_is_too_long(rt: HostRuntime) -> Result<(), Fail> {
+    for row in SIZES.lines() {
+        has_size(&rt, rt.alloc(), row)?;
     }
     Ok(())
 }

@@ -1,0 +1,140 @@
+// Rows of text: what their words stand for, and what comes of them.
+use ksi_imprint::{Imprint, Refused};
+use std::alloc::Global;
+use std::fmt::Debug;
+use std::process::Abort;
+use std::test::Fail;
+
+/// What a word stands for in hex: the magics of a journal's two versions; imprints of `Tiny`, those of numbers, that of two
+/// and three joined, that of an item of one at level 238 with the name `a`, and at level 0 with 64 letters `a`; the digest of
+/// no bytes and its imprint; the aggregation chain, the publication record and the calendar chain of a signature of that imprint in second 0.
+static NAMES: [(&str, &str); 15] = [
+    ("J1", "4b53494a524e4c31"),
+    ("J2", "4b53494a524e4c32"),
+    (
+        "zero",
+        "010000000000000000000000000000000000000000000000000000000000000000",
+    ),
+    (
+        "one",
+        "010100000000000000000000000000000000000000000000000000000000000000",
+    ),
+    (
+        "two",
+        "010200000000000000000000000000000000000000000000000000000000000000",
+    ),
+    (
+        "three",
+        "010300000000000000000000000000000000000000000000000000000000000000",
+    ),
+    (
+        "four",
+        "010400000000000000000000000000000000000000000000000000000000000000",
+    ),
+    (
+        "pair",
+        "010800000000000000000000000000000000000000000000000000000000000000",
+    ),
+    (
+        "leaf",
+        "01d700000000000000000000000000000000000000000000000000000000000000",
+    ),
+    (
+        "wide",
+        "010500000000000000000000000000000000000000000000000000000000000000",
+    ),
+    (
+        "D",
+        "e3b0c44298fc1c149afbf4c8996fb92427ae41e4649b934ca495991b7852b855",
+    ),
+    (
+        "A",
+        "01e3b0c44298fc1c149afbf4c8996fb92427ae41e4649b934ca495991b7852b855",
+    ),
+    (
+        "G",
+        "8801002b0200030101052101e3b0c44298fc1c149afbf4c8996fb92427ae41e4649b934ca495991b7852b855060101",
+    ),
+    (
+        "R",
+        "8803002710250200042101e3b0c44298fc1c149afbf4c8996fb92427ae41e4649b934ca495991b7852b855",
+    ),
+    (
+        "K",
+        "8802002701000200052101e3b0c44298fc1c149afbf4c8996fb92427ae41e4649b934ca495991b7852b855",
+    ),
+];
+
+fn meant(word: &str) -> &str {
+    for (name, hex) in &NAMES {
+        if *name == word {
+            return *hex;
+        }
+    }
+    word
+}
+
+/// The hash of no bytes.
+pub(crate) fn hash() -> Imprint {
+    Imprint::from_hex("e3b0c44298fc1c149afbf4c8996fb92427ae41e4649b934ca495991b7852b855").unwrap_or(
+        Imprint::ZERO,
+    )
+}
+
+/// The bytes of words, each in hex or a name.
+pub(crate) fn bytes(alloc: Global, words: &str) -> Result<Vec<u8>, Fail> {
+    let mut bytes = Vec::new(alloc);
+    for word in words.split_whitespace() {
+        bytes.extend_from_slice(&hex::decode(alloc, meant(word))?)?;
+    }
+    Ok(bytes)
+}
+
+/// What stands on both sides of a row's equals sign.
+pub(crate) fn sides(row: &str) -> (&str, &str) {
+    row.split_once(" = ").unwrap_or((row, ""))
+}
+
+// The one assertion. The time to prove a function grows with the square of its length.
+pub(crate) fn same<T: Copy + Debug + PartialEq>(rt: &impl Abort, row: &str, told: T, want: T) {
+    assert_eq!(rt; told, want, "at {row}");
+}
+
+/// A value is printed as the right side of a row.
+pub(crate) fn is_so<T: Copy + Debug>(
+    rt: &impl Abort,
+    alloc: Global,
+    row: &str,
+    told: T,
+) -> Result<(), Fail> {
+    let text = format!(in alloc; "{told:?}")?;
+    same(rt, row, text.as_str(), sides(row).1);
+    Ok(())
+}
+
+/// The same of a call's own reason, where it has one.
+pub(crate) fn is_refused<T: Copy + Debug>(
+    rt: &impl Abort,
+    alloc: Global,
+    row: &str,
+    told: Option<Refused<T>>,
+) -> Result<(), Fail> {
+    match told {
+        Some(Refused::Fault(fault)) => is_so(rt, alloc, row, fault),
+        _ => is_so(rt, alloc, row, told),
+    }
+}
+
+/// Puts a value and a line feed behind what was said.
+pub(crate) fn push<T: Copy + Debug>(alloc: Global, said: &mut String, told: T) -> Result<(), Fail> {
+    let text = format!(in alloc; "{told:?}\n")?;
+    said.push_str(text.as_str())?;
+    Ok(())
+}
+
+/// Bytes are those of the words on the right side of a row.
+pub(crate) fn is_text(rt: &impl Abort, alloc: Global, row: &str, told: &[u8]) -> Result<(), Fail> {
+    let want = bytes(alloc, sides(row).1)?;
+    same(rt, row, told, want.as_slice());
+    Ok(())
+}
