@@ -23,6 +23,8 @@ mod outside;
 #[cfg(test)]
 mod publications_files;
 #[cfg(test)]
+mod rows;
+#[cfg(test)]
 mod same;
 #[cfg(test)]
 mod trees;
