@@ -1,138 +1,74 @@
-ghost use Rattle.std.specs.Prelude.{◌≤◌};
-ghost use Rattle.ksi_aggtree.specs.Rounds.{leaf_level};
+//! Items that keep where they came from.
+ghost use Rattle.std.specs.Prelude.{◌<◌, length};
 
-use crate::same::same;
-use ksi_aggchain::{Link, Node};
-use ksi_aggtree::{Entries, Entry, Item, ItemPath, Origin};
-use ksi_imprint::{Compress, Imprint, NoMemory, Sha};
-use ksi_split::Side;
+use crate::printed::put_item;
+use crate::rounds::{put_climb, put_node};
+use crate::text::{Text, same};
+use ksi_aggtree::{AddRefusal, Entries, Entry, Item, Origin};
+use ksi_imprint::{Compress, NoMemory, Refused, Sha};
 use std::alloc::Global;
-use std::process::Abort;
+use std::test::Fail;
 
-/// An item that the request 7 made.
-fn request() -> Entry
-    ensures { leaf_level result.item ≤ 239 }
-{
-    Entry {
-        origin: Origin::Request(7),
-        item: Item::new(Sha::of(b"a"), 0),
-    }
-}
-
-/// An item that aggregator 3 submitted.
-fn submission() -> Entry
-    ensures { leaf_level result.item ≤ 239 }
-{
-    Entry {
-        origin: Origin::Aggregator(3),
-        item: Item::new(Sha::of(b"b"), 2),
-    }
-}
-
-fn two() -> [Entry; 2] {
-    [request(), submission()]
-}
-
-fn add(rt: &impl Abort, entries: &mut Entries<Sha>, entry: Entry, place: usize)
-    requires { leaf_level entry.item ≤ 239 }
-{
-    same(rt, "add", entries.add(entry), Ok(place));
-}
-
-/// Both items in a round.
-fn gathered(rt: &impl Abort, alloc: Global) -> Result<Entries<Sha>, NoMemory> {
+/// An item that the request 7 made, and one that aggregator 3 submitted.
+fn two(alloc: Global) -> Result<Entries<Sha>, Refused<AddRefusal>> {
     let mut entries = Entries::new(alloc)?;
-    add(rt, &mut entries, request(), 0);
-    add(rt, &mut entries, submission(), 1);
+    entries.add(Entry {
+        origin: Origin::Request(7),
+        item: Item::new(Sha::of(b""), 0),
+    })?;
+    entries.add(Entry {
+        origin: Origin::Aggregator(3),
+        item: Item::new(Sha::of(b"abc"), 2),
+    })?;
     Ok(entries)
 }
 
-fn entry(entries: &Entries<Sha>, k: usize) -> Option<Entry> {
-    if k < entries.count() {
-        Some(entries.entry(k))
-    } else {
-        None
+pub(crate) fn put_origin(text: &mut Text, origin: Origin) {
+    match origin {
+        Origin::Request(number) => text.number("request ", number),
+        Origin::Aggregator(aggregator) => text.number("a", u64::from(aggregator)),
     }
 }
 
-fn path(entries: &Entries<Sha>, k: usize) -> Option<ItemPath> {
-    if k < entries.count() {
-        entries.path(k).ok()
-    } else {
-        None
-    }
+fn put_entry(text: &mut Text, entries: &Entries<Sha>, k: usize) -> Result<(), NoMemory>
+    requires { k < length entries.now }
+{
+    let entry = entries.entry(k);
+    put_origin(text, entry.origin);
+    put_item(text, &entry.item);
+    put_climb(text, &entry.item, entries.path(k)?.as_slice());
+    text.end();
+    Ok(())
 }
 
-fn are_two(rt: &impl Abort, entries: &Entries<Sha>) {
-    for (k, one) in two().iter().enumerate() {
-        same(rt, k, entry(entries, k), Some(*one));
+/// The candidate and the root, whether there are items of aggregators 3 and 7, and each item with its way.
+fn told(alloc: Global, entries: &Entries<Sha>) -> Result<Text, NoMemory> {
+    let mut text = Text::new(alloc);
+    text.imprint(&entries.candidate());
+    put_node(&mut text, entries.root());
+    text.number("a3 ", u64::from(entries.has_from(3)));
+    text.number("a7 ", u64::from(entries.has_from(7)));
+    text.end();
+    for k in 0..entries.count() {
+        put_entry(&mut text, entries, k)?;
     }
-    let has = [entries.has_from(3), entries.has_from(7)];
-    same(rt, "has from", has, [true, false]);
-    same(rt, "count", entries.count(), 2);
+    Ok(text)
+}
+
+const TWO: &str = "A-B A-B 3 a3 1 a7 0
+request 7 A 0 / L2 B shape 3 A-B 3
+a3 B 2 / R0 A shape 2 A-B 3";
+
+#[test]
+fn items_keep_where_they_came_from(rt: HostRuntime) -> Result<(), Fail> {
+    let told = told(rt.alloc(), &two(rt.alloc())?)?;
+    same(&rt, "two", told.as_str().trim_end(), TWO);
+    Ok(())
 }
 
 #[test]
-fn items_keep_where_they_came_from(rt: HostRuntime) {
-    let made = gathered(&rt, rt.alloc());
-    same(&rt, "made", made.is_ok(), true);
-    if let Ok(entries) = made {
-        are_two(&rt, &entries);
-    }
-}
-
-/// Whether the link has item `b` on its other side, two levels up.
-fn leads_beside_b(link: &Link) -> bool {
-    link.side == Side::Left
-        && link.correction == 2
-        && link.sibling.bytes() == Sha::of(b"b").bytes().as_slice()
-}
-
-/// Whether these are the links of item `a`.
-fn are_links(links: &Option<ItemPath>) -> bool {
-    match links {
-        Some(links) => match links.as_slice() {
-            [link] => leads_beside_b(link),
-            _ => false,
-        },
-        None => false,
-    }
-}
-
-fn has_tree(rt: &impl Abort, entries: &Entries<Sha>) {
-    let root = Sha::join(Sha::of(b"a").bytes(), Sha::of(b"b").bytes(), 3);
-    let tree = Node {
-        imprint: root,
-        level: 3,
-    };
-    same(rt, "candidate", entries.candidate(), root);
-    same(rt, "root", entries.root(), Some(tree));
-    same(rt, "links", are_links(&path(entries, 0)), true);
-}
-
-#[test]
-fn the_tree_of_items_from_anywhere(rt: HostRuntime) {
-    let made = gathered(&rt, rt.alloc());
-    same(&rt, "made", made.is_ok(), true);
-    if let Ok(entries) = made {
-        has_tree(&rt, &entries);
-    }
-}
-
-/// The candidate and the root of no items.
-fn of_none(alloc: Global) -> Option<(Imprint, Option<Node>)> {
-    match Entries::<Sha>::new(alloc) {
-        Ok(none) => Some((none.candidate(), none.root())),
-        Err(_) => None,
-    }
-}
-
-#[test]
-fn no_items_have_no_root(rt: HostRuntime) {
-    same(
-        &rt,
-        "none",
-        of_none(rt.alloc()),
-        Some((Imprint::ZERO, None)),
-    );
+fn no_items_have_no_root(rt: HostRuntime) -> Result<(), Fail> {
+    let told = told(rt.alloc(), &Entries::new(rt.alloc())?)?;
+    same(&rt, "none", told.as_str().trim_end(), "Z - a3 0 a7 0");
+    Ok(())
 }

@@ -114,13 +114,13 @@ impl Node {
         self.core.restart();
         let mut other = self.kept.come_back(alloc)?;
         let same = are_same(&self.core, &other);
-        let alike = go_on(&mut self.core, &mut other, n);
+        let alike = go_on(alloc, &mut self.core, &mut other, n);
         Ok(same && alike)
     }
 }
 
 /// Twenty events in both cores by the numbers that follow this one: whether they did the same.
-fn go_on(one: &mut Core<Sha>, other: &mut Core<Sha>, first: u64) -> bool
+fn go_on(alloc: Global, one: &mut Core<Sha>, other: &mut Core<Sha>, first: u64) -> bool
     requires one { one.old.start ≡ 1700000000 }
     requires other { other.old.start ≡ 1700000000 }
     ensures one { one.new.start ≡ 1700000000 }
@@ -130,14 +130,14 @@ fn go_on(one: &mut Core<Sha>, other: &mut Core<Sha>, first: u64) -> bool
     'going: for _ in 0..20usize {
         n = next(n);
         let event = event_of(one, n / 65_536);
-        let alike = takes_alike(one, other, &event);
+        let alike = takes_alike(alloc, one, other, &event);
         same = same && alike;
     }
     same && are_same(one, other)
 }
 
 /// An event in both cores: whether they did the same.
-fn takes_alike(one: &mut Core<Sha>, other: &mut Core<Sha>, event: &CoreEvent) -> bool
+fn takes_alike(alloc: Global, one: &mut Core<Sha>, other: &mut Core<Sha>, event: &CoreEvent) -> bool
     requires one { one.old.start ≡ 1700000000 }
     requires other { other.old.start ≡ 1700000000 }
     requires may { (core : CoreState) → core.start ≡ 1700000000 → MayTake core event.now }
@@ -146,7 +146,7 @@ fn takes_alike(one: &mut Core<Sha>, other: &mut Core<Sha>, event: &CoreEvent) ->
 {
     let taken = one.take(*event);
     let also = other.take(*event);
-    are_alike(&taken, &also)
+    are_alike(alloc, &taken, &also)
 }
 
 /// An event for one of four seconds from the start on.

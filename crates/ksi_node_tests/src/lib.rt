@@ -6,7 +6,7 @@
 #[cfg(test)]
 mod aggregators;
 #[cfg(test)]
-mod cores;
+mod ballots;
 #[cfg(test)]
 mod entries;
 #[cfg(test)]
@@ -14,15 +14,17 @@ mod facts;
 #[cfg(test)]
 mod generated;
 #[cfg(test)]
-mod moves;
-#[cfg(test)]
-mod named_items;
+mod lent;
 #[cfg(test)]
 mod named_worlds;
 #[cfg(test)]
 mod names;
 #[cfg(test)]
 mod plain;
+#[cfg(test)]
+mod printed;
+#[cfg(test)]
+mod requests;
 #[cfg(test)]
 mod rounds;
 #[cfg(test)]
@@ -33,6 +35,8 @@ mod settled;
 mod steps;
 #[cfg(test)]
 mod taken;
+#[cfg(test)]
+mod text;
 #[cfg(test)]
 mod voters;
 #[cfg(test)]

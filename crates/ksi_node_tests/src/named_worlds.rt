@@ -1,116 +1,113 @@
-//! Worlds of requests and aggregators with names.
-use crate::moves::Move::{Close, Deliver, Respond};
-use crate::moves::Reply::Done;
-use crate::moves::{Row, go};
-use crate::same::same;
-use crate::worlds::{T, decide, has_indexes, issued, step, world};
-use ksi_aggtree::{Item, Name};
-use ksi_imprint::{Compress, Sha};
-use ksi_world::{Answer, Event, World};
-use std::process::Abort;
+//! Requests and aggregators with names.
+use crate::worlds::are_so;
 use std::test::Fail;
 
 /// One aggregator whose name is `bob`.
-const BOB: &str = "ksi-schedule 2\ncores 1\nstart 1700000000\naggregator 0 parent c0 name bob\n";
+const BOB: &str = "ksi-schedule 2
+cores 1
+start T
+aggregator 0 parent c0 name bob";
 
-/// Three above one another: the middle one has no name.
-const THREE: &str =
-    "ksi-schedule 2\ncores 1\nstart 1700000000\naggregator 0 parent c0 name bob\naggregator 1 parent a0\naggregator 2 parent a1 name al\n";
+/// A request without a name: the chain of the core has a link for the name of the aggregator.
+const UNNAMED: &str = "request 0 T A = number 0
+close 0 T = done / a0 c0 T A 0 bob
+deliver 0 = done
+seal 0 T = done
+ballot 0 T = done / c0 c0 T next 16
+deliver 1 = done / c0 c0 T last 16 -
+deliver 2 = done / c0 c0 T begin 16 A.bob
+deliver 3 = done / c0 c0 T voted 16
+deliver 4 = done / c0 c0 T success A.bob
+respond 0 T = done / c0 a0 T above A.bob from A L0 m.bob calendar R R R R R R R R R R R R R Z8 *A.bob
+deliver 6 = done";
 
-/// The name of a request, the indexes of its signature and how many bytes it has, where an aggregator whose name is `bob`
-/// stands above it: the chain of the core's round has a link for that name, and the own chain one for the request's.
-static ROWS: [(&[u8], &[&[u64]], usize); 2] = [
-    (b"", &[&[3, 1], &[3]], 629),
-    (b"al", &[&[3, 3], &[3]], 641),
-];
+const UNNAMED_ENDS: &str = "events 11 messages 7
+settled 1 sealed T 1 A.bob held T A.bob
+kept T A.bob A 0 bob
+request 0 bytes 629 at T 3 1 from A at T 3 from A L0 m.bob";
 
-/// The same of a request of the lowest of three aggregators.
-static CASCADE: [(&[u8], &[&[u64]]); 2] = [
-    (b"", &[&[3, 1, 3, 1], &[3, 1, 3], &[3, 1], &[3]]),
-    (b"Z.9_-x", &[&[3, 1, 3, 3], &[3, 1, 3], &[3, 1], &[3]]),
-];
+/// The same with a name, for which the own chain has a link.
+const NAMED: &str = "request 0 T A al = number 0
+close 0 T = done / a0 c0 T A.al 1 bob
+deliver 0 = done
+seal 0 T = done
+ballot 0 T = done / c0 c0 T next 16
+deliver 1 = done / c0 c0 T last 16 -
+deliver 2 = done / c0 c0 T begin 16 A.al.bob
+deliver 3 = done / c0 c0 T voted 16
+deliver 4 = done / c0 c0 T success A.al.bob
+respond 0 T = done / c0 a0 T above A.al.bob from A.al L0 m.bob calendar R R R R R R R R R R R R R Z8 *A.al.bob
+deliver 6 = done";
 
-/// A request with this name, or with none where this is no name.
-fn ask(rt: &impl Abort, world: &mut World<Sha>, aggregator: u32, name: &[u8]) {
-    let event = Event::Request(aggregator, T, Sha::of(b""), Name::read(name));
-    step(rt, world, event, Answer::Number(0), 0);
-}
-
-/// The request goes up to core 0, and the response down to aggregator 0.
-fn issue(rt: &impl Abort, world: &mut World<Sha>) {
-    static UP: [Row; 2] = [(Close(0, T), Done, 1), (Deliver(0), Done, 0)];
-    static DOWN: [Row; 2] = [(Respond(0, T), Done, 1), (Deliver(6), Done, 0)];
-    go(rt, world, &UP);
-    decide(rt, world, 1);
-    go(rt, world, &DOWN);
-}
-
-/// The one item that is kept.
-fn kept_item(world: &World<Sha>) -> Option<Item> {
-    let Ok(kept) = world.kept() else {
-        return None;
-    };
-    match kept.seconds.as_slice() {
-        [one] => one.items.as_slice().first().copied(),
-        _ => None,
-    }
-}
-
-/// Whether the item that is kept has this level and this name.
-fn keeps(world: &World<Sha>, level: u8, name: &[u8]) -> bool {
-    match kept_item(world) {
-        Some(item) => item.level == level && item.name == Name::read(name),
-        None => false,
-    }
-}
+const NAMED_ENDS: &str = "events 11 messages 7
+settled 1 sealed T 1 A.al.bob held T A.al.bob
+kept T A.al.bob A.al 1 bob
+request 0 bytes 641 at T 3 3 from A L0 m.al at T 3 from A.al L0 m.bob";
 
 #[test]
 fn a_name_is_a_link_of_the_chain_above(rt: HostRuntime) -> Result<(), Fail> {
-    for (at, (name, indexes, bytes)) in ROWS.iter().enumerate() {
-        let mut world = world(rt.alloc(), BOB)?;
-        ask(&rt, &mut world, 0, *name);
-        issue(&rt, &mut world);
-        let told = (
-            has_indexes(rt.alloc(), &world, 0, *indexes),
-            issued(&world, 0),
-        );
-        same(&rt, at, told, (true, Some(*bytes)));
-    }
-    Ok(())
+    are_so(&rt, rt.alloc(), BOB, UNNAMED, UNNAMED_ENDS)?;
+    are_so(&rt, rt.alloc(), BOB, NAMED, NAMED_ENDS)
 }
 
-/// The request goes up three aggregators to core 0, and the response down again.
-fn issue_below(rt: &impl Abort, world: &mut World<Sha>) {
-    static UP: [Row; 6] = [
-        (Close(2, T), Done, 1),
-        (Deliver(0), Done, 0),
-        (Close(1, T), Done, 1),
-        (Deliver(1), Done, 0),
-        (Close(0, T), Done, 1),
-        (Deliver(2), Done, 0),
-    ];
-    static DOWN: [Row; 4] = [
-        (Respond(0, T), Done, 1),
-        (Deliver(8), Done, 1),
-        (Deliver(9), Done, 1),
-        (Deliver(10), Done, 0),
-    ];
-    go(rt, world, &UP);
-    decide(rt, world, 3);
-    go(rt, world, &DOWN);
-}
+/// Three above one another: the middle one has no name.
+const CASCADE: &str = "ksi-schedule 2
+cores 1
+start T
+aggregator 0 parent c0 name bob
+aggregator 1 parent a0
+aggregator 2 parent a1 name al";
+
+/// A request without a name of the lowest aggregator.
+const UNNAMED_BELOW: &str = "request 2 T A = number 0
+close 2 T = done / a2 a1 T A 0 al
+deliver 0 = done
+close 1 T = done / a1 a0 T A.al 1
+deliver 1 = done
+close 0 T = done / a0 c0 T A.al 1 bob
+deliver 2 = done
+seal 0 T = done
+ballot 0 T = done / c0 c0 T next 16
+deliver 3 = done / c0 c0 T last 16 -
+deliver 4 = done / c0 c0 T begin 16 A.al.bob
+deliver 5 = done / c0 c0 T voted 16
+deliver 6 = done / c0 c0 T success A.al.bob
+respond 0 T = done / c0 a0 T above A.al.bob from A.al L0 m.bob calendar R R R R R R R R R R R R R Z8 *A.al.bob
+deliver 8 = done / a0 a1 T above A.al.bob from A.al from A.al L0 m.bob calendar R R R R R R R R R R R R R Z8 *A.al.bob
+deliver 9 = done / a1 a2 T above A.al.bob from A L0 m.al from A.al from A.al L0 m.bob calendar R R R R R R R R R R R R R Z8 *A.al.bob
+deliver 10 = done";
+
+const UNNAMED_BELOW_ENDS: &str = "events 17 messages 11
+settled 1 sealed T 1 A.al.bob held T A.al.bob
+kept T A.al.bob A.al 1 bob
+request 0 bytes 758 at T 3 1 3 1 from A at T 3 1 3 from A L0 m.al at T 3 1 from A.al at T 3 from A.al L0 m.bob";
+
+/// The same with a name.
+const NAMED_BELOW: &str = "request 2 T A Z.9_-x = number 0
+close 2 T = done / a2 a1 T A.Z 1 al
+deliver 0 = done
+close 1 T = done / a1 a0 T A.Z.al 2
+deliver 1 = done
+close 0 T = done / a0 c0 T A.Z.al 2 bob
+deliver 2 = done
+seal 0 T = done
+ballot 0 T = done / c0 c0 T next 16
+deliver 3 = done / c0 c0 T last 16 -
+deliver 4 = done / c0 c0 T begin 16 A.Z.al.bob
+deliver 5 = done / c0 c0 T voted 16
+deliver 6 = done / c0 c0 T success A.Z.al.bob
+respond 0 T = done / c0 a0 T above A.Z.al.bob from A.Z.al L0 m.bob calendar R R R R R R R R R R R R R Z8 *A.Z.al.bob
+deliver 8 = done / a0 a1 T above A.Z.al.bob from A.Z.al from A.Z.al L0 m.bob calendar R R R R R R R R R R R R R Z8 *A.Z.al.bob
+deliver 9 = done / a1 a2 T above A.Z.al.bob from A.Z L0 m.al from A.Z.al from A.Z.al L0 m.bob calendar R R R R R R R R R R R R R Z8 *A.Z.al.bob
+deliver 10 = done";
+
+const NAMED_BELOW_ENDS: &str = "events 17 messages 11
+settled 1 sealed T 1 A.Z.al.bob held T A.Z.al.bob
+kept T A.Z.al.bob A.Z.al 2 bob
+request 0 bytes 774 at T 3 1 3 3 from A L0 m.Z at T 3 1 3 from A.Z L0 m.al at T 3 1 from A.Z.al at T 3 from A.Z.al L0 m.bob";
 
 #[test]
 fn each_aggregator_puts_its_name_on_what_it_submits(rt: HostRuntime) -> Result<(), Fail> {
-    for (at, (name, indexes)) in CASCADE.iter().enumerate() {
-        let mut world = world(rt.alloc(), THREE)?;
-        ask(&rt, &mut world, 2, *name);
-        issue_below(&rt, &mut world);
-        let told = [
-            has_indexes(rt.alloc(), &world, 0, *indexes),
-            keeps(&world, at as u8 + 1, b"bob"),
-        ];
-        same(&rt, at, told, [true; 2]);
-    }
-    Ok(())
+    are_so(&rt, rt.alloc(), CASCADE, UNNAMED_BELOW, UNNAMED_BELOW_ENDS)?;
+    are_so(&rt, rt.alloc(), CASCADE, NAMED_BELOW, NAMED_BELOW_ENDS)
 }

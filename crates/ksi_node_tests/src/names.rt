@@ -1,39 +1,37 @@
-use crate::same::same;
+//! Names and their metadata.
+use crate::text::{Text, same};
 use ksi_aggtree::Name;
+use std::alloc::Global;
 
-/// A piece of text, and its metadata where it is a name.
-static ROWS: [(&[u8], Option<&[u8]>); 12] = [
-    (b"bob", Some(b"\x7e\x02\x01\x01\x01\x04bob\x00")),
-    (b"al", Some(b"\x7e\x01\x01\x01\x03al\x00")),
-    (b"Z.9_-x", Some(b"\x7e\x01\x01\x01\x07Z.9_-x\x00")),
-    (b"a", Some(b"\x7e\x02\x01\x01\x01\x02a\x00")),
-    (&[b'a'; 63], Some(LONG)),
-    (&[b'a'; 64], Some(LONGEST)),
-    (b"", None),
-    (b"b/b", None),
-    (b"a b", None),
-    (b"a\x00", None),
-    (b"\xc3\xa4", None),
-    (&[b'a'; 65], None),
-];
+/// A piece of text, and its metadata in hex where it is a name.
+const ROWS: &str = "bob = m.bob
+al = m.al
+Z.9_-x = m.Z
+a = 7e02010101026100
+aaaaaaaaaaaaaaaaaaaaaaaaaaaaaaaaaaaaaaaaaaaaaaaaaaaaaaaaaaaaaaa = 7e020101014061616161616161616161616161616161616161616161616161616161616161616161616161616161616161616161616161616161616161616161616161616100
+aaaaaaaaaaaaaaaaaaaaaaaaaaaaaaaaaaaaaaaaaaaaaaaaaaaaaaaaaaaaaaaa = m.a
+ = -
+b/b = -
+a b = -
+a\x00 = -
+\u{e4} = -
+aaaaaaaaaaaaaaaaaaaaaaaaaaaaaaaaaaaaaaaaaaaaaaaaaaaaaaaaaaaaaaaaa = -";
 
-const LONGEST: &[u8] =
-    b"\x7e\x01\x01\x01\x41aaaaaaaaaaaaaaaaaaaaaaaaaaaaaaaaaaaaaaaaaaaaaaaaaaaaaaaaaaaaaaaa\x00";
-
-const LONG: &[u8] =
-    b"\x7e\x02\x01\x01\x01\x40aaaaaaaaaaaaaaaaaaaaaaaaaaaaaaaaaaaaaaaaaaaaaaaaaaaaaaaaaaaaaaa\x00";
-
-fn is_meta(text: &[u8], want: Option<&[u8]>) -> bool {
-    match (Name::read(text), want) {
-        (Some(name), Some(meta)) => name.as_bytes() == text && name.meta().as_slice() == meta,
-        (None, None) => true,
-        _ => false,
+/// The metadata of a name, or a dash.
+fn meta(alloc: Global, letters: &str) -> Text {
+    let mut text = Text::new(alloc);
+    match Name::read(letters.as_bytes()) {
+        Some(name) => text.bytes(name.meta().as_slice()),
+        None => text.word("-"),
     }
+    text
 }
 
 #[test]
 fn a_name_has_its_metadata(rt: HostRuntime) {
-    for (at, (text, want)) in ROWS.iter().enumerate() {
-        same(&rt, at, is_meta(text, *want), true);
+    for row in ROWS.lines() {
+        if let Some((letters, want)) = row.split_once(" = ") {
+            same(&rt, row, meta(rt.alloc(), letters).as_str(), want);
+        }
     }
 }

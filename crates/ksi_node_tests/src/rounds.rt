@@ -1,54 +1,80 @@
-ghost use Rattle.std.specs.Prelude.{◌≡◌, ◌<◌, ◌≤◌, length};
+//! Rounds of items as rows of text, and what their trees have.
+ghost use Rattle.std.specs.Prelude.{◌≡◌, ◌<◌, ◌≤◌, length, IfSome};
 ghost use Rattle.ksi_aggtree.specs.Rounds.{leaf_level};
 
-use crate::same::same;
-use ksi_aggchain::{Link, Node, shape};
-use ksi_aggtree::{AddRefusal, Builder, Item, ItemPath, Steps};
+use crate::printed::{put_item, put_links};
+use crate::text::{Text, meant, same};
+use ksi_aggchain::{Link, Node, climb, shape};
+use ksi_aggtree::{AddRefusal, Builder, Item, ItemPath, Name, Steps};
 use ksi_imprint::{Compress, Imprint, NoMemory, Refused, Sha, Tiny};
 use ksi_split::Side;
-use ksi_split::Side::{Left, Right};
 use std::alloc::Global;
 use std::marker::Brand;
 use std::process::Abort;
 use std::sync::ledger::{Blank, Ledger};
+use std::test::Fail;
 
-/// The item of the hash of these bytes.
-fn item(level: u8, bytes: &[u8]) -> Item
-    ensures { leaf_level result ≡ level }
+/// The item of a row: its digest, its level and its name, if it has one.
+pub(crate) fn item_of(row: &str) -> Option<Item>
+    ensures { IfSome result (λ item. leaf_level item ≤ 239) }
 {
-    Item::new(Sha::of(bytes), level)
-}
-
-/// The join of two imprints at a level, by hand.
-fn joined(left: Imprint, right: Imprint, level: u8) -> Node {
-    Node {
-        imprint: Sha::join(left.bytes(), right.bytes(), level),
-        level,
+    let mut words = row.split_whitespace();
+    let imprint = Imprint::from_hex(meant(words.next()?)).ok()?;
+    let level: u8 = words.next()?.parse().ok()?;
+    let name = Name::read(words.next().unwrap_or("").as_bytes());
+    if level > 238 {
+        return None;
     }
+    Some(Item::new(imprint, level).with_name(name))
 }
 
-fn add(rt: &impl Abort, round: &mut Builder<Sha>, place: usize, level: u8, bytes: &[u8])
-    requires { level ≤ 239 }
-{
-    same(rt, "add", round.add(item(level, bytes)), Ok(place));
-}
-
-/// The round of three items, of levels 0, 0 and 3.
-fn three(rt: &impl Abort, alloc: Global) -> Result<Builder<Sha>, NoMemory> {
+/// The round of the items of rows.
+fn gathered(alloc: Global, rows: &str) -> Result<Builder<Sha>, Fail> {
     let mut round = Builder::new(alloc)?;
-    add(rt, &mut round, 0, 0, b"");
-    add(rt, &mut round, 1, 0, b"abc");
-    add(rt, &mut round, 2, 3, b"");
+    for row in rows.lines() {
+        if let Some(item) = item_of(row) {
+            round.add(item)?;
+        }
+    }
     Ok(round)
 }
 
-/// The links of an item, nothing where there is no such item or memory is wanting.
-pub(crate) fn path(round: &Builder<Sha>, k: usize) -> Option<ItemPath> {
-    if k < round.count() {
-        round.path(k).ok()
-    } else {
-        None
+/// The sides that letters stand for.
+pub(crate) fn sides_of(alloc: Global, letters: &str) -> Result<Vec<Side>, NoMemory> {
+    let mut sides = Vec::new(alloc);
+    for letter in letters.chars() {
+        let side = if letter == 'L' {
+            Side::Left
+        } else {
+            Side::Right
+        };
+        sides.push(side)?;
     }
+    Ok(sides)
+}
+
+/// A node, or a dash.
+pub(crate) fn put_node(text: &mut Text, node: Option<Node>) {
+    match &node {
+        Some(node) => {
+            text.imprint(&node.imprint);
+            text.number("", u64::from(node.level));
+        }
+        None => text.word("-"),
+    }
+}
+
+/// Links, their shape, and the node that they lead to from the item.
+pub(crate) fn put_climb(text: &mut Text, item: &Item, links: &[Link]) {
+    text.word("/");
+    put_links(text, links);
+    if links.len() <= 63 {
+        text.number("shape ", shape(links));
+    }
+    put_node(
+        text,
+        climb::<Sha, Link>(item.imprint, item.level, links).ok(),
+    );
 }
 
 fn counted<L: Ledger>(round: &Builder<Sha>, k: usize, blank: Blank) -> Result<ItemPath, NoMemory>
@@ -61,154 +87,149 @@ fn counted<L: Ledger>(round: &Builder<Sha>, k: usize, blank: Blank) -> Result<It
     round.path_counted(k, &mut steps)
 }
 
+/// The links of an item, with the steps counted.
 fn counted_path(round: &Builder<Sha>, k: usize) -> Result<ItemPath, NoMemory>
     requires { k < length round.now }
 {
     counted::<Brand>(round, k, Blank::new(1))
 }
 
-/// The same links, with the steps counted.
-fn path_counted(round: &Builder<Sha>, k: usize) -> Option<ItemPath> {
-    if k < round.count() {
-        counted_path(round, k).ok()
-    } else {
-        None
-    }
+/// An item, its leaf and its links, without and with the steps counted.
+fn put_path(text: &mut Text, round: &Builder<Sha>, k: usize) -> Result<(), NoMemory>
+    requires { k < length round.now }
+{
+    let item = round.item(k);
+    put_item(text, &item);
+    put_node(text, Some(item.leaf::<Sha>()));
+    put_climb(text, &item, round.path(k)?.as_slice());
+    put_climb(text, &item, counted_path(round, k)?.as_slice());
+    text.end();
+    Ok(())
 }
 
-fn item_of(round: &Builder<Sha>, k: usize) -> Option<Item> {
-    if k < round.count() {
-        Some(round.item(k))
-    } else {
-        None
+const SIDES: &str = "L R LL LR RL RR RLL";
+
+/// How many items there are, the root, the way of each item and the nodes at these sides.
+fn tree(alloc: Global, round: &Builder<Sha>) -> Result<Text, NoMemory> {
+    let mut text = Text::new(alloc);
+    text.number("count ", round.count() as u64);
+    put_node(&mut text, round.root());
+    text.end();
+    for k in 0..round.count() {
+        put_path(&mut text, round, k)?;
     }
+    for letters in SIDES.split_whitespace() {
+        text.word(letters);
+        put_node(&mut text, round.node(sides_of(alloc, letters)?.as_slice()));
+        text.end();
+    }
+    Ok(text)
 }
 
-/// Whether these are the links with these sides, corrections and siblings.
-fn are_links(links: &ItemPath, wanted: &[(Side, u8, Imprint)]) -> bool {
-    let mut same = links.as_slice().len() == wanted.len();
-    for (link, (side, correction, sibling)) in links.as_slice().iter().zip(wanted.iter()) {
-        same = same
-            && link.side == *side
-            && link.correction == *correction
-            && link.sibling.bytes() == sibling.bytes().as_slice();
-    }
-    same
+/// The round of the items of rows has this tree.
+fn has_tree(rt: &impl Abort, alloc: Global, rows: &str, want: &str) -> Result<(), Fail> {
+    let round = gathered(alloc, rows)?;
+    let told = tree(alloc, &round)?;
+    same(rt, rows, told.as_str().trim_end(), want);
+    Ok(())
 }
 
-/// The shape of links, nothing where they are too many.
-fn shape_of(links: &[Link]) -> Option<u64> {
-    if links.len() <= 63 {
-        Some(shape(links))
-    } else {
-        None
-    }
-}
-
-/// Whether both paths of an item have these links, of this shape.
-fn climbs(round: &Builder<Sha>, k: usize, wanted: &[(Side, u8, Imprint)], bits: u64) -> bool {
-    match (path(round, k), path_counted(round, k)) {
-        (Some(links), Some(same)) => {
-            are_links(&links, wanted)
-                && are_links(&same, wanted)
-                && shape_of(links.as_slice()) == Some(bits)
-        }
-        _ => false,
-    }
-}
-
-fn has_nodes(rt: &impl Abort, round: &Builder<Sha>) {
-    let (a, b) = (Sha::of(b""), Sha::of(b"abc"));
-    let inner = joined(a, b, 1);
-    let root = joined(inner.imprint, a, 4);
-    same(rt, "root", round.root(), Some(root));
-    same(rt, "left", round.node(&[Left]), Some(inner));
-    let right = Some(item(0, b"abc").leaf::<Sha>());
-    same(rt, "left, right", round.node(&[Left, Right]), right);
-    same(rt, "right, left", round.node(&[Right, Left]), None);
-}
+/// The tree of three items of two levels.
+const THREE: &str = "count 3 ABA 4
+A 0 A 0 / L0 B L2 A shape 7 ABA 4 / L0 B L2 A shape 7 ABA 4
+B 0 B 0 / R0 A L2 A shape 6 ABA 4 / R0 A L2 A shape 6 ABA 4
+A 3 A 3 / R0 AB shape 2 ABA 4 / R0 AB shape 2 ABA 4
+L AB 1
+R A 3
+LL A 0
+LR B 0
+RL -
+RR -
+RLL -";
 
 #[test]
-fn the_tree_of_three_items(rt: HostRuntime) {
-    let made = three(&rt, rt.alloc());
-    same(&rt, "made", made.is_ok(), true);
-    if let Ok(round) = made {
-        same(&rt, "count", round.count(), 3);
-        same(&rt, "item", item_of(&round, 2), Some(item(3, b"")));
-        has_nodes(&rt, &round);
-    }
+fn the_tree_of_three_items(rt: HostRuntime) -> Result<(), Fail> {
+    has_tree(&rt, rt.alloc(), "A 0\nB 0\nA 3", THREE)
 }
 
-fn has_links(rt: &impl Abort, round: &Builder<Sha>) {
-    let (a, b) = (Sha::of(b""), Sha::of(b"abc"));
-    let inner = Sha::join(a.bytes(), b.bytes(), 1);
-    let first = climbs(round, 0, &[(Left, 0, b), (Left, 2, a)], 7);
-    let second = climbs(round, 1, &[(Right, 0, a), (Left, 2, a)], 6);
-    let third = climbs(round, 2, &[(Right, 0, inner)], 2);
-    same(rt, "links", [first, second, third], [true; 3]);
-}
+/// Four items stand on the left side of the top, and one on the right side.
+const FIVE: &str = "count 5 AAAAA 3
+A 0 A 0 / L0 A L0 AA L0 A shape 15 AAAAA 3 / L0 A L0 AA L0 A shape 15 AAAAA 3
+A 0 A 0 / R0 A L0 AA L0 A shape 14 AAAAA 3 / R0 A L0 AA L0 A shape 14 AAAAA 3
+A 0 A 0 / L0 A R0 AA L0 A shape 13 AAAAA 3 / L0 A R0 AA L0 A shape 13 AAAAA 3
+A 0 A 0 / R0 A R0 AA L0 A shape 12 AAAAA 3 / R0 A R0 AA L0 A shape 12 AAAAA 3
+A 0 A 0 / R2 AAAA shape 2 AAAAA 3 / R2 AAAA shape 2 AAAAA 3
+L AAAA 2
+R A 0
+LL AA 1
+LR AA 1
+RL -
+RR -
+RLL -";
 
 #[test]
-fn the_links_of_three_items(rt: HostRuntime) {
-    let made = three(&rt, rt.alloc());
-    same(&rt, "made", made.is_ok(), true);
-    if let Ok(round) = made {
-        has_links(&rt, &round);
-    }
+fn the_ways_of_five_items(rt: HostRuntime) -> Result<(), Fail> {
+    has_tree(&rt, rt.alloc(), "A 0\nA 0\nA 0\nA 0\nA 0", FIVE)
 }
 
-/// A round of five items of level 0.
-fn five(alloc: Global) -> Result<Builder<Sha>, Refused<AddRefusal>> {
-    let mut round = Builder::new(alloc)?;
-    for _ in 0..5usize {
-        round.add(item(0, b""))?;
-    }
-    Ok(round)
-}
+/// The item with a name stands below its leaf, and its first link leads past the name.
+const NAMED: &str = "count 2 AB.al 4
+A 0 A 0 / L3 B.al shape 3 AB.al 4 / L3 B.al shape 3 AB.al 4
+B 2 al B.al 3 / L0 m.al R0 A shape 5 AB.al 4 / L0 m.al R0 A shape 5 AB.al 4
+L A 0
+R B.al 3
+LL -
+LR -
+RL B 2
+RR -
+RLL -";
 
-fn way_of(round: &Builder<Sha>, k: usize) -> Option<u64> {
-    match path(round, k) {
-        Some(links) => shape_of(links.as_slice()),
-        None => None,
-    }
-}
-
-/// Four of them stand on the left side of the top, and one on the right side.
 #[test]
-fn the_ways_of_five_items(rt: HostRuntime) {
-    let made = five(rt.alloc());
-    same(&rt, "made", made.is_ok(), true);
-    if let Ok(round) = made {
-        for (k, bits) in [(0, 15), (3, 12), (4, 2)] {
-            same(&rt, k, way_of(&round, k), Some(bits));
-        }
-    }
+fn an_item_stands_below_its_leaf(rt: HostRuntime) -> Result<(), Fail> {
+    has_tree(&rt, rt.alloc(), "A 0\nB 2 al", NAMED)
+}
+
+const LONGEST: &str = "A 238 aaaaaaaaaaaaaaaaaaaaaaaaaaaaaaaaaaaaaaaaaaaaaaaaaaaaaaaaaaaaaaaa";
+
+const LONGEST_TREE: &str = "count 1 A.a 239
+A 238 aaaaaaaaaaaaaaaaaaaaaaaaaaaaaaaaaaaaaaaaaaaaaaaaaaaaaaaaaaaaaaaa A.a 239 / L0 m.a shape 3 A.a 239 / L0 m.a shape 3 A.a 239
+L A 238
+R -
+LL -
+LR -
+RL -
+RR -
+RLL -";
+
+#[test]
+fn the_longest_name_at_the_highest_level(rt: HostRuntime) -> Result<(), Fail> {
+    has_tree(&rt, rt.alloc(), LONGEST, LONGEST_TREE)
 }
 
 /// A round of as many items as there may be.
 fn full(alloc: Global) -> Result<Builder<Tiny>, Refused<AddRefusal>> {
     let mut round = Builder::new(alloc)?;
     for _ in 0..65536usize {
-        round.add(item(239, b""))?;
+        round.add(Item::new(Sha::of(b""), 239))?;
     }
     Ok(round)
 }
 
-fn level_of(root: Option<Node>) -> Option<u8> {
-    match root {
-        Some(root) => Some(root.level),
-        None => None,
+/// What comes of one item more, and how many items and what level there are.
+fn one_more(round: &mut Builder<Tiny>) -> Option<(usize, u8)> {
+    match round.add(Item::new(Sha::of(b""), 239)) {
+        Err(Refused::Fault(AddRefusal::Full)) => Some((round.count(), round.root()?.level)),
+        _ => None,
     }
 }
 
 #[test]
 fn a_full_round_refuses_the_next_item(rt: HostRuntime) {
-    let made = full(rt.alloc());
-    same(&rt, "made", made.is_ok(), true);
-    if let Ok(mut round) = made {
-        let refused = round.add(item(239, b""));
-        same(&rt, "add", refused, Err(Refused::Fault(AddRefusal::Full)));
-        same(&rt, "count", round.count(), 65536);
-        same(&rt, "level", level_of(round.root()), Some(255));
+    let refused = match full(rt.alloc()) {
+        Ok(mut round) => one_more(&mut round) == Some((65536, 255)),
+        Err(_) => false,
+    };
+    if !refused {
+        rt.panic("the next item");
     }
 }

@@ -1,89 +1,72 @@
-//! Whether two steps of a core are the same.
-use ksi_aggchain::Link;
-use ksi_calchain::CalendarLink;
-use ksi_corenode::{Fact, NoMemory, Send, Step, What};
-use ksi_signature::{Above, AboveChain};
+//! What a core says, sends and stores at a call, as words.
+use crate::entries::put_origin;
+use crate::printed::{put_above, put_answer, put_item, put_synod, put_vote};
+use crate::text::Text;
+use ksi_aggtree::Entry;
+use ksi_corenode::{NoMemory, Send, Step, What};
+use std::alloc::Global;
 
-/// Whether both answer, store and send the same.
-pub(crate) fn are_alike(one: &Result<Step, NoMemory>, other: &Result<Step, NoMemory>) -> bool {
-    match (one, other) {
-        (Ok(one), Ok(other)) => {
-            one.answer == other.answer
-                && are_facts(&one.fact, &other.fact)
-                && are_sends(one.sends.as_slice(), other.sends.as_slice())
+/// Items and where they came from.
+pub(crate) fn put_entries(text: &mut Text, entries: &[Entry]) {
+    for entry in entries {
+        put_origin(text, entry.origin);
+        put_item(text, &entry.item);
+    }
+}
+
+fn put_what(text: &mut Text, what: &What) {
+    match what {
+        What::Sealed(items) => put_entries(text, items.as_slice()),
+        What::Tried(ballot) => text.number("tried ", *ballot),
+        What::Promised(ballot) => text.number("promised ", *ballot),
+        What::Cast(vote) => put_vote(text, &Some(*vote)),
+        What::Holds(root) => text.imprint(root),
+    }
+}
+
+fn put_send(text: &mut Text, send: &Send) {
+    match send {
+        Send::Synod(core, message) => {
+            text.number("/ c", u64::from(*core));
+            put_synod(text, message);
         }
-        _ => false,
-    }
-}
-
-fn are_facts(one: &Option<Fact>, other: &Option<Fact>) -> bool {
-    match (one, other) {
-        (Some(one), Some(other)) => one.second == other.second && is_what(&one.what, &other.what),
-        (None, None) => true,
-        _ => false,
-    }
-}
-
-fn is_what(one: &What, other: &What) -> bool {
-    match (one, other) {
-        (What::Sealed(one), What::Sealed(other)) => one.as_slice() == other.as_slice(),
-        (What::Tried(one), What::Tried(other)) => one == other,
-        (What::Promised(one), What::Promised(other)) => one == other,
-        (What::Cast(one), What::Cast(other)) => one == other,
-        (What::Holds(one), What::Holds(other)) => one == other,
-        _ => false,
-    }
-}
-
-fn are_sends(ones: &[Send], others: &[Send]) -> bool {
-    let mut same = ones.len() == others.len();
-    for (one, other) in ones.iter().zip(others.iter()) {
-        same = same && is_send(one, other);
-    }
-    same
-}
-
-fn is_send(one: &Send, other: &Send) -> bool {
-    match (one, other) {
-        (Send::Synod(to, sent), Send::Synod(core, message)) => to == core && sent == message,
-        (Send::Response(to, sent), Send::Response(aggregator, above)) => {
-            to == aggregator && is_above(sent, above)
+        Send::Response(aggregator, above) => {
+            text.number("/ a", u64::from(*aggregator));
+            put_above(text, above);
         }
-        _ => false,
     }
 }
 
-fn is_above(one: &Above, other: &Above) -> bool {
-    one.root == other.root
-        && are_chains(one.chains.as_slice(), other.chains.as_slice())
-        && are_calendar_links(one.calendar.as_slice(), other.calendar.as_slice())
+/// What is said and sent.
+pub(crate) fn put_said(text: &mut Text, step: &Step) {
+    put_answer(text, &step.answer);
+    for send in step.sends.as_slice() {
+        put_send(text, send);
+    }
 }
 
-fn are_chains(ones: &[AboveChain], others: &[AboveChain]) -> bool {
-    let mut same = ones.len() == others.len();
-    for (one, other) in ones.iter().zip(others.iter()) {
-        same = same
-            && one.input == other.input
-            && are_links(one.links.as_slice(), other.links.as_slice());
+/// What is said, sent and stored; nothing where memory is wanting.
+pub(crate) fn put_step(text: &mut Text, step: &Result<Step, NoMemory>) {
+    let Ok(step) = step else {
+        return;
+    };
+    put_said(text, step);
+    if let Some(fact) = &step.fact {
+        text.number("stores ", fact.second);
+        put_what(text, &fact.what);
     }
-    same
+    text.end();
 }
 
-fn are_links(ones: &[Link], others: &[Link]) -> bool {
-    let mut same = ones.len() == others.len();
-    for (one, other) in ones.iter().zip(others.iter()) {
-        same = same
-            && one.side == other.side
-            && one.correction == other.correction
-            && one.sibling.bytes() == other.sibling.bytes();
-    }
-    same
-}
-
-fn are_calendar_links(ones: &[CalendarLink], others: &[CalendarLink]) -> bool {
-    let mut same = ones.len() == others.len();
-    for (one, other) in ones.iter().zip(others.iter()) {
-        same = same && one.side == other.side && one.sibling == other.sibling;
-    }
-    same
+/// Whether both say, send and store the same.
+pub(crate) fn are_alike(
+    alloc: Global,
+    one: &Result<Step, NoMemory>,
+    other: &Result<Step, NoMemory>,
+) -> bool {
+    let mut told = Text::new(alloc);
+    let mut want = Text::new(alloc);
+    put_step(&mut told, one);
+    put_step(&mut want, other);
+    !told.as_str().is_empty() && told.as_str() == want.as_str()
 }

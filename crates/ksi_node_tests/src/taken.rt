@@ -109,7 +109,7 @@ fn is_done(step: &Result<Step, NoMemory>) -> bool {
 }
 
 /// An event in both cores: whether they did the same. It is noted where it was done.
-fn happens(two: &mut Two, done: &mut [bool; 7], event: &CoreEvent) -> bool
+fn happens(alloc: Global, two: &mut Two, done: &mut [bool; 7], event: &CoreEvent) -> bool
     requires { (core : CoreState) → core.start ≡ 1700000000 → MayTake core event.now }
 {
     let taken = two.take(event);
@@ -117,7 +117,7 @@ fn happens(two: &mut Two, done: &mut [bool; 7], event: &CoreEvent) -> bool
     if is_done(&taken) {
         done[kind(event) % 7] = true;
     }
-    are_alike(&taken, &called)
+    are_alike(alloc, &taken, &called)
 }
 
 /// Two seconds before the start, and nine from it on: the first ones come more often.
@@ -156,14 +156,14 @@ fn has_next(core: &Core<Sha>) -> bool {
 }
 
 /// Now and then both restart, else an event comes. Whether both did the same, and the next seconds are right.
-fn step(two: &mut Two, done: &mut [bool; 7], n: u64) -> [bool; 2] {
+fn step(alloc: Global, two: &mut Two, done: &mut [bool; 7], n: u64) -> [bool; 2] {
     let alike = if n % 53 == 0 {
         two.restart();
         true
     } else {
         let t = second(n / 53);
         let candidate = two.taking.candidate(t).unwrap_or(Imprint::ZERO);
-        happens(two, done, &event(t, candidate, n / 3816))
+        happens(alloc, two, done, &event(t, candidate, n / 3816))
     };
     [alike, has_next(&two.taking)]
 }
@@ -174,7 +174,7 @@ fn hundred(rt: &impl Abort, alloc: Global, done: &mut [bool; 7], first: u64) -> 
     let mut n = first;
     for _ in 0..100usize {
         n = next(n);
-        same(rt, n, step(&mut two, done, n / 65_536), [true; 2]);
+        same(rt, n, step(alloc, &mut two, done, n / 65_536), [true; 2]);
     }
     n
 }

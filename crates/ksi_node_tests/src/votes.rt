@@ -1,155 +1,107 @@
-ghost use Rattle.std.specs.Prelude.{◌<◌, ◌≤◌};
+//! One core's part in the vote, and its last ballot.
+use crate::printed::{put_some, put_vote};
+use crate::steps::put_step;
+use crate::text::{Text, same};
+use ksi_corenode::{Core, CorePlan};
+use ksi_imprint::{Compress, Imprint, Sha};
+use ksi_synod::{Begun, Instance, LastVote, SynodMessage, Took, Voters};
 
-use crate::same::same;
-use ksi_imprint::Imprint;
-use ksi_synod::{Begun, Instance, LastVote, Took, Vote, Voters};
-use std::process::Abort;
+const T: u64 = 1_700_000_000;
 
-fn imprint(byte: u8) -> Imprint {
-    Imprint::of_digest(&[byte; 32])
-}
-
-fn vote(ballot: u64, byte: u8) -> Option<Vote> {
-    Some(Vote {
-        ballot,
-        imprint: imprint(byte),
-    })
-}
-
-fn sealed(me: u8, voters: Voters, candidate: Imprint) -> Instance
-    requires { me ≤ 8 }
-{
-    let mut core = Instance::new(me, voters);
-    if core.sealed().is_none() {
-        core.candidate(candidate);
+fn put_begun(text: &mut Text, begun: Begun) {
+    match begun {
+        Begun::Unsealed => text.word("unsealed"),
+        Begun::Last => text.word("last"),
+        Begun::Next(ballot) => text.number("next ", ballot),
     }
-    core
+    text.end();
 }
 
-fn try_ballot(rt: &impl Abort, core: &mut Instance, begun: Begun) {
-    same(rt, "try", core.try_ballot(), begun);
+fn put_took(text: &mut Text, took: Took) {
+    match took {
+        Took::Nothing => text.word("nothing"),
+        Took::Added => text.word("added"),
+        Took::Decree(decree) => text.imprint(&decree),
+    }
 }
 
-/// A LastVote without a vote.
-fn last(rt: &impl Abort, core: &mut Instance, from: u8, took: Took)
-    requires { from < 9 }
-{
-    same(rt, from, core.on_last(from, 16, None), took);
+fn put_last(text: &mut Text, last: &Option<LastVote>) {
+    if let Some(last) = last {
+        text.number("promises ", last.ballot);
+        put_vote(text, &last.vote);
+    }
 }
 
-fn voted(rt: &impl Abort, core: &mut Instance, from: u8, took: Took)
-    requires { from < 9 }
-{
-    same(rt, from, core.on_voted(from, 16), took);
+/// The ballots that were tried and promised, the vote that was cast, and what is held.
+fn put_ballots(text: &mut Text, vote: &Instance) {
+    text.number("tried ", vote.tried().unwrap_or(0));
+    text.number("promised ", vote.promised().unwrap_or(0));
+    put_vote(text, &vote.voted());
+    put_some(text, vote.held());
+    text.end();
 }
 
-fn reply(ballot: u64, vote: Option<Vote>) -> Option<LastVote> {
-    Some(LastVote { ballot, vote })
+/// The LastVote and the Voted of each core in a ballot, of which core 1 alone votes.
+fn count(text: &mut Text, vote: &mut Instance) {
+    for from in [0, 2, 1] {
+        put_took(text, vote.on_last(from, 16, None));
+    }
+    for from in [0, 1] {
+        put_took(text, vote.on_voted(from, 16));
+    }
+    put_ballots(text, vote);
 }
 
-/// The last ballot that it tried and the greatest that it promised.
-fn ballots(rt: &impl Abort, core: &Instance, want: Option<u64>) {
-    same(rt, "ballots", [core.tried(), core.promised()], [want; 2]);
+/// A vote in a ballot, and a ballot of the last round behind it.
+fn promise(text: &mut Text, vote: &mut Instance, decree: Imprint) {
+    put_last(text, &vote.on_next(16));
+    text.number("votes ", u64::from(vote.on_begin(16, decree)));
+    put_last(text, &vote.on_next(68_719_476_721));
+    put_ballots(text, vote);
+    put_begun(text, vote.try_ballot());
 }
 
-fn promise_alone(rt: &impl Abort, core: &mut Instance, d: Imprint) {
-    ballots(rt, core, None);
-    try_ballot(rt, core, Begun::Next(16));
-    same(rt, "next", core.on_next(16), reply(16, None));
-    last(rt, core, 0, Took::Decree(d));
+fn put_members(text: &mut Text, voters: Voters) {
+    text.number("2 is one ", u64::from(voters.contains(2)));
+    text.number("3 is one ", u64::from(voters.contains(3)));
+    text.end();
 }
 
-fn decide_alone(rt: &impl Abort, core: &mut Instance, d: Imprint) {
-    same(rt, "begin", core.on_begin(16, d), true);
-    voted(rt, core, 0, Took::Decree(d));
-    voted(rt, core, 0, Took::Nothing);
-    same(rt, "success", core.on_success(d), false);
-}
-
-#[test]
-fn one_core_decides_alone(rt: HostRuntime) {
-    let d = imprint(7);
-    let mut core = sealed(0, Voters::all(1), d);
-    same(&rt, "sealed", core.sealed(), Some(d));
-    promise_alone(&rt, &mut core, d);
-    decide_alone(&rt, &mut core, d);
-    same(&rt, "held", core.held(), Some(d));
-    ballots(&rt, &core, Some(16));
-    same(&rt, "voted", core.voted(), vote(16, 7));
-}
-
-#[test]
-fn repeats_do_not_count(rt: HostRuntime) {
-    let d = imprint(1);
-    let mut core = sealed(0, Voters::all(3), d);
-    try_ballot(&rt, &mut core, Begun::Next(16));
-    last(&rt, &mut core, 1, Took::Added);
-    last(&rt, &mut core, 1, Took::Nothing);
-    last(&rt, &mut core, 0, Took::Decree(d));
-    voted(&rt, &mut core, 2, Took::Added);
-    voted(&rt, &mut core, 2, Took::Nothing);
-    voted(&rt, &mut core, 1, Took::Decree(d));
-    voted(&rt, &mut core, 0, Took::Added);
-}
-
-#[test]
-fn what_is_not_sealed_begins_no_ballot(rt: HostRuntime) {
-    let mut core = Instance::new(0, Voters::all(3));
-    try_ballot(&rt, &mut core, Begun::Unsealed);
-}
-
-#[test]
-fn a_restart_forgets_the_ballot_in_hand(rt: HostRuntime) {
-    let mut core = sealed(0, Voters::all(3), imprint(1));
-    try_ballot(&rt, &mut core, Begun::Next(16));
-    core.restart();
-    last(&rt, &mut core, 1, Took::Nothing);
-    last(&rt, &mut core, 0, Took::Nothing);
-    try_ballot(&rt, &mut core, Begun::Next(32));
-    let promised = core.on_next(68_719_476_721).is_some();
-    same(&rt, "promised", promised, true);
-    try_ballot(&rt, &mut core, Begun::Last);
-}
-
-/// What core 1 replies to core 2 after its vote in ballot 16.
-fn reported(rt: &impl Abort, decree: Imprint) -> Option<LastVote> {
-    let mut voter = Instance::new(1, Voters::all(3));
-    same(rt, "next", voter.on_next(16), reply(16, None));
-    same(rt, "begin", voter.on_begin(16, decree), true);
-    voter.on_next(18)
-}
-
-#[test]
-fn a_reported_vote_is_taken_over(rt: HostRuntime) {
-    let a = imprint(1);
-    same(&rt, "reply", reported(&rt, a), reply(18, vote(16, 1)));
-    let mut late = sealed(2, Voters::all(3), imprint(2));
-    try_ballot(&rt, &mut late, Begun::Next(18));
-    same(&rt, 1, late.on_last(1, 18, vote(16, 1)), Took::Added);
-    same(&rt, 2, late.on_last(2, 18, None), Took::Decree(a));
-}
-
-#[test]
-fn members_are_the_first_cores(rt: HostRuntime) {
-    let voters = Voters::all(3);
-    let members = [voters.contains(2), voters.contains(3)];
-    same(&rt, "members", members, [true, false]);
-}
-
-/// Each core's LastVote, then each core's Voted, where core 1 alone votes and the candidate is this one.
-fn counts_one(rt: &impl Abort, core: &mut Instance, root: Imprint) {
-    last(rt, core, 0, Took::Nothing);
-    last(rt, core, 2, Took::Nothing);
-    last(rt, core, 1, Took::Decree(root));
-    voted(rt, core, 0, Took::Nothing);
-    voted(rt, core, 1, Took::Decree(root));
-}
+/// The members of three, and a vote in which core 1 alone has a voice.
+const ALONE: &str = "2 is one 1 3 is one 0
+unsealed
+next 16
+nothing nothing A nothing A tried 16 promised 0 - A
+promises 16 - votes 1 promises 68719476721 in 16 B tried 16 promised 68719476721 in 16 B A
+last";
 
 #[test]
 fn voters_alone_count(rt: HostRuntime) {
-    let root = imprint(5);
-    let mut core = sealed(0, Voters::none().with(1), root);
-    try_ballot(&rt, &mut core, Begun::Next(16));
-    counts_one(&rt, &mut core, root);
-    same(&rt, "held", core.held(), Some(root));
+    let mut text = Text::new(rt.alloc());
+    put_members(&mut text, Voters::all(3));
+    let mut vote = Instance::new(0, Voters::none().with(1));
+    put_begun(&mut text, vote.try_ballot());
+    if vote.sealed().is_none() {
+        vote.candidate(Sha::of(b""));
+    }
+    put_begun(&mut text, vote.try_ballot());
+    count(&mut text, &mut vote);
+    promise(&mut text, &mut vote, Sha::of(b"abc"));
+    same(&rt, "core 1 alone", text.as_str().trim_end(), ALONE);
+}
+
+/// A promise of a ballot of the last round.
+const LAST: &str = "done stores T
+done / c1 last 68719476721 - stores T promised 68719476721
+last";
+
+#[test]
+fn no_ballot_is_behind_the_last_round(rt: HostRuntime) {
+    let mut core = Core::<Sha>::new(rt.alloc(), 0, &CorePlan::new(3, T));
+    let mut text = Text::new(rt.alloc());
+    let next = SynodMessage::NextBallot(68_719_476_721);
+    put_step(&mut text, &core.seal(T));
+    put_step(&mut text, &core.receive(1, T, &next));
+    put_step(&mut text, &core.ballot(T));
+    same(&rt, "core 0", text.as_str().trim_end(), LAST);
 }

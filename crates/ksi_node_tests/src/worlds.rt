@@ -1,378 +1,181 @@
-ghost use Rattle.std.specs.Prelude.{◌<◌, length, IsTrue, IfSome};
-ghost use Rattle.ksi_aggtree.specs.Names.{IsName};
-ghost use Rattle.ksi_schedule.specs.Plans.{InRange};
+//! The events of a world as rows of text, and what comes of them.
+ghost use Rattle.std.specs.Prelude.{◌≡◌, ◌<◌};
 ghost use Rattle.ksi_schedule.specs.Events.{IsEvent};
 
-use crate::moves::Move::{Ballot, Close, Deliver, Respond, Seal};
-use crate::moves::Reply::{Done, Known, Late, Nothing};
-use crate::moves::{Row, go};
-use crate::same::same;
-use ksi_aggtree::{Item, Name};
-use ksi_imprint::{Compress, Imprint, Sha};
-use ksi_schedule::read_schedule;
-use ksi_signature::{AggregationChain, read};
-use ksi_world::{Answer, Event, Plan, Second, World};
+use crate::printed::{put_above, put_answer, put_item, put_signature, put_some, put_synod};
+use crate::text::{Text, meant, same};
+use ksi_corenode::Core;
+use ksi_imprint::Sha;
+use ksi_schedule::{Schedule, read_schedule};
+use ksi_world::{Actor, Content, Event, Message, NoMemory, World};
 use std::alloc::Global;
 use std::process::Abort;
 use std::test::Fail;
 
-pub(crate) const T: u64 = 1700000000;
+/// A line of a schedule whose words are these and what they stand for.
+fn put_line(schedule: &mut Text, line: &str) {
+    for word in line.split_whitespace() {
+        schedule.word(word);
+    }
+    schedule.end();
+}
 
-const ONE: &str =
-    "ksi-schedule 1\ncores 1\nstart 1700000000\naggregator 0 parent c0\naggregator 1 parent a0\n";
-
-const THREE: &str =
-    "ksi-schedule 1\ncores 3\nstart 1700000000\naggregator 0 parent c0\naggregator 1 parent a0\n";
-
-/// No event yet, of a plan of one core or three, and of two aggregators: 0 submits to core 0, and 1 to aggregator 0.
-pub(crate) fn world(alloc: Global, text: &str) -> Result<World<Sha>, Fail> {
-    match read_schedule(alloc, text.as_bytes()) {
-        Ok(schedule) => Ok(World::new(alloc, schedule.plan())?),
+/// The schedule of a plan and the left sides of rows.
+fn schedule_of(alloc: Global, plan: &str, rows: &str) -> Result<Schedule, Fail> {
+    let mut text = Text::new(alloc);
+    for line in plan.lines() {
+        put_line(&mut text, line);
+    }
+    for row in rows.lines() {
+        put_line(&mut text, side(row, false));
+    }
+    match read_schedule(alloc, text.as_str().as_bytes()) {
+        Ok(schedule) => Ok(schedule),
         Err(_) => Err(Fail::from("no schedule")),
     }
 }
 
-fn is_second(plan: &Plan, second: u64) -> bool
-    ensures { IsTrue result → InRange plan.now second }
+/// What stands before the equals sign of a row, or behind it.
+fn side(row: &str, behind: bool) -> &str {
+    match row.split_once(" = ") {
+        Some((event, told)) => { if behind { told } else { event } }
+        None => row,
+    }
+}
+
+fn put_actor(text: &mut Text, actor: Actor) {
+    match actor {
+        Actor::Core(core) => text.number("c", u64::from(core)),
+        Actor::Aggregator(aggregator) => text.number("a", u64::from(aggregator)),
+    }
+}
+
+/// A message: from whom it comes, to whom it goes, its second and what it says.
+fn put_message(text: &mut Text, message: &Message) {
+    put_actor(text, message.sender);
+    put_actor(text, message.addressee);
+    text.number("", message.second);
+    match &message.content {
+        Content::Synod(synod) => put_synod(text, synod),
+        Content::Submission(item) => put_item(text, item),
+        Content::Response(above) => put_above(text, above),
+    }
+}
+
+/// Takes the event, and tells the answer and each message that is sent.
+fn tell(alloc: Global, world: &mut World<Sha>, event: Event) -> Result<Text, NoMemory>
+    requires { IsEvent world.old.plan event }
+    ensures { world.new.plan ≡ world.old.plan }
 {
-    if second < plan.start() {
-        return false;
+    let before = world.wire().len();
+    let outcome = world.step(event)?;
+    let mut text = Text::new(alloc);
+    put_answer(&mut text, &outcome.answer);
+    for message in world.wire().iter().skip(before) {
+        text.word("/");
+        put_message(&mut text, message);
     }
-    second - plan.start() < 16777216
+    Ok(text)
 }
 
-fn of_core(world: &World<Sha>, core: u8, second: u64) -> bool
-    ensures { IsTrue result → (core < world.now.plan.cores) × InRange world.now.plan second }
-{
-    if core >= world.plan().cores() {
-        return false;
-    }
-    is_second(world.plan(), second)
-}
-
-fn of_aggregator(world: &World<Sha>, aggregator: u32, second: u64) -> bool
-    ensures { IsTrue result → (aggregator < length world.now.plan.parents) × InRange world.now.plan second }
-{
-    if aggregator as usize >= world.plan().aggregators() {
-        return false;
-    }
-    is_second(world.plan(), second)
-}
-
-/// Whether a request is of an aggregator and a second of the plan. Its name is one, as its type keeps it.
-fn is_request(world: &World<Sha>, aggregator: u32, second: u64, name: Option<Name>) -> bool
-    ensures { IsTrue result → (aggregator < length world.now.plan.parents) × InRange world.now.plan second × IfSome name IsName }
-{
-    if let Some(name) = &name {
-        let _bytes = name.as_bytes();
-    }
-    of_aggregator(world, aggregator, second)
-}
-
-/// Whether the event is of an actor and a second of the plan.
-fn is_event(world: &World<Sha>, event: &Event) -> bool
-    ensures { IsTrue result → IsEvent world.now.plan event.now }
-{
-    match *event {
-        Event::Request(k, t, _, name) => is_request(world, k, t, name),
-        Event::Close(k, t) => of_aggregator(world, k, t),
-        Event::Seal(j, t) => of_core(world, j, t),
-        Event::Ballot(j, t) => of_core(world, j, t),
-        Event::Deliver(_) => true,
-        Event::Tell(j, t) => of_core(world, j, t),
-        Event::Respond(j, t) => of_core(world, j, t),
-        Event::Publish(j, t) => of_core(world, j, t),
-        Event::RestartCore(j) => j < world.plan().cores(),
-        Event::RestartAggregator(k) => (k as usize) < world.plan().aggregators(),
-    }
-}
-
-/// The answer to an event and how many messages it sends; nothing where it is not one of the plan, or memory is wanting.
-fn told(world: &mut World<Sha>, event: Event) -> Option<(Answer, usize)> {
-    if !is_event(world, &event) {
-        return None;
-    }
-    match world.step(event) {
-        Ok(outcome) => Some((outcome.answer, outcome.sent)),
-        Err(_) => None,
-    }
-}
-
-/// The event has this answer and sends so many messages.
-pub(crate) fn step(
+/// The world after the events of a schedule, each of which tells what stands behind the equals sign of its row.
+fn happened(
     rt: &impl Abort,
-    world: &mut World<Sha>,
-    event: Event,
-    answer: Answer,
-    sent: usize,
-) {
-    same(rt, "the event", told(world, event), Some((answer, sent)));
-}
-
-/// A request of the hash of these bytes.
-pub(crate) fn request(
-    rt: &impl Abort,
-    world: &mut World<Sha>,
-    aggregator: u32,
-    second: u64,
-    bytes: &[u8],
-    answer: Answer,
-) {
-    let event = Event::Request(aggregator, second, Sha::of(bytes), None);
-    step(rt, world, event, answer, 0);
-}
-
-/// The messages from this number on are delivered, and each sends one.
-fn pass_on(rt: &impl Abort, world: &mut World<Sha>, first: u64)
-    requires { first < 100 }
-{
-    for number in first..first + 4 {
-        step(rt, world, Event::Deliver(number), Answer::Done, 1);
-    }
-}
-
-/// Seals the second and decides it by messages from this number on, with one core.
-pub(crate) fn decide(rt: &impl Abort, world: &mut World<Sha>, first: u64)
-    requires { first < 100 }
-{
-    step(rt, world, Event::Seal(0, T), Answer::Done, 0);
-    step(rt, world, Event::Ballot(0, T), Answer::Done, 1);
-    pass_on(rt, world, first);
-}
-
-/// The answer that publishes the root of the first second, where that alone is published, with this root.
-fn published(world: &World<Sha>) -> Option<(Answer, usize)> {
-    match world.published() {
-        [one] if one.0 == T => Some((Answer::Published(one.1), 0)),
-        _ => None,
-    }
-}
-
-/// Core 0 publishes a root for the first second, and that second alone is published, with this root.
-fn publish(rt: &impl Abort, world: &mut World<Sha>) {
-    let told = told(world, Event::Publish(0, T));
-    same(rt, "whether it is told", told.is_some(), true);
-    same(rt, "published", told, published(world));
-}
-
-/// What a core holds for the first second.
-fn held(world: &World<Sha>, core: u8) -> Option<Imprint> {
-    if core < world.plan().cores() {
-        world.held(core, T)
-    } else {
-        None
-    }
-}
-
-/// The candidate of a core for the first second.
-fn candidate(world: &World<Sha>, core: u8) -> Option<Imprint> {
-    if core < world.plan().cores() {
-        world.core(core).candidate(T)
-    } else {
-        None
-    }
-}
-
-/// How many events, messages and requests there are.
-pub(crate) fn counts(rt: &impl Abort, world: &World<Sha>, want: [usize; 3]) {
-    let told = [
-        world.events().len(),
-        world.wire().len(),
-        world.requests().len(),
-    ];
-    same(rt, "the counts", told, want);
-}
-
-/// How many bytes the issued signature of a number has.
-pub(crate) fn issued(world: &World<Sha>, number: u64) -> Option<usize> {
-    match world.issued(number) {
-        Ok(Some(bytes)) => Some(bytes.as_slice().len()),
-        _ => None,
-    }
-}
-
-/// Whether the chains of the issued signature of a number have these indexes.
-pub(crate) fn has_indexes(
     alloc: Global,
-    world: &World<Sha>,
-    number: u64,
-    indexes: &[&[u64]],
-) -> bool {
-    let Ok(Some(bytes)) = world.issued(number) else {
-        return false;
-    };
-    match read(alloc, bytes.as_slice()) {
-        Ok(signature) => are_indexes(signature.chains.as_slice(), indexes),
-        Err(_) => false,
+    schedule: &Schedule,
+    rows: &str,
+) -> Result<World<Sha>, Fail> {
+    let mut world = World::new(alloc, schedule.plan())?;
+    let mut rows = rows.lines();
+    'events: for event in schedule.events() {
+        let row = rows.next().unwrap_or("");
+        let told = tell(alloc, &mut world, *event)?;
+        same(rt, row, told.as_str(), side(row, true));
+    }
+    Ok(world)
+}
+
+/// What a core has of a second, where it has anything.
+fn put_second(text: &mut Text, core: &Core<Sha>, t: u64) {
+    if let Some(entries) = core.sealed(t) {
+        text.number("sealed ", t);
+        text.number("", entries.len() as u64);
+        put_some(text, core.candidate(t));
+    }
+    if let Some(root) = core.held(t) {
+        text.number("held ", t);
+        text.imprint(&root);
     }
 }
 
-fn are_indexes(chains: &[AggregationChain], indexes: &[&[u64]]) -> bool {
-    let mut same = chains.len() == indexes.len();
-    for (chain, index) in chains.iter().zip(indexes.iter()) {
-        same = same && chain.index.as_slice() == *index;
+/// What a core has.
+fn put_core(text: &mut Text, world: &World<Sha>, core: u8)
+    requires { core < world.now.plan.cores }
+{
+    let start = world.plan().start();
+    let core = world.core(core);
+    text.number("settled ", core.settled());
+    for t in start..start.saturating_add(3) {
+        put_second(text, core, t);
     }
-    same
+    text.end();
 }
 
-/// Whether this one second is kept, with this root and one item of it.
-fn keeps(world: &World<Sha>, root: Imprint) -> bool {
-    let kept = match world.kept() {
-        Ok(kept) => kept,
-        Err(_) => return false,
-    };
-    match kept.seconds.as_slice() {
-        [one] => kept.start == T && one.second == T && one.root == root && is_alone(one, root),
-        _ => false,
-    }
-}
-
-/// Whether the imprint is the only item.
-fn is_alone(one: &Second, imprint: Imprint) -> bool {
-    match one.items.as_slice() {
-        [item] => *item == Item::new(imprint, 0),
-        _ => false,
-    }
-}
-
-/// A request on its way to core 0, before the seal.
-fn submit_one(rt: &impl Abort, world: &mut World<Sha>) {
-    request(rt, world, 0, T, b"", Answer::Number(0));
-    step(rt, world, Event::Close(0, T), Answer::Done, 1);
-    step(rt, world, Event::Deliver(0), Answer::Done, 0);
-}
-
-fn is_decided(rt: &impl Abort, world: &World<Sha>, root: Imprint) {
-    same(rt, "held", held(world, 0), Some(root));
-    same(rt, "issued", issued(world, 0), None);
-}
-
-fn answer_one(rt: &impl Abort, world: &mut World<Sha>) {
-    step(rt, world, Event::Respond(0, T), Answer::Done, 1);
-    step(rt, world, Event::Deliver(6), Answer::Done, 0);
-    publish(rt, world);
-}
-
-fn is_answered(rt: &impl Abort, world: &World<Sha>, root: Imprint) {
-    counts(rt, world, [12, 7, 1]);
-    let told = [issued(world, 0), issued(world, 1)];
-    same(rt, "issued", told, [Some(615), None]);
-    same(rt, "kept", keeps(world, root), true);
-}
-
-fn deliver_none(rt: &impl Abort, world: &mut World<Sha>) {
-    step(rt, world, Event::Deliver(7), Answer::Nothing, 0);
-    counts(rt, world, [13, 7, 1]);
-}
-
-#[test]
-fn a_request_is_decided_issued_and_published(rt: HostRuntime) -> Result<(), Fail> {
-    let mut world = world(rt.alloc(), ONE)?;
-    let root = Sha::of(b"");
-    submit_one(&rt, &mut world);
-    decide(&rt, &mut world, 1);
-    is_decided(&rt, &world, root);
-    answer_one(&rt, &mut world);
-    is_answered(&rt, &world, root);
-    deliver_none(&rt, &mut world);
-    Ok(())
-}
-
-/// A request of aggregator 1, and one of aggregator 0 beside it.
-fn submit_two(rt: &impl Abort, world: &mut World<Sha>) {
-    request(rt, world, 1, T, b"", Answer::Number(0));
-    step(rt, world, Event::Close(1, T), Answer::Done, 1);
-    step(rt, world, Event::Deliver(0), Answer::Done, 0);
-    request(rt, world, 0, T, b"abc", Answer::Number(1));
-    step(rt, world, Event::Close(0, T), Answer::Done, 1);
-    step(rt, world, Event::Deliver(1), Answer::Done, 0);
-}
-
-fn answer_two(rt: &impl Abort, world: &mut World<Sha>) {
-    static ROWS: [Row; 4] = [
-        (Respond(0, T), Done, 1),
-        (Deliver(7), Done, 1),
-        (Deliver(8), Done, 0),
-        (Deliver(8), Nothing, 0),
-    ];
-    go(rt, world, &ROWS);
-}
-
-fn have_indexes(rt: &impl Abort, alloc: Global, world: &World<Sha>) {
-    let below = has_indexes(alloc, world, 0, &[&[1, 3, 1], &[1, 3], &[1]]);
-    let beside = has_indexes(alloc, world, 1, &[&[1, 2], &[1]]);
-    same(rt, "the indexes", [below, beside], [true; 2]);
-}
-
-#[test]
-fn a_response_goes_down_the_aggregators(rt: HostRuntime) -> Result<(), Fail> {
-    let mut world = world(rt.alloc(), ONE)?;
-    submit_two(&rt, &mut world);
-    decide(&rt, &mut world, 2);
-    answer_two(&rt, &mut world);
-    have_indexes(&rt, rt.alloc(), &world);
-    Ok(())
-}
-
-fn restart_open(rt: &impl Abort, world: &mut World<Sha>) {
-    let restart = Event::RestartAggregator(0);
-    request(rt, world, 0, T, b"", Answer::Number(0));
-    step(rt, world, restart, Answer::Done, 0);
-    step(rt, world, Event::Close(0, T), Answer::Done, 0);
-    request(rt, world, 0, T, b"", Answer::Late);
-    request(rt, world, 0, T + 1, b"", Answer::Number(1));
-}
-
-fn deliver_again(rt: &impl Abort, world: &mut World<Sha>) {
-    static ROWS: [Row; 5] = [
-        (Close(0, T + 1), Done, 1),
-        (Deliver(0), Done, 0),
-        (Deliver(0), Known, 0),
-        (Seal(0, T + 1), Done, 0),
-        (Deliver(0), Late, 0),
-    ];
-    go(rt, world, &ROWS);
-}
-
-/// How many seconds are kept.
-pub(crate) fn kept(world: &World<Sha>) -> Option<usize> {
-    match world.kept() {
-        Ok(kept) => Some(kept.seconds.as_slice().len()),
-        Err(_) => None,
+/// What is kept: of each second its root and its items.
+fn put_kept(text: &mut Text, world: &World<Sha>) {
+    if let Ok(kept) = world.kept() {
+        for one in kept.seconds.as_slice() {
+            text.number("kept ", one.second);
+            text.imprint(&one.root);
+            for item in one.items.as_slice() {
+                put_item(text, item);
+            }
+            text.end();
+        }
     }
 }
 
-#[test]
-fn a_restart_forgets_what_is_open(rt: HostRuntime) -> Result<(), Fail> {
-    let mut world = world(rt.alloc(), ONE)?;
-    restart_open(&rt, &mut world);
-    deliver_again(&rt, &mut world);
-    same(&rt, "issued", issued(&world, 0), None);
-    same(&rt, "kept", kept(&world), Some(0));
-    Ok(())
+/// The signature of a request.
+fn put_request(text: &mut Text, alloc: Global, world: &World<Sha>, number: u64) {
+    text.number("request ", number);
+    if let Ok(Some(bytes)) = world.issued(number) {
+        put_signature(text, alloc, bytes.as_slice());
+    }
+    text.end();
 }
 
-fn try_two_ballots(rt: &impl Abort, world: &mut World<Sha>) {
-    static ROWS: [Row; 10] = [
-        (Seal(0, T), Done, 0),
-        (Seal(2, T), Done, 0),
-        (Ballot(0, T), Done, 3),
-        (Ballot(2, T), Done, 3),
-        (Deliver(0), Done, 1),
-        (Deliver(1), Done, 1),
-        (Deliver(6), Done, 0),
-        (Deliver(7), Done, 3),
-        (Deliver(4), Done, 1),
-        (Deliver(9), Nothing, 0),
-    ];
-    go(rt, world, &ROWS);
+/// How many events, messages and requests there are, what each core has, and what is published, kept and issued.
+fn state(alloc: Global, world: &World<Sha>) -> Text {
+    let mut text = Text::new(alloc);
+    text.number("events ", world.events().len() as u64);
+    text.number("messages ", world.wire().len() as u64);
+    text.end();
+    for core in 0..world.plan().cores() {
+        put_core(&mut text, world, core);
+    }
+    for (second, root) in world.published() {
+        text.number("published ", *second);
+        text.imprint(root);
+        text.end();
+    }
+    put_kept(&mut text, world);
+    for number in 0..world.requests().len() {
+        put_request(&mut text, alloc, world, number as u64);
+    }
+    text
 }
 
-#[test]
-fn a_lower_ballot_comes_too_late(rt: HostRuntime) -> Result<(), Fail> {
-    let mut world = world(rt.alloc(), THREE)?;
-    try_two_ballots(&rt, &mut world);
-    same(&rt, "candidate", candidate(&world, 2), Some(Imprint::ZERO));
-    same(&rt, "held", held(&world, 0), None);
+/// Each row has an event of the plan and what it tells, and the world is in this state behind them.
+pub(crate) fn are_so(
+    rt: &impl Abort,
+    alloc: Global,
+    plan: &str,
+    rows: &str,
+    want: &str,
+) -> Result<(), Fail> {
+    let schedule = schedule_of(alloc, plan, rows)?;
+    let world = happened(rt, alloc, &schedule, rows)?;
+    let told = state(alloc, &world);
+    same(rt, plan, told.as_str().trim_end(), want);
     Ok(())
 }
