@@ -2,7 +2,8 @@
 use crate::text::{bytes, hash, is_refused, is_text, sides};
 use ksi_imprint::{Bytes, NoMemory, Refused};
 use ksi_signature::{
-    Bodies, CalendarChain, CalendarLinks, PublicationRecord, WithRefusal, view, with_calendar,
+    Bodies, CalendarChain, CalendarLinks, PublicationRecord, SignatureView, WithRefusal, view,
+    with_calendar,
 };
 use std::alloc::Global;
 use std::process::Abort;
@@ -38,26 +39,36 @@ fn extended(alloc: Global, bytes: &[u8], size: usize) -> Result<Bytes, Refused<W
     with_calendar(alloc, bytes, &calendar(alloc), &published)
 }
 
-/// The new bytes of a view.
-fn renewed(alloc: Global, bytes: &[u8]) -> Result<Bytes, Fail> {
+/// The new bytes of a view are the words on the right side of a row.
+fn is_renewed(
+    rt: &impl Abort,
+    alloc: Global,
+    row: &str,
+    lent: &SignatureView<'_>,
+) -> Result<(), Fail> {
+    lent.is_of_its_bytes();
     let published = record(alloc, 0)?;
-    match view(bytes) {
-        Ok(lent) => {
-            lent.is_of_its_bytes();
-            Ok(lent.with_calendar(alloc, &calendar(alloc), &published)?)
-        }
-        Err(_) => Err(Fail::from("it is not lent")),
+    match lent.with_calendar(alloc, &calendar(alloc), &published) {
+        Ok(text) => is_text(rt, alloc, row, text.as_slice()),
+        Err(refused) => is_refused(rt, alloc, row, Some(refused)),
     }
 }
 
-/// The new bytes are the words on the right side of a row, and a view gives the same.
+/// So are the new bytes of these.
 fn is_extended(rt: &impl Abort, alloc: Global, row: &str, bytes: &[u8]) -> Result<(), Fail> {
     match extended(alloc, bytes, 0) {
-        Ok(text) => is_text(rt, alloc, row, text.as_slice())?,
-        Err(refused) => return is_refused(rt, alloc, row, Some(refused)),
+        Ok(text) => is_text(rt, alloc, row, text.as_slice()),
+        Err(refused) => is_refused(rt, alloc, row, Some(refused)),
     }
-    let text = renewed(alloc, bytes)?;
-    is_text(rt, alloc, row, text.as_slice())
+}
+
+/// Both say what the row says; a view of what is no signature says nothing.
+fn are_extended(rt: &impl Abort, alloc: Global, row: &str) -> Result<(), Fail> {
+    let text = bytes(alloc, sides(row).0)?;
+    if let Ok(lent) = view(text.as_slice()) {
+        is_renewed(rt, alloc, row, &lent)?;
+    }
+    is_extended(rt, alloc, row, text.as_slice())
 }
 
 /// Signatures, and what they are extended to: it retains what is to be passed on, with its header as it is.
@@ -74,8 +85,7 @@ const EXTENDED: &str = "8800005a G K = 88000085 G K R
 #[test]
 fn retains_what_is_to_be_passed_on(rt: HostRuntime) -> Result<(), Fail> {
     for row in EXTENDED.lines() {
-        let text = bytes(rt.alloc(), sides(row).0)?;
-        is_extended(&rt, rt.alloc(), row, text.as_slice())?;
+        are_extended(&rt, rt.alloc(), row)?;
     }
     Ok(())
 }

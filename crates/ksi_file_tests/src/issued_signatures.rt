@@ -9,6 +9,7 @@ use ksi_imprint::{Bytes, Imprint, NoMemory};
 use ksi_signature::{Above, AboveChain, AboveChains, AboveLinks, CalendarLinks, issue};
 use ksi_split::Side;
 use std::alloc::Global;
+use std::slice;
 use std::test::Fail;
 
 /// No chain and no link above the round of the hash of no bytes.
@@ -44,8 +45,9 @@ const NAMED: &str =
 
 #[test]
 fn issues_an_item_with_a_name(rt: HostRuntime) -> Result<(), Fail> {
-    let links = [link_of_al(rt.alloc())?];
-    let text = issue(rt.alloc(), 0, &hash(), &links, &nothing(rt.alloc()))?;
+    let link = link_of_al(rt.alloc())?;
+    let links = slice::from_ref(&link);
+    let text = issue(rt.alloc(), 0, &hash(), links, &nothing(rt.alloc()))?;
     is_text(&rt, rt.alloc(), NAMED, text.as_slice())
 }
 

@@ -1,8 +1,10 @@
 // What is read of a signature, and what a view of its bytes shows, as text.
-use crate::signatures::{TWO_CHAINS, signature_of};
-use crate::text::{bytes, hash, push, same};
-use ksi_aggchain::Sibling;
-use ksi_signature::{AggregationChain, CalendarView, ChainView, Signature, SignatureView, view};
+use crate::signatures::TWO_CHAINS;
+use crate::text::{bytes, hash, is_refused, push, same};
+use ksi_aggchain::{LinkView, Sibling};
+use ksi_signature::{
+    AggregationChain, CalendarView, ChainView, Signature, SignatureView, read, view,
+};
 use std::alloc::Global;
 use std::process::Abort;
 use std::test::Fail;
@@ -60,27 +62,28 @@ fn publication(signature: &Signature) -> Option<(u64, usize, usize)> {
     }
 }
 
-fn said_of(alloc: Global, signature: &Signature) -> Result<String, Fail> {
+fn says(rt: &impl Abort, alloc: Global, signature: &Signature, want: &str) -> Result<(), Fail> {
     let mut said = String::new(alloc);
     for chain in signature.chains.as_slice() {
         say_chain(alloc, &mut said, chain)?;
     }
-    push(alloc, &mut said, calendar(signature))?;
-    push(alloc, &mut said, publication(signature))?;
-    Ok(said)
+    let others = (calendar(signature), publication(signature));
+    push(alloc, &mut said, others)?;
+    same(rt, "said", said.as_str(), want);
+    Ok(())
 }
 
 /// What is read of the signature of these words.
 fn is_read(rt: &impl Abort, alloc: Global, words: &str, want: &str) -> Result<(), Fail> {
-    let signature = signature_of(alloc, words)?;
-    let said = said_of(alloc, &signature)?;
-    same(rt, words, said.as_str(), want);
-    Ok(())
+    let text = bytes(alloc, words)?;
+    match read(alloc, text.as_slice()) {
+        Ok(signature) => says(rt, alloc, &signature, want),
+        Err(refused) => is_refused(rt, alloc, words, Some(refused)),
+    }
 }
 
 const ONE: &str = "(0, true, [1], None)
-Some((0, 0, 0))
-None
+(Some((0, 0, 0)), None)
 ";
 
 /// The longer index comes first.
@@ -88,8 +91,7 @@ const BOTH: &str = "(5, true, [300, 0], Some([97, 98, 99]))
 (Left, 2, (3, [255]))
 (Right, 0, (4, [1, 2]))
 (0, true, [1], None)
-Some((9, 9, 1))
-Some((9, 1, 1))
+(Some((9, 9, 1)), Some((9, 1, 1)))
 ";
 
 #[test]
@@ -99,31 +101,31 @@ fn each_element_is_read_in_any_order(rt: HostRuntime) -> Result<(), Fail> {
     is_read(&rt, rt.alloc(), TWO_CHAINS, BOTH)
 }
 
-/// A chain's time, whether its input is the hash of no bytes, how many parts its index has and the last of them, and its input
-/// body; then each part; then of each link the side, the correction, the sibling and whether it is raw.
-fn show_chain(alloc: Global, shown: &mut String, chain: &ChainView<'_>) -> Result<(), Fail> {
-    let index = (chain.parts(), chain.last_part());
-    push(
-        alloc,
-        shown,
-        (
-            chain.time(),
-            chain.input() == hash(),
-            index,
-            chain.input_body(),
-        ),
-    )?;
+/// Each part of a chain's index.
+fn show_index(alloc: Global, shown: &mut String, chain: &ChainView<'_>) -> Result<(), Fail> {
     for part in chain.index() {
         push(alloc, shown, part)?;
     }
-    for link in chain.links().as_slice() {
-        push(
-            alloc,
-            shown,
-            (link.side, link.correction, link.sibling, link.raw),
-        )?;
+    Ok(())
+}
+
+/// Of each link the side, the correction, the sibling and whether it is raw.
+fn show_links(alloc: Global, shown: &mut String, links: &[LinkView<'_>]) -> Result<(), Fail> {
+    for link in links {
+        let sibling = (link.sibling, link.raw);
+        push(alloc, shown, (link.side, link.correction, sibling))?;
     }
     Ok(())
+}
+
+/// A chain's time, whether its input is the hash of no bytes, how many parts its index has and the last of them, and its input
+/// body; then the parts and the links.
+fn show_chain(alloc: Global, shown: &mut String, chain: &ChainView<'_>) -> Result<(), Fail> {
+    let index = (chain.parts(), chain.last_part());
+    let input = (chain.input() == hash(), chain.input_body());
+    push(alloc, shown, (chain.time(), index, input))?;
+    show_index(alloc, shown, chain)?;
+    show_links(alloc, shown, chain.links().as_slice())
 }
 
 /// Both times of a calendar chain, and whether its input is the hash of no bytes; then the same of each link's sibling behind
@@ -137,46 +139,44 @@ fn show_calendar(alloc: Global, shown: &mut String, chain: &CalendarView<'_>) ->
     Ok(())
 }
 
-/// The chains, the calendar chain and the publication record, each where it is there.
-fn shown_by(alloc: Global, view: &SignatureView<'_>) -> Result<String, Fail> {
+/// The calendar chain and the publication record, each where it is there.
+fn show_others(alloc: Global, shown: &mut String, view: &SignatureView<'_>) -> Result<(), Fail> {
+    if let Some(chain) = view.calendar() {
+        show_calendar(alloc, shown, &chain)?;
+    }
+    match view.publication() {
+        Some(record) => push(alloc, shown, (record.time(), record.hash() == hash())),
+        None => Ok(()),
+    }
+}
+
+fn shows(rt: &impl Abort, alloc: Global, view: &SignatureView<'_>, want: &str) -> Result<(), Fail> {
     let mut shown = String::new(alloc);
     for chain in view.chains() {
         show_chain(alloc, &mut shown, chain)?;
     }
-    if let Some(chain) = view.calendar() {
-        show_calendar(alloc, &mut shown, &chain)?;
-    }
-    if let Some(record) = view.publication() {
-        push(alloc, &mut shown, (record.time(), record.hash() == hash()))?;
-    }
-    Ok(shown)
+    show_others(alloc, &mut shown, view)?;
+    same(rt, "shown", shown.as_str(), want);
+    Ok(())
 }
 
-const SHOWN: &str = "(5, true, (2, 0), Some([97, 98, 99]))
+const SHOWN: &str = "(5, (2, 0), (true, Some([97, 98, 99])))
 300
 0
-(Left, 2, [255], true)
-(Right, 0, [1, 2], true)
-(0, true, (1, 1), None)
+(Left, 2, ([255], true))
+(Right, 0, ([1, 2], true))
+(0, (1, 1), (true, None))
 1
 (9, 9, true)
 (Left, true)
 (9, true)
 ";
 
-fn shows(rt: &impl Abort, alloc: Global, text: &[u8], want: &str) -> Result<(), Fail> {
-    match view(text) {
-        Ok(view) => {
-            let shown = shown_by(alloc, &view)?;
-            same(rt, "shown", shown.as_str(), want);
-            Ok(())
-        }
-        Err(_) => Err(Fail::from("it is not lent")),
-    }
-}
-
 #[test]
 fn each_element_is_shown(rt: HostRuntime) -> Result<(), Fail> {
     let text = bytes(rt.alloc(), TWO_CHAINS)?;
-    shows(&rt, rt.alloc(), text.as_slice(), SHOWN)
+    match view(text.as_slice()) {
+        Ok(view) => shows(&rt, rt.alloc(), &view, SHOWN),
+        Err(_) => Err(Fail::from("it is not lent")),
+    }
 }

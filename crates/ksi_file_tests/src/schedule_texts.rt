@@ -6,32 +6,23 @@ use std::process::Abort;
 use std::slice;
 use std::test::Fail;
 
+const DIGITS: &str = "e3b0c44298fc1c149afbf4c8996fb92427ae41e4649b934ca495991b7852b855";
+
+const CAPITALS: &str = "E3B0C44298FC1C149AFBF4C8996FB92427AE41E4649B934CA495991B7852B855";
+
+const LONGEST: &str = "abcdefghijklmnopqrstuvwxyzABCDEFGHIJKLMNOPQRSTUVWXYZ0123456789._";
+
 /// What a sign of a text stands for, each other byte standing for itself: a line feed, 64 hex digits, the same as capitals, a
 /// name of 64 letters, and a byte that is no text.
-static SIGNS: [(u8, &[u8]); 5] = [
-    (b'|', b"\n"),
-    (
-        b'#',
-        b"e3b0c44298fc1c149afbf4c8996fb92427ae41e4649b934ca495991b7852b855",
-    ),
-    (
-        b'^',
-        b"E3B0C44298FC1C149AFBF4C8996FB92427AE41E4649B934CA495991B7852B855",
-    ),
-    (
-        b'*',
-        b"abcdefghijklmnopqrstuvwxyzABCDEFGHIJKLMNOPQRSTUVWXYZ0123456789._",
-    ),
-    (b'~', b"\xff"),
-];
-
 fn spelled(byte: &u8) -> &[u8] {
-    for (sign, text) in &SIGNS {
-        if sign == byte {
-            return text;
-        }
+    match byte {
+        b'|' => b"\n",
+        b'#' => DIGITS.as_bytes(),
+        b'^' => CAPITALS.as_bytes(),
+        b'*' => LONGEST.as_bytes(),
+        b'~' => b"\xff",
+        _ => slice::from_ref(byte),
     }
-    slice::from_ref(byte)
 }
 
 fn spell(whole: &mut Vec<u8>, text: &str) -> Result<(), NoMemory> {
@@ -61,7 +52,20 @@ pub(crate) fn schedule_of(alloc: Global, text: &str) -> Result<Schedule, Fail> {
     }
 }
 
-/// A schedule is printed as the lines on the right side of a row behind those of a header.
+/// A text is that of the lines on the right side of a row behind those of a header.
+fn is_text(
+    rt: &impl Abort,
+    alloc: Global,
+    header: &str,
+    row: &str,
+    text: &[u8],
+) -> Result<(), Fail> {
+    let want = spelled_behind(alloc, header, sides(row).1)?;
+    same(rt, row, text, want.as_slice());
+    Ok(())
+}
+
+/// A schedule is printed so.
 fn is_printed(
     rt: &impl Abort,
     alloc: Global,
@@ -70,9 +74,7 @@ fn is_printed(
     schedule: &Schedule,
 ) -> Result<(), Fail> {
     let printed = print(alloc, schedule)?;
-    let want = spelled_behind(alloc, header, sides(row).1)?;
-    same(rt, row, printed.as_slice(), want.as_slice());
-    Ok(())
+    is_text(rt, alloc, header, row, printed.as_slice())
 }
 
 /// The lines on the left side of a row, behind those of a header, are printed as those on its right side, or have that fault.

@@ -28,12 +28,13 @@ Deliver(6)
 Publish(0, 1700000000)
 ";
 
-fn said_of(alloc: Global, events: &[Event]) -> Result<String, Fail> {
+fn are_events(rt: &impl Abort, alloc: Global, events: &[Event], want: &str) -> Result<(), Fail> {
     let mut said = String::new(alloc);
     for event in events {
         push(alloc, &mut said, *event)?;
     }
-    Ok(said)
+    same(rt, "events", said.as_str(), want);
+    Ok(())
 }
 
 fn is_one_below_one(rt: &impl Abort, plan: &Plan) {
@@ -51,9 +52,7 @@ fn is_one_below_one(rt: &impl Abort, plan: &Plan) {
 fn twelve_events_are_read(rt: HostRuntime) -> Result<(), Fail> {
     let schedule = schedule_of(rt.alloc(), WHOLE_PATH)?;
     is_one_below_one(&rt, schedule.plan());
-    let said = said_of(rt.alloc(), schedule.events())?;
-    same(&rt, "events", said.as_str(), EVENTS);
-    Ok(())
+    are_events(&rt, rt.alloc(), schedule.events(), EVENTS)
 }
 
 /// Whole texts, and what is printed of them or their fault.

@@ -6,6 +6,42 @@ use std::alloc::Global;
 use std::process::Abort;
 use std::test::Fail;
 
+/// The right side of a row is what is written of a signature.
+fn is_written(
+    rt: &impl Abort,
+    alloc: Global,
+    row: &str,
+    signature: &Signature,
+) -> Result<(), Fail> {
+    match write(alloc, signature) {
+        Ok(text) => is_text(rt, alloc, row, text.as_slice()),
+        Err(refused) => is_refused(rt, alloc, row, Some(refused)),
+    }
+}
+
+/// It is what is written of the signature that bytes are, or their fault.
+fn is_read(rt: &impl Abort, alloc: Global, row: &str, text: &[u8]) -> Result<(), Fail> {
+    match read(alloc, text) {
+        Ok(signature) => is_written(rt, alloc, row, &signature),
+        Err(refused) => is_refused(rt, alloc, row, Some(refused)),
+    }
+}
+
+/// A check, a view and a reading of the left sides of rows say what their right sides say.
+fn are_read(rt: &impl Abort, alloc: Global, rows: &str) -> Result<(), Fail> {
+    for row in rows.lines() {
+        let text = bytes(alloc, sides(row).0)?;
+        same(
+            rt,
+            row,
+            check(text.as_slice()).err(),
+            view(text.as_slice()).err(),
+        );
+        is_read(rt, alloc, row, text.as_slice())?;
+    }
+    Ok(())
+}
+
 /// Bytes and their first fault. Those with `07` before the calendar chain have a link with the body behind it.
 const FAULTS: &str = " = Tlv(0)
 88010000 = NotSignature(2049)
@@ -20,46 +56,21 @@ const FAULTS: &str = " = Tlv(0)
 8800005a 8804002b 0200 030101 0521 A 060101 K = RefusedElement(2052, 4)
 8800005a 8801002b 0200 030101 0521 A 1e0101 K = UnknownCritical(30, 48)
 8801005a G K = NotSignature(2049)
-8800005f 88010030 0200 030101 0521 A 060101 0703 0301ff K = None
 8800005c 8801002d 0200 030101 0521 A 060101 0700 K = Sibling(51)
 8800005e 8801002f 0200 030101 0521 A 060101 0702 0300 K = Sibling(53)
 88000061 88010032 0200 030101 0521 A 060101 0705 0301ff 0400 K = Sibling(56)
 88000060 88010031 0200 030101 0521 A 060101 0704 0100 0100 K = Repeated(1, 55)
 88000060 88010031 0200 030101 0521 A 060101 0704 0102 0100 K = Number(53)";
 
-/// A check, a view and a reading of a row's bytes have its fault.
-fn has_fault(rt: &impl Abort, alloc: Global, row: &str) -> Result<(), Fail> {
-    let text = bytes(alloc, sides(row).0)?;
-    same(
-        rt,
-        row,
-        check(text.as_slice()).err(),
-        view(text.as_slice()).err(),
-    );
-    is_refused(rt, alloc, row, read(alloc, text.as_slice()).err())
-}
-
 #[test]
 fn answers_the_first_fault(rt: HostRuntime) -> Result<(), Fail> {
-    for row in FAULTS.lines() {
-        has_fault(&rt, rt.alloc(), row)?;
-    }
-    Ok(())
+    are_read(&rt, rt.alloc(), FAULTS)
 }
 
 /// Worked out by hand: two chains, of one and of two index parts, a calendar chain without an aggregation time and a
 /// publication record, with unknown elements in each, a long header of a short kind and numbers with zeros before them.
 pub(crate) const TWO_CHAINS: &str =
     "88000102 G 8801004a 80020002 0005 0303 00012c 0300 0403 616263 0521 A 060101 0708 010102 0301ff 5e00 0804 04020102 5e00 8802004c 010109 0521 A 0721 A 5e0100 8803002f 1026 020109 0421 A 0901aa 0a00 5e00 5e00";
-
-/// The signature of these words.
-pub(crate) fn signature_of(alloc: Global, words: &str) -> Result<Signature, Fail> {
-    let text = bytes(alloc, words)?;
-    match read(alloc, text.as_slice()) {
-        Ok(signature) => Ok(signature),
-        Err(_) => Err(Fail::from("it is not read")),
-    }
-}
 
 /// Signatures that are read, and what is written of them: it stands in the order of the format, without what is unknown.
 const WRITTEN: &str = "8800005a G K = 8800005a G K
@@ -71,21 +82,9 @@ const WRITTEN: &str = "8800005a G K = 8800005a G K
 88000061 88010032 0200 030101 0521 A 060101 0705 0100 040105 K = 8800005f 88010030 0200 030101 0521 A 060101 0703 040105 K
 88000063 88010034 0200 030101 0521 A 060101 0707 0301ff 01020007 K = 88000062 88010033 0200 030101 0521 A 060101 0706 010107 0301ff K";
 
-/// What is written of a signature are the words on the right side of a row.
-fn is_written(rt: &impl Abort, alloc: Global, row: &str) -> Result<(), Fail> {
-    let signature = signature_of(alloc, sides(row).0)?;
-    match write(alloc, &signature) {
-        Ok(text) => is_text(rt, alloc, row, text.as_slice()),
-        Err(refused) => is_so(rt, alloc, row, refused),
-    }
-}
-
 #[test]
 fn writes_in_the_order_of_the_format(rt: HostRuntime) -> Result<(), Fail> {
-    for row in WRITTEN.lines() {
-        is_written(&rt, rt.alloc(), row)?;
-    }
-    Ok(())
+    are_read(&rt, rt.alloc(), WRITTEN)
 }
 
 /// One chain with so many bytes of input data and nothing else.

@@ -92,7 +92,10 @@ pub(crate) fn bytes(alloc: Global, words: &str) -> Result<Vec<u8>, Fail> {
 
 /// What stands on both sides of a row's equals sign.
 pub(crate) fn sides(row: &str) -> (&str, &str) {
-    row.split_once(" = ").unwrap_or((row, ""))
+    match row.split_once(" = ") {
+        Some(sides) => sides,
+        None => (row, ""),
+    }
 }
 
 // The one assertion. The time to prove a function grows with the square of its length.

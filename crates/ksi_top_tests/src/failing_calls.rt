@@ -1,71 +1,72 @@
 // Every command with each of its calls failing in turn.
-use crate::mirrors;
+use crate::mirrors::ONE;
 use crate::same::same;
-use crate::text::{each_ends, hold_each, words};
-use crate::whole_paths::{held, replayed};
+use crate::script::{first, name_of, play, sides, words};
+use crate::whole_paths::REPLAYED;
 use ksi_ports::{MemFiles, MemSink, SureFiles, SureSink};
-use ksi_top::{Status, ksi, sure_run};
+use ksi_top::{ksi, sure_run};
 use std::alloc::Global;
 use std::process::Abort;
 use std::test::Fail;
 
-// A command, how often it calls on the files, how many bytes it saves under "o", and the first three that it puts.
-type Row = (&'static str, u64, Option<usize>, &'static [u8]);
+// A command, how often it calls on the files, how many bytes it saves under "o", and how the line that it puts begins.
+const ROWS: &str = "replay f o = 2 766 eve
+sign j 0 o = 2 615 sig
+publish j o = 2 68 pub
+extend j s T o = 3 662 ext
+verify s A p = 2 - acc
+audit j s A p = 3 - ins
+make 7 o = 1 233840 mad
+drill 7 = 0 - sec
+migrate j o = 2 766 mig
+front j T T o = 2 20 fro
+compare j j c = 3 - equ
+block g Z = 1 - blo
+line g Z 0 o = 2 80 lin
+checkline s p l q = 4 - ref
+locate g Z l q = 3 - in 0
+merge m m o = 3 108 mer
+whole m o = 2 98 who
+inspect n = 1 - cor
+mirror f 0 o = 2 108 mir
+node f 0 o = 2 222 nod";
 
-static ROWS: [Row; 20] = [
-    ("replay f o", 2, Some(766), b"eve"),
-    ("sign j 0 o", 2, Some(615), b"sig"),
-    ("publish j o", 2, Some(68), b"pub"),
-    ("extend j s T o", 3, Some(662), b"ext"),
-    ("verify s A p", 2, None, b"acc"),
-    ("audit j s A p", 3, None, b"ins"),
-    ("make 7 o", 1, Some(233_840), b"mad"),
-    ("drill 7", 0, None, b"sec"),
-    ("migrate j o", 2, Some(766), b"mig"),
-    ("front j T T o", 2, Some(20), b"fro"),
-    ("compare j j c", 3, None, b"equ"),
-    ("block g Z", 1, None, b"blo"),
-    ("line g Z 0 o", 2, Some(80), b"lin"),
-    ("checkline s p l q", 4, None, b"ref"),
-    ("locate g Z l q", 3, None, b"in "),
-    ("merge m m o", 3, Some(108), b"mer"),
-    ("whole m o", 2, Some(98), b"who"),
-    ("inspect n", 1, None, b"cor"),
-    ("mirror f 0 o", 2, Some(108), b"mir"),
-    ("node f 0 o", 2, Some(222), b"nod"),
-];
-
-// A node file without facts.
-const NODE: &str = "n = 4b53494e4f444531 00 01 000000006553f100 00";
-
-// The files that some of them read beside those of a whole path.
-const MADE: &str = "front j T T c = front T T 0
-line g Z 0 q = line 0";
+// The files that some of them read beside those of a whole path: a log and a line, and a node file without facts.
+const MADE: &str = "hold g 61 0a 62 0a
+hold l 61
+hold n 4b53494e4f444531 00 01 000000006553f100 00
+front j T T c = Done front T T 0
+line g Z 0 q = Done line 0";
 
 // The files of a whole path, of which the call of this number fails.
 fn failing_at(alloc: Global, whole: &MemFiles, call: u64) -> Result<MemFiles, Fail> {
     let mut files = MemFiles::new(alloc, vec![in alloc; call]?);
-    for name in ["f", "j", "s", "p", "c", "g", "l", "q", "m", "n"] {
-        files.hold(name, held(whole, name)?)?;
+    for name in "f j s p c g l q m n".split(' ') {
+        files.hold(name, whole.bytes(name).unwrap_or(b""))?;
     }
     Ok(files)
 }
 
-// A run whose call of this number fails, or whose put does after three bytes, ends with a fault, so many calls and failed
-// calls, puts and failed puts, with a file of that size and with these bytes written.
+// What came of a run: calls and failed calls, puts and failed puts; the size of the file that was saved; and the bytes put.
+type Told<'a> = ([u64; 4], Option<usize>, &'a [u8]);
+
+// A run whose put fails after three bytes ends with a fault, and this came of it.
 fn fails(
     rt: &impl Abort,
     alloc: Global,
-    whole: &MemFiles,
+    files: &mut MemFiles,
     line: &str,
-    call: u64,
-    want: ([u64; 4], Option<usize>, &[u8]),
+    want: Told<'_>,
 ) -> Result<(), Fail> {
-    let mut files = failing_at(alloc, whole, call)?;
+    let words = words(alloc, line)?;
     let mut out = MemSink::new(alloc, 32_767)?;
     out.cut(0, 3)?;
-    let status = ksi(alloc, &words(alloc, line)?, &mut files, &mut out);
-    same(rt, line, status, Status::Fault);
+    same(
+        rt,
+        line,
+        name_of(ksi(alloc, &words, files, &mut out)),
+        "Fault",
+    );
     let size = files.bytes("o").map(|bytes| bytes.len());
     let counts = files.counts();
     let told = [counts.calls, counts.faults, out.puts(), out.faults()];
@@ -73,74 +74,98 @@ fn fails(
     Ok(())
 }
 
+// The same, where the call of this number fails.
+fn fails_at(
+    rt: &impl Abort,
+    alloc: Global,
+    whole: &MemFiles,
+    call: u64,
+    line: &str,
+    want: Told<'_>,
+) -> Result<(), Fail> {
+    let mut files = failing_at(alloc, whole, call)?;
+    fails(rt, alloc, &mut files, line, want)
+}
+
 // Each call on the files fails, and nothing is saved or put; then the put fails, and the file stands.
 fn each_call_fails(
     rt: &impl Abort,
     alloc: Global,
     whole: &MemFiles,
-    row: &Row,
+    row: &str,
 ) -> Result<(), Fail> {
-    let (line, calls, size, front) = *row;
+    let (line, rest) = sides(row);
+    let (calls, rest) = first(rest);
+    let (size, put) = first(rest);
+    let calls = calls.parse::<u64>()?;
     for call in 0..calls {
-        let nothing = ([call + 1, 1, 0, 0], None, b"".as_slice());
-        fails(rt, alloc, whole, line, call, nothing)?;
+        fails_at(
+            rt,
+            alloc,
+            whole,
+            call,
+            line,
+            ([call + 1, 1, 0, 0], None, b""),
+        )?;
     }
-    fails(
-        rt,
-        alloc,
-        whole,
-        line,
-        calls,
-        ([calls, 0, 1, 1], size, front),
-    )
+    let front = put.as_bytes().get(..3).unwrap_or(b"");
+    let want = ([calls, 0, 1, 1], size.parse().ok(), front);
+    fails_at(rt, alloc, whole, calls, line, want)
 }
 
 #[test]
 fn each_failing_call_ends_the_run(rt: HostRuntime) -> Result<(), Fail> {
-    let mut whole = replayed(&rt, rt.alloc())?;
-    whole.hold("g", b"a\nb\n")?;
-    whole.hold("l", b"a")?;
-    hold_each(rt.alloc(), &mut whole, mirrors::ONE)?;
-    hold_each(rt.alloc(), &mut whole, NODE)?;
-    each_ends(&rt, rt.alloc(), &mut whole, Status::Done, MADE)?;
-    for row in &ROWS {
+    let mut whole = MemFiles::new(rt.alloc(), Vec::new(rt.alloc()));
+    for script in [REPLAYED, ONE, MADE] {
+        play(&rt, rt.alloc(), &mut whole, script)?;
+    }
+    for row in ROWS.lines() {
         each_call_fails(&rt, rt.alloc(), &whole, row)?;
     }
     Ok(())
 }
 
-/// Each command over files that hold nothing, and how it ends.
-static SURE: [(&str, Status); 20] = [
-    ("replay s j", Status::Malformed),
-    ("sign j 0 o", Status::Malformed),
-    ("publish j o", Status::Malformed),
-    ("extend j s 5 o", Status::Malformed),
-    ("verify s A p", Status::Malformed),
-    ("audit j s A p", Status::Malformed),
-    ("make 7 m", Status::Done),
-    ("drill 7", Status::Done),
-    ("migrate j o", Status::Malformed),
-    ("front j 5 6 o", Status::Malformed),
-    ("compare j k c", Status::Malformed),
-    ("block g Z", Status::Refused),
-    ("line g Z 0 o", Status::Refused),
-    ("checkline s p l q", Status::Malformed),
-    ("locate g Z l q", Status::Malformed),
-    ("merge m n o", Status::Malformed),
-    ("whole m j", Status::Malformed),
-    ("inspect n", Status::Malformed),
-    ("mirror s 0 j", Status::Malformed),
-    ("node s 0 j", Status::Malformed),
-];
+// Each command over files that hold nothing, and how it ends.
+const SURE: &str = "replay s j = Malformed
+sign j 0 o = Malformed
+publish j o = Malformed
+extend j s 5 o = Malformed
+verify s A p = Malformed
+audit j s A p = Malformed
+make 7 m = Done
+drill 7 = Done
+migrate j o = Malformed
+front j 5 6 o = Malformed
+compare j k c = Malformed
+block g Z = Refused
+line g Z 0 o = Refused
+checkline s p l q = Malformed
+locate g Z l q = Malformed
+merge m n o = Malformed
+whole m j = Malformed
+inspect n = Malformed
+mirror s 0 j = Malformed
+node s 0 j = Malformed";
+
+// A row ends as it says.
+fn ends(rt: &impl Abort, alloc: Global, files: &mut SureFiles, row: &str) -> Result<(), Fail> {
+    let (line, want) = sides(row);
+    let words = words(alloc, line)?;
+    let mut out = SureSink::new(alloc, 32_767)?;
+    same(
+        rt,
+        row,
+        name_of(sure_run(alloc, &words, files, &mut out)),
+        want,
+    );
+    Ok(())
+}
 
 #[test]
 fn over_files_that_do_not_fail_no_run_does(rt: HostRuntime) -> Result<(), Fail> {
     let mut files = SureFiles::new(rt.alloc());
-    for (line, want) in &SURE {
-        let mut out = SureSink::new(rt.alloc(), 32_767)?;
-        let words = words(rt.alloc(), line)?;
-        let status = sure_run(rt.alloc(), &words, &mut files, &mut out);
-        same(&rt, *line, status, *want);
+    for row in SURE.lines() {
+        ends(&rt, rt.alloc(), &mut files, row)?;
     }
     Ok(())
 }

@@ -1,6 +1,7 @@
 //! Tests of the top call, `ksi_top::ksi`, over files and an output in memory.
 //!
 //! They stand in a crate of their own, since a crate with tests is proved twice. Nothing is here for the layers above.
+//! Most are scripts, texts whose rows `script.rt` plays.
 #![tactic(auto)]
 
 #[cfg(test)]
@@ -28,6 +29,6 @@ mod runs;
 #[cfg(test)]
 mod same;
 #[cfg(test)]
-mod text;
+mod script;
 #[cfg(test)]
 mod whole_paths;

@@ -1,98 +1,64 @@
 // Names in the tree, from a schedule to an audit.
-use crate::hostile_bytes::part;
-use crate::text::{bytes, each_ends};
-use crate::whole_paths::{held, holds, scheduled};
-use ksi_ports::MemFiles;
-use ksi_top::Status;
-use std::alloc::Global;
-use std::process::Abort;
+use crate::script::plays;
 use std::test::Fail;
 
-// One request, of an aggregator whose name stands between these.
-const FRONT: &str = "ksi-schedule 2\ncores 1\nstart T\naggregator 0 parent c0 name ";
+// One request, of an aggregator with a name: what is replayed, signed and published of it.
+const BOB: &str =
+    "text f ksi-schedule 2|cores 1|start 1700000000|aggregator 0 parent c0 name bob|request 0 1700000000 e3b0c44298fc1c149afbf4c8996fb92427ae41e4649b934ca495991b7852b855|close 0 1700000000|deliver 0|seal 0 1700000000|ballot 0 1700000000|deliver 1|deliver 2|deliver 3|deliver 4|respond 0 1700000000|deliver 6|publish 0 1700000000|
+replay f j = Done events 12 messages 7 seconds 1 issued 1 published 1
+sign j 0 s = Done signed 0
+publish j p = Done published 1
+verify s A p = Done accepted T";
 
-const BACK: &str =
-    "\nclose 0 T\ndeliver 0\nseal 0 T\nballot 0 T\ndeliver 1\ndeliver 2\ndeliver 3\ndeliver 4\nrespond 0 T\ndeliver 6\npublish 0 T\n";
-
-const SIGNED: &str = "replay f j = events 12 messages 7 seconds 1 issued 1 published 1
-sign j 0 s = signed 0
-publish j p = published 1
-verify s A p = accepted T";
-
-// What is replayed, signed and published of an aggregator's name and its request.
-fn named(rt: &impl Abort, alloc: Global, middle: &str) -> Result<MemFiles, Fail> {
-    let mut schedule = String::from_str(alloc, FRONT)?;
-    schedule.push_str(middle)?;
-    schedule.push_str(BACK)?;
-    let mut files = scheduled(alloc, &schedule)?;
-    each_ends(rt, alloc, &mut files, Status::Done, SIGNED)?;
-    Ok(files)
-}
-
-const BOB: &str = "bob\nrequest 0 T A";
-
-const INSIDE: &str = "audit j s A p = inside T L
-extend j s T t = extended T T
-verify t A p = accepted T
-audit j t A p = inside T L";
+const INSIDE: &str = "audit j s A p = Done inside T L
+extend j s T t = Done extended T T
+verify t A p = Done accepted T
+audit j t A p = Done inside T L";
 
 #[test]
 fn what_is_named_stands_below_its_leaf(rt: HostRuntime) -> Result<(), Fail> {
-    let mut files = named(&rt, rt.alloc(), BOB)?;
-    each_ends(&rt, rt.alloc(), &mut files, Status::Done, INSIDE)
+    plays(&rt, rt.alloc(), &[BOB, INSIDE])
 }
+
+const KNOWN: &str =
+    "holds j 783 4b53494a524e4c32 01046553f100 022c 01046553f100 02210151494ba900a77a274cab9a9723619053037ba97c59c8d7d0c0ce7633e73d6b48 030101 072501 A 00626f62
+holds s 629 88000271 88010032 02046553f100 030103 030101 052101 A 060101 8801003d 02046553f100 030103 052101 A 060101 070c 040a 7e0201010104626f6200";
 
 #[test]
 fn the_files_of_a_name_are_known(rt: HostRuntime) -> Result<(), Fail> {
-    let files = named(&rt, rt.alloc(), BOB)?;
-    const FRONTS: [(&str, usize, &str); 2] = [
-        (
-            "j",
-            783,
-            "4b53494a524e4c32 01046553f100 022c 01046553f100 02210151494ba900a77a274cab9a9723619053037ba97c59c8d7d0c0ce7633e73d6b48 030101 072501A00626f62",
-        ),
-        (
-            "s",
-            629,
-            "88000271 88010032 02046553f100 030103 030101 052101A 060101 8801003d 02046553f100 030103 052101A 060101 070c 040a 7e0201010104626f6200",
-        ),
-    ];
-    for (name, size, front) in FRONTS {
-        holds(&rt, rt.alloc(), &files, name, size, front)?;
-    }
-    Ok(())
+    plays(&rt, rt.alloc(), &[BOB, KNOWN])
 }
+
+const BENEATH: &str =
+    "text f ksi-schedule 2|cores 1|start 1700000000|aggregator 0 parent c0 name bob|request 0 1700000000 e3b0c44298fc1c149afbf4c8996fb92427ae41e4649b934ca495991b7852b855 al|close 0 1700000000|deliver 0|seal 0 1700000000|ballot 0 1700000000|deliver 1|deliver 2|deliver 3|deliver 4|respond 0 1700000000|deliver 6|publish 0 1700000000|
+replay f j = Done events 12 messages 7 seconds 1 issued 1 published 1
+sign j 0 s = Done signed 0
+publish j p = Done published 1
+verify s A p = Done accepted T
+audit j s A p = Done beneath T 0 1";
 
 #[test]
 fn a_named_request_is_beneath_its_submission(rt: HostRuntime) -> Result<(), Fail> {
-    let mut files = named(&rt, rt.alloc(), "bob\nrequest 0 T A al")?;
-    let beneath = "audit j s A p = beneath T 0 1";
-    each_ends(&rt, rt.alloc(), &mut files, Status::Done, beneath)
+    plays(&rt, rt.alloc(), &[BENEATH])
 }
 
 // A name of 30 letters: the last 33 bytes of its metadata are an imprint.
-const LONG: &str = "aaaaaaaaaaaaaaaaaaaaaaaaaaaaaa\nrequest 0 T A";
+const LONG: &str =
+    "text f ksi-schedule 2|cores 1|start 1700000000|aggregator 0 parent c0 name aaaaaaaaaaaaaaaaaaaaaaaaaaaaaa|request 0 1700000000 e3b0c44298fc1c149afbf4c8996fb92427ae41e4649b934ca495991b7852b855|close 0 1700000000|deliver 0|seal 0 1700000000|ballot 0 1700000000|deliver 1|deliver 2|deliver 3|deliver 4|respond 0 1700000000|deliver 6|publish 0 1700000000|
+replay f j = Done events 12 messages 7 seconds 1 issued 1 published 1
+sign j 0 s = Done signed 0
+publish j p = Done published 1
+verify s A p = Done accepted T";
 
-// A signature of that imprint: one chain with a bare right link, which makes the string of the name's leaf.
-const BARE: &str =
-    "88000255 88010057 02046553f100 030102 0521011f 30x61 00 060101 0826 0424 01A 7e0101";
-
-// Under "x" that chain before the calendar chain of "s", which stands behind its two other chains.
-fn hold_bare(alloc: Global, files: &mut MemFiles) -> Result<(), Fail> {
-    let mut forged = bytes(alloc, BARE)?;
-    forged.extend_from_slice(part(held(files, "s")?, 149, 655))?;
-    files.hold("x", &forged)?;
-    Ok(())
-}
-
-const REFUSED: &str =
-    "verify x 1f61616161616161616161616161616161616161616161616161616161616100 p = refused V15 0 0
-extend j x T t = refused V15 0 0
-audit j x 1f61616161616161616161616161616161616161616161616161616161616100 p = refused V15 0 0";
+// A signature of that imprint: one chain with a bare right link, which makes the string of the name's leaf, before the calendar
+// chain, which stands behind two other chains.
+const FORGED: &str =
+    "hold x 88000255 88010057 02046553f100 030102 0521011f 30x61 00 060101 0826 0424 01 A 7e0101 s:149-655
+verify x 1f61616161616161616161616161616161616161616161616161616161616100 p = Refused refused V15 0 0
+extend j x T t = Refused refused V15 0 0
+audit j x 1f61616161616161616161616161616161616161616161616161616161616100 p = Refused refused V15 0 0";
 
 #[test]
 fn what_is_inside_a_name_is_refused(rt: HostRuntime) -> Result<(), Fail> {
-    let mut files = named(&rt, rt.alloc(), LONG)?;
-    hold_bare(rt.alloc(), &mut files)?;
-    each_ends(&rt, rt.alloc(), &mut files, Status::Refused, REFUSED)
+    plays(&rt, rt.alloc(), &[LONG, FORGED])
 }
