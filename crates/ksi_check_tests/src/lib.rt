@@ -8,14 +8,10 @@ mod auditing;
 #[cfg(test)]
 mod extending;
 #[cfg(test)]
-mod journals;
-#[cfg(test)]
-mod lent;
-#[cfg(test)]
-mod named_items;
+mod rows;
 #[cfg(test)]
 mod same;
 #[cfg(test)]
-mod signatures;
+mod text;
 #[cfg(test)]
 mod verifying;

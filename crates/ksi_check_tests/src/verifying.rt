@@ -1,215 +1,87 @@
-use crate::same::same;
-use crate::signatures::{
-    CALENDAR, CalendarRow, ChainRow, HIGH, LOW, SignatureRow, bytes_of, listed, named, row,
-};
+use crate::rows::are_so;
+use crate::text::{bytes, imprint, listed, shown};
 use ksi_aggchain::Node;
-use ksi_imprint::{NoMemory, Refused, Tiny};
-use ksi_signature::{Signature, SignatureFault, read, view};
-use ksi_split::{ShapeFault, Side};
-use ksi_verifier::{Aggregated, RecordDifference, Refusal, Verdict, aggregate_view, verify};
+use ksi_imprint::{Compress, Imprint, Sha, Tiny};
+use ksi_publications::Publications;
+use ksi_signature::{read, view};
+use ksi_verifier::{aggregate_view, verify, verify_bytes};
 use std::alloc::Global;
-use std::process::Abort;
+use std::test::Fail;
 
-fn verdict(
-    alloc: Global,
-    signature: &Signature,
-    hash: u8,
-    published: &[(u8, u8)],
-) -> Result<Verdict, NoMemory> {
+/// The verdict for a hash, publications and a signature.
+pub(crate) fn verified(alloc: Global, files: &str) -> Result<String, Fail> {
+    let (hash, rest) = files.split_once(';').unwrap_or((files, ""));
+    let (published, text) = rest.split_once(';').unwrap_or((rest, ""));
     let publications = listed(alloc, published)?;
-    Ok(verify::<Tiny>(signature, &named(hash), &publications))
+    judged(alloc, &imprint(hash)?, &publications, text)
 }
 
-/// The verdict for a named hash against named publications.
 fn judged(
     alloc: Global,
-    row: &SignatureRow<'_>,
-    hash: u8,
-    published: &[(u8, u8)],
-) -> Result<Verdict, Refused<SignatureFault>> {
-    let bytes = bytes_of(alloc, row)?;
-    let signature = read(alloc, bytes.as_slice())?;
-    Ok(verdict(alloc, &signature, hash, published)?)
+    hash: &Imprint,
+    publications: &Publications,
+    text: &str,
+) -> Result<String, Fail> {
+    let signature = read(alloc, &bytes(alloc, text)?)?;
+    shown(alloc, &verify::<Tiny>(&signature, hash, publications))
 }
 
-/// The verdict for the two chains with a record, if any.
-fn judged_both(
-    alloc: Global,
-    record: Option<(u8, u8)>,
-    published: &[(u8, u8)],
-) -> Result<Verdict, Refused<SignatureFault>> {
-    let chains = [LOW, HIGH];
-    let whole = SignatureRow {
-        record,
-        ..row(&chains)
-    };
-    judged(alloc, &whole, 6, published)
+/// The second and the item that the chains of a signature lead to.
+pub(crate) fn aggregated(alloc: Global, text: &str) -> Result<String, Fail> {
+    shown(alloc, &led(&bytes(alloc, text)?))
 }
 
-/// Whether the chains of a signature lead to this item in this second.
-fn leads_to(
-    alloc: Global,
-    row: &SignatureRow<'_>,
-    to: Aggregated,
-) -> Result<bool, Refused<SignatureFault>> {
-    let bytes = bytes_of(alloc, row)?;
-    let signature = view(bytes.as_slice())?;
-    Ok(aggregate_view::<Tiny>(&signature) == Ok(to))
-}
-
-#[test]
-fn accepts_the_second_of_the_sides(rt: HostRuntime) {
-    static ROWS: [(Option<(u8, u8)>, &[(u8, u8)]); 2] = [
-        (None, &[(5, 0x26)]),
-        (Some((5, 0x26)), &[(4, 0), (5, 0x26), (5, 0)]),
-    ];
-    for (record, published) in &ROWS {
-        let verdict = judged_both(rt.alloc(), *record, published);
-        same(&rt, "verdict", verdict, Ok(Verdict::Accepted(2)));
+fn led(bytes: &[u8]) -> Option<(u64, Node)> {
+    match aggregate_view::<Tiny>(&view(bytes).ok()?) {
+        Ok(led) => Some((led.time, led.item)),
+        Err(_) => None,
     }
 }
 
-#[test]
-fn the_chains_lead_to_an_item(rt: HostRuntime) {
-    let item = Node {
-        imprint: named(0x1d),
-        level: 4,
-    };
-    let chains = [LOW, HIGH];
-    let led = leads_to(rt.alloc(), &row(&chains), Aggregated { time: 2, item });
-    same(&rt, "item", led, Ok(true));
+/// The verdict on bytes for the hash of no bytes and publications.
+pub(crate) fn checked(alloc: Global, files: &str) -> Result<String, Fail> {
+    let (published, text) = files.split_once(';').unwrap_or((files, ""));
+    let publications = listed(alloc, published)?;
+    let bytes = bytes(alloc, text)?;
+    shown(
+        alloc,
+        &verify_bytes::<Sha>(&bytes, &Sha::of(b""), &publications),
+    )
 }
 
-/// The first check that fails where the given hash is 06 and 26 is published for second 5.
-fn refused(
-    alloc: Global,
-    row: &SignatureRow<'_>,
-) -> Result<Option<Refusal>, Refused<SignatureFault>> {
-    match judged(alloc, row, 6, &[(5, 0x26)])? {
-        Verdict::Accepted(_) => Ok(None),
-        Verdict::Refused(refusal) => Ok(Some(refusal)),
-    }
-}
-
-fn refuses_chains(
-    rt: &impl Abort,
-    alloc: Global,
-    low: ChainRow<'_>,
-    high: ChainRow<'_>,
-    want: Refusal,
-) {
-    let answer = refused(alloc, &row(&[low, high]));
-    same(rt, "chains", answer, Ok(Some(want)));
-}
+// Two chains, from 06 to 13 at level 1 and on to 1d at level 4, below the root 26 of second 5, with and without a record.
+const ACCEPTED: &str =
+    "verify 06;5:26;88000146 88010054 020102 030103 030102 05210106O 060101 08230221010aO 88010054 020102 030103 05210113O 060101 0726 010102 02210104O 88020092 010105 020102 0521011dO 07210101O 08210102O 07210103O = Accepted(2)
+verify 06;4:00,5:26,5:00;88000172 88010054 020102 030103 030102 05210106O 060101 08230221010aO 88010054 020102 030103 05210113O 060101 0726 010102 02210104O 88020092 010105 020102 0521011dO 07210101O 08210102O 07210103O 88030028 1026 020105 04210126O = Accepted(2)
+aggregate 88000146 88010054 020102 030103 030102 05210106O 060101 08230221010aO 88010054 020102 030103 05210113O 060101 0726 010102 02210104O 88020092 010105 020102 0521011dO 07210101O 08210102O 07210103O = Some((2, Node { imprint: Imprint { bytes: [1, 29, 0, 0, 0, 0, 0, 0, 0, 0, 0, 0, 0, 0, 0, 0, 0, 0, 0, 0, 0, 0, 0, 0, 0, 0, 0, 0, 0, 0, 0, 0, 0] }, level: 4 }))";
 
 #[test]
-fn a_part_of_an_index_may_not_differ(rt: HostRuntime) {
-    let other = ChainRow {
-        index: &[2],
-        ..HIGH
-    };
-    let order = Refusal::IndexOrder {
-        chain: 0,
-        place: 0,
-        lower: Some(3),
-        higher: Some(2),
-    };
-    refuses_chains(&rt, rt.alloc(), LOW, other, order);
+fn accepts_the_second_of_the_sides(rt: HostRuntime) -> Result<(), Fail> {
+    are_so(&rt, rt.alloc(), ACCEPTED)
 }
+
+const REFUSED: &str =
+    "verify 06;5:26;88000146 88010054 020102 030103 030102 05210106O 060101 08230221010aO 88010054 020102 030102 05210113O 060101 0726 010102 02210104O 88020092 010105 020102 0521011dO 07210101O 08210102O 07210103O = Refused(IndexOrder { chain: 0, place: 0, lower: Some(3), higher: Some(2) })
+verify 06;5:26;88000149 88010057 020102 030103 030102 05210106O 060101 0826 0101fe 0221010aO 88010054 020102 030103 05210113O 060101 0726 010102 02210104O 88020092 010105 020102 0521011dO 07210101O 08210102O 07210103O = Refused(Level { chain: 1, link: 0, level: 258 })
+verify 06;5:26;88000146 88010054 020102 030103 030102 05210106O 060101 08230221010aO 88010054 020103 030103 05210113O 060101 0726 010102 02210104O 88020092 010105 020102 0521011dO 07210101O 08210102O 07210103O = Refused(AggregationTimes { chain: 1, first: 2, this: 3 })
+verify 06;5:26;88000146 88010054 020102 030103 030102 05210106O 060101 08230221010aO 88010054 020102 030103 05210113O 060101 0726 010102 02210104O 88020092 010105 020102 0521011dO 08210101O 08210102O 08210103O = Refused(CalendarShape(TooMany(2)))
+verify 06;5:26;88000100 88010054 020102 030103 030102 05210106O 060101 08230221010aO 88010054 020102 030103 05210113O 060101 0726 010102 02210104O 8802004c 010105 020102 0521011dO 07210101O = Refused(CalendarShape(TooFew(3)))
+verify 06;;88000172 88010054 020102 030103 030102 05210106O 060101 08230221010aO 88010054 020102 030103 05210113O 060101 0726 010102 02210104O 88020092 010105 020102 0521011dO 07210101O 08210102O 07210103O 88030028 1026 020106 04210127O = Refused(RecordDiffers(Time { record: 6, publication: 5 }))
+verify 06;4:26;88000172 88010054 020102 030103 030102 05210106O 060101 08230221010aO 88010054 020102 030103 05210113O 060101 0726 010102 02210104O 88020092 010105 020102 0521011dO 07210101O 08210102O 07210103O 88030028 1026 020105 04210126O = Refused(NoPublication { time: 5 })
+verify 06;5:27,5:26;88000146 88010054 020102 030103 030102 05210106O 060101 08230221010aO 88010054 020102 030103 05210113O 060101 0726 010102 02210104O 88020092 010105 020102 0521011dO 07210101O 08210102O 07210103O = Refused(PublicationDiffers { time: 5, in_file: Imprint { bytes: [1, 39, 0, 0, 0, 0, 0, 0, 0, 0, 0, 0, 0, 0, 0, 0, 0, 0, 0, 0, 0, 0, 0, 0, 0, 0, 0, 0, 0, 0, 0, 0, 0] }, computed: Imprint { bytes: [1, 38, 0, 0, 0, 0, 0, 0, 0, 0, 0, 0, 0, 0, 0, 0, 0, 0, 0, 0, 0, 0, 0, 0, 0, 0, 0, 0, 0, 0, 0, 0, 0] } })";
 
 #[test]
-fn no_level_is_above_255(rt: HostRuntime) {
-    let steep = ChainRow {
-        links: &[(Side::Right, 254, 0x0a)],
-        ..LOW
-    };
-    let level = Refusal::Level {
-        chain: 1,
-        link: 0,
-        level: 258,
-    };
-    refuses_chains(&rt, rt.alloc(), steep, HIGH, level);
+fn tells_the_first_check_that_fails(rt: HostRuntime) -> Result<(), Fail> {
+    are_so(&rt, rt.alloc(), REFUSED)
 }
+
+// A signature of the only request of a core, by another implementation of SHA-256, and a shorter one.
+const BYTES: &str =
+    "bytes 0:A;8800005a 8801002b 0200 030101 052101A 060101 88020027 0100 0200 052101A = Accepted(0)
+bytes 0:A; = Malformed(Tlv(0))
+bytes 1700000000:570737a592f024019e838977a595140c41a115724cadca09b01a769fde3a85d3;88000263 88010032 02046553f100 030101 030101 052101A 060101 8801002f 02046553f100 030101 052101A 060101 880201f6 01046553f100 02046553f100 052101A 08210145470adcfb1fd2672fd1eed61be90547130e76c1fd50fa980bf645fc75fb5d34 082101d1b916f8242c1c46b2e2d931d54c53295c5809d16b011b50b4e1e98e9cf344b4 082101177849736674c1409ad806c2b3895966555afd4d8dcb98281ed1afa00f0beff5 0821016c159ee9e1886d5aa9c468069a946cc159a62ed13d84e6a13dedec692ca8af42 08210108cdfefa631c5e2f5ca30667ff5abbc2dc09c69e258b00c4be68b122b2af859d 08210117e38264532474ef72812e1ba1170ff282f95998f159dd251d4abfdad9b7e517 0821015a6a0731ad751fd676ecb6e20b56c6ef0d5227cdb4cecc707591e86cef8bb337 0821015a9575e4f28f49791b75ceef627c8e280095f8b443c3bcb400fcc12e23f7848d 08210105422bb6fbd2f7fac333d7f1bf02a26caa4477b27700605573e88c62dc61cc75 082101729ed6dd9e7c24f1b77dfc5dabd5dd761c7bb1bd80e1aa942caf32e645dfc259 082101fc2fa611450e69beb144999b67c93c091be5454b5daaad0b4733de61b8f9559d 0821017597f70101c8e7d0ffb7d9d503c1533a8aeb1515caa6b2d958d59d5e08e025eb 082101a96ce76baacdcfdda647c4d70ce36d5dd0625c7e58a11da0fb64f07fcef3bfc7 = Accepted(1700000000)";
 
 #[test]
-fn the_chains_are_of_one_time(rt: HostRuntime) {
-    let late = ChainRow { time: 3, ..HIGH };
-    let times = Refusal::AggregationTimes {
-        chain: 1,
-        first: 2,
-        this: 3,
-    };
-    refuses_chains(&rt, rt.alloc(), LOW, late, times);
-}
-
-/// What a calendar chain of these links above the two chains is refused for.
-fn refused_links(
-    alloc: Global,
-    links: &[(Side, u8)],
-) -> Result<Option<Refusal>, Refused<SignatureFault>> {
-    let calendar = CalendarRow { links, ..CALENDAR };
-    let chains = [LOW, HIGH];
-    let whole = SignatureRow {
-        calendar: Some(calendar),
-        ..row(&chains)
-    };
-    refused(alloc, &whole)
-}
-
-#[test]
-fn refuses_sides_that_name_no_second(rt: HostRuntime) {
-    static ROWS: [(&[(Side, u8)], ShapeFault); 2] = [
-        (
-            &[(Side::Right, 1), (Side::Right, 2), (Side::Right, 3)],
-            ShapeFault::TooMany(2),
-        ),
-        (&[(Side::Left, 1)], ShapeFault::TooFew(3)),
-    ];
-    for (links, fault) in &ROWS {
-        let want = Refusal::CalendarShape(*fault);
-        same(
-            &rt,
-            "links",
-            refused_links(rt.alloc(), links),
-            Ok(Some(want)),
-        );
-    }
-}
-
-fn refuses(
-    rt: &impl Abort,
-    alloc: Global,
-    record: Option<(u8, u8)>,
-    published: &[(u8, u8)],
-    want: Refusal,
-) {
-    let verdict = judged_both(alloc, record, published);
-    same(rt, "verdict", verdict, Ok(Verdict::Refused(want)));
-}
-
-#[test]
-fn refuses_what_was_not_published(rt: HostRuntime) {
-    let time = RecordDifference::Time {
-        record: 6,
-        publication: 5,
-    };
-    refuses(
-        &rt,
-        rt.alloc(),
-        Some((6, 0x27)),
-        &[],
-        Refusal::RecordDiffers(time),
-    );
-    let none = Refusal::NoPublication { time: 5 };
-    refuses(&rt, rt.alloc(), Some((5, 0x26)), &[(4, 0x26)], none);
-}
-
-#[test]
-fn refuses_what_was_published_otherwise(rt: HostRuntime) {
-    let differs = Refusal::PublicationDiffers {
-        time: 5,
-        in_file: named(0x27),
-        computed: named(0x26),
-    };
-    refuses(&rt, rt.alloc(), None, &[(5, 0x27), (5, 0x26)], differs);
+fn bytes_are_checked(rt: HostRuntime) -> Result<(), Fail> {
+    are_so(&rt, rt.alloc(), BYTES)
 }
