@@ -17,25 +17,23 @@ pub(crate) const SECONDS: u64 = 1_048_576;
 /// Appends so many seconds.
 pub(crate) fn append(rt: &HostRuntime, count: u64) -> Option<Timed> {
     let roots = imprints(rt.alloc(), count).ok()?;
-    let begun = now(rt)?;
+    let begun = now(rt);
     let calendar = calendar_of(rt.alloc(), &roots).ok()?;
-    since(rt, begun, (calendar.count() % 256) as u8)
+    since(rt, begun, Some((calendar.count() % 256) as u8))
 }
 
 /// So many roots, to seconds anywhere.
 pub(crate) fn root(rt: &HostRuntime, count: u64) -> Option<Timed> {
     let calendar = calendar(rt.alloc()).ok()?;
-    let begun = now(rt)?;
-    let byte = roots(&calendar, count);
-    since(rt, begun, byte)
+    let begun = now(rt);
+    since(rt, begun, Some(roots(&calendar, count)))
 }
 
 /// So many chains, from seconds anywhere to later ones.
 pub(crate) fn chain(rt: &HostRuntime, count: u64) -> Option<Timed> {
     let calendar = calendar(rt.alloc()).ok()?;
-    let begun = now(rt)?;
-    let byte = chains(&calendar, count).ok()?;
-    since(rt, begun, byte)
+    let begun = now(rt);
+    since(rt, begun, chains(&calendar, count).ok())
 }
 
 pub(crate) fn calendar(alloc: Global) -> Result<Calendar<Sha>, NoMemory>

@@ -14,11 +14,11 @@ pub(crate) fn now(rt: &HostRuntime) -> Option<Duration> {
     rt.monotonic().ok()
 }
 
-/// What was computed since a time.
-pub(crate) fn since(rt: &HostRuntime, begun: Duration, byte: u8) -> Option<Timed> {
-    let spent = now(rt)?.checked_sub(begun)?;
+/// What was computed since a time, if both are there.
+pub(crate) fn since(rt: &HostRuntime, begun: Option<Duration>, byte: Option<u8>) -> Option<Timed> {
+    let spent = now(rt)?.checked_sub(begun?)?;
     Some(Timed {
-        byte,
+        byte: byte?,
         nanoseconds: u64::try_from(spent.as_nanos()).ok()?,
     })
 }

@@ -11,9 +11,8 @@ use std::alloc::Global;
 /// So many fronts, from seconds anywhere to later ones.
 pub(crate) fn proved(rt: &HostRuntime, count: u64) -> Option<Timed> {
     let calendar = calendar(rt.alloc()).ok()?;
-    let begun = now(rt)?;
-    let byte = fronts(rt.alloc(), &calendar, count).ok()?;
-    since(rt, begun, byte)
+    let begun = now(rt);
+    since(rt, begun, fronts(rt.alloc(), &calendar, count).ok())
 }
 
 fn fronts(alloc: Global, calendar: &Calendar<Sha>, count: u64) -> Result<u8, NoMemory>
@@ -50,13 +49,21 @@ pub(crate) fn checked(rt: &HostRuntime, count: u64) -> Option<Timed> {
     let calendar = calendar(rt.alloc()).ok()?;
     let (first, last) = (SECONDS / 3, SECONDS - 1);
     let front = front(rt.alloc(), &calendar, first, last).ok()?;
-    let old = calendar.root_to(START + first)?;
-    let new = calendar.root_to(START + last)?;
-    let begun = now(rt)?;
-    let mut accepted: u8 = 0;
+    let roots = (
+        calendar.root_to(START + first)?,
+        calendar.root_to(START + last)?,
+    );
+    let begun = now(rt);
+    since(rt, begun, Some(accepted(count, roots, &front)))
+}
+
+/// How often the front is accepted between both roots, modulo 256.
+fn accepted(count: u64, roots: (Imprint, Imprint), front: &[Imprint]) -> u8 {
+    let (first, last) = (START + SECONDS / 3, START + SECONDS - 1);
+    let mut times: u8 = 0;
     for _ in 0..count {
-        let is_front = check::<Sha>(START + first, START + last, old, new, &front).is_ok();
-        accepted = accepted.wrapping_add(u8::from(is_front));
+        let is_front = check::<Sha>(first, last, roots.0, roots.1, front).is_ok();
+        times = times.wrapping_add(u8::from(is_front));
     }
-    since(rt, begun, accepted)
+    times
 }

@@ -9,18 +9,22 @@ use std::alloc::Global;
 /// A round of so many items, and its root.
 pub(crate) fn root(rt: &HostRuntime, count: u64) -> Option<Timed> {
     let imprints = imprints(rt.alloc(), count).ok()?;
-    let begun = now(rt)?;
+    let begun = now(rt);
     let round = round(rt.alloc(), &imprints)?;
-    since(rt, begun, root_byte(&round))
+    since(rt, begun, Some(root_byte(&round)))
 }
 
 /// The same, and the paths of all its items.
 pub(crate) fn paths(rt: &HostRuntime, count: u64) -> Option<Timed> {
     let imprints = imprints(rt.alloc(), count).ok()?;
-    let begun = now(rt)?;
+    let begun = now(rt);
     let round = round(rt.alloc(), &imprints)?;
-    let byte = root_byte(&round) ^ all_paths(&round).ok()?;
-    since(rt, begun, byte)
+    since(rt, begun, all_bytes(&round))
+}
+
+/// The byte of the root and of all paths.
+fn all_bytes(round: &Builder<Sha>) -> Option<u8> {
+    Some(root_byte(round) ^ all_paths(round).ok()?)
 }
 
 /// The hashes of the first numbers, of eight bytes each.

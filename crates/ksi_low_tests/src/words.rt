@@ -89,6 +89,15 @@ fn parts<'a>(
         Command::Make(number, out) => ("make", (*out, "", "", ""), *number),
         Command::Drill(number) => ("drill", ("", "", "", ""), *number),
         Command::Migrate(journal, out) => ("migrate", (*journal, *out, "", ""), 0),
+        command => other_parts(command),
+    }
+}
+
+/// The same of the other half of the commands.
+fn other_parts<'a>(
+    command: &'a Command<'a>,
+) -> (&'static str, (&'a str, &'a str, &'a str, &'a str), u64) {
+    match command {
         Command::Front(journal, p1, p2, out) => {
             ("front", (*journal, *out, "", ""), p1.wrapping_sub(*p2))
         }
@@ -106,6 +115,7 @@ fn parts<'a>(
         Command::Inspect(node) => ("inspect", (*node, "", "", ""), 0),
         Command::Mirror(schedule, core, out) => ("mirror", (*schedule, *out, "", ""), *core),
         Command::Node(schedule, core, out) => ("node", (*schedule, *out, "", ""), *core),
+        _ => ("", ("", "", "", ""), 0),
     }
 }
 

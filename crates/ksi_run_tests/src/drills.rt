@@ -1,32 +1,33 @@
-use crate::same::same;
-use ksi_drill::{NoMemory, Tally, drill};
+use crate::rows::are_so;
+use ksi_drill::{NoMemory, drill};
 use std::alloc::Global;
 use std::test::Fail;
 
-/// How many of the issued signatures are neither inside nor beneath.
-fn lost(tally: &Tally) -> Option<u64> {
-    tally
-        .issued
-        .checked_sub(tally.inside.saturating_add(tally.beneath))
-}
-
-fn lost_of(alloc: Global, number: u64) -> Result<Option<u64>, NoMemory> {
+/// How many seconds are kept, whether signatures are issued, and how many of them are neither inside nor beneath.
+pub(crate) fn drilled(alloc: Global, number: u64) -> Result<(u64, bool, Option<u64>), NoMemory> {
     let tally = drill(alloc, number)?;
-    Ok(lost(&tally))
+    let found = tally.inside.saturating_add(tally.beneath);
+    Ok((
+        tally.seconds,
+        tally.issued > 0,
+        tally.issued.checked_sub(found),
+    ))
 }
 
 #[test]
 fn seven_is_drilled(rt: HostRuntime) -> Result<(), Fail> {
-    let tally = drill(rt.alloc(), 7)?;
-    let told = (tally.seconds, tally.issued > 0, lost(&tally));
-    same(&rt, 7, told, (256, true, Some(0)));
-    Ok(())
+    are_so(&rt, rt.alloc(), "drill 7 = (256, true, Some(0))")
 }
+
+const DRILLS: &str = "drill 0 = (256, true, Some(0))
+drill 1 = (256, true, Some(0))
+drill 2 = (256, true, Some(0))
+drill 100 = (256, true, Some(0))
+drill 65536 = (256, true, Some(0))
+drill 9223372036854775808 = (256, true, Some(0))
+drill 18446744073709551615 = (256, true, Some(0))";
 
 #[test]
 fn all_that_is_issued_is_found(rt: HostRuntime) -> Result<(), Fail> {
-    for number in [0, 1, 2, 100, 65_536, 1 << 63, u64::MAX] {
-        same(&rt, number, lost_of(rt.alloc(), number)?, Some(0));
-    }
-    Ok(())
+    are_so(&rt, rt.alloc(), DRILLS)
 }

@@ -1,10 +1,14 @@
+use crate::rows::are_so;
 use crate::same::same;
+use crate::schedules::text_of;
 use ksi_generate::generate;
-use ksi_schedule::{Event, Schedule, print};
+use ksi_imprint::NoMemory;
+use ksi_schedule::Event;
+use std::alloc::Global;
 use std::test::Fail;
 
-/// The first lines for number 7: its header, the requests that the first two hundred bytes of its stream say, and the
-/// rounds of the aggregators that these come to.
+// The first lines for number 7: its header, the requests that the first two hundred bytes of its stream say, and the
+// rounds of the aggregators that these come to.
 const FIRST: &str = "ksi-schedule 1
 cores 3
 start 1700000000
@@ -35,27 +39,31 @@ ballot 1 1700000000
 ";
 
 #[test]
-fn the_text_of_seven_begins_so(rt: HostRuntime) -> Result<(), Fail> {
-    let schedule = generate(rt.alloc(), 7)?;
-    let text = print(rt.alloc(), &schedule)?;
-    same(&rt, 7, text.as_slice().starts_with(FIRST.as_bytes()), true);
-    Ok(())
+fn the_text_of_seven_begins_so(rt: HostRuntime) {
+    let begins = match text_of(rt.alloc(), "seven") {
+        Some(text) => text.as_slice().starts_with(FIRST.as_bytes()),
+        None => false,
+    };
+    same(&rt, "seven", begins, true);
 }
 
-/// How many events publish a second.
-fn published(schedule: &Schedule) -> usize {
-    schedule
-        .events()
-        .iter()
-        .filter(|event| matches!(event, Event::Publish(..)))
-        .count()
+/// How many events of the schedule of a number publish a second.
+pub(crate) fn published(alloc: Global, number: u64) -> Result<usize, NoMemory> {
+    let schedule = generate(alloc, number)?;
+    let mut count: usize = 0;
+    for event in schedule.events() {
+        if matches!(event, Event::Publish(..)) {
+            count = count.wrapping_add(1);
+        }
+    }
+    Ok(count)
 }
+
+const PUBLISHED: &str = "publish 0 = 16
+publish 7 = 16
+publish 18446744073709551615 = 16";
 
 #[test]
 fn every_sixteenth_second_is_published(rt: HostRuntime) -> Result<(), Fail> {
-    for number in [0, 7, u64::MAX] {
-        let schedule = generate(rt.alloc(), number)?;
-        same(&rt, number, published(&schedule), 16);
-    }
-    Ok(())
+    are_so(&rt, rt.alloc(), PUBLISHED)
 }

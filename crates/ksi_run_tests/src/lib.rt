@@ -12,4 +12,8 @@ mod mirrors;
 #[cfg(test)]
 mod replays;
 #[cfg(test)]
+mod rows;
+#[cfg(test)]
 mod same;
+#[cfg(test)]
+mod schedules;
