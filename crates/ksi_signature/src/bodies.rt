@@ -215,13 +215,33 @@ pub(crate) fn calendar_body(
     ensures input { IfOk result (λ _. IsImprint input.now) }
     ensures links { IfOk result (λ _. AllByRecursion (λ link. IsImprint link.sibling) links.now) }
 {
-    numeral_is_read();
     let mut body = Writer::new(alloc);
-    body.put_number(PUBLICATION_TIME, publication)?;
-    body.put_number(AGGREGATION_TIME, time)?;
-    put_short(&mut body, INPUT_HASH, input.bytes())?;
-    put_calendar_links(&mut body, links)?;
+    put_calendar_parts(&mut body, publication, time, input, links)?;
     Ok(body)
+}
+
+fn put_calendar_parts(
+    writer: &mut Writer,
+    publication: u64,
+    time: u64,
+    input: &Imprint,
+    links: &[CalendarLink],
+) -> Result<(), NoMemory>
+    ensures text { OnOk result (writer.new ≡ writer.old ++ texts (calendar_elements (record {
+      publication = publication;
+      time = time;
+      input = input.now;
+      links = links.now;
+    }))) }
+    ensures short { OnOk result (length writer.new ≤ length writer.old + (61 + 37 * length links.now)) }
+    ensures input { OnOk result (IsImprint input.now) }
+    ensures links { OnOk result (AllByRecursion (λ link. IsImprint link.sibling) links.now) }
+{
+    numeral_is_read();
+    writer.put_number(PUBLICATION_TIME, publication)?;
+    writer.put_number(AGGREGATION_TIME, time)?;
+    put_short(writer, INPUT_HASH, input.bytes())?;
+    put_calendar_links(writer, links)
 }
 
 fn put_calendar_links(writer: &mut Writer, links: &[CalendarLink]) -> Result<(), NoMemory>

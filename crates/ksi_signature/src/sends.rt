@@ -1,7 +1,5 @@
-ghost use Rattle.std.specs.Prelude.{◌≡◌, []};
+ghost use Rattle.std.specs.Prelude.{◌≡◌};
 
-use crate::answer::Answer;
-use std::alloc::Global;
 use std::marker::Model;
 
 /// What is sent, in order. A contract sees the list.
@@ -39,25 +37,5 @@ impl<S> Sends<S> {
     {
         let Sends { sends } = self;
         sends
-    }
-}
-
-/// What a core or an aggregator answers to an event, and sends.
-#[derive(Drop)]
-pub struct Step<S> {
-    pub answer: Answer,
-    pub sends: Sends<S>,
-}
-
-impl<S> Step<S> {
-    /// An answer, and nothing to send.
-    pub fn without_sends(alloc: Global, answer: Answer) -> Self
-        ensures answer { result.answer ≡ answer }
-        ensures sends { result.sends ≡ [] }
-    {
-        Step {
-            answer,
-            sends: Sends::from_vec(Vec::new(alloc)),
-        }
     }
 }
