@@ -30,7 +30,7 @@ fn counted<L: Ledger>(core: &Core<Sha>, p: u64, blank: Blank) -> Option<u64>
 }
 
 /// The first second to `p` that is not held.
-pub(crate) fn first_not_held(core: &Core<Sha>, p: u64) -> Option<u64> {
+fn first_not_held(core: &Core<Sha>, p: u64) -> Option<u64> {
     counted::<Brand>(core, p, Blank::new(1))
 }
 

@@ -5,8 +5,9 @@ use std::alloc::Global;
 use std::process::Abort;
 
 /// T is the first second of each plan. A and B are the digests of no bytes and of `abc`, Z has zero bytes, and Z8 is the root
-/// of 256 of those. AB is the join of A and B, and A.al that of A with m.al, the metadata of the name `al`; the name `Z.9_-x`
-/// is short Z there. What begins with a star is the root of the calendar to the second that has this root, or to three
+/// of 256 of those. AB is the join of A and B one level up and A-B the one three levels up, and ABA, AA, AAAA and AAAAA are
+/// the trees of such items. A.al is the join of A with m.al, the metadata of the name `al`; Z is short for `Z.9_-x` there,
+/// and a for 64 letters. What begins with a star is the root of the calendar to the second of this root, or of one behind
 /// missed ones. All were computed by another implementation.
 const NAMES: &str = "T 1700000000
 T+1 1700000001
