@@ -1,73 +1,61 @@
-use crate::rows::{Asked, are_so, digits, imprint, shown, side};
+use crate::same::same;
 use ksi_calchain::{CalendarLink, climb_calendar, second};
-use ksi_imprint::{Compress, Sha, Tiny};
-use ksi_split::ShapeFault;
+use ksi_imprint::{Compress, Imprint, NoMemory, Sha, Tiny};
+use ksi_split::Side::{Left, Right};
+use ksi_split::{ShapeFault, Side};
 use std::alloc::Global;
 use std::test::Fail;
 
-/// A word and the links above it from the bottom.
-#[derive(Drop)]
-struct Chains;
-
-impl Asked for Chains {
-    fn told(&mut self, alloc: Global, verb: &str, rest: &str) -> Result<String, Fail> {
-        let (word, words) = rest.split_once(' ').unwrap_or((rest, ""));
-        let links = links(alloc, words)?;
-        match verb {
-            "second" => shown(alloc, &second_of(word.parse()?, &links)),
-            "sha" => digits(alloc, &climb_calendar::<Sha>(imprint(word)?, &links)),
-            _ => digits(alloc, &climb_calendar::<Tiny>(imprint(word)?, &links)),
-        }
-    }
+fn link(side: Side, sibling: Imprint) -> CalendarLink {
+    CalendarLink { side, sibling }
 }
 
-/// Links by words: a side's letter, and behind it the sibling's imprint.
-pub(crate) fn links(alloc: Global, text: &str) -> Result<Vec<CalendarLink>, Fail> {
+/// What links on these sides from the bottom name, where the last second is no more than it may be.
+fn second_named(
+    alloc: Global,
+    p: u64,
+    sides: &[Side],
+) -> Result<Option<Result<u64, ShapeFault>>, NoMemory> {
     let mut links = Vec::new(alloc);
-    for word in text.split_whitespace() {
-        links.push(link(word)?)?;
+    for side in sides {
+        links.push(link(*side, Imprint::ZERO))?;
     }
-    Ok(links)
-}
-
-fn link(word: &str) -> Result<CalendarLink, Fail> {
-    let mut letters = word.chars();
-    let side = side(letters.next().unwrap_or('L'));
-    let sibling = imprint(letters.as_str())?;
-    Ok(CalendarLink { side, sibling })
-}
-
-/// What links name, where the last second is no more than it may be.
-fn second_of(last: u64, links: &[CalendarLink]) -> Option<Result<u64, ShapeFault>> {
-    if last < 1 << 63 {
-        Some(second(last, links))
+    Ok(if p < 1 << 63 {
+        Some(second(p, &links))
     } else {
         None
-    }
+    })
 }
-
-const SECONDS: &str = "second 5 L00 R00 L00 = Some(Ok(2))
-second 0 = Some(Ok(0))
-second 8 R00 = Some(Ok(8))
-second 5 R00 R00 R00 = Some(Err(TooMany(2)))
-second 5 L00 = Some(Err(TooFew(3)))
-second 5 L00 R00 = Some(Ok(4))
-second 9223372036854775807 R00 R00 R00 R00 R00 R00 R00 R00 R00 R00 R00 R00 R00 R00 R00 R00 R00 R00 R00 R00 R00 R00 R00 R00 R00 R00 R00 R00 R00 R00 R00 R00 R00 R00 R00 R00 R00 R00 R00 R00 R00 R00 R00 R00 R00 R00 R00 R00 R00 R00 R00 R00 R00 R00 R00 R00 R00 R00 R00 R00 R00 R00 R00 = Some(Ok(9223372036854775807))
-second 9223372036854775807 R00 R00 R00 R00 R00 R00 R00 R00 R00 R00 R00 R00 R00 R00 R00 R00 R00 R00 R00 R00 R00 R00 R00 R00 R00 R00 R00 R00 R00 R00 R00 R00 R00 R00 R00 R00 R00 R00 R00 R00 R00 R00 R00 R00 R00 R00 R00 R00 R00 R00 R00 R00 R00 R00 R00 R00 R00 R00 R00 R00 R00 R00 R00 R00 = Some(Err(TooMany(63)))
-second 0 L00 L00 L00 L00 L00 L00 L00 L00 L00 L00 L00 L00 L00 L00 L00 L00 L00 L00 L00 L00 L00 L00 L00 L00 L00 L00 L00 L00 L00 L00 L00 L00 L00 L00 L00 L00 L00 L00 L00 L00 L00 L00 L00 L00 L00 L00 L00 L00 L00 L00 L00 L00 L00 L00 L00 L00 L00 L00 L00 L00 L00 L00 L00 L00 L00 L00 L00 L00 L00 L00 = Some(Err(TooMany(0)))";
 
 #[test]
 fn sides_from_the_bottom_name_a_second_or_say_why_not(rt: HostRuntime) -> Result<(), Fail> {
-    are_so(&rt, rt.alloc(), &mut Chains, SECONDS)
+    static ROWS: [(u64, &[Side], Result<u64, ShapeFault>); 9] = [
+        (5, &[Left, Right, Left], Ok(2)),
+        (0, &[], Ok(0)),
+        (8, &[Right], Ok(8)),
+        (5, &[Right, Right, Right], Err(ShapeFault::TooMany(2))),
+        (5, &[Left], Err(ShapeFault::TooFew(3))),
+        (5, &[Left, Right], Ok(4)),
+        (u64::MAX >> 1, &[Right; 63], Ok(u64::MAX >> 1)),
+        (u64::MAX >> 1, &[Right; 64], Err(ShapeFault::TooMany(63))),
+        (0, &[Left; 70], Err(ShapeFault::TooMany(0))),
+    ];
+    for (p, sides, want) in &ROWS {
+        same(&rt, *p, second_named(rt.alloc(), *p, sides)?, Some(*want));
+    }
+    Ok(())
 }
 
-// The first digest is that of another implementation of SHA-256. In the sum are the first bytes of two zero imprints, which
-// are 1, and the level.
-const JOINS: &str = "sha A LB R00 = 9b268b010c3a71760d7c06f1cf2856d3dd9405d370b654d017c2854c6cb9cc4d
-sha A = e3b0c44298fc1c149afbf4c8996fb92427ae41e4649b934ca495991b7852b855
-tiny 00 R00 = 0100000000000000000000000000000000000000000000000000000000000000";
-
 #[test]
-fn links_lead_to_the_joins_by_hand(rt: HostRuntime) -> Result<(), Fail> {
-    are_so(&rt, rt.alloc(), &mut Chains, JOINS)
+fn links_lead_to_the_joins_by_hand(rt: HostRuntime) {
+    let start = Sha::of(b"");
+    let abc = Sha::of(b"abc");
+    let first = Sha::join(start.bytes(), abc.bytes(), 0xff);
+    let top = Sha::join(Imprint::ZERO.bytes(), first.bytes(), 0xff);
+    // the first bytes of two zero imprints, which are 1, and the level
+    let sum = climb_calendar::<Tiny>(Imprint::ZERO, &[link(Right, Imprint::ZERO)]);
+    let links = [link(Left, abc), link(Right, Imprint::ZERO)];
+    same(&rt, "two", climb_calendar::<Sha>(start, &links), top);
+    same(&rt, "none", climb_calendar::<Sha>(start, &[]), start);
+    same(&rt, "sum", sum, Tiny::of(&[1]));
 }

@@ -1,129 +1,146 @@
-ghost use Rattle.std.specs.Prelude.{◌≡◌, ◌≤◌, ◌<◌, ◌+◌, length};
+ghost use Rattle.std.specs.Prelude.{◌≡◌, ◌≤◌, ◌<◌, ◌+◌, ◌^◌, length, IfOk};
 
-use crate::calendar_chains::links;
-use crate::rows::{Asked, are_so, imprint, shown, sides};
+use crate::same::same;
 use ksi_calchain::CalendarLink;
 use ksi_calendar::{Calendar, SecondPath, Steps};
 use ksi_imprint::{Imprint, NoMemory, Tiny};
+use ksi_split::Side;
+use ksi_split::Side::{Left, Right};
 use std::alloc::Global;
 use std::marker::Brand;
+use std::process::Abort;
 use std::sync::ledger::{Blank, Ledger};
 use std::test::Fail;
 
-/// A calendar that starts with a second, with these roots.
-fn calendar_of(alloc: Global, start: u32, roots: &str) -> Result<Calendar<Tiny>, Fail> {
-    let mut calendar = Calendar::new(alloc, start as u64)?;
-    for word in roots.split(' ') {
-        append(&mut calendar, imprint(word)?)?;
+/// The imprint whose digest has this first byte, and zero bytes behind it.
+fn named(first: u8) -> Imprint {
+    let mut digest = [0; 32];
+    digest[0] = first;
+    Imprint::of_digest(&digest)
+}
+
+fn link(side: Side, first: u8) -> CalendarLink {
+    CalendarLink {
+        side,
+        sibling: named(first),
+    }
+}
+
+fn calendar_of(alloc: Global, start: u64, roots: &[Imprint]) -> Result<Calendar<Tiny>, NoMemory>
+    requires { start + length roots.now ≤ 2 ^ 63 }
+    ensures { IfOk result (λ calendar. calendar ≡ record { start = start; roots = roots.now }) }
+{
+    let mut calendar = Calendar::new(alloc, start)?;
+    for root in roots {
+        calendar.append(*root)?;
     }
     Ok(calendar)
 }
 
-fn append(calendar: &mut Calendar<Tiny>, root: Imprint) -> Result<(), Fail> {
-    match calendar.start().checked_add(calendar.count()) {
-        Some(end) if end < 1 << 63 => Ok(calendar.append(root)?),
-        _ => Err(Fail::from("no second is left")),
+fn roots(rt: &impl Abort, calendar: &Calendar<Tiny>, rows: &[(u64, Option<u8>)]) {
+    for (p, first) in rows {
+        same(rt, "root", calendar.root_to(*p), first.map(named));
     }
 }
 
-impl Asked for Calendar<Tiny> {
-    fn told(&mut self, alloc: Global, verb: &str, rest: &str) -> Result<String, Fail> {
-        match verb {
-            "start" => shown(alloc, &self.start()),
-            "chain" => shown(alloc, &is_chain(alloc, self, rest)?),
-            _ => shown(alloc, &is_node(alloc, self, verb, rest)?),
-        }
+fn nodes(rt: &impl Abort, calendar: &Calendar<Tiny>, rows: &[(u64, &[Side], Option<u8>)]) {
+    for (p, sides, first) in rows {
+        same(rt, "node", calendar.node(*p, sides), first.map(named));
     }
 }
 
-/// Whether an imprint is the root to a second, or the node there at the end of these sides. There is none by another word.
-fn is_node(alloc: Global, calendar: &Calendar<Tiny>, verb: &str, rest: &str) -> Result<bool, Fail> {
-    let mut words = rest.split(' ');
-    let last = words.next().unwrap_or("").parse()?;
-    let want = match words.next() {
-        Some("none") | None => None,
-        Some(word) => Some(imprint(word)?),
-    };
-    match verb {
-        "root" => Ok(calendar.root_to(last) == want),
-        _ => Ok(calendar.node(last, &sides(alloc, words.next().unwrap_or(""))?) == want),
-    }
-}
-
-/// Whether the links are the chain from one second to another, counted or not.
-fn is_chain(alloc: Global, calendar: &Calendar<Tiny>, rest: &str) -> Result<bool, Fail> {
-    let (first, rest) = rest.split_once(' ').unwrap_or((rest, ""));
-    let (last, words) = rest.split_once(' ').unwrap_or((rest, ""));
-    let links = links(alloc, words)?;
-    Ok(are_both(calendar, first.parse()?, last.parse()?, &links)?)
-}
-
-fn are_both(
+fn chain(
+    rt: &impl Abort,
     calendar: &Calendar<Tiny>,
-    first: u64,
-    last: u64,
-    links: &[CalendarLink],
-) -> Result<bool, NoMemory> {
-    if first > last || calendar.root_to(last).is_none() {
-        return Ok(false);
-    }
-    let chain = calendar.chain_to(first, last)?;
-    let counted = counted::<Brand>(calendar, first, last, Blank::new(1))?;
-    Ok(chain.as_slice() == links && counted.as_slice() == links)
+    t: u64,
+    p: u64,
+    want: &[CalendarLink],
+) -> Result<(), NoMemory>
+    requires within { t ≤ p }
+    requires covered { p < calendar.now.start + length calendar.now.roots }
+{
+    let links = calendar.chain_to(t, p)?;
+    same(rt, "chain", links.as_slice(), want);
+    Ok(())
 }
 
 fn counted<L: Ledger>(
     calendar: &Calendar<Tiny>,
-    first: u64,
-    last: u64,
+    t: u64,
+    p: u64,
     blank: Blank,
 ) -> Result<SecondPath, NoMemory>
     requires name { blank.name ≡ L.name }
     requires parts { blank.parts ≡ L.parts }
     requires one { blank.parts ≡ 1 }
-    requires within { first ≤ last }
-    requires covered { last < calendar.now.start + length calendar.now.roots }
+    requires within { t ≤ p }
+    requires covered { p < calendar.now.start + length calendar.now.roots }
 {
     let mut steps = Steps::<L>::open(blank);
-    calendar.chain_to_counted(first, last, &mut steps)
+    calendar.chain_to_counted(t, p, &mut steps)
 }
 
-const THREE: &str = "root 0 0a = true
-root 1 1f = true
-root 2 3e = true
-root 3 none = true
-node 2 3e = true
-node 2 1f L = true
-node 2 14 LR = true
-node 2 none RL = true
-node 3 none = true
-chain 1 2 R0a L1e = true
-chain 2 2 R1f = true";
+fn three_seconds(alloc: Global) -> Result<Calendar<Tiny>, NoMemory>
+    ensures { IfOk result (λ calendar. calendar.start + length calendar.roots ≡ 3) }
+{
+    calendar_of(alloc, 0, &[named(0x0a), named(0x14), named(0x1e)])
+}
 
 #[test]
-fn three_seconds_from_zero(rt: HostRuntime) -> Result<(), Fail> {
-    let mut calendar = calendar_of(rt.alloc(), 0, "0a 14 1e")?;
-    are_so(&rt, rt.alloc(), &mut calendar, THREE)
+fn roots_and_nodes_of_three_seconds_from_zero(rt: HostRuntime) -> Result<(), Fail> {
+    let calendar = three_seconds(rt.alloc())?;
+    static ROOTS: [(u64, Option<u8>); 4] = [
+        (0, Some(0x0a)),
+        (1, Some(0x1f)),
+        (2, Some(0x3e)),
+        (3, None),
+    ];
+    static NODES: [(u64, &[Side], Option<u8>); 5] = [
+        (2, &[], Some(0x3e)),
+        (2, &[Left], Some(0x1f)),
+        (2, &[Left, Right], Some(0x14)),
+        (2, &[Right, Left], None),
+        (3, &[], None),
+    ];
+    roots(&rt, &calendar, &ROOTS);
+    nodes(&rt, &calendar, &NODES);
+    Ok(())
 }
 
-const FROM_2: &str = "start = 2
-root 1 none = true
-root 2 0c = true
-chain 2 2 R01 = true
-chain 0 2 L00 L0a = true";
+#[test]
+fn chains_of_three_seconds_from_zero(rt: HostRuntime) -> Result<(), Fail> {
+    let calendar = three_seconds(rt.alloc())?;
+    let links = [link(Right, 0x0a), link(Left, 0x1e)];
+    chain(&rt, &calendar, 1, 2, &links)?;
+    chain(&rt, &calendar, 2, 2, &[link(Right, 0x1f)])?;
+    let told = counted::<Brand>(&calendar, 1, 2, Blank::new(1))?;
+    same(&rt, "counted", told.as_slice(), &links);
+    Ok(())
+}
 
 #[test]
 fn zeros_stand_before_the_start(rt: HostRuntime) -> Result<(), Fail> {
-    let mut calendar = calendar_of(rt.alloc(), 2, "0a")?;
-    are_so(&rt, rt.alloc(), &mut calendar, FROM_2)
+    let calendar = calendar_of(rt.alloc(), 2, &[named(0x0a)])?;
+    same(&rt, "start", calendar.start(), 2);
+    chain(&rt, &calendar, 2, 2, &[link(Right, 0x01)])?;
+    chain(&rt, &calendar, 0, 2, &[link(Left, 0), link(Left, 0x0a)])?;
+    roots(&rt, &calendar, &[(2, Some(0x0c)), (1, None)]);
+    Ok(())
 }
 
-// 256 zero leaves and more have the root whose digest begins with 2 ^ 8 - 1.
-const LATE: &str =
-    "chain 1700000000 1700000000 Rff Rff Rff Rff Rff Rff Rff Rff Rff Rff Rff Rff Rff = true";
+fn zeros_below(rt: &impl Abort, links: &[CalendarLink]) {
+    same(rt, "length", links.len(), 13);
+    // 256 zero leaves have the root whose digest begins with 2 ^ 8 - 1
+    same(rt, "lowest", links.first(), Some(&link(Right, 0xff)));
+    for link in links {
+        same(rt, "side", link.side, Right);
+    }
+}
 
 #[test]
 fn zeros_stand_before_a_late_start(rt: HostRuntime) -> Result<(), Fail> {
-    let mut calendar = calendar_of(rt.alloc(), 1_700_000_000, "0a")?;
-    are_so(&rt, rt.alloc(), &mut calendar, LATE)
+    let late = calendar_of(rt.alloc(), 1_700_000_000, &[named(0x0a)])?;
+    let links = late.chain_to(1_700_000_000, 1_700_000_000)?;
+    zeros_below(&rt, links.as_slice());
+    Ok(())
 }

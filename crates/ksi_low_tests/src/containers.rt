@@ -1,26 +1,51 @@
-use crate::rows::{Asked, are_so, bytes, shown};
+use crate::same::same;
 use ksi_grammar::{
     ElementFault, PublishedContent, RecordContent, algorithm, check, level, put_short, raw,
     recorded, written_published, written_record,
 };
-use ksi_imprint::{Compress, NoMemory, Sha};
+use ksi_imprint::{Compress, Imprint, Sha};
 use ksi_tlv::{Elements, Placed, Writer};
-use std::alloc::Global;
+use std::process::Abort;
 use std::test::Fail;
 
-/// Bytes that are checked, or are compared with what is written of the hash of no bytes in second 5.
-#[derive(Drop)]
-struct Containers;
-
-impl Asked for Containers {
-    fn told(&mut self, alloc: Global, verb: &str, rest: &str) -> Result<String, Fail> {
-        let bytes = bytes(alloc, rest)?;
-        match verb {
-            "check" => shown(alloc, &check::<PublishedContent>(100, 104, &bytes)),
-            "says" => shown(alloc, &says(&bytes)),
-            "recorded" => shown(alloc, &first_recorded(&bytes)),
-            _ => shown(alloc, &is_written(alloc, verb, &bytes)?),
-        }
+/// Worked out by hand: a container at place 100 whose body stands at place 104.
+#[test]
+fn answers_the_first_fault(rt: HostRuntime) {
+    static CASES: [(&[u8], ElementFault); 11] = [
+        (&[], ElementFault::Missing(2, 100)),
+        (&[0x02, 0x00], ElementFault::Missing(4, 100)),
+        (
+            &[0x5e, 0x01, 0xff, 0x80, 0x02, 0x00, 0x02, 0x00, 0x05],
+            ElementFault::Missing(4, 100),
+        ),
+        (
+            &[0x02, 0x00, 0x1e, 0x00],
+            ElementFault::UnknownCritical(0x1e, 106),
+        ),
+        (&[0x3e, 0x00], ElementFault::UnknownCritical(0x1e, 104)),
+        (&[0x02, 0x02, 0x05], ElementFault::Tlv(104)),
+        (&[0x02, 0x00, 0x04], ElementFault::Tlv(106)),
+        (
+            &[0x02, 0x00, 0x02, 0x09, 0, 0, 0, 0, 0, 0, 0, 0, 0],
+            ElementFault::Repeated(2, 106),
+        ),
+        (
+            &[0x02, 0x09, 0, 0, 0, 0, 0, 0, 0, 0, 0],
+            ElementFault::Number(104),
+        ),
+        (
+            &[0x02, 0x08, 0x80, 0, 0, 0, 0, 0, 0, 0],
+            ElementFault::Time(104),
+        ),
+        (&[0x04, 0x02, 0x01, 0x00], ElementFault::Imprint(104)),
+    ];
+    for (body, want) in &CASES {
+        same(
+            &rt,
+            body.len(),
+            check::<PublishedContent>(100, 104, body),
+            Err(*want),
+        );
     }
 }
 
@@ -31,77 +56,83 @@ fn first(bytes: &[u8]) -> Option<Placed<'_>> {
     }
 }
 
-type Said = (
-    Result<u8, ElementFault>,
-    Result<u64, ElementFault>,
-    Result<(), ElementFault>,
-);
-
 /// What the first element says as a level, as an algorithm and as a raw sibling.
 fn says(bytes: &[u8]) -> Option<Said> {
     let at = first(bytes)?;
     Some((level(&at), algorithm(&at), raw(&at)))
 }
 
-/// What the first element says as a publication record: its second, and whether its hash is that of no bytes.
-fn first_recorded(bytes: &[u8]) -> Result<Option<(u64, bool)>, ElementFault> {
+type Said = (
+    Result<u8, ElementFault>,
+    Result<u64, ElementFault>,
+    Result<(), ElementFault>,
+);
+
+#[test]
+fn reads_levels_algorithms_and_raw_siblings(rt: HostRuntime) {
+    static ROWS: [(&[u8], Said); 4] = [
+        (
+            &[0x01, 0x01, 0xff],
+            (Ok(255), Err(ElementFault::Algorithm(255)), Ok(())),
+        ),
+        (
+            &[0x01, 0x02, 0x01, 0x00],
+            (
+                Err(ElementFault::Number(0)),
+                Err(ElementFault::Algorithm(256)),
+                Ok(()),
+            ),
+        ),
+        (
+            &[0x01, 0x00],
+            (
+                Ok(0),
+                Err(ElementFault::Algorithm(0)),
+                Err(ElementFault::Sibling(0)),
+            ),
+        ),
+        (&[0x06, 0x02, 0x00, 0x01], (Ok(1), Ok(1), Ok(()))),
+    ];
+    for (bytes, want) in &ROWS {
+        same(&rt, bytes.len(), says(bytes), Some(*want));
+    }
+}
+
+fn begins(rt: &impl Abort, bytes: &[u8], front: &[u8], size: usize) {
+    same(rt, size, bytes.starts_with(front), true);
+    same(rt, size, bytes.len(), size);
+}
+
+/// What the first element says as a publication record.
+fn first_recorded(bytes: &[u8]) -> Result<Option<(u64, Imprint)>, ElementFault> {
     let Some(at) = first(bytes) else {
         return Ok(None);
     };
     check::<RecordContent>(at.place, at.inside, at.element.body)?;
-    let (time, hash) = recorded(&at);
-    Ok(Some((time, hash == Sha::of(b""))))
+    Ok(Some(recorded(&at)))
 }
-
-/// Whether these bytes are written as a publication's data, as its record, or as an element that has the record for its body.
-fn is_written(alloc: Global, verb: &str, bytes: &[u8]) -> Result<bool, NoMemory> {
-    let hash = Sha::of(b"");
-    if verb == "data" {
-        return Ok(written_published(alloc, 5, &hash)?.as_slice() == bytes);
-    }
-    let record = written_record(alloc, 5, &hash)?;
-    if verb == "record" {
-        return Ok(record.as_slice() == bytes);
-    }
-    let mut writer = Writer::new(alloc);
-    put_short(&mut writer, 0x803, record.as_slice())?;
-    Ok(writer.bytes() == bytes)
-}
-
-// Worked out by hand: a container at place 100 whose body stands at place 104.
-const FAULTS: &str = "check = Err(Missing(2, 100))
-check 02 00 = Err(Missing(4, 100))
-check 5e 01 ff 80 02 00 02 00 05 = Err(Missing(4, 100))
-check 02 00 1e 00 = Err(UnknownCritical(30, 106))
-check 3e 00 = Err(UnknownCritical(30, 104))
-check 02 02 05 = Err(Tlv(104))
-check 02 00 04 = Err(Tlv(106))
-check 02 00 02 09 00 00 00 00 00 00 00 00 00 = Err(Repeated(2, 106))
-check 02 09 00 00 00 00 00 00 00 00 00 = Err(Number(104))
-check 02 08 80 00 00 00 00 00 00 00 = Err(Time(104))
-check 04 02 01 00 = Err(Imprint(104))";
 
 #[test]
-fn answers_the_first_fault(rt: HostRuntime) -> Result<(), Fail> {
-    are_so(&rt, rt.alloc(), &mut Containers, FAULTS)
+fn writes_the_data_of_a_publication(rt: HostRuntime) -> Result<(), Fail> {
+    static FRONT: [u8; 6] = [0x02, 0x01, 0x05, 0x04, 0x21, 0x01];
+    let data = written_published(rt.alloc(), 5, &Sha::of(b""))?;
+    begins(&rt, data.as_slice(), &FRONT, 38);
+    Ok(())
 }
-
-const SAID: &str = "says 01 01 ff = Some((Ok(255), Err(Algorithm(255)), Ok(())))
-says 01 02 01 00 = Some((Err(Number(0)), Err(Algorithm(256)), Ok(())))
-says 01 00 = Some((Ok(0), Err(Algorithm(0)), Err(Sibling(0))))
-says 06 02 00 01 = Some((Ok(1), Ok(1), Ok(())))";
-
-#[test]
-fn reads_levels_algorithms_and_raw_siblings(rt: HostRuntime) -> Result<(), Fail> {
-    are_so(&rt, rt.alloc(), &mut Containers, SAID)
-}
-
-const WRITTEN: &str = "data 02 01 05 04 21 01 A = true
-record 10 26 02 01 05 04 21 01 A = true
-element 88 03 00 28 10 26 02 01 05 04 21 01 A = true
-recorded 88 03 00 28 10 26 02 01 05 04 21 01 A = Ok(Some((5, true)))";
 
 #[test]
 fn writes_a_record_that_is_read_again(rt: HostRuntime) -> Result<(), Fail> {
-    are_so(&rt, rt.alloc(), &mut Containers, WRITTEN)
+    static FRONT: [u8; 8] = [0x10, 0x26, 0x02, 0x01, 0x05, 0x04, 0x21, 0x01];
+    let hash = Sha::of(b"");
+    let record = written_record(rt.alloc(), 5, &hash)?;
+    begins(&rt, record.as_slice(), &FRONT, 40);
+    let mut writer = Writer::new(rt.alloc());
+    put_short(&mut writer, 0x803, record.as_slice())?;
+    same(
+        &rt,
+        "record",
+        first_recorded(writer.bytes()),
+        Ok(Some((5, hash))),
+    );
+    Ok(())
 }

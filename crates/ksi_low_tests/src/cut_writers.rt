@@ -1,9 +1,8 @@
-use crate::rows::{Asked, are_so, shown};
-use ksi_ports::{HostSink, Sink};
-use std::alloc::Global;
+use crate::same::same;
+use ksi_ports::{HostSink, Sink, SinkFailed};
 use std::io;
 use std::io::{Error, ErrorKind, Write};
-use std::test::Fail;
+use std::process::Abort;
 
 /// Takes one byte at each of so many calls, and then none or fails.
 #[derive(Drop)]
@@ -36,30 +35,24 @@ impl Write for Stream {
     }
 }
 
-/// Streams by their calls and whether they fail.
-#[derive(Drop)]
-struct Streams;
-
-impl Asked for Streams {
-    /// What a put of three bytes gives, and how many puts failed.
-    fn told(&mut self, alloc: Global, verb: &str, rest: &str) -> Result<String, Fail> {
-        let mut sink = HostSink::new(Stream {
-            calls: verb.parse()?,
-            fails: rest == "fails",
-        });
-        let put = sink.put(b"abc");
-        shown(alloc, &(put, sink.faults()))
-    }
+fn writes(rt: &impl Abort, stream: Stream, want: Result<(), SinkFailed>) {
+    let mut sink = HostSink::new(stream);
+    same(rt, "put", sink.put(b"abc"), want);
+    same(rt, "faults", sink.faults(), u64::from(want.is_err()));
 }
 
 // Where all three bytes are taken, it is the flush that fails.
-const STREAMS: &str = "0 ends = (Err(SinkFailed), 1)
-2 fails = (Err(SinkFailed), 1)
-2 ends = (Err(SinkFailed), 1)
-3 fails = (Err(SinkFailed), 1)
-3 ends = (Ok(()), 0)";
-
 #[test]
-fn an_error_in_mid_stream_ends_the_put(rt: HostRuntime) -> Result<(), Fail> {
-    are_so(&rt, rt.alloc(), &mut Streams, STREAMS)
+fn an_error_in_mid_stream_ends_the_put(rt: HostRuntime) {
+    static ROWS: [(usize, bool, Result<(), SinkFailed>); 5] = [
+        (0, false, Err(SinkFailed)),
+        (2, true, Err(SinkFailed)),
+        (2, false, Err(SinkFailed)),
+        (3, true, Err(SinkFailed)),
+        (3, false, Ok(())),
+    ];
+    for (calls, fails, want) in &ROWS {
+        let (calls, fails) = (*calls, *fails);
+        writes(&rt, Stream { calls, fails }, *want);
+    }
 }

@@ -23,8 +23,6 @@ mod outside;
 #[cfg(test)]
 mod publications_files;
 #[cfg(test)]
-mod rows;
-#[cfg(test)]
 mod same;
 #[cfg(test)]
 mod trees;

@@ -1,102 +1,194 @@
-use crate::rows::{Asked, are_so, bytes, shown};
-use ksi_imprint::{Compress, Imprint, NoMemory, Refused, Sha};
-use ksi_publications::{Publications, PublicationsFault, read, write};
+use crate::same::same;
+use ksi_imprint::{Bytes, Compress, Imprint, NoMemory, Sha};
+use ksi_publications::{Publications, PublicationsFault, Refused, read, write};
 use std::alloc::Global;
+use std::process::Abort;
 use std::test::Fail;
 
-/// The bytes of a file.
-#[derive(Drop)]
-struct Files;
-
-impl Asked for Files {
-    fn told(&mut self, alloc: Global, verb: &str, rest: &str) -> Result<String, Fail> {
-        let bytes = bytes(alloc, rest)?;
-        match verb {
-            "read" => shown(alloc, &only(alloc, &bytes)),
-            "find" => shown(alloc, &found(alloc, &bytes)?),
-            _ => shown(alloc, &is_written(alloc, &bytes)?),
-        }
+/// The magic and what stands behind it.
+fn file(alloc: Global, behind: &[&[u8]]) -> Result<Bytes, NoMemory> {
+    let mut text = b"KSIPUBLF".to_vec(alloc)?;
+    for part in behind {
+        text.extend_from_slice(part)?;
     }
+    Ok(Bytes::from_vec(text))
 }
-
-/// A time, and whether its hash is that of no bytes.
-type Pair = (u64, bool);
 
 /// The only pair of a file, nothing where it has not one.
-fn only(alloc: Global, bytes: &[u8]) -> Result<Option<Pair>, Refused<PublicationsFault>> {
-    let publications = read(alloc, bytes)?;
-    match publications.pairs() {
-        [(time, hash)] => Ok(Some((*time, *hash == Sha::of(b"")))),
-        _ => Ok(None),
+fn listed(
+    alloc: Global,
+    bytes: &[u8],
+) -> Result<Option<(u64, Imprint)>, Refused<PublicationsFault>> {
+    match read(alloc, bytes) {
+        Ok(publications) => match publications.pairs() {
+            [pair] => Ok(Some(*pair)),
+            _ => Ok(None),
+        },
+        Err(refused) => Err(refused),
     }
 }
 
-/// Whether the hashes of the seconds 5, 6 and 7 are that of no bytes, where there are any.
-fn found(alloc: Global, bytes: &[u8]) -> Result<[Option<bool>; 3], Refused<PublicationsFault>> {
-    let publications = Publications::from_vec(read(alloc, bytes)?.into_vec());
-    Ok([
-        is_empty(publications.find(5)),
-        is_empty(publications.find(6)),
-        is_empty(publications.find(7)),
-    ])
+fn lists(
+    rt: &impl Abort,
+    alloc: Global,
+    behind: &[&[u8]],
+    want: Result<Option<(u64, Imprint)>, Refused<PublicationsFault>>,
+) -> Result<(), NoMemory> {
+    let text = file(alloc, behind)?;
+    same(rt, behind.len(), listed(alloc, text.as_slice()), want);
+    Ok(())
 }
 
-fn is_empty(hash: Option<Imprint>) -> Option<bool> {
-    Some(hash? == Sha::of(b""))
-}
-
-/// Whether these bytes are written of that hash in second 0.
-fn is_written(alloc: Global, bytes: &[u8]) -> Result<bool, NoMemory> {
-    let written = write(alloc, 0, &[(0, Sha::of(b""))])?;
-    Ok(written.as_slice() == bytes)
-}
-
-const WRITTEN: &str =
-    "write 4b 53 49 50 55 42 4c 46 87 01 00 05 01 01 01 02 00 87 03 00 27 10 25 02 00 04 21 01 A = true
-read 4b 53 49 50 55 42 4c 46 87 01 00 05 01 01 01 02 00 87 03 00 27 10 25 02 00 04 21 01 A = Ok(Some((0, true)))";
+/// A header, and a record of second 0 but for the digest.
+static FRONT: [u8; 19] = [
+    0x87, 0x01, 0x00, 0x05, 0x01, 0x01, 0x01, 0x02, 0x00, 0x87, 0x03, 0x00, 0x27, 0x10, 0x25, 0x02,
+    0x00, 0x04, 0x21,
+];
 
 #[test]
-fn one_record_is_written_and_read(rt: HostRuntime) -> Result<(), Fail> {
-    are_so(&rt, rt.alloc(), &mut Files, WRITTEN)
+fn one_record_is_sixty_bytes(rt: HostRuntime) -> Result<(), Fail> {
+    let hash = Sha::of(b"");
+    let text = file(rt.alloc(), &[&FRONT, hash.bytes()])?;
+    let written = write(rt.alloc(), 0, &[(0, hash)])?;
+    same(&rt, "length", text.as_slice().len(), 60);
+    same(&rt, "written", written.as_slice(), text.as_slice());
+    Ok(())
 }
 
-// Worked out by hand.
-const FAULTS: &str = "read 4b 53 49 50 55 42 4c = Err(Fault(Magic))
-read 4b 53 49 50 55 42 4c 46 = Err(Fault(Missing(1793, 0)))
-read 4b 53 49 50 55 42 4c 46 87 = Err(Fault(Tlv(8)))
-read 4b 53 49 50 55 42 4c 46 87 01 00 05 01 = Err(Fault(Tlv(8)))
-read 4b 53 49 50 55 42 4c 46 87 02 00 00 = Err(Fault(RefusedElement(1794, 8)))
-read 4b 53 49 50 55 42 4c 46 87 05 00 00 = Err(Fault(UnknownCritical(1797, 8)))
-read 4b 53 49 50 55 42 4c 46 c7 05 00 00 = Err(Fault(Missing(1793, 0)))
-read 4b 53 49 50 55 42 4c 46 87 01 00 03 01 01 01 = Err(Fault(Missing(2, 8)))
-read 4b 53 49 50 55 42 4c 46 87 01 00 04 01 00 02 00 87 01 00 00 = Err(Fault(Repeated(1793, 16)))
-read 4b 53 49 50 55 42 4c 46 87 01 00 0b 01 09 00 00 00 00 00 00 00 00 00 = Err(Fault(Number(12)))
-read 4b 53 49 50 55 42 4c 46 87 01 00 0c 01 00 02 08 80 00 00 00 00 00 00 00 = Err(Fault(Time(14)))
-read 4b 53 49 50 55 42 4c 46 87 03 00 00 = Err(Fault(Missing(16, 8)))
-read 4b 53 49 50 55 42 4c 46 87 03 00 04 10 02 02 00 = Err(Fault(Missing(4, 12)))
-read 4b 53 49 50 55 42 4c 46 87 03 00 08 10 06 02 00 04 02 01 00 = Err(Fault(Imprint(16)))
-read 4b 53 49 50 55 42 4c 46 87 01 00 05 01 01 01 02 00 87 03 00 27 10 25 02 00 04 21 01 A 87 04 00 00 = Err(Fault(RefusedElement(1796, 60)))";
+#[test]
+fn reads_one_record_and_nothing_behind_it(rt: HostRuntime) -> Result<(), Fail> {
+    let hash = Sha::of(b"");
+    lists(
+        &rt,
+        rt.alloc(),
+        &[&FRONT, hash.bytes()],
+        Ok(Some((0, hash))),
+    )?;
+    let fault = PublicationsFault::RefusedElement(1796, 60);
+    let behind: [&[u8]; 3] = [&FRONT, hash.bytes(), &[0x87, 0x04, 0x00, 0x00]];
+    lists(&rt, rt.alloc(), &behind, Err(Refused::Fault(fault)))?;
+    Ok(())
+}
 
+#[test]
+fn the_magic_comes_first(rt: HostRuntime) {
+    same(
+        &rt,
+        "magic",
+        listed(rt.alloc(), b"KSIPUBL"),
+        Err(Refused::Fault(PublicationsFault::Magic)),
+    );
+}
+
+/// Worked out by hand: what stands behind the magic.
 #[test]
 fn answers_the_first_fault(rt: HostRuntime) -> Result<(), Fail> {
-    are_so(&rt, rt.alloc(), &mut Files, FAULTS)
+    static ROWS: [(&[u8], PublicationsFault); 13] = [
+        (&[], PublicationsFault::Missing(1793, 0)),
+        (&[0x87], PublicationsFault::Tlv(8)),
+        (&[0x87, 0x01, 0x00, 0x05, 0x01], PublicationsFault::Tlv(8)),
+        (
+            &[0x87, 0x02, 0x00, 0x00],
+            PublicationsFault::RefusedElement(1794, 8),
+        ),
+        (
+            &[0x87, 0x05, 0x00, 0x00],
+            PublicationsFault::UnknownCritical(1797, 8),
+        ),
+        (
+            &[0xc7, 0x05, 0x00, 0x00],
+            PublicationsFault::Missing(1793, 0),
+        ),
+        (
+            &[0x87, 0x01, 0x00, 0x03, 0x01, 0x01, 0x01],
+            PublicationsFault::Missing(2, 8),
+        ),
+        (
+            &[
+                0x87, 0x01, 0x00, 0x04, 0x01, 0x00, 0x02, 0x00, 0x87, 0x01, 0x00, 0x00,
+            ],
+            PublicationsFault::Repeated(1793, 16),
+        ),
+        (
+            &[
+                0x87, 0x01, 0x00, 0x0b, 0x01, 0x09, 0, 0, 0, 0, 0, 0, 0, 0, 0,
+            ],
+            PublicationsFault::Number(12),
+        ),
+        (
+            &[
+                0x87, 0x01, 0x00, 0x0c, 0x01, 0x00, 0x02, 0x08, 0x80, 0, 0, 0, 0, 0, 0, 0,
+            ],
+            PublicationsFault::Time(14),
+        ),
+        (&[0x87, 0x03, 0x00, 0x00], PublicationsFault::Missing(16, 8)),
+        (
+            &[0x87, 0x03, 0x00, 0x04, 0x10, 0x02, 0x02, 0x00],
+            PublicationsFault::Missing(4, 12),
+        ),
+        (
+            &[
+                0x87, 0x03, 0x00, 0x08, 0x10, 0x06, 0x02, 0x00, 0x04, 0x02, 0x01, 0x00,
+            ],
+            PublicationsFault::Imprint(16),
+        ),
+    ];
+    for (behind, fault) in &ROWS {
+        lists(&rt, rt.alloc(), &[behind], Err(Refused::Fault(*fault)))?;
+    }
+    Ok(())
 }
 
-// A record before the header, long headers of short kinds, a number with a zero before it, and elements that may be passed
-// over in every container.
-const PASSED_OVER: &str =
-    "read 4b 53 49 50 55 42 4c 46 87 03 00 32 09 01 ff 5e 00 80 10 00 29 02 02 00 05 04 21 01 A 5e 00 c7 05 00 00 87 01 00 07 02 00 01 00 5e 01 aa = Ok(Some((5, true)))";
+/// A record before the header, long headers of short kinds, a number with a zero before it, and elements that may be
+/// passed over in every container: what stands before the digest, and what stands behind it.
+const PASSED_OVER: [&[u8]; 2] = [
+    &[
+        0x87, 0x03, 0x00, 0x32, 0x09, 0x01, 0xff, 0x5e, 0x00, 0x80, 0x10, 0x00, 0x29, 0x02, 0x02,
+        0x00, 0x05, 0x04, 0x21,
+    ],
+    &[
+        0x5e, 0x00, 0xc7, 0x05, 0x00, 0x00, 0x87, 0x01, 0x00, 0x07, 0x02, 0x00, 0x01, 0x00, 0x5e,
+        0x01, 0xaa,
+    ],
+];
 
 #[test]
 fn passes_over_what_it_may(rt: HostRuntime) -> Result<(), Fail> {
-    are_so(&rt, rt.alloc(), &mut Files, PASSED_OVER)
+    let hash = Sha::of(b"");
+    let [front, end] = PASSED_OVER;
+    lists(
+        &rt,
+        rt.alloc(),
+        &[front, hash.bytes(), end],
+        Ok(Some((5, hash))),
+    )?;
+    Ok(())
 }
 
-// The hash of no bytes and a zero hash in second 5, and another in 7.
-const REPEATED: &str =
-    "find 4b 53 49 50 55 42 4c 46 87 01 00 05 01 01 01 02 00 87 03 00 28 10 26 02 01 05 04 21 01 A 87 03 00 28 10 26 02 01 05 04 21 01 00 00 00 00 00 00 00 00 00 00 00 00 00 00 00 00 00 00 00 00 00 00 00 00 00 00 00 00 00 00 00 00 87 03 00 28 10 26 02 01 07 04 21 01 00 00 00 00 00 00 00 00 00 00 00 00 00 00 00 00 00 00 00 00 00 00 00 00 00 00 00 00 00 00 00 00 = [Some(true), None, Some(false)]";
+/// The hashes of the seconds 5, 6 and 7 in a file, nothing where it is none.
+fn found(alloc: Global, bytes: &[u8]) -> Option<[Option<Imprint>; 3]> {
+    let publications = read(alloc, bytes).ok()?;
+    Some([
+        publications.find(5),
+        publications.find(6),
+        publications.find(7),
+    ])
+}
 
 #[test]
 fn finds_the_first_of_a_time(rt: HostRuntime) -> Result<(), Fail> {
-    are_so(&rt, rt.alloc(), &mut Files, REPEATED)
+    let hash = Sha::of(b"");
+    let pairs = [(5, hash), (5, Imprint::ZERO), (7, Imprint::ZERO)];
+    let file = write(rt.alloc(), 9, &pairs)?;
+    let want = [Some(hash), None, Some(Imprint::ZERO)];
+    same(&rt, "found", found(rt.alloc(), file.as_slice()), Some(want));
+    Ok(())
+}
+
+#[test]
+fn hands_its_pairs_over(rt: HostRuntime) -> Result<(), Fail> {
+    let pairs = vec![in rt.alloc(); (5, Imprint::ZERO); 1]?;
+    let again = Publications::from_vec(pairs).into_vec();
+    same(&rt, "pairs", again.as_slice(), &[(5, Imprint::ZERO)]);
+    Ok(())
 }

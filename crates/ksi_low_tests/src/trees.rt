@@ -1,8 +1,10 @@
-ghost use Rattle.std.specs.Prelude.{◌+◌, ◌/◌, ◌%◌};
+ghost use Rattle.std.specs.Prelude.{◌+◌, ◌/◌, ◌%◌, ◌<◌, ◌≡◌, length, IfOk};
 
-use crate::rows::{Asked, are_so, shown, sides};
-use ksi_split::{Joins, NoMemory, Rows};
+use crate::same::same;
+use ksi_split::Side::{Left, Right};
+use ksi_split::{Joins, NoMemory, Rows, Side, TreeLink};
 use std::alloc::Global;
+use std::process::Abort;
 use std::test::Fail;
 
 /// The left part and half the right one, so that neither sides nor places can be exchanged unseen.
@@ -17,42 +19,69 @@ impl Joins<u8> for Halved {
 }
 
 /// The leaves 50 and 70 behind two that are 1.
-fn four(alloc: Global) -> Result<Rows<u8, Halved>, NoMemory> {
+fn four(alloc: Global) -> Result<Rows<u8, Halved>, NoMemory>
+    ensures { IfOk result (λ rows. rows.start + length rows.items ≡ 4) }
+{
     let mut rows = Rows::new(alloc, 2, 1)?;
     rows.append(50)?;
     rows.append(70)?;
     Ok(rows)
 }
 
-impl Asked for Rows<u8, Halved> {
-    /// The last leaf of a tree comes first.
-    fn told(&mut self, alloc: Global, verb: &str, rest: &str) -> Result<String, Fail> {
-        let (last, letters) = rest.split_once(' ').unwrap_or((rest, ""));
-        let last: u64 = last.parse()?;
-        if last >= self.start().saturating_add(self.count()) {
-            return Ok(String::from_str(alloc, "outside")?);
-        }
-        match verb {
-            "leaf" => shown(alloc, &(self.leaf(last), self.root(last))),
-            "node" => shown(alloc, &self.node(last, &sides(alloc, letters)?)),
-            _ => shown(alloc, &self.path(last.min(2), last)?),
-        }
+/// The leaf at a place, and the root of the leaves to it.
+fn told(rows: &Rows<u8, Halved>, at: u64) -> Option<(u8, u8)> {
+    let behind = rows.start().checked_add(rows.count())?;
+    if at < behind {
+        Some((rows.leaf(at), rows.root(at)))
+    } else {
+        None
     }
 }
 
-const FOUR: &str = "leaf 0 = (1, 1)
-leaf 1 = (1, 1)
-leaf 2 = (50, 26)
-leaf 3 = (70, 43)
-leaf 4 = outside
-node 3 = Some(43)
-node 3 L = Some(1)
-node 3 R = Some(85)
-node 3 RR = Some(70)
-node 3 RLL = None
-path 3 = [TreeLink { side: Left, sibling: 70 }, TreeLink { side: Right, sibling: 1 }]";
+fn leaves(rt: &impl Abort, rows: &Rows<u8, Halved>) {
+    static ROWS: [Option<(u8, u8)>; 5] = [
+        Some((1, 1)),
+        Some((1, 1)),
+        Some((50, 26)),
+        Some((70, 43)),
+        None,
+    ];
+    for (at, want) in ROWS.iter().enumerate() {
+        same(rt, at, told(rows, at as u64), *want);
+    }
+}
+
+fn nodes(rt: &impl Abort, rows: &Rows<u8, Halved>)
+    requires { 3 < rows.now.start + length rows.now.items }
+{
+    static ROWS: [(&[Side], Option<u8>); 5] = [
+        (&[], Some(43)),
+        (&[Left], Some(1)),
+        (&[Right], Some(85)),
+        (&[Right, Right], Some(70)),
+        (&[Right, Left, Left], None),
+    ];
+    for (row, (sides, node)) in ROWS.iter().enumerate() {
+        same(rt, row, rows.node(3, sides), *node);
+    }
+}
+
+static LINKS: [TreeLink<u8>; 2] = [
+    TreeLink {
+        side: Left,
+        sibling: 70,
+    },
+    TreeLink {
+        side: Right,
+        sibling: 1,
+    },
+];
 
 #[test]
 fn two_leaves_behind_two_that_are_one(rt: HostRuntime) -> Result<(), Fail> {
-    are_so(&rt, rt.alloc(), &mut four(rt.alloc())?, FOUR)
+    let rows = four(rt.alloc())?;
+    leaves(&rt, &rows);
+    nodes(&rt, &rows);
+    same(&rt, "path", rows.path(2, 3)?.as_slice(), LINKS.as_slice());
+    Ok(())
 }

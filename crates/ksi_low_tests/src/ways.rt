@@ -1,70 +1,55 @@
-use crate::rows::{Asked, are_so, shown, sides};
-use ksi_split::{Side, high_bit, second_of, split, way};
-use std::alloc::Global;
-use std::test::Fail;
+use crate::same::same;
+use ksi_split::Side::{Left, Right};
+use ksi_split::{ShapeFault, Side, high_bit, second_of, split, way};
 
-/// A number and sides.
-#[derive(Drop)]
-struct Ways;
+#[test]
+fn sides_name_a_second_or_say_why_not(rt: HostRuntime) {
+    static ROWS: [(&[Side], Result<u64, ShapeFault>); 3] = [
+        (&[Left, Right, Left], Ok(2)),
+        (&[Right, Right, Right], Err(ShapeFault::TooMany(2))),
+        (&[Left], Err(ShapeFault::TooFew(3))),
+    ];
+    for (row, (sides, want)) in ROWS.iter().enumerate() {
+        same(&rt, row, second_of(5, sides), *want);
+    }
+    same(&rt, "0", second_of(0, &[]), Ok(0));
+    same(&rt, "8", second_of(8, &[Right]), Ok(8));
+}
 
-impl Asked for Ways {
-    fn told(&mut self, alloc: Global, verb: &str, rest: &str) -> Result<String, Fail> {
-        let (number, letters) = rest.split_once(' ').unwrap_or((rest, ""));
-        let number: u64 = number.parse()?;
-        let sides = sides(alloc, letters)?;
-        match verb {
-            "second" => shown(alloc, &second_of(number, &sides)),
-            "longest" => shown(alloc, &is_longest(number, &sides)),
-            _ => shown(alloc, &powers(number)),
-        }
+#[test]
+fn the_longest_ways_have_63_sides(rt: HostRuntime) {
+    const N: u64 = 1 << 63;
+    same(&rt, "first", way(0, N).as_slice(), [Left; 63].as_slice());
+    same(
+        &rt,
+        "last",
+        way(N - 1, N).as_slice(),
+        [Right; 63].as_slice(),
+    );
+    same(&rt, "second", second_of(N - 1, &[Right; 63]), Ok(N - 1));
+}
+
+/// Where a number of leaves is split and its high bit, where it is more than one.
+fn powers(n: u64) -> Option<(u64, u64)> {
+    if n > 1 {
+        Some((split(n), high_bit(n)))
+    } else {
+        None
     }
 }
 
-/// Whether these are the sides to this leaf of 2^63.
-fn is_longest(leaf: u64, sides: &[Side]) -> bool {
-    const LEAVES: u64 = 1 << 63;
-    leaf < LEAVES && way(leaf, LEAVES).as_slice() == sides
-}
-
-/// The high bit of a number of leaves, and where they are split, if there are enough.
-fn powers(n: u64) -> (Option<u64>, Option<u64>) {
-    match n {
-        0 => (None, None),
-        1 => (Some(high_bit(n)), None),
-        n => (Some(high_bit(n)), Some(split(n))),
+#[test]
+fn powers_of_two_are_split_below_themselves(rt: HostRuntime) {
+    static ROWS: [(u64, (u64, u64)); 6] = [
+        (2, (1, 2)),
+        (3, (2, 2)),
+        (4, (2, 4)),
+        (5, (4, 4)),
+        (1 << 63, (1 << 62, 1 << 63)),
+        (u64::MAX, (1 << 63, 1 << 63)),
+    ];
+    for (n, want) in &ROWS {
+        same(&rt, *n, powers(*n), Some(*want));
     }
-}
-
-const SECONDS: &str = "second 5 LRL = Ok(2)
-second 5 RRR = Err(TooMany(2))
-second 5 L = Err(TooFew(3))
-second 0 = Ok(0)
-second 8 R = Ok(8)";
-
-#[test]
-fn sides_name_a_second_or_say_why_not(rt: HostRuntime) -> Result<(), Fail> {
-    are_so(&rt, rt.alloc(), &mut Ways, SECONDS)
-}
-
-const LONGEST: &str =
-    "longest 0 LLLLLLLLLLLLLLLLLLLLLLLLLLLLLLLLLLLLLLLLLLLLLLLLLLLLLLLLLLLLLLL = true
-longest 9223372036854775807 RRRRRRRRRRRRRRRRRRRRRRRRRRRRRRRRRRRRRRRRRRRRRRRRRRRRRRRRRRRRRRR = true
-second 9223372036854775807 RRRRRRRRRRRRRRRRRRRRRRRRRRRRRRRRRRRRRRRRRRRRRRRRRRRRRRRRRRRRRRR = Ok(9223372036854775807)";
-
-#[test]
-fn the_longest_ways_have_63_sides(rt: HostRuntime) -> Result<(), Fail> {
-    are_so(&rt, rt.alloc(), &mut Ways, LONGEST)
-}
-
-const POWERS: &str = "powers 1 = (Some(1), None)
-powers 2 = (Some(2), Some(1))
-powers 3 = (Some(2), Some(2))
-powers 4 = (Some(4), Some(2))
-powers 5 = (Some(4), Some(4))
-powers 9223372036854775808 = (Some(9223372036854775808), Some(4611686018427387904))
-powers 18446744073709551615 = (Some(9223372036854775808), Some(9223372036854775808))";
-
-#[test]
-fn powers_of_two_are_split_below_themselves(rt: HostRuntime) -> Result<(), Fail> {
-    are_so(&rt, rt.alloc(), &mut Ways, POWERS)
+    same(&rt, 1, high_bit(1), 1);
 }

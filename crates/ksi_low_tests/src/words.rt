@@ -1,40 +1,26 @@
-use crate::rows::{Asked, are_so, shown};
 use crate::same::same;
-use ksi_imprint::{Compress, Imprint, Sha};
-use ksi_words::{Command, command, hash, number, seed, time};
+use ksi_imprint::{Imprint, Refused};
+use ksi_words::{Command, WordsRefusal, command, hash, number, seed, time};
 use std::alloc::Global;
+use std::process::Abort;
+use std::str::Split;
 use std::test::Fail;
 
-/// Words between single spaces, of which some may be empty.
-#[derive(Drop)]
-struct Lines;
+const DIGITS: &str = "e3b0c44298fc1c149afbf4c8996fb92427ae41e4649b934ca495991b7852b855";
 
-impl Asked for Lines {
-    fn told(&mut self, alloc: Global, verb: &str, rest: &str) -> Result<String, Fail> {
-        match verb {
-            "asked" => asked(alloc, &words(alloc, rest)?),
-            "number" => shown(alloc, &(number(rest), time(rest))),
-            _ => shown(
-                alloc,
-                &(
-                    hash(spelled(rest)).map(sign),
-                    seed(spelled(rest)).map(seed_sign),
-                ),
-            ),
-        }
-    }
-}
+const CAPITALS: &str = "E3B0C44298FC1C149AFBF4C8996FB92427AE41E4649B934CA495991B7852B855";
 
-/// The hash of no bytes by `#`, by `^` in capitals, and by `#0` with a digit more. Other words stand for themselves.
+/// 64 hex digits for `#`, the same as capitals for `^`, and 65 for `#0`. Other words stand for themselves.
 fn spelled(word: &str) -> &str {
     match word {
-        "#" => "e3b0c44298fc1c149afbf4c8996fb92427ae41e4649b934ca495991b7852b855",
-        "^" => "E3B0C44298FC1C149AFBF4C8996FB92427AE41E4649B934CA495991B7852B855",
+        "#" => DIGITS,
+        "^" => CAPITALS,
         "#0" => "e3b0c44298fc1c149afbf4c8996fb92427ae41e4649b934ca495991b7852b8550",
         word => word,
     }
 }
 
+/// The words between single spaces, of which some may be empty.
 fn words(alloc: Global, line: &str) -> Result<Vec<String>, Fail> {
     let mut words = Vec::new(alloc);
     for word in line.split(' ') {
@@ -43,253 +29,235 @@ fn words(alloc: Global, line: &str) -> Result<Vec<String>, Fail> {
     Ok(words)
 }
 
-/// What is asked by words, or why they are refused.
-fn asked(alloc: Global, words: &[String]) -> Result<String, Fail> {
-    match command(alloc, words) {
-        Ok(command) => shown(alloc, &parts(&command)),
-        Err(refused) => shown(alloc, &refused),
+/// `#` for the hash of those digits.
+fn sign(imprint: &Imprint) -> &'static str {
+    match hash(DIGITS) {
+        Some(other) if other == *imprint => "#",
+        _ => "other",
     }
 }
 
-/// `#` for the hash of no bytes.
-fn sign(imprint: Imprint) -> &'static str {
-    if imprint == Sha::of(b"") {
-        "#"
-    } else {
-        "other"
-    }
+/// `#` for the seed of those digits.
+fn seed_sign(seed: &[u8; 32]) -> &'static str {
+    sign(&Imprint::of_digest(seed))
 }
 
-/// The same for a seed of those bytes.
-fn seed_sign(seed: [u8; 32]) -> &'static str {
-    sign(Imprint::of_digest(&seed))
+fn is_next(words: &mut Split<'_, char>, word: &str) -> bool {
+    words.next().unwrap_or("") == word
 }
 
-/// The name of what is asked, its words that are no numbers, and its number, which is 0 where it has none.
-fn parts<'a>(
-    command: &'a Command<'a>,
-) -> (&'static str, (&'a str, &'a str, &'a str, &'a str), u64) {
+/// Whether these are the words between the single spaces of a text, where those that it lacks are empty.
+fn are(text: &str, name: &str, first: &str, second: &str, third: &str, fourth: &str) -> bool {
+    let mut words = text.split(' ');
+    let front = is_next(&mut words, name) && is_next(&mut words, first);
+    let middle = is_next(&mut words, second) && is_next(&mut words, third);
+    let end = is_next(&mut words, fourth) && words.next().is_none();
+    front && middle && end
+}
+
+/// Whether a text says the name of what is asked and its words that are no numbers.
+fn says(text: &str, command: &Command<'_>) -> bool {
     match command {
-        Command::Replay(schedule, journal) => ("replay", (*schedule, *journal, "", ""), 0),
-        Command::Sign(journal, number, out) => ("sign", (*journal, *out, "", ""), *number),
-        Command::Publish(journal, out) => ("publish", (*journal, *out, "", ""), 0),
-        Command::Extend(journal, signature, second, out) => {
-            ("extend", (*journal, *signature, *out, ""), *second)
+        Command::Replay(schedule, journal) => are(text, "replay", schedule, journal, "", ""),
+        Command::Sign(journal, _, out) => are(text, "sign", journal, out, "", ""),
+        Command::Publish(journal, out) => are(text, "publish", journal, out, "", ""),
+        Command::Extend(journal, signature, _, out) => {
+            are(text, "extend", journal, signature, out, "")
         }
         Command::Verify(signature, imprint, publications) => {
-            ("verify", (*signature, sign(*imprint), *publications, ""), 0)
+            are(text, "verify", signature, sign(imprint), publications, "")
         }
         Command::Audit(journal, signature, imprint, publications) => {
-            (
+            are(
+                text,
                 "audit",
-                (*journal, *signature, sign(*imprint), *publications),
-                0,
+                journal,
+                signature,
+                sign(imprint),
+                publications,
             )
         }
-        Command::Make(number, out) => ("make", (*out, "", "", ""), *number),
-        Command::Drill(number) => ("drill", ("", "", "", ""), *number),
-        Command::Migrate(journal, out) => ("migrate", (*journal, *out, "", ""), 0),
-        command => other_parts(command),
-    }
-}
-
-/// The same of the other half of the commands.
-fn other_parts<'a>(
-    command: &'a Command<'a>,
-) -> (&'static str, (&'a str, &'a str, &'a str, &'a str), u64) {
-    match command {
-        Command::Front(journal, p1, p2, out) => {
-            ("front", (*journal, *out, "", ""), p1.wrapping_sub(*p2))
-        }
-        Command::Compare(old, new, proof) => ("compare", (*old, *new, *proof, ""), 0),
-        Command::Block(log, seed) => ("block", (*log, seed_sign(*seed), "", ""), 0),
-        Command::Line(log, seed, k, out) => ("line", (*log, seed_sign(*seed), *out, ""), *k),
+        Command::Make(_, out) => are(text, "make", out, "", "", ""),
+        Command::Drill(_) => are(text, "drill", "", "", "", ""),
+        Command::Migrate(old, new) => are(text, "migrate", old, new, "", ""),
+        Command::Front(journal, _, _, out) => are(text, "front", journal, out, "", ""),
+        Command::Compare(old, new, proof) => are(text, "compare", old, new, proof, ""),
+        Command::Block(log, seed) => are(text, "block", log, seed_sign(seed), "", ""),
+        Command::Line(log, seed, _, out) => are(text, "line", log, seed_sign(seed), out, ""),
         Command::CheckLine(signature, publications, line, proof) => {
-            ("checkline", (*signature, *publications, *line, *proof), 0)
+            are(text, "checkline", signature, publications, line, proof)
         }
         Command::Locate(log, seed, line, proof) => {
-            ("locate", (*log, seed_sign(*seed), *line, *proof), 0)
+            are(text, "locate", log, seed_sign(seed), line, proof)
         }
-        Command::Merge(one, two, out) => ("merge", (*one, *two, *out, ""), 0),
-        Command::Whole(mirror, journal) => ("whole", (*mirror, *journal, "", ""), 0),
-        Command::Inspect(node) => ("inspect", (*node, "", "", ""), 0),
-        Command::Mirror(schedule, core, out) => ("mirror", (*schedule, *out, "", ""), *core),
-        Command::Node(schedule, core, out) => ("node", (*schedule, *out, "", ""), *core),
-        _ => ("", ("", "", "", ""), 0),
+        Command::Merge(one, two, out) => are(text, "merge", one, two, out, ""),
+        Command::Whole(mirror, journal) => are(text, "whole", mirror, journal, "", ""),
+        Command::Inspect(node) => are(text, "inspect", node, "", "", ""),
+        Command::Mirror(schedule, _, out) => are(text, "mirror", schedule, out, "", ""),
+        Command::Node(schedule, _, out) => are(text, "node", schedule, out, "", ""),
     }
 }
 
-const TOLD: &str =
-    "asked sign j 18446744073709551615 s = (\"sign\", (\"j\", \"s\", \"\", \"\"), 18446744073709551615)
-asked sign j 007 s = (\"sign\", (\"j\", \"s\", \"\", \"\"), 7)
-asked mirror f 2 m = (\"mirror\", (\"f\", \"m\", \"\", \"\"), 2)
-asked node f 2 n = (\"node\", (\"f\", \"n\", \"\", \"\"), 2)
-asked extend j s 9223372036854775807 t = (\"extend\", (\"j\", \"s\", \"t\", \"\"), 9223372036854775807)
-asked make 007 f = (\"make\", (\"f\", \"\", \"\", \"\"), 7)
-asked drill 18446744073709551615 = (\"drill\", (\"\", \"\", \"\", \"\"), 18446744073709551615)
-asked front j 007 5 f = (\"front\", (\"j\", \"f\", \"\", \"\"), 2)
-asked verify s ^ p = (\"verify\", (\"s\", \"#\", \"p\", \"\"), 0)
-asked line g # 007 f = (\"line\", (\"g\", \"#\", \"f\", \"\"), 7)
-asked block g ^ = (\"block\", (\"g\", \"#\", \"\", \"\"), 0)
-asked verify  #  = (\"verify\", (\"\", \"#\", \"\", \"\"), 0)
-asked replay f j = (\"replay\", (\"f\", \"j\", \"\", \"\"), 0)
-asked publish j p = (\"publish\", (\"j\", \"p\", \"\", \"\"), 0)
-asked verify s # p = (\"verify\", (\"s\", \"#\", \"p\", \"\"), 0)
-asked verify verify # help = (\"verify\", (\"verify\", \"#\", \"help\", \"\"), 0)
-asked verify s-- # p=- = (\"verify\", (\"s--\", \"#\", \"p=-\", \"\"), 0)
-asked verify 0 # 1 = (\"verify\", (\"0\", \"#\", \"1\", \"\"), 0)
-asked audit j s # p = (\"audit\", (\"j\", \"s\", \"#\", \"p\"), 0)
-asked migrate j k = (\"migrate\", (\"j\", \"k\", \"\", \"\"), 0)
-asked compare j k f = (\"compare\", (\"j\", \"k\", \"f\", \"\"), 0)
-asked block g # = (\"block\", (\"g\", \"#\", \"\", \"\"), 0)
-asked checkline s p l f = (\"checkline\", (\"s\", \"p\", \"l\", \"f\"), 0)
-asked locate g # l f = (\"locate\", (\"g\", \"#\", \"l\", \"f\"), 0)
-asked merge m n o = (\"merge\", (\"m\", \"n\", \"o\", \"\"), 0)
-asked whole m j = (\"whole\", (\"m\", \"j\", \"\", \"\"), 0)
-asked inspect n = (\"inspect\", (\"n\", \"\", \"\", \"\"), 0)";
-
-#[test]
-fn each_command_is_told(rt: HostRuntime) -> Result<(), Fail> {
-    are_so(&rt, rt.alloc(), &mut Lines, TOLD)
+/// The number that is asked for, or else 0.
+fn number_of(command: &Command<'_>) -> u64 {
+    match command {
+        Command::Sign(_, number, _) => *number,
+        Command::Extend(_, _, second, _) => *second,
+        Command::Make(number, _) => *number,
+        Command::Drill(number) => *number,
+        Command::Front(_, p1, p2, _) => p1.wrapping_sub(*p2),
+        Command::Line(_, _, k, _) => *k,
+        Command::Mirror(_, core, _) => *core,
+        Command::Node(_, core, _) => *core,
+        _ => 0,
+    }
 }
 
-// Words that are no number, hash or seed.
-const BAD: &str = "asked make f 7 = Fault(BadWord(1))
-asked drill 18446744073709551616 = Fault(BadWord(1))
-asked sign j 18446744073709551616 s = Fault(BadWord(2))
-asked mirror f x m = Fault(BadWord(2))
-asked verify s 12 p = Fault(BadWord(2))
-asked verify s #0 p = Fault(BadWord(2))
-asked verify s  p = Fault(BadWord(2))
-asked front j x 2 f = Fault(BadWord(2))
-asked verify s e3b0c44298fc1c149afbf4c8996fb92427ae41e4649b934ca495991b7852b85 p = Fault(BadWord(2))
-asked verify s e3b0c44298fc1c149afbf4c8996fb92427ae41e4649b934ca495991b7852b85g p = Fault(BadWord(2))
-asked block g 12 = Fault(BadWord(2))
-asked line g #0 x f = Fault(BadWord(2))
-asked locate g  l f = Fault(BadWord(2))
-asked extend j s 9223372036854775808 t = Fault(BadWord(3))
-asked extend j s # t = Fault(BadWord(3))
-asked audit j s 12 p = Fault(BadWord(3))
-asked front j 1 9223372036854775808 f = Fault(BadWord(3))
-asked line g # x f = Fault(BadWord(3))";
-
-// Too few or too many words, names of no command, and words that begin with a dash.
-const REFUSED: &str = "asked = Fault(Words)
-asked replay f = Fault(Words)
-asked replay f j 1 = Fault(Words)
-asked sign j 1 = Fault(Words)
-asked publish j = Fault(Words)
-asked extend j s 1 = Fault(Words)
-asked make 7 = Fault(Words)
-asked drill = Fault(Words)
-asked drill 7 f = Fault(Words)
-asked migrate = Fault(Words)
-asked migrate j = Fault(Words)
-asked migrate j k l = Fault(Words)
-asked verify = Fault(Words)
-asked verify s = Fault(Words)
-asked verify s 12 = Fault(Words)
-asked verify s # = Fault(Words)
-asked verify s # p q = Fault(Words)
-asked verify s # p q r s t = Fault(Words)
-asked verify s 12 p q = Fault(Words)
-asked audit j s # = Fault(Words)
-asked audit j s # p q = Fault(Words)
-asked front = Fault(Words)
-asked front j 1 2 = Fault(Words)
-asked front j 1 2 f g = Fault(Words)
-asked compare j k = Fault(Words)
-asked compare j k f g = Fault(Words)
-asked merge m n = Fault(Words)
-asked merge m n o p = Fault(Words)
-asked whole m = Fault(Words)
-asked whole m j k = Fault(Words)
-asked inspect = Fault(Words)
-asked inspect n n = Fault(Words)
-asked mirror f 1 = Fault(Words)
-asked mirror f 1 m n = Fault(Words)
-asked block g = Fault(Words)
-asked block g # f = Fault(Words)
-asked line g # 1 = Fault(Words)
-asked line g # 1 f g = Fault(Words)
-asked checkline s p l = Fault(Words)
-asked checkline s p l f g = Fault(Words)
-asked locate g # l = Fault(Words)
-asked locate g # l f g = Fault(Words)
-asked Verify s # p = Fault(Words)
-asked verif s # p = Fault(Words)
-asked verifys s # p = Fault(Words)
-asked ksi verify s # p = Fault(Words)
-asked help = Fault(Words)
-asked help verify = Fault(Words)
-asked  verify s # p = Fault(Words)
-asked sign j -1 s = Fault(Words)
-asked - = Fault(Words)
-asked -- = Fault(Words)
-asked --help = Fault(Words)
-asked --version = Fault(Words)
-asked -h = Fault(Words)
-asked -- verify s # p = Fault(Words)
-asked -verify s # p = Fault(Words)
-asked verify - # p = Fault(Words)
-asked verify -s # p = Fault(Words)
-asked verify s -# p = Fault(Words)
-asked verify s 12 - = Fault(Words)
-asked verify s # -- = Fault(Words)
-asked verify s # -p = Fault(Words)
-asked verify s # --help = Fault(Words)
-asked migrate j -k = Fault(Words)
-asked verify -- s # p = Fault(Words)
-asked verify s # p -- = Fault(Words)";
-
-#[test]
-fn each_other_line_is_refused(rt: HostRuntime) -> Result<(), Fail> {
-    are_so(&rt, rt.alloc(), &mut Lines, BAD)?;
-    are_so(&rt, rt.alloc(), &mut Lines, REFUSED)
+/// The number of a command that a text says, or of the word that is bad; none where it says something else.
+fn told(text: &str, answer: &Result<Command<'_>, Refused<WordsRefusal>>) -> Option<u64> {
+    let (is_said, number) = match answer {
+        Ok(command) => (says(text, command), number_of(command)),
+        Err(Refused::Fault(WordsRefusal::Words)) => (text == "refused", 0),
+        Err(Refused::Fault(WordsRefusal::BadWord(n))) => (text == "bad", *n as u64),
+        Err(Refused::NoMemory) => (false, 0),
+    };
+    if is_said { Some(number) } else { None }
 }
 
-#[test]
-fn no_words_are_refused(rt: HostRuntime) -> Result<(), Fail> {
-    let none: Vec<String> = Vec::new(rt.alloc());
-    let told = asked(rt.alloc(), &none)?;
-    same(&rt, "none", told.as_str(), "Fault(Words)");
+/// What is asked by a line is said by this text and this number.
+fn is_told(
+    rt: &impl Abort,
+    alloc: Global,
+    line: &str,
+    text: &str,
+    number: u64,
+) -> Result<(), Fail> {
+    let words = words(alloc, line)?;
+    same(rt, line, told(text, &command(alloc, &words)), Some(number));
     Ok(())
 }
 
-const NUMBERS: &str = "number 0 = (Some(0), Some(0))
-number 00000000000000000007 = (Some(7), Some(7))
-number 42 = (Some(42), Some(42))
-number 9223372036854775807 = (Some(9223372036854775807), Some(9223372036854775807))
-number 09223372036854775807 = (Some(9223372036854775807), Some(9223372036854775807))
-number 9223372036854775808 = (Some(9223372036854775808), None)
-number 18446744073709551615 = (Some(18446744073709551615), None)
-number 18446744073709551616 = (None, None)
-number 99999999999999999999 = (None, None)
-number 000000000000000000007 = (None, None)
-number 018446744073709551615 = (None, None)
-number = (None, None)
-number +1 = (None, None)
-number -1 = (None, None)
-number  1 = (None, None)
-number 1  = (None, None)
-number 1a = (None, None)
-number 0x1 = (None, None)
-number 1_000 = (None, None)
-number \u{661} = (None, None)";
-
 #[test]
-fn numbers_have_1_to_20_digits_and_times_are_below_2_to_the_63(
-    rt: HostRuntime,
-) -> Result<(), Fail> {
-    are_so(&rt, rt.alloc(), &mut Lines, NUMBERS)
+fn each_command_is_told(rt: HostRuntime) -> Result<(), Fail> {
+    static ROWS: [(&str, &str, u64); 12] = [
+        ("sign j 18446744073709551615 s", "sign j s", u64::MAX),
+        ("sign j 007 s", "sign j s", 7),
+        ("mirror f 2 m", "mirror f m", 2),
+        ("node f 2 n", "node f n", 2),
+        (
+            "extend j s 9223372036854775807 t",
+            "extend j s t",
+            u64::MAX >> 1,
+        ),
+        ("make 007 f", "make f", 7),
+        ("drill 18446744073709551615", "drill", u64::MAX),
+        ("front j 007 5 f", "front j f", 2),
+        ("verify s ^ p", "verify s # p", 0),
+        ("line g # 007 f", "line g # f", 7),
+        ("block g ^", "block g #", 0),
+        ("verify  # ", "verify  # ", 0),
+    ];
+    // what is asked just as it stands
+    const ASKED: &str =
+        "replay f j;publish j p;verify s # p;verify verify # help;verify s-- # p=-;verify 0 # 1;audit j s # p;migrate j k;compare j k f;block g #;checkline s p l f;locate g # l f;merge m n o;whole m j;inspect n";
+    for (line, text, number) in &ROWS {
+        is_told(&rt, rt.alloc(), line, text, *number)?;
+    }
+    for line in ASKED.split(';') {
+        is_told(&rt, rt.alloc(), line, line, 0)?;
+    }
+    Ok(())
 }
 
-const DIGESTS: &str = "digest # = (Some(\"#\"), Some(\"#\"))
-digest ^ = (Some(\"#\"), Some(\"#\"))
-digest 12 = (None, None)
-digest = (None, None)";
+const BAD_FIRST: &str = "make f 7;drill 18446744073709551616";
+
+const BAD_SECOND: &str =
+    "sign j 18446744073709551616 s;mirror f x m;verify s 12 p;verify s #0 p;verify s  p;front j x 2 f;verify s e3b0c44298fc1c149afbf4c8996fb92427ae41e4649b934ca495991b7852b85 p;verify s e3b0c44298fc1c149afbf4c8996fb92427ae41e4649b934ca495991b7852b85g p;block g 12;line g #0 x f;locate g  l f";
+
+const BAD_THIRD: &str =
+    "extend j s 9223372036854775808 t;extend j s # t;audit j s 12 p;front j 1 9223372036854775808 f;line g # x f";
+
+// Too few or too many words.
+const COUNTS: &str =
+    ";replay f;replay f j 1;sign j 1;publish j;extend j s 1;make 7;drill;drill 7 f;migrate;migrate j;migrate j k l;verify;verify s;verify s 12;verify s #;verify s # p q;verify s # p q r s t;verify s 12 p q;audit j s #;audit j s # p q;front;front j 1 2;front j 1 2 f g;compare j k;compare j k f g;merge m n;merge m n o p;whole m;whole m j k;inspect;inspect n n;mirror f 1;mirror f 1 m n;block g;block g # f;line g # 1;line g # 1 f g;checkline s p l;checkline s p l f g;locate g # l;locate g # l f g";
+
+// Names of no command.
+const NAMES: &str =
+    "Verify s # p;verif s # p;verifys s # p;ksi verify s # p;help;help verify; verify s # p";
+
+// Words that begin with a dash.
+const DASHES: &str =
+    "sign j -1 s;-;--;--help;--version;-h;-- verify s # p;-verify s # p;verify - # p;verify -s # p;verify s -# p;verify s 12 -;verify s # --;verify s # -p;verify s # --help;migrate j -k;verify -- s # p;verify s # p --";
+
+fn each_is_told(
+    rt: &impl Abort,
+    alloc: Global,
+    lines: &str,
+    text: &str,
+    number: u64,
+) -> Result<(), Fail> {
+    for line in lines.split(';') {
+        is_told(rt, alloc, line, text, number)?;
+    }
+    Ok(())
+}
 
 #[test]
-fn a_hash_and_a_seed_have_64_hex_digits(rt: HostRuntime) -> Result<(), Fail> {
-    are_so(&rt, rt.alloc(), &mut Lines, DIGESTS)
+fn each_other_line_is_refused(rt: HostRuntime) -> Result<(), Fail> {
+    static ROWS: [(&str, &str, u64); 6] = [
+        (BAD_FIRST, "bad", 1),
+        (BAD_SECOND, "bad", 2),
+        (BAD_THIRD, "bad", 3),
+        (COUNTS, "refused", 0),
+        (NAMES, "refused", 0),
+        (DASHES, "refused", 0),
+    ];
+    for (lines, text, number) in &ROWS {
+        each_is_told(&rt, rt.alloc(), lines, text, *number)?;
+    }
+    Ok(())
+}
+
+#[test]
+fn no_words_are_refused(rt: HostRuntime) {
+    let none: Vec<String> = Vec::new(rt.alloc());
+    let told = told("refused", &command(rt.alloc(), &none));
+    same(&rt, "none", told, Some(0));
+}
+
+#[test]
+fn numbers_have_1_to_20_digits_and_times_are_below_2_to_the_63(rt: HostRuntime) {
+    const MOST: u64 = u64::MAX >> 1;
+    static ROWS: [(&str, Option<u64>, Option<u64>); 7] = [
+        ("0", Some(0), Some(0)),
+        ("00000000000000000007", Some(7), Some(7)),
+        ("42", Some(42), Some(42)),
+        ("9223372036854775807", Some(MOST), Some(MOST)),
+        ("09223372036854775807", Some(MOST), Some(MOST)),
+        ("9223372036854775808", Some(MOST + 1), None),
+        ("18446744073709551615", Some(u64::MAX), None),
+    ];
+    const WORDS: &str =
+        "18446744073709551616;99999999999999999999;000000000000000000007;018446744073709551615;;+1;-1; 1;1 ;1a;0x1;1_000;\u{661}";
+    for (word, count, second) in &ROWS {
+        same(&rt, *word, (number(word), time(word)), (*count, *second));
+    }
+    for word in WORDS.split(';') {
+        same(&rt, word, (number(word), time(word)), (None, None));
+    }
+}
+
+#[test]
+fn a_seed_is_the_bytes_of_64_hex_digits(rt: HostRuntime) {
+    let digest = seed(CAPITALS).map(|seed| Imprint::of_digest(&seed));
+    same(&rt, "digits", digest, hash(DIGITS));
+    same(&rt, "12", seed("12"), None);
+}
+
+#[test]
+fn a_hash_has_64_hex_digits(rt: HostRuntime) {
+    same(&rt, "digits", hash(DIGITS), Imprint::from_hex(DIGITS).ok());
+    same(&rt, "capitals", hash(CAPITALS), hash(DIGITS));
+    same(&rt, "12", hash("12"), None);
+    same(&rt, "", hash(""), None);
 }
