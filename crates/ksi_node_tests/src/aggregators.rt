@@ -2,8 +2,9 @@
 ghost use Rattle.std.specs.Prelude.{◌≡◌, ◌<◌, ◌^◌, length, IfOk};
 
 use crate::printed::{put_above, put_answer, put_item, put_signature};
+use crate::same::same;
 use crate::steps::put_entries;
-use crate::text::{Text, same};
+use crate::text::Text;
 use ksi_aggregator::{Aggregator, NoMemory, RoundFact, Send, Step};
 use ksi_aggtree::Item;
 use ksi_imprint::{Compress, Imprint, Sha};
@@ -125,12 +126,12 @@ nothing
 done stores T request 0 A 0 a3 B 0 / AB 1
 closed
 
-done stores T above AB from AB calendar AB / a3 above AB from B R0 A from AB calendar AB
+done stores T above AB from AB calendar AB / a3 above AB from B R 0 A from AB calendar AB
 nothing
 number 1
 old
 late
-bytes 197 at T 1 3 from A L0 B at T 1 from AB";
+bytes 197 at T 1 3 from A L 0 B at T 1 from AB";
 
 #[test]
 fn a_response_is_taken_once_and_after_the_close(rt: HostRuntime) {

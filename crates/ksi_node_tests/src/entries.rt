@@ -3,7 +3,8 @@ ghost use Rattle.std.specs.Prelude.{◌<◌, length};
 
 use crate::printed::put_item;
 use crate::rounds::{put_climb, put_node};
-use crate::text::{Text, same};
+use crate::same::same;
+use crate::text::Text;
 use ksi_aggtree::{AddRefusal, Entries, Entry, Item, Origin};
 use ksi_imprint::{Compress, NoMemory, Refused, Sha};
 use std::alloc::Global;
@@ -56,8 +57,8 @@ fn told(alloc: Global, entries: &Entries<Sha>) -> Result<Text, NoMemory> {
 }
 
 const TWO: &str = "A-B A-B 3 a3 1 a7 0
-request 7 A 0 / L2 B shape 3 A-B 3
-a3 B 2 / R0 A shape 2 A-B 3";
+request 7 A 0 / L 2 B shape 3 A-B 3
+a3 B 2 / R 0 A shape 2 A-B 3";
 
 #[test]
 fn items_keep_where_they_came_from(rt: HostRuntime) -> Result<(), Fail> {

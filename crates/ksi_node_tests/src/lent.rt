@@ -3,7 +3,8 @@ ghost use Rattle.std.specs.Prelude.{◌≤◌};
 ghost use Rattle.ksi_aggtree.specs.Rounds.{leaf_level, IsRound};
 
 use crate::rounds::{put_node, sides_of};
-use crate::text::{Text, same};
+use crate::same::same;
+use crate::text::Text;
 use ksi_aggtree::{Item, Name, NodeParts, Tree, node_over};
 use ksi_imprint::{Compress, NoMemory, Sha};
 use ksi_split::Side;

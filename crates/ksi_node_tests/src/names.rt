@@ -1,5 +1,6 @@
 //! Names and their metadata.
-use crate::text::{Text, same};
+use crate::same::same;
+use crate::text::Text;
 use ksi_aggtree::Name;
 use std::alloc::Global;
 

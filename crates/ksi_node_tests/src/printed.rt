@@ -88,7 +88,8 @@ pub(crate) fn put_item(text: &mut Text, item: &Item) {
 /// Links: of each its side with its correction, and what it joins.
 pub(crate) fn put_links(text: &mut Text, links: &[Link]) {
     for link in links {
-        text.number(letter(link.side), u64::from(link.correction));
+        text.word(letter(link.side));
+        text.number("", u64::from(link.correction));
         text.bytes(link.sibling.bytes());
     }
 }

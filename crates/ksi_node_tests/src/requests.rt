@@ -49,7 +49,7 @@ deliver 3 = done / c0 c0 T begin 16 AB
 deliver 4 = done / c0 c0 T voted 16
 deliver 5 = done / c0 c0 T success AB
 respond 0 T = done / c0 a0 T above AB from AB calendar R R R R R R R R R R R R R Z8 *AB
-deliver 7 = done / a0 a1 T above AB from A L0 B from AB calendar R R R R R R R R R R R R R Z8 *AB
+deliver 7 = done / a0 a1 T above AB from A L 0 B from AB calendar R R R R R R R R R R R R R Z8 *AB
 deliver 7 = nothing
 deliver 8 = done
 deliver 8 = nothing";
@@ -57,8 +57,8 @@ deliver 8 = nothing";
 const BELOW_ENDS: &str = "events 17 messages 9
 settled 1 sealed T 1 AB held T AB
 kept T AB AB 1
-request 0 bytes 709 at T 1 3 1 from A at T 1 3 from A L0 B at T 1 from AB
-request 1 bytes 652 at T 1 2 from B R0 A at T 1 from AB";
+request 0 bytes 709 at T 1 3 1 from A at T 1 3 from A L 0 B at T 1 from AB
+request 1 bytes 652 at T 1 2 from B R 0 A at T 1 from AB";
 
 #[test]
 fn a_response_goes_down_the_aggregators(rt: HostRuntime) -> Result<(), Fail> {
@@ -86,15 +86,15 @@ deliver 2 = done / c0 c0 T last 16 -
 deliver 3 = done / c0 c0 T begin 16 AB
 deliver 4 = done / c0 c0 T voted 16
 deliver 5 = done / c0 c0 T success AB
-respond 0 T = done / c0 a0 T above AB from A L0 B calendar R R R R R R R R R R R R R Z8 *AB / c0 a1 T above AB from B R0 A calendar R R R R R R R R R R R R R Z8 *AB
+respond 0 T = done / c0 a0 T above AB from A L 0 B calendar R R R R R R R R R R R R R Z8 *AB / c0 a1 T above AB from B R 0 A calendar R R R R R R R R R R R R R Z8 *AB
 deliver 7 = done
 deliver 8 = done";
 
 const TWO_BESIDE_ENDS: &str = "events 16 messages 9
 settled 1 sealed T 2 AB held T AB
 kept T AB A 0 B 0
-request 0 bytes 652 at T 3 1 from A at T 3 from A L0 B
-request 1 bytes 652 at T 2 1 from B at T 2 from B R0 A";
+request 0 bytes 652 at T 3 1 from A at T 3 from A L 0 B
+request 1 bytes 652 at T 2 1 from B at T 2 from B R 0 A";
 
 #[test]
 fn each_aggregator_submits_once_and_has_its_response(rt: HostRuntime) -> Result<(), Fail> {

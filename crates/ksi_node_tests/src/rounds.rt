@@ -3,7 +3,8 @@ ghost use Rattle.std.specs.Prelude.{◌≡◌, ◌<◌, ◌≤◌, length, IfSom
 ghost use Rattle.ksi_aggtree.specs.Rounds.{leaf_level};
 
 use crate::printed::{put_item, put_links};
-use crate::text::{Text, meant, same};
+use crate::same::same;
+use crate::text::{Text, meant};
 use ksi_aggchain::{Link, Node, climb, shape};
 use ksi_aggtree::{AddRefusal, Builder, Item, ItemPath, Name, Steps};
 use ksi_imprint::{Compress, Imprint, NoMemory, Refused, Sha, Tiny};
@@ -136,9 +137,9 @@ fn has_tree(rt: &impl Abort, alloc: Global, rows: &str, want: &str) -> Result<()
 
 /// The tree of three items of two levels.
 const THREE: &str = "count 3 ABA 4
-A 0 A 0 / L0 B L2 A shape 7 ABA 4 / L0 B L2 A shape 7 ABA 4
-B 0 B 0 / R0 A L2 A shape 6 ABA 4 / R0 A L2 A shape 6 ABA 4
-A 3 A 3 / R0 AB shape 2 ABA 4 / R0 AB shape 2 ABA 4
+A 0 A 0 / L 0 B L 2 A shape 7 ABA 4 / L 0 B L 2 A shape 7 ABA 4
+B 0 B 0 / R 0 A L 2 A shape 6 ABA 4 / R 0 A L 2 A shape 6 ABA 4
+A 3 A 3 / R 0 AB shape 2 ABA 4 / R 0 AB shape 2 ABA 4
 L AB 1
 R A 3
 LL A 0
@@ -154,11 +155,11 @@ fn the_tree_of_three_items(rt: HostRuntime) -> Result<(), Fail> {
 
 /// Four items stand on the left side of the top, and one on the right side.
 const FIVE: &str = "count 5 AAAAA 3
-A 0 A 0 / L0 A L0 AA L0 A shape 15 AAAAA 3 / L0 A L0 AA L0 A shape 15 AAAAA 3
-A 0 A 0 / R0 A L0 AA L0 A shape 14 AAAAA 3 / R0 A L0 AA L0 A shape 14 AAAAA 3
-A 0 A 0 / L0 A R0 AA L0 A shape 13 AAAAA 3 / L0 A R0 AA L0 A shape 13 AAAAA 3
-A 0 A 0 / R0 A R0 AA L0 A shape 12 AAAAA 3 / R0 A R0 AA L0 A shape 12 AAAAA 3
-A 0 A 0 / R2 AAAA shape 2 AAAAA 3 / R2 AAAA shape 2 AAAAA 3
+A 0 A 0 / L 0 A L 0 AA L 0 A shape 15 AAAAA 3 / L 0 A L 0 AA L 0 A shape 15 AAAAA 3
+A 0 A 0 / R 0 A L 0 AA L 0 A shape 14 AAAAA 3 / R 0 A L 0 AA L 0 A shape 14 AAAAA 3
+A 0 A 0 / L 0 A R 0 AA L 0 A shape 13 AAAAA 3 / L 0 A R 0 AA L 0 A shape 13 AAAAA 3
+A 0 A 0 / R 0 A R 0 AA L 0 A shape 12 AAAAA 3 / R 0 A R 0 AA L 0 A shape 12 AAAAA 3
+A 0 A 0 / R 2 AAAA shape 2 AAAAA 3 / R 2 AAAA shape 2 AAAAA 3
 L AAAA 2
 R A 0
 LL AA 1
@@ -174,8 +175,8 @@ fn the_ways_of_five_items(rt: HostRuntime) -> Result<(), Fail> {
 
 /// The item with a name stands below its leaf, and its first link leads past the name.
 const NAMED: &str = "count 2 AB.al 4
-A 0 A 0 / L3 B.al shape 3 AB.al 4 / L3 B.al shape 3 AB.al 4
-B 2 al B.al 3 / L0 m.al R0 A shape 5 AB.al 4 / L0 m.al R0 A shape 5 AB.al 4
+A 0 A 0 / L 3 B.al shape 3 AB.al 4 / L 3 B.al shape 3 AB.al 4
+B 2 al B.al 3 / L 0 m.al R 0 A shape 5 AB.al 4 / L 0 m.al R 0 A shape 5 AB.al 4
 L A 0
 R B.al 3
 LL -
@@ -192,7 +193,7 @@ fn an_item_stands_below_its_leaf(rt: HostRuntime) -> Result<(), Fail> {
 const LONGEST: &str = "A 238 aaaaaaaaaaaaaaaaaaaaaaaaaaaaaaaaaaaaaaaaaaaaaaaaaaaaaaaaaaaaaaaa";
 
 const LONGEST_TREE: &str = "count 1 A.a 239
-A 238 aaaaaaaaaaaaaaaaaaaaaaaaaaaaaaaaaaaaaaaaaaaaaaaaaaaaaaaaaaaaaaaa A.a 239 / L0 m.a shape 3 A.a 239 / L0 m.a shape 3 A.a 239
+A 238 aaaaaaaaaaaaaaaaaaaaaaaaaaaaaaaaaaaaaaaaaaaaaaaaaaaaaaaaaaaaaaaa A.a 239 / L 0 m.a shape 3 A.a 239 / L 0 m.a shape 3 A.a 239
 L A 238
 R -
 LL -

@@ -2,7 +2,6 @@
 use itoa::Buffer;
 use ksi_imprint::Imprint;
 use std::alloc::Global;
-use std::process::Abort;
 
 /// T is the first second of each plan. A and B are the digests of no bytes and of `abc`, Z has zero bytes, and Z8 is the root
 /// of 256 of those. AB is the join of A and B one level up and A-B the one three levels up, and ABA, AA, AAAA and AAAAA are
@@ -126,9 +125,4 @@ impl Text {
     pub(crate) fn imprint(&mut self, imprint: &Imprint) {
         self.bytes(imprint.bytes());
     }
-}
-
-/// The one assertion.
-pub(crate) fn same(rt: &impl Abort, at: &str, told: &str, want: &str) {
-    assert_eq!(rt; told, want, "at {at}");
 }

@@ -1,7 +1,8 @@
 //! One core's part in the vote, and its last ballot.
 use crate::printed::{put_some, put_vote};
+use crate::same::same;
 use crate::steps::put_step;
-use crate::text::{Text, same};
+use crate::text::Text;
 use ksi_corenode::{Core, CorePlan};
 use ksi_imprint::{Compress, Imprint, Sha};
 use ksi_synod::{Begun, Instance, LastVote, SynodMessage, Took, Voters};

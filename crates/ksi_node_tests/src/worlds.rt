@@ -3,7 +3,8 @@ ghost use Rattle.std.specs.Prelude.{◌≡◌, ◌<◌};
 ghost use Rattle.ksi_schedule.specs.Events.{IsEvent};
 
 use crate::printed::{put_above, put_answer, put_item, put_signature, put_some, put_synod};
-use crate::text::{Text, meant, same};
+use crate::same::same;
+use crate::text::{Text, meant};
 use ksi_corenode::Core;
 use ksi_imprint::Sha;
 use ksi_schedule::{Schedule, read_schedule};

@@ -37,6 +37,7 @@
 //! ```
 #![tactic(auto)]
 
+mod borders;
 mod fault;
 mod joins;
 pub mod laws;
