@@ -26,13 +26,12 @@ struct Running<C: Compress, D: Disk> {
 impl<C: Compress, D: Disk> Model for Running<C, D> {
     ghost use Rattle.std.specs.Prelude.{◌≡◌};
     ghost use Rattle.ksi_corenode.specs.CoreState.{CoreState};
-    ghost use Rattle.ksi_nodestore.specs.Takes.{IsStore};
 
     ghost Value = { CoreState };
 
     ghost view = { λ running. running.store.core };
 
-    ghost invariant = { λ running. (running.store.core.start ≡ 1700000000) × IsStore C.image D.content D.images running.store };
+    ghost invariant = { λ running. running.store.core.start ≡ 1700000000 };
 }
 
 impl<C: Compress, D: Disk> Running<C, D> {

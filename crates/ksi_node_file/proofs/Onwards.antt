@@ -15,7 +15,7 @@ use Rattle.ksi_corenode.specs.declared.event.CoreEvent.{CoreEvent}
 use Rattle.ksi_corenode.specs.declared.fact.Fact.{Fact}
 use Rattle.ksi_corenode.specs.declared.step.Step.{Step}
 use Rattle.ksi_disk.specs.Deeds.{StoredDisk, content_of}
-use Rattle.ksi_nodestore.specs.declared.store.NodeStore.{NodeStore}
+use Rattle.ksi_nodestore.specs.StoreState.{StoreState}
 use Rattle.ksi_nodestore.specs.Spelling.{node_text}
 use Rattle.ksi_nodestore.specs.Stores.{IsFileOf}
 use Rattle.ksi_schedule.specs.declared.event.Event.{Event}
@@ -42,22 +42,22 @@ unfolding after first_world restored fresh_second votes.fresh_vote
 first_keeps image plan j t core is = is.seconds t
 
 -- the disk of a store is that of a file of its facts, and nothing but that
-pub opens_on : {C : Type 0} (image : List ℕ → List ℕ) (j : ℕ) (facts : List Fact) (plan other : CorePlanState) (old : NodeStore C StoredDisk) (disk : StoredDisk) → other ≡ plan → disk ≡ old.log.disk → IsInMemory image j plan facts old
+pub opens_on : (image : List ℕ → List ℕ) (j : ℕ) (facts : List Fact) (plan other : CorePlanState) (old : StoreState StoredDisk) (disk : StoredDisk) → other ≡ plan → disk ≡ old.log.disk → IsInMemory image j plan facts old
     → IsFileOf j other facts (content_of disk) × (content_of disk ≡ node_text j other facts) × (disk.failing ≡ [])
 opens_on image j facts plan other old disk plan_is disk_is held =
     subst (λ (p : CorePlanState). IsFileOf j p facts (content_of disk) × (content_of disk ≡ node_text j p facts) × (disk.failing ≡ [])) (sym plan_is)
     (subst (λ (d : StoredDisk). IsFileOf j plan facts (content_of d) × (content_of d ≡ node_text j plan facts) × (d.failing ≡ [])) (sym disk_is) (held.stored.file, held.exact, held.sure))
 
 -- before anything happened
-pub follows_first : {C : Type 0} (image : List ℕ → List ℕ) (plan : PlanState) (j : ℕ) (store : NodeStore C StoredDisk) → IsOpened image j (core_plan_of plan) [] store → IsFollowing image plan [] j store
+pub follows_first : (image : List ℕ → List ℕ) (plan : PlanState) (j : ℕ) (store : StoreState StoredDisk) → IsOpened image j (core_plan_of plan) [] store → IsFollowing image plan [] j store
 follows_first image plan j store is = record {
   held = subst (λ (facts : List Fact). IsInMemory image j (core_plan_of plan) facts store) (sym (facts_first image plan j)) is.held;
   keeps = λ t. first_keeps image plan j t store.core is.made;
 }
 
-module _ {C : Type 0} (image : List ℕ → List ℕ) (plan : PlanState) (before : List Event) (event : Event) (j : ℕ)
+module _ (image : List ℕ → List ℕ) (plan : PlanState) (before : List Event) (event : Event) (j : ℕ)
     (seen_is : after image plan before ≡ world_seen image plan (seen image plan before)) (step : IsStepByFacts image plan before event)
-    (old new : NodeStore C StoredDisk) (follows : IsFollowing image plan before j old) where
+    (old new : StoreState StoredDisk) (follows : IsFollowing image plan before j old) where
   pub core_is : IsCore plan ((after image plan before).seconds j) j old.core
   core_is = record {
     me = follows.held.stored.mine;

@@ -16,9 +16,9 @@ use Rattle.ksi_nodestore.specs.declared.refusal.OpenRefusal.{OpenRefusal}
 use Rattle.ksi_nodestore.specs.declared.refusal.OpenRefusal.TheVariants as opens
 use Rattle.ksi_nodestore.specs.declared.refusal.TakeRefusal.{TakeRefusal}
 use Rattle.ksi_nodestore.specs.declared.refusal.TakeRefusal.TheVariants as takes
-use Rattle.ksi_nodestore.specs.declared.store.NodeStore.{NodeStore}
 use Rattle.ksi_nodestore.specs.Headers.{empty_file}
-use Rattle.ksi_nodestore.specs.Opens.{HasNotFailed, IsOutside, IsStoreOf}
+use Rattle.ksi_nodestore.specs.Opens.{HasNotFailed, IsOutside}
+use Rattle.ksi_nodestore.specs.StoreState.{IsStoreOf, StoreState}
 use Rattle.ksi_nodestore.specs.Spelling.{node_text}
 use Rattle.ksi_nodestore.specs.Stores.{IsFileOf}
 use Rattle.ksi_nodestore.specs.Takes.{AffordsMost, SpendsFor}
@@ -49,14 +49,14 @@ pub new_file : (me : ℕ) (plan : CorePlanState) (file : List ℕ) → IsFileOf 
 unfolding node_text
 new_file me plan file new is = subst (λ (l : List ℕ). IsFileOf me plan [] l) (sym is) new
 
-pub want_of : (C : Type 0) (refusal : OpenRefusal) (disk : StoredDisk) → IsOutside refusal → HasNotFailed {C = C} {D = StoredDisk} (Err (refusal, disk)) → IsWant refusal
-want_of C opens.Failed disk outside sure = sure
-want_of C opens.NotFormatted disk outside sure = outside
-want_of C (opens.Foreign core cores start) disk outside sure = outside
-want_of C (opens.Malformed place) disk outside sure = outside
-want_of C opens.NoMemory disk outside sure = tt
+pub want_of : (refusal : OpenRefusal) (disk : StoredDisk) → IsOutside refusal → HasNotFailed {D = StoredDisk} (Err (refusal, disk)) → IsWant refusal
+want_of opens.Failed disk outside sure = sure
+want_of opens.NotFormatted disk outside sure = outside
+want_of (opens.Foreign core cores start) disk outside sure = outside
+want_of (opens.Malformed place) disk outside sure = outside
+want_of opens.NoMemory disk outside sure = tt
 
-pub opened_as : {C : Type 0} (image : List ℕ → List ℕ) (me : ℕ) (plan : CorePlanState) (facts others : List Fact) (disk old : StoredDisk) (store : NodeStore C StoredDisk) → old ≡ with_room disk 0 1 → disk.failing ≡ []
+pub opened_as : (image : List ℕ → List ℕ) (me : ℕ) (plan : CorePlanState) (facts others : List Fact) (disk old : StoredDisk) (store : StoreState StoredDisk) → old ≡ with_room disk 0 1 → disk.failing ≡ []
     → ((facts others : List Fact) (file : List ℕ) → IsFileOf me plan facts file → IsFileOf me plan others file → facts ≡ others)
     → IsFileOf me plan facts (content_of disk) → content_of disk ≡ node_text me plan facts → IsFileOf me plan others (content_of old) → IsOfFacts image me plan others store.core
     → IsStoreOf image content_of images_of me plan others store → content_of store.log.disk ≡ content_of old → Spends 0 1 (meter_of old) (meter_of store.log.disk) → IsOpened image me plan facts store
@@ -73,25 +73,6 @@ opened_as image me plan facts others disk old store made none one is exact found
     }
 
 -- TAKEN
-
-abbrev pub on_disk : {C : Type 0} → NodeStore C StoredDisk → StoredDisk → NodeStore C StoredDisk
-on_disk store disk = record store { log = record store.log { disk = disk } }
-
-roomy : {C : Type 0} (image : List ℕ → List ℕ) (me : ℕ) (plan : CorePlanState) (facts : List Fact) (store : NodeStore C StoredDisk) (room turns : ℕ) → IsStoreOf image content_of images_of me plan facts store
-    → IsStoreOf image content_of images_of me plan facts (on_disk store (with_room store.log.disk room turns))
-roomy image me plan facts store room turns is = record {
-  mine = is.mine;
-  has = is.has;
-  counted = is.counted;
-  settled = record { durable = is.settled.durable; standing = is.settled.standing; within = is.settled.within; fresh = is.settled.fresh };
-  from = is.from;
-  file = is.file;
-}
-
-pub roomy_as : {C : Type 0} (image : List ℕ → List ℕ) (me : ℕ) (plan : CorePlanState) (facts : List Fact) (store : NodeStore C StoredDisk) (disk : StoredDisk) (room turns : ℕ) → disk ≡ with_room store.log.disk room turns
-    → IsStoreOf image content_of images_of me plan facts store → IsStoreOf image content_of images_of me plan facts (on_disk store disk)
-roomy_as image me plan facts store disk room turns made is =
-    subst (λ (d : StoredDisk). IsStoreOf image content_of images_of me plan facts (on_disk store d)) (sym made) (roomy image me plan facts store room turns is)
 
 items_length : (entries : List Entry) → length (items_of entries) ≡ length entries
 items_length [] = refl

@@ -96,7 +96,7 @@ pub(crate) fn taken<C: Compress>(
 {
     steps_are_lawful();
     let mut store = store;
-    store.log.disk.make_room(ROOM, TURNS)?;
+    store.make_room(ROOM, TURNS)?;
     match store.take(event) {
         Ok(_) => Ok(store),
         Err(refusal) => Err(take_want(refusal)),

@@ -1,5 +1,5 @@
 -- A store goes on with the fact of an event.
-use Rattle.std.proofs.Common.{◌≡◌, ℕ, ◌+◌, ◌≤◌, ◌<◌, ◌^◌, List, [], ◌∷◌, length, option_map, Option, Some, None, IfSome, sym, subst, ap, arith, length-append}
+use Rattle.std.proofs.Common.{◌≡◌, ℕ, ◌+◌, ◌≤◌, ◌<◌, ◌^◌, List, [], ◌∷◌, length, option_map, Option, Some, None, IfSome, sym, subst, ap, ◌∙◌, arith, length-append}
 use Rattle.ksi_synod.specs.CorePlans.{CorePlanState}
 use Rattle.ksi_corenode.specs.declared.fact.What.{What}
 use Rattle.ksi_corenode.specs.declared.fact.Fact.{Fact}
@@ -11,9 +11,13 @@ use Rattle.ksi_corenode.specs.Lawful.{IsLawful, stored_by, with_new}
 use Rattle.ksi_corenode.specs.Restored.{HasFacts}
 use Rattle.ksi_corenode.specs.declared.step.Step.{Step}
 use Rattle.ksi_gates.specs.declared.ending.Ending.TheVariants.{Closed}
+use Rattle.ksi_gates.specs.declared.log.GateLog.{GateLog}
+use Rattle.ksi_gates.specs.Logs.{IsSettled}
 use Rattle.ksi_gates.specs.Gates.{place_of, reading_of, record_text, records_text}
-use Rattle.ksi_nodestore.specs.Stores.{AreTexts}
+use Rattle.ksi_nodestore.specs.Stores.{AreTexts, IsFileOf}
+use Rattle.ksi_nodestore.specs.StoreState.{IsStoreOf, StoreState}
 use Rattle.ksi_nodestore.proofs.Onward.{texts_size}
+use Rattle.ksi_nodestore.specs.Opens.{IsLogOf}
 use Rattle.ksi_nodestore.specs.Takes.{count_new}
 
 lawful_on : (start second : ℕ) (core : CoreState) (facts : List Fact) (row : Option What) → core.start ≡ start → ((t : ℕ) → stable_state (state_of core t) ≡ stored_by facts t)
@@ -48,3 +52,29 @@ pub may_go_on : (image : List ℕ → List ℕ) (plan : CorePlanState) (facts : 
     → IfSome step.fact (λ fact. IsLawful plan.start (stored_by facts fact.second) fact)
 may_go_on image plan facts core new event step has turn may =
     lawful_for plan.start (event_second event) core facts (core_row image core event).fact step.fact has.begins has.stored turn.fact may
+
+-- the store of what was found in a file
+pub store_found : {D : Type 0} (image : List ℕ → List ℕ) (content : D → List ℕ) (images : D → List ℕ → Type 0) (me : ℕ) (plan : CorePlanState) (facts : List Fact) (file : List ℕ) (core : CoreState) (log : GateLog D) (records : ℕ)
+    → IsFileOf me plan facts file → core.me ≡ me → HasFacts image plan facts core → records ≡ length (reading_of 18 file).records → IsSettled content images log → log.from ≡ 18 → content log.disk ≡ file
+    → IsStoreOf image content images me plan facts (record { core = core; log = log; records = records })
+store_found image content images me plan facts file core log records is mine has counted settled from here = record {
+  mine = mine;
+  has = has;
+  counted = counted ∙ sym (texts_size facts (reading_of 18 file).records is.are.texts);
+  settled = settled;
+  from = from;
+  file = subst (λ (l : List ℕ). IsFileOf me plan facts l) (sym here) is;
+}
+
+-- the store after an event that adds this fact, if any
+pub goes_on : {D : Type 0} (image : List ℕ → List ℕ) (content : D → List ℕ) (images : D → List ℕ → Type 0) (me : ℕ) (plan : CorePlanState) (facts : List Fact) (old : StoreState D) (core : CoreState) (log : GateLog D) (more : ℕ) (fact : Option Fact)
+    → IsStoreOf image content images me plan facts old → core.me ≡ old.core.me → HasFacts image plan (with_new facts fact) core → more ≡ count_new fact → IsLogOf content images me plan (with_new facts fact) log
+    → IsStoreOf image content images me plan (with_new facts fact) (record { core = core; log = log; records = old.records + more })
+goes_on image content images me plan facts old core log more fact is mine has counts kept = record {
+  mine = mine ∙ is.mine;
+  has = has;
+  counted = counted_on old.records more facts fact is.counted counts;
+  settled = kept.settled;
+  from = kept.from;
+  file = kept.file;
+}

@@ -9,3 +9,4 @@ pub mod Tested
 pub mod Folded
 pub mod Tellings
 pub mod Writings
+pub mod Roomy

@@ -89,12 +89,12 @@ own_header file header plan (opens.Foreign core others begin) cores start head s
 own_header file header plan (opens.Malformed place) cores start head sure is = tt
 own_header file header plan opens.NoMemory cores start head sure is = tt
 
-pub not_failed : (C D : Type 0) (refusal : OpenRefusal) (disk : D) → HasNotFailed {C = C} {D = D} (Err (refusal, disk)) → refusal ≡ opens.Failed → ⊥
-not_failed C D opens.Failed disk has is = has
-not_failed C D opens.NotFormatted disk has is = absurd (cc is)
-not_failed C D (opens.Foreign core cores start) disk has is = absurd (cc is)
-not_failed C D (opens.Malformed place) disk has is = absurd (cc is)
-not_failed C D opens.NoMemory disk has is = absurd (cc is)
+pub not_failed : (D : Type 0) (refusal : OpenRefusal) (disk : D) → HasNotFailed {D = D} (Err (refusal, disk)) → refusal ≡ opens.Failed → ⊥
+not_failed D opens.Failed disk has is = has
+not_failed D opens.NotFormatted disk has is = absurd (cc is)
+not_failed D (opens.Foreign core cores start) disk has is = absurd (cc is)
+not_failed D (opens.Malformed place) disk has is = absurd (cc is)
+not_failed D opens.NoMemory disk has is = absurd (cc is)
 
 pub fault_said : (file : List ℕ) (header : Header) (plan : CorePlanState) (refusal : OpenRefusal) (told : Refused NodeFault) → plan.start ≡ header.start → header_at (take 18 file) ≡ Ok header → IsBroken refusal → IsRefused header.core plan file refusal
     → refusal ≡ refused_for told → Inspects file (Err told)

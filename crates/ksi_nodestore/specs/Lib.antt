@@ -5,6 +5,7 @@ pub mod Writing
 pub mod Spelling
 pub mod FactReading
 pub mod Stores
+pub mod StoreState
 pub mod Refusals
 pub mod Opens
 pub mod Takes

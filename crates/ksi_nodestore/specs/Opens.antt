@@ -4,7 +4,7 @@ use Rattle.ksi_ports.specs.Outside.{Raises}
 use Rattle.ksi_synod.specs.CorePlans.{CorePlanState}
 use Rattle.ksi_corenode.specs.declared.fact.Fact.{Fact}
 use Rattle.ksi_corenode.specs.CoreState.{CoreState}
-use Rattle.ksi_corenode.specs.Restored.{HasFacts, IsOfFacts}
+use Rattle.ksi_corenode.specs.Restored.{IsOfFacts}
 use Rattle.ksi_gates.specs.declared.ending.Ending.TheVariants as ending
 use Rattle.ksi_gates.specs.declared.log.GateLog.{GateLog}
 use Rattle.ksi_gates.specs.Gates.{reading_of}
@@ -13,8 +13,8 @@ use Rattle.ksi_nodestore.specs.declared.heads.HeaderFault.TheVariants as fault
 use Rattle.ksi_nodestore.specs.declared.refusal.OpenRefusal.{OpenRefusal}
 use Rattle.ksi_nodestore.specs.declared.refusal.OpenRefusal.TheVariants.{Failed, NotFormatted, Foreign, Malformed, NoMemory}
 use Rattle.ksi_nodestore.specs.declared.found.Found.{Found}
-use Rattle.ksi_nodestore.specs.declared.store.NodeStore.{NodeStore}
 use Rattle.ksi_nodestore.specs.Headers.{header_at}
+use Rattle.ksi_nodestore.specs.StoreState.{IsStoreOf, StoreState}
 use Rattle.ksi_nodestore.specs.Stores.{HasNumbers, IsCoreOf, IsFault, IsFileOf, IsMalformedAt}
 
 -- why a file of bytes is no file of core me of a plan
@@ -70,29 +70,19 @@ FindsAs image me plan file (Err refusal) = IsRefused me plan file refusal
 
 -- THE STORE
 
--- The store of core me of a plan with these facts: they are in the file, which is on the disk for good, and the core has
--- stored them and no others.
-pub record IsStoreOf {C D : Type 0} (image : List ℕ → List ℕ) (content : D → List ℕ) (images : D → List ℕ → Type 0) (me : ℕ) (plan : CorePlanState) (facts : List Fact) (store : NodeStore C D) : Type 0 where
-  pub mine : store.core.me ≡ me
-  pub has : HasFacts image plan facts store.core
-  pub counted : store.records ≡ length facts
-  pub settled : IsSettled content images store.log
-  pub from : store.log.from ≡ 18
-  pub file : IsFileOf me plan facts (content store.log.disk)
-
 -- what is answered of a file: the store of the facts in it, whose core is made of them; or why there is none
-abbrev pub OpensAs : {C D : Type 0} → (List ℕ → List ℕ) → (content : D → List ℕ) (images : D → List ℕ → Type 0) → (me : ℕ) → CorePlanState → List ℕ → Result (NodeStore C D) (OpenRefusal × D) → Type 0
+abbrev pub OpensAs : {D : Type 0} → (List ℕ → List ℕ) → (content : D → List ℕ) (images : D → List ℕ → Type 0) → (me : ℕ) → CorePlanState → List ℕ → Result (StoreState D) (OpenRefusal × D) → Type 0
 OpensAs image content images me plan file (Ok store) =
     (facts : List Fact) × IsFileOf me plan facts file × IsOfFacts image me plan facts store.core × IsStoreOf image content images me plan facts store
 OpensAs image content images me plan file (Err refused) = IsRefused me plan file refused.0
 
 -- the disk, in the store or handed back
-abbrev pub disk_after : {C D : Type 0} → Result (NodeStore C D) (OpenRefusal × D) → D
+abbrev pub disk_after : {D : Type 0} → Result (StoreState D) (OpenRefusal × D) → D
 disk_after (Ok store) = store.log.disk
 disk_after (Err refused) = refused.1
 
 -- the count of faults after an opening: it rises where the disk failed, and stays else
-abbrev pub OpenCounts : {C D : Type 0} → ℕ → (D → ℕ) → Result (NodeStore C D) (OpenRefusal × D) → Type 0
+abbrev pub OpenCounts : {D : Type 0} → ℕ → (D → ℕ) → Result (StoreState D) (OpenRefusal × D) → Type 0
 OpenCounts before faults (Ok store) = faults store.log.disk ≡ before
 OpenCounts before faults (Err (Failed, disk)) = Raises before (faults disk)
 OpenCounts before faults (Err (NotFormatted, disk)) = faults disk ≡ before
@@ -100,7 +90,7 @@ OpenCounts before faults (Err (Foreign core cores start, disk)) = faults disk �
 OpenCounts before faults (Err (Malformed place, disk)) = faults disk ≡ before
 OpenCounts before faults (Err (NoMemory, disk)) = faults disk ≡ before
 
-abbrev pub HasNotFailed : {C D : Type 0} → Result (NodeStore C D) (OpenRefusal × D) → Type 0
+abbrev pub HasNotFailed : {D : Type 0} → Result (StoreState D) (OpenRefusal × D) → Type 0
 HasNotFailed (Ok store) = Unit {0}
 HasNotFailed (Err (Failed, disk)) = ⊥
 HasNotFailed (Err (NotFormatted, disk)) = Unit {0}

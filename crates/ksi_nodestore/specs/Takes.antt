@@ -13,12 +13,12 @@ use Rattle.ksi_disk.specs.Costs.{Affords, Meter, Spends}
 use Rattle.ksi_gates.specs.Drafts.{Draft}
 use Rattle.ksi_nodestore.specs.declared.refusal.TakeRefusal.{TakeRefusal}
 use Rattle.ksi_nodestore.specs.declared.refusal.TakeRefusal.TheVariants.{Failed, Spent, NoMemory}
-use Rattle.ksi_nodestore.specs.declared.store.NodeStore.{NodeStore}
 use Rattle.ksi_nodestore.specs.Texts.{fact_text}
 use Rattle.ksi_nodestore.specs.Writing.{CanSpell, most_bytes}
 use Rattle.ksi_nodestore.specs.Stores.{IsFileOf}
 use Rattle.ksi_gates.specs.declared.log.GateLog.{GateLog}
-use Rattle.ksi_nodestore.specs.Opens.{IsLogOf, IsStoreOf}
+use Rattle.ksi_nodestore.specs.Opens.{IsLogOf}
+use Rattle.ksi_nodestore.specs.StoreState.{IsStoreOf, StoreState}
 use Rattle.ksi_nodestore.specs.Spelling.{node_text}
 
 -- the fact that an event adds to a core, if any
@@ -42,12 +42,12 @@ TakeCounts before now (Err Spent) = now ≡ before
 TakeCounts before now (Err NoMemory) = now ≡ before
 
 -- what a refusal leaves: after a failure the store is spent, and any other leaves it as it was
-pub record IsUnchanged {C D : Type 0} (old new : NodeStore C D) : Type 0 where
+pub record IsUnchanged {D : Type 0} (old new : StoreState D) : Type 0 where
   pub core : IsSame old.core new.core
   pub log : new.log ≡ old.log
   pub records : new.records ≡ old.records
 
-abbrev pub TakeLeaves : {C D : Type 0} → (old new : NodeStore C D) → Result Step TakeRefusal → Type 0
+abbrev pub TakeLeaves : {D : Type 0} → (old new : StoreState D) → Result Step TakeRefusal → Type 0
 TakeLeaves old new (Ok step) = new.log.is_spent ≡ false
 TakeLeaves old new (Err Failed) = new.log.is_spent ≡ true
 TakeLeaves old new (Err Spent) = (old.log.is_spent ≡ true) × IsUnchanged old new
@@ -84,10 +84,6 @@ pub record IsCost {T : Type 0} (fact : Option Fact) (old new : Option Meter) (re
   pub sure : AffordsFor fact old → IsErrOf result Failed → ⊥
   pub enough : AffordsMost fact old → IsErrOf result Failed → ⊥
 
--- it is the store of some facts, which are in its file
-abbrev pub IsStore : {C D : Type 0} → (List ℕ → List ℕ) → (content : D → List ℕ) (images : D → List ℕ → Type 0) → NodeStore C D → Type 0
-IsStore image content images store = (me : ℕ) × (plan : CorePlanState) × (facts : List Fact) × IsStoreOf image content images me plan facts store
-
 -- how many facts that are
 abbrev pub count_new : Option Fact → ℕ
 count_new None = 0
@@ -108,6 +104,6 @@ pub record HasKept {D : Type 0} (content : D → List ℕ) (images : D → List 
   pub exact : content old.disk ≡ node_text me plan facts → content new.disk ≡ node_text me plan (with_new facts more)
 
 -- a store took an event that adds this fact, if any; its file is nothing but its spelling where it was before
-pub record HasTaken {C D : Type 0} (image : List ℕ → List ℕ) (content : D → List ℕ) (images : D → List ℕ → Type 0) (me : ℕ) (plan : CorePlanState) (facts : List Fact) (more : Option Fact) (old new : NodeStore C D) : Type 0 where
+pub record HasTaken {D : Type 0} (image : List ℕ → List ℕ) (content : D → List ℕ) (images : D → List ℕ → Type 0) (me : ℕ) (plan : CorePlanState) (facts : List Fact) (more : Option Fact) (old new : StoreState D) : Type 0 where
   pub stored : IsStoreOf image content images me plan (with_new facts more) new
   pub exact : content old.log.disk ≡ node_text me plan facts → content new.log.disk ≡ node_text me plan (with_new facts more)

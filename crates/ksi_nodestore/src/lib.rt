@@ -25,6 +25,7 @@ mod formatting;
 mod found;
 mod heading;
 mod heads;
+mod in_memory;
 mod inspected;
 mod inspecting;
 pub mod laws;

@@ -8,9 +8,9 @@ ghost use Rattle.ksi_corenode.specs.Lawful.{with_new};
 ghost use Rattle.ksi_disk.specs.Images.{LeavesOnly};
 ghost use Rattle.ksi_corenode.specs.Counted.{count_below};
 ghost use Rattle.ksi_nodestore.specs.declared.refusal.TakeRefusal.TheVariants.{Spent};
-ghost use Rattle.ksi_nodestore.specs.Opens.{IsStoreOf};
+ghost use Rattle.ksi_nodestore.specs.StoreState.{IsStoreOf};
 ghost use Rattle.ksi_nodestore.specs.Spelling.{node_text};
-ghost use Rattle.ksi_nodestore.specs.Takes.{count_new, fact_added, is_held_at, is_sealed_at, HasTaken, IsCost, IsFileBeforeOrAfter, IsStore, TakeCounts, TakeLeaves};
+ghost use Rattle.ksi_nodestore.specs.Takes.{count_new, fact_added, is_held_at, is_sealed_at, HasTaken, IsCost, IsFileBeforeOrAfter, TakeCounts, TakeLeaves};
 
 use crate::appending::keep;
 use crate::room::record_for;
@@ -31,7 +31,6 @@ impl<C: Compress, D: Disk> NodeStore<C, D> {
     /// `Failed`, and the disk's count of faults rises; then the store is spent, and each image has the facts before, with
     /// this event's or without. `Spent` exactly where an earlier event failed so. `NoMemory`: all is as it was.
     pub fn take(&mut self, event: CoreEvent) -> Result<Step, TakeRefusal>
-        requires stored { self.old.log.is_spent ≡ false → IsStore C.image D.content D.images self.old }
         requires event { MayTake self.old.core event }
         requires asked { IsAsked self.old.core (event_second event) }
         ensures turn { IfOk result (λ step. IsTurn self.old.core self.new.core (event_second event) (core_row C.image self.old.core event) step) }
@@ -83,7 +82,7 @@ impl<C: Compress, D: Disk> NodeStore<C, D> {
 
     /// Takes an event, where no call has failed yet: room for its record first, then the core's step, then the record.
     fn take_on(&mut self, event: &CoreEvent) -> Result<Step, TakeRefusal>
-        requires stored { IsStore C.image D.content D.images self.old }
+        requires fresh { self.old.log.is_spent ≡ false }
         requires event { MayTake self.old.core event.now }
         requires asked { IsAsked self.old.core (event_second event.now) }
         ensures turn { IfOk result (λ step. IsTurn self.old.core self.new.core (event_second event.now) (core_row C.image self.old.core event.now) step) }

@@ -15,6 +15,6 @@ want-requires g c =
     let made = c.in_ok-make_room.ensures.made in
     let facts = c.requires.file.0 in
     let is : IsFileOf c.args.core c.args.plan.now facts (content_of c.make_room.new.self) = subst (λ (l : List ℕ). IsFileOf c.args.core c.args.plan.now facts l) (ap content_of (sym made)) c.requires.file.1 in
-    want_of g.row.C.Denot c.in-Err.refusal c.in-Err.field-0-1
+    want_of c.in-Err.refusal c.in-Err.field-0-1
     (c.files_of_facts_are_opened.ensures c.args.core c.args.plan.now facts (content_of c.make_room.new.self) c.in-Err.refusal is c.in-Err.ensures.opens)
     (c.in-Err.ensures.sure (affords_now c.args.disk c.make_room.new.self 0 1 made c.requires.sure))

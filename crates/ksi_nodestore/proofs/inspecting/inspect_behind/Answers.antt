@@ -30,5 +30,5 @@ returns g c =
     let affords : Affords 0 1 (meter_of c.in_ok-disk.disk) =
     subst (λ (d : StoredDisk). Affords 0 1 (meter_of d)) (sym made) (subst (λ (l : List ℕ). Affords 0 1 (meter_of (new_disk file 0 1 l))) (sym c.new.ensures.items) (omega arith, omega arith)) in
     let is : IsRefused head.core plan file c.in-Err.refusal = subst (λ (l : List ℕ). IsRefused head.core plan l c.in-Err.refusal) (ap content_of made) c.in-Err.ensures.opens in
-    let broken = own_header file head plan c.in-Err.refusal cores start c.requires.head (not_failed g.row.C.Denot StoredDisk c.in-Err.refusal c.in-Err.field-0-1 (c.in-Err.ensures.sure affords)) is in
+    let broken = own_header file head plan c.in-Err.refusal cores start c.requires.head (not_failed StoredDisk c.in-Err.refusal c.in-Err.field-0-1 (c.in-Err.ensures.sure affords)) is in
     fault_said file head plan c.in-Err.refusal c.refused.result start c.requires.head broken is c.refused.ensures

@@ -1,8 +1,25 @@
-use Rattle.std.proofs.Common.{ℕ, List, ◌<◌, ◌∙◌, ap, sym, subst, arith}
-use Rattle.ksi_gates.specs.Gates.{reading_of}
+use Rattle.std.proofs.Common.{◌<◌, ◌∙◌, ap, arith}
 use Rattle.ksi_nodestore.specs.Stores.{IsFileOf}
-use Rattle.ksi_nodestore.proofs.Onward.{texts_size}
+use Rattle.ksi_nodestore.proofs.Acknowledged.{store_found}
 use Rattle.ksi_nodestore.proofs.store.NodeStore.open.Goals as goal
+
+pub invariant_of-result : goal.invariant_of-result
+invariant_of-result g c = λ fresh.
+    let found = c.in-Ok.ensures.found in
+    let me = c.args.me in
+    let plan = c.args.plan.now in
+    let content = g.D.Disk.content in
+    let facts = found.folded.0 in
+    let file : IsFileOf me plan facts (content c.args.disk) = record { gate = c.in-Ok.found.gate; head = found.head; are = found.folded.1; closed = found.closed } in
+    let few = c.cores.ensures.limits.few in
+    let below : me < 9 = omega arith in
+    let has = c.one_core_of_facts.ensures.has g.C.Compress.image me plan facts c.in-Ok.found.core below found.folded.1.lawful found.folded.2 in (
+      me,
+      plan,
+      facts,
+      store_found g.C.Compress.image content g.D.Disk.images me plan facts (content c.args.disk) c.in-Ok.found.core c.new-log.result c.in-Ok.found.records file found.folded.2.mine has found.counted
+          c.new-log.ensures.settled c.new-log.ensures.from (ap content c.new-log.ensures.disk ∙ c.in-Ok.ensures.stays),
+    )
 
 pub returns-in-Ok-clause-opens : goal.returns-in-Ok-clause-opens
 returns-in-Ok-clause-opens g c =
@@ -11,21 +28,13 @@ returns-in-Ok-clause-opens g c =
     let plan = c.args.plan.now in
     let content = g.D.Disk.content in
     let facts = found.folded.0 in
-    let are = found.folded.1 in
-    let of = found.folded.2 in
-    let file : IsFileOf me plan facts (content c.args.disk) = record { gate = c.in-Ok.found.gate; head = found.head; are = are; closed = found.closed } in
+    let file : IsFileOf me plan facts (content c.args.disk) = record { gate = c.in-Ok.found.gate; head = found.head; are = found.folded.1; closed = found.closed } in
     let few = c.cores.ensures.limits.few in
     let below : me < 9 = omega arith in
-    let stays = ap content c.new-log.ensures.disk ∙ c.in-Ok.ensures.stays in (
+    let has = c.one_core_of_facts.ensures.has g.C.Compress.image me plan facts c.in-Ok.found.core below found.folded.1.lawful found.folded.2 in (
       facts,
       file,
-      of,
-      record {
-        mine = of.mine;
-        has = c.one_core_of_facts.ensures.has g.C.Compress.image me plan facts c.in-Ok.found.core below are.lawful of;
-        counted = found.counted ∙ sym (texts_size facts (reading_of 18 (content c.args.disk)).records are.texts);
-        settled = c.new-log.ensures.settled;
-        from = c.new-log.ensures.from;
-        file = subst (λ (l : List ℕ). IsFileOf me plan facts l) (sym stays) file;
-      },
+      found.folded.2,
+      store_found g.C.Compress.image content g.D.Disk.images me plan facts (content c.args.disk) c.in-Ok.found.core c.new-log.result c.in-Ok.found.records file found.folded.2.mine has found.counted
+          c.new-log.ensures.settled c.new-log.ensures.from (ap content c.new-log.ensures.disk ∙ c.in-Ok.ensures.stays),
     )
