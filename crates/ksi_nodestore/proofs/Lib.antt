@@ -10,3 +10,4 @@ pub mod Folded
 pub mod Tellings
 pub mod Writings
 pub mod Roomy
+pub mod Reasons
