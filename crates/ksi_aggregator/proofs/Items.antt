@@ -1,9 +1,8 @@
 -- The items of a round: reading one of them, and what they are below a response.
-use Rattle.std.proofs.Common.{◌≡◌, ℕ, zero, suc, ◌+◌, ◌≤◌, ◌++◌, List, [], ◌∷◌, length, take, drop, add-one, Bool, true, false, ◌||◌, Option, Some, None, refl, ap, sym, subst, append_assoc, ◌∙◌, arith, ◌⊎◌, inl, inr}
+use Rattle.std.proofs.Common.{◌≡◌, ℕ, zero, suc, ◌+◌, ◌≤◌, ◌++◌, List, [], ◌∷◌, length, drop, Bool, true, false, ◌||◌, Option, Some, None, refl, ap, sym, subst, append_assoc, ◌∙◌, arith, ◌⊎◌, inl, inr}
 use Rattle.std.specs.Prelude.{slice_get, max, IfSome}
 use Rattle.std.specs.List.{AllByRecursion}
-use Rattle.std.proofs.lemmas.Option.{none-some, slice_get_within, get_or_from_slice_get}
-use Rattle.std.proofs.Math.Seq.{take-suc}
+use Rattle.std.proofs.lemmas.Option.{none-some}
 use Rattle.std.proofs.lemmas.Bool.{false≢true}
 use Rattle.ksi_split.specs.declared.tree_link.TreeLink.{TreeLink}
 use Rattle.ksi_aggchain.specs.declared.node.Node.{Node}
@@ -29,12 +28,6 @@ read_item (x ∷ xs) zero entry e = ap (λ (o : Option Entry). item_or o) e
     item_or None = entry.item
     item_or (Some y) = y.item
 read_item (x ∷ xs) (suc k) entry e = read_item xs k entry e
-
--- one more of the first items
-pub take_next : (entries : List Entry) (k : ℕ) (entry : Entry) → slice_get entries k ≡ Some entry → take (k + 1) entries ≡ take k entries ++ entry ∷ []
-take_next entries k entry is =
-    ap (λ (n : ℕ). take n entries) (add-one k) ∙ take-suc entries k entry (slice_get_within entries k entry is)
-    ∙ ap (λ (e : Entry). take k entries ++ e ∷ []) (get_or_from_slice_get entries k entry entry is)
 
 -- from an item on, it stands first
 pub drop_read : (entries : List Entry) (k : ℕ) (entry : Entry) → slice_get entries k ≡ Some entry → drop k entries ≡ entry ∷ drop (suc k) entries

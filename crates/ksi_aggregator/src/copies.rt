@@ -1,25 +1,10 @@
-//! Copies of what a response carries, and of the items of a round.
+//! Copies of what a response carries.
 ghost use Rattle.std.specs.Prelude.{◌≡◌, ◌≤◌, ◌∷◌, ◌++◌, length, IfOk, OnOk};
 
 use ksi_aggchain::{Link, Sibling};
-use ksi_aggtree::{Entries, Entry};
-use ksi_imprint::{Bytes, Compress, NoMemory};
+use ksi_imprint::{Bytes, NoMemory};
 use ksi_signature::{Above, AboveChain, AboveChains, AboveLinks, CalendarLinks};
 use std::alloc::Global;
-
-/// A copy of the items of a round, in order.
-pub(crate) fn copy_items<C: Compress>(
-    alloc: Global,
-    entries: &Entries<C>,
-) -> Result<Vec<Entry>, NoMemory>
-    ensures { IfOk result (λ items. items.items ≡ entries.now) }
-{
-    let mut items = Vec::with_capacity(alloc, entries.count())?;
-    for k in 0..entries.count() {
-        items.push(entries.entry(k))?;
-    }
-    Ok(items)
-}
 
 /// Two copies of what stands above a round.
 pub(crate) fn copies_of(alloc: Global, above: &Above) -> Result<(Above, Above), NoMemory>

@@ -6,7 +6,7 @@ ghost use Rattle.ksi_aggregator.specs.Rows.{fresh_round, round_request, round_su
 ghost use Rattle.ksi_aggregator.specs.Rounds.{items_in, fact_of, StandsAt, HasPlace};
 ghost use Rattle.ksi_aggregator.specs.Issuing.{IsIssuedAt, NotIssuedAt, from_request, issued_text};
 
-use crate::copies::{copies_of, copy_items};
+use crate::copies::copies_of;
 use crate::fact::{ClosedItems, Fact, RoundFact};
 use crate::responses::responses;
 use crate::step::{Send, Step};
@@ -138,7 +138,7 @@ impl<C: Compress> Round<C> {
         if let Some(root) = self.entries.root() {
             sends.push(Send::Submission(Item::of(root)))?;
         }
-        let items = copy_items(alloc, &self.entries)?;
+        let items = self.entries.to_vec(alloc)?;
         self.response = None;
         self.is_closed = true;
         Ok(Step {

@@ -1,5 +1,5 @@
 -- Items with where they came from, as lists of origins and of items.
-use Rattle.std.proofs.Common.{◌≡◌, ℕ, zero, suc, ◌<◌, get_or, sym, ◌++◌, List, [], ◌∷◌, length, map, Bool, ◌||◌, Option, Some, None, refl, ap, arith}
+use Rattle.std.proofs.Common.{◌≡◌, ℕ, zero, suc, ◌+◌, ◌<◌, get_or, sym, take, add-one, ◌∙◌, ◌++◌, List, [], ◌∷◌, length, map, Bool, ◌||◌, Option, Some, None, refl, ap, arith}
 use Rattle.std.specs.List.{list_any}
 use Rattle.ksi_aggchain.specs.declared.node.Node.{Node}
 use Rattle.ksi_aggtree.specs.declared.item.Item.{Item}
@@ -9,6 +9,8 @@ use Rattle.ksi_aggtree.specs.Entries.{items_of, is_from, has_from, entries_of, c
 use Rattle.ksi_imprint.specs.Imprints.{zero_imprint}
 use Rattle.ksi_aggtree.specs.Rounds.{item_at, root_of}
 use Rattle.std.specs.Prelude.{slice_get}
+use Rattle.std.proofs.lemmas.Option.{slice_get_within, get_or_from_slice_get}
+use Rattle.std.proofs.Math.Seq.{take-suc}
 
 abbrev pub beside : Origin → Item → Entry
 beside origin item = record { origin = origin; item = item }
@@ -58,3 +60,9 @@ imprint_or (Some node) = node.imprint
 pub imprint_candidate : (image : List ℕ → List ℕ) (entries : List Entry) → imprint_or (root_of image (items_of entries)) ≡ candidate_of image entries
 imprint_candidate image [] = refl
 imprint_candidate image (x ∷ xs) = refl
+
+-- one more of the first entries
+pub take_next : (entries : List Entry) (k : ℕ) (entry : Entry) → slice_get entries k ≡ Some entry → take (k + 1) entries ≡ take k entries ++ entry ∷ []
+take_next entries k entry is =
+    ap (λ (n : ℕ). take n entries) (add-one k) ∙ take-suc entries k entry (slice_get_within entries k entry is)
+    ∙ ap (λ (e : Entry). take k entries ++ e ∷ []) (get_or_from_slice_get entries k entry entry is)

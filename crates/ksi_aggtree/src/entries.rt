@@ -89,6 +89,20 @@ impl<C: Compress> Entries<C> {
         }
     }
 
+    /// A copy of the items in their order, each with where it came from.
+    ///
+    /// # Errors
+    /// `NoMemory`: no copy is made.
+    pub fn to_vec(&self, alloc: Global) -> Result<Vec<Entry>, NoMemory>
+        ensures { IfOk result (λ entries. entries.items ≡ self.now) }
+    {
+        let mut entries = Vec::with_capacity(alloc, self.count())?;
+        for k in 0..self.count() {
+            entries.push_reserved(self.entry(k));
+        }
+        Ok(entries)
+    }
+
     /// Whether an item of the aggregator is there: one look into a set, however many items there are.
     pub fn has_from(&self, aggregator: u32) -> bool
         ensures { result ≡ has_from aggregator self.now }

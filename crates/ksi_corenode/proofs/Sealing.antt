@@ -1,11 +1,10 @@
 -- What is seen as the open items of a second come behind the sealed ones.
-use Rattle.std.proofs.Common.{◌≡◌, ◌∙◌, ℕ, ◌+◌, ◌≤◌, ◌++◌, ◌∷◌, List, [], length, slice_get, add-one, take, drop, Option, Some, None, Bool, true, false, refl, sym, ap, subst, arith}
+use Rattle.std.proofs.Common.{◌≡◌, ◌∙◌, ℕ, ◌+◌, ◌≤◌, ◌++◌, List, [], length, take, drop, Option, Some, None, Bool, true, false, refl, sym, ap, subst, arith}
 use Rattle.std.specs.Prelude.{◌==◌, if◌then◌else◌, option_map, is_some, IsNone, IfSome}
 use Rattle.std.proofs.lemmas.Bool.{cond-true, cond-false, eq-eqb}
 use Rattle.std.proofs.lemmas.List.{drop-append-le, take-append-le, take_all, length-drop, length-append}
 use Rattle.ksi_aggtree.specs.Rounds.{IsRound}
-use Rattle.std.proofs.lemmas.Option.{slice_get_within, get_or_from_slice_get}
-use Rattle.std.proofs.Math.Seq.{drop-append_seam, take-suc}
+use Rattle.std.proofs.Math.Seq.{drop-append_seam}
 use Rattle.ksi_aggtree.specs.declared.entries.Entry.{Entry}
 use Rattle.ksi_aggtree.specs.Entries.{items_of, candidate_of}
 use Rattle.ksi_synod.specs.VoteState.{VoteState, stable_of, vote_of}
@@ -18,12 +17,6 @@ use Rattle.ksi_corenode.specs.Stored.{VolatileState, volatile_at, items_from, se
 use Rattle.ksi_corenode.specs.CoreState.{CoreState, stable_at, state_of, IsChange}
 use Rattle.ksi_corenode.specs.Restored.{sealed_second}
 use Rattle.ksi_corenode.proofs.Changes.{parts_change, none_sealed, no_some}
-
--- one more of the first items
-pub take_next : (items : List Entry) (k : ℕ) (entry : Entry) → slice_get items k ≡ Some entry → take (k + 1) items ≡ take k items ++ entry ∷ []
-take_next items k entry is =
-    ap (λ (n : ℕ). take n items) (add-one k) ∙ take-suc items k entry (slice_get_within items k entry is)
-    ∙ ap (λ (e : Entry). take k items ++ e ∷ []) (get_or_from_slice_get items k entry entry is)
 
 -- items stay where they are as more come behind them
 pub from_within : (items more : List Entry) (first count : ℕ) → first + count ≤ length items → items_from (items ++ more) first count ≡ items_from items first count

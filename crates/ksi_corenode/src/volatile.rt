@@ -76,7 +76,7 @@ impl<C: Compress> VolatilePart<C> {
         ensures round { IsRound (items_of self.now.open_items) }
     {
         match &self.tree {
-            Some(tree) => items_in(alloc, tree),
+            Some(tree) => tree.to_vec(alloc),
             None => Ok(Vec::new(alloc)),
         }
     }
@@ -156,15 +156,4 @@ fn take<C: Compress>(
         Err(Refused::Fault(AddRefusal::Full)) => Ok(Answer::Full),
         Err(Refused::NoMemory) => Err(NoMemory),
     }
-}
-
-/// A copy of the items of a tree, in order.
-fn items_in<C: Compress>(alloc: Global, tree: &Entries<C>) -> Result<Vec<Entry>, NoMemory>
-    ensures { IfOk result (λ items. items.items ≡ tree.now) }
-{
-    let mut items = Vec::with_capacity(alloc, tree.count())?;
-    for k in 0..tree.count() {
-        items.push_reserved(tree.entry(k));
-    }
-    Ok(items)
 }
