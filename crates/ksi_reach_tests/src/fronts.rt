@@ -1,6 +1,7 @@
 ghost use Rattle.std.specs.Prelude.{◌≡◌, ◌≤◌, ◌<◌, ◌+◌, ◌^◌, length, IfOk, IsTrue};
 ghost use Rattle.ksi_calendar.specs.Calendar.{is_covered};
 
+use crate::imprints::named;
 use crate::same::same;
 use ksi_calendar::Calendar;
 use ksi_consistency::{Compared, FrontRefusal, check, compare, prove};
@@ -8,13 +9,6 @@ use ksi_imprint::{Compress, Imprint, NoMemory, Sha, Tiny};
 use std::alloc::Global;
 use std::process::Abort;
 use std::test::Fail;
-
-/// The imprint whose digest has this first byte, and zero bytes behind it.
-fn named(first: u8) -> Imprint {
-    let mut digest = [0; 32];
-    digest[0] = first;
-    Imprint::of_digest(&digest)
-}
 
 /// The calendar from second 0 on with these roots.
 fn calendar_of<C: Compress>(alloc: Global, firsts: &[u8]) -> Result<Calendar<C>, NoMemory>

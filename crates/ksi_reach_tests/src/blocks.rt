@@ -1,3 +1,4 @@
+use crate::imprints::named;
 use crate::same::same;
 use ksi_aggchain::Node;
 use ksi_imprint::{Imprint, NoMemory, Refused, Tiny};
@@ -9,13 +10,6 @@ use std::test::Fail;
 
 /// The seed of the rows.
 pub(crate) const SEED: [u8; 32] = [1; 32];
-
-/// The imprint whose digest is this byte and zero bytes.
-pub(crate) fn tiny(first: u8) -> Imprint {
-    let mut digest = [0; 32];
-    digest[0] = first;
-    Imprint::of_digest(&digest)
-}
 
 /// The block of the lines `a` and `b`.
 pub(crate) fn two_lines(alloc: Global) -> Result<Block<'static, Tiny>, Refused<PushRefusal>> {
@@ -57,7 +51,11 @@ fn link(side: Side, sibling: Imprint) -> LineLink {
 fn masks_and_links_are_those_by_hand(rt: HostRuntime) -> Result<(), Fail> {
     static ROWS: [(usize, u8, Side, u8); 2] = [(0, 0x21, Left, 0x0b), (1, 0xa6, Right, 0x85)];
     for (k, mask, side, sibling) in &ROWS {
-        let want = (tiny(*mask), link(*side, tiny(*sibling)), Some(tiny(0x94)));
+        let want = (
+            named(*mask),
+            link(*side, named(*sibling)),
+            Some(named(0x94)),
+        );
         same(&rt, *k, proof_of(rt.alloc(), *k)?, Some(want));
     }
     Ok(())
@@ -74,11 +72,11 @@ fn root_of_lines(alloc: Global, lines: &[&'static [u8]]) -> Option<Node> {
 #[test]
 fn roots_are_those_by_hand(rt: HostRuntime) -> Result<(), Fail> {
     let one = Node {
-        imprint: tiny(0x85),
+        imprint: named(0x85),
         level: 1,
     };
     let two = Node {
-        imprint: tiny(0x94),
+        imprint: named(0x94),
         level: 2,
     };
     same(&rt, 0, root_of_lines(rt.alloc(), &[]), None);

@@ -1,4 +1,5 @@
-use crate::blocks::{SEED, tiny};
+use crate::blocks::SEED;
+use crate::imprints::named;
 use crate::same::same;
 use ksi_imprint::{Imprint, NoMemory, Refused, Tiny};
 use ksi_logblock::{Block, LogRefusal, block_of};
@@ -58,7 +59,7 @@ fn a_log_has_the_root_by_hand(rt: HostRuntime) -> Result<(), Fail> {
         &rt,
         "root",
         root_of_log(rt.alloc(), b"a\nb\n"),
-        Some(tiny(0x94)),
+        Some(named(0x94)),
     );
     Ok(())
 }
@@ -80,7 +81,7 @@ fn log(alloc: Global, before: usize, size: usize, behind: usize) -> Result<Vec<u
 }
 
 /// What a log is told to be.
-#[derive(Clone, Copy, PartialEq, Eq, Debug)]
+#[derive(Clone, Copy, PartialEq, Eq)]
 enum Told {
     Lines(usize),
     TooMany,

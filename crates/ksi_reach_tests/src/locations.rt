@@ -1,4 +1,5 @@
-use crate::blocks::{tiny, two_lines};
+use crate::blocks::two_lines;
+use crate::imprints::named;
 use crate::same::same;
 use ksi_aggchain::LevelFault;
 use ksi_imprint::{Imprint, Tiny};
@@ -9,7 +10,7 @@ use std::alloc::Global;
 use std::test::Fail;
 
 /// Where a line stands, or the sizes of both strings of a clash.
-#[derive(Clone, Copy, PartialEq, Eq, Debug)]
+#[derive(Clone, Copy, PartialEq, Eq)]
 enum Found {
     In(usize),
     Refused(LineRefusal),
@@ -58,7 +59,7 @@ fn answer_of(alloc: Global, line: &[u8], proof: Option<LineProof>) -> Found {
 
 #[test]
 fn a_line_is_there_or_refused_or_clashes(rt: HostRuntime) -> Result<(), Fail> {
-    let differs = LineRefusal::RootDiffers(tiny(0x96), tiny(0x94));
+    let differs = LineRefusal::RootDiffers(named(0x96), named(0x94));
     let over = LineRefusal::Level(LevelFault::Over {
         link: 0,
         level: 257,
@@ -73,7 +74,13 @@ fn a_line_is_there_or_refused_or_clashes(rt: HostRuntime) -> Result<(), Fail> {
         (b"a", 0x21, Right, 0, 0x0b, Found::Clash(67, 67)),
     ];
     for (line, mask, side, correction, sibling, want) in &rows {
-        let given = proof(rt.alloc(), tiny(*mask), *side, *correction, tiny(*sibling));
+        let given = proof(
+            rt.alloc(),
+            named(*mask),
+            *side,
+            *correction,
+            named(*sibling),
+        );
         same(&rt, *mask, answer_of(rt.alloc(), line, given), *want);
     }
     Ok(())
@@ -81,7 +88,7 @@ fn a_line_is_there_or_refused_or_clashes(rt: HostRuntime) -> Result<(), Fail> {
 
 /// Both strings of the clash that a line of the sum of `a` has with `a`.
 fn are_both_lines(alloc: Global) -> bool {
-    let given = proof(alloc, tiny(0x21), Left, 0, tiny(0x0b));
+    let given = proof(alloc, named(0x21), Left, 0, named(0x0b));
     let (Ok(block), Some(proof)) = (two_lines(alloc), given) else {
         return false;
     };

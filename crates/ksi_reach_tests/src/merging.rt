@@ -1,4 +1,4 @@
-use crate::files::{ONE, mirror_of, written};
+use crate::mirrors::{ONE, mirror_of, written};
 use crate::same::same;
 use ksi_imprint::{Bytes, Compress, Imprint, Sha};
 use ksi_mirror::{MergeRefusal, Mirror, Refused, merge, write_mirror};
