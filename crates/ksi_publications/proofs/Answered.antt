@@ -10,7 +10,6 @@ use Rattle.ksi_grammar.specs.Reading.{container_verdict}
 use Rattle.ksi_grammar.specs.Valid.{IsContainer}
 use Rattle.ksi_grammar.specs.Inside.{whole}
 use Rattle.ksi_publications.specs.declared.fault.PublicationsFault.{PublicationsFault}
-use Rattle.ksi_publications.specs.declared.fault.PublicationsFault.TheVariants as answers
 use Rattle.ksi_publications.specs.Tables.{file_table}
 use Rattle.ksi_publications.specs.File.{magic, pairs_of, IsNamed, IsPublications, IsPublicationsFault}
 use Rattle.ksi_publications.specs.Reading.{behind, name_of, Read, read_as, read_behind, publications_at}

@@ -33,15 +33,24 @@ fn written(alloc: Global, creation: u64, pairs: &[(u64, Imprint)]) -> Result<Byt
     ensures text { IfOk result (λ file. file ≡ publications_text creation pairs.now) }
     ensures imprints { IfOk result (λ _. AllByRecursion (λ pair. IsImprint pair.1) pairs.now) }
 {
+    let elements = elements(alloc, creation, pairs)?;
+    let mut file = Vec::new(alloc);
+    file.extend_from_slice(MAGIC)?;
+    file.extend_from_slice(elements.bytes())?;
+    Ok(Bytes::from_vec(file))
+}
+
+// The header and the records.
+fn elements(alloc: Global, creation: u64, pairs: &[(u64, Imprint)]) -> Result<Writer, NoMemory>
+    ensures text { IfOk result (λ writer. writer ≡ texts (header_element creation ∷ map record_element pairs.now)) }
+    ensures imprints { IfOk result (λ _. AllByRecursion (λ pair. IsImprint pair.1) pairs.now) }
+{
     let mut writer = Writer::new(alloc);
     put_header(&mut writer, alloc, creation)?;
     for pair in pairs {
         put_record(&mut writer, alloc, pair)?;
     }
-    let mut file = Vec::new(alloc);
-    file.extend_from_slice(MAGIC)?;
-    file.extend_from_slice(writer.bytes())?;
-    Ok(Bytes::from_vec(file))
+    Ok(writer)
 }
 
 fn put_header(writer: &mut Writer, alloc: Global, creation: u64) -> Result<(), NoMemory>

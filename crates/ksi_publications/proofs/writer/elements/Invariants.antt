@@ -3,7 +3,7 @@ use Rattle.std.specs.List.{AllByRecursion}
 use Rattle.ksi_imprint.specs.Imprints.{IsImprint}
 use Rattle.ksi_tlv.specs.Writing.{texts}
 use Rattle.ksi_publications.specs.File.{header_element, record_element}
-use Rattle.ksi_publications.proofs.writer.written.Given as goal
+use Rattle.ksi_publications.proofs.writer.elements.Given as goal
 
 abbrev pub invariant-loop-pair : goal.invariant-loop-pair
 invariant-loop-pair l =
