@@ -1,5 +1,5 @@
 -- Plans of the cores: how many there are, the first second, and who votes on which second.
-use Rattle.std.specs.Prelude.{◌≡◌, ℕ, ◌+◌, ◌-◌, ◌^◌, ◌<◌, ◌≤◌, Bool, ◌&&◌, nat_lt, nat_le, if◌then◌else◌, List, [], ◌∷◌, ◌++◌, length, map}
+use Rattle.std.specs.Prelude.{ℕ, ◌+◌, ◌-◌, ◌^◌, ◌<◌, ◌≤◌, Bool, ◌&&◌, nat_lt, nat_le, if◌then◌else◌, List, [], ◌∷◌, ◌++◌, length, map}
 use Rattle.std.specs.List.{AllByRecursion, list_all}
 use Rattle.ksi_synod.specs.Voters.{cores_below}
 use Rattle.ksi_synod.specs.declared.core_plan.VotersFrom.{VotersFrom}

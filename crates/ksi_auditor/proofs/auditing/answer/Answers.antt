@@ -1,4 +1,4 @@
-use Rattle.std.proofs.Common.{◌≡◌, ◌≤◌, List, Some, map, sym, subst, ap, ◌∙◌}
+use Rattle.std.proofs.Common.{rules, ◌≡◌, ◌≤◌, List, Some, map, sym, subst, ap, ◌∙◌}
 use Rattle.ksi_aggchain.specs.Climbing.{level_after}
 use Rattle.ksi_aggchain.specs.Links.{PlainLink}
 use Rattle.ksi_signature.specs.PartsSeen.{calendar_seen}
@@ -6,7 +6,7 @@ use Rattle.ksi_signature.specs.Seen.{seen}
 use Rattle.ksi_verifier.specs.Chains.{plain_chains}
 use Rattle.ksi_verifier.specs.Leading.{all_links}
 use Rattle.ksi_verifier.specs.Lent.{lent_chain}
-use Rattle.ksi_auditor.specs.Audit.{kept_or_not, links_of}
+use Rattle.ksi_auditor.specs.Audit.{audit, kept_or_not, links_of}
 use Rattle.ksi_auditor.specs.Shown.{HasClash}
 use Rattle.ksi_auditor.proofs.Chaining.{ok_goes_on, err_has}
 use Rattle.ksi_auditor.proofs.Lent.{lent_chains, accepted_audit}
@@ -40,3 +40,7 @@ returns-in-Some-clause-memory g c =
     (subst HasClash (ap (λ (l : List PlainLink). kept_or_not image c.args.journal.now l c.args.hash.now c.in-Accepted.second (Some (calendar_seen c.in-Some.calendar))) links
     ∙ ap (kept_or_not image c.args.journal.now (links_of s) c.args.hash.now c.in-Accepted.second) c.in-Some.ensures
     ∙ accepted_audit image c.args.journal.now s c.args.hash.now c.args.publications.now c.in-Accepted.second (sym c.verify_view.ensures.first ∙ c.in-Accepted.is)))
+
+pub returns-in-Refused-clause-memory : goal.returns-in-Refused-clause-memory
+unfolding audit
+returns-in-Refused-clause-memory g c = search rules

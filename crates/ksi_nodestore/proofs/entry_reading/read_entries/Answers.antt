@@ -1,5 +1,5 @@
 use Rattle.std.specs.List.{All, flat_map}
-use Rattle.std.proofs.Common.{◌≡◌, ◌∙◌, ℕ, suc, ◌-◌, List, [], ◌∷◌, Option, Some, ap, sym, subst, arith, length, drop, length-append}
+use Rattle.std.proofs.Common.{rules, ◌≡◌, ◌∙◌, ℕ, suc, ◌-◌, List, [], ◌∷◌, Option, Some, ap, sym, subst, arith, length, drop, length-append}
 use Rattle.std.proofs.lemmas.List.Elements.{All-push}
 use Rattle.ksi_aggtree.specs.declared.entries.Entry.{Entry}
 use Rattle.ksi_nodestore.specs.Texts.{entry_text, IsSpelled}
@@ -32,3 +32,9 @@ returns-clause-read c =
     let entries = c.reading.entries.items in
     let none_left : c.reading.left ≡ 0 = omega arith in
     c.reading.invariant.so_far ∙ ap (λ (n : ℕ). prepended entries (entries_at n (drop c.reading.place bytes))) none_left ∙ ended c.reading.place bytes entries (omega arith)
+
+pub returns-then-place-bytes-clause-read : goal.returns-then-place-bytes-clause-read
+returns-then-place-bytes-clause-read c = search rules
+
+pub returns-then-place-bytes-clause-sound : goal.returns-then-place-bytes-clause-sound
+returns-then-place-bytes-clause-sound c = search rules

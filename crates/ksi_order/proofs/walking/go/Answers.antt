@@ -1,4 +1,4 @@
-use Rattle.std.proofs.Common.{◌∙◌, ◌+◌, length, sym, ap, subst}
+use Rattle.std.proofs.Common.{rules, ◌∙◌, ◌+◌, length, sym, ap, subst}
 use Rattle.ksi_tlv.specs.Walking.{Items}
 use Rattle.ksi_tlv.specs.Views.{rest, view_item}
 use Rattle.ksi_order.specs.Order.{walked}
@@ -24,3 +24,7 @@ walking-preserved g c =
       behind = λ h. c.walking.invariant.behind (subst (λ (items : Items). IsWanting o w items c.walking.state) (sym c.in-Some.ensures.steps)
           (wanting_behind o w (view_item c.in-Some.item) (rest c.next.new.self) c.walking.state c.step.new.state c.in_default-step.ensures.exact h));
     }
+
+pub returns-else-is_whole-clause-exact : goal.returns-else-is_whole-clause-exact
+unfolding walked
+returns-else-is_whole-clause-exact g c = search rules

@@ -1,4 +1,4 @@
-use Rattle.std.proofs.Common.{arith}
+use Rattle.std.proofs.Common.{rules, arith}
 use Rattle.ksi_tlv.proofs.NumberLaws.{from_zero, more_fits}
 use Rattle.ksi_tlv.proofs.numbers.number.Goals as goal
 
@@ -10,3 +10,9 @@ overflow_mul-value c = omega (arith, more_fits c.loop-byte.value c.loop-byte.byt
 
 pub overflow_add-value : goal.overflow_add-value
 overflow_add-value c = omega (arith, more_fits c.loop-byte.value c.loop-byte.byte-index c.from.result c.loop-byte.invariant.1 (omega arith) (omega arith))
+
+pub returns-then-bytes-gt8-clause-value : goal.returns-then-bytes-gt8-clause-value
+returns-then-bytes-gt8-clause-value c = search rules
+
+pub returns-then-bytes-gt8-clause-ok : goal.returns-then-bytes-gt8-clause-ok
+returns-then-bytes-gt8-clause-ok c = search rules

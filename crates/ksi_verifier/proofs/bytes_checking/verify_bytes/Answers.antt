@@ -6,7 +6,6 @@ use Rattle.ksi_signature.specs.declared.signature.Signature.{Signature}
 use Rattle.ksi_signature.specs.Reading.{signature_at}
 use Rattle.ksi_verifier.specs.declared.verdict.Verdict.{Verdict}
 use Rattle.ksi_verifier.specs.declared.verdict.Verdict.TheVariants as verdicts
-use Rattle.ksi_verifier.specs.declared.bytes_verdict.BytesVerdict.{BytesVerdict}
 use Rattle.ksi_verifier.specs.declared.bytes_verdict.BytesVerdict.TheVariants.{Malformed}
 use Rattle.ksi_verifier.specs.Bytes.{of_bytes, of_verdict}
 use Rattle.ksi_verifier.specs.Verdict.{verdict}

@@ -1,4 +1,4 @@
-use Rattle.std.proofs.Common.{◌≡◌, ◌⊎◌, ◌<◌, ◌+◌, ◌^◌, ◌∷◌, [], ◌∙◌, List, ℕ, length, ap, sym, subst, arith, length-append}
+use Rattle.std.proofs.Common.{rules, ◌≡◌, ◌⊎◌, ◌<◌, ◌+◌, ◌^◌, ◌∷◌, [], ◌∙◌, List, ℕ, length, ap, sym, subst, arith, length-append}
 use Rattle.ksi_disk.specs.Images.{Torn}
 use Rattle.ksi_disk.specs.ImageLaws.{leaves_more}
 use Rattle.ksi_gates.specs.declared.ending.Ending.TheVariants.{Closed}
@@ -76,3 +76,6 @@ returns-clause-gates g c =
     let file = g.D.Disk.content self.disk in
     let standing = stands self.from file self.gate c.requires.settled.standing in
     gates_stand self.from self.gate file standing c.args.record_.content c.requires.size c.deref.result.now (c.deref.ensures.value ∙ c.into_text-text.ensures) (g.D.Disk.images c.write_behind.new.disk) c.write_behind.ensures.images
+
+pub returns-clause-spent : goal.returns-clause-spent
+returns-clause-spent g c = search rules

@@ -1,8 +1,8 @@
-use Rattle.std.proofs.Common.{List, ℕ, sym, ap, ◌∙◌, arith, subst}
+use Rattle.std.proofs.Common.{sym, ap, ◌∙◌, arith, subst}
 use Rattle.std.proofs.lemmas.Bool.{cond-true, cond-false, le-leb, lt-leb}
 use Rattle.ksi_synod.specs.Voters.{cores_below}
 use Rattle.ksi_synod.specs.CorePlans.{CorePlanState, voters_of, AreVoters}
-use Rattle.ksi_synod.proofs.Planning.{looked_back, plan_limits, all_cores, voters_there}
+use Rattle.ksi_synod.proofs.Planning.{looked_back, plan_limits, all_cores}
 use Rattle.ksi_synod.proofs.core_plan.CorePlan.voters_of.Goals as goal
 
 pub loop-k-preserved : goal.loop-k-preserved

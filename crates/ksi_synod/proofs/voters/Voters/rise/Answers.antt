@@ -1,4 +1,4 @@
-use Rattle.std.proofs.Common.{subst, List, ℕ}
+use Rattle.std.proofs.Common.{subst}
 use Rattle.ksi_synod.specs.CorePlans.{AreRising}
 use Rattle.ksi_synod.proofs.Planning.{AreBelow, flagged_cores-low, flagged_cores-rising}
 use Rattle.ksi_synod.proofs.voters.Voters.rise.Goals as goal

@@ -1,4 +1,4 @@
-use Rattle.std.proofs.Common.{◌++◌, ◌∷◌, [], List, ℕ, sym, ap, subst, ◌∙◌, arith}
+use Rattle.std.proofs.Common.{◌++◌, ◌∷◌, [], List, ℕ, sym, ap, subst, ◌∙◌}
 use Rattle.ksi_synod.proofs.Planning.{AreBelow, flagged_cores-more}
 use Rattle.ksi_synod.proofs.voters.Voters.with.Goals as goal
 
