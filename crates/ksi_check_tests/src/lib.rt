@@ -1,4 +1,5 @@
-//! Tests of what is computed over signatures and journals: `ksi_verifier`, `ksi_extender` and `ksi_auditor`.
+//! Tests of what is computed over signatures and journals: `ksi_verifier`, `ksi_check`, `ksi_extender` and
+//! `ksi_auditor`.
 //!
 //! They stand in a crate of their own, since a crate with tests is proved twice. Nothing is here for the layers above.
 #![tactic(auto)]
@@ -7,6 +8,8 @@
 mod auditing;
 #[cfg(test)]
 mod extending;
+#[cfg(test)]
+mod over_files;
 #[cfg(test)]
 mod rows;
 #[cfg(test)]

@@ -1,6 +1,6 @@
 // Rows of text: what is done over files, and behind an equals sign what comes of it.
 use crate::same::same;
-use crate::{auditing, extending, verifying};
+use crate::{auditing, extending, over_files, verifying};
 use ksi_imprint::{Sha, Tiny};
 use std::alloc::Global;
 use std::process::Abort;
@@ -22,6 +22,8 @@ fn told(alloc: Global, done: &str) -> Result<String, Fail> {
         "verify" => verifying::verified(alloc, files),
         "aggregate" => verifying::aggregated(alloc, files),
         "bytes" => verifying::checked(alloc, files),
+        "files" => over_files::checked(alloc, files),
+        "step" => over_files::stepped(alloc, files),
         "audit" => auditing::audited::<Tiny>(alloc, files),
         "sha-audit" => auditing::audited::<Sha>(alloc, files),
         verb => extending::extended(alloc, verb, files),
