@@ -14,9 +14,9 @@ ghost use Rattle.ksi_consistency.specs.Written.{front_text};
 use crate::fault::FrontFault;
 use crate::loading::Loading;
 use ksi_calendar::laws::one_calendar;
-use ksi_order::{walked_says, whole_or_fault};
+use ksi_order::laws::{walked_says, whole_or_fault};
 use ksi_split::laws::one_split;
-use ksi_tlv::{numeral_is_read, written_is_read};
+use ksi_tlv::laws::{numeral_is_read, written_is_read};
 
 /// The front of the first leaves in all of them: where these are all leaves it is nothing if the root is given, and else
 /// their tree. Where they are in the left part, it is their front there and then the right part; where they fill the left

@@ -15,9 +15,9 @@ use crate::fault::JournalFault;
 use crate::loading::Loading;
 use ksi_calendar::laws::one_covered;
 use ksi_imprint::Sha;
-use ksi_order::{walked_says, whole_or_fault};
-use ksi_synod::voters_are_cores;
-use ksi_tlv::{numeral_is_read, written_is_read};
+use ksi_order::laws::{walked_says, whole_or_fault};
+use ksi_synod::laws::voters_are_cores;
+use ksi_tlv::laws::{numeral_is_read, written_is_read};
 
 /// The seconds of a journal's calendar are those that are covered, and it is the calendar of these by the roots that the
 /// journal keeps: so to each covered second it has their root, and their chains.

@@ -28,9 +28,9 @@ use crate::said::Reading;
 use ksi_aggchain::laws::one_climb;
 use ksi_aggtree::laws::{one_chain, one_round};
 use ksi_beside::laws::beside_a_tree;
-use ksi_order::{walked_says, whole_or_fault};
+use ksi_order::laws::{walked_says, whole_or_fault};
 use ksi_split::laws::{one_answer, one_split, one_way};
-use ksi_tlv::{numeral_is_read, written_is_read};
+use ksi_tlv::laws::{numeral_is_read, written_is_read};
 
 /// The first mask is the hash of the zero imprint and the seed, each later one that of the leaf before and the seed. A leaf is
 /// the join of its line's mask and hash, at level 1.

@@ -18,7 +18,7 @@
 
 mod containers;
 mod fault;
-mod laws;
+pub mod laws;
 mod publications;
 mod reader;
 mod writer;
@@ -26,7 +26,6 @@ mod writer;
 pub use containers::{FileContent, HeaderContent};
 pub use fault::PublicationsFault;
 pub use ksi_imprint::{NoMemory, Refused};
-pub use laws::{file_or_fault, publications_are_read, written_is_publications};
 pub use publications::Publications;
 pub use reader::read;
 pub use writer::write;

@@ -6,7 +6,7 @@ ghost use Rattle.ksi_schedule.specs.Schedules.{IsSchedule, IsHistory};
 ghost use Rattle.ksi_schedule.specs.Spelled.{IsScheduleText, IsScheduleFault};
 ghost use Rattle.ksi_schedule.specs.Reading.{schedule_at};
 
-use ksi_synod::voters_are_cores;
+use ksi_synod::laws::voters_are_cores;
 
 /// A text is a schedule or has a first fault, and not both; it is one schedule, and it has one first fault.
 pub fn schedule_or_fault()

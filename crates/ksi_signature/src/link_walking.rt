@@ -20,7 +20,7 @@ use crate::link_parts::{LinkParts, SiblingView};
 use crate::link_views::LinkViews;
 use ksi_aggchain::laws::one_shape;
 use ksi_aggchain::{LevelFault, LinkView, Node, climb_link, is_bare, with_leading_one, with_side};
-use ksi_grammar::inside_is_whole;
+use ksi_grammar::laws::inside_is_whole;
 use ksi_imprint::Compress;
 use ksi_tlv::{Elements, Placed};
 

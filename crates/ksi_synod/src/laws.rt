@@ -1,12 +1,16 @@
 //! What holds of the vote on one second after every history: whichever messages are lost, repeated, late or out of order,
 //! and whichever cores restart, at any moment. Each law is the contract of a function that does nothing.
 
-ghost use Rattle.std.specs.Prelude.{◌≡◌, ℕ, ◌<◌, ◌++◌, List, length, Bool, IsTrue, Some};
-ghost use Rattle.ksi_synod.specs.Voters.{is_voter, is_flagged, is_majority};
+ghost use Rattle.std.specs.Prelude.{◌≡◌, ℕ, ◌<◌, ◌≤◌, ◌+◌, ◌^◌, ◌++◌, List, length, Bool, IsTrue, true, Some};
+ghost use Rattle.std.specs.List.{filter, AllByRecursion};
+ghost use Rattle.ksi_synod.specs.Voters.{cores_below, is_voter, is_flagged, is_majority};
 ghost use Rattle.ksi_synod.specs.VoteState.{VoteState};
 ghost use Rattle.ksi_synod.specs.Reached.{Said, Reached};
 ghost use Rattle.ksi_synod.specs.History.{SetUp, Event, IsHistory, after, held_by, candidate_of};
 ghost use Rattle.ksi_synod.specs.Runs.{three, taken_over, one_of_three, one_votes};
+ghost use Rattle.ksi_synod.specs.CorePlans.{CorePlanState, voters_of, AreRising, AreVoters, IsCorePlan, has_room, with_voters};
+
+use crate::voters::Voters;
 
 /// Agreement: two cores that hold a decree hold the same.
 pub fn agreement()
@@ -61,3 +65,21 @@ pub fn one_voter_decides()
     ensures held { (a : List ℕ) → held_by (after one_of_three (one_votes a)) 0 ≡ Some a }
     ensures messages { (a : List ℕ) → length (after one_of_three (one_votes a)).wire ≡ 7 }
 {}
+
+/// Who votes on a second is at least one
+/// core, and no core that is not there.
+pub fn voters_are_cores()
+    ensures voters { (plan : CorePlanState) (second : ℕ) → IsCorePlan plan → AreVoters plan.cores (voters_of plan second) }
+    ensures listed { (cores : ℕ) (voters : List ℕ) → AreVoters cores voters → filter (is_voter voters) (cores_below cores) ≡ voters }
+    ensures few { (cores : ℕ) (voters : List ℕ) → AreVoters cores voters → length voters ≤ cores }
+    ensures more { (plan : CorePlanState) (second : ℕ) (voters : List ℕ) → IsCorePlan plan → has_room plan second ≡ true →
+        plan.start ≤ second → second < plan.start + 2 ^ 24 → AreVoters plan.cores voters → IsCorePlan (with_voters plan second voters) }
+{}
+
+/// Voters rise, and are among the cores 0 to 8.
+pub fn voters_rise(voters: &Voters)
+    ensures rising { AreRising voters.now }
+    ensures few { AllByRecursion (λ voter. voter < 9) voters.now }
+{
+    let _flags = voters.flags();
+}

@@ -24,7 +24,7 @@ mod messages;
 mod stable;
 mod voters;
 
-pub use core_plan::{CorePlan, VotersFrom, voters_are_cores};
+pub use core_plan::{CorePlan, VotersFrom};
 pub use hand::InHand;
 pub use instance::Instance;
 pub use messages::{Begun, LastVote, SynodMessage, Took, Vote};

@@ -6,7 +6,7 @@ use Rattle.ksi_world.proofs.Imprinted.{name_laws}
 use Rattle.ksi_world.proofs.KeptOf.{imprint_laws, ask_for_imprints, entries_items}
 use Rattle.ksi_world.proofs.SealedStays.{after_within}
 use Rattle.ksi_world.proofs.Voted.{after_voted}
-use Rattle.ksi_world.proofs.sealing.sealed_is_listed.Goals as goal
+use Rattle.ksi_world.proofs.laws.sealed_is_listed.Goals as goal
 
 pub returns-clause-core : goal.returns-clause-core
 returns-clause-core c = λ image h is are core second. ((after_voted image h.plan is h.events are).sealed core second).mine

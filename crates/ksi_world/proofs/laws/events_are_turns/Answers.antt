@@ -1,6 +1,6 @@
 use Rattle.ksi_world.proofs.AskedCores.{asked_may, core_turned_so, event_restarted, event_still}
 use Rattle.ksi_world.proofs.Fitting.{core_turn_is}
-use Rattle.ksi_world.proofs.core_events.events_are_turns.Goals as goal
+use Rattle.ksi_world.proofs.laws.events_are_turns.Goals as goal
 
 pub returns : goal.returns
 returns c = record {

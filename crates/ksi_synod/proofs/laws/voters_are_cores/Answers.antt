@@ -1,5 +1,5 @@
 use Rattle.ksi_synod.proofs.Planning.{voters_there, listed, few_voters, more_pairs}
-use Rattle.ksi_synod.proofs.core_plan.voters_are_cores.Goals as goal
+use Rattle.ksi_synod.proofs.laws.voters_are_cores.Goals as goal
 
 pub returns-clause-voters : goal.returns-clause-voters
 returns-clause-voters c = voters_there

@@ -1,7 +1,7 @@
 use Rattle.std.proofs.Common.{subst}
 use Rattle.ksi_synod.specs.CorePlans.{AreRising}
 use Rattle.ksi_synod.proofs.Planning.{AreBelow, flagged_cores-low, flagged_cores-rising}
-use Rattle.ksi_synod.proofs.voters.Voters.rise.Goals as goal
+use Rattle.ksi_synod.proofs.voters.Voters.flags.Goals as goal
 
 pub returns-clause-rising : goal.returns-clause-rising
 returns-clause-rising c = subst AreRising c.self.view_is (flagged_cores-rising c.self.inside.flags)
