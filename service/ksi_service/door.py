@@ -72,7 +72,7 @@ class Handler(BaseHTTPRequestHandler):
         if self.path == "/status":
             counters = house.counters()
             if "text/plain" in self.headers.get("Accept", ""):
-                raise Answer(HTTPStatus.OK, "".join(f"ksi_{name} {value}\n" for name, value in counters.items() if isinstance(value, (int, float))))
+                raise Answer(HTTPStatus.OK, "\n".join(f"ksi_{name} {value}" for name, value in counters.items() if isinstance(value, (int, float))))
             raise Answer(HTTPStatus.OK, json.dumps(counters), "application/json")
         found = re.fullmatch(r"/signature/([0-9a-fA-F]{64})", self.path)
         if found:
