@@ -148,7 +148,7 @@ def backup(words):
     held.close()
 
 
-def words_of(arguments):
+def parser_of():
     parser = argparse.ArgumentParser(prog="ksi-service", description="A timestamping service of proved nodes on this machine.")
     commands = parser.add_subparsers(dest="command", required=True)
     for name, does, told in (("start", start, "start it in the background"), ("run", run, "run it until it is interrupted")):
@@ -189,11 +189,11 @@ def words_of(arguments):
     one.set_defaults(does=backup)
     for name in ("sign", "extend", "publications"):
         commands.choices[name].add_argument("--folder", default=DEFAULT)
-    return parser.parse_args(arguments)
+    return parser
 
 
 def main(arguments):
-    words = words_of(arguments)
+    words = parser_of().parse_args(arguments)
     try:
         words.does(words)
     except (Failed, Missing, service.Held, checking.Differs, journal.Refused, OSError) as error:
