@@ -4,7 +4,8 @@
     GET  /signature/HEX  the last signature of a hash that was signed since the start
     POST /extend         a signature: extended to the last publication
     GET  /publications   the publications file
-    GET  /status         counters, as JSON; as Prometheus' text where text/plain is asked for"""
+    GET  /status         counters, as JSON; as Prometheus' text where text/plain is asked for
+    GET  /               the page that signs and verifies in the browser, where it is built"""
 import hashlib
 import json
 import re
@@ -66,6 +67,9 @@ class Handler(BaseHTTPRequestHandler):
 
     def get(self):
         house = self.server.house
+        if self.path == "/":
+            content = house.page()
+            raise Answer(HTTPStatus.OK, content, "text/html; charset=utf-8") if content else Answer(HTTPStatus.NOT_FOUND, "the page is not built: make page")
         if self.path == "/publications":
             content = house.publications()
             raise signature_answer(content) if content else Answer(HTTPStatus.NOT_FOUND, "nothing was published yet")

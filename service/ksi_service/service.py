@@ -16,12 +16,21 @@ from .clock import Busy, Clock, NotSigned
 from .door import Answer, Server, signature_answer
 from .network import Network
 from .plan import Plan
+from .programs import TOP
 from .record import steps
 
 MOST_REMEMBERED = 100_000
 """How many signatures the door remembers; a client keeps its own."""
 ANSWER_SECONDS = 60
 """How long a request waits for its signature before it is refused."""
+
+
+def content_of(path):
+    try:
+        with open(path, "rb") as file:
+            return file.read()
+    except FileNotFoundError:
+        return None
 
 
 class Held(Exception):
@@ -77,11 +86,11 @@ class House:
         return self.remembered.get(imprint)
 
     def publications(self):
-        try:
-            with open(os.path.join(self.service.folder, "publications"), "rb") as file:
-                return file.read()
-        except FileNotFoundError:
-            return None
+        return content_of(os.path.join(self.service.folder, "publications"))
+
+    def page(self):
+        """The page, where it was built or installed."""
+        return content_of(os.path.join(TOP, "out", "page.html")) or content_of(os.path.join(TOP, "..", "share", "ksi", "page.html"))
 
     def extend(self, content):
         last = self.service.last_publication

@@ -117,6 +117,9 @@ class House:
     def publications(self):
         return None
 
+    def page(self):
+        return None
+
     def counters(self):
         return {"signed": 3}
 
