@@ -16,7 +16,7 @@ from .clock import Busy, Clock, NotSigned
 from .door import Answer, Server, signature_answer
 from .network import Network
 from .plan import Plan
-from .programs import TOP
+from .programs import page
 from .record import steps
 
 MOST_REMEMBERED = 100_000
@@ -89,8 +89,7 @@ class House:
         return content_of(os.path.join(self.service.folder, "publications"))
 
     def page(self):
-        """The page, where it was built or installed."""
-        return content_of(os.path.join(TOP, "out", "page.html")) or content_of(os.path.join(TOP, "..", "share", "ksi", "page.html"))
+        return page()
 
     def extend(self, content):
         last = self.service.last_publication
