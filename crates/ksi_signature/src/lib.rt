@@ -30,6 +30,7 @@ mod above;
 mod answer;
 mod arrays;
 mod bodies;
+mod body_views;
 mod calendar_link_views;
 mod calendar_view;
 mod calendar_walking;
@@ -68,6 +69,7 @@ mod writer;
 
 pub use above::{Above, AboveChain, AboveChains, AboveLinks};
 pub use answer::Answer;
+pub use body_views::BodyViews;
 pub use calendar_link_views::CalendarLinkViews;
 pub use calendar_view::CalendarView;
 pub use chain_view::ChainView;
@@ -83,6 +85,7 @@ pub use laws::{
     extended_is_signature, issued_is_bytes, issued_is_signature, round_links_are_not_bare,
     signature_is_read, signature_or_fault, written_is_signature,
 };
+pub use link_parts::SiblingView;
 pub use link_views::LinkViews;
 pub use lists::{Bodies, CalendarLinks, Chains, Index, Links};
 pub use reader::read;
