@@ -49,6 +49,6 @@ pub use bytes_verdict::BytesVerdict;
 pub use checking::verify;
 pub use difference::RecordDifference;
 pub use lent::{CalendarPart, RecordPart};
-pub use lent_checking::{aggregate_view, lent_calendar, verify_view};
+pub use lent_checking::{aggregate_view, lent_calendar, verify_lent, verify_view};
 pub use refusal::Refusal;
 pub use verdict::Verdict;
