@@ -1,4 +1,4 @@
-//! An aggregator: it gathers requests and the items of lower aggregators, closes a round of them each second, submits
+//! An aggregator, as a state machine: it gathers requests and the items of lower aggregators, closes a round of them each second, submits
 //! the item of the round's tree to its parent, sends each response on with the chain of the lower aggregator's item, and
 //! issues the signatures of its requests.
 //!
