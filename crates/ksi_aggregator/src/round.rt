@@ -138,7 +138,7 @@ impl<C: Compress> Round<C> {
         if let Some(root) = self.entries.root() {
             sends.push(Send::Submission(Item::of(root)))?;
         }
-        let items = self.entries.to_vec(alloc)?;
+        let items = self.entries.to_vec()?;
         self.response = None;
         self.is_closed = true;
         Ok(Step {

@@ -36,6 +36,7 @@ mod over;
 mod parts;
 mod paths;
 mod reached;
+mod rebuilt;
 mod room;
 mod second;
 mod senders;
