@@ -18,6 +18,7 @@
 
 mod aggregator;
 mod copies;
+mod event;
 mod fact;
 pub mod laws;
 mod place;
@@ -27,6 +28,7 @@ mod rounds;
 mod step;
 
 pub use aggregator::Aggregator;
+pub use event::RoundEvent;
 pub use fact::{ClosedItems, Fact, RoundFact};
 pub use ksi_imprint::NoMemory;
 pub use step::{Send, Step};
