@@ -3,6 +3,7 @@
 A node answers each line by a block of lines that ends with `.`. It takes its lines in order. At most one line that may store a
 fact is on its way at a time: so after a kill the count of facts that the node found tells which of the lines happened."""
 import asyncio
+import os
 import signal
 from collections import deque
 
@@ -55,8 +56,17 @@ class Node:
             if not self.stopping:
                 await asyncio.sleep(0.05)
 
+    def drop_cache(self):
+        """Drops the system's cache of the file of facts, which may differ from the disk behind a sync that failed."""
+        path = os.path.join(*self.words[-2:])
+        if os.path.exists(path):
+            file = os.open(path, os.O_RDONLY)
+            os.posix_fadvise(file, 0, 0, os.POSIX_FADV_DONTNEED)
+            os.close(file)
+
     async def live(self):
         """One life of the process."""
+        self.drop_cache()
         pipe = asyncio.subprocess.PIPE
         self.process = process = await asyncio.create_subprocess_exec(
             *self.words, stdin=pipe, stdout=pipe, stderr=asyncio.subprocess.DEVNULL, limit=LONGEST_LINE, start_new_session=True)

@@ -13,7 +13,6 @@ use ksi_imprint::Bytes;
 use std::fs;
 use std::io::{self, Read};
 use std::marker::Model;
-use std::os::fd::AsRawFd;
 use std::os::unix::fs::FileExt;
 
 // The two sorts of notes.
@@ -50,7 +49,8 @@ impl Model for HostDisk {
 
 impl HostDisk {
     /// The file of this name in a folder. It is made if it is missing, and locked, so no other process has it as a disk.
-    /// It and its folder are synced, its pages in the system's cache are dropped, and then it is read whole.
+    /// It and its folder are synced, and then it is read whole. After a failed sync of an earlier process the system's cache
+    /// may differ from the disk: whoever starts the process again has it dropped first.
     ///
     /// # Errors
     /// A call of the system failed, another process has the lock, or memory was wanting.
@@ -69,10 +69,6 @@ impl HostDisk {
         }
         file.sync_all()?;
         fs::File::open(rt, folder)?.sync_all()?;
-        let advised = libc::posix_fadvise(file.as_raw_fd(), 0, 0, libc::POSIX_FADV_DONTNEED);
-        if advised != 0 {
-            return Err(io::Error::from_raw_os_error(advised));
-        }
         let mut bytes = Vec::new(rt.alloc());
         file.read_to_end(&mut bytes)?;
         Ok(HostDisk::holding(file, bytes))
