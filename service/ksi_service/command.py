@@ -11,7 +11,7 @@ import urllib.error
 import urllib.request
 
 from .checking import Mismatch, Programs, check
-from .node import LostFact
+from .node import Stopped
 from .service import Busy, lock, make_plan, serve
 
 TOP = os.path.dirname(os.path.dirname(os.path.dirname(os.path.abspath(__file__))))
@@ -48,8 +48,8 @@ def start(words):
     except Busy:
         say(f"another service has {words.folder}")
         return 1
-    except LostFact as lost:
-        say(f"stopped: {lost}")
+    except Stopped as stopped:
+        say(f"stopped: {stopped}")
         return 1
     return 0
 

@@ -89,10 +89,14 @@ class Net:
     async def ready(self):
         """Until all nodes are there. A node that fails for good ends this with its reason."""
         while not all(node.is_alive for node in self.nodes.values()):
-            for task in self.tasks:
-                if task.done():
-                    task.result()
+            self.look()
             await asyncio.sleep(0.01)
+
+    def look(self):
+        """Raises what a node stopped at, if one did."""
+        for task in self.tasks:
+            if task.done():
+                task.result()
 
     async def stop(self):
         for node in self.nodes.values():

@@ -7,6 +7,7 @@ import collections
 STORING = {"close", "response", "seal", "ballot", "synod"}
 
 MOST_IN_FLIGHT = 256
+MOST_FAILED_STARTS = 3
 LONGEST_BLOCK = 1 << 22
 
 
@@ -14,8 +15,8 @@ class Down(Exception):
     """The node ended before it answered."""
 
 
-class LostFact(Exception):
-    """A node's file lacks a fact that the node had said, or has one that was never asked for."""
+class Stopped(Exception):
+    """A node cannot go on: its process does not start, or its file has other facts than it said."""
 
 
 class Asked:
@@ -53,6 +54,8 @@ class Node:
         self.is_alive = False
         self.is_stopping = False
         self.starts = 0
+        self.failed_starts = 0
+        self.last_line = ""
         self.refused = 0
         self.unsaid = 0
 
@@ -75,11 +78,19 @@ class Node:
             await self.process.wait()
             self.fail_all(self.waiting)
             if not self.is_stopping:
-                await asyncio.sleep(0.05)
+                await self.before_the_next_start()
         self.fail_all(self.flying)
+
+    async def before_the_next_start(self):
+        self.failed_starts += 1
+        if self.failed_starts == MOST_FAILED_STARTS:
+            self.fail_all(self.flying)
+            raise Stopped(f"{self.name} does not start: {self.last_line or 'no reason was given'}")
+        await asyncio.sleep(0.05)
 
     async def serve(self):
         self.found(records_of(await self.block()))
+        self.failed_starts = 0
         self.is_alive = True
         self.pump()
         while True:
@@ -92,7 +103,8 @@ class Node:
             line = await self.process.stdout.readuntil(b"\n")
             if line == b".\n":
                 return lines
-            lines.append(line[:-1].decode("ascii"))
+            self.last_line = line[:-1].decode("ascii")
+            lines.append(self.last_line)
 
     def found(self, records):
         """The process was started and found so many records in its file."""
@@ -110,7 +122,7 @@ class Node:
         if records != self.records:
             storing = [place for place, asked in enumerate(flying) if asked.may_store()]
             if records != self.records + 1 or not storing:
-                raise LostFact(f"{self.name} had {self.records} records and has {records}")
+                raise Stopped(f"{self.name} had {self.records} records and has {records}")
             for asked in flying[: storing[0] + 1]:
                 self.record.step(self.name, asked.line, asked.message, None)
             self.unsaid += 1

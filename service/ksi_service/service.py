@@ -59,6 +59,7 @@ class Service:
         second = self.net.plan.start if not self.net.record.was_there else int(time.time()) - 1
         while not self.is_stopping.is_set():
             await self.wait(second + DRIVE_AFTER - time.time())
+            self.net.look()
             self.do(self.clock.drive(second))
             if second % PUBLISH_EVERY == PUBLISH_EVERY - 1 and second - 2 >= self.net.plan.start:
                 self.do(self.clock.publish(second % self.net.plan.cores, second - 2))
@@ -82,8 +83,10 @@ class Service:
             self.server.close()
         if self.drives:
             await asyncio.wait(self.drives, timeout=5)
-        await self.net.stop()
-        self.write_told()
+        try:
+            await self.net.stop()
+        finally:
+            self.write_told()
 
     def write_told(self):
         with open(f"{self.folder}/issued", "a", encoding="ascii") as file:
@@ -103,6 +106,8 @@ async def serve(folder, programs, host, port, say):
     with open(f"{folder}/port", "w", encoding="ascii") as file:
         file.write(f"{at}\n")
     say(f"{len(service.net.nodes)} nodes are up, the door is open on port {at}")
-    await service.tick()
-    await service.end()
-    os.remove(f"{folder}/port")
+    try:
+        await service.tick()
+    finally:
+        os.remove(f"{folder}/port")
+        await service.end()

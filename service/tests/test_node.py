@@ -5,7 +5,7 @@ import sys
 import tempfile
 import unittest
 
-from ksi_service.node import Down, LostFact, Node
+from ksi_service.node import Down, Stopped, Node
 from ksi_service.record import Record, entries
 
 FAKE = os.path.join(os.path.dirname(os.path.abspath(__file__)), "fake_node.py")
@@ -80,6 +80,18 @@ class NodeTest(unittest.TestCase):
         self.assertEqual(self.run_node(work), 1)
         self.assertEqual(self.record(), [["c0", "ballot 5", None, None], ["c0"]])
 
+    def test_a_node_that_does_not_start_is_given_up(self):
+        async def work():
+            record = Record(self.path)
+            node = Node("c0", [sys.executable, "-c", "print('failed file')"], record, lambda step, sends: None)
+            try:
+                await node.run()
+            finally:
+                record.close()
+
+        with self.assertRaisesRegex(Stopped, "failed file"):
+            asyncio.run(asyncio.wait_for(work(), 20))
+
     def test_a_lost_fact_stops_the_node(self):
         async def work(node, task):
             await node.ask("seal 5")
@@ -88,7 +100,7 @@ class NodeTest(unittest.TestCase):
                 await node.ask("die")
             await asyncio.wait([task], timeout=10)
 
-        with self.assertRaises(LostFact):
+        with self.assertRaises(Stopped):
             self.run_node(work)
 
 
