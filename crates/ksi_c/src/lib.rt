@@ -1,0 +1,109 @@
+//! The library for C, and for whatever calls C. `ksi.h` tells each function. No function takes memory from a heap, keeps
+//! anything, or has a condition that its caller could fail beside what its types ask.
+#![tactic(auto)]
+
+mod answer;
+mod drawing;
+mod drawn;
+mod telling;
+mod told;
+
+ghost use Rattle.std.specs.Prelude.{◌≡◌, ◌↔◌, ◌∷◌, ◌++◌, [], ℕ, List, if◌then◌else◌};
+ghost use Rattle.sha2.specs.Sha256.{initial_hash_256, sha256};
+ghost use Rattle.ksi_stream.specs.Held.{Holds};
+ghost use Rattle.ksi_imprint.specs.Imprints.{imprint_of, join_text};
+ghost use Rattle.ksi_signature.specs.Reading.{signature_at};
+ghost use Rattle.ksi_publications.specs.Reading.{publications_at};
+ghost use Rattle.ksi_check.specs.Files.{IsVerified, files_verdict};
+ghost use Rattle.ksi_c.specs.Answers.{answered};
+ghost use Rattle.ksi_c.specs.Drawn.{step_in, step_or, step_status};
+
+pub use crate::answer::KsiAnswer;
+use crate::drawing::put_step;
+pub use crate::drawn::KsiStep;
+use crate::telling::answered;
+pub use crate::told::Told;
+use ksi_check::verify_files;
+use ksi_imprint::{Compress, Imprint, Sha};
+use ksi_signature::{signature_is_read, view};
+use ksi_stream::Core256;
+
+/// The number of this interface. A caller compares it with that of its header.
+#[unsafe(no_mangle)]
+pub extern "C" fn ksi_abi() -> u32
+    ensures { result ≡ 1 }
+{
+    1
+}
+
+/// The SHA-256 of bytes.
+#[unsafe(no_mangle)]
+pub extern "C" fn ksi_hash(bytes: &[u8], digest: &mut [u8; 32])
+    ensures { digest.new ≡ sha256 bytes.now }
+{
+    let imprint = Sha::of(bytes);
+    let (_, from) = imprint.bytes().split_at(1);
+    digest.copy_from_slice(from);
+}
+
+/// Begins the SHA-256 of bytes that come in pieces.
+#[unsafe(no_mangle)]
+pub extern "C" fn ksi_hash_start(state: &mut Core256)
+    ensures { Holds initial_hash_256 state.new [] }
+{
+    *state = ksi_stream::start();
+}
+
+/// Takes in the next piece.
+#[unsafe(no_mangle)]
+pub extern "C" fn ksi_hash_more(state: &mut Core256, bytes: &[u8])
+    ensures { (message : List ℕ) → Holds initial_hash_256 state.old message → Holds initial_hash_256 state.new (message ++ bytes.now) }
+{
+    ksi_stream::more(state, bytes);
+}
+
+/// The SHA-256 of all pieces, which may go on after it.
+#[unsafe(no_mangle)]
+pub extern "C" fn ksi_hash_end(state: &Core256, digest: &mut [u8; 32])
+    ensures { (message : List ℕ) → Holds initial_hash_256 state.now message → digest.new ≡ sha256 message }
+{
+    *digest = ksi_stream::end(state);
+}
+
+/// Checks a signature file for a digest against a publications file. 0 exactly where it is accepted, and then the second
+/// that it proves stands in the answer.
+#[unsafe(no_mangle)]
+pub extern "C" fn ksi_verify(
+    signature: &[u8],
+    digest: &[u8; 32],
+    publications: &[u8],
+    answer: &mut KsiAnswer,
+) -> u32
+    ensures value { answer.new ≡ answered (files_verdict imprint_of (signature_at signature.now) (publications_at publications.now) (1 ∷ digest.now)) }
+    ensures status { result ≡ answer.new.status }
+    ensures accepted { (t : ℕ) → ((result ≡ 0) × (answer.new.second ≡ t)) ↔ IsVerified imprint_of signature.now (1 ∷ digest.now) publications.now t }
+{
+    let verdict = verify_files::<Sha>(signature, &Imprint::of_digest(digest), publications);
+    *answer = answered(&verdict);
+    answer.status
+}
+
+/// Step `number` of a signature, counted from 0 at the document's hash: a link with both parts and their join, for who
+/// draws them. 0 where it is there, 1 where there is none, and 3 where the bytes are no signature.
+#[unsafe(no_mangle)]
+pub extern "C" fn ksi_step(signature: &[u8], number: usize, step: &mut KsiStep) -> u32
+    ensures status { result ≡ step_status (signature_at signature.now) number }
+    ensures value { step.new ≡ step_or step.old (step_in (signature_at signature.now) number) }
+{
+    signature_is_read();
+    match view(signature) {
+        Ok(signature) => found_status(put_step(&signature, number, step)),
+        Err(_) => 3,
+    }
+}
+
+fn found_status(found: bool) -> u32
+    ensures { result ≡ (if found then 0 else 1) }
+{
+    if found { 0 } else { 1 }
+}

@@ -1,0 +1,4 @@
+pub mod Verified
+pub mod Along
+pub mod AlongCalendar
+pub mod Ways
