@@ -1,14 +1,21 @@
 //! The laws. None of these functions does anything.
-ghost use Rattle.std.specs.Prelude.{◌≡◌, ◌<◌, ◌^◌, ◌++◌, ◌∷◌, [], ℕ, List, IfSome, Some};
+ghost use Rattle.std.specs.Prelude.{◌≡◌, ◌<◌, ◌^◌, ◌++◌, ◌∷◌, [], ℕ, List, IfSome, Some, None};
+ghost use Rattle.ksi_aggtree.specs.declared.entries.Entry.{Entry};
+ghost use Rattle.ksi_aggtree.specs.Entries.{items_of};
+ghost use Rattle.ksi_signature.specs.declared.above.Above.{Above};
 ghost use Rattle.ksi_aggregator.specs.declared.event.RoundEvent.{RoundEvent};
+ghost use Rattle.ksi_aggregator.specs.declared.event.RoundEvent.TheVariants as events;
 ghost use Rattle.ksi_aggregator.specs.declared.fact.Fact.{Fact};
 ghost use Rattle.ksi_aggregator.specs.declared.step.Step.{Step};
 ghost use Rattle.ksi_aggregator.specs.Events.{event_second, MayTake, round_row};
 ghost use Rattle.ksi_aggregator.specs.Facts.{stable_round, with_fact, with_what};
-ghost use Rattle.ksi_aggregator.specs.Rows.{RoundState, fresh_round, round_restarted};
+ghost use Rattle.ksi_aggregator.specs.Refusals.{AwaitsResponse};
+ghost use Rattle.ksi_aggregator.specs.Rows.{RoundState, fresh_round, round_still, round_restarted};
 ghost use Rattle.ksi_aggregator.specs.Rounds.{AggregatorState, rounds_of, items_in, fact_of, SameRounds, ChangesOnly, IsTurn};
 ghost use Rattle.ksi_roundfacts.specs.Lawful.{stored_by, with_new, IsLawful, AreLawful, AreApart};
 ghost use Rattle.ksi_roundfacts.specs.Restored.{restored, IsOfFacts, IsWell, HasFacts};
+ghost use Rattle.ksi_roundfacts.specs.Renamed.{IsOneToOne, entries_renamed, round_renamed, event_renamed, turn_renamed};
+ghost use Rattle.ksi_roundfacts.specs.Settled.{IsSettled, settled_answer};
 
 /// Each step of rounds that are well stores a lawful fact, if any, and leaves them well. So an aggregator that stored
 /// lawful facts stores lawful facts for good, and a call that fails leaves them.
@@ -45,4 +52,25 @@ pub fn one_aggregator_of_facts()
     ensures has { (me : ℕ) (facts : List Fact) (a : AggregatorState) → AreLawful facts → IsOfFacts me facts a → HasFacts facts (rounds_of a) }
     ensures restarted { (me : ℕ) (facts : List Fact) (rounds : ℕ → RoundState) (other : AggregatorState) → HasFacts facts rounds → IsOfFacts me facts other →
         (t : ℕ) → rounds_of other t ≡ round_restarted (rounds t) }
+{}
+
+/// What an aggregator does hangs on the numbers of its requests by no more than their names. Each row commutes with a
+/// renaming of the numbers, so trees, submissions and responses are the same, and so is the chain of each item. A renaming
+/// that is one to one keeps a new number new.
+pub fn numbers_are_names()
+    ensures row { (image : List ℕ → List ℕ) (name : ℕ → ℕ) (event : RoundEvent) (r : RoundState) →
+        round_row image (event_renamed name event) (round_renamed name r) ≡ turn_renamed name (round_row image event r) }
+    ensures restart { (name : ℕ → ℕ) (r : RoundState) → round_restarted (round_renamed name r) ≡ round_renamed name (round_restarted r) }
+    ensures items { (name : ℕ → ℕ) (entries : List Entry) → items_of (entries_renamed name entries) ≡ items_of entries }
+    ensures may { (name : ℕ → ℕ) (rounds : ℕ → RoundState) (event : RoundEvent) → IsOneToOne name → MayTake rounds event →
+        MayTake (λ t. round_renamed name (rounds t)) (event_renamed name event) }
+{}
+
+/// A settled round answers every later event alike, whatever its items and its response are: it stays as it is, stores
+/// nothing and sends nothing. A restart leaves it.
+pub fn settled_rounds_stay()
+    ensures row { (image : List ℕ → List ℕ) (event : RoundEvent) (r : RoundState) → IsSettled r → round_row image event r ≡ round_still r (settled_answer event) }
+    ensures restart { (r : RoundState) → IsSettled r → round_restarted r ≡ r }
+    ensures answered { (image : List ℕ → List ℕ) (second : ℕ) (above : Above) (r : RoundState) → AwaitsResponse r → IsSettled (round_row image (events.Response second above) r).after }
+    ensures empty { (image : List ℕ → List ℕ) (second : ℕ) (r : RoundState) → r.closed ≡ None → r.open_items ≡ [] → IsSettled (round_row image (events.Close second) r).after }
 {}
