@@ -1,4 +1,4 @@
-//! Audits: where an accepted hash stands in what the cores kept, or two different strings with one imprint.
+//! Audits: where an accepted hash stands in what the cores kept, or two different strings with one imprint: a collision.
 //!
 //! A lent signature is laid beside a journal. The string that each of its links hashes is compared, from the top, with the
 //! string of the kept tree at that place: first along the calendar, then along the tree of the second that the calendar

@@ -11,9 +11,10 @@ ghost use Rattle.ksi_mirror.specs.Reading.{mirror_at};
 ghost use Rattle.ksi_mirror.specs.Written.{mirror_text};
 
 use crate::loading::MirrorLoading;
+use crate::mirror::Mirror;
 use ksi_journal::JournalFault;
-use ksi_order::{walked_says, whole_or_fault};
-use ksi_tlv::{numeral_is_read, written_is_read};
+use ksi_order::laws::{walked_says, whole_or_fault};
+use ksi_tlv::laws::{numeral_is_read, written_is_read};
 
 /// The union of two finite maps that agree: of one map with itself it is that map; it is the same in either order; and
 /// three maps have one in the one order exactly where they have it in the other, and then the same. What a map is in a
@@ -25,6 +26,13 @@ pub fn unions_join<A>()
     ensures agree { (f g h fg : ℕ → Option A) → IsUnion f g fg → AgreeAll fg h → AgreeAll g h }
     ensures absorbs { (f g h : ℕ → Option A) → IsUnion f g h → IsUnion h f h }
 {}
+
+/// What is held as a mirror is one.
+pub fn mirror_is_kept(mirror: &Mirror)
+    ensures { IsMirror mirror.now }
+{
+    let _start = mirror.start();
+}
 
 /// A mirror is what it has: its start, its roots and its lists.
 pub fn mirror_is_what_it_has()

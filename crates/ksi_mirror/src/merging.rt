@@ -7,7 +7,7 @@ ghost use Rattle.ksi_mirror.specs.Merged.{merged_of};
 ghost use Rattle.ksi_mirror.specs.Merging.{Merges, IsMergeRefusal, AreTrees};
 
 use crate::entries::first_difference;
-use crate::laws::merged_is_merging;
+use crate::laws::{merged_is_merging, mirror_is_kept};
 use crate::mirror::Mirror;
 use crate::parts::MirrorParts;
 use crate::refusal::MergeRefusal;
@@ -29,11 +29,11 @@ pub fn merge(alloc: Global, one: &Mirror, two: &Mirror) -> Result<Mirror, Refuse
     ensures answer { OrNoMemory (merged_of one.now two.now) result }
 {
     merged_is_merging();
-    one.is_mirror();
-    two.is_mirror();
+    mirror_is_kept(one);
+    mirror_is_kept(two);
     match union_of(alloc, one, two) {
         Ok(merged) => {
-            merged.is_mirror();
+            mirror_is_kept(&merged);
             Ok(merged)
         }
         Err(refused) => Err(refused),
@@ -114,8 +114,8 @@ fn first_of_both(
     requires lists { DifferFirst rank one.now.lists two.now.lists lists.0.now lists.1.now }
     ensures { IsMergeRefusal one.now two.now result }
 {
-    one.is_mirror();
-    two.is_mirror();
+    mirror_is_kept(one);
+    mirror_is_kept(two);
     if lists.0.second < roots.0.0 {
         trees(lists.0, lists.1)
     } else {

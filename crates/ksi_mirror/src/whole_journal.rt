@@ -10,6 +10,7 @@ ghost use Rattle.ksi_mirror.specs.Mirrors.{rank, rank_at, list_among, IsList};
 ghost use Rattle.ksi_mirror.specs.Whole.{whole_of, seconds_for, second_from, kept_with, first_tree};
 
 use crate::entries::copy_of;
+use crate::laws::mirror_is_kept;
 use crate::mirror::Mirror;
 use crate::refusal::WholeRefusal;
 use crate::sealed_list::SealedList;
@@ -30,7 +31,7 @@ pub fn whole<C: Compress>(
 ) -> Result<Journal<C>, Refused<WholeRefusal>>
     ensures { OrNoMemory (whole_of C.image mirror.now) result }
 {
-    mirror.is_mirror();
+    mirror_is_kept(mirror);
     let seconds = match seconds::<C>(alloc, mirror) {
         Ok(seconds) => seconds,
         Err(refused) => return Err(refused),

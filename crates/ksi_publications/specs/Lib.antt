@@ -5,3 +5,4 @@ pub mod Tables
 pub mod File
 pub mod Reading
 pub mod Finding
+pub mod Lent

@@ -4,8 +4,9 @@
 //!
 //! A contract sees [`Publications`] as its list of times and hashes, in the order of the file. The layer above may rely
 //! on this: [`read`] gives exactly the list of the file that the bytes are, or the first fault in reading order, which
-//! it finds without taking memory; `find` gives the first hash of a time; and what [`write`] gives is read again where
-//! the times are below 2^63.
+//! it finds without taking memory; [`PublicationsView`] is that file lent from its bytes, without memory; `find` gives the
+//! first hash of a time, of either, and [`Published`] is what both are to a check; and what [`write`] gives is read again
+//! where the times are below 2^63.
 //!
 //! ```text
 //! let file = write(alloc, creation, &[(time, root)])?;
@@ -18,15 +19,18 @@
 
 mod containers;
 mod fault;
-mod laws;
+pub mod laws;
 mod publications;
+mod publications_view;
+mod published;
 mod reader;
 mod writer;
 
 pub use containers::{FileContent, HeaderContent};
 pub use fault::PublicationsFault;
 pub use ksi_imprint::{NoMemory, Refused};
-pub use laws::{file_or_fault, publications_are_read, written_is_publications};
 pub use publications::Publications;
+pub use publications_view::PublicationsView;
+pub use published::Published;
 pub use reader::read;
 pub use writer::write;

@@ -16,9 +16,8 @@ use crate::containers::{FileContent, MAGIC, RECORD};
 use crate::fault::PublicationsFault;
 use crate::laws::file_or_fault;
 use crate::publications::Publications;
-use ksi_grammar::{
-    ElementFault, check, faults_by_table, inside_is_whole, recorded, whole_or_fault,
-};
+use ksi_grammar::laws::{faults_by_table, inside_is_whole, whole_or_fault};
+use ksi_grammar::{ElementFault, check, recorded};
 use ksi_imprint::{Imprint, Refused};
 use ksi_tlv::{Elements, Placed, after_magic};
 use std::alloc::Global;
@@ -38,7 +37,7 @@ pub fn read(alloc: Global, bytes: &[u8]) -> Result<Publications, Refused<Publica
 }
 
 /// The bytes behind the magic, where the file has no fault.
-fn behind_magic(bytes: &[u8]) -> Result<&[u8], PublicationsFault>
+pub(crate) fn behind_magic(bytes: &[u8]) -> Result<&[u8], PublicationsFault>
     ensures begins { IfOk result (λ rest. bytes.now ≡ magic ++ rest.now) }
     ensures whole { IfOk result (λ rest. container_verdict file_table 0 8 rest.now ≡ Ok tt) }
     ensures short { IfOk result (λ rest. 8 + length rest.now < 2 ^ 64) }
@@ -97,7 +96,7 @@ fn pairs_in(alloc: Global, rest: &[u8]) -> Result<Vec<(u64, Imprint)>, NoMemory>
     Ok(pairs)
 }
 
-fn pair_of(at: &Placed<'_>) -> (u64, Imprint)
+pub(crate) fn pair_of(at: &Placed<'_>) -> (u64, Imprint)
     requires may_stand { MayStand file_table (view_placed at.now) }
     requires kind { at.now.element.kind ≡ 1795 }
     ensures { result ≡ recorded_in (view_placed at.now) }

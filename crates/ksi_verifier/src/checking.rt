@@ -16,7 +16,7 @@ use crate::refusal::Refusal;
 use crate::verdict::Verdict;
 use ksi_calchain::climb_calendar;
 use ksi_imprint::{Compress, Imprint};
-use ksi_publications::Publications;
+use ksi_publications::{Publications, Published};
 use ksi_signature::{AggregationChain, Signature};
 
 /// Checks a signature for a hash against the published roots of the calendar: the first that fails of V1 to V6, V15, V7 to
@@ -44,7 +44,13 @@ fn verdict<C: Compress>(
     let chains = signature.chains.as_slice();
     let calendar = calendar_part(&signature.calendar);
     let record = record_part(&signature.publication);
-    verdict_of(check::<C, AggregationChain>(chains, &calendar, &record, hash, publications))
+    verdict_of(check::<C, AggregationChain, Publications>(
+        chains,
+        &calendar,
+        &record,
+        hash,
+        publications,
+    ))
 }
 
 pub(crate) fn verdict_of(checked: Result<u64, Refusal>) -> Verdict
@@ -57,15 +63,15 @@ pub(crate) fn verdict_of(checked: Result<u64, Refusal>) -> Verdict
 }
 
 /// The checks V1 to V15, V15 behind V6, whoever owns the parts.
-pub(crate) fn check<C: Compress, T: AnyChain>(
+pub(crate) fn check<C: Compress, T: AnyChain, P: Published>(
     chains: &[T],
     calendar: &Option<CalendarPart<'_>>,
     published: &Option<RecordPart>,
     hash: &Imprint,
-    publications: &Publications,
+    publications: &P,
 ) -> Result<u64, Refusal>
     requires { 0 < length chains.now }
-    ensures { result ≡ checked C.image (map T.plain chains.now) (option_map calendar_of calendar.now) published.now hash.now publications.now }
+    ensures { result ≡ checked C.image (map T.plain chains.now) (option_map calendar_of calendar.now) published.now hash.now (P.pairs publications.now) }
 {
     let input = chains[0].input();
     if input != *hash {
@@ -79,19 +85,19 @@ pub(crate) fn check<C: Compress, T: AnyChain>(
         Err(refusal) => return Err(refusal),
     };
     match calendar {
-        Some(calendar) => check_above::<C>(&aggregated, calendar, published, publications),
+        Some(calendar) => check_above::<C, P>(&aggregated, calendar, published, publications),
         None => Err(Refusal::NoCalendar),
     }
 }
 
 /// The checks V8 to V14, where the chains come to a node.
-fn check_above<C: Compress>(
+fn check_above<C: Compress, P: Published>(
     aggregated: &Aggregated,
     calendar: &CalendarPart<'_>,
     published: &Option<RecordPart>,
-    publications: &Publications,
+    publications: &P,
 ) -> Result<u64, Refusal>
-    ensures { result ≡ calendar_checked C.image aggregated.now (calendar_of calendar.now) published.now publications.now }
+    ensures { result ≡ calendar_checked C.image aggregated.now (calendar_of calendar.now) published.now (P.pairs publications.now) }
 {
     let second = match check_calendar(&aggregated.item, calendar) {
         Ok(second) => second,

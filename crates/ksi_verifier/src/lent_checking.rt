@@ -17,7 +17,7 @@ use crate::lent::{CalendarPart, RecordPart};
 use crate::refusal::Refusal;
 use crate::verdict::Verdict;
 use ksi_imprint::{Compress, Imprint};
-use ksi_publications::Publications;
+use ksi_publications::{Publications, Published};
 use ksi_signature::{CalendarLinkViews, CalendarView, ChainView, RecordView, SignatureView};
 
 /// What the aggregation chains of a lent signature come to.
@@ -40,37 +40,49 @@ pub fn verify_view<C: Compress>(
     ensures first { result ≡ verdict C.image (seen signature.now) hash.now publications.now }
     ensures accepted { (t : ℕ) → (result ≡ verdicts.Accepted t) ↔ IsAccepted C.image (seen signature.now) hash.now publications.now t }
 {
+    verify_lent::<C, Publications>(signature, hash, publications)
+}
+
+/// The same, whoever owns the published roots.
+pub fn verify_lent<C: Compress, P: Published>(
+    signature: &SignatureView<'_>,
+    hash: &Imprint,
+    publications: &P,
+) -> Verdict
+    ensures first { result ≡ verdict C.image (seen signature.now) hash.now (P.pairs publications.now) }
+    ensures accepted { (t : ℕ) → (result ≡ verdicts.Accepted t) ↔ IsAccepted C.image (seen signature.now) hash.now (P.pairs publications.now) t }
+{
     accepted();
-    lent_verdict::<C>(signature, hash, publications)
+    lent_verdict::<C, P>(signature, hash, publications)
 }
 
 #[tactic(auto, unfolding(crate::specs::Verdict::verdict))]
-fn lent_verdict<C: Compress>(
+fn lent_verdict<C: Compress, P: Published>(
     signature: &SignatureView<'_>,
     hash: &Imprint,
-    publications: &Publications,
+    publications: &P,
 ) -> Verdict
-    ensures { result ≡ verdict C.image (seen signature.now) hash.now publications.now }
+    ensures { result ≡ verdict C.image (seen signature.now) hash.now (P.pairs publications.now) }
 {
-    verdict_of(check_lent::<C>(signature, hash, publications))
+    verdict_of(check_lent::<C, P>(signature, hash, publications))
 }
 
-fn check_lent<C: Compress>(
+fn check_lent<C: Compress, P: Published>(
     signature: &SignatureView<'_>,
     hash: &Imprint,
-    publications: &Publications,
+    publications: &P,
 ) -> Result<u64, Refusal>
     ensures { result ≡ checked C.image (plain_chains (seen signature.now).chains) (seen signature.now).calendar
-        (option_map record_of (seen signature.now).publication) hash.now publications.now }
+        (option_map record_of (seen signature.now).publication) hash.now (P.pairs publications.now) }
 {
     let chains = signature.chains();
     let record = lent_record(&signature.publication());
     match signature.calendar() {
-        None => check::<C, ChainView<'_>>(chains, &None, &record, hash, publications),
+        None => check::<C, ChainView<'_>, P>(chains, &None, &record, hash, publications),
         Some(calendar) => {
             let links = calendar.links();
             let part = lent_calendar(&calendar, &links);
-            check::<C, ChainView<'_>>(chains, &Some(part), &record, hash, publications)
+            check::<C, ChainView<'_>, P>(chains, &Some(part), &record, hash, publications)
         }
     }
 }

@@ -6,16 +6,16 @@ use crate::difference::RecordDifference;
 use crate::lent::RecordPart;
 use crate::refusal::Refusal;
 use ksi_imprint::Imprint;
-use ksi_publications::Publications;
+use ksi_publications::Published;
 
 /// V12, V13 and V14: what was published for a time is the root.
-pub(crate) fn check_published(
+pub(crate) fn check_published<P: Published>(
     published: &Option<RecordPart>,
-    publications: &Publications,
+    publications: &P,
     time: u64,
     root: Imprint,
 ) -> Result<(), Refusal>
-    ensures { result ≡ published_checks published.now publications.now time root }
+    ensures { result ≡ published_checks published.now (P.pairs publications.now) time root }
 {
     match check_record(published, time, root) {
         Ok(()) => check_publication(publications.find(time), time, root),

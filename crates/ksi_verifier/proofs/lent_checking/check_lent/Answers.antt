@@ -14,7 +14,7 @@ returns-in-None g c =
     let chains : map lent_chain c.chains-chains.result.now ≡ plain_chains s.chains = lent_chains c.chains-chains.result.now ∙ ap plain_chains c.chains-chains.ensures.chains in
     let record_is = c.lent_record-record.ensures ∙ ap (option_map record_of) c.publication.ensures in
     let calendar = sym (ap (option_map calendar_seen) c.in-None.is) ∙ c.calendar.ensures in
-    c.check.ensures ∙ λ i. checked g.C.Compress.image (chains i) (calendar i) (record_is i) c.args.hash.now c.args.publications.now
+    c.check.ensures ∙ λ i. checked g.C.Compress.image (chains i) (calendar i) (record_is i) c.args.hash.now (g.P.Published.pairs c.args.publications.now)
 
 pub returns-in-Some : goal.returns-in-Some
 returns-in-Some g c =
@@ -22,4 +22,4 @@ returns-in-Some g c =
     let chains : map lent_chain c.chains-chains.result.now ≡ plain_chains s.chains = lent_chains c.chains-chains.result.now ∙ ap plain_chains c.chains-chains.ensures.chains in
     let record_is = c.lent_record-record.ensures ∙ ap (option_map record_of) c.publication.ensures in
     let calendar : Some (calendar_of c.lent_calendar-part.result) ≡ s.calendar = ap (λ (x : Calendar). Some x) c.lent_calendar-part.ensures ∙ sym (ap (option_map calendar_seen) c.in-Some.is) ∙ c.calendar.ensures in
-    c.check-in-Some.ensures ∙ λ i. checked g.C.Compress.image (chains i) (calendar i) (record_is i) c.args.hash.now c.args.publications.now
+    c.check-in-Some.ensures ∙ λ i. checked g.C.Compress.image (chains i) (calendar i) (record_is i) c.args.hash.now (g.P.Published.pairs c.args.publications.now)

@@ -1,0 +1,15 @@
+use Rattle.std.proofs.Common.{◌≡◌}
+use Rattle.std.specs.List.{AllByRecursion}
+use Rattle.ksi_tlv.specs.Views.{rest}
+use Rattle.ksi_tlv.specs.Walking.{elements}
+use Rattle.ksi_grammar.specs.Valid.{MayStand}
+use Rattle.ksi_grammar.specs.Inside.{whole}
+use Rattle.ksi_publications.specs.Tables.{file_table}
+use Rattle.ksi_publications.specs.File.{pairs_of}
+use Rattle.ksi_publications.specs.Finding.{find}
+use Rattle.ksi_publications.proofs.publications_view.PublicationsView.find.Given as goal
+
+abbrev pub invariant-loop-item : goal.invariant-loop-item
+invariant-loop-item l =
+    (find l.time (pairs_of (whole (rest l.elements))) ≡ find l.time (pairs_of (whole (elements 8 l.self.rest.now))))
+    × AllByRecursion (MayStand file_table) (whole (rest l.elements))
