@@ -9,7 +9,6 @@ module _ {State Node Event Fact : Type 0}
     (May : Node → Event → Type 0) (Takes : (old : Node) → Event → (new : Node) → Type 0) (stores : Node → Event → Option Fact)
     (Made : List Fact → Node → Type 0)
     (is : IsNode row restart Keeps Has May Takes stores Made) where
-
   abbrev After : State → List (Said Event) → State
   After = state_after row restart Keeps Has May Takes stores Made
 

@@ -39,7 +39,6 @@ module _ {State Node Event Fact : Type 0}
     (Keeps : Node → State → Type 0) (Has : List Fact → State → Type 0)
     (May : Node → Event → Type 0) (Takes : (old : Node) → Event → (new : Node) → Type 0) (stores : Node → Event → Option Fact)
     (Made : List Fact → Node → Type 0) where
-
   -- a node goes on by its rows with its facts, a restart leaves these, and a node that is made of them is in the state after a
   -- restart
   pub record IsNode : Type 0 where

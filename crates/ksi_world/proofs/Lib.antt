@@ -39,3 +39,4 @@ pub mod KeptOf
 pub mod Counting
 pub mod SealedStays
 pub mod AskedCores
+pub mod AskedSends

@@ -1,6 +1,6 @@
 //! What holds after every history of a plan: whichever messages are lost, repeated, late or out of order, and whichever
 //! nodes restart, at any moment. Each law is the contract of a function that does nothing.
-ghost use Rattle.std.specs.Prelude.{◌≡◌, ◌≢◌, ◌<◌, ◌≤◌, ◌^◌, ◌++◌, ℕ, List, length, slice_get, Some, IfSome, None, true, false};
+ghost use Rattle.std.specs.Prelude.{◌≡◌, ◌≢◌, ◌==◌, ◌<◌, ◌≤◌, ◌^◌, ◌++◌, if◌then◌else◌, map, ℕ, List, length, slice_get, Some, IfSome, None, true, false};
 ghost use Rattle.std.specs.List.{AllByRecursion};
 ghost use Rattle.ksi_tlv.specs.Spelling.{AreBytes};
 ghost use Rattle.ksi_imprint.specs.Imprints.{IsImprint, zero_imprint};
@@ -8,7 +8,7 @@ ghost use Rattle.ksi_schedule.specs.declared.event.Event.{Event};
 ghost use Rattle.ksi_schedule.specs.Plans.{PlanState, IsPlan, InRange};
 ghost use Rattle.ksi_schedule.specs.Events.{History, AreEvents, AskForImprints, IsEvent};
 ghost use Rattle.ksi_schedule.specs.Schedules.{IsHistory};
-ghost use Rattle.ksi_world.specs.Histories.{WorldState, held_in, after, world_of, happens};
+ghost use Rattle.ksi_world.specs.Histories.{WorldState, held_in, after, core_message, world_of, happens};
 ghost use Rattle.ksi_signature.specs.Carried.{MayBeIssued};
 ghost use Rattle.ksi_signature.specs.declared.answer.Answer.TheVariants.{Published};
 ghost use Rattle.ksi_corenode.specs.Rows.{publish_answer, restart_row};
@@ -254,8 +254,9 @@ pub fn sealed_is_listed()
 }
 
 /// What an event asks of a core it may be asked: the core may take it, and its second is at or after the start and below 2^63.
-/// A core that keeps what the world keeps of it, and takes that, keeps what the world keeps then. An event that asks nothing of
-/// a core leaves it, or restarts it.
+/// A core that keeps what the world keeps of it, and takes that, keeps what the world keeps then. The world's second of the
+/// core is that of its turn, and the turn's messages stand behind all that were sent before; nothing is asked of another core.
+/// An event that asks nothing of a core leaves it, or restarts it.
 pub fn events_are_turns()
     ensures may { (image : List ℕ → List ℕ) (plan : PlanState) (before : List Event) → IsPlan plan → AreEvents plan before → (core : ℕ) (event : Event) (one : asked.CoreEvent) → IsEvent plan event →
         asked_of core (after image plan before).wire event ≡ Some one → (it : CoreState) → it.start ≡ plan.start → MayTake it one × IsAsked it (event_second one) }
@@ -263,6 +264,12 @@ pub fn events_are_turns()
         core_row image it one ≡ core_turn image plan w core one }
     ensures turn { (image : List ℕ → List ℕ) (plan : PlanState) (w : WorldState) (core : ℕ) (event : Event) (one : asked.CoreEvent) (old new : CoreState) (step : Step) → asked_of core w.wire event ≡ Some one →
         IsCore plan (w.seconds core) core old → IsTurn old new (event_second one) (core_row image old one) step → (t : ℕ) → state_of new t ≡ (happens image plan w event).world.seconds core t }
+    ensures seconds { (image : List ℕ → List ℕ) (plan : PlanState) (w : WorldState) (core : ℕ) (event : Event) (one : asked.CoreEvent) → asked_of core w.wire event ≡ Some one →
+        (t : ℕ) → (happens image plan w event).world.seconds core t ≡ (if t == event_second one then (core_turn image plan w core one).after else w.seconds core t) }
+    ensures sends { (image : List ℕ → List ℕ) (plan : PlanState) (w : WorldState) (core : ℕ) (event : Event) (one : asked.CoreEvent) → asked_of core w.wire event ≡ Some one →
+        (happens image plan w event).world.wire ≡ w.wire ++ map (core_message core (event_second one)) (core_turn image plan w core one).sends }
+    ensures others { (w : WorldState) (core other : ℕ) (event : Event) (one : asked.CoreEvent) → asked_of core w.wire event ≡ Some one → other ≢ core →
+        (asked_of other w.wire event ≡ None) × (is_restart_of other event ≡ false) }
     ensures still { (image : List ℕ → List ℕ) (plan : PlanState) (w : WorldState) (core : ℕ) (event : Event) → asked_of core w.wire event ≡ None → is_restart_of core event ≡ false →
         (t : ℕ) → (happens image plan w event).world.seconds core t ≡ w.seconds core t }
     ensures restarted { (image : List ℕ → List ℕ) (plan : PlanState) (w : WorldState) (core : ℕ) (event : Event) → is_restart_of core event ≡ true →
