@@ -40,3 +40,6 @@ pub mod Counting
 pub mod SealedStays
 pub mod AskedCores
 pub mod AskedSends
+pub mod Choosing
+pub mod OwnSeconds
+pub mod Submitting

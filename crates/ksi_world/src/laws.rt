@@ -8,10 +8,13 @@ ghost use Rattle.ksi_schedule.specs.declared.event.Event.{Event};
 ghost use Rattle.ksi_schedule.specs.Plans.{PlanState, IsPlan, InRange};
 ghost use Rattle.ksi_schedule.specs.Events.{History, AreEvents, AskForImprints, IsEvent};
 ghost use Rattle.ksi_schedule.specs.Schedules.{IsHistory};
+ghost use Rattle.ksi_world.specs.declared.outcome.Asked.{Asked};
+ghost use Rattle.ksi_world.specs.Lasting.{AreSecondsOf, AreSubmitted, IsAskedOf};
 ghost use Rattle.ksi_world.specs.Histories.{WorldState, held_in, after, core_message, world_of, happens};
 ghost use Rattle.ksi_signature.specs.Carried.{MayBeIssued};
 ghost use Rattle.ksi_signature.specs.declared.answer.Answer.TheVariants.{Published};
 ghost use Rattle.ksi_corenode.specs.Rows.{publish_answer, restart_row};
+ghost use Rattle.ksi_world.specs.Chosen.{IsChosen};
 ghost use Rattle.ksi_world.specs.Joined.{IsKeptRoot, IsJoined};
 ghost use Rattle.ksi_world.specs.Records.{issued_of, issued_all, kept_root, kept_seconds};
 ghost use Rattle.ksi_world.specs.Validity.{IsProposed, IsKept, HasImprints, EachKept, AreRising, AreTimes};
@@ -33,7 +36,7 @@ use ksi_calendar::laws::one_chain as calendar_chain;
 use ksi_imprint::Imprint;
 use ksi_signature::laws::{issued_is_bytes, issued_is_signature};
 use ksi_split::trees::one_path;
-use ksi_synod::laws::steps_agree;
+use ksi_synod::laws::{rows_keep_states, steps_agree};
 
 /// Agreement: two cores that hold a root for a second hold the same.
 pub fn agreement()
@@ -42,6 +45,16 @@ pub fn agreement()
         held_in (world_of image history) other second ≡ Some e → d ≡ e }
 {
     steps_agree();
+}
+
+/// Chosen: where a majority of a second's voters cast one vote in one ballot, no other root is ever held for it, at this
+/// moment or later. It is enough that the messages were sent, whatever is lost of them.
+pub fn chosen()
+    ensures { (image : List ℕ → List ℕ) (plan : PlanState) (before later : List Event) → IsPlan plan → AreEvents plan (before ++ later) →
+        (second ballot : ℕ) (root : List ℕ) → IsChosen plan (after image plan before) second ballot root →
+        (core : ℕ) (e : List ℕ) → held_in (after image plan (before ++ later)) core second ≡ Some e → e ≡ root }
+{
+    ksi_synod::laws::chosen();
 }
 
 /// Validity: a held root other than the zero imprint is the candidate of a core of the plan that sealed items for this
@@ -277,3 +290,33 @@ pub fn events_are_turns()
 {
     one_round();
 }
+
+/// Each core's state of each second is its own, after every history: its number, its voters and its candidate, which is the
+/// imprint of what it sealed. Its vote, if any, is of no ballot beyond its promise.
+pub fn seconds_are_kept()
+    ensures event { (image : List ℕ → List ℕ) (plan : PlanState) (w : WorldState) (e : Event) → AreSecondsOf image plan w.seconds →
+        AreSecondsOf image plan (happens image plan w e).world.seconds }
+    ensures history { (image : List ℕ → List ℕ) (plan : PlanState) (events : List Event) → AreSecondsOf image plan (after image plan events).seconds }
+{
+    rows_keep_states();
+}
+
+/// A closed round stays closed with the same items.
+pub fn closed_stays()
+    ensures { (image : List ℕ → List ℕ) (plan : PlanState) (before later : List Event) (aggregator second : ℕ) (entries : List Entry) →
+        ((after image plan before).rounds aggregator second).closed ≡ Some entries →
+        ((after image plan (before ++ later)).rounds aggregator second).closed ≡ Some entries }
+{}
+
+/// Each closed round that has items was submitted to its parent.
+pub fn closed_is_submitted()
+    ensures event { (image : List ℕ → List ℕ) (plan : PlanState) (w : WorldState) (e : Event) → AreSubmitted plan w →
+        AreSubmitted plan (happens image plan w e).world }
+    ensures history { (image : List ℕ → List ℕ) (plan : PlanState) (events : List Event) → AreSubmitted plan (after image plan events) }
+{}
+
+/// Each accepted request was made of an aggregator of the plan, for a second of the plan.
+pub fn requests_are_of_plan()
+    ensures { (image : List ℕ → List ℕ) (plan : PlanState) (events : List Event) → AreEvents plan events →
+        (number : ℕ) (asked : Asked) → slice_get (after image plan events).requests number ≡ Some asked → IsAskedOf plan asked }
+{}
