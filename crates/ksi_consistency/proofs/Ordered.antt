@@ -100,8 +100,7 @@ unfolding new_at
 new_step values s u es at told kind e =
     let time = bind_ok (or_named (time_at at)) _ u e in
     let after = not_before_ok s u at.place time.0 time.2 in
-    subst (λ (u : Said). Told u.stage u (es ++ at ∷ [])) after.1
-    (
+    subst (λ (u : Said). Told u.stage u (es ++ at ∷ [])) after.1 (
       kinds_more es at 2 (1 ∷ []) told.0 kind ∙ ap (λ (xs : List (List ℕ)). 1 ∷ 2 ∷ map (λ imprint. 3) xs) (sym told.1),
       record {
         bounded = record { within = after.0; early = values.early at time.0 (or_named_ok (time_at at) time.0 time.1) };
@@ -115,8 +114,7 @@ next_step values s u es at stage told kind e =
     let x = bind_ok (or_named (imprint_at at)) _ u e in
     let is = values.imprint at x.0 (or_named_ok (imprint_at at) x.0 x.1) in
     subst (λ (u : Said). Told u.stage u (es ++ at ∷ [])) (state_is (with_imprint s x.0) u x.2)
-    (subst (λ (at_stage : Stage). Told at_stage (with_imprint s x.0) (es ++ at ∷ [])) (sym stage)
-    (
+    (subst (λ (at_stage : Stage). Told at_stage (with_imprint s x.0) (es ++ at ∷ [])) (sym stage) (
       kinds_more es at 3 (front_kinds s.contents) told.0 kind ∙ ap (λ (ks : List ℕ). 1 ∷ 2 ∷ ks) (sym (map-append (λ imprint. 3) s.contents.list (x.0 ∷ []))),
       record { bounded = told.1.bounded; imprints = all_more IsImprint s.contents.list x.0 told.1.imprints is },
     ))

@@ -32,7 +32,7 @@ kinds_each : {A : Type 0} (f : A → Tlv) (g : A → ℕ) → ((x : A) → (f x)
 kinds_each f g same [] rest ks e = e
 kinds_each f g same (x ∷ xs) rest ks e = rw (same x, kinds_each f g same xs rest ks e) refl
 
-item_same : (item : Item) (name : Option (List ℕ)) → item.name ≡ name → (element_with item name).kind ≡ item_kind item
+pub item_same : (item : Item) (name : Option (List ℕ)) → item.name ≡ name → (element_with item name).kind ≡ item_kind item
 item_same item None e = rw e refl
 item_same item (Some name) e = rw e refl
 
@@ -57,7 +57,7 @@ behind_magic : (version : Version) (bytes rest : List ℕ) → bytes ≡ magic v
 behind_magic One bytes rest begins are = All-drop (λ b. b < 256) 8 (magic One ++ rest) (subst AreBytes begins are)
 behind_magic Two bytes rest begins are = All-drop (λ b. b < 256) 8 (magic Two ++ rest) (subst AreBytes begins are)
 
-eight : (version : Version) → length (magic version) ≡ 8
+pub eight : (version : Version) → length (magic version) ≡ 8
 eight One = refl
 eight Two = refl
 

@@ -306,7 +306,7 @@ named_match at item e kind =
     let t = test_ok (is_name (drop 34 at.element.body)) (with_name (Some (drop 34 at.element.body)) head.0) (faults.Name at.place) item head.2 in
     subst (λ (i : Item). Match (item_element i) at) t.1 (named_item at head.0 (leb-true 34 (length at.element.body) long.0) kind is)
 
-item_match : (at : PlacedTlv) (item : Item) → item_in at ≡ Ok item → (at.element.kind ≡ 3) ⊎ (at.element.kind ≡ 7) → Match (item_element item) at
+pub item_match : (at : PlacedTlv) (item : Item) → item_in at ≡ Ok item → (at.element.kind ≡ 3) ⊎ (at.element.kind ≡ 7) → Match (item_element item) at
 unfolding item_in
 item_match at item e (inl three) =
     let other : eqb at.element.kind 7 ≡ false = rw three refl in
@@ -407,7 +407,7 @@ grown start s u es t at before same more match behind issued = record {
   issued = issued;
 }
 
-not_zero : (n : ℕ) → eqb (suc n) 0 ≡ false
+pub not_zero : (n : ℕ) → eqb (suc n) 0 ≡ false
 not_zero n = ne_eqb (suc n) 0 (λ e. absurd (omega (arith, e)))
 
 opened_step : (start : ℕ) (s u : Loaded) (es : List PlacedTlv) (at : PlacedTlv) (t : ℕ) (root : List ℕ) (n : ℕ) → IsTold start s es → is_end s.stage ≡ false → (s.left ≡ 0) × (s.contents.issued ≡ []) × (s.contents.publications ≡ [])
@@ -506,7 +506,7 @@ module _ (laws : Read) (image : List ℕ → List ℕ) (start : ℕ) (s u : Load
 -- ---- which kind it is
 
 -- what holds of each kind that may stand holds of one that does
-any_kind : (P : ℕ → Type 0) (kinds : List ℕ) (kind : ℕ) → may_stand kinds kind ≡ true → AllByRecursion P kinds → P kind
+pub any_kind : (P : ℕ → Type 0) (kinds : List ℕ) (kind : ℕ) → may_stand kinds kind ≡ true → AllByRecursion P kinds → P kind
 any_kind P [] kind may all = absurd cc
 any_kind P (k ∷ kinds) kind may all = by (eqb k kind) refl may (λ may. any_kind P kinds kind may all.1)
   where
@@ -557,7 +557,7 @@ choose : (P : Type 0) (test : Bool) (one other : Result Loaded JournalFault) (u 
 choose P true one other u e first rest = first refl e
 choose P false one other u e first rest = rest refl e
 
-either_kind : (kind : ℕ) → (eqb kind 3 || eqb kind 7) ≡ true → (kind ≡ 3) ⊎ (kind ≡ 7)
+pub either_kind : (kind : ℕ) → (eqb kind 3 || eqb kind 7) ≡ true → (kind ≡ 3) ⊎ (kind ≡ 7)
 either_kind kind e = by (eqb kind 3) refl e
   where
     by : (three : Bool) → eqb kind 3 ≡ three → (three || eqb kind 7) ≡ true → (kind ≡ 3) ⊎ (kind ≡ 7)

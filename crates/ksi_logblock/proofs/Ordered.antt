@@ -108,8 +108,8 @@ link_step s u es at begun told kind e =
     let is : at.element.kind ≡ kind_of link.0.side = sym (ap kind_of side ∙ kind) in
     subst (λ (u : Said). Told u.started u (es ++ at ∷ [])) (state_is (one_link_more s link.0) u link.2)
     (subst (λ b. Told b (one_link_more s link.0) (es ++ at ∷ [])) (sym begun)
-        (kinds_more es at (1 ∷ links_kinds s.links) told ∙ ap (λ (k : ℕ). (1 ∷ links_kinds s.links) ++ k ∷ []) is
-            ∙ ap (λ (ks : List ℕ). 1 ∷ ks) (sym (map-append (λ link. kind_of link.side) s.links (link.0 ∷ [])))))
+    (kinds_more es at (1 ∷ links_kinds s.links) told ∙ ap (λ (k : ℕ). (1 ∷ links_kinds s.links) ++ k ∷ []) is
+    ∙ ap (λ (ks : List ℕ). 1 ∷ ks) (sym (map-append (λ link. kind_of link.side) s.links (link.0 ∷ [])))))
 
 read_step : (begun : Bool) (s u : Said) (es : List PlacedTlv) (at : PlacedTlv) → s.started ≡ begun → Told begun s es → may_stand (cond begun (7 ∷ 8 ∷ []) (1 ∷ [])) at.element.kind ≡ true → cond begun (link_at s at) (mask_at at) ≡ Ok u
     → Told u.started u (es ++ at ∷ [])

@@ -20,7 +20,8 @@ use ksi_journal::{Journal, Parts};
 use std::alloc::Global;
 
 /// The journal of a mirror: its roots, each with the list of the lowest core whose tree has the root, none for the zero
-/// imprint; without voters, issued signatures and publications. Each tree is computed from its list.
+/// imprint; without voters, issued signatures and publications. Each tree is computed from its list. Of merged mirrors of
+/// one history it is the journal of the seconds that are kept (law `mirrors_of_a_history_merge` of `ksi_replay`).
 ///
 /// # Errors
 /// `NoTree` exactly at the first root other than zero without such a list. `NoMemory`.
