@@ -1,0 +1,107 @@
+/* fuzz SECONDS SEED SAMPLES: calls every function on random and on mangled bytes, each in a block of exactly its size, so
+ * that a sanitizer or valgrind sees any byte that is read outside. Ends by abort where an answer contradicts itself. */
+#include <ksi.h>
+#include <string.h>
+#include <time.h>
+#include "load.h"
+
+static uint64_t state;
+
+static uint64_t draw(void) {
+    state ^= state << 13;
+    state ^= state >> 7;
+    state ^= state << 17;
+    return state;
+}
+
+static uint64_t below(uint64_t bound) { return draw() % bound; }
+
+static uint8_t *block(const uint8_t *bytes, size_t len) {
+    uint8_t *out = malloc(len ? len : 1);
+    if (!out) exit(2);
+    memcpy(out, bytes, len);
+    return out;
+}
+
+/* A copy of bytes that is cut, stretched, overlaid, random, or has a few other bytes. */
+static uint8_t *mangled(const uint8_t *bytes, size_t size, size_t *len) {
+    static uint8_t room[70000];
+    size_t n = size;
+    memcpy(room, bytes, n);
+    switch (below(8)) {
+    case 0: n = below(200); for (size_t k = 0; k < n; k++) room[k] = (uint8_t)draw(); break;
+    case 1: n = below(size + 1); break;
+    case 2: for (size_t more = below(300); more; more--) room[n++] = (uint8_t)draw(); break;
+    case 3: { size_t to = below(n), from = below(n); memmove(room + to, room + from, below(n - (to > from ? to : from))); break; }
+    default: for (uint64_t k = below(4); k < 4; k++) room[below(n)] = (uint8_t)draw();
+    }
+    *len = n;
+    return block(room, n);
+}
+
+/* The hash in pieces is the hash of all. */
+static void hash(const uint8_t *bytes, size_t len) {
+    struct ksi_hasher *hasher = malloc(sizeof *hasher);
+    uint8_t whole[32], pieces[32];
+    if (!hasher) exit(2);
+    ksi_hash_start(hasher);
+    for (size_t at = 0; at < len;) {
+        size_t n = below(len - at + 1);
+        uint8_t *piece = block(bytes + at, n);
+        ksi_hash_more(hasher, piece, n);
+        free(piece);
+        at += n;
+        if (below(4) == 0) ksi_hash_end(hasher, pieces);
+    }
+    ksi_hash_end(hasher, pieces);
+    ksi_hash(bytes, len, whole);
+    if (memcmp(whole, pieces, 32)) abort();
+    free(hasher);
+}
+
+/* A step is there exactly where its number is below another's that is there, and only of a signature. */
+static void steps(const uint8_t *signature, size_t len, uint32_t status, uint32_t file) {
+    struct ksi_step *step = malloc(sizeof *step);
+    if (!step) exit(2);
+    size_t number = below(40);
+    uint32_t found = ksi_step(signature, len, number, step);
+    if ((found == 3) != (status == KSI_MALFORMED && file == KSI_SIGNATURE)) abort();
+    if (found == 0 && (step->level < 1 || step->level > 255 || step->side > 1 || (!step->raw && step->size != 33))) abort();
+    if (found == 0 && number && ksi_step(signature, len, below(number), step) != 0) abort();
+    free(step);
+}
+
+int main(int count, char **words) {
+    static uint8_t signature[65539], publications[4096], document[4096], right[32];
+    if (count != 4) return 2;
+    state = strtoull(words[2], 0, 10) * 0x9e3779b97f4a7c15u + 1;
+    size_t signature_len = load(words[3], "deed.ksig", signature, sizeof signature);
+    size_t publications_len = load(words[3], "publications.bin", publications, sizeof publications);
+    ksi_hash(document, load(words[3], "deed.txt", document, sizeof document), right);
+    uint64_t calls = 0, seen[4][4][16] = {{{0}}};
+    for (time_t end = time(0) + atol(words[1]); time(0) < end;)
+        for (int turn = 0; turn < 200; turn++, calls++) {
+            size_t s, p;
+            uint8_t *one = below(4) ? mangled(signature, signature_len, &s) : block(signature, s = signature_len);
+            uint8_t *two = below(2) ? mangled(publications, publications_len, &p) : block(publications, p = publications_len);
+            uint8_t *digest = block(right, 32);
+            struct ksi_answer *answer = malloc(sizeof *answer);
+            if (!answer) exit(2);
+            memset(answer, 0xa5, sizeof *answer);
+            if (below(8) == 0) ksi_hash(one, s, digest);
+            if (below(4) == 0) hash(one, s);
+            uint32_t status = ksi_verify(one, s, digest, two, p, answer);
+            if (status != answer->status || status > 3 || status == 2 || answer->code > 15 || answer->file > 3) abort();
+            if (below(4) == 0) steps(one, s, status, answer->file);
+            seen[status][answer->file][answer->code]++;
+            free(one), free(two), free(digest), free(answer);
+        }
+    printf("%llu inputs without a fault\n", (unsigned long long)calls);
+    for (int k = 0; k < 16; k++) {
+        if (seen[0][0][k]) printf("accepted %llu\n", (unsigned long long)seen[0][0][k]);
+        if (seen[1][0][k]) printf("V%d %llu\n", k, (unsigned long long)seen[1][0][k]);
+        if (seen[3][1][k]) printf("S%d %llu\n", k, (unsigned long long)seen[3][1][k]);
+        if (seen[3][3][k]) printf("Q%d %llu\n", k, (unsigned long long)seen[3][3][k]);
+    }
+    return 0;
+}

@@ -1,0 +1,128 @@
+"""Checks of signatures of Keyless Signatures' Infrastructure, by the proved library, through ctypes.
+
+    >>> answer = ksi.verify(signature, ksi.digest(document), publications)
+    >>> answer.accepted, answer.time, answer.name
+
+Each function and each field is told in ksi.h.
+"""
+import ctypes, datetime, os, typing
+
+ABI = 1
+ACCEPTED, REFUSED, MALFORMED = 0, 1, 3
+SIGNATURE, PUBLICATIONS = 1, 3
+
+_library = ctypes.CDLL(os.environ.get("KSI_LIBRARY") or os.path.join(os.path.dirname(os.path.abspath(__file__)), "libksi.so"))
+_bytes = [ctypes.c_char_p, ctypes.c_size_t]
+
+
+class _Answer(ctypes.Structure):
+    _fields_ = [("status", ctypes.c_uint32), ("file", ctypes.c_uint32), ("code", ctypes.c_uint32), ("detail", ctypes.c_uint32),
+                ("second", ctypes.c_uint64), ("numbers", ctypes.c_uint64 * 4), ("one", ctypes.c_ubyte * 32), ("other", ctypes.c_ubyte * 32)]
+
+
+class _Hasher(ctypes.Structure):
+    _fields_ = [("h", ctypes.c_uint32 * 8), ("buffer", ctypes.c_ubyte * 64), ("total", ctypes.c_uint64)]
+
+
+class _Step(ctypes.Structure):
+    _fields_ = [("chain", ctypes.c_uint64), ("place", ctypes.c_uint64), ("size", ctypes.c_uint64), ("calendar", ctypes.c_uint32),
+                ("side", ctypes.c_uint32), ("level", ctypes.c_uint32), ("raw", ctypes.c_uint32), ("node", ctypes.c_ubyte * 32),
+                ("join", ctypes.c_ubyte * 32), ("sibling", ctypes.c_ubyte * 4096)]
+
+
+def _function(name, result, *arguments):
+    function = getattr(_library, name)
+    function.restype, function.argtypes = result, arguments
+    return function
+
+
+_abi = _function("ksi_abi", ctypes.c_uint32)
+_hash = _function("ksi_hash", None, *_bytes, ctypes.c_char_p)
+_start = _function("ksi_hash_start", None, ctypes.POINTER(_Hasher))
+_more = _function("ksi_hash_more", None, ctypes.POINTER(_Hasher), *_bytes)
+_end = _function("ksi_hash_end", None, ctypes.POINTER(_Hasher), ctypes.c_char_p)
+_verify = _function("ksi_verify", ctypes.c_uint32, *_bytes, ctypes.c_char_p, *_bytes, ctypes.POINTER(_Answer))
+_step = _function("ksi_step", ctypes.c_uint32, *_bytes, ctypes.c_size_t, ctypes.POINTER(_Step))
+if _abi() != ABI:
+    raise ImportError("libksi has another interface than this module")
+
+
+class Answer(typing.NamedTuple):
+    """What a check comes to: the fields of `struct ksi_answer`."""
+
+    status: int
+    file: int
+    code: int
+    detail: int
+    second: int
+    numbers: tuple
+    one: bytes
+    other: bytes
+
+    @property
+    def accepted(self):
+        return self.status == ACCEPTED
+
+    @property
+    def time(self):
+        """The second that is proved, as a time; none where the signature is not accepted, or its second is past the year 9999."""
+        if not self.accepted or self.second > 253402300799:
+            return None
+        return datetime.datetime.fromtimestamp(self.second, datetime.timezone.utc)
+
+    @property
+    def name(self):
+        """The code as the program `ksi` prints it: V1, S7, Q3."""
+        letter = "V" if self.status == REFUSED else "S" if self.file == SIGNATURE else "Q"
+        return "accepted" if self.accepted else f"{letter}{self.code}"
+
+
+class Step(typing.NamedTuple):
+    """A link of a signature with both parts and their join: the fields of `struct ksi_step`."""
+
+    calendar: bool
+    chain: int
+    place: int
+    side: int
+    level: int
+    raw: bool
+    node: bytes
+    sibling: bytes
+    join: bytes
+
+
+def verify(signature: bytes, digest: bytes, publications: bytes) -> Answer:
+    """Checks a signature for the SHA-256 of a document against a publications file."""
+    if len(digest) != 32:
+        raise ValueError("a SHA-256 digest has 32 bytes")
+    signature, digest, publications = bytes(signature), bytes(digest), bytes(publications)
+    it = _Answer()
+    _verify(signature, len(signature), digest, publications, len(publications), it)
+    return Answer(it.status, it.file, it.code, it.detail, it.second, tuple(it.numbers), bytes(it.one), bytes(it.other))
+
+
+def digest(document: bytes) -> bytes:
+    """SHA-256 of bytes."""
+    document, out = bytes(document), ctypes.create_string_buffer(32)
+    _hash(document, len(document), out)
+    return out.raw
+
+
+def file_digest(name) -> bytes:
+    """SHA-256 of a file of any size, read in pieces."""
+    state, out = _Hasher(), ctypes.create_string_buffer(32)
+    _start(state)
+    with open(name, "rb") as file:
+        while piece := file.read(1 << 20):
+            _more(state, piece, len(piece))
+    _end(state, out)
+    return out.raw
+
+
+def steps(signature: bytes):
+    """The links of a signature from the document's hash up; none where the bytes are no signature."""
+    signature, it, number = bytes(signature), _Step(), 0
+    while _step(signature, len(signature), number, it) == 0:
+        sibling = bytes(it.sibling)[: it.size]
+        yield Step(bool(it.calendar), it.chain, it.place, it.side, it.level, bool(it.raw), bytes(it.node), sibling, bytes(it.join))
+        number += 1

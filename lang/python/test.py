@@ -1,0 +1,41 @@
+"""test.py SAMPLES: the module on the stored files, and its hash beside hashlib's."""
+import hashlib, os, sys
+import ksi
+
+samples = sys.argv[1]
+
+
+def read(name):
+    with open(os.path.join(samples, name), "rb") as file:
+        return file.read()
+
+
+signature, document, publications = read("deed.ksig"), read("deed.txt"), read("publications.bin")
+right, wrong = hashlib.sha256(document).digest(), hashlib.sha256(b"abc").digest()
+for size in [*range(0, 200), 4096, 100001]:
+    assert ksi.digest(b"x" * size) == hashlib.sha256(b"x" * size).digest(), size
+assert ksi.file_digest(os.path.join(samples, "deed.ksig")) == hashlib.sha256(signature).digest()
+
+answer = ksi.verify(signature, right, publications)
+assert answer.accepted and answer.second == 1700000000 and str(answer.time) == "2023-11-14 22:13:20+00:00", answer
+answer = ksi.verify(signature, wrong, publications)
+assert (answer.name, answer.one, answer.other) == ("V1", right, wrong), answer
+# without its second and third publication, the file has none for the time of the calendar chain
+answer = ksi.verify(signature, right, publications[:-94])
+assert answer.name == "V13" and answer.numbers[0] == 0x6553FF0F, answer
+answer = ksi.verify(publications, right, publications)
+assert (answer.status, answer.file, answer.name, answer.numbers[0]) == (ksi.MALFORMED, ksi.SIGNATURE, "S3", 0x4B & 0x1F), answer
+answer = ksi.verify(signature, right, signature)
+assert (answer.status, answer.file, answer.name) == (ksi.MALFORMED, ksi.PUBLICATIONS, "Q1"), answer
+
+way = list(ksi.steps(signature))
+assert [step.calendar for step in way] == [False] * 8 + [True] * 24 and way[0].node == right
+for below, step in zip(way, way[1:]):
+    assert below.join == step.node, step
+for step in way:
+    parts = [b"\1" + step.node, step.sibling]
+    assert step.join == hashlib.sha256(b"".join(parts[:: 1 - 2 * step.side]) + bytes([step.level])).digest(), step
+names = [step.sibling[6:-1].decode() for step in way if step.raw]
+assert names == ["bob", "archive-7"], names
+assert way[-1].join in publications and not list(ksi.steps(publications))
+print("Python: all answers as they should be")

@@ -1,0 +1,18 @@
+//! verify SIGNATURE DOCUMENT PUBLICATIONS: the second in which the document existed, or why none is proved.
+use std::{env, fs, process};
+
+fn main() -> std::io::Result<()> {
+    let words: Vec<String> = env::args().skip(1).collect();
+    let [signature, document, publications] = words.as_slice() else {
+        process::exit(2);
+    };
+    let digest = ksi::digest(&fs::read(document)?);
+    let answer = ksi::verify(&fs::read(signature)?, &digest, &fs::read(publications)?);
+    match (answer.status, answer.file) {
+        (0, _) => println!("accepted {}", answer.second),
+        (1, _) => println!("refused V{}", answer.code),
+        (_, 1) => println!("malformed 1 S{}", answer.code),
+        _ => println!("malformed 3 Q{}", answer.code),
+    }
+    process::exit(answer.status as i32)
+}
