@@ -17,9 +17,9 @@ SONAME = libksi.so.1
 ROOT = $(DESTDIR)$(PREFIX)
 DOC = $(ROOT)/share/doc/ksi
 
-.PHONY: all programs pages library check install uninstall deb sums
-
 all: programs library pages
+
+.PHONY: all programs pages page library check install uninstall deb sums
 
 # rt proves again only what changed
 programs:
@@ -34,6 +34,10 @@ library:
 pages:
 	python3 package/manual.py $(OUT)
 
+# the page that verifies in the browser: $(OUT)/page.html
+page:
+	page/check --keep $(OUT)
+
 check:
 	.ci/run
 
@@ -43,6 +47,7 @@ install:
 	install -d $(ROOT)/lib/ksi
 	for it in $(NODES); do install -m755 $$it $(ROOT)/lib/ksi || exit 1; done
 	cp -r service/ksi_service $(ROOT)/lib/ksi
+	! test -e $(OUT)/page.html || install -m644 $(OUT)/page.html $(ROOT)/lib/ksi
 	rm -rf $(ROOT)/lib/ksi/ksi_service/__pycache__
 	install -Dm755 service/ksi-service $(ROOT)/lib/ksi/ksi-service
 	install -d $(ROOT)/bin
