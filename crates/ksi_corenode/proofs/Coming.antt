@@ -1,5 +1,5 @@
 -- A core that comes back with the fact of an event too is the core after that event, restarted.
-use Rattle.std.proofs.Common.{◌≡◌, ◌∙◌, ℕ, Bool, true, false, eqb, List, [], Option, Some, None, refl, sym, ap, subst}
+use Rattle.std.proofs.Common.{◌≡◌, ◌∙◌, ℕ, Bool, true, false, List, Option, Some, None, refl, sym, ap}
 use Rattle.std.specs.Prelude.{◌==◌, if◌then◌else◌, is_some, option_map}
 use Rattle.std.proofs.lemmas.Bool.{cond_both, eqb-true}
 use Rattle.ksi_aggtree.specs.declared.item.Item.{Item}
@@ -7,7 +7,6 @@ use Rattle.ksi_aggtree.specs.declared.entries.Entry.{Entry}
 use Rattle.ksi_aggtree.specs.Entries.{candidate_of}
 use Rattle.ksi_calendar.specs.Covered.{Roots, first_missing}
 use Rattle.ksi_synod.specs.CorePlans.{CorePlanState, voters_of}
-use Rattle.ksi_synod.specs.VoteState.{VoteState}
 use Rattle.ksi_synod.specs.declared.messages.SynodMessage.{SynodMessage}
 use Rattle.ksi_synod.specs.Rows.{seal, seal_of}
 use Rattle.ksi_corenode.specs.declared.event.CoreEvent.{CoreEvent}
@@ -15,12 +14,12 @@ use Rattle.ksi_corenode.specs.declared.event.CoreEvent.TheVariants as events
 use Rattle.ksi_corenode.specs.declared.fact.What.{What}
 use Rattle.ksi_corenode.specs.declared.fact.Fact.{Fact}
 use Rattle.ksi_corenode.specs.SecondState.{SecondState}
-use Rattle.ksi_corenode.specs.Facts.{StableState, stable_state, with_fact, with_stored, fact_of}
+use Rattle.ksi_corenode.specs.Facts.{StableState, with_fact, with_stored, fact_of}
 use Rattle.ksi_corenode.specs.Turns.{Turn}
 use Rattle.ksi_corenode.specs.Rows.{submission_row, seal_row, ballot_row, receive_row, tell_row, respond_row, respond_where, is_mine, restart_row}
 use Rattle.ksi_corenode.specs.Events.{event_second, core_row, MayTake}
 use Rattle.ksi_corenode.specs.Lawful.{stored_by, with_new}
-use Rattle.ksi_corenode.specs.Restored.{IsOfFacts, IsWell, HasFacts}
+use Rattle.ksi_corenode.specs.Restored.{IsOfFacts, HasFacts}
 use Rattle.ksi_corenode.specs.CoreState.{CoreState, state_of}
 use Rattle.ksi_corenode.proofs.Keeping.{try_keeps, receive_keeps}
 use Rattle.ksi_corenode.proofs.Returning.{some_more}

@@ -1,7 +1,7 @@
 -- That a crash is a restart, for any node that keeps its facts in a file. The laws of the stores above cite it.
-use Rattle.std.specs.Prelude.{◌≡◌, ◌⊎◌, List, [], ◌∷◌, ◌++◌, Option, Some, None, refl}
-use Rattle.std.proofs.Common.{sym, ap, subst, ◌∙◌, inl, inr}
-use Rattle.ksi_gates.specs.Restarts.{and_new, WithOrWithout, Deed, Took, CutOff, Opened, Said, Happened, Restarted, SaysOf, SayOf, IsNode, IsDeed, Runs, state_after, HasHistory}
+use Rattle.std.specs.Prelude.{◌≡◌, ◌⊎◌, List, [], ◌∷◌, ◌++◌, Option, refl}
+use Rattle.std.proofs.Common.{sym, subst, inl, inr}
+use Rattle.ksi_gates.specs.Restarts.{WithOrWithout, Deed, Took, CutOff, Opened, Said, Happened, Restarted, SaysOf, IsNode, IsDeed, Runs, state_after, HasHistory}
 
 module _ {State Node Event Fact : Type 0}
     (row : State → Event → State) (restart : State → State)
