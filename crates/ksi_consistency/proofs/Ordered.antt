@@ -1,5 +1,5 @@
 -- The elements of a front's file stand for what it has, one for one and in its order, and that is a front.
-use Rattle.std.proofs.Common.{◌≡◌, ℕ, ◌+◌, ◌^◌, ◌<◌, ◌≤◌, Bool, true, false, cond, ◌||◌, eqb, ltb, List, [], ◌∷◌, ◌++◌, map, Result, Ok, Err, refl, sym, ap, subst, ◌∙◌, arith, append_assoc, append-nil}
+use Rattle.std.proofs.Common.{◌≡◌, ℕ, ◌+◌, ◌^◌, ◌<◌, ◌≤◌, Bool, true, false, cond, ◌||◌, eqb, ltb, List, [], ◌∷◌, ◌++◌, map, Result, Ok, Err, refl, sym, ap, subst, ◌∙◌, append_assoc, append-nil}
 use Rattle.std.specs.List.{AllByRecursion}
 use Rattle.std.proofs.lemmas.Bool.{eqb-true, ltb-false}
 use Rattle.std.proofs.lemmas.List.{map-append}
@@ -13,7 +13,7 @@ use Rattle.ksi_consistency.specs.declared.fault.FrontFault.{FrontFault}
 use Rattle.ksi_consistency.specs.declared.fault.FrontFault.TheVariants as faults
 use Rattle.ksi_consistency.specs.declared.stage.Stage.{Stage}
 use Rattle.ksi_consistency.specs.declared.stage.Stage.TheVariants as stages
-use Rattle.ksi_consistency.specs.Elements.{Contents, Said, IsBounded, IsFront, kinds_next, is_whole, or_named, with_old, old_at, with_new, not_before, new_at, with_imprint, next_at, element_read, front_order, nothing_yet}
+use Rattle.ksi_consistency.specs.Elements.{Contents, Said, IsFront, kinds_next, is_whole, or_named, with_old, old_at, with_new, not_before, new_at, with_imprint, next_at, element_read, front_order, nothing_yet}
 use Rattle.ksi_consistency.specs.File.{IsFrontFile}
 use Rattle.ksi_consistency.specs.Kinds.{front_kinds, IsInOrder}
 

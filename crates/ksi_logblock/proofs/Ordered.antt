@@ -1,5 +1,5 @@
 -- The elements of a line's proof stand for what it has, one for one and in its order.
-use Rattle.std.proofs.Common.{◌≡◌, ◌⊎◌, inl, inr, ℕ, Bool, true, false, cond, ◌||◌, eqb, ltb, List, [], ◌∷◌, ◌++◌, length, map, Result, Ok, Err, refl, sym, ap, subst, ◌∙◌, append_assoc, append-nil}
+use Rattle.std.proofs.Common.{◌≡◌, ℕ, Bool, true, false, cond, ◌||◌, eqb, ltb, List, [], ◌∷◌, ◌++◌, length, map, Result, Ok, Err, refl, sym, ap, subst, ◌∙◌, append_assoc, append-nil}
 use Rattle.std.specs.List.{AllByRecursion}
 use Rattle.std.proofs.lemmas.Bool.{eqb-true}
 use Rattle.std.proofs.lemmas.List.{map-append}
@@ -18,7 +18,7 @@ use Rattle.ksi_logblock.specs.declared.proof_fault.ProofFault.TheVariants as fau
 use Rattle.ksi_logblock.specs.Links.{most_links}
 use Rattle.ksi_logblock.specs.Elements.{Said, nothing_yet, side_of, correction_at, with_sibling, with_correction, link_in, or_named, started_with, one_link_more, mask_at, link_at, element_read, kinds_next, proof_order}
 use Rattle.ksi_logblock.specs.File.{said_of, kind_of, IsProofFile}
-use Rattle.ksi_logblock.specs.Kinds.{proof_kinds, IsInOrder}
+use Rattle.ksi_logblock.specs.Kinds.{IsInOrder}
 
 abbrev kinds : List PlacedTlv → List ℕ
 kinds es = map (λ at. at.element.kind) es
