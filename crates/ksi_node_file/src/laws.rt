@@ -24,8 +24,7 @@ use ksi_disk::Disk;
 use ksi_facts::laws::{rows_add_what_they_store, step_is_by_facts, world_is_seen};
 use ksi_imprint::Compress;
 use ksi_nodestore::laws::a_crash_is_a_restart;
-use ksi_world::events_are_turns;
-use ksi_world::laws::agreement;
+use ksi_world::laws::{agreement, events_are_turns};
 
 /// The calls of a store are deeds, by their clauses: an event that was taken (`turn`, `stored`); a file that was opened
 /// (`opens`); and an opening behind a crash at any moment of a `take`, or behind one that failed (`any_moment`), where the fact
