@@ -1,7 +1,8 @@
 //! The program: one command over the files and the output of the system.
 //!
-//! `ksi COMMAND WORD ..` runs one of the commands `replay`, `sign`, `publish`, `extend`, `verify`, `audit`, `make`,
-//! `drill`, `migrate`, `front`, `compare` and `inspect`, prints at most one line and ends with the run's status.
+//! `ksi COMMAND WORD ..` runs one of twenty commands, prints at most one line and ends with the run's status: `replay`,
+//! `sign`, `publish`, `extend`, `verify`, `audit`, `make`, `drill`, `migrate`, `front`, `compare`, `node`, `inspect`,
+//! `block`, `line`, `checkline`, `locate`, `mirror`, `merge` and `whole`. docs/FORMATS.md tells their words and lines.
 #![tactic(auto)]
 
 use ksi_ports::{HostFiles, HostSink};

@@ -1,4 +1,5 @@
-//! Hash chains of an aggregation: links, climbing along them, and the shape that they have.
+//! Hash chains of an aggregation: links, climbing along them, and the shape that they have. A chain is an inclusion proof
+//! of a Merkle tree.
 //!
 //! A link says on which side of its join a node stands, what the join has beside it, and how many levels more than one
 //! it goes up (Buldas, Kroonmaa, Laanoja, "Keyless Signatures' Infrastructure", 2013).

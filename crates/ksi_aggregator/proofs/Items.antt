@@ -1,5 +1,5 @@
 -- The items of a round: reading one of them, and what they are below a response.
-use Rattle.std.proofs.Common.{◌≡◌, ℕ, zero, suc, ◌+◌, ◌≤◌, ◌++◌, List, [], ◌∷◌, length, drop, Bool, true, false, ◌||◌, Option, Some, None, refl, ap, sym, subst, append_assoc, ◌∙◌, arith, ◌⊎◌, inl, inr}
+use Rattle.std.proofs.Common.{◌≡◌, ℕ, zero, suc, ◌+◌, ◌≤◌, ◌++◌, List, [], ◌∷◌, length, drop, take, Bool, true, false, ◌||◌, Option, Some, None, refl, ap, sym, subst, append_assoc, ◌∙◌, arith, ◌⊎◌, inl, inr}
 use Rattle.std.specs.Prelude.{slice_get, max, IfSome}
 use Rattle.std.specs.List.{AllByRecursion}
 use Rattle.std.proofs.lemmas.Option.{none-some}
@@ -56,6 +56,24 @@ lower_read (x ∷ xs) (suc k) entry e lower = later (is_lower x.origin) (lower_r
     later : (b : Bool) → has_lower xs ≡ true → (b || has_lower xs) ≡ true
     later true h = refl
     later false h = h
+
+-- the items up to one that is no lower aggregator's have none of these, where those before it have none
+pub lower_next : (entries : List Entry) (k : ℕ) (entry : Entry) → slice_get entries k ≡ Some entry → is_lower entry.origin ≡ false → has_lower (take k entries) ≡ false → has_lower (take (suc k) entries) ≡ false
+lower_next [] k entry e other before = refl
+lower_next (x ∷ xs) zero entry e other before = first (is_lower x.origin) (ap (λ (o : Option Entry). lower_or o) e ∙ other)
+  where
+    lower_or : Option Entry → Bool
+    lower_or None = false
+    lower_or (Some y) = is_lower y.origin
+
+    first : (b : Bool) → b ≡ false → (b || false) ≡ false
+    first true h = h
+    first false h = refl
+lower_next (x ∷ xs) (suc k) entry e other before = later (is_lower x.origin) before (lower_next xs k entry e other)
+  where
+    later : (b : Bool) → (b || has_lower (take k xs)) ≡ false → (has_lower (take k xs) ≡ false → has_lower (take (suc k) xs) ≡ false) → (b || has_lower (take (suc k) xs)) ≡ false
+    later true h next = h
+    later false h next = next h
 
 -- above an item's leaf the links stand beside imprints
 nodes_from : (level : ℕ) (others : List (TreeLink Node)) → AllByRecursion (λ (link : Link). IsNode link.sibling) (links_from level others)

@@ -4,3 +4,4 @@ pub mod Rounds
 pub mod Facts
 pub mod Refusals
 pub mod Issuing
+pub mod Events

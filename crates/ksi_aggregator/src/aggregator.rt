@@ -1,7 +1,8 @@
 ghost use Rattle.std.specs.Prelude.{◌≡◌, ◌≤◌, ◌<◌, ◌^◌, ◌↔◌, ◌⊎◌, ℕ, length, IsSome, IsTrue, IfOk, IfSome, IfNone, OnErr};
 ghost use Rattle.ksi_aggtree.specs.Rounds.{leaf_level, highest_item};
 ghost use Rattle.ksi_aggregator.specs.Rows.{fresh_round, round_request, round_submission, round_close, round_response, round_restarted};
-ghost use Rattle.ksi_aggregator.specs.Rounds.{rounds_of, IsNew, HasPlace, SameRounds, IsTurn};
+ghost use Rattle.ksi_aggregator.specs.Rounds.{rounds_of, items_in, IsNew, HasPlace, SameRounds, IsTurn};
+ghost use Rattle.ksi_aggregator.specs.Responses.{has_lower};
 ghost use Rattle.ksi_aggregator.specs.Refusals.{IsFull, IsKnown, IsFullFor, AwaitsResponse};
 ghost use Rattle.ksi_aggregator.specs.Issuing.{IsIssued, NotIssued};
 
@@ -64,6 +65,21 @@ impl<C: Compress> Aggregator<C> {
             Some(place) => !self.rounds.has_request(number, place.second, place.place),
             None => true,
         }
+    }
+
+    /// How many items the round of a second has, open or closed.
+    pub fn count(&self, second: u64) -> usize
+        ensures { result ≡ length (items_in (rounds_of self.now second)) }
+    {
+        self.rounds.count(second)
+    }
+
+    /// Whether an item of a lower aggregator stands in the round of a second. A response to it then has at most 7 chains.
+    /// It looks at each item until it finds one.
+    pub fn has_lower(&self, second: u64) -> bool
+        ensures { result ≡ has_lower (items_in (rounds_of self.now second)) }
+    {
+        self.rounds.has_lower(second)
     }
 
     /// Takes the request of a number for a second: an item of level 0 of the round, with the request's name where it has

@@ -1,4 +1,4 @@
-//! An aggregator: it gathers requests and the items of lower aggregators, closes a round of them each second, submits
+//! An aggregator, as a state machine: it gathers requests and the items of lower aggregators, closes a round of them each second, submits
 //! the item of the round's tree to its parent, sends each response on with the chain of the lower aggregator's item, and
 //! issues the signatures of its requests.
 //!
@@ -18,6 +18,7 @@
 
 mod aggregator;
 mod copies;
+mod event;
 mod fact;
 pub mod laws;
 mod place;
@@ -27,6 +28,7 @@ mod rounds;
 mod step;
 
 pub use aggregator::Aggregator;
+pub use event::RoundEvent;
 pub use fact::{ClosedItems, Fact, RoundFact};
 pub use ksi_imprint::NoMemory;
 pub use step::{Send, Step};

@@ -4,6 +4,7 @@ ghost use Rattle.ksi_aggtree.specs.declared.item.Item.{Item};
 ghost use Rattle.ksi_aggtree.specs.Rounds.{leaf_level, highest_item};
 ghost use Rattle.ksi_aggregator.specs.Rows.{fresh_round, round_request, round_submission, round_close, round_response};
 ghost use Rattle.ksi_aggregator.specs.Rounds.{items_in, fact_of, StandsAt, HasPlace};
+ghost use Rattle.ksi_aggregator.specs.Responses.{is_lower, has_lower};
 ghost use Rattle.ksi_aggregator.specs.Issuing.{IsIssuedAt, NotIssuedAt, from_request, issued_text};
 
 use crate::copies::copies_of;
@@ -62,6 +63,13 @@ impl<C: Compress> Round<C> {
         ensures { result ≡ length (items_in self.now) }
     {
         self.entries.count()
+    }
+
+    /// Whether an item of a lower aggregator is there.
+    pub(crate) fn has_lower(&self) -> bool
+        ensures { result ≡ has_lower (items_in self.now) }
+    {
+        has_lower(&self.entries)
     }
 
     /// Whether the item at a place is one of the request.
@@ -138,7 +146,7 @@ impl<C: Compress> Round<C> {
         if let Some(root) = self.entries.root() {
             sends.push(Send::Submission(Item::of(root)))?;
         }
-        let items = self.entries.to_vec(alloc)?;
+        let items = self.entries.to_vec()?;
         self.response = None;
         self.is_closed = true;
         Ok(Step {
@@ -245,6 +253,28 @@ fn stands_at<C: Compress>(entries: &Entries<C>, number: u64, place: usize) -> bo
     }
     let entry = entries.entry(place);
     is_request(&entry.origin, number)
+}
+
+/// Whether an item of a lower aggregator is among these.
+fn has_lower<C: Compress>(entries: &Entries<C>) -> bool
+    ensures { result ≡ has_lower entries.now }
+{
+    'looking: for k in 0..entries.count() {
+        let entry = entries.entry(k);
+        if is_lower(&entry.origin) {
+            return true;
+        }
+    }
+    false
+}
+
+fn is_lower(origin: &Origin) -> bool
+    ensures { result ≡ is_lower origin.now }
+{
+    match origin {
+        Origin::Request(_) => false,
+        Origin::Aggregator(_) => true,
+    }
 }
 
 /// Whether this is the request of the number.

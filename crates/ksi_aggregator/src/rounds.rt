@@ -5,6 +5,7 @@ ghost use Rattle.std.specs.BTreeMap.{get};
 ghost use Rattle.ksi_aggtree.specs.Rounds.{leaf_level, highest_item};
 ghost use Rattle.ksi_aggregator.specs.Rows.{fresh_round, round_request, round_submission, round_close, round_response, round_restarted};
 ghost use Rattle.ksi_aggregator.specs.Rounds.{round_at, items_in, HasPlace, SameRounds, IsTurn, StandsAt};
+ghost use Rattle.ksi_aggregator.specs.Responses.{has_lower};
 ghost use Rattle.ksi_aggregator.specs.Issuing.{IsIssuedAt, NotIssuedAt};
 
 use crate::round::Round;
@@ -49,6 +50,16 @@ impl<C: Compress> Rounds<C> {
         match self.map.get(&second) {
             Some(round) => round.count(),
             None => 0,
+        }
+    }
+
+    /// Whether an item of a lower aggregator stands in the round of a second.
+    pub(crate) fn has_lower(&self, second: u64) -> bool
+        ensures { result ≡ has_lower (items_in (round_at self.now second)) }
+    {
+        match self.map.get(&second) {
+            Some(round) => round.has_lower(),
+            None => false,
         }
     }
 

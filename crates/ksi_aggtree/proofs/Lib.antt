@@ -7,3 +7,4 @@ pub mod Halves
 pub mod Nodes
 pub mod Reaching
 pub mod Metas
+pub mod Again

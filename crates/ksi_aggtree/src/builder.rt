@@ -1,4 +1,4 @@
-ghost use Rattle.std.specs.Prelude.{◌≡◌, ◌++◌, ◌∷◌, [], ◌<◌, ◌≤◌, ◌+◌, ◌↔◌, length, OnErr, IfOk, IfSome};
+ghost use Rattle.std.specs.Prelude.{◌≡◌, ◌++◌, ◌∷◌, [], ◌<◌, ◌≤◌, ◌+◌, ◌↔◌, length, OnErr, IfOk, IsOk, IfSome};
 ghost use Rattle.ksi_aggtree.specs.Names.{IsName};
 ghost use Rattle.ksi_aggchain.specs.Climbing.{Climbs};
 ghost use Rattle.ksi_aggchain.specs.Owned.{plain_links};
@@ -48,12 +48,10 @@ impl<C: Compress> Model for Builder<C> {
 }
 
 impl<C: Compress> Builder<C> {
-    /// A round without items.
-    ///
-    /// # Errors
-    /// `NoMemory`: no round is made.
+    /// A round without items. It takes no memory, and never answers `NoMemory`.
     pub fn new(alloc: Global) -> Result<Self, NoMemory>
-        ensures { IfOk result (λ round. round ≡ []) }
+        ensures empty { IfOk result (λ round. round ≡ []) }
+        ensures memory { IsOk result }
     {
         let none = Item::new(Imprint::ZERO, 0);
         let rows = Rows::new(alloc, 0, none.leaf::<C>())?;
@@ -61,6 +59,11 @@ impl<C: Compress> Builder<C> {
             items: Vec::new(alloc),
             rows,
         })
+    }
+
+    /// What the memory is taken from.
+    pub(crate) fn alloc(&self) -> Global {
+        self.rows.alloc()
     }
 
     /// How many items the round has.

@@ -93,10 +93,10 @@ impl<C: Compress> Entries<C> {
     ///
     /// # Errors
     /// `NoMemory`: no copy is made.
-    pub fn to_vec(&self, alloc: Global) -> Result<Vec<Entry>, NoMemory>
+    pub fn to_vec(&self) -> Result<Vec<Entry>, NoMemory>
         ensures { IfOk result (λ entries. entries.items ≡ self.now) }
     {
-        let mut entries = Vec::with_capacity(alloc, self.count())?;
+        let mut entries = Vec::with_capacity(self.round.alloc(), self.count())?;
         for k in 0..self.count() {
             entries.push_reserved(self.entry(k));
         }

@@ -2,6 +2,7 @@ ghost use Rattle.std.specs.Prelude.{◌≡◌, ◌≤◌, None, IfSome, is_some}
 ghost use Rattle.ksi_aggtree.specs.Names.{IsName};
 ghost use Rattle.ksi_aggtree.specs.Rounds.{leaf, leaf_level, as_node, as_item, with_name, highest_item};
 
+use crate::laws::name_is_kept;
 use crate::name::Name;
 use ksi_aggchain::Node;
 use ksi_imprint::{Compress, Imprint};
@@ -68,7 +69,7 @@ impl Item {
         match &self.name {
             None => false,
             Some(name) => {
-                name.is_a_name();
+                name_is_kept(name);
                 true
             }
         }

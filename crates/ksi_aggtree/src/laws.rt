@@ -14,6 +14,7 @@ ghost use Rattle.ksi_aggtree.specs.Nodes.{node_of, text_of, parts_text, LeadsBel
 ghost use Rattle.ksi_aggtree.specs.Names.{IsName, meta_of};
 ghost use Rattle.ksi_aggtree.specs.Paths.{chain_of, item_way, sides_from_top};
 
+use crate::name::Name;
 use ksi_aggchain::Node;
 use ksi_aggchain::laws::one_climb;
 use ksi_split::laws::{one_answer, one_split, one_way, parts};
@@ -121,4 +122,11 @@ pub(crate) fn no_cap()
 {
     enough_levels::<Node>();
     one_split();
+}
+
+/// What is held as a name is one.
+pub fn name_is_kept(name: &Name)
+    ensures { IsName name.now }
+{
+    let _bytes = name.as_bytes();
 }

@@ -1,4 +1,4 @@
-//! Rounds of an aggregation: their items, the tree over the leaves of these, its root and the chains of the items.
+//! Rounds of an aggregation: their items, the Merkle tree over the leaves of these, its root and the chains of the items.
 //!
 //! The tree of more than one item is cut as `ksi_split` says. Its level is one above the greater level of both parts,
 //! and its imprint is the join of both at that level (Buldas, Kroonmaa, Laanoja, "Keyless Signatures' Infrastructure",
@@ -36,6 +36,7 @@ mod over;
 mod parts;
 mod paths;
 mod reached;
+mod rebuilt;
 mod room;
 mod second;
 mod senders;

@@ -53,13 +53,6 @@ impl Name {
         &self.bytes[..self.length as usize]
     }
 
-    /// What the bytes are, as the type keeps it. It does nothing.
-    pub fn is_a_name(&self)
-        ensures { IsName self.now }
-    {
-        let _ = self.as_bytes();
-    }
-
     /// The metadata that stands for the name in a tree.
     pub fn meta(&self) -> Meta
         ensures meta { result ≡ meta_of self.now }

@@ -136,7 +136,7 @@ fn part<C: Compress>(items: &[Item], last: &Item, first: usize, count: usize, he
 }
 
 /// The item at a place, behind the others the last.
-fn item_or(items: &[Item], last: &Item, place: usize) -> Item
+pub(crate) fn item_or(items: &[Item], last: &Item, place: usize) -> Item
     requires within { place ≤ length items.now }
     requires low { (k : ℕ) → leaf_level (item_at items.now k) ≤ highest_item }
     requires last { leaf_level last.now ≤ highest_item }

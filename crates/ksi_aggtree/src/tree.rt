@@ -1,20 +1,27 @@
 //! The tree over lent items.
-ghost use Rattle.std.specs.Prelude.{◌≡◌, ◌<◌, ◌≤◌, ◌↔◌, ◌++◌, ◌∷◌, [], ℕ, Some, None, length, option_map};
+ghost use Rattle.std.specs.Prelude.{◌≡◌, ◌<◌, ◌≤◌, ◌↔◌, ◌++◌, ◌∷◌, [], ℕ, Some, None, length, option_map, IfOk, IfSome};
 ghost use Rattle.ksi_split.specs.Ways.{LeadsTo};
+ghost use Rattle.ksi_aggchain.specs.Climbing.{Climbs};
+ghost use Rattle.ksi_aggchain.specs.Owned.{plain_links};
+ghost use Rattle.ksi_aggtree.specs.Names.{IsName};
+ghost use Rattle.ksi_aggtree.specs.Paths.{chain_of, item_way, sides_from_top};
 ghost use Rattle.ksi_aggtree.specs.Rounds.{most_items, highest_item, leaf_level, item_at, as_node, IsRound, some_items, tree_from, tree_of};
 ghost use Rattle.ksi_aggtree.specs.Nodes.{node_of, text_of, node_text, LeadsBelow};
 
 use crate::item::Item;
+use crate::item_path::ItemPath;
 use crate::laws::one_part;
 use crate::over::{node_with, parts_with, root_with};
 use crate::parts::NodeParts;
+use crate::rebuilt::rebuilt;
 use ksi_aggchain::Node;
-use ksi_imprint::Compress;
+use ksi_imprint::{Compress, NoMemory};
 use ksi_split::Side;
+use std::alloc::Global;
 use std::marker::{Model, PhantomData};
 
-/// The tree over items that are lent, of which there is one at least. It takes no memory: each node is computed from the
-/// leaves below it, by one join fewer than these are. A contract sees the list of items.
+/// The tree over items that are lent, of which there is one at least. But for a path it takes no memory: each node is
+/// computed from the leaves below it, by one join fewer than these are. A contract sees the list of items.
 #[derive(Drop)]
 pub struct Tree<'a, C: Compress> {
     others: &'a [Item],
@@ -86,5 +93,23 @@ impl<'a, C: Compress> Tree<'a, C> {
         ensures { option_map node_text result ≡ text_of C.image self.now sides.now }
     {
         parts_with::<C>(self.others, self.last, sides)
+    }
+
+    /// The links from item `k`, which is below the count, up to the root, as [`Builder::path`](crate::Builder::path) gives
+    /// them. All nodes are computed for it and let go again.
+    ///
+    /// # Errors
+    /// `NoMemory`: all is as it was.
+    pub fn path(&self, alloc: Global, k: usize) -> Result<ItemPath, NoMemory>
+        requires { k < length self.now }
+        ensures links { IfOk result (λ links. links ≡ chain_of C.image self.now k) }
+        ensures climbs { IfOk result (λ links.
+            Climbs C.image (as_node (item_at self.now k)) (plain_links links) (tree_of C.image self.now)) }
+        ensures way { IfOk result (λ links. sides_from_top links ≡ item_way self.now k) }
+        ensures few { IfOk result (λ links. length links ≤ 17) }
+        ensures name { IfOk result (λ links. IfSome (item_at self.now k).name IsName) }
+    {
+        let round = rebuilt::<C>(alloc, self.others, self.last)?;
+        round.path(k)
     }
 }

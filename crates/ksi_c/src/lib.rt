@@ -25,7 +25,8 @@ use crate::telling::answered;
 pub use crate::told::Told;
 use ksi_check::verify_files;
 use ksi_imprint::{Compress, Imprint, Sha};
-use ksi_signature::{signature_is_read, view};
+use ksi_signature::laws::signature_is_read;
+use ksi_signature::view;
 use ksi_stream::Core256;
 
 /// The number of this interface. A caller compares it with that of its header.

@@ -1,4 +1,5 @@
-//! Hash chains of a calendar: links, climbing along them, and the second that their sides name.
+//! Hash chains of a calendar: links, climbing along them, and the second that their sides name. A chain is an inclusion
+//! proof of a Merkle tree.
 //!
 //! A calendar is a tree over the seconds from 0, and a chain of it leads from the root of one second to the root of all
 //! of them (Buldas, Kroonmaa, Laanoja, "Keyless Signatures' Infrastructure", 2013). Links stand from the bottom.

@@ -1,4 +1,4 @@
-//! The hash calendar: a tree with one leaf for each second of Unix time from 0, its roots and its chains.
+//! The hash calendar: a Merkle tree with one leaf for each second of Unix time from 0, its roots and its chains.
 //!
 //! The leaf of a second before the start is the zero imprint, and that of a second from there on is the root that was
 //! appended for it. The tree over the seconds from 0 to `p` is cut as `ksi_split` says, and its joins have the level

@@ -10,3 +10,4 @@ pub mod Finding
 pub mod Files
 pub mod Again
 pub mod Read
+pub mod Ordered

@@ -7,7 +7,7 @@ use Rattle.ksi_calendar.specs.Calendar.{Seconds, calendar_leaf}
 
 -- for the first m of the n leaves from lo, of which there are at most `most`: nothing where these are all of them and the
 -- given root is that of their tree, else their tree; and where they are not all, what is needed in the part that the first
--- m leaves end in, and then the other part
+-- m leaves end in, and then the other part: SUBPROOF of RFC 9162, 2.1.4.1
 unfoldable pub front_within : {A : Type 0} → (A → A → A) → (ℕ → A) → (most m lo n : ℕ) → (given : Bool) → List A
 front_within join leaf zero m lo n given = []
 front_within join leaf (suc most) m lo n given =

@@ -7,4 +7,5 @@ pub mod Elements
 pub mod File
 pub mod Wanting
 pub mod Written
+pub mod Kinds
 pub mod Reading

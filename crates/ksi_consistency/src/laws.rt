@@ -8,15 +8,16 @@ ghost use Rattle.ksi_consistency.specs.Checked.{front_checked};
 ghost use Rattle.ksi_consistency.specs.declared.fault.FrontFault.{FrontFault};
 ghost use Rattle.ksi_consistency.specs.Elements.{Contents, IsFront};
 ghost use Rattle.ksi_consistency.specs.File.{IsFrontFile, IsFrontFault};
+ghost use Rattle.ksi_consistency.specs.Kinds.{IsInOrder};
 ghost use Rattle.ksi_consistency.specs.Reading.{front_at};
 ghost use Rattle.ksi_consistency.specs.Written.{front_text};
 
 use crate::fault::FrontFault;
 use crate::loading::Loading;
 use ksi_calendar::laws::one_calendar;
-use ksi_order::{walked_says, whole_or_fault};
+use ksi_order::laws::{values_are_bounded, walked_says, whole_or_fault};
 use ksi_split::laws::one_split;
-use ksi_tlv::{numeral_is_read, written_is_read};
+use ksi_tlv::laws::{numeral_is_read, written_is_read};
 
 /// The front of the first leaves in all of them: where these are all leaves it is nothing if the root is given, and else
 /// their tree. Where they are in the left part, it is their front there and then the right part; where they fill the left
@@ -59,6 +60,15 @@ pub fn front_or_fault()
         IsFrontFault bytes fault → IsFrontFault bytes other → fault ≡ other }
 {
     whole_or_fault::<Loading, FrontFault>();
+}
+
+/// What the file of a front says is a front. The elements of the file are those of the front, one for one: their kinds are the
+/// older second, the newer one, then imprints.
+pub fn file_is_front()
+    ensures front { (bytes : List ℕ) (front : Contents) → IsFrontFile bytes front → IsFront front }
+    ensures kinds { (bytes : List ℕ) (front : Contents) → IsFrontFile bytes front → IsInOrder bytes front }
+{
+    values_are_bounded();
 }
 
 /// The text of a front is a file of that front.

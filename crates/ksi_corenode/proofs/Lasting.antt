@@ -33,7 +33,7 @@ module _ (image : List ℕ → List ℕ) (core : CoreState) where
   event_good (events.Respond second) may well = respond_good image (state_of core second) well (λ t. (state_of core t).vote.held) core.start second
   event_good (events.Publish second) may well = still_good image (state_of core second) well _ refl refl
 
-  event_stores : (event : CoreEvent) → Stores (state_of core (event_second event)) (core_row image core event)
+  pub event_stores : (event : CoreEvent) → Stores (state_of core (event_second event)) (core_row image core event)
   event_stores (events.Submission from second item) = submission_stores from item (state_of core second)
   event_stores (events.Seal second) = seal_stores image (state_of core second)
   event_stores (events.Ballot second) = ballot_stores (state_of core second) core.plan second core.me
@@ -99,19 +99,25 @@ restart_is image s well = ap with_candidate (sym well.candidate)
     with_candidate : Option (List ℕ) → SecondState
     with_candidate c = record { vote = record s.vote { candidate = c; hand = None }; open_items = []; sealed = s.sealed }
 
-own_parts : (core : CoreState) (t : ℕ) → ((state_of core t).vote.me ≡ core.me) × ((state_of core t).vote.voters ≡ voters_of core.plan t)
+pub own_parts : (core : CoreState) (t : ℕ) → ((state_of core t).vote.me ≡ core.me) × ((state_of core t).vote.voters ≡ voters_of core.plan t)
 unfolding state_of second_of
 own_parts core t = (refl, refl)
+
+-- a second that is well and has these facts comes back as after a restart
+pub comes_back_at : (image : List ℕ → List ℕ) (me : ℕ) (plan : CorePlanState) (facts : List Fact) (s : SecondState) (other : CoreState) (t : ℕ) → IsOfFacts image me plan facts other →
+    stable_state s ≡ stored_by facts t → IsWell image s → s.vote.me ≡ me → s.vote.voters ≡ voters_of plan t → state_of other t ≡ restart_row s
+comes_back_at image me plan facts s other t are stored well mine voters =
+    are.seconds t
+    ∙ ap (λ (stable : StableState). restored image me (voters_of plan t) stable) (sym stored)
+    ∙ ap (λ (n : ℕ). restored image n (voters_of plan t) (stable_state s)) (sym mine)
+    ∙ ap (λ (vs : List ℕ). restored image s.vote.me vs (stable_state s)) (sym voters)
+    ∙ restart_is image s well
 
 pub comes_back : (image : List ℕ → List ℕ) (plan : CorePlanState) (facts : List Fact) (core other : CoreState) → HasFacts image plan facts core → IsOfFacts image core.me plan facts other →
     (t : ℕ) → state_of other t ≡ restart_row (state_of core t)
 comes_back image plan facts core other has are t =
-    are.seconds t
-    ∙ ap (λ (s : StableState). restored image core.me (voters_of plan t) s) (sym (has.stored t))
-    ∙ ap (λ (p : CorePlanState). restored image core.me (voters_of p t) (stable_state (state_of core t))) (sym has.planned)
-    ∙ ap (λ (n : ℕ). restored image n (voters_of core.plan t) (stable_state (state_of core t))) (sym (own_parts core t).0)
-    ∙ ap (λ (vs : List ℕ). restored image (state_of core t).vote.me vs (stable_state (state_of core t))) (sym (own_parts core t).1)
-    ∙ restart_is image (state_of core t) (has.well t)
+    let parts = own_parts core t in
+    comes_back_at image core.me plan facts (state_of core t) other t are (has.stored t) (has.well t) parts.0 (parts.1 ∙ ap (λ (p : CorePlanState). voters_of p t) has.planned)
 
 -- WHERE NOTHING CHANGES
 

@@ -11,4 +11,5 @@ pub mod Returning
 pub mod Counting
 pub mod Lawfulness
 pub mod Lasting
+pub mod Coming
 pub mod Fitting

@@ -1,5 +1,5 @@
 //! The laws. None of these functions does anything.
-ghost use Rattle.std.specs.Prelude.{◌≡◌, ◌≤◌, ◌<◌, ◌++◌, ◌∷◌, [], ℕ, List, IfSome, Some};
+ghost use Rattle.std.specs.Prelude.{◌≡◌, ◌==◌, if◌then◌else◌, ◌≤◌, ◌<◌, ◌++◌, ◌∷◌, [], ℕ, List, IfSome, option_map, Some};
 ghost use Rattle.ksi_aggtree.specs.declared.item.Item.{Item};
 ghost use Rattle.ksi_synod.specs.declared.messages.SynodMessage.{SynodMessage};
 ghost use Rattle.ksi_synod.specs.CorePlans.{CorePlanState};
@@ -75,4 +75,12 @@ pub fn one_core_of_facts()
         IsOfFacts image me plan facts core → HasFacts image plan facts core }
     ensures restarted { (image : List ℕ → List ℕ) (plan : CorePlanState) (facts : List Fact) (core other : CoreState) → HasFacts image plan facts core →
         IsOfFacts image core.me plan facts other → (t : ℕ) → state_of other t ≡ restart_row (state_of core t) }
+{}
+
+/// A core that comes back with all facts that a core stored and the fact of an event, if any, is that core after this event
+/// and a restart.
+pub fn steps_come_back()
+    ensures { (image : List ℕ → List ℕ) (plan : CorePlanState) (facts : List Fact) (core other : CoreState) (event : CoreEvent) → HasFacts image plan facts core → MayTake core event →
+        IsOfFacts image core.me plan (with_new facts (option_map (fact_of (event_second event)) (core_row image core event).fact)) other →
+        (t : ℕ) → state_of other t ≡ restart_row (if t == event_second event then (core_row image core event).after else state_of core t) }
 {}

@@ -1,4 +1,4 @@
-//! A core of the calendar. For each second it takes items that aggregators submit, seals them, votes with the other cores
+//! A core of the calendar, as a state machine. For each second it takes items that aggregators submit, seals them, votes with the other cores
 //! on the second's root by Lamport's Synod, and answers each aggregator with the way from its item to the calendar.
 //!
 //! A [`Core`] takes one call at a time and answers a [`Step`]: an [`Answer`], the [`Fact`] that is to be stored, if any, and

@@ -5,7 +5,8 @@ ghost use Rattle.ksi_synod.specs.CorePlans.{AreVoters};
 ghost use Rattle.ksi_corenode.specs.Turns.{to_each, told};
 
 use crate::step::Send;
-use ksi_synod::{CorePlan, SynodMessage, Voters, voters_are_cores};
+use ksi_synod::laws::voters_are_cores;
+use ksi_synod::{CorePlan, SynodMessage, Voters};
 
 /// The message to each of so many cores, where there is room.
 pub(crate) fn push_all(cores: u8, message: &SynodMessage, sends: &mut Vec<Send>)

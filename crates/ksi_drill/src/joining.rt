@@ -12,7 +12,7 @@ use ksi_imprint::Sha;
 use ksi_imprint::laws::hashes_are_bytes;
 use ksi_journal::laws::calendar_is_covered;
 use ksi_replay::laws::history_has_a_journal;
-use ksi_signature::signature_is_read;
+use ksi_signature::laws::signature_is_read;
 use ksi_world::World;
 use ksi_world::laws::all_issued;
 

@@ -19,9 +19,9 @@ use ksi_calendar::laws::one_first_missing;
 use ksi_imprint::{Bytes, Compress, Imprint, NoMemory, Refused};
 use ksi_journal::Journal;
 use ksi_journal::laws::{are_bytes, calendar_is_covered};
+use ksi_signature::laws::{shown_is_of_bytes, signature_is_read};
 use ksi_signature::{
-    Bodies, CalendarChain, CalendarLinks, PublicationRecord, SignatureView, WriteRefusal,
-    signature_is_read, view,
+    Bodies, CalendarChain, CalendarLinks, PublicationRecord, SignatureView, WriteRefusal, view,
 };
 use ksi_verifier::laws::aggregation;
 use ksi_verifier::{Aggregated, Refusal, aggregate_view};
@@ -140,7 +140,7 @@ fn counted<C: Compress, L: Ledger>(
     ensures least { IfOk result (λ _. steps.old < steps.new) }
 {
     extended_is_accepted();
-    signature.is_of_its_bytes();
+    shown_is_of_bytes(signature);
     extended_bytes(alloc, journal, signature, p, steps)
 }
 
@@ -186,7 +186,7 @@ fn over_journal<C: Compress, L: Ledger>(
 {
     aggregation();
     one_first_missing();
-    signature.is_of_its_bytes();
+    shown_is_of_bytes(signature);
     let _start = journal.start();
     if let Err(refusal) = check_kept(journal, chains, p, steps) {
         return Err(Refused::Fault(refusal));
@@ -199,7 +199,7 @@ fn over_journal<C: Compress, L: Ledger>(
 fn chains_in<C: Compress>(signature: &SignatureView<'_>) -> Result<Aggregated, ExtendRefusal>
     ensures { result ≡ chains_in C.image (bytes_seen signature.now) }
 {
-    signature.is_of_its_bytes();
+    shown_is_of_bytes(signature);
     match aggregate_view::<C>(signature) {
         Ok(chains) => Ok(chains),
         Err(refusal) => Err(ExtendRefusal::Refused(refusal)),

@@ -15,7 +15,7 @@ ghost use Rattle.ksi_extender.specs.Accepted.{AcceptedBy, LeadsToKept, extended_
 use ksi_calendar::laws::{one_chain, one_covered, one_first_missing};
 use ksi_imprint::Imprint;
 use ksi_journal::laws::calendar_is_covered;
-use ksi_signature::{
+use ksi_signature::laws::{
     extended_is_bytes, extended_is_short, extended_is_signature, signature_is_read,
 };
 use ksi_split::laws::one_way;

@@ -6,8 +6,8 @@
 //! accepted: at the time of its chains, for the input hash of the first, by all publications whose first record of the
 //! second is the journal's root of the calendar to it. The bytes are read once, into a view: no refusal but that of the
 //! new content's size needs memory. [`extend_view`] does the same of a view, and [`extend_counted`] counts the steps over
-//! what is stored, at most 127. The law [`extended_is_accepted`] says of the definition what `extend` says of its answer, and
-//! [`covered_is_extended`] which signatures are not refused, and [`extension_is_bytes`] that bytes are made of bytes.
+//! what is stored, at most 127. The law [`laws::extended_is_accepted`] says of the definition what `extend` says of its answer, and
+//! [`laws::covered_is_extended`] which signatures are not refused, and [`laws::extension_is_bytes`] that bytes are made of bytes.
 //!
 //! ```text
 //! let journal = load::<Sha>(alloc, file)?;
@@ -20,10 +20,9 @@
 #![tactic(auto)]
 
 mod extending;
-mod laws;
+pub mod laws;
 mod refusal;
 
 pub use extending::{extend, extend_counted, extend_view};
 pub use ksi_imprint::{NoMemory, Refused};
-pub use laws::{covered_is_extended, extended_is_accepted, extension_is_bytes};
 pub use refusal::ExtendRefusal;

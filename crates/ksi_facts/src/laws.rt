@@ -33,7 +33,7 @@ ghost use Rattle.ksi_facts.specs.Stored.{AddsStored, RoundAddsStored, core_store
 ghost use Rattle.ksi_facts.specs.Recalled.{IsStableState, IsStableRound, IsInHand, IsRecalled};
 
 use ksi_corenode::laws::rows_store_their_facts;
-use ksi_synod::voters_are_cores;
+use ksi_synod::laws::voters_are_cores;
 
 /// Facts are only added, whatever happens later, and a restart adds none.
 pub fn facts_only_grow()

@@ -1,6 +1,7 @@
 // Signatures that are given another calendar chain and publication record.
 use crate::text::{bytes, hash, is_refused, is_text, sides};
 use ksi_imprint::{Bytes, NoMemory, Refused};
+use ksi_signature::laws::shown_is_of_bytes;
 use ksi_signature::{
     Bodies, CalendarChain, CalendarLinks, PublicationRecord, SignatureView, WithRefusal, view,
     with_calendar,
@@ -46,7 +47,7 @@ fn is_renewed(
     row: &str,
     lent: &SignatureView<'_>,
 ) -> Result<(), Fail> {
-    lent.is_of_its_bytes();
+    shown_is_of_bytes(lent);
     let published = record(alloc, 0)?;
     match lent.with_calendar(alloc, &calendar(alloc), &published) {
         Ok(text) => is_text(rt, alloc, row, text.as_slice()),

@@ -1,4 +1,5 @@
-//! Records of bytes in a file, each behind a gate, so that a crash at any moment leaves nothing but whole records.
+//! Records of bytes in a file, each behind a gate, so that a crash at any moment leaves nothing but whole records: a
+//! write-ahead log.
 //!
 //! The file is a header of a stated length, then records: a gate byte, a length in four bytes, the most significant first, and
 //! the content. Gate 1 is open, any other closed. Behind the last record stands a closed gate. What stands behind the first

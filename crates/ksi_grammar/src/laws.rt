@@ -14,7 +14,7 @@ ghost use Rattle.ksi_grammar.specs.Inside.{whole};
 ghost use Rattle.ksi_grammar.specs.Written.{MayBeWritten};
 ghost use Rattle.ksi_grammar.specs.Published.{published_table, published_in, published_elements, record_table, recorded_in, record_elements};
 
-use ksi_tlv::{numeral_is_read, written_is_read};
+use ksi_tlv::laws::{numeral_is_read, written_is_read};
 
 /// Reading from left to right comes to no fault exactly where the body is whole, and to a fault exactly where it is
 /// the first. A body is whole or has a first fault, and not both.

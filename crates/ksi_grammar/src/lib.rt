@@ -19,7 +19,7 @@ mod content;
 mod fault;
 mod finder;
 mod grammar;
-mod laws;
+pub mod laws;
 mod publication;
 mod reader;
 mod record;
@@ -30,10 +30,6 @@ pub use fault::ElementFault;
 pub use finder::first_inside;
 pub use grammar::{Grammar, missing};
 pub use ksi_imprint::NoMemory;
-pub use laws::{
-    faults_by_table, inside_is_whole, published_is_read, record_is_read, whole_or_fault,
-    written_is_whole,
-};
 pub use publication::{PublishedContent, published, put_short, written_published};
 pub use reader::check;
 pub use record::{RecordContent, recorded, written_record};

@@ -14,7 +14,8 @@ use crate::finder::first_inside;
 use crate::grammar::{Grammar, missing};
 use crate::rule::{Rule, Seen};
 use ksi_imprint::{Bytes, Imprint, Refused};
-use ksi_tlv::{Placed, Writer, numeral_is_read};
+use ksi_tlv::laws::numeral_is_read;
+use ksi_tlv::{Placed, Writer};
 use std::alloc::Global;
 
 const TIME: u16 = 0x02;

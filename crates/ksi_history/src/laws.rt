@@ -28,12 +28,12 @@ ghost use Rattle.ksi_history.specs.Lasting.{AreNotBare, KeepsRoots, LastsTo, Pub
 use ksi_auditor::laws::{audit_shows, decided_tells};
 use ksi_calchain::laws::one_climb;
 use ksi_calendar::laws::{more_is_known, one_chain, one_covered};
-use ksi_extender::{covered_is_extended, extended_is_accepted, extension_is_bytes};
+use ksi_extender::laws::{covered_is_extended, extended_is_accepted, extension_is_bytes};
 use ksi_imprint::laws::hashes_are_bytes;
 use ksi_journal::laws::calendar_is_covered;
 use ksi_replay::laws::{history_has_a_journal, journal_is_of_bytes};
-use ksi_schedule::spelled_is_schedule;
-use ksi_signature::{issued_is_signature, round_links_are_not_bare};
+use ksi_schedule::laws::spelled_is_schedule;
+use ksi_signature::laws::{issued_is_signature, round_links_are_not_bare};
 use ksi_verifier::laws::aggregation;
 use ksi_world::laws::{
     answered_roots, history_is_of_bytes, issued_is_carried, issued_is_joined, published_roots,

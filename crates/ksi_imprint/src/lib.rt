@@ -1,4 +1,4 @@
-//! Imprints: SHA-256 digests behind the byte that names the algorithm, and hashing as a trait.
+//! Imprints: SHA-256 digests (FIPS 180-4) behind the byte that names the algorithm, and hashing as a trait.
 //!
 //! A contract sees an [`Imprint`] as its 33 bytes and [`Bytes`] as their list. The layers above rely on three things:
 //! reading gives exactly the imprint that the bytes or the hex text are, or the fault that stands; `join` and `of` of a

@@ -143,7 +143,7 @@ filter_same p q (suc n) same =
     ∙ sym (filtered q n)
 
 -- the bits of cores are those of the number, as far as they go
-bits_again : (bits n : ℕ) → bits_of (filter (is_bit bits) (cores_below n)) ≡ bits % 2 ^ n
+pub bits_again : (bits n : ℕ) → bits_of (filter (is_bit bits) (cores_below n)) ≡ bits % 2 ^ n
 unfolding bits_of
 bits_again bits zero = sym (mod-one bits)
 bits_again bits (suc n) =

@@ -6,3 +6,6 @@ pub mod Files
 pub mod Texts
 pub mod Again
 pub mod Read
+pub mod Spelled
+pub mod Told
+pub mod Ordered

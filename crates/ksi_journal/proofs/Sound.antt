@@ -71,28 +71,28 @@ bind_ok (Err d) f b e = absurd cc
 abbrev fine : {A F : Type 0} → A → Result A F
 fine a = Ok a
 
-ok_is : {A : Type 0} (a b : A) → fine {A = A} {F = OrderFault} a ≡ Ok b → a ≡ b
+pub ok_is : {A : Type 0} (a b : A) → fine {A = A} {F = OrderFault} a ≡ Ok b → a ≡ b
 ok_is a b e = cc
 
-state_is : (a b : Loaded) → fine {A = Loaded} {F = JournalFault} a ≡ Ok b → a ≡ b
+pub state_is : (a b : Loaded) → fine {A = Loaded} {F = JournalFault} a ≡ Ok b → a ≡ b
 state_is a b e = cc
 
-pair_is : (a b : VotersFrom) → fine {A = VotersFrom} {F = JournalFault} a ≡ Ok b → a ≡ b
+pub pair_is : (a b : VotersFrom) → fine {A = VotersFrom} {F = JournalFault} a ≡ Ok b → a ≡ b
 pair_is a b e = cc
 
-test_ok : {A F : Type 0} (test : Bool) (x : A) (fault : F) (y : A) → cond test (Ok x) (Err fault) ≡ Ok y → (test ≡ true) × (x ≡ y)
+pub test_ok : {A F : Type 0} (test : Bool) (x : A) (fault : F) (y : A) → cond test (Ok x) (Err fault) ≡ Ok y → (test ≡ true) × (x ≡ y)
 test_ok true x fault y e = (refl, cc)
 test_ok false x fault y e = absurd cc
 
-or_named_ok : {A : Type 0} (r : Result A OrderFault) (a : A) → or_named r ≡ Ok a → r ≡ Ok a
+pub or_named_ok : {A : Type 0} (r : Result A OrderFault) (a : A) → or_named r ≡ Ok a → r ≡ Ok a
 or_named_ok (Ok b) a e = cc
 or_named_ok (Err fault) a e = absurd cc
 
-test_ok_or : {A F : Type 0} (test : Bool) (r : Result A F) (fault : F) (y : A) → cond test r (Err fault) ≡ Ok y → (test ≡ true) × (r ≡ Ok y)
+pub test_ok_or : {A F : Type 0} (test : Bool) (r : Result A F) (fault : F) (y : A) → cond test r (Err fault) ≡ Ok y → (test ≡ true) × (r ≡ Ok y)
 test_ok_or true r fault y e = (refl, e)
 test_ok_or false r fault y e = absurd cc
 
-both_true : (b c : Bool) → (b && c) ≡ true → (b ≡ true) × (c ≡ true)
+pub both_true : (b c : Bool) → (b && c) ≡ true → (b ≡ true) × (c ≡ true)
 both_true true c e = (refl, e)
 both_true false c e = absurd cc
 
@@ -117,18 +117,18 @@ bytes_imprint (a ∷ digest) x e = by (eqb a 1) (eqb (length digest) 32) refl re
     by false whole ia id = absurd (let found : imprints.imprint_at (a ∷ digest) ≡ Err (imprints_fault.Algorithm a) = rw ia refl in cc)
 
 -- the first 34 bytes of an item
-record IsHead (most : ℕ) (item : Item) : Type 0 where
-  imprint : IsImprint item.imprint
-  low : item.level ≤ most
-  unnamed : item.name ≡ None
+pub record IsHead (most : ℕ) (item : Item) : Type 0 where
+  pub imprint : IsImprint item.imprint
+  pub low : item.level ≤ most
+  pub unnamed : item.name ≡ None
 
-item_of_ok : (place most level : ℕ) (bytes : List ℕ) (r : Result (List ℕ) ImprintFault) (item : Item) → imprints.imprint_at bytes ≡ r → item_of place most level r ≡ Ok item → IsHead most item
+pub item_of_ok : (place most level : ℕ) (bytes : List ℕ) (r : Result (List ℕ) ImprintFault) (item : Item) → imprints.imprint_at bytes ≡ r → item_of place most level r ≡ Ok item → IsHead most item
 item_of_ok place most level bytes (Ok x) item e is =
     let t = test_ok (leb level most) (record { imprint = x; level = level; name = None }) (orders.Bound place) item is in
     subst (IsHead most) t.1 (record { imprint = bytes_imprint bytes x e; low = leb-true level most t.0; unnamed = refl })
 item_of_ok place most level bytes (Err fault) item e is = absurd cc
 
-head_ok : (most : ℕ) (at : PlacedTlv) (item : Item) → head_in most at ≡ Ok item → IsHead most item
+pub head_ok : (most : ℕ) (at : PlacedTlv) (item : Item) → head_in most at ≡ Ok item → IsHead most item
 unfolding head_in
 head_ok most at item e = item_of_ok at.place most (get_or at.element.body 33 0) (take 33 at.element.body) (imprints.imprint_at (take 33 at.element.body)) item refl e
 
@@ -485,7 +485,7 @@ module _ (image : List ℕ → List ℕ) where
   -- ---- the elements
 
   -- a start stands first, an item in a second alone, and voters behind the start
-  record InPlace (s : Loaded) (kind : ℕ) : Type 0 where
+  pub record InPlace (s : Loaded) (kind : ℕ) : Type 0 where
     start : kind ≡ 1 → s.stage ≡ stages.Start
     item : (kind ≡ 3) ⊎ (kind ≡ 7) → s.stage ≡ stages.Items
     voters : kind ≡ 8 → s.stage ≡ stages.Voters
@@ -494,7 +494,7 @@ module _ (image : List ℕ → List ℕ) where
   stands : (version : Version) (stage : Stage) (kind wanted : ℕ) → kind ≡ wanted → may_stand (kinds_next version stage) kind ≡ true → may_stand (kinds_next version stage) wanted ≡ true
   stands version stage kind wanted e may = subst (λ (k : ℕ). may_stand (kinds_next version stage) k ≡ true) e may
 
-  at_start : (version : Version) (stage : Stage) → may_stand (kinds_next version stage) 1 ≡ true → stage ≡ stages.Start
+  pub at_start : (version : Version) (stage : Stage) → may_stand (kinds_next version stage) 1 ≡ true → stage ≡ stages.Start
   at_start version stages.Start may = refl
   at_start versions.One stages.Voters may = absurd cc
   at_start versions.Two stages.Voters may = absurd cc
@@ -505,7 +505,7 @@ module _ (image : List ℕ → List ℕ) where
   at_start version stages.Publications may = absurd cc
   at_start version stages.End may = absurd cc
 
-  at_item : (version : Version) (stage : Stage) → may_stand (kinds_next version stage) 3 ≡ true → stage ≡ stages.Items
+  pub at_item : (version : Version) (stage : Stage) → may_stand (kinds_next version stage) 3 ≡ true → stage ≡ stages.Items
   at_item version stages.Start may = absurd cc
   at_item versions.One stages.Voters may = absurd cc
   at_item versions.Two stages.Voters may = absurd cc
@@ -525,7 +525,7 @@ module _ (image : List ℕ → List ℕ) where
   at_named version stages.Publications may = absurd cc
   at_named version stages.End may = absurd cc
 
-  at_voters : (version : Version) (stage : Stage) → may_stand (kinds_next version stage) 8 ≡ true → stage ≡ stages.Voters
+  pub at_voters : (version : Version) (stage : Stage) → may_stand (kinds_next version stage) 8 ≡ true → stage ≡ stages.Voters
   at_voters version stages.Start may = absurd cc
   at_voters version stages.Voters may = refl
   at_voters version stages.Seconds may = absurd cc
@@ -535,7 +535,7 @@ module _ (image : List ℕ → List ℕ) where
   at_voters version stages.Publications may = absurd cc
   at_voters version stages.End may = absurd cc
 
-  in_place : (s : Loaded) (kind : ℕ) → may_stand (kinds_next s.version s.stage) kind ≡ true → InPlace s kind
+  pub in_place : (s : Loaded) (kind : ℕ) → may_stand (kinds_next s.version s.stage) kind ≡ true → InPlace s kind
   in_place s kind may = record {
     start = λ e. at_start s.version s.stage (stands s.version s.stage kind 1 e may);
     item = λ which. elim which [
@@ -545,7 +545,7 @@ module _ (image : List ℕ → List ℕ) where
     voters = λ e. at_voters s.version s.stage (stands s.version s.stage kind 8 e may);
   }
 
-  either_kind : (kind : ℕ) → (eqb kind 3 || eqb kind 7) ≡ true → (kind ≡ 3) ⊎ (kind ≡ 7)
+  pub either_kind : (kind : ℕ) → (eqb kind 3 || eqb kind 7) ≡ true → (kind ≡ 3) ⊎ (kind ≡ 7)
   either_kind kind e = by (eqb kind 3) refl e
     where
       by : (three : Bool) → eqb kind 3 ≡ three → (three || eqb kind 7) ≡ true → (kind ≡ 3) ⊎ (kind ≡ 7)
@@ -588,7 +588,7 @@ module _ (image : List ℕ → List ℕ) where
     opened = λ e. absurd cc;
   }
 
-  issued_of : (xs : List (ℕ × List ℕ)) → AllByRecursion (λ (x : ℕ × List ℕ). length x.1 ≤ 60000) xs → AllByRecursion (λ (x : ℕ × List ℕ). x.0 < 2 ^ 64) xs
+  pub issued_of : (xs : List (ℕ × List ℕ)) → AllByRecursion (λ (x : ℕ × List ℕ). length x.1 ≤ 60000) xs → AllByRecursion (λ (x : ℕ × List ℕ). x.0 < 2 ^ 64) xs
       → AllByRecursion (λ (x : ℕ × List ℕ). AreBytes x.1) xs → AllByRecursion IsIssued xs
   issued_of [] short small bytes = tt
   issued_of (x ∷ xs) short small bytes = (record { number = small.0; short = short.0; bytes = bytes.0 }, issued_of xs short.1 small.1 bytes.1)

@@ -8,3 +8,4 @@ pub mod Kept
 pub mod File
 pub mod Reading
 pub mod Written
+pub mod Kinds

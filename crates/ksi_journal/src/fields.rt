@@ -5,7 +5,8 @@ ghost use Rattle.ksi_journal.specs.Elements.{said_at, signature_at, published_at
 ghost use Rattle.ksi_journal.specs.Kept.{view_signature};
 
 use ksi_imprint::Imprint;
-use ksi_order::{Fields, OrderFault, imprint, number, time, values_are_bounded};
+use ksi_order::laws::values_are_bounded;
+use ksi_order::{Fields, OrderFault, imprint, number, time};
 use ksi_tlv::Placed;
 
 /// The longest signature.

@@ -9,15 +9,16 @@ ghost use Rattle.ksi_journal.specs.Calendar.{calendar_of};
 ghost use Rattle.ksi_journal.specs.File.{IsJournalFile, IsJournalFault};
 ghost use Rattle.ksi_journal.specs.declared.version.Version.{Version};
 ghost use Rattle.ksi_journal.specs.Written.{Allows, text_in, journal_text};
+ghost use Rattle.ksi_journal.specs.Kinds.{IsInOrder};
 ghost use Rattle.ksi_journal.specs.Reading.{journal_at};
 
 use crate::fault::JournalFault;
 use crate::loading::Loading;
 use ksi_calendar::laws::one_covered;
 use ksi_imprint::Sha;
-use ksi_order::{walked_says, whole_or_fault};
-use ksi_synod::voters_are_cores;
-use ksi_tlv::{numeral_is_read, written_is_read};
+use ksi_order::laws::{values_are_bounded, walked_says, whole_or_fault};
+use ksi_synod::laws::voters_are_cores;
+use ksi_tlv::laws::{numeral_is_read, reading_is_elements, written_is_read};
 
 /// The seconds of a journal's calendar are those that are covered, and it is the calendar of these by the roots that the
 /// journal keeps: so to each covered second it has their root, and their chains.
@@ -55,6 +56,22 @@ pub fn file_or_fault()
         IsJournalFault image bytes fault → IsJournalFault image bytes other → fault ≡ other }
 {
     whole_or_fault::<Loading<Sha>, JournalFault>();
+}
+
+/// What a journal file holds is a journal. The elements of the file are those of the journal, one for one: their kinds are
+/// the start, then voters, seconds each followed by its items, issued signatures, publications, and the end. In no version
+/// is the text of the journal longer than the file.
+pub fn file_is_journal()
+    ensures journal { (image : List ℕ → List ℕ) (bytes : List ℕ) (journal : Contents) → AreBytes bytes →
+        IsJournalFile image bytes journal → IsJournal image journal }
+    ensures kinds { (image : List ℕ → List ℕ) (bytes : List ℕ) (journal : Contents) → AreBytes bytes →
+        IsJournalFile image bytes journal → IsInOrder bytes journal }
+    ensures shortest { (image : List ℕ → List ℕ) (bytes : List ℕ) (journal : Contents) (version : Version) → AreBytes bytes →
+        IsJournalFile image bytes journal → length (text_in version journal) ≤ length bytes }
+{
+    values_are_bounded();
+    reading_is_elements();
+    numeral_is_read();
 }
 
 /// The text of a journal in a version that allows it is a file of that journal.

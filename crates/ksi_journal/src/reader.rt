@@ -14,7 +14,8 @@ use crate::loading::Loading;
 use crate::parts::Parts;
 use crate::version::Version;
 use ksi_imprint::{Compress, Refused};
-use ksi_order::{values_are_bounded, walk};
+use ksi_order::laws::values_are_bounded;
+use ksi_order::walk;
 use ksi_tlv::after_magic;
 use std::alloc::Global;
 

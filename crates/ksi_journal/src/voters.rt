@@ -9,7 +9,8 @@ use crate::fault::JournalFault;
 use crate::fields::check_rise;
 use crate::loading::named;
 use ksi_order::{Fields, number, time};
-use ksi_synod::{Voters, VotersFrom, voters_are_cores};
+use ksi_synod::laws::voters_are_cores;
+use ksi_synod::{Voters, VotersFrom};
 use ksi_tlv::Placed;
 
 /// The bits of all cores from 0 to 8.

@@ -19,7 +19,8 @@ use ksi_aggtree::{Item, Second};
 use ksi_grammar::put_short;
 use ksi_imprint::{Bytes, Compress, Imprint, NoMemory, Refused};
 use ksi_synod::VotersFrom;
-use ksi_tlv::{Writer, numeral_is_read};
+use ksi_tlv::Writer;
+use ksi_tlv::laws::numeral_is_read;
 use std::alloc::Global;
 
 /// Why a journal is not written in a version.

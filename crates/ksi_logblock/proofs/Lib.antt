@@ -19,3 +19,4 @@ pub mod Showing
 pub mod Strings
 pub mod Trees
 pub mod Standing
+pub mod Ordered

@@ -12,3 +12,4 @@ pub mod Logs
 pub mod LogReading
 pub mod Lines
 pub mod ProofReading
+pub mod Kinds

@@ -11,6 +11,7 @@ ghost use Rattle.ksi_aggchain.specs.Links.{highest_level};
 ghost use Rattle.ksi_logblock.specs.Blocks.{Masked, block_root, items_of, leaf_at, leaves_of, line_at, mask_at, most_lines};
 ghost use Rattle.ksi_logblock.specs.File.{IsProofFile, IsProofFault, proof_text};
 ghost use Rattle.ksi_logblock.specs.Kept.{IsLineLink};
+ghost use Rattle.ksi_logblock.specs.Kinds.{IsInOrder};
 ghost use Rattle.ksi_logblock.specs.Links.{most_links, plain_line_links, sides_of};
 ghost use Rattle.ksi_logblock.specs.declared.logs.LogRefusal.{LogRefusal};
 ghost use Rattle.ksi_logblock.specs.LogReading.{log_at};
@@ -28,9 +29,9 @@ use crate::said::Reading;
 use ksi_aggchain::laws::one_climb;
 use ksi_aggtree::laws::{one_chain, one_round};
 use ksi_beside::laws::beside_a_tree;
-use ksi_order::{walked_says, whole_or_fault};
+use ksi_order::laws::{walked_says, whole_or_fault};
 use ksi_split::laws::{one_answer, one_split, one_way};
-use ksi_tlv::{numeral_is_read, written_is_read};
+use ksi_tlv::laws::{numeral_is_read, written_is_read};
 
 /// The first mask is the hash of the zero imprint and the seed, each later one that of the leaf before and the seed. A leaf is
 /// the join of its line's mask and hash, at level 1.
@@ -117,6 +118,11 @@ pub fn file_or_fault()
 {
     whole_or_fault::<Reading, ProofFault>();
 }
+
+/// The elements of a line's proof in a file are those of the proof, one for one: their kinds are the mask, then links.
+pub fn file_is_in_order()
+    ensures { (bytes : List ℕ) (proof : LineProof) → IsProofFile bytes proof → IsInOrder bytes proof }
+{}
 
 /// What `proof_at` gives is the proof that the bytes are, or their first fault.
 pub fn proof_is_read()

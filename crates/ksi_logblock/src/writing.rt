@@ -12,7 +12,8 @@ use crate::reading::MAGIC;
 use ksi_grammar::put_short;
 use ksi_imprint::{Bytes, NoMemory};
 use ksi_split::Side;
-use ksi_tlv::{Writer, numeral_is_read};
+use ksi_tlv::Writer;
+use ksi_tlv::laws::numeral_is_read;
 use std::alloc::Global;
 
 /// The file of a line's proof.

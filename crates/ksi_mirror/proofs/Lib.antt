@@ -7,6 +7,7 @@ pub mod Joining
 pub mod JoiningMirrors
 pub mod Files
 pub mod Sound
+pub mod Ordered
 pub mod Again
 pub mod Texts
 pub mod Read

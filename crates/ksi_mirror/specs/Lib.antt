@@ -9,5 +9,6 @@ pub mod Elements
 pub mod Loading
 pub mod File
 pub mod Written
+pub mod Kinds
 pub mod Reading
 pub mod Merged

@@ -7,13 +7,15 @@ ghost use Rattle.ksi_mirror.specs.Mirrors.{MirrorState, root_of, list_of, IsMirr
 ghost use Rattle.ksi_mirror.specs.Merging.{MayMerge, Merges, IsMergeRefusal};
 ghost use Rattle.ksi_mirror.specs.Merged.{merged_of, merged_then, SameOrRefused};
 ghost use Rattle.ksi_mirror.specs.File.{IsMirrorFile, IsMirrorFault};
+ghost use Rattle.ksi_mirror.specs.Kinds.{IsInOrder};
 ghost use Rattle.ksi_mirror.specs.Reading.{mirror_at};
 ghost use Rattle.ksi_mirror.specs.Written.{mirror_text};
 
 use crate::loading::MirrorLoading;
+use crate::mirror::Mirror;
 use ksi_journal::JournalFault;
-use ksi_order::{walked_says, whole_or_fault};
-use ksi_tlv::{numeral_is_read, written_is_read};
+use ksi_order::laws::{values_are_bounded, walked_says, whole_or_fault};
+use ksi_tlv::laws::{numeral_is_read, written_is_read};
 
 /// The union of two finite maps that agree: of one map with itself it is that map; it is the same in either order; and
 /// three maps have one in the one order exactly where they have it in the other, and then the same. What a map is in a
@@ -25,6 +27,13 @@ pub fn unions_join<A>()
     ensures agree { (f g h fg : ℕ → Option A) → IsUnion f g fg → AgreeAll fg h → AgreeAll g h }
     ensures absorbs { (f g h : ℕ → Option A) → IsUnion f g h → IsUnion h f h }
 {}
+
+/// What is held as a mirror is one.
+pub fn mirror_is_kept(mirror: &Mirror)
+    ensures { IsMirror mirror.now }
+{
+    let _start = mirror.start();
+}
 
 /// A mirror is what it has: its start, its roots and its lists.
 pub fn mirror_is_what_it_has()
@@ -76,6 +85,15 @@ pub fn merged_is_a_join()
     ensures again { (one two merged : MirrorState) → IsMirror one → IsMirror two →
         merged_of one two ≡ Ok merged → merged_of merged one ≡ Ok merged }
 {}
+
+/// What a mirror's file says is a mirror. The elements of the file are those of the mirror, one for one: their kinds are the
+/// start, then roots, lists each followed by its items, and the end.
+pub fn file_is_mirror()
+    ensures mirror { (bytes : List ℕ) (mirror : MirrorState) → IsMirrorFile bytes mirror → IsMirror mirror }
+    ensures kinds { (bytes : List ℕ) (mirror : MirrorState) → IsMirrorFile bytes mirror → IsInOrder bytes mirror }
+{
+    values_are_bounded();
+}
 
 /// Bytes are a mirror's file or have a first fault, and not both; and they are of one mirror and have one first fault.
 pub fn mirror_or_fault()

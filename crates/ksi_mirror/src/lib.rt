@@ -1,4 +1,4 @@
-//! Mirrors: what of cores is copied elsewhere, merged there in any order, and made a journal.
+//! Mirrors: what of cores is copied elsewhere (a replica), merged there in any order, and made a journal.
 //!
 //! A [`Mirror`] has a start, roots by second, and by second and core the list of items that the core sealed. A contract
 //! sees a record of lists in order; `root_of` and `list_of` say what it has. The layer above may rely on this: [`merge`]

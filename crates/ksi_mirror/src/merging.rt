@@ -1,13 +1,13 @@
 //! The union of two mirrors.
-ghost use Rattle.std.specs.Prelude.{◌≡◌, ◌≢◌, IfOk};
+ghost use Rattle.std.specs.Prelude.{◌≡◌, ◌≢◌, Ok, IfOk};
 ghost use Rattle.ksi_imprint.specs.Refused.{IfRefused, OrNoMemory};
-ghost use Rattle.ksi_mirror.specs.Mirrors.{rank};
+ghost use Rattle.ksi_mirror.specs.Mirrors.{MirrorState, IsMirror, rank};
 ghost use Rattle.ksi_mirror.specs.Keys.{DifferFirst, IsUnited};
-ghost use Rattle.ksi_mirror.specs.Merged.{merged_of};
+ghost use Rattle.ksi_mirror.specs.Merged.{merged_of, merged_then, SameOrRefused};
 ghost use Rattle.ksi_mirror.specs.Merging.{Merges, IsMergeRefusal, AreTrees};
 
 use crate::entries::first_difference;
-use crate::laws::merged_is_merging;
+use crate::laws::{merged_is_a_join, merged_is_merging, mirror_is_kept};
 use crate::mirror::Mirror;
 use crate::parts::MirrorParts;
 use crate::refusal::MergeRefusal;
@@ -16,7 +16,8 @@ use crate::uniting::united;
 use ksi_imprint::{Imprint, Refused};
 use std::alloc::Global;
 
-/// What either mirror has, in one pass over both. Whatever the order, two or three mirrors give the same one or are refused
+/// What either mirror has, in one pass over both. Whatever the order, two or three mirrors give the same one or are refused,
+/// and merging one of them again changes nothing; a mirror merged with itself is that mirror
 /// ([`merged_is_a_join`](crate::laws::merged_is_a_join)).
 ///
 /// # Errors
@@ -27,13 +28,19 @@ pub fn merge(alloc: Global, one: &Mirror, two: &Mirror) -> Result<Mirror, Refuse
     ensures merged { IfOk result (Merges one.now two.now) }
     ensures refused { IfRefused result (IsMergeRefusal one.now two.now) (one.now.start ≡ two.now.start) }
     ensures answer { OrNoMemory (merged_of one.now two.now) result }
+    ensures either { SameOrRefused (merged_of one.now two.now) (merged_of two.now one.now) }
+    ensures any_order { (three : MirrorState) → IsMirror three →
+        SameOrRefused (merged_then (merged_of one.now two.now) (λ first. merged_of first three))
+        (merged_then (merged_of two.now three) (λ second. merged_of one.now second)) }
+    ensures again { IfOk result (λ merged. merged_of merged one.now ≡ Ok merged) }
 {
+    merged_is_a_join();
     merged_is_merging();
-    one.is_mirror();
-    two.is_mirror();
+    mirror_is_kept(one);
+    mirror_is_kept(two);
     match union_of(alloc, one, two) {
         Ok(merged) => {
-            merged.is_mirror();
+            mirror_is_kept(&merged);
             Ok(merged)
         }
         Err(refused) => Err(refused),
@@ -114,8 +121,8 @@ fn first_of_both(
     requires lists { DifferFirst rank one.now.lists two.now.lists lists.0.now lists.1.now }
     ensures { IsMergeRefusal one.now two.now result }
 {
-    one.is_mirror();
-    two.is_mirror();
+    mirror_is_kept(one);
+    mirror_is_kept(two);
     if lists.0.second < roots.0.0 {
         trees(lists.0, lists.1)
     } else {

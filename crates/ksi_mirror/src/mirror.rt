@@ -56,11 +56,4 @@ impl Mirror {
     {
         &self.parts.lists
     }
-
-    /// It is one, as its type keeps it.
-    pub fn is_mirror(&self)
-        ensures { IsMirror self.now }
-    {
-        let _start = self.parts.start;
-    }
 }

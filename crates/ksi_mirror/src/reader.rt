@@ -13,7 +13,8 @@ use crate::mirror::Mirror;
 use crate::parts::MirrorParts;
 use ksi_imprint::Refused;
 use ksi_journal::JournalFault;
-use ksi_order::{values_are_bounded, walk};
+use ksi_order::laws::values_are_bounded;
+use ksi_order::walk;
 use ksi_tlv::after_magic;
 use std::alloc::Global;
 

@@ -10,6 +10,7 @@ ghost use Rattle.ksi_mirror.specs.Mirrors.{rank, rank_at, list_among, IsList};
 ghost use Rattle.ksi_mirror.specs.Whole.{whole_of, seconds_for, second_from, kept_with, first_tree};
 
 use crate::entries::copy_of;
+use crate::laws::mirror_is_kept;
 use crate::mirror::Mirror;
 use crate::refusal::WholeRefusal;
 use crate::sealed_list::SealedList;
@@ -19,7 +20,8 @@ use ksi_journal::{Journal, Parts};
 use std::alloc::Global;
 
 /// The journal of a mirror: its roots, each with the list of the lowest core whose tree has the root, none for the zero
-/// imprint; without voters, issued signatures and publications. Each tree is computed from its list.
+/// imprint; without voters, issued signatures and publications. Each tree is computed from its list. Of merged mirrors of
+/// one history it is the journal of the seconds that are kept (law `mirrors_of_a_history_merge` of `ksi_replay`).
 ///
 /// # Errors
 /// `NoTree` exactly at the first root other than zero without such a list. `NoMemory`.
@@ -30,7 +32,7 @@ pub fn whole<C: Compress>(
 ) -> Result<Journal<C>, Refused<WholeRefusal>>
     ensures { OrNoMemory (whole_of C.image mirror.now) result }
 {
-    mirror.is_mirror();
+    mirror_is_kept(mirror);
     let seconds = match seconds::<C>(alloc, mirror) {
         Ok(seconds) => seconds,
         Err(refused) => return Err(refused),

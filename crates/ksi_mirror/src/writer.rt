@@ -7,7 +7,7 @@ ghost use Rattle.ksi_mirror.specs.Mirrors.{IsMirror};
 ghost use Rattle.ksi_mirror.specs.File.{IsMirrorFile};
 ghost use Rattle.ksi_mirror.specs.Written.{root_element, head_elements, list_element, list_elements, lists_elements, mirror_elements, mirror_text};
 
-use crate::laws::written_is_mirror;
+use crate::laws::{mirror_is_kept, written_is_mirror};
 use crate::loading::{END, ITEM, LIST, NAMED, ROOT, START};
 use crate::mirror::Mirror;
 use crate::reader::MAGIC;
@@ -15,7 +15,8 @@ use crate::sealed_list::SealedList;
 use ksi_aggtree::Item;
 use ksi_grammar::put_short;
 use ksi_imprint::{Bytes, Imprint, NoMemory};
-use ksi_tlv::{Writer, numeral_is_read};
+use ksi_tlv::Writer;
+use ksi_tlv::laws::numeral_is_read;
 use std::alloc::Global;
 
 /// The text of a mirror, which loads again as the mirror.
@@ -27,7 +28,7 @@ pub fn write_mirror(alloc: Global, mirror: &Mirror) -> Result<Bytes, NoMemory>
     ensures again { IfOk result (λ text. IsMirrorFile text mirror.now) }
 {
     written_is_mirror();
-    mirror.is_mirror();
+    mirror_is_kept(mirror);
     let mut magic = Vec::new(alloc);
     magic.extend_from_slice(MAGIC)?;
     let mut writer = Writer::behind(magic);

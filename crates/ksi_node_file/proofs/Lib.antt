@@ -1,3 +1,5 @@
 pub mod Rooms
 pub mod FactsMore
 pub mod Onwards
+pub mod Crashing
+pub mod Calls

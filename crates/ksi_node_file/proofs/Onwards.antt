@@ -33,11 +33,11 @@ run_more : (image : List ℕ → List ℕ) (plan : PlanState) (w : WorldState) (
 run_more image plan w [] e = refl
 run_more image plan w (x ∷ es) e = run_more image plan (happens image plan w x).world es e
 
-after_more : (image : List ℕ → List ℕ) (plan : PlanState) (es : List Event) (e : Event) → after image plan (es ++ e ∷ []) ≡ (happens image plan (after image plan es) e).world
+pub after_more : (image : List ℕ → List ℕ) (plan : PlanState) (es : List Event) (e : Event) → after image plan (es ++ e ∷ []) ≡ (happens image plan (after image plan es) e).world
 unfolding after
 after_more image plan es e = run_more image plan (first_world plan) es e
 
-first_keeps : (image : List ℕ → List ℕ) (plan : PlanState) (j t : ℕ) (core : CoreState) → IsOfFacts image j (core_plan_of plan) [] core → state_of core t ≡ (after image plan []).seconds j t
+pub first_keeps : (image : List ℕ → List ℕ) (plan : PlanState) (j t : ℕ) (core : CoreState) → IsOfFacts image j (core_plan_of plan) [] core → state_of core t ≡ (after image plan []).seconds j t
 unfolding after first_world restored fresh_second votes.fresh_vote
 first_keeps image plan j t core is = is.seconds t
 

@@ -1,2 +1,3 @@
 pub mod CoreFacts
 pub mod Followed
+pub mod Crashed

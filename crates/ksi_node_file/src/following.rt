@@ -13,7 +13,8 @@ use ksi_imprint::{Compress, NoMemory};
 use ksi_nodestore::NodeStore;
 use ksi_nodestore::laws::a_crash_is_a_restart;
 use ksi_schedule::{Event, Plan};
-use ksi_world::{World, events_are_turns};
+use ksi_world::World;
+use ksi_world::laws::events_are_turns;
 use std::alloc::Global;
 
 /// The store of a core before anything happened.

@@ -12,6 +12,7 @@
 #![tactic(auto)]
 
 mod following;
+pub mod laws;
 mod making;
 mod stores;
 

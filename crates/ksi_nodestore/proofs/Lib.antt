@@ -11,3 +11,4 @@ pub mod Tellings
 pub mod Writings
 pub mod Roomy
 pub mod Reasons
+pub mod Crashed

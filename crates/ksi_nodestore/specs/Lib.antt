@@ -9,4 +9,5 @@ pub mod StoreState
 pub mod Refusals
 pub mod Opens
 pub mod Takes
+pub mod Crashes
 pub mod Inspecting

@@ -42,6 +42,15 @@ CountsReads before now (Err (Foreign core cores start)) = now ≡ before
 CountsReads before now (Err (Malformed place)) = now ≡ before
 CountsReads before now (Err NoMemory) = now ≡ before
 
+-- what is read stays, where no call of the disk failed and memory was not wanting
+abbrev pub StaysRead : {T : Type 0} → (before now : List ℕ) → Result T OpenRefusal → Type 0
+StaysRead before now (Ok value) = now ≡ before
+StaysRead before now (Err Failed) = Unit {0}
+StaysRead before now (Err NotFormatted) = now ≡ before
+StaysRead before now (Err (Foreign core cores start)) = now ≡ before
+StaysRead before now (Err (Malformed place)) = now ≡ before
+StaysRead before now (Err NoMemory) = Unit {0}
+
 -- the core of the records of a file
 abbrev pub FoldsAs : (List ℕ → List ℕ) → (me : ℕ) → CorePlanState → List (List ℕ) → Result CoreState OpenRefusal → Type 0
 FoldsAs image me plan records (Ok core) = IsCoreOf image me plan records core
@@ -89,6 +98,15 @@ OpenCounts before faults (Err (NotFormatted, disk)) = faults disk ≡ before
 OpenCounts before faults (Err (Foreign core cores start, disk)) = faults disk ≡ before
 OpenCounts before faults (Err (Malformed place, disk)) = faults disk ≡ before
 OpenCounts before faults (Err (NoMemory, disk)) = faults disk ≡ before
+
+-- the disk's content stays: in the store, and where the refusal is of the file
+abbrev pub StaysOpened : {D : Type 0} → (content : D → List ℕ) → List ℕ → Result (StoreState D) (OpenRefusal × D) → Type 0
+StaysOpened content file (Ok store) = content store.log.disk ≡ file
+StaysOpened content file (Err (Failed, disk)) = Unit {0}
+StaysOpened content file (Err (NotFormatted, disk)) = content disk ≡ file
+StaysOpened content file (Err (Foreign core cores start, disk)) = content disk ≡ file
+StaysOpened content file (Err (Malformed place, disk)) = content disk ≡ file
+StaysOpened content file (Err (NoMemory, disk)) = Unit {0}
 
 abbrev pub HasNotFailed : {D : Type 0} → Result (StoreState D) (OpenRefusal × D) → Type 0
 HasNotFailed (Ok store) = Unit {0}

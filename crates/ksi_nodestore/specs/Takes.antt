@@ -41,7 +41,7 @@ TakeCounts before now (Err Failed) = Raises before now
 TakeCounts before now (Err Spent) = now ≡ before
 TakeCounts before now (Err NoMemory) = now ≡ before
 
--- what a refusal leaves: after a failure the store is spent, and any other leaves it as it was
+-- what a refusal leaves: after a failure the store is spent and its count of records stays, and any other leaves it as it was
 pub record IsUnchanged {D : Type 0} (old new : StoreState D) : Type 0 where
   pub core : IsSame old.core new.core
   pub log : new.log ≡ old.log
@@ -49,7 +49,7 @@ pub record IsUnchanged {D : Type 0} (old new : StoreState D) : Type 0 where
 
 abbrev pub TakeLeaves : {D : Type 0} → (old new : StoreState D) → Result Step TakeRefusal → Type 0
 TakeLeaves old new (Ok step) = new.log.is_spent ≡ false
-TakeLeaves old new (Err Failed) = new.log.is_spent ≡ true
+TakeLeaves old new (Err Failed) = (new.log.is_spent ≡ true) × (new.records ≡ old.records)
 TakeLeaves old new (Err Spent) = (old.log.is_spent ≡ true) × IsUnchanged old new
 TakeLeaves old new (Err NoMemory) = IsUnchanged old new
 

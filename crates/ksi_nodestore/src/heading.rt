@@ -1,9 +1,9 @@
 // Whose file it is.
-ghost use Rattle.std.specs.Prelude.{◌≡◌, ◌<◌, ℕ, List, length, take, OnOk, IsErrOf};
+ghost use Rattle.std.specs.Prelude.{◌≡◌, ◌<◌, ℕ, List, length, take, IsErrOf};
 ghost use Rattle.ksi_disk.specs.Costs.{Affords};
 ghost use Rattle.ksi_gates.specs.Reads.{WroteNothing};
 ghost use Rattle.ksi_nodestore.specs.declared.refusal.OpenRefusal.TheVariants.{Failed};
-ghost use Rattle.ksi_nodestore.specs.Opens.{CountsReads, HeadsAs};
+ghost use Rattle.ksi_nodestore.specs.Opens.{CountsReads, HeadsAs, StaysRead};
 
 use crate::heads::{HEADER, HeaderFault};
 use crate::{OpenRefusal, header};
@@ -20,7 +20,7 @@ pub(crate) fn read_header<D: Disk>(
     requires member { me < plan.now.cores }
     requires len { len ≡ length (D.content disk.old) }
     ensures head { HeadsAs me plan.now (D.content disk.old) result }
-    ensures stays { OnOk result (D.content disk.new ≡ D.content disk.old) }
+    ensures stays { StaysRead (D.content disk.old) (D.content disk.new) result }
     ensures nothing { WroteNothing D.images D.moment D.images_since D.meter disk.old disk.new }
     ensures counted { CountsReads (D.faults disk.old) (D.faults disk.new) result }
     ensures sure { Affords 0 0 (D.meter disk.old) → IsErrOf result Failed → ⊥ }

@@ -1,12 +1,12 @@
 // Opening a node file.
-ghost use Rattle.std.specs.Prelude.{◌≡◌, ◌<◌, ◌+◌, ◌^◌, ℕ, List, length, take, Ok, IfOk, OnOk, IsErrOf};
+ghost use Rattle.std.specs.Prelude.{◌≡◌, ◌<◌, ◌+◌, ◌^◌, ℕ, List, length, take, Ok, OnOk, IsErrOf};
 ghost use Rattle.ksi_disk.specs.Images.{AddsNone, LeavesOnly, Only};
 ghost use Rattle.ksi_disk.specs.Costs.{Affords, Spends};
 ghost use Rattle.ksi_gates.specs.Gates.{place_of, reading_of, records_text};
 ghost use Rattle.ksi_gates.specs.Reads.{WroteNothing};
 ghost use Rattle.ksi_nodestore.specs.declared.refusal.OpenRefusal.TheVariants.{Failed};
 ghost use Rattle.ksi_nodestore.specs.Headers.{header_at};
-ghost use Rattle.ksi_nodestore.specs.Opens.{CountsReads, FindsAs, HasNotFailed, OpenCounts, OpensAs, disk_after};
+ghost use Rattle.ksi_nodestore.specs.Opens.{CountsReads, FindsAs, HasNotFailed, OpenCounts, OpensAs, StaysOpened, StaysRead, disk_after};
 
 use crate::folding::fold_records;
 use crate::found::Found;
@@ -30,7 +30,7 @@ pub(crate) fn read_file<C: Compress, D: Disk>(
 ) -> Result<Found<C>, OpenRefusal>
     requires member { me < plan.now.cores }
     ensures found { FindsAs C.image me plan.now (D.content disk.old) result }
-    ensures stays { OnOk result (D.content disk.new ≡ D.content disk.old) }
+    ensures stays { StaysRead (D.content disk.old) (D.content disk.new) result }
     ensures durable { OnOk result (Only (D.content disk.old) (D.images disk.new)) }
     ensures no_image { AddsNone (D.images disk.old) (D.images disk.new) }
     ensures any_moment { LeavesOnly D.moment D.images_since disk.old disk.new (D.images disk.old) }
@@ -53,7 +53,7 @@ fn read_settled<C: Compress, D: Disk>(
     requires member { me < plan.now.cores }
     requires len { len ≡ length (D.content disk.old) }
     ensures found { FindsAs C.image me plan.now (D.content disk.old) result }
-    ensures stays { OnOk result (D.content disk.new ≡ D.content disk.old) }
+    ensures stays { StaysRead (D.content disk.old) (D.content disk.new) result }
     ensures nothing { WroteNothing D.images D.moment D.images_since D.meter disk.old disk.new }
     ensures counted { CountsReads (D.faults disk.old) (D.faults disk.new) result }
     ensures sure { Affords 0 0 (D.meter disk.old) → IsErrOf result Failed → ⊥ }
@@ -106,7 +106,7 @@ fn place_of(ending: Ending) -> u64
 
 impl<C: Compress, D: Disk> NodeStore<C, D> {
     /// Opens the file of core `me` of a plan, by one sync and reads; nothing is written. The core is that of the facts in the
-    /// file. A refusal hands the disk back: what content it then has is told no further than that it is one of its images.
+    /// file. A refusal hands the disk back: with the same content where it is of the file, and else with one of its images.
     ///
     /// # Errors
     ///
@@ -114,7 +114,7 @@ impl<C: Compress, D: Disk> NodeStore<C, D> {
     pub fn open(alloc: Global, me: u8, plan: &CorePlan, disk: D) -> Result<Self, (OpenRefusal, D)>
         requires member { me < plan.now.cores }
         ensures opens { OpensAs C.image D.content D.images me plan.now (D.content disk) result }
-        ensures stays { IfOk result (λ store. D.content store.log.disk ≡ D.content disk) }
+        ensures stays { StaysOpened D.content (D.content disk) result }
         ensures no_image { AddsNone (D.images disk) (D.images (disk_after result)) }
         ensures any_moment { LeavesOnly D.moment D.images_since disk (disk_after result) (D.images disk) }
         ensures counted { OpenCounts (D.faults disk) D.faults result }

@@ -28,8 +28,8 @@ impl<C: Compress, D: Disk> NodeStore<C, D> {
     ///
     /// # Errors
     ///
-    /// `Failed`, and the disk's count of faults rises; then the store is spent, and each image has the facts before, with
-    /// this event's or without. `Spent` exactly where an earlier event failed so. `NoMemory`: all is as it was.
+    /// `Failed`, and the disk's count of faults rises; then the store is spent, its count of records stays, and each image
+    /// has the facts before, with this event's or without. `Spent` exactly where an earlier event failed so. `NoMemory`: all is as it was.
     pub fn take(&mut self, event: CoreEvent) -> Result<Step, TakeRefusal>
         requires event { MayTake self.old.core event }
         requires asked { IsAsked self.old.core (event_second event) }

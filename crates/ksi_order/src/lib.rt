@@ -19,12 +19,11 @@
 
 mod fault;
 mod field;
-mod laws;
+pub mod laws;
 mod values;
 mod walking;
 
 pub use fault::OrderFault;
 pub use field::Fields;
-pub use laws::{values_are_bounded, walked_says, whole_or_fault};
 pub use values::{imprint, number, time};
 pub use walking::{Ordered, walk};

@@ -7,10 +7,10 @@ ghost use Rattle.ksi_publications.specs.declared.fault.PublicationsFault.{Public
 ghost use Rattle.ksi_publications.specs.File.{IsPublications, IsPublicationsFault, publications_text};
 ghost use Rattle.ksi_publications.specs.Reading.{publications_at};
 
-use ksi_grammar::{
+use ksi_grammar::laws::{
     faults_by_table, inside_is_whole, record_is_read, whole_or_fault, written_is_whole,
 };
-use ksi_tlv::numeral_is_read;
+use ksi_tlv::laws::numeral_is_read;
 
 /// Bytes are a publications file or have a first fault, and not both; and they have one list and one first fault.
 pub fn file_or_fault()

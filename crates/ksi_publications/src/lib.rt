@@ -19,7 +19,7 @@
 
 mod containers;
 mod fault;
-mod laws;
+pub mod laws;
 mod publications;
 mod publications_view;
 mod published;
@@ -29,7 +29,6 @@ mod writer;
 pub use containers::{FileContent, HeaderContent};
 pub use fault::PublicationsFault;
 pub use ksi_imprint::{NoMemory, Refused};
-pub use laws::{file_or_fault, publications_are_read, written_is_publications};
 pub use publications::Publications;
 pub use publications_view::PublicationsView;
 pub use published::Published;

@@ -6,7 +6,7 @@ use crate::containers::{MAGIC, RECORD};
 use crate::fault::PublicationsFault;
 use crate::laws::file_or_fault;
 use crate::reader::{behind_magic, pair_of};
-use ksi_grammar::inside_is_whole;
+use ksi_grammar::laws::inside_is_whole;
 use ksi_imprint::Imprint;
 use ksi_tlv::Elements;
 

@@ -16,9 +16,8 @@ use crate::containers::{FileContent, MAGIC, RECORD};
 use crate::fault::PublicationsFault;
 use crate::laws::file_or_fault;
 use crate::publications::Publications;
-use ksi_grammar::{
-    ElementFault, check, faults_by_table, inside_is_whole, recorded, whole_or_fault,
-};
+use ksi_grammar::laws::{faults_by_table, inside_is_whole, whole_or_fault};
+use ksi_grammar::{ElementFault, check, recorded};
 use ksi_imprint::{Imprint, Refused};
 use ksi_tlv::{Elements, Placed, after_magic};
 use std::alloc::Global;

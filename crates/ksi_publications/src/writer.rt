@@ -11,7 +11,8 @@ use crate::containers::{CREATION, HEADER, MAGIC, RECORD, VERSION};
 use crate::laws::written_is_publications;
 use ksi_grammar::{put_short, written_record};
 use ksi_imprint::{Bytes, Imprint};
-use ksi_tlv::{Writer, numeral_is_read};
+use ksi_tlv::Writer;
+use ksi_tlv::laws::numeral_is_read;
 use std::alloc::Global;
 
 /// A publications file of version 1 with these published times and hashes in this order, without references. Times are

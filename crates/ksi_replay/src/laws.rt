@@ -18,12 +18,11 @@ ghost use Rattle.ksi_replay.specs.Gatherings.{Gathering, ComesTo, HasAllEnds, se
 
 use ksi_imprint::laws::hashes_are_bytes;
 use ksi_mirror::laws::mirror_is_what_it_has;
-use ksi_schedule::spelled_is_schedule;
+use ksi_schedule::laws::spelled_is_schedule;
 use ksi_world::laws::{
     agreement, held_stays, history_is_of_bytes, issued_is_carried, issued_is_short, kept_is_listed,
-    published_is_listed, requests_are_few, validity,
+    published_is_listed, requests_are_few, sealed_is_listed, sealed_stays, validity,
 };
-use ksi_world::sealing::{sealed_is_listed, sealed_stays};
 
 /// The journal of every history is one, whatever is lost, late or repeated and whoever restarts, where what is hashed are
 /// imprints, of bytes; and so it is of every history that a schedule spells, over SHA-256.

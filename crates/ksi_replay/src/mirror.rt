@@ -10,7 +10,7 @@ use crate::journal::imprints_in;
 use ksi_corenode::Core;
 use ksi_imprint::{Compress, Imprint, NoMemory};
 use ksi_mirror::{Mirror, MirrorParts, SealedList};
-use ksi_world::sealing::sealed_is_listed;
+use ksi_world::laws::sealed_is_listed;
 use ksi_world::{World, items_of};
 use std::alloc::Global;
 

@@ -4,6 +4,8 @@
 #![tactic(auto)]
 
 #[cfg(test)]
+mod decided;
+#[cfg(test)]
 mod drills;
 #[cfg(test)]
 mod generated;

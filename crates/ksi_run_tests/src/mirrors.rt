@@ -11,7 +11,7 @@ use std::alloc::Global;
 use std::test::Fail;
 
 /// The whole lines of the first so many tenths of a text.
-fn front(text: &[u8], tenths: usize) -> &[u8] {
+pub(crate) fn front(text: &[u8], tenths: usize) -> &[u8] {
     if tenths >= 10 {
         return text;
     }

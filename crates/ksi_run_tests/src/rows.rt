@@ -1,6 +1,6 @@
 // Rows of text: a verb over a number or a schedule's text, and behind an equals sign what comes of it.
 use crate::same::same;
-use crate::{drills, generated, mirrors, replays};
+use crate::{decided, drills, generated, mirrors, replays};
 use std::alloc::Global;
 use std::fmt::Debug;
 use std::process::Abort;
@@ -11,6 +11,7 @@ fn come_of(alloc: Global, verb: &str, rest: &str) -> Result<String, Fail> {
     let (name, moments) = rest.split_once(' ').unwrap_or((rest, ""));
     match verb {
         "drill" => shown(alloc, &drills::drilled(alloc, name.parse()?)?),
+        "decided" => shown(alloc, &decided::counted(alloc, name.parse()?)),
         "publish" => shown(alloc, &generated::published(alloc, name.parse()?)?),
         "journal" => shown(alloc, &replays::counts(alloc, name)),
         "voters" => shown(alloc, &replays::is_with_voters(alloc, name)),

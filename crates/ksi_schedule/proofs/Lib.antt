@@ -15,5 +15,6 @@ pub mod Fitting
 pub mod Rising
 pub mod Taking
 pub mod Within
+pub mod Laying
 pub mod Asking
 pub mod Wanting

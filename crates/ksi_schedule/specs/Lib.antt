@@ -9,5 +9,6 @@ pub mod Forms
 pub mod Members
 pub mod Lines
 pub mod Spelled
+pub mod Laid
 pub mod Reading
 pub mod Printed

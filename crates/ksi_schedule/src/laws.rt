@@ -4,9 +4,10 @@ ghost use Rattle.ksi_schedule.specs.declared.fault.LineFault.{LineFault};
 ghost use Rattle.ksi_schedule.specs.Events.{History, AskForImprints};
 ghost use Rattle.ksi_schedule.specs.Schedules.{IsSchedule, IsHistory};
 ghost use Rattle.ksi_schedule.specs.Spelled.{IsScheduleText, IsScheduleFault};
+ghost use Rattle.ksi_schedule.specs.Laid.{IsLaidOut};
 ghost use Rattle.ksi_schedule.specs.Reading.{schedule_at};
 
-use ksi_synod::voters_are_cores;
+use ksi_synod::laws::voters_are_cores;
 
 /// A text is a schedule or has a first fault, and not both; it is one schedule, and it has one first fault.
 pub fn schedule_or_fault()
@@ -31,3 +32,9 @@ pub fn spelled_is_schedule()
 {
     voters_are_cores();
 }
+
+/// The lines of a schedule stand in one order: the version, how many cores there are and the start; then a line for each
+/// change of voters, one for each aggregator, and one for each event. Each line's first word is that of what it says.
+pub fn spelled_is_laid_out()
+    ensures { (text : List ℕ) (h : History) → IsScheduleText text h → IsLaidOut text h }
+{}

@@ -5,7 +5,7 @@
 //! events, each with an actor and a second of the plan. The layers above may rely on this: [`read_schedule`] gives exactly
 //! the schedule that the lines of a text say, or the first line that is not as it must be, with its fault; what [`print`]
 //! gives is a text that says the schedule again. Every text says one schedule or has one first fault, and not both, and
-//! what it says is within the limits, by the laws [`schedule_or_fault`] and [`spelled_is_schedule`]. Reading goes over the
+//! what it says is within the limits, by the laws [`laws::schedule_or_fault`] and [`laws::spelled_is_schedule`]. Reading goes over the
 //! text once and keeps nothing but the schedule's own lists. [`read_number`] reads a number of decimal digits, in a
 //! schedule and in a command's words alike.
 //!
@@ -24,7 +24,7 @@ mod decimal;
 mod event;
 mod fault;
 mod growing;
-mod laws;
+pub mod laws;
 mod members;
 mod parent;
 mod plan;
@@ -41,7 +41,6 @@ pub use event::Event;
 pub use fault::{LineFault, ScheduleFault};
 pub use ksi_aggtree::Name;
 pub use ksi_imprint::{NoMemory, Refused};
-pub use laws::{schedule_is_read, schedule_or_fault, spelled_is_schedule};
 pub use parent::Parent;
 pub use plan::{Parents, Plan};
 pub use printing::print;

@@ -17,7 +17,8 @@ use crate::version::Version;
 use itoa::Buffer;
 use ksi_aggtree::Name;
 use ksi_imprint::{Bytes, Imprint, NoMemory};
-use ksi_synod::{CorePlan, Voters, VotersFrom, voters_are_cores};
+use ksi_synod::laws::voters_are_cores;
+use ksi_synod::{CorePlan, Voters, VotersFrom};
 use std::alloc::Global;
 
 // A word of a line.

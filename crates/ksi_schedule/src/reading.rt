@@ -23,7 +23,7 @@ use crate::rows::{event, is, parent};
 use crate::schedule::{Events, Schedule};
 use crate::version::Version;
 use ksi_imprint::Refused;
-use ksi_synod::{CorePlan, Voters};
+use ksi_synod::{CorePlan, PLAN_SECONDS, TOO_LATE, Voters};
 use std::alloc::Global;
 
 const AGGREGATORS: usize = 4096;
@@ -31,7 +31,7 @@ const AGGREGATORS: usize = 4096;
 const EVENTS: usize = 1_000_000;
 
 // 2^63 - 2^24.
-const LAST_START: u64 = 0x7fff_ffff_ff00_0000;
+const LAST_START: u64 = TOO_LATE - PLAN_SECONDS;
 
 /// The schedule that the text spells.
 ///

@@ -9,9 +9,7 @@ use crate::fault::LineFault;
 use crate::plan::Plan;
 use ksi_aggtree::Name;
 use ksi_imprint::Imprint;
-
-// How many seconds a schedule may name.
-const SECONDS: u64 = 0x100_0000;
+use ksi_synod::PLAN_SECONDS;
 
 pub(crate) fn core(plan: &Plan, word: &[u8]) -> Result<u8, LineFault>
     ensures value { result ≡ core_at plan.now word.now }
@@ -43,7 +41,7 @@ pub(crate) fn second(plan: &Plan, word: &[u8]) -> Result<u64, LineFault>
     ensures there { IfOk result (λ t. InRange plan.now t) }
 {
     let n = number(word)?;
-    if plan.start() <= n && n - plan.start() < SECONDS {
+    if plan.start() <= n && n - plan.start() < PLAN_SECONDS {
         Ok(n)
     } else {
         Err(LineFault::SecondOutOfRange)

@@ -17,6 +17,7 @@ pub mod LinkParts
 pub mod HeadViews
 pub mod PartsSeen
 pub mod PartsLeft
+pub mod BodiesLeft
 pub mod Seen
 pub mod Gathered
 pub mod Renewed

@@ -22,7 +22,8 @@ use ksi_calchain::CalendarLink;
 use ksi_grammar::{put_short, written_published};
 use ksi_imprint::{Bytes, Imprint, Refused};
 use ksi_split::Side;
-use ksi_tlv::{Writer, numeral_is_read};
+use ksi_tlv::Writer;
+use ksi_tlv::laws::numeral_is_read;
 use std::alloc::Global;
 
 /// The longest body of an element.

@@ -15,7 +15,7 @@ use crate::contents::{imprint_of, side_of, time_of};
 use crate::head::CalendarHead;
 use crate::kinds::{AGGREGATION_TIME, INPUT_HASH, LEFT_LINK, PUBLICATION_TIME, RIGHT_LINK};
 use ksi_calchain::CalendarLink;
-use ksi_grammar::inside_is_whole;
+use ksi_grammar::laws::inside_is_whole;
 use ksi_tlv::{Elements, Placed};
 
 /// All of an accepted calendar chain but its links.

@@ -8,8 +8,9 @@ ghost use Rattle.ksi_signature.specs.HeadViews.{view_head};
 
 use crate::head::Head;
 use crate::index_parts::IndexParts;
+use crate::link_parts::SiblingView;
 use crate::link_views::LinkViews;
-use crate::link_walking::{bare_in, climb_in, links_in, shape_in};
+use crate::link_walking::{bare_in, climb_in, links_in, shape_in, sibling_in};
 use crate::walking::head_in;
 use crate::within::{chain_is_limited, imprint_in_chain, parts_are_numbers};
 use ksi_aggchain::{LevelFault, Node};
@@ -26,7 +27,7 @@ pub struct ChainView<'a> {
 }
 
 impl<'a> ChainView<'a> {
-    ghost use Rattle.std.specs.Prelude.{◌≡◌, ◌<◌, ◌≤◌, ◌^◌, Ok, length, map, option_map};
+    ghost use Rattle.std.specs.Prelude.{◌≡◌, ◌<◌, ◌≤◌, ◌^◌, Ok, length, map, option_map, slice_get};
     ghost use Rattle.std.specs.List.{AllByRecursion};
     ghost use Rattle.ksi_aggchain.specs.Climbing.{climbed};
     ghost use Rattle.ksi_aggchain.specs.Links.{first_bare};
@@ -41,6 +42,7 @@ impl<'a> ChainView<'a> {
     ghost use Rattle.ksi_signature.specs.Kept.{IsLink};
     ghost use Rattle.ksi_signature.specs.PartsLeft.{parts_left};
     ghost use Rattle.ksi_signature.specs.PartsSeen.{chain_seen};
+    ghost use Rattle.ksi_signature.specs.LinkParts.{view_sibling};
 
     /// The chain that an accepted element is.
     pub(crate) fn new(at: &Placed<'a>) -> Self
@@ -101,6 +103,15 @@ impl<'a> ChainView<'a> {
     {
         chain_is_limited(&self.at);
         links_in(&self.at)
+    }
+
+    /// The sibling of the link at a place, of the lowest at place 0: none past the last. A name in the old form is told from
+    /// metadata here.
+    #[tactic(auto, unfolding(crate::specs::Contents::chain_in))]
+    pub fn sibling(&self, place: usize) -> Option<SiblingView<'a>>
+        ensures { option_map view_sibling result ≡ option_map (λ link. link.sibling) (slice_get (chain_seen self.now).links place) }
+    {
+        sibling_in(&self.at, place)
     }
 
     /// The shape of the links.

@@ -13,7 +13,7 @@ ghost use Rattle.ksi_signature.specs.Gathered.{BeginsChains};
 use crate::chain_list::ChainList;
 use crate::chain_view::ChainView;
 use crate::kinds::CHAIN;
-use ksi_grammar::inside_is_whole;
+use ksi_grammar::laws::inside_is_whole;
 use ksi_tlv::{Elements, Placed};
 
 pub(crate) fn chains_in<'a>(at: &Placed<'a>) -> ChainList<'a>

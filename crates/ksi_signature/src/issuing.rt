@@ -19,7 +19,8 @@ use crate::refusal::WriteRefusal;
 use ksi_aggchain::{Link, shape};
 use ksi_grammar::put_short;
 use ksi_imprint::{Bytes, Imprint, Refused};
-use ksi_tlv::{Writer, numeral_is_read};
+use ksi_tlv::Writer;
+use ksi_tlv::laws::numeral_is_read;
 use std::alloc::Global;
 
 /// The bytes of the signature of an item in a second: its own chain in its round, which leads from its imprint, then the

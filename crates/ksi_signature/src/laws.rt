@@ -16,6 +16,7 @@ ghost use Rattle.ksi_signature.specs.declared.fault.SignatureFault.{SignatureFau
 ghost use Rattle.ksi_signature.specs.declared.signature.Signature.{Signature};
 ghost use Rattle.ksi_signature.specs.File.{IsSignature, IsSignatureFault, answer_of};
 ghost use Rattle.ksi_signature.specs.Reading.{elements_in, signature_at};
+ghost use Rattle.ksi_signature.specs.Seen.{seen, bytes_seen};
 ghost use Rattle.ksi_signature.specs.Kept.{IsCalendar, IsPublishing, IsLimited, IsLent};
 ghost use Rattle.ksi_signature.specs.Above.{AreRoundLinks};
 ghost use Rattle.ksi_signature.specs.Carried.{MayBeIssued, IsOfBytes, CalendarOfBytes};
@@ -23,10 +24,12 @@ ghost use Rattle.ksi_signature.specs.Issued.{issued};
 ghost use Rattle.ksi_signature.specs.Extended.{extended_content, extended_text, renewed};
 ghost use Rattle.ksi_signature.specs.Written.{signature_text, sizes_of, first_long};
 
-use ksi_grammar::{
+use crate::signature_view::SignatureView;
+use crate::within::are_bytes;
+use ksi_grammar::laws::{
     inside_is_whole, published_is_read, record_is_read, whole_or_fault, written_is_whole,
 };
-use ksi_tlv::{
+use ksi_tlv::laws::{
     canonical_is_shortest, front_by_spelling, numeral_is_read, reading_is_elements, written_is_read,
 };
 
@@ -163,3 +166,13 @@ pub fn extended_is_bytes()
         length (extended_content bytes chain (record { time = time; hash = hash; references = []; repositories = [] })) ≤ 65535 →
         AreBytes (extended_text bytes chain (record { time = time; hash = hash; references = []; repositories = [] })) }
 {}
+
+/// What a view shows is the signature that its bytes are.
+pub fn shown_is_of_bytes(view: &SignatureView<'_>)
+    ensures signature { IsSignature (bytes_seen view.now) (seen view.now) }
+    ensures read { signature_at (bytes_seen view.now) ≡ Ok (seen view.now) }
+    ensures bytes { AreBytes (bytes_seen view.now) }
+{
+    signature_is_read();
+    are_bytes(view.bytes);
+}

@@ -8,7 +8,7 @@
 //! exactly one of signature and fault stands; chains stand by falling number of index parts; and the types and the calls
 //! of a view keep what the format limits: 1 to 16 chains, an index of 1 part or more, at most 63 links, raw siblings of 1
 //! to 4,096 bytes, and times below 2^63. What [`write`] gives is the text of
-//! the signature, and is that signature again ([`written_is_signature`]); it refuses the first body, in the order of
+//! the signature, and is that signature again ([`laws::written_is_signature`]); it refuses the first body, in the order of
 //! writing and an inner one before an outer, that has more than 65,535 bytes.
 //!
 //! [`with_calendar`] gives a signature another calendar chain and publication record, all else that is passed on byte for
@@ -30,6 +30,7 @@ mod above;
 mod answer;
 mod arrays;
 mod bodies;
+mod body_views;
 mod calendar_link_views;
 mod calendar_view;
 mod calendar_walking;
@@ -47,7 +48,7 @@ mod head;
 mod index_parts;
 mod issuing;
 mod kinds;
-mod laws;
+pub mod laws;
 mod lengths;
 mod link_parts;
 mod link_views;
@@ -68,6 +69,7 @@ mod writer;
 
 pub use above::{Above, AboveChain, AboveChains, AboveLinks};
 pub use answer::Answer;
+pub use body_views::BodyViews;
 pub use calendar_link_views::CalendarLinkViews;
 pub use calendar_view::CalendarView;
 pub use chain_view::ChainView;
@@ -78,11 +80,7 @@ pub use fault::SignatureFault;
 pub use index_parts::IndexParts;
 pub use issuing::issue;
 pub use ksi_imprint::{NoMemory, Refused};
-pub use laws::{
-    chains_are_within, chains_in_order, extended_is_bytes, extended_is_short,
-    extended_is_signature, issued_is_bytes, issued_is_signature, round_links_are_not_bare,
-    signature_is_read, signature_or_fault, written_is_signature,
-};
+pub use link_parts::SiblingView;
 pub use link_views::LinkViews;
 pub use lists::{Bodies, CalendarLinks, Chains, Index, Links};
 pub use reader::read;

@@ -7,10 +7,11 @@ pub(crate) struct LinkParts<'a> {
     pub(crate) sibling: SiblingView<'a>,
 }
 
-/// A sibling, lent.
+/// A sibling, lent: the 33 bytes of an imprint, or raw bytes.
 #[derive(Clone, Copy)]
-pub(crate) enum SiblingView<'a> {
+pub enum SiblingView<'a> {
     Imprint(&'a [u8]),
+    /// A name in the old form.
     Legacy(&'a [u8]),
     Metadata(&'a [u8]),
 }

@@ -1,6 +1,6 @@
 //! Walks over the links of an accepted aggregation chain.
 
-ghost use Rattle.std.specs.Prelude.{◌≡◌, ◌==◌, ◌||◌, map, Ok};
+ghost use Rattle.std.specs.Prelude.{◌≡◌, ◌==◌, ◌||◌, map, option_map, slice_get, Ok};
 ghost use Rattle.ksi_aggchain.specs.Links.{first_bare};
 ghost use Rattle.ksi_aggchain.specs.Owned.{plain_link, plain_links};
 ghost use Rattle.ksi_aggchain.specs.Climbing.{climbed};
@@ -20,7 +20,7 @@ use crate::link_parts::{LinkParts, SiblingView};
 use crate::link_views::LinkViews;
 use ksi_aggchain::laws::one_shape;
 use ksi_aggchain::{LevelFault, LinkView, Node, climb_link, is_bare, with_leading_one, with_side};
-use ksi_grammar::inside_is_whole;
+use ksi_grammar::laws::inside_is_whole;
 use ksi_imprint::Compress;
 use ksi_tlv::{Elements, Placed};
 
@@ -84,6 +84,38 @@ pub(crate) fn bare_in(at: &Placed<'_>) -> Option<usize>
         }
     }
     None
+}
+
+/// The sibling of the link at a place of an accepted chain, none past the last.
+#[tactic(auto, unfolding(crate::specs::Contents::link_in))]
+pub(crate) fn sibling_in<'a>(at: &Placed<'a>, place: usize) -> Option<SiblingView<'a>>
+    requires { inner_verdict chain_table (view_placed at.now) ≡ Ok tt }
+    ensures { option_map view_sibling result ≡ option_map (λ link. link.sibling) (slice_get (links_among (inner_elements (view_placed at.now))) place) }
+{
+    inside_is_whole();
+    let mut left = place;
+    let mut elements = Elements::at(at.inside, at.element.body);
+    while let Some(item) = elements.next() {
+        if let Ok(part) = item {
+            if is_link(&part) {
+                if left == 0 {
+                    return Some(sibling_at(&part));
+                }
+                left -= 1;
+            }
+        }
+    }
+    None
+}
+
+/// The sibling of an accepted link.
+#[tactic(auto, unfolding(crate::specs::Contents::link_in))]
+fn sibling_at<'a>(at: &Placed<'a>) -> SiblingView<'a>
+    requires { inner_verdict link_table (view_placed at.now) ≡ Ok tt }
+    ensures { view_sibling result ≡ (link_in (view_placed at.now)).sibling }
+{
+    let parts = link_parts_in(at);
+    parts.sibling
 }
 
 /// The shape of the links of an accepted chain.

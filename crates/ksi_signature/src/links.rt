@@ -18,7 +18,7 @@ use crate::link_walking::link_parts_in;
 use crate::lists::Links;
 use crate::within::{link_is_limited, read_imprint};
 use ksi_aggchain::{Link, Sibling};
-use ksi_grammar::inside_is_whole;
+use ksi_grammar::laws::inside_is_whole;
 use ksi_imprint::Bytes;
 use ksi_tlv::{Elements, Placed};
 use std::alloc::Global;

@@ -3,6 +3,8 @@ ghost use Rattle.ksi_tlv.specs.Views.{view_placed};
 ghost use Rattle.ksi_grammar.specs.Reading.{inner_verdict};
 ghost use Rattle.ksi_grammar.specs.Published.{record_table};
 
+use crate::body_views::BodyViews;
+use crate::kinds::{REFERENCE, REPOSITORY};
 use crate::within::recorded_below;
 use ksi_imprint::Imprint;
 use ksi_tlv::Placed;
@@ -21,6 +23,7 @@ impl<'a> RecordView<'a> {
     ghost use Rattle.ksi_grammar.specs.Published.{record_table};
     ghost use Rattle.ksi_signature.specs.Contents.{publishing_in};
     ghost use Rattle.ksi_signature.specs.PartsSeen.{record_seen};
+    ghost use Rattle.ksi_signature.specs.BodiesLeft.{bodies_left};
 
     /// The record that an accepted element is.
     pub(crate) fn new(at: &Placed<'a>) -> Self
@@ -47,5 +50,21 @@ impl<'a> RecordView<'a> {
     {
         let (_, hash) = recorded_below(&self.at);
         hash
+    }
+
+    /// Where it was printed, each reference in turn.
+    #[tactic(auto, unfolding(crate::specs::Contents::publishing_in))]
+    pub fn references(&self) -> BodyViews<'a>
+        ensures { bodies_left result ≡ (record_seen self.now).references }
+    {
+        BodyViews::new(&self.at, REFERENCE)
+    }
+
+    /// The addresses of repositories that have it, in turn.
+    #[tactic(auto, unfolding(crate::specs::Contents::publishing_in))]
+    pub fn repositories(&self) -> BodyViews<'a>
+        ensures { bodies_left result ≡ (record_seen self.now).repositories }
+    {
+        BodyViews::new(&self.at, REPOSITORY)
     }
 }

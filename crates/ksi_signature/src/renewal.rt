@@ -1,4 +1,4 @@
-//! A lent signature with another calendar chain, and the law that it is the signature of its bytes.
+//! A lent signature with another calendar chain.
 
 ghost use Rattle.std.specs.Prelude.{◌≡◌, ◌↔◌, ◌≤◌, ℕ, Ok, Err, IfOk, length};
 ghost use Rattle.ksi_imprint.specs.declared.refused.Refused.TheVariants as refused;
@@ -12,14 +12,14 @@ ghost use Rattle.ksi_signature.specs.Seen.{seen, bytes_seen};
 use crate::bodies::LONGEST;
 use crate::carried::{calendar_is_kept, record_is_kept};
 use crate::extension::{content_size, text_with};
-use crate::laws::{extended_is_signature, signature_is_read};
+use crate::laws::{extended_is_signature, shown_is_of_bytes};
 use crate::refusal::WriteRefusal;
 use crate::signature::{CalendarChain, PublicationRecord};
 use crate::signature_view::SignatureView;
 use crate::within::are_bytes;
-use ksi_grammar::whole_or_fault;
+use ksi_grammar::laws::whole_or_fault;
 use ksi_imprint::{Bytes, NoMemory, Refused};
-use ksi_tlv::{front_by_spelling, reading_is_elements};
+use ksi_tlv::laws::{front_by_spelling, reading_is_elements};
 use std::alloc::Global;
 
 impl SignatureView<'_> {
@@ -47,7 +47,7 @@ impl SignatureView<'_> {
         calendar_is_kept(calendar);
         record_is_kept(publication);
         are_bytes(self.bytes);
-        self.is_of_its_bytes();
+        shown_is_of_bytes(self);
         let total = content_size(self.bytes, &self.at, calendar, publication);
         if total > LONGEST {
             return Err(Refused::Fault(WriteRefusal::TooLong(total)));
@@ -56,15 +56,5 @@ impl SignatureView<'_> {
             Ok(text) => Ok(text),
             Err(NoMemory) => Err(Refused::NoMemory),
         }
-    }
-
-    /// What is shown is the signature that the bytes are. This does nothing.
-    pub fn is_of_its_bytes(&self)
-        ensures signature { IsSignature (bytes_seen self.now) (seen self.now) }
-        ensures read { signature_at (bytes_seen self.now) ≡ Ok (seen self.now) }
-        ensures bytes { AreBytes (bytes_seen self.now) }
-    {
-        signature_is_read();
-        are_bytes(self.bytes);
     }
 }

@@ -12,7 +12,7 @@ ghost use Rattle.ksi_signature.specs.HeadViews.{view_head};
 use crate::contents::{number_of, time_of};
 use crate::head::Head;
 use crate::kinds::{AGGREGATION_TIME, INDEX_PART, INPUT_DATA, INPUT_HASH};
-use ksi_grammar::inside_is_whole;
+use ksi_grammar::laws::inside_is_whole;
 use ksi_tlv::{Elements, Placed};
 
 /// All of an accepted chain but its index and its links.

@@ -13,7 +13,8 @@ ghost use Rattle.ksi_signature.specs.Contents.{link_in, chain_in, calendar_in, s
 ghost use Rattle.ksi_signature.specs.Heads.{parts_pass};
 ghost use Rattle.ksi_signature.specs.Kept.{IsLink, IsLent, IsCalendar};
 
-use ksi_grammar::{inside_is_whole, recorded};
+use ksi_grammar::laws::inside_is_whole;
+use ksi_grammar::recorded;
 use ksi_imprint::Imprint;
 use ksi_tlv::Placed;
 

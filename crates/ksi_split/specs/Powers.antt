@@ -19,7 +19,7 @@ unfoldable pub split_within : ℕ → ℕ → ℕ
 split_within zero n = 1
 split_within (suc level) n = if nat_lt (2 ^ level) n then 2 ^ level else split_within level n
 
--- the greatest power of two below n, for n above 1
+-- the greatest power of two below n, for n above 1: the k of RFC 9162, 2.1.1
 unfoldable pub split_of : ℕ → ℕ
 split_of n = split_within n n
 

@@ -1,5 +1,5 @@
 //! Where a tree over numbered leaves is cut, the ways from its top to its leaves, the second that a way names, and trees
-//! that grow by leaves at their end.
+//! that grow by leaves at their end. The cut is that of a Merkle tree in RFC 9162, 2.1.1.
 //!
 //! A tree of more than one leaf is cut at the greatest power of two below the number of its leaves: so many stand
 //! under its left part, the others under its right part (Buldas, Kroonmaa, Laanoja, "Keyless Signatures'

@@ -1,4 +1,4 @@
-ghost use Rattle.std.specs.Prelude.{◌≡◌, ◌++◌, ◌∷◌, [], ℕ, ◌<◌, ◌≤◌, ◌+◌, ◌-◌, ◌*◌, ◌^◌, length, OnOk, OnErr, IfOk};
+ghost use Rattle.std.specs.Prelude.{◌≡◌, ◌++◌, ◌∷◌, [], ℕ, ◌<◌, ◌≤◌, ◌+◌, ◌-◌, ◌*◌, ◌^◌, length, OnOk, OnErr, IfOk, IsOk};
 ghost use Rattle.ksi_split.specs.Upward.{halves, whole};
 ghost use Rattle.ksi_split.specs.Trees.{tree, path_of, node_at};
 ghost use Rattle.ksi_split.specs.Leaves.{leaf_of};
@@ -39,13 +39,15 @@ impl<N: Copy, J: Joins<N>> Model for Rows<N, J> {
 }
 
 impl<N: Copy, J: Joins<N>> Rows<N, J> {
-    /// No leaf yet behind the first `start`, which are all `before`; `start` is at most 2^63.
+    /// No leaf yet behind the first `start`, which are all `before`; `start` is at most 2^63. Without leaves before the
+    /// first it takes no memory.
     ///
     /// # Errors
     /// `NoMemory`: no rows are made.
     pub fn new(alloc: Global, start: u64, before: N) -> Result<Self, NoMemory>
         requires { start ≤ 2 ^ 63 }
-        ensures { IfOk result (λ rows. rows ≡ record { start = start; before = before; items = [] }) }
+        ensures made { IfOk result (λ rows. rows ≡ record { start = start; before = before; items = [] }) }
+        ensures sure { start ≡ 0 → IsOk result }
     {
         let zeros = Zeros::new(alloc, start, before)?;
         Ok(Rows {

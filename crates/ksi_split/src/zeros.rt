@@ -1,4 +1,4 @@
-ghost use Rattle.std.specs.Prelude.{◌≡◌, ◌<◌, ◌≤◌, ◌+◌, ◌^◌, ℕ, slice_index_or, IfOk, length};
+ghost use Rattle.std.specs.Prelude.{◌≡◌, ◌<◌, ◌≤◌, ◌+◌, ◌^◌, ℕ, slice_index_or, IfOk, IsOk, length};
 ghost use Rattle.ksi_split.specs.Upward.{halves};
 ghost use Rattle.ksi_split.specs.Stored.{zero_part};
 
@@ -28,6 +28,7 @@ impl<N: Copy, J: Joins<N>> Zeros<N, J> {
     pub(crate) fn new(alloc: Global, start: u64, leaf: N) -> Result<Self, NoMemory>
         ensures start { IfOk result (λ zeros. zeros.start ≡ start) }
         ensures leaf { IfOk result (λ zeros. zeros.leaf ≡ leaf) }
+        ensures sure { start ≡ 0 → IsOk result }
     {
         let mut parts = Row::new(alloc);
         let mut part = leaf;

@@ -25,13 +25,13 @@ posted_is sender what (y ∷ ys) zero x at = let is : record { sender = sender; 
 posted_is sender what (y ∷ ys) (suc k) x at = posted_is sender what ys k x at
 
 -- what is in the wire was said
-abbrev Heard : List Message → List Said → Type 0
+abbrev pub Heard : List Message → List Said → Type 0
 Heard wire said = (k : ℕ) (x : Message) → slice_get wire k ≡ Some x → Has said (says x.sender x.what)
 
-record Kept (voters : List ℕ) (m : Moment) : Type 0 where
-  said : List Said
-  holds : Holds voters m.states said
-  heard : Heard m.wire said
+pub record Kept (voters : List ℕ) (m : Moment) : Type 0 where
+  pub said : List Said
+  pub holds : Holds voters m.states said
+  pub heard : Heard m.wire said
 
 -- a message that is sent is said
 heard_more : (set_up : SetUp) (core answered : ℕ) (wire : List Message) (said : List Said) (o : Option SynodMessage) → Heard wire said → Heard (wire ++ sends_of set_up core answered o) (more o core said)
@@ -79,7 +79,7 @@ first_keeps : (set_up : SetUp) → Kept set_up.voters (first_moment set_up)
 unfolding first_moment
 first_keeps set_up = record { said = []; holds = holds_first set_up.voters _ (λ j. refl); heard = λ k x at. absurd (cc at) }
 
-after_keeps : (set_up : SetUp) (events : List Event) → IsHistory set_up events → Kept set_up.voters (after set_up events)
+pub after_keeps : (set_up : SetUp) (events : List Event) → IsHistory set_up events → Kept set_up.voters (after set_up events)
 after_keeps set_up events is = run_keeps set_up is.few events (first_moment set_up) is.theirs (first_keeps set_up)
 
 pub agreement_holds : (set_up : SetUp) (events : List Event) → IsHistory set_up events → (one other : ℕ) (d e : List ℕ) →

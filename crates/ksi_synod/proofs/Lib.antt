@@ -9,3 +9,5 @@ pub mod Examples
 pub mod Staying
 pub mod Lasting
 pub mod Reaching
+pub mod Choosing
+pub mod Owning

@@ -9,3 +9,4 @@ pub mod Instance
 pub mod History
 pub mod Runs
 pub mod Reached
+pub mod Chosen

@@ -1,4 +1,5 @@
--- The steps of the vote on one second (Lamport's Synod), in the order of the protocol. Each is a function from a core's
+-- The steps of the vote on one second (Lamport, "The Part-Time Parliament", 2.3, the basic protocol, steps 1 to 6), in the
+-- order of the protocol. Each is a function from a core's
 -- state to its state after the step and its answer. Where the condition of a step does not hold, the state stays.
 use Rattle.std.specs.Prelude.{ℕ, ◌+◌, max, Bool, true, false, not, ◌&&◌, ◌==◌, nat_lt, if◌then◌else◌, List, slice_set, is_none, unwrap_or, Option, Some, None}
 use Rattle.ksi_synod.specs.declared.messages.Vote.{Vote}
@@ -26,7 +27,7 @@ seal_of (Some sealed) s candidate = s
 unfoldable pub seal : VoteState → (candidate : List ℕ) → VoteState
 seal s candidate = seal_of s.candidate s candidate
 
--- BALLOT: NextBallot(b) is to go out for the core's ballot of the next round, which is now in hand
+-- BALLOT, step 1: NextBallot(b) is to go out for the core's ballot of the next round, which is now in hand
 
 -- the round to go beyond
 abbrev pub greater_round : VoteState → ℕ
@@ -45,7 +46,7 @@ try_ballot_of (Some candidate) s =
 unfoldable pub try_ballot : VoteState → VoteState × Begun
 try_ballot s = try_ballot_of s.candidate s
 
--- NEXTBALLOT(b): above the promise it is promised, and LastVote tells the vote cast so far
+-- NEXTBALLOT(b), step 2: above the promise it is promised, and LastVote tells the vote cast so far
 
 unfoldable pub on_next : VoteState → (ballot : ℕ) → VoteState × Option LastVote
 on_next s ballot =
@@ -53,7 +54,7 @@ on_next s ballot =
     then (record s { promised = ballot }, Some (record { ballot = ballot; vote = s.vote }))
     else (s, None)
 
--- LASTVOTE(b, v) from a core
+-- LASTVOTE(b, v) from a core, step 3
 
 -- whether it counts: the hand is of this ballot, nothing is begun, and the sender is a voter that did not count yet
 abbrev pub counts_last : (voters : List ℕ) → Option Hand → (from ballot : ℕ) → Bool
@@ -97,7 +98,7 @@ on_last_of (Some h) s from ballot vote =
 unfoldable pub on_last : VoteState → (from ballot : ℕ) (vote : Option Vote) → VoteState × Took
 on_last s from ballot vote = on_last_of s.hand s from ballot vote
 
--- BEGINBALLOT(b, d): where b is the promise and the vote, if any, is of a smaller ballot, the vote is now (b, d), and
+-- BEGINBALLOT(b, d), step 4: where b is the promise and the vote, if any, is of a smaller ballot, the vote is now (b, d), and
 -- Voted(b) tells it
 
 abbrev pub is_older : (vote : Option Vote) (ballot : ℕ) → Bool
@@ -110,7 +111,7 @@ on_begin s ballot decree =
     then (record s { vote = Some (record { ballot = ballot; imprint = decree }) }, true)
     else (s, false)
 
--- VOTED(b) from a core
+-- VOTED(b) from a core, step 5
 
 -- the decree that it counts for: the one that is begun, where the hand is of this ballot, and the sender is a voter that
 -- did not count yet
@@ -144,7 +145,7 @@ on_voted_of (Some h) s from ballot = on_voted_for (voted_for s.voters (Some h) f
 unfoldable pub on_voted : VoteState → (from ballot : ℕ) → VoteState × Took
 on_voted s from ballot = on_voted_of s.hand s from ballot
 
--- SUCCESS(d): where nothing is held, d is held
+-- SUCCESS(d), step 6: where nothing is held, d is held
 
 abbrev pub on_success_of : (held : Option (List ℕ)) → VoteState → (decree : List ℕ) → VoteState × Bool
 on_success_of None s decree = (record s { held = Some decree }, true)

@@ -1,5 +1,5 @@
 -- What a core keeps of the vote on one second.
-use Rattle.std.specs.Prelude.{ℕ, Bool, List, Option, None}
+use Rattle.std.specs.Prelude.{◌≡◌, ℕ, ◌≤◌, Bool, List, Option, Some, None}
 use Rattle.ksi_synod.specs.declared.messages.Vote.{Vote}
 use Rattle.ksi_synod.specs.Voters.{no_flags}
 
@@ -51,3 +51,9 @@ fresh_vote me voters = record { me = me; voters = voters; candidate = None; trie
 -- a ballot of which nothing was heard yet
 abbrev pub new_hand : (ballot : ℕ) → Hand
 new_hand ballot = record { ballot = ballot; last = no_flags; greatest = None; decree = None; voted = no_flags }
+
+-- the state is this core's, with these voters, and its vote, if any, is of no ballot beyond its promise
+pub record IsVoteStateOf (voters : List ℕ) (core : ℕ) (s : VoteState) : Type 0 where
+  pub me_is : s.me ≡ core
+  pub voters_are : s.voters ≡ voters
+  pub promised : (v : Vote) → s.vote ≡ Some v → v.ballot ≤ s.promised

@@ -140,13 +140,3 @@ fn are_before(pairs: &[VotersFrom], second: u64) -> bool
 {
     pairs.iter().all(|pair| pair.second < second)
 }
-
-/// What holds of plans and voters, for the layers above to cite; this does nothing. Who votes on a second is at least one
-/// core, and no core that is not there.
-pub fn voters_are_cores()
-    ensures voters { (plan : CorePlanState) (second : ℕ) → IsCorePlan plan → AreVoters plan.cores (voters_of plan second) }
-    ensures listed { (cores : ℕ) (voters : List ℕ) → AreVoters cores voters → filter (is_voter voters) (cores_below cores) ≡ voters }
-    ensures few { (cores : ℕ) (voters : List ℕ) → AreVoters cores voters → length voters ≤ cores }
-    ensures more { (plan : CorePlanState) (second : ℕ) (voters : List ℕ) → IsCorePlan plan → has_room plan second ≡ true →
-        plan.start ≤ second → second < plan.start + 2 ^ 24 → AreVoters plan.cores voters → IsCorePlan (with_voters plan second voters) }
-{}

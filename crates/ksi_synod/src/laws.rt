@@ -1,12 +1,20 @@
 //! What holds of the vote on one second after every history: whichever messages are lost, repeated, late or out of order,
 //! and whichever cores restart, at any moment. Each law is the contract of a function that does nothing.
 
-ghost use Rattle.std.specs.Prelude.{◌≡◌, ℕ, ◌<◌, ◌++◌, List, length, Bool, IsTrue, Some};
-ghost use Rattle.ksi_synod.specs.Voters.{is_voter, is_flagged, is_majority};
-ghost use Rattle.ksi_synod.specs.VoteState.{VoteState};
-ghost use Rattle.ksi_synod.specs.Reached.{Said, Reached};
+ghost use Rattle.std.specs.Prelude.{◌≡◌, ℕ, ◌<◌, ◌≤◌, ◌+◌, ◌*◌, ◌^◌, ◌++◌, List, length, Bool, IsTrue, true, Some};
+ghost use Rattle.std.specs.List.{filter, count_by, AllByRecursion};
+ghost use Rattle.ksi_synod.specs.Voters.{cores_below, is_voter, is_flagged, is_majority};
+ghost use Rattle.ksi_synod.specs.VoteState.{VoteState, fresh_vote, IsVoteStateOf};
+ghost use Rattle.ksi_synod.specs.Rows.{seal, try_ballot, receive, restarted};
+ghost use Rattle.ksi_synod.specs.declared.messages.SynodMessage.{SynodMessage};
+ghost use Rattle.ksi_synod.specs.declared.messages.SynodMessage.TheVariants.{BeginBallot, Voted};
+ghost use Rattle.ksi_synod.specs.Chosen.{IsChosen};
+ghost use Rattle.ksi_synod.specs.Reached.{Said, says, Has, Reached};
 ghost use Rattle.ksi_synod.specs.History.{SetUp, Event, IsHistory, after, held_by, candidate_of};
 ghost use Rattle.ksi_synod.specs.Runs.{three, taken_over, one_of_three, one_votes};
+ghost use Rattle.ksi_synod.specs.CorePlans.{CorePlanState, voters_of, AreRising, AreVoters, IsCorePlan, has_room, with_voters};
+
+use crate::voters::Voters;
 
 /// Agreement: two cores that hold a decree hold the same.
 pub fn agreement()
@@ -28,6 +36,39 @@ pub fn steps_agree()
         (one other : ℕ) (d e : List ℕ) → (states one).held ≡ Some d → (states other).held ≡ Some e → d ≡ e }
     ensures validity { (voters : List ℕ) (states : ℕ → VoteState) (said : List Said) → Reached voters states said →
         (core : ℕ) (d : List ℕ) → (states core).held ≡ Some d → (owner : ℕ) × ((states owner).candidate ≡ Some d) }
+{}
+
+/// Chosen: where a majority of the voters cast one vote in one ballot, no other decree is ever held, at this moment or later.
+/// It is enough that the messages were sent, whatever is lost of them.
+pub fn chosen()
+    ensures history { (set_up : SetUp) (events later : List Event) → IsHistory set_up (events ++ later) → (ballot : ℕ) (d : List ℕ) →
+        IsChosen set_up (after set_up events) ballot d →
+        (core : ℕ) (e : List ℕ) → held_by (after set_up (events ++ later)) core ≡ Some e → e ≡ d }
+    ensures steps { (voters : List ℕ) (states : ℕ → VoteState) (said : List Said) → Reached voters states said →
+        (ballot : ℕ) (d : List ℕ) (who : ℕ → Bool) → length voters < 2 * count_by who voters →
+        (by : ℕ) → Has said (says by (BeginBallot ballot d)) → ((x : ℕ) → who x ≡ true → Has said (says x (Voted ballot))) →
+        (core : ℕ) (e : List ℕ) → (states core).held ≡ Some e → e ≡ d }
+{}
+
+/// A core's state stays its own, after every history: its number and its voters are those that it began with. Its vote, if
+/// any, is of no ballot beyond its promise.
+pub fn states_are_kept()
+    ensures history { (set_up : SetUp) (events : List Event) → IsHistory set_up events →
+        (core : ℕ) → IsVoteStateOf set_up.voters core ((after set_up events).states core) }
+    ensures steps { (voters : List ℕ) (states : ℕ → VoteState) (said : List Said) → Reached voters states said →
+        (core : ℕ) → IsVoteStateOf voters core (states core) }
+{}
+
+/// Each row leaves a state its core's own. A ballot and each message leave its candidate, too.
+pub fn rows_keep_states()
+    ensures first { (voters : List ℕ) (core : ℕ) → IsVoteStateOf voters core (fresh_vote core voters) }
+    ensures seal { (voters : List ℕ) (core : ℕ) (s : VoteState) (candidate : List ℕ) → IsVoteStateOf voters core s →
+        IsVoteStateOf voters core (seal s candidate) }
+    ensures ballot { (voters : List ℕ) (core : ℕ) (s : VoteState) → IsVoteStateOf voters core s →
+        IsVoteStateOf voters core (try_ballot s).0 × ((try_ballot s).0.candidate ≡ s.candidate) }
+    ensures message { (voters : List ℕ) (core : ℕ) (s : VoteState) (from : ℕ) (m : SynodMessage) → IsVoteStateOf voters core s →
+        IsVoteStateOf voters core (receive s from m).0 × ((receive s from m).0.candidate ≡ s.candidate) }
+    ensures restart { (voters : List ℕ) (core : ℕ) (s : VoteState) → IsVoteStateOf voters core s → IsVoteStateOf voters core (restarted s) }
 {}
 
 /// Nothing is unsaid: what a core holds, and its candidate, stay for ever, over restarts too. With agreement, no two cores
@@ -61,3 +102,21 @@ pub fn one_voter_decides()
     ensures held { (a : List ℕ) → held_by (after one_of_three (one_votes a)) 0 ≡ Some a }
     ensures messages { (a : List ℕ) → length (after one_of_three (one_votes a)).wire ≡ 7 }
 {}
+
+/// Who votes on a second is at least one
+/// core, and no core that is not there.
+pub fn voters_are_cores()
+    ensures voters { (plan : CorePlanState) (second : ℕ) → IsCorePlan plan → AreVoters plan.cores (voters_of plan second) }
+    ensures listed { (cores : ℕ) (voters : List ℕ) → AreVoters cores voters → filter (is_voter voters) (cores_below cores) ≡ voters }
+    ensures few { (cores : ℕ) (voters : List ℕ) → AreVoters cores voters → length voters ≤ cores }
+    ensures more { (plan : CorePlanState) (second : ℕ) (voters : List ℕ) → IsCorePlan plan → has_room plan second ≡ true →
+        plan.start ≤ second → second < plan.start + 2 ^ 24 → AreVoters plan.cores voters → IsCorePlan (with_voters plan second voters) }
+{}
+
+/// Voters rise, and are among the cores 0 to 8.
+pub fn voters_rise(voters: &Voters)
+    ensures rising { AreRising voters.now }
+    ensures few { AllByRecursion (λ voter. voter < 9) voters.now }
+{
+    let _flags = voters.flags();
+}

@@ -1,5 +1,5 @@
-//! The vote of the cores on one second: Lamport's Synod ("The Part-Time Parliament", section 2), whose decree is the root
-//! of the second.
+//! The vote of the cores on one second: Lamport's Synod, or Paxos ("The Part-Time Parliament", 1998, section 2.3), whose
+//! decree is the root of the second.
 //!
 //! An [`Instance`] is one core's part. Each call takes one step, by one of the five messages or at a command, and answers
 //! what came of it; which call takes a message, what is to be sent and what to be stored is said where a core takes it
@@ -20,13 +20,15 @@ mod core_plan;
 mod hand;
 mod instance;
 pub mod laws;
+mod limits;
 mod messages;
 mod stable;
 mod voters;
 
-pub use core_plan::{CorePlan, VotersFrom, voters_are_cores};
+pub use core_plan::{CorePlan, VotersFrom};
 pub use hand::InHand;
 pub use instance::Instance;
+pub use limits::{PLAN_SECONDS, TOO_LATE};
 pub use messages::{Begun, LastVote, SynodMessage, Took, Vote};
 pub use stable::Stable;
 pub use voters::Voters;

@@ -70,12 +70,12 @@ impl Voters {
         true
     }
 
-    /// They rise, and are at most the cores 0 to 8. This does nothing.
-    pub fn rise(&self)
+    /// For each core whether it votes. Voters rise, and are among the cores 0 to 8.
+    pub(crate) fn flags(&self) -> &[bool; 9]
         ensures rising { AreRising self.now }
         ensures few { AllByRecursion (λ voter. voter < 9) self.now }
     {
-        let _ = &self.flags;
+        &self.flags
     }
 
     /// Whether a core votes.

@@ -22,7 +22,7 @@
 #![tactic(auto)]
 
 mod element;
-mod laws;
+pub mod laws;
 mod magic;
 mod numbers;
 mod walk;
@@ -30,10 +30,6 @@ mod write;
 
 pub use element::{Element, TlvFault, read_one};
 pub use ksi_imprint::{NoMemory, Refused};
-pub use laws::{
-    canonical_is_shortest, front_by_spelling, no_spelling_begins_another, numeral_is_read,
-    reading_is_elements, walk_by_fronts, written_is_read,
-};
 pub use magic::after_magic;
 pub use numbers::{NumberFault, number};
 pub use walk::{Elements, Placed};

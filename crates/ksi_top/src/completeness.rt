@@ -7,8 +7,8 @@ ghost use Rattle.ksi_top.specs.Run.{run};
 
 use crate::histories::histories_hold;
 use ksi_history::laws::extensions_are_bytes;
-use ksi_publications::publications_are_read;
-use ksi_signature::signature_is_read;
+use ksi_publications::laws::publications_are_read;
+use ksi_signature::laws::signature_is_read;
 
 /// Over the files of a signature that was issued and extended, `verify` reports that it is accepted.
 pub(crate) fn issued_is_accepted()

@@ -13,7 +13,7 @@ use ksi_facts::laws::history_is_recalled;
 use ksi_history::laws::history_is_joined;
 use ksi_imprint::laws::hashes_are_bytes;
 use ksi_journal::laws::written_is_journal;
-use ksi_schedule::spelled_is_schedule;
+use ksi_schedule::laws::spelled_is_schedule;
 use ksi_world::laws::{agreement, held_stays, responses_climb, validity};
 
 /// What holds over every history that a schedule spells.

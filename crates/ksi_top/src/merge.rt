@@ -11,7 +11,7 @@ use crate::status::Status;
 use ksi_imprint::{NoMemory, Refused};
 use ksi_lines::Word::{Number, Text};
 use ksi_lines::{not_merged_line, print};
-use ksi_mirror::laws::{merged_is_a_join, mirror_is_read};
+use ksi_mirror::laws::{merged_is_a_join, mirror_is_kept, mirror_is_read};
 use ksi_mirror::{Mirror, write_mirror};
 use ksi_ports::Files;
 use std::alloc::Global;
@@ -29,7 +29,7 @@ pub(crate) fn merge<F: Files>(
     mirror_is_read();
     merged_is_a_join();
     let mirror = load_mirror(alloc, files, 1, one)?;
-    mirror.is_mirror();
+    mirror_is_kept(&mirror);
     merge_over(alloc, files, &mirror, two, out)
 }
 
@@ -52,8 +52,8 @@ fn merged(alloc: Global, one: &Mirror, two: &Mirror, out: &str) -> Result<Report
     ensures shown { IfOk result (IsMergedBy one.now two.now out.now) }
 {
     merged_is_a_join();
-    one.is_mirror();
-    two.is_mirror();
+    mirror_is_kept(one);
+    mirror_is_kept(two);
     match ksi_mirror::merge(alloc, one, two) {
         Ok(union) => merged_saved(alloc, &union, out),
         Err(Refused::Fault(refusal)) => {

@@ -16,7 +16,8 @@ use ksi_mirror::{Mirror, write_mirror};
 use ksi_ports::Files;
 use ksi_replay::laws::{history_has_mirrors, mirrors_of_a_history_merge};
 use ksi_replay::mirror_of;
-use ksi_schedule::{Schedule, spelled_is_schedule};
+use ksi_schedule::Schedule;
+use ksi_schedule::laws::spelled_is_schedule;
 use std::alloc::Global;
 
 /// Loads the schedule, and saves the mirror of what a core holds and has sealed after its events.

@@ -29,9 +29,12 @@ use ksi_logblock::laws::proof_is_read;
 use ksi_mirror::Mirror;
 use ksi_mirror::laws::mirror_is_read;
 use ksi_nodestore::Inspected;
-use ksi_publications::{Publications, publications_are_read};
-use ksi_schedule::{Schedule, schedule_is_read};
-use ksi_signature::{SignatureView, signature_is_read, view};
+use ksi_publications::Publications;
+use ksi_publications::laws::publications_are_read;
+use ksi_schedule::Schedule;
+use ksi_schedule::laws::schedule_is_read;
+use ksi_signature::laws::signature_is_read;
+use ksi_signature::{SignatureView, view};
 use std::alloc::Global;
 
 /// The signature that file word `n` is, lent from its bytes, or that it is none. No memory is taken.

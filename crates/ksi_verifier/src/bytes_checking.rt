@@ -13,7 +13,8 @@ use crate::lent_checking::verify_view;
 use crate::verdict::Verdict;
 use ksi_imprint::{Compress, Imprint};
 use ksi_publications::Publications;
-use ksi_signature::{signature_is_read, view};
+use ksi_signature::laws::signature_is_read;
+use ksi_signature::view;
 
 /// Checks the signature that bytes are for a hash against the published roots of the calendar. No memory is taken.
 pub fn verify_bytes<C: Compress>(

@@ -9,8 +9,8 @@
 //! The layer above may rely on this: [`verify`] gives the verdict, which is the first check that fails, with its values, or
 //! the second that the signature proves, and its clause `accepted` says what an accepted signature is, without an order of
 //! checks; [`verify_view`] does the same for a lent signature, by the same body, and [`verify_bytes`] for bytes, whose
-//! first fault it gives where they are no signature; [`aggregate_view`] does V2 to V6 and V15 of a lent signature
-//! alone, and gives the chains' time and the node that they lead to. No call takes memory, so that none may want it. In
+//! first fault it gives where they are no signature; [`aggregate`] and [`aggregate_view`] do V2 to V6 and V15
+//! alone, and give the chains' time and the node that they lead to. No call takes memory, so that none may want it. In
 //! [`laws`] stands what the checks mean whatever their order: `accepted` turns an accepted signature into the facts that
 //! make it one, and back.
 //!
@@ -42,7 +42,7 @@ mod publication;
 mod refusal;
 mod verdict;
 
-pub use aggregated::Aggregated;
+pub use aggregated::{Aggregated, aggregate};
 pub use any_chain::AnyChain;
 pub use bytes_checking::verify_bytes;
 pub use bytes_verdict::BytesVerdict;
@@ -50,5 +50,6 @@ pub use checking::verify;
 pub use difference::RecordDifference;
 pub use lent::{CalendarPart, RecordPart};
 pub use lent_checking::{aggregate_view, lent_calendar, verify_lent, verify_view};
+pub use owned::calendar_part;
 pub use refusal::Refusal;
 pub use verdict::Verdict;

@@ -6,7 +6,7 @@ use crate::lent::{CalendarPart, RecordPart};
 use ksi_signature::{CalendarChain, PublicationRecord};
 
 /// The parts of a calendar chain, lent.
-pub(crate) fn calendar_part(calendar: &Option<CalendarChain>) -> Option<CalendarPart<'_>>
+pub fn calendar_part(calendar: &Option<CalendarChain>) -> Option<CalendarPart<'_>>
     ensures { option_map calendar_of result ≡ calendar.now }
 {
     match calendar {

@@ -28,7 +28,7 @@ use Rattle.ksi_world.proofs.Deciding.{after_sound}
 use Rattle.ksi_world.proofs.Fitting.{core_turn_is}
 use Rattle.ksi_world.proofs.Sending.{leaf_most, TreeRises}
 
-asked_here : (j i : ℕ) (asked e : CoreEvent) → where_mine j i asked ≡ Some e → (eqb j i ≡ true) × (asked ≡ e)
+pub asked_here : (j i : ℕ) (asked e : CoreEvent) → where_mine j i asked ≡ Some e → (eqb j i ≡ true) × (asked ≡ e)
 asked_here j i asked e is = by (eqb j i) refl is
   where
     by : (b : Bool) → eqb j i ≡ b → (if b then Some asked else None) ≡ Some e → (eqb j i ≡ true) × (asked ≡ e)

@@ -1,5 +1,5 @@
--- The aggregator of an accepted request is one of the plan's.
-use Rattle.std.proofs.Common.{◌≡◌, ℕ, ◌<◌, List, [], ◌∷◌, length, refl, sym, subst, inl, inr, Option, Some, None}
+-- An accepted request was made of an aggregator of the plan, for a second of it.
+use Rattle.std.proofs.Common.{◌≡◌, ℕ, List, [], ◌∷◌, length, refl, sym, subst, inl, inr, Option, Some, None}
 use Rattle.std.specs.Prelude.{slice_get}
 use Rattle.ksi_signature.specs.declared.answer.Answer.{Answer}
 use Rattle.ksi_signature.specs.declared.answer.Answer.TheVariants as answers
@@ -16,29 +16,30 @@ use Rattle.ksi_world.specs.declared.message.Content.TheVariants as contents
 use Rattle.ksi_world.specs.declared.message.Message.{Message}
 use Rattle.ksi_world.specs.Histories.{WorldState, asked_with, delivered, happens, first_world, run, after}
 use Rattle.ksi_world.specs.Histories as histories
+use Rattle.ksi_world.specs.Lasting.{IsAskedOf}
 use Rattle.ksi_world.proofs.Turning.{get_push}
 
 module _ (image : List ℕ → List ℕ) (plan : PlanState) where
   abbrev pub AreAsked : List Asked → Type 0
-  AreAsked requests = (number : ℕ) (asked : Asked) → slice_get requests number ≡ Some asked → asked.aggregator < length plan.parents
+  AreAsked requests = (number : ℕ) (asked : Asked) → slice_get requests number ≡ Some asked → IsAskedOf plan asked
 
-  with_asked : (requests : List Asked) (new : Asked) (answer : Answer) → new.aggregator < length plan.parents → AreAsked requests → AreAsked (asked_with requests new answer)
-  with_asked requests new (answers.Number n) lt are = λ number asked at. elim (get_push requests new number asked at) [
+  with_asked : (requests : List Asked) (new : Asked) (answer : Answer) → IsAskedOf plan new → AreAsked requests → AreAsked (asked_with requests new answer)
+  with_asked requests new (answers.Number n) of are = λ number asked at. elim (get_push requests new number asked at) [
     | inl old ↦ are number asked old
-    | inr here ↦ subst (λ (a : Asked). a.aggregator < length plan.parents) (sym here.1) lt
+    | inr here ↦ subst (IsAskedOf plan) (sym here.1) of
   ]
-  with_asked requests new answers.Done lt are = are
-  with_asked requests new (answers.Published root) lt are = are
-  with_asked requests new answers.Late lt are = are
-  with_asked requests new answers.Known lt are = are
-  with_asked requests new answers.Full lt are = are
-  with_asked requests new answers.Unsealed lt are = are
-  with_asked requests new answers.Sealed lt are = are
-  with_asked requests new answers.Closed lt are = are
-  with_asked requests new (answers.Undecided t) lt are = are
-  with_asked requests new answers.NotMine lt are = are
-  with_asked requests new answers.Nothing lt are = are
-  with_asked requests new answers.Last lt are = are
+  with_asked requests new answers.Done of are = are
+  with_asked requests new (answers.Published root) of are = are
+  with_asked requests new answers.Late of are = are
+  with_asked requests new answers.Known of are = are
+  with_asked requests new answers.Full of are = are
+  with_asked requests new answers.Unsealed of are = are
+  with_asked requests new answers.Sealed of are = are
+  with_asked requests new answers.Closed of are = are
+  with_asked requests new (answers.Undecided t) of are = are
+  with_asked requests new answers.NotMine of are = are
+  with_asked requests new answers.Nothing of are = are
+  with_asked requests new answers.Last of are = are
 
   -- a message that is taken accepts no request, and publishes nothing
   pub record Leaves (w : WorldState) (h : histories.Happening) : Type 0 where
@@ -65,7 +66,7 @@ module _ (image : List ℕ → List ℕ) (plan : PlanState) where
 
   happens_asks : (w : WorldState) (e : Event) → IsEvent plan e → AreAsked w.requests → AreAsked (happens image plan w e).world.requests
   unfolding happens
-  happens_asks w (events.Request k t imprint name) is are = with_asked w.requests (record { aggregator = k; second = t; imprint = imprint }) (round_request (length w.requests) imprint name (w.rounds k t)).answer is.0 are
+  happens_asks w (events.Request k t imprint name) is are = with_asked w.requests (record { aggregator = k; second = t; imprint = imprint }) (round_request (length w.requests) imprint name (w.rounds k t)).answer (is.0, is.1) are
   happens_asks w (events.Close k t) is are = are
   happens_asks w (events.Seal j t) is are = are
   happens_asks w (events.Ballot j t) is are = are

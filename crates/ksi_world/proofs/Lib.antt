@@ -39,3 +39,7 @@ pub mod KeptOf
 pub mod Counting
 pub mod SealedStays
 pub mod AskedCores
+pub mod AskedSends
+pub mod Choosing
+pub mod OwnSeconds
+pub mod Submitting

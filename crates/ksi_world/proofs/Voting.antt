@@ -35,7 +35,7 @@ use Rattle.ksi_world.proofs.Sending.{get_in_either}
 
 -- LISTS AND FUNCTIONS
 
-get_before : {A : Type 0} (xs ys : List A) (k : ℕ) (x : A) → slice_get xs k ≡ Some x → slice_get (xs ++ ys) k ≡ Some x
+pub get_before : {A : Type 0} (xs ys : List A) (k : ℕ) (x : A) → slice_get xs k ≡ Some x → slice_get (xs ++ ys) k ≡ Some x
 get_before [] ys k x at = absurd (cc at)
 get_before (y ∷ xs) ys zero x at = at
 get_before (y ∷ xs) ys (suc k) x at = get_before xs ys k x at

@@ -5,6 +5,8 @@ pub mod Nodes
 pub mod Letters
 pub mod Places
 pub mod Deciding
+pub mod Chosen
+pub mod Lasting
 pub mod Validity
 pub mod Keeping
 pub mod Joined

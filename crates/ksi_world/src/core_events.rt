@@ -70,21 +70,3 @@ fn where_mine(core: u8, other: u8, event: CoreEvent) -> Option<CoreEvent>
 {
     if core == other { Some(event) } else { None }
 }
-
-/// What an event asks of a core it may be asked: the core may take it, and its second is at or after the start and below 2^63.
-/// A core that keeps what the world keeps of it, and takes that, keeps what the world keeps then. An event that asks nothing of
-/// a core leaves it, or restarts it.
-pub fn events_are_turns()
-    ensures may { (image : List ℕ → List ℕ) (plan : PlanState) (before : List happened.Event) → IsPlan plan → AreEvents plan before → (core : ℕ) (event : happened.Event) (one : asked.CoreEvent) → IsEvent plan event →
-        asked_of core (after image plan before).wire event ≡ Some one → (it : CoreState) → it.start ≡ plan.start → MayTake it one × IsAsked it (event_second one) }
-    ensures row { (image : List ℕ → List ℕ) (plan : PlanState) (w : WorldState) (core : ℕ) (it : CoreState) (one : asked.CoreEvent) → IsCore plan (w.seconds core) core it →
-        core_row image it one ≡ core_turn image plan w core one }
-    ensures turn { (image : List ℕ → List ℕ) (plan : PlanState) (w : WorldState) (core : ℕ) (event : happened.Event) (one : asked.CoreEvent) (old new : CoreState) (step : Step) → asked_of core w.wire event ≡ Some one →
-        IsCore plan (w.seconds core) core old → IsTurn old new (event_second one) (core_row image old one) step → (t : ℕ) → state_of new t ≡ (happens image plan w event).world.seconds core t }
-    ensures still { (image : List ℕ → List ℕ) (plan : PlanState) (w : WorldState) (core : ℕ) (event : happened.Event) → asked_of core w.wire event ≡ None → is_restart_of core event ≡ false →
-        (t : ℕ) → (happens image plan w event).world.seconds core t ≡ w.seconds core t }
-    ensures restarted { (image : List ℕ → List ℕ) (plan : PlanState) (w : WorldState) (core : ℕ) (event : happened.Event) → is_restart_of core event ≡ true →
-        (t : ℕ) → (happens image plan w event).world.seconds core t ≡ restart_row (w.seconds core t) }
-{
-    one_round();
-}

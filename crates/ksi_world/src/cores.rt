@@ -13,7 +13,7 @@ use crate::posting::post_core;
 use ksi_corenode::{Core, CoreEvent, NoMemory, Step};
 use ksi_imprint::Compress;
 use ksi_schedule::Plan;
-use ksi_synod::voters_are_cores;
+use ksi_synod::laws::voters_are_cores;
 use std::alloc::Global;
 
 /// The cores of a plan before anything came.

@@ -1,29 +1,42 @@
 //! What holds after every history of a plan: whichever messages are lost, repeated, late or out of order, and whichever
 //! nodes restart, at any moment. Each law is the contract of a function that does nothing.
-ghost use Rattle.std.specs.Prelude.{◌≡◌, ◌≢◌, ◌<◌, ◌≤◌, ◌^◌, ◌++◌, ℕ, List, length, slice_get, Some};
+ghost use Rattle.std.specs.Prelude.{◌≡◌, ◌≢◌, ◌==◌, ◌<◌, ◌≤◌, ◌^◌, ◌++◌, if◌then◌else◌, map, ℕ, List, length, slice_get, Some, IfSome, None, true, false};
 ghost use Rattle.std.specs.List.{AllByRecursion};
 ghost use Rattle.ksi_tlv.specs.Spelling.{AreBytes};
 ghost use Rattle.ksi_imprint.specs.Imprints.{IsImprint, zero_imprint};
 ghost use Rattle.ksi_schedule.specs.declared.event.Event.{Event};
 ghost use Rattle.ksi_schedule.specs.Plans.{PlanState, IsPlan, InRange};
-ghost use Rattle.ksi_schedule.specs.Events.{History, AreEvents, AskForImprints};
+ghost use Rattle.ksi_schedule.specs.Events.{History, AreEvents, AskForImprints, IsEvent};
 ghost use Rattle.ksi_schedule.specs.Schedules.{IsHistory};
-ghost use Rattle.ksi_world.specs.Histories.{WorldState, held_in, after, world_of};
+ghost use Rattle.ksi_world.specs.declared.outcome.Asked.{Asked};
+ghost use Rattle.ksi_world.specs.Lasting.{AreSecondsOf, AreSubmitted, IsAskedOf};
+ghost use Rattle.ksi_world.specs.Histories.{WorldState, held_in, after, core_message, world_of, happens};
 ghost use Rattle.ksi_signature.specs.Carried.{MayBeIssued};
 ghost use Rattle.ksi_signature.specs.declared.answer.Answer.TheVariants.{Published};
-ghost use Rattle.ksi_corenode.specs.Rows.{publish_answer};
+ghost use Rattle.ksi_corenode.specs.Rows.{publish_answer, restart_row};
+ghost use Rattle.ksi_world.specs.Chosen.{IsChosen};
 ghost use Rattle.ksi_world.specs.Joined.{IsKeptRoot, IsJoined};
 ghost use Rattle.ksi_world.specs.Records.{issued_of, issued_all, kept_root, kept_seconds};
 ghost use Rattle.ksi_world.specs.Validity.{IsProposed, IsKept, HasImprints, EachKept, AreRising, AreTimes};
 ghost use Rattle.ksi_world.specs.Wire.{ResponsesClimb};
+ghost use Rattle.ksi_aggtree.specs.declared.entries.Entry.{Entry};
+ghost use Rattle.ksi_aggtree.specs.Entries.{items_of};
+ghost use Rattle.ksi_aggtree.specs.Names.{IsName};
+ghost use Rattle.ksi_aggtree.specs.Rounds.{IsRound};
+ghost use Rattle.ksi_corenode.specs.CoreState.{CoreState, state_of, IsTurn};
+ghost use Rattle.ksi_corenode.specs.Events.{core_row, event_second, IsAsked, MayTake};
+ghost use Rattle.ksi_corenode.specs.declared.event.CoreEvent as asked;
+ghost use Rattle.ksi_corenode.specs.declared.step.Step.{Step};
+ghost use Rattle.ksi_world.specs.Nodes.{core_turn, IsCore};
+ghost use Rattle.ksi_world.specs.CoreEvents.{asked_of, is_restart_of};
 
 use ksi_aggchain::laws::levels_rise;
 use ksi_aggtree::laws::{metas_are_even, one_chain, one_round};
 use ksi_calendar::laws::one_chain as calendar_chain;
 use ksi_imprint::Imprint;
-use ksi_signature::{issued_is_bytes, issued_is_signature};
+use ksi_signature::laws::{issued_is_bytes, issued_is_signature};
 use ksi_split::trees::one_path;
-use ksi_synod::laws::steps_agree;
+use ksi_synod::laws::{rows_keep_states, steps_agree};
 
 /// Agreement: two cores that hold a root for a second hold the same.
 pub fn agreement()
@@ -32,6 +45,16 @@ pub fn agreement()
         held_in (world_of image history) other second ≡ Some e → d ≡ e }
 {
     steps_agree();
+}
+
+/// Chosen: where a majority of a second's voters cast one vote in one ballot, no other root is ever held for it, at this
+/// moment or later. It is enough that the messages were sent, whatever is lost of them.
+pub fn chosen()
+    ensures { (image : List ℕ → List ℕ) (plan : PlanState) (before later : List Event) → IsPlan plan → AreEvents plan (before ++ later) →
+        (second ballot : ℕ) (root : List ℕ) → IsChosen plan (after image plan before) second ballot root →
+        (core : ℕ) (e : List ℕ) → held_in (after image plan (before ++ later)) core second ≡ Some e → e ≡ root }
+{
+    ksi_synod::laws::chosen();
 }
 
 /// Validity: a held root other than the zero imprint is the candidate of a core of the plan that sealed items for this
@@ -208,4 +231,92 @@ pub fn published_is_listed()
 #[tactic(auto, using(crate::proofs::Counting::accepted_few))]
 pub fn requests_are_few()
     ensures { (image : List ℕ → List ℕ) (history : History) → length (world_of image history).requests ≤ length history.events }
+{}
+
+/// What a core sealed for a second at some moment, it has sealed for it ever after: one list at each later moment.
+pub fn sealed_stays()
+    ensures { (image : List ℕ → List ℕ) (plan : PlanState) (before later : List Event) (core second : ℕ) (entries : List Entry) →
+        ((after image plan before).seconds core second).sealed ≡ Some entries →
+        ((after image plan (before ++ later)).seconds core second).sealed ≡ Some entries }
+{}
+
+/// What is sealed is so by a core of the plan, for a second of the plan: at most 65,536 items, whose leaves have levels to
+/// 239; and their imprints are imprints and their names names, where each request is for an imprint, and what is hashed are
+/// imprints.
+pub fn sealed_is_listed()
+    ensures core { (image : List ℕ → List ℕ) (history : History) → IsPlan history.plan → AreEvents history.plan history.events →
+        (core second : ℕ) (entries : List Entry) → ((world_of image history).seconds core second).sealed ≡ Some entries →
+        core < history.plan.cores }
+    ensures range { (image : List ℕ → List ℕ) (history : History) → AreEvents history.plan history.events →
+        (core second : ℕ) (entries : List Entry) → ((world_of image history).seconds core second).sealed ≡ Some entries →
+        InRange history.plan second }
+    ensures round { (image : List ℕ → List ℕ) (history : History) → IsPlan history.plan → AreEvents history.plan history.events →
+        (core second : ℕ) (entries : List Entry) → ((world_of image history).seconds core second).sealed ≡ Some entries →
+        IsRound (items_of entries) }
+    ensures imprints { (image : List ℕ → List ℕ) (history : History) → ((bytes : List ℕ) → IsImprint (image bytes)) →
+        IsPlan history.plan → AreEvents history.plan history.events → AskForImprints history.events →
+        (core second : ℕ) (entries : List Entry) → ((world_of image history).seconds core second).sealed ≡ Some entries →
+        AllByRecursion (λ item. IsImprint item.imprint × IfSome item.name IsName) (items_of entries) }
+{
+    one_round();
+    one_chain();
+    metas_are_even();
+    levels_rise();
+    one_path::<Imprint>();
+    steps_agree();
+}
+
+/// What an event asks of a core it may be asked: the core may take it, and its second is at or after the start and below 2^63.
+/// A core that keeps what the world keeps of it, and takes that, keeps what the world keeps then. The world's second of the
+/// core is that of its turn, and the turn's messages stand behind all that were sent before; nothing is asked of another core.
+/// An event that asks nothing of a core leaves it, or restarts it.
+pub fn events_are_turns()
+    ensures may { (image : List ℕ → List ℕ) (plan : PlanState) (before : List Event) → IsPlan plan → AreEvents plan before → (core : ℕ) (event : Event) (one : asked.CoreEvent) → IsEvent plan event →
+        asked_of core (after image plan before).wire event ≡ Some one → (it : CoreState) → it.start ≡ plan.start → MayTake it one × IsAsked it (event_second one) }
+    ensures row { (image : List ℕ → List ℕ) (plan : PlanState) (w : WorldState) (core : ℕ) (it : CoreState) (one : asked.CoreEvent) → IsCore plan (w.seconds core) core it →
+        core_row image it one ≡ core_turn image plan w core one }
+    ensures turn { (image : List ℕ → List ℕ) (plan : PlanState) (w : WorldState) (core : ℕ) (event : Event) (one : asked.CoreEvent) (old new : CoreState) (step : Step) → asked_of core w.wire event ≡ Some one →
+        IsCore plan (w.seconds core) core old → IsTurn old new (event_second one) (core_row image old one) step → (t : ℕ) → state_of new t ≡ (happens image plan w event).world.seconds core t }
+    ensures seconds { (image : List ℕ → List ℕ) (plan : PlanState) (w : WorldState) (core : ℕ) (event : Event) (one : asked.CoreEvent) → asked_of core w.wire event ≡ Some one →
+        (t : ℕ) → (happens image plan w event).world.seconds core t ≡ (if t == event_second one then (core_turn image plan w core one).after else w.seconds core t) }
+    ensures sends { (image : List ℕ → List ℕ) (plan : PlanState) (w : WorldState) (core : ℕ) (event : Event) (one : asked.CoreEvent) → asked_of core w.wire event ≡ Some one →
+        (happens image plan w event).world.wire ≡ w.wire ++ map (core_message core (event_second one)) (core_turn image plan w core one).sends }
+    ensures others { (w : WorldState) (core other : ℕ) (event : Event) (one : asked.CoreEvent) → asked_of core w.wire event ≡ Some one → other ≢ core →
+        (asked_of other w.wire event ≡ None) × (is_restart_of other event ≡ false) }
+    ensures still { (image : List ℕ → List ℕ) (plan : PlanState) (w : WorldState) (core : ℕ) (event : Event) → asked_of core w.wire event ≡ None → is_restart_of core event ≡ false →
+        (t : ℕ) → (happens image plan w event).world.seconds core t ≡ w.seconds core t }
+    ensures restarted { (image : List ℕ → List ℕ) (plan : PlanState) (w : WorldState) (core : ℕ) (event : Event) → is_restart_of core event ≡ true →
+        (t : ℕ) → (happens image plan w event).world.seconds core t ≡ restart_row (w.seconds core t) }
+{
+    one_round();
+}
+
+/// Each core's state of each second is its own, after every history: its number, its voters and its candidate, which is the
+/// imprint of what it sealed. Its vote, if any, is of no ballot beyond its promise.
+pub fn seconds_are_kept()
+    ensures event { (image : List ℕ → List ℕ) (plan : PlanState) (w : WorldState) (e : Event) → AreSecondsOf image plan w.seconds →
+        AreSecondsOf image plan (happens image plan w e).world.seconds }
+    ensures history { (image : List ℕ → List ℕ) (plan : PlanState) (events : List Event) → AreSecondsOf image plan (after image plan events).seconds }
+{
+    rows_keep_states();
+}
+
+/// A closed round stays closed with the same items.
+pub fn closed_stays()
+    ensures { (image : List ℕ → List ℕ) (plan : PlanState) (before later : List Event) (aggregator second : ℕ) (entries : List Entry) →
+        ((after image plan before).rounds aggregator second).closed ≡ Some entries →
+        ((after image plan (before ++ later)).rounds aggregator second).closed ≡ Some entries }
+{}
+
+/// Each closed round that has items was submitted to its parent.
+pub fn closed_is_submitted()
+    ensures event { (image : List ℕ → List ℕ) (plan : PlanState) (w : WorldState) (e : Event) → AreSubmitted plan w →
+        AreSubmitted plan (happens image plan w e).world }
+    ensures history { (image : List ℕ → List ℕ) (plan : PlanState) (events : List Event) → AreSubmitted plan (after image plan events) }
+{}
+
+/// Each accepted request was made of an aggregator of the plan, for a second of the plan.
+pub fn requests_are_of_plan()
+    ensures { (image : List ℕ → List ℕ) (plan : PlanState) (events : List Event) → AreEvents plan events →
+        (number : ℕ) (asked : Asked) → slice_get (after image plan events).requests number ≡ Some asked → IsAskedOf plan asked }
 {}

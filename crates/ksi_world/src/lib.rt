@@ -33,10 +33,8 @@ mod nodes;
 mod outcome;
 mod posting;
 mod published;
-pub mod sealing;
 mod world;
 
-pub use core_events::events_are_turns;
 pub use kept::{Kept, Seconds, items_of};
 pub use ksi_aggtree::Second;
 pub use ksi_imprint::NoMemory;

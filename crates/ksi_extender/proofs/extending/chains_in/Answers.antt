@@ -8,8 +8,8 @@ use Rattle.ksi_extender.proofs.extending.chains_in.Goals as goal
 
 pub returns-in-Ok : goal.returns-in-Ok
 returns-in-Ok g c =
-    ap (λ (r : Result Aggregated Refusal). or_refused r) c.in-Ok.ensures ∙ read_then g.C.Compress.image (bytes_seen c.args.signature.now) (seen c.args.signature.now) c.is_of_its_bytes.ensures.read
+    ap (λ (r : Result Aggregated Refusal). or_refused r) c.in-Ok.ensures ∙ read_then g.C.Compress.image (bytes_seen c.args.signature.now) (seen c.args.signature.now) c.shown_is_of_bytes.ensures.read
 
 pub returns-in-Err : goal.returns-in-Err
 returns-in-Err g c =
-    ap (λ (r : Result Aggregated Refusal). or_refused r) c.in-Err.ensures ∙ read_then g.C.Compress.image (bytes_seen c.args.signature.now) (seen c.args.signature.now) c.is_of_its_bytes.ensures.read
+    ap (λ (r : Result Aggregated Refusal). or_refused r) c.in-Err.ensures ∙ read_then g.C.Compress.image (bytes_seen c.args.signature.now) (seen c.args.signature.now) c.shown_is_of_bytes.ensures.read

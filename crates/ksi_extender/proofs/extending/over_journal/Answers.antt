@@ -34,5 +34,5 @@ returns-clause-again g c =
     let kept = is_kept c.args.journal.now c.args.chains.now c.args.p (sym c.in_default.ensures.kept) in
     IfOk-weaker c.renewed_with.result _ _ (λ text again.
     read_again g.C.Compress.image (λ signature chains some. c.aggregation.ensures g.C.Compress.image signature chains some) c.args.journal.now (bytes_seen c.args.signature.now) text c.args.p c.args.chains.now _ _
-    (seen c.args.signature.now) c.is_of_its_bytes.ensures.read c.requires.chains kept.some c.in_ok-chain.ensures.chain c.in_ok-chain.ensures.published again
+    (seen c.args.signature.now) c.shown_is_of_bytes.ensures.read c.requires.chains kept.some c.in_ok-chain.ensures.chain c.in_ok-chain.ensures.published again
     ) c.renewed_with.ensures.again

@@ -12,5 +12,5 @@ pub returns : goal.returns
 returns g c =
     let joins = c.merged_is_a_join.ensures in
     performed_behind g.F.Files _ _ _ _ _ (λ m. (merge_over m c.args.two.now c.args.out.now).ran) _ _ _ _ _ _ _
-    (λ tells report over. merge_means c.mirror_is_read.ensures.mirror (record { same = joins.same; either = joins.either; any_order = joins.any_order; again = joins.again }) _ _ _ _ _ report c.is_mirror.ensures (c.in_ok-mirror.ensures.loaded.told tells) (c.in_ok-mirror.ensures.is tells) over)
+    (λ tells report over. merge_means c.mirror_is_read.ensures.mirror (record { same = joins.same; either = joins.either; any_order = joins.any_order; again = joins.again }) _ _ _ _ _ report c.mirror_is_kept.ensures (c.in_ok-mirror.ensures.loaded.told tells) (c.in_ok-mirror.ensures.is tells) over)
     c.in_ok-mirror.ensures.loaded c.merge_over.ensures

@@ -16,7 +16,7 @@ content_size-total-requires c =
     let view = c.args.self.now in
     subst (AllByRecursion (StandsIn view.bytes.now)) view.elements_are
     (elements_stand (record { whole = c.whole_or_fault.ensures.whole; fault = c.whole_or_fault.ensures.fault; found = c.front_by_spelling.ensures.found; spelled = c.front_by_spelling.ensures.spelled })
-    c.reading_is_elements.ensures view.bytes.now c.are_bytes.ensures (seen view, c.is_of_its_bytes.ensures.signature))
+    c.reading_is_elements.ensures view.bytes.now c.are_bytes.ensures (seen view, c.shown_is_of_bytes.ensures.signature))
 
 pub returns-then-total-gt-LONGEST-clause-too_long : goal.returns-then-total-gt-LONGEST-clause-too_long
 returns-then-total-gt-LONGEST-clause-too_long c =
@@ -29,7 +29,7 @@ text_with-requires-clause-stand c =
     let view = c.args.self.now in
     subst (AllByRecursion (StandsIn view.bytes.now)) view.elements_are
     (elements_stand (record { whole = c.whole_or_fault.ensures.whole; fault = c.whole_or_fault.ensures.fault; found = c.front_by_spelling.ensures.found; spelled = c.front_by_spelling.ensures.spelled })
-    c.reading_is_elements.ensures view.bytes.now c.are_bytes.ensures (seen view, c.is_of_its_bytes.ensures.signature))
+    c.reading_is_elements.ensures view.bytes.now c.are_bytes.ensures (seen view, c.shown_is_of_bytes.ensures.signature))
 
 pub returns-in-Ok-clause-text : goal.returns-in-Ok-clause-text
 unfolding extended_text
@@ -53,7 +53,7 @@ returns-in-Ok-clause-again c =
     let short : length content ≤ 65535 = within (length content) c.content_size-total.result (c.content_size-total.ensures ∙ sym (ap (λ (content : List ℕ). capped (length content)) same)) (omega arith) in
     let text = c.in-Ok.ensures ∙ sym (ap (λ (content : List ℕ). canonical (plain 2048 content)) same) in
     subst (λ (text : List ℕ). IsSignature text (renewed (seen view) c.args.calendar.now c.args.publication.now)) (sym text)
-    (c.extended_is_signature.ensures view.bytes.now (seen view) c.args.calendar.now c.args.publication.now c.are_bytes.ensures c.is_of_its_bytes.ensures.signature c.calendar_is_kept.ensures c.record_is_kept.ensures short)
+    (c.extended_is_signature.ensures view.bytes.now (seen view) c.args.calendar.now c.args.publication.now c.are_bytes.ensures c.shown_is_of_bytes.ensures.signature c.calendar_is_kept.ensures c.record_is_kept.ensures short)
 
 pub returns-in-Err-clause-too_long : goal.returns-in-Err-clause-too_long
 returns-in-Err-clause-too_long c =

@@ -7,7 +7,7 @@ pub invariant_of-result : goal.invariant_of-result
 invariant_of-result g c =
     empty_are g.J.Joins.joined c.in_ok-zeros.zeros.start c.in_ok-zeros.zeros.leaf c.new-2.result.items (omega (arith, c.requires, c.in_ok-zeros.ensures.start)) (no_row c.new-2.result.items (ap length c.new-2.ensures.items))
 
-pub returns : goal.returns
-returns g c =
+pub returns-clause-made : goal.returns-clause-made
+returns-clause-made g c =
     let none = no_row c.new-2.result.items (ap length c.new-2.ensures.items) 0 in
     rw (c.in_ok-zeros.ensures.start, c.in_ok-zeros.ensures.leaf, none) refl

@@ -17,7 +17,7 @@ aggregator-requires g c =
     let events = c.self.inside.events.items in
     let is = c.self.invariant in
     let at : slice_get (after image plan events).requests c.args.number ≡ Some c.in-Some.asked.now = ap (λ xs. slice_get xs c.args.number) (sym is.fits.requests) ∙ sym c.asked.ensures ∙ ap option_copied c.in-Some.is in
-    omega (arith, is.fits.aggregators.many, after_asks image plan events is.are c.args.number c.in-Some.asked.now at)
+    omega (arith, is.fits.aggregators.many, (after_asks image plan events is.are c.args.number c.in-Some.asked.now at).0)
 
 pub returns-in-Some-clause-exact : goal.returns-in-Some-clause-exact
 returns-in-Some-clause-exact g c =

@@ -1,0 +1,5 @@
+pub mod Storing
+pub mod Returning
+pub mod Lasting
+pub mod Renaming
+pub mod Settling

@@ -1,0 +1,4 @@
+pub mod Lawful
+pub mod Restored
+pub mod Renamed
+pub mod Settled

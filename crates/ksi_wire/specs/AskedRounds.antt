@@ -1,0 +1,28 @@
+-- What a line asks of an aggregator, but for responses.
+use Rattle.std.specs.Prelude.{ℕ, List, [], ◌∷◌, codes, Bool, false, Result, Ok, if◌then◌else◌}
+use Rattle.std.specs.Str.{bytes_eq}
+use Rattle.ksi_schedule.specs.Pieces.{Text, words}
+use Rattle.ksi_schedule.specs.Plans.{PlanState}
+use Rattle.ksi_wire.specs.declared.fault.WireFault.{WireFault}
+use Rattle.ksi_wire.specs.declared.event.AggregatorLine.{AggregatorLine}
+use Rattle.ksi_wire.specs.declared.event.AggregatorLine.TheVariants as lines
+use Rattle.ksi_wire.specs.RoundLines.{asked_words, short}
+use Rattle.ksi_wire.specs.Asked.{Got, ◌>>=◌, word_in, number_in, short_in, if_spelled}
+
+-- its first word is that of a response
+abbrev pub is_response : List Text → Bool
+is_response [] = false
+is_response (kind ∷ rest) = bytes_eq kind (codes "response")
+
+abbrev pub sign_in : List Text → Got AggregatorLine
+sign_in ws = number_in ws >>= λ number rest. Ok (lines.Sign number, rest)
+
+abbrev pub event_in : PlanState → (me : ℕ) → (kind : Text) → List Text → Got AggregatorLine
+event_in plan me kind ws = short_in plan me kind ws >>= λ event rest. Ok (lines.Event (short event), rest)
+
+abbrev pub asked_in : PlanState → (me : ℕ) → List Text → Got AggregatorLine
+asked_in plan me ws = word_in ws >>= λ kind ws. if bytes_eq kind (codes "sign") then sign_in ws else event_in plan me kind ws
+
+-- what a line that is no response asks of an aggregator of the plan, or why it asks nothing
+unfoldable pub aggregator_line_of : PlanState → (me : ℕ) → (line : Text) → Result AggregatorLine WireFault
+aggregator_line_of plan me line = if_spelled asked_words line (asked_in plan me (words line))

@@ -1,0 +1,7 @@
+pub mod Asked
+pub mod AskedRounds
+pub mod Lines
+pub mod Responses
+pub mod RoundLines
+pub mod Steps
+pub mod Taken

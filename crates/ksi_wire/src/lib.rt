@@ -1,0 +1,41 @@
+//! The lines by which nodes speak: what comes to a core or to an aggregator, and the outcome of each step.
+//!
+//! A line is the words of an event, parted by single spaces. A message is printed as `send`, its addressee, and the very line
+//! that the addressee takes. A response carries a signature file in hex.
+//!
+//! The layers above may rely on this. A line is taken only where it is exactly the text of the event that it is read as, so
+//! each event has one line ([`core_event`], [`aggregator_line`]). A line that is not taken has one fault, the first from the
+//! left. The printed line of each event that may come to a node is taken again, by the law
+//! [`printed_lines_are_taken`](laws::printed_lines_are_taken); a response's is tested. And the text of a step is its answer,
+//! whether a fact was stored, and the lines of its messages ([`core_step_text`], [`round_step_text`]).
+//!
+//! ```text
+//! let event = core_event(alloc, &plan, 0, b"seal 1700000000")?;
+//! let step = core.take(event)?;
+//! let text = core_step_text(alloc, 0, 1_700_000_000, &step)?; // answer done, stored, and a full stop
+//! ```
+#![tactic(auto)]
+
+mod above;
+mod answers;
+mod core_lines;
+mod cursor;
+mod event;
+mod fault;
+pub mod laws;
+mod limits;
+mod parts;
+mod printing;
+mod round_lines;
+mod sending;
+mod votes;
+
+pub use above::{above_text, read_above};
+pub use answers::put_answer;
+pub use core_lines::core_event;
+pub use event::{AggregatorLine, RoundEvent};
+pub use fault::WireFault;
+pub use limits::MOST_LINE;
+pub use printing::{put_core_event, put_response, put_round_event};
+pub use round_lines::aggregator_line;
+pub use sending::{core_step_text, put_to, round_step_text};

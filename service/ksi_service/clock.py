@@ -1,0 +1,200 @@
+"""Who does what when: one second after the other is closed, sealed and voted on, and its signatures are gathered.
+
+A second's root is one core's candidate, so the items below other cores are not in it. Each second has a leader in turn, and its
+requests go below that core. What was lost, or came late, is asked again for a later second under a new number."""
+import asyncio
+import time
+
+from .node import Down
+
+TRIES = 40
+"""How often a step is tried again before its second is given up."""
+TURNS = 60
+"""How often a request is made again before it is refused."""
+AFTER = 1.01
+"""How long behind its beginning a second is driven, so that requests for it have come."""
+
+
+class Busy(Exception):
+    """More requests wait than may."""
+
+
+class NotSigned(Exception):
+    """A request was tried in many seconds, and none took it."""
+
+
+class Request:
+    """A hash that waits for its signature in one second."""
+
+    def __init__(self, number, imprint):
+        self.number, self.imprint = number, imprint
+        self.signature = asyncio.get_running_loop().create_future()
+
+    def answer(self, text):
+        if not self.signature.done():
+            self.signature.set_result(text)
+
+
+class Clock:
+    def __init__(self, network, most_waiting=10_000, now=time.time):
+        self.network, self.plan, self.now, self.most_waiting = network, network.plan, now, most_waiting
+        self.asked = {}
+        self.number = int(now() * 1000) << 20
+        self.turn = self.waiting = self.signed = self.again = 0
+        self.published = {}
+        self.on_signed = lambda second, aggregator, request, text: None
+
+    async def sign(self, imprint, second=None):
+        """The signature of an imprint's 64 hex digits, and the second that it is of."""
+        if self.waiting >= self.most_waiting:
+            raise Busy()
+        self.waiting += 1
+        try:
+            return await self.sign_in_turn(imprint, max(self.plan.start, int(self.now()) if second is None else second))
+        finally:
+            self.waiting -= 1
+
+    async def sign_in_turn(self, imprint, second):
+        for _ in range(TURNS):
+            second, aggregator = await self.place(second)
+            text = await self.ask(imprint, second, aggregator)
+            if text is not None:
+                self.signed += 1
+                return text, second
+            self.again += 1
+            second = max(second + 1, int(self.now()))
+        raise NotSigned()
+
+    async def place(self, second):
+        """The first second from this one on whose leader is up, and an aggregator below it."""
+        for _ in range(200):
+            for later in range(self.plan.cores + 1):
+                leader = self.plan.leader(second + later)
+                up = [it for it in self.plan.aggregators_below(leader) if self.network.aggregator(it).alive]
+                if up and self.network.core(leader).alive:
+                    self.turn += 1
+                    return second + later, up[self.turn % len(up)]
+            await asyncio.sleep(0.1)
+            second = max(second, int(self.now()))
+        raise NotSigned()
+
+    async def ask(self, imprint, second, aggregator):
+        """The signature that a second gives, or None where it gives none."""
+        self.number += 1
+        request = Request(self.number, imprint)
+        self.asked.setdefault(second, {}).setdefault(aggregator, []).append(request)
+        try:
+            block = await self.network.aggregator(aggregator).ask(f"request {request.number} {second} {imprint}")
+        except Down:
+            return None
+        return await request.signature if block[0].startswith("answer number ") else None
+
+    async def drive(self, second):
+        """All that one second wants."""
+        leader = self.plan.leader(second)
+        try:
+            await self.close(second, leader)
+            await self.decide(second, leader)
+            await self.respond(second, leader)
+        finally:
+            await self.gather(second)
+            for requests in self.asked.pop(second, {}).values():
+                for request in requests:
+                    request.answer(None)
+
+    async def close(self, second, leader):
+        for number in self.plan.aggregators_below(leader):
+            try:
+                await self.network.aggregator(number).ask(f"close {second}")
+                await self.network.quiet(second)
+            except Down:
+                pass
+
+    async def decide(self, second, first):
+        """Ballots, until the second is decided: by the leader at first, then by the others in turn."""
+        for turn in range(TRIES):
+            if second in self.network.decided:
+                return
+            core = self.network.core((first + turn // 3) % self.plan.cores)
+            try:
+                await core.ask(f"seal {second}")
+                await core.ask(f"ballot {second}")
+                await self.network.quiet(second)
+            except Down:
+                await asyncio.sleep(0.02)
+
+    async def hold(self, core, second):
+        """Sees to it that a core holds a second, by another core that tells it, or by a ballot."""
+        for number in range(self.plan.cores):
+            try:
+                block = await self.network.core(number).ask(f"tell {second}")
+            except Down:
+                continue
+            if block[0] == "answer done":
+                await self.network.quiet(second)
+                return
+        self.network.decided.pop(second, None)
+        await self.decide(second, core)
+
+    async def held(self, core, text):
+        """A step of a core that wants all seconds held: those that it lacks are told to it first."""
+        for _ in range(TRIES):
+            try:
+                words = (await self.network.core(core).ask(text))[0].split(" ")
+            except Down:
+                await asyncio.sleep(0.05)
+                continue
+            if words[1] != "undecided":
+                return words
+            await self.hold(core, int(words[2]))
+        return None
+
+    async def respond(self, second, core):
+        for _ in range(TRIES):
+            words = await self.held(core, f"respond {second}")
+            if words is None or words[1] != "done":
+                return
+            await self.network.quiet(second)
+            if await self.gather(second):
+                return
+
+    async def gather(self, second):
+        """Takes the signatures that are there, and tells whether all are."""
+        whole = True
+        for number, requests in self.asked.get(second, {}).items():
+            waiting = [it for it in requests if not it.signature.done()]
+            node = self.network.aggregator(number)
+            try:
+                blocks = await asyncio.gather(*[node.ask(f"sign {it.number}") for it in waiting])
+            except Down:
+                blocks = [["not issued"]] * len(waiting)
+            for request, block in zip(waiting, blocks):
+                if block[0].startswith("signature "):
+                    text = block[0].split(" ")[1]
+                    self.on_signed(second, number, request, text)
+                    request.answer(text)
+                else:
+                    whole = False
+        return whole
+
+    async def publish(self, core, second):
+        """The imprint that a core publishes for a second, in hex; None where it cannot."""
+        words = await self.held(core, f"publish {second}")
+        if words is None or words[1] != "published":
+            return None
+        self.published[second] = words[2]
+        return words[2]
+
+    async def run(self, first, publish_every):
+        """Drives each second in its time, and lets a core publish so often."""
+        tasks, second = set(), first
+        while True:
+            await asyncio.sleep(max(0.0, second + AFTER - self.now()))
+            jobs = [self.drive(second)]
+            if second % publish_every == publish_every - 1 and second - 2 >= self.plan.start:
+                jobs.append(self.publish(second % self.plan.cores, second - 2))
+            for job in jobs:
+                task = asyncio.create_task(job)
+                tasks.add(task)
+                task.add_done_callback(tasks.discard)
+            second += 1

@@ -1,0 +1,202 @@
+"""The command `ksi-service`."""
+import argparse
+import asyncio
+import json
+import os
+import signal
+import subprocess
+import sys
+import time
+import urllib.error
+import urllib.request
+
+from . import check as checking
+from . import journal, service
+from .programs import Missing
+
+DEFAULT = os.environ.get("KSI_SERVICE", "ksi-service-data")
+
+
+class Failed(Exception):
+    """What the command says before it ends with status 1."""
+
+
+def door(folder):
+    """The address of the door, and the number of the service's process."""
+    try:
+        with open(os.path.join(folder, "door"), encoding="ascii") as file:
+            address, number = file.read().split()
+    except FileNotFoundError:
+        raise Failed(f"no service runs over {folder}: ksi-service start {folder}") from None
+    return address, int(number)
+
+
+def ask(folder, path, content=None, kind="text/plain"):
+    """What the door answers."""
+    address, _ = door(folder)
+    request = urllib.request.Request(f"http://{address}{path}", data=content, headers={"Content-Type": kind})
+    try:
+        with urllib.request.urlopen(request, timeout=90) as answer:
+            return answer.read()
+    except urllib.error.HTTPError as error:
+        raise Failed(error.read().decode(errors="replace").strip()) from None
+    except OSError as error:
+        raise Failed(f"the door at {address} does not answer: {error}") from None
+
+
+def write(name, content):
+    """Writes a file whole, then puts it in its place."""
+    with open(name + ".new", "wb") as file:
+        file.write(content)
+    journal.keep(name + ".new", name)
+
+
+def address_of(text):
+    host, _, port = text.rpartition(":")
+    return host or "127.0.0.1", int(port)
+
+
+def start(words):
+    """Starts the service in the background, and waits until its door is open."""
+    os.makedirs(words.folder, exist_ok=True)
+    again = [sys.executable, os.path.abspath(sys.argv[0]), "run", *sys.argv[2:]]
+    with open(os.path.join(words.folder, "log"), "ab") as log:
+        child = subprocess.Popen(again, stdin=subprocess.DEVNULL, stdout=log, stderr=log, start_new_session=True)
+    for _ in range(300):
+        if child.poll() is not None:
+            with open(os.path.join(words.folder, "log"), encoding="utf-8", errors="replace") as log:
+                raise Failed("it did not start: " + log.read().strip().splitlines()[-1])
+        try:
+            address, number = door(words.folder)
+            if number == child.pid:
+                print(f"started over {words.folder}, the door is http://{address}")
+                return
+        except Failed:
+            pass
+        time.sleep(0.1)
+    raise Failed("it did not open its door within 30 seconds")
+
+
+def run(words):
+    asyncio.run(service.run(words.folder, words.cores, words.aggregators, address_of(words.door), words.publish_every))
+
+
+def stop(words):
+    _, number = door(words.folder)
+    os.kill(number, signal.SIGTERM)
+    for _ in range(300):
+        if not os.path.exists(os.path.join(words.folder, "door")):
+            print("stopped")
+            return
+        time.sleep(0.1)
+    raise Failed("it did not stop within 30 seconds")
+
+
+def status(words):
+    for name, value in json.loads(ask(words.folder, "/status")).items():
+        print(f"{name} {value}")
+
+
+def sign(words):
+    """Signs a file by its hash: the file does not leave its owner."""
+    name = words.out or words.file + ".ksig"
+    write(name, ask(words.folder, "/sign", service.digest_of(words.file).encode()))
+    print(f"signed {name}")
+
+
+def extend(words):
+    with open(words.signature, "rb") as file:
+        content = ask(words.folder, "/extend", file.read(), "application/octet-stream")
+    write(words.out or words.signature, content)
+    print(f"extended {words.out or words.signature}")
+
+
+def publications(words):
+    write(words.out, ask(words.folder, "/publications"))
+    print(f"saved {words.out}")
+
+
+def verify(words):
+    """By the proved `ksi verify`: its own line and status."""
+    try:
+        print(journal.ksi("verify", words.signature, service.digest_of(words.file), words.publications))
+    except journal.Refused as refused:
+        raise Failed(str(refused)) from None
+
+
+def check(words):
+    """Holds the record of a service that is stopped against the proved world."""
+    held = service.lock(words.folder)
+    checking.check(words.folder, words.samples)
+    held.close()
+
+
+def backup(words):
+    """The mirrors of all cores, merged, and the journal of what they hold, by the proved `ksi`."""
+    held = service.lock(words.folder)
+    journal.make(words.folder)
+    at = lambda name: os.path.abspath(os.path.join(words.out, name))
+    os.makedirs(words.out, exist_ok=True)
+    schedule, cores = os.path.abspath(os.path.join(words.folder, "schedule")), service.Plan.read(os.path.join(words.folder, "plan")).cores
+    for core in range(cores):
+        print(journal.ksi("mirror", schedule, str(core), at(f"core_{core}")))
+    os.replace(at("core_0"), at("mirror"))
+    for core in range(1, cores):
+        print(journal.ksi("merge", at("mirror"), at(f"core_{core}"), at("mirror")))
+        os.remove(at(f"core_{core}"))
+    print(journal.ksi("whole", at("mirror"), at("journal")))
+    held.close()
+
+
+def parser_of():
+    parser = argparse.ArgumentParser(prog="ksi-service", description="A timestamping service of proved nodes on this machine.")
+    commands = parser.add_subparsers(dest="command", required=True)
+    for name, does, told in (("start", start, "start it in the background"), ("run", run, "run it until it is interrupted")):
+        one = commands.add_parser(name, help=told)
+        one.add_argument("folder", nargs="?", default=DEFAULT)
+        one.add_argument("--cores", type=int, default=3, choices=range(1, 10), metavar="1..9")
+        one.add_argument("--aggregators", type=int, default=2)
+        one.add_argument("--door", default="127.0.0.1:8080", metavar="HOST:PORT", help="where to listen; port 0 takes a free one")
+        one.add_argument("--publish-every", type=int, default=3600, metavar="SECONDS")
+        one.set_defaults(does=does)
+    for name, does, told in (("stop", stop, "stop it"), ("status", status, "its counters")):
+        one = commands.add_parser(name, help=told)
+        one.add_argument("folder", nargs="?", default=DEFAULT)
+        one.set_defaults(does=does)
+    one = commands.add_parser("sign", help="sign a file: FILE.ksig")
+    one.add_argument("file")
+    one.add_argument("-o", dest="out")
+    one.set_defaults(does=sign)
+    one = commands.add_parser("extend", help="extend a signature to the last publication")
+    one.add_argument("signature")
+    one.add_argument("-o", dest="out")
+    one.set_defaults(does=extend)
+    one = commands.add_parser("publications", help="save the publications file")
+    one.add_argument("-o", dest="out", default="publications")
+    one.set_defaults(does=publications)
+    one = commands.add_parser("verify", help="verify a file and its signature by the proved ksi")
+    one.add_argument("file")
+    one.add_argument("signature")
+    one.add_argument("publications", nargs="?", default="publications")
+    one.set_defaults(does=verify)
+    one = commands.add_parser("check", help="hold the record of a stopped service against the proved world")
+    one.add_argument("folder", nargs="?", default=DEFAULT)
+    one.add_argument("--samples", type=int, default=50)
+    one.set_defaults(does=check)
+    one = commands.add_parser("backup", help="save what the cores of a stopped service hold")
+    one.add_argument("folder", nargs="?", default=DEFAULT)
+    one.add_argument("out")
+    one.set_defaults(does=backup)
+    for name in ("sign", "extend", "publications"):
+        commands.choices[name].add_argument("--folder", default=DEFAULT)
+    return parser
+
+
+def main(arguments):
+    words = parser_of().parse_args(arguments)
+    try:
+        words.does(words)
+    except (Failed, Missing, service.Held, checking.Differs, journal.Refused, OSError) as error:
+        print(f"ksi-service: {error}", file=sys.stderr)
+        return 1
+    return 0

@@ -1,0 +1,103 @@
+"""All nodes of a plan on one machine, and the messages between them. Nodes bear loss, repeats and any order of messages."""
+import asyncio
+import collections
+import os
+import random
+
+from .node import Line, Node
+from .programs import program
+from .record import Record
+
+
+class Trouble:
+    """What a test does to messages: the shares that are lost, given twice, and held back, and for how long at most."""
+
+    def __init__(self, lost=0.0, twice=0.0, late=0.0, longest=0.5, seed=1):
+        self.lost, self.twice, self.late, self.longest = lost, twice, late, longest
+        self.dice = random.Random(seed)
+
+    def delays(self):
+        """How long each copy of a message is held back."""
+        if self.dice.random() < self.lost:
+            return []
+        copies = 2 if self.dice.random() < self.twice else 1
+        return [self.dice.uniform(0, self.longest) if self.dice.random() < self.late else 0 for _ in range(copies)]
+
+
+class Network:
+    def __init__(self, folder, plan, trouble=None):
+        self.plan, self.trouble, self.lost = plan, trouble, 0
+        self.record = Record(os.path.join(folder, "record"))
+        programs = {"c": program("ksi_serve_core"), "a": program("ksi_serve_aggregator")}
+        file = os.path.join(folder, "plan")
+        self.nodes = {
+            name: Node(name, [programs[name[0]], file, name[1:], folder, f"{name}.facts"], self.record, self.route)
+            for name in plan.names()}
+        self.flights, self.calm = collections.Counter(), {}
+        self.decided = {}
+        self.tasks = []
+
+    def core(self, number):
+        return self.nodes[f"c{number}"]
+
+    def aggregator(self, number):
+        return self.nodes[f"a{number}"]
+
+    def route(self, step, block):
+        """Gives on the messages of a step. They are behind it in the record, so they leave only when it is on the disk."""
+        for place, row in enumerate(it for it in block if it.startswith("send ")):
+            _, to, text = row.split(" ", 2)
+            delays = self.trouble.delays() if self.trouble else [0]
+            self.lost += not delays
+            for delay in delays:
+                self.carry(to, text, [step, place], delay)
+
+    def carry(self, to, text, message, delay):
+        words = text.split(" ", 4)
+        second = int(words[1] if words[0] == "response" else words[2])
+        if words[0] == "synod" and words[3] == "success":
+            self.decided[second] = words[4]
+        line = Line(text, message)
+        self.flights[second] += 1
+        line.answer.add_done_callback(lambda answer: self.landed(answer, second))
+        if delay:
+            asyncio.get_running_loop().call_later(delay, self.nodes[to].send, line)
+        else:
+            self.nodes[to].send(line)
+
+    def landed(self, answer, second):
+        answer.exception()
+        self.flights[second] -= 1
+        if not self.flights[second]:
+            del self.flights[second]
+            if second in self.calm:
+                self.calm.pop(second).set()
+
+    async def quiet(self, second):
+        """Waits until no message about the second is on its way."""
+        while self.flights.get(second):
+            await self.calm.setdefault(second, asyncio.Event()).wait()
+
+    def begin(self):
+        self.tasks = [asyncio.create_task(it) for it in (self.record.run(), *(node.run() for node in self.nodes.values()))]
+        return self.tasks
+
+    async def ready(self):
+        while not all(node.alive for node in self.nodes.values()):
+            ended = [task for task in self.tasks if task.done()]
+            for task in ended:
+                task.result()
+            await asyncio.sleep(0.01)
+
+    async def stop(self):
+        """Ends the nodes by the end of their input, and writes what is left of the record."""
+        for node in self.nodes.values():
+            node.end()
+        writing, *living = self.tasks
+        await asyncio.wait(living, timeout=5)
+        for node in self.nodes.values():
+            node.kill()
+        await asyncio.gather(*living, return_exceptions=True)
+        writing.cancel()
+        await asyncio.gather(writing, return_exceptions=True)
+        await self.record.close()

@@ -1,0 +1,34 @@
+"""Where the proved programs and the page are: as the gate or `make` left them in this checkout, or as they were installed."""
+import os
+import shutil
+
+BESIDE = os.path.dirname(os.path.dirname(os.path.abspath(__file__)))
+"""The folder that this package is in: service/ of a checkout, or lib/ksi where it was installed."""
+TOP = os.path.dirname(BESIDE)
+
+
+class Missing(Exception):
+    """A program that is not there yet, with what makes it."""
+
+
+def program(name):
+    """The path of a program: in the folder KSI_BIN, in this checkout, beside this package, or on the PATH."""
+    named = os.environ.get("KSI_BIN")
+    folders = ([named] if named else []) + [os.path.join(TOP, "crates", name, "out"), BESIDE]
+    for folder in folders:
+        path = os.path.join(folder, name)
+        if os.path.isfile(path) and os.access(path, os.X_OK):
+            return os.path.abspath(path)
+    found = shutil.which(name)
+    if found:
+        return found
+    raise Missing(f"{name} is not built: run `rt run` in crates/{name}, or `rt ci` at the top")
+
+
+def page():
+    """The page's content, or None where it is not built."""
+    for path in (os.path.join(TOP, "out", "page.html"), os.path.join(BESIDE, "page.html")):
+        if os.path.isfile(path):
+            with open(path, "rb") as file:
+                return file.read()
+    return None

@@ -1,0 +1,95 @@
+"""Nodes that are not proved ones, and die on demand: what the record tells after a kill, and after one of the host."""
+import asyncio
+import os
+import sys
+import tempfile
+import unittest
+
+from ksi_service.node import Down, LostFacts, Node
+from ksi_service.record import Record, steps
+
+FAKE = os.path.join(os.path.dirname(os.path.abspath(__file__)), "fake_node.py")
+
+
+class NodeTest(unittest.TestCase):
+    def setUp(self):
+        self.room = tempfile.TemporaryDirectory()
+        self.addCleanup(self.room.cleanup)
+        self.path = os.path.join(self.room.name, "record")
+        self.facts = os.path.join(self.room.name, "facts")
+
+    def play(self, work, waits=True):
+        """Runs a node, and a play with it, over the folder's record."""
+        async def go():
+            record, told = Record(self.path), []
+            node = Node("c0", [sys.executable, FAKE, self.facts], record, lambda step, block: told.append((step, block)))
+            tasks = [asyncio.create_task(record.run()), asyncio.create_task(node.run())]
+            while not node.alive:
+                for task in tasks:
+                    if task.done():
+                        task.result()
+                await asyncio.sleep(0.005)
+            said = await work(node)
+            node.end()
+            await asyncio.wait(tasks[1:], timeout=5)
+            tasks[0].cancel()
+            await record.close()
+            return said, told
+        return asyncio.run(go())
+
+    def told(self):
+        return [(it.line, it.block) for it in steps(self.path)]
+
+    def test_answers_come_in_order_and_are_on_the_record(self):
+        async def work(node):
+            return await asyncio.gather(node.ask("tell 5"), node.ask("seal 5"), node.ask("bad"))
+        said, told = self.play(work)
+        self.assertEqual(said, [["answer done"], ["answer done", "stored", "send c0 synod 0 5 success aa"], ["refused word"]])
+        self.assertEqual([step for step, _ in told], [0, 1])
+        self.assertEqual([line for line, _ in self.told()], ["tell 5", "seal 5"])
+
+    def test_a_step_that_was_stored_and_never_said_is_on_the_record(self):
+        async def work(node):
+            asks = [node.ask("tell 5"), node.ask("ballot 5"), node.ask("tell 6")]
+            said = await asyncio.gather(*asks, return_exceptions=True)
+            while not node.alive or node.starts < 2:
+                await asyncio.sleep(0.005)
+            return said, await node.ask("tell 7")
+        (said, after), _ = self.play(work)
+        self.assertIsInstance(said[1], Down)
+        self.assertEqual(after, ["answer done"])
+        self.assertEqual(self.told()[-3:], [("ballot 5", None), (None, None), ("tell 7", ["answer done"])])
+
+    def test_a_step_that_was_not_stored_left_no_trace(self):
+        async def work(node):
+            said = await asyncio.gather(node.ask("die"), node.ask("seal 6"), return_exceptions=True)
+            while not node.alive or node.starts < 2:
+                await asyncio.sleep(0.005)
+            return said
+        said, _ = self.play(work)
+        self.assertTrue(all(isinstance(it, Down) for it in said))
+        self.assertEqual(self.told(), [(None, None)])
+
+    def test_a_host_that_was_killed_finds_what_its_node_did(self):
+        with open(self.path, "w", encoding="ascii") as file:
+            file.write('["ready","c0",0,0]\n["given","c0","tell 5",null]\n["given","c0","seal 5",null]\n')
+        with open(self.facts, "w", encoding="ascii") as file:
+            file.write("x")
+
+        async def work(node):
+            return await node.ask("tell 6")
+        self.play(work)
+        self.assertEqual(self.told(), [("tell 5", None), ("seal 5", None), (None, None), ("tell 6", ["answer done"])])
+
+    def test_a_lost_fact_stops_the_host(self):
+        with open(self.path, "w", encoding="ascii") as file:
+            file.write('["ready","c0",0,0]\n["given","c0","seal 5",null]\n["said","c0",["answer done","stored"]]\n')
+
+        async def work(node):
+            return None
+        with self.assertRaises(LostFacts):
+            self.play(work)
+
+
+if __name__ == "__main__":
+    unittest.main()
