@@ -43,7 +43,7 @@ const BLANK: Step = Step {
     sibling: [0; 4096],
 };
 
-unsafe extern "C" {
+extern "C" {
     fn ksi_hash(bytes: *const u8, len: usize, digest: *mut u8);
     fn ksi_verify(
         signature: *const u8,

@@ -6,7 +6,11 @@ fn read(name: &str) -> Vec<u8> {
 
 #[test]
 fn checks() {
-    let (s, p, d) = (read("deed.ksig"), read("publications.bin"), read("deed.txt"));
+    let (s, p, d) = (
+        read("deed.ksig"),
+        read("publications.bin"),
+        read("deed.txt"),
+    );
     for (signature, document, publications, says) in [
         (&s[..], &d[..], &p[..], (0, 0, 0, 1700000000)),
         (&s, b"other", &p, (1, 0, 1, 0)),
