@@ -61,7 +61,8 @@ class Node:
             await self.live()
             if self.stopping:
                 return
-            self.vain_starts += 1
+            # a process that was killed may be started again at any time
+            self.vain_starts += self.process.returncode >= 0
             if self.vain_starts == MOST_VAIN_STARTS:
                 raise GivenUp(f"{self.name} ends whenever it is started {self.reason}".rstrip())
             await asyncio.sleep(0.05)
