@@ -1,9 +1,13 @@
 /* fuzz SECONDS SEED SAMPLES: calls every function on random and on mangled bytes, each in a block of exactly its size, so
- * that a sanitizer or valgrind sees any byte that is read outside. Ends by abort where an answer contradicts itself. */
+ * that a sanitizer or valgrind sees any byte that is read outside. With GUARD a block ends where a page begins that nobody
+ * may touch, so that the processor sees it. Ends by abort where an answer contradicts itself. */
 #include <ksi.h>
 #include <string.h>
 #include <time.h>
 #include "load.h"
+#ifdef GUARD
+#include <sys/mman.h>
+#endif
 
 static uint64_t state;
 
@@ -16,9 +20,44 @@ static uint64_t draw(void) {
 
 static uint64_t below(uint64_t bound) { return draw() % bound; }
 
-static uint8_t *block(const uint8_t *bytes, size_t len) {
-    uint8_t *out = malloc(len ? len : 1);
+#ifdef GUARD
+
+enum { ROOM = 18 * 4096, BLOCKS = 8 };
+
+static struct { uint8_t *room, *out; } blocks[BLOCKS];
+
+static void *taken(size_t len) {
+    for (int k = 0; k < BLOCKS; k++) {
+        if (blocks[k].out) continue;
+        if (!blocks[k].room) {
+            blocks[k].room = mmap(NULL, ROOM + 4096, PROT_READ | PROT_WRITE, MAP_PRIVATE | MAP_ANONYMOUS, -1, 0);
+            if (blocks[k].room == MAP_FAILED || mprotect(blocks[k].room + ROOM, 4096, PROT_NONE)) exit(2);
+        }
+        return blocks[k].out = blocks[k].room + ROOM - len;
+    }
+    abort();
+}
+
+static void done(void *block) {
+    for (int k = 0; k < BLOCKS; k++)
+        if (blocks[k].out == block) { blocks[k].out = NULL; return; }
+    abort();
+}
+
+#else
+
+static void *taken(size_t len) {
+    void *out = malloc(len ? len : 1);
     if (!out) exit(2);
+    return out;
+}
+
+static void done(void *block) { free(block); }
+
+#endif
+
+static uint8_t *block(const uint8_t *bytes, size_t len) {
+    uint8_t *out = taken(len);
     memcpy(out, bytes, len);
     return out;
 }
@@ -41,34 +80,32 @@ static uint8_t *mangled(const uint8_t *bytes, size_t size, size_t *len) {
 
 /* The hash in pieces is the hash of all. */
 static void hash(const uint8_t *bytes, size_t len) {
-    struct ksi_hasher *hasher = malloc(sizeof *hasher);
+    struct ksi_hasher *hasher = taken(sizeof *hasher);
     uint8_t whole[32], pieces[32];
-    if (!hasher) exit(2);
     ksi_hash_start(hasher);
     for (size_t at = 0; at < len;) {
         size_t n = below(len - at + 1);
         uint8_t *piece = block(bytes + at, n);
         ksi_hash_more(hasher, piece, n);
-        free(piece);
+        done(piece);
         at += n;
         if (below(4) == 0) ksi_hash_end(hasher, pieces);
     }
     ksi_hash_end(hasher, pieces);
     ksi_hash(bytes, len, whole);
     if (memcmp(whole, pieces, 32)) abort();
-    free(hasher);
+    done(hasher);
 }
 
 /* A step is there exactly where its number is below another's that is there, and only of a signature. */
 static void steps(const uint8_t *signature, size_t len, uint32_t status, uint32_t file) {
-    struct ksi_step *step = malloc(sizeof *step);
-    if (!step) exit(2);
+    struct ksi_step *step = taken(sizeof *step);
     size_t number = below(40);
     uint32_t found = ksi_step(signature, len, number, step);
     if ((found == 3) != (status == KSI_MALFORMED && file == KSI_SIGNATURE)) abort();
     if (found == 0 && (step->level < 1 || step->level > 255 || step->side > 1 || (!step->raw && step->size != 33))) abort();
     if (found == 0 && number && ksi_step(signature, len, below(number), step) != 0) abort();
-    free(step);
+    done(step);
 }
 
 int main(int count, char **words) {
@@ -85,8 +122,7 @@ int main(int count, char **words) {
             uint8_t *one = below(4) ? mangled(signature, signature_len, &s) : block(signature, s = signature_len);
             uint8_t *two = below(2) ? mangled(publications, publications_len, &p) : block(publications, p = publications_len);
             uint8_t *digest = block(right, 32);
-            struct ksi_answer *answer = malloc(sizeof *answer);
-            if (!answer) exit(2);
+            struct ksi_answer *answer = taken(sizeof *answer);
             memset(answer, 0xa5, sizeof *answer);
             if (below(8) == 0) ksi_hash(one, s, digest);
             if (below(4) == 0) hash(one, s);
@@ -94,7 +130,7 @@ int main(int count, char **words) {
             if (status != answer->status || status > 3 || status == 2 || answer->code > 15 || answer->file > 3) abort();
             if (below(4) == 0) steps(one, s, status, answer->file);
             seen[status][answer->file][answer->code]++;
-            free(one), free(two), free(digest), free(answer);
+            done(one), done(two), done(digest), done(answer);
         }
     printf("%llu inputs without a fault\n", (unsigned long long)calls);
     for (int k = 0; k < 16; k++) {
