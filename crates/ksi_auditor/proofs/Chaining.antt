@@ -19,6 +19,10 @@ pub ok_goes_on : {A E : Type 0} (r : Result A E) (x y : A) → IfOk r (λ z. z �
 ok_goes_on (Ok z) x y is e = is ∙ e
 ok_goes_on (Err fault) x y is e = tt
 
+pub ok_is : {A E : Type 0} (P : A → Type 0) (r : Result A E) (x : A) → IfOk r (λ z. z ≡ x) → P x → IfOk r P
+ok_is P (Ok z) x is h = subst P (sym is) h
+ok_is P (Err fault) x is h = tt
+
 pub err_told : {A E : Type 0} (r : Result A E) (P : Type 0) → P → OnErr r P
 err_told (Ok z) P h = tt
 err_told (Err fault) P h = h

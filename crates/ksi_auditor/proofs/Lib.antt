@@ -14,3 +14,4 @@ pub mod Outcomes
 pub mod Showing
 pub mod Beneath
 pub mod Telling
+pub mod Missing

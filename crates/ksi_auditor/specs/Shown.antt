@@ -1,7 +1,7 @@
 -- What the answers of an audit show.
-use Rattle.std.specs.Prelude.{◌≡◌, ℕ, ◌-◌, ◌<◌, ◌≤◌, List, length, take, Option, Some, option_map}
+use Rattle.std.specs.Prelude.{◌≡◌, ◌⊎◌, ℕ, ◌-◌, ◌<◌, ◌≤◌, List, length, take, Option, Some, option_map}
 use Rattle.std.specs.List.{AllByRecursion}
-use Rattle.ksi_imprint.specs.Imprints.{IsClash}
+use Rattle.ksi_imprint.specs.Imprints.{IsClash, zero_imprint}
 use Rattle.ksi_split.specs.declared.side.Side.{Side}
 use Rattle.ksi_split.specs.Ways.{NamesSecond}
 use Rattle.ksi_aggchain.specs.Climbing.{Climbs}
@@ -17,7 +17,8 @@ use Rattle.ksi_signature.specs.Kept.{IsLink}
 use Rattle.ksi_signature.specs.Values.{Calendar}
 use Rattle.ksi_signature.specs.declared.signature.Signature.{Signature}
 use Rattle.ksi_verifier.specs.Chains.{at_level_zero}
-use Rattle.ksi_verifier.specs.Verdict.{chain_root}
+use Rattle.ksi_verifier.specs.Verdict.{chain_root, verdict}
+use Rattle.ksi_verifier.specs.declared.verdict.Verdict.TheVariants.{Accepted}
 use Rattle.ksi_journal.specs.Journal.{Contents, root_at, items_at}
 use Rattle.ksi_auditor.specs.declared.answer.Audit.{Audit}
 use Rattle.ksi_auditor.specs.declared.answer.Audit.TheVariants.{Inside, Beneath, Clash, NotAccepted, BeforeStart, Undecided, NotDecided}
@@ -89,3 +90,12 @@ Tells (NotDecided p given kept) = ⊥
 abbrev pub HasClash : Audit → Type 0
 HasClash (Clash clash) = Unit {0}
 HasClash _ = ⊥
+
+-- no root is kept for the second: it is before the start, or its kept root is the zero imprint
+abbrev pub IsMissed : Contents → ℕ → Type 0
+IsMissed journal t = (t < journal.start) ⊎ (root_at journal t ≡ Some zero_imprint)
+
+-- a signature for such a second, which is accepted and whose publication is decided, is answered by a clash
+abbrev pub MissedIsClash : (List ℕ → List ℕ) → Contents → Signature → (hash : List ℕ) → (publications : List (ℕ × List ℕ)) → Audit → Type 0
+MissedIsClash image journal signature hash publications answer = (t : ℕ) → verdict image signature hash publications ≡ Accepted t
+    → IsDecided image journal signature → IsMissed journal t → HasClash answer

@@ -1,22 +1,24 @@
-ghost use Rattle.std.specs.Prelude.{◌≡◌, ◌<◌, ◌≤◌, ◌-◌, ◌^◌, ℕ, [], Some, None, IfOk, OnErr, length, map};
+ghost use Rattle.std.specs.Prelude.{◌≡◌, ◌<◌, ◌≤◌, ◌-◌, ◌^◌, ℕ, [], Some, None, IfOk, IfSome, OnErr, length, map, option_map};
 ghost use Rattle.ksi_aggchain.specs.Climbing.{level_after};
 ghost use Rattle.ksi_aggchain.specs.Links.{highest_level};
 ghost use Rattle.ksi_aggtree.specs.Rounds.{IsRound, most_items};
-ghost use Rattle.ksi_signature.specs.PartsSeen.{calendar_seen};
 ghost use Rattle.ksi_signature.specs.Seen.{seen};
 ghost use Rattle.ksi_verifier.specs.Leading.{all_links};
-ghost use Rattle.ksi_verifier.specs.Lent.{calendar_of, lent_chain};
+ghost use Rattle.ksi_verifier.specs.Lent.{calendar_of};
+ghost use Rattle.ksi_verifier.specs.declared.verdict.Verdict.TheVariants as verdicts;
 ghost use Rattle.ksi_calendar.specs.Covered.{first_missing, covered_root};
 ghost use Rattle.ksi_journal.specs.Journal.{IsJournal, root_at};
-ghost use Rattle.ksi_auditor.specs.Audit.{audit, compared, decided, item_named, kept_or_not, laid_beside};
-ghost use Rattle.ksi_auditor.specs.Shown.{HasClash, IsShort, Shows};
+ghost use Rattle.ksi_auditor.specs.Audit.{accepted_or_not, audit, compared, decided, item_named, kept_or_not, laid_beside};
+ghost use Rattle.ksi_auditor.specs.Shown.{HasClash, IsShort, MissedIsClash, Shows};
 ghost use Rattle.ksi_auditor.specs.declared.answer.Audit.TheVariants as answers;
 
 use crate::answer::Audit;
 use crate::calendar::CalendarTo;
-use crate::chains::{along_chains, are_links, count_of};
+use crate::chains::{along_chains, count_of};
 use crate::items::ItemsOf;
-use crate::laws::{audit_shows, low_levels};
+use crate::laid::LaidChain;
+use crate::laws::{audit_shows, low_levels, missed_seconds};
+use crate::links::{are_links, are_owned_links, is_early};
 use ksi_aggchain::Node;
 use ksi_aggtree::Item;
 use ksi_beside::{Place, Walk, along_calendar};
@@ -26,18 +28,49 @@ use ksi_imprint::{Compress, Imprint, NoMemory};
 use ksi_journal::Journal;
 use ksi_journal::laws::calendar_is_covered;
 use ksi_publications::Publications;
-use ksi_signature::{CalendarView, ChainView, SignatureView};
+use ksi_signature::{AggregationChain, ChainView, Signature, SignatureView};
 use ksi_split::{ShapeFault, Side, second_of};
-use ksi_verifier::{CalendarPart, Refusal, Verdict, lent_calendar, verify_view};
+use ksi_verifier::{
+    CalendarPart, Refusal, Verdict, calendar_part, lent_calendar, verify, verify_view,
+};
 use std::alloc::Global;
 use std::marker::PhantomData;
 
-/// Where the hash of a lent signature stands in a journal.
+/// Where the hash of a signature stands in a journal.
 ///
 /// First come the checks of the signature, then whether its publication time is before the start, whether all seconds from
 /// the start to it are kept, and whether the root that the signature leads to is the kept one. Then each link's string,
 /// from the top, is compared with the one of the kept tree: the first that differs is a clash. Where none does, the hash is
 /// a node of the tree of its second, or leads to one of its items. Only a clash takes memory.
+///
+/// A signature for a second before the start, or for a missed one, is accepted against a decided publication only with a
+/// clash.
+///
+/// # Errors
+/// `NoMemory` only where the answer would be a clash.
+pub fn audit<C: Compress>(
+    alloc: Global,
+    journal: &Journal<C>,
+    signature: &Signature,
+    hash: &Imprint,
+    publications: &Publications,
+) -> Result<Audit, NoMemory>
+    ensures answer { IfOk result (λ answer. answer ≡
+        audit C.image journal.now signature.now hash.now publications.now) }
+    ensures shown { IfOk result (Shows C.image journal.now signature.now hash.now) }
+    ensures missed { IfOk result (MissedIsClash C.image journal.now signature.now hash.now publications.now) }
+    ensures memory { OnErr result (HasClash (audit C.image journal.now signature.now hash.now publications.now)) }
+    ensures short { IfOk result IsShort }
+{
+    audit_shows();
+    missed_seconds();
+    are_owned_links(signature.chains.as_slice());
+    let _start = journal.start();
+    let _bytes = hash.bytes();
+    owned::<C>(alloc, journal, signature, hash, publications)
+}
+
+/// The same of a lent signature, by the same body.
 ///
 /// # Errors
 /// `NoMemory` only where the answer would be a clash.
@@ -51,18 +84,41 @@ pub fn audit_view<C: Compress>(
     ensures answer { IfOk result (λ answer. answer ≡
         audit C.image journal.now (seen signature.now) hash.now publications.now) }
     ensures shown { IfOk result (Shows C.image journal.now (seen signature.now) hash.now) }
+    ensures missed { IfOk result (MissedIsClash C.image journal.now (seen signature.now) hash.now publications.now) }
     ensures memory { OnErr result (HasClash (audit C.image journal.now (seen signature.now) hash.now publications.now)) }
     ensures short { IfOk result IsShort }
 {
     audit_shows();
+    missed_seconds();
     are_links(signature.chains());
     let _start = journal.start();
     let _bytes = hash.bytes();
-    answer::<C>(alloc, journal, signature, hash, publications)
+    lent::<C>(alloc, journal, signature, hash, publications)
 }
 
 #[tactic(auto, unfolding(crate::specs::Audit::audit))]
-fn answer<C: Compress>(
+fn owned<C: Compress>(
+    alloc: Global,
+    journal: &Journal<C>,
+    signature: &Signature,
+    hash: &Imprint,
+    publications: &Publications,
+) -> Result<Audit, NoMemory>
+    ensures answer { IfOk result (λ answer. answer ≡
+        audit C.image journal.now signature.now hash.now publications.now) }
+    ensures memory { OnErr result (HasClash (audit C.image journal.now signature.now hash.now publications.now)) }
+    ensures short { IfOk result IsShort }
+{
+    low_levels();
+    let verdict = verify::<C>(signature, hash, publications);
+    let chains = signature.chains.as_slice();
+    is_early(&signature.calendar);
+    let calendar = calendar_part(&signature.calendar);
+    of_verdict::<C, AggregationChain>(alloc, journal, chains, &calendar, hash, verdict)
+}
+
+#[tactic(auto, unfolding(crate::specs::Audit::audit))]
+fn lent<C: Compress>(
     alloc: Global,
     journal: &Journal<C>,
     signature: &SignatureView<'_>,
@@ -75,75 +131,100 @@ fn answer<C: Compress>(
     ensures short { IfOk result IsShort }
 {
     low_levels();
-    match verify_view::<C>(signature, hash, publications) {
+    let verdict = verify_view::<C>(signature, hash, publications);
+    let chains = signature.chains();
+    match signature.calendar() {
+        None => of_verdict::<C, ChainView<'_>>(alloc, journal, chains, &None, hash, verdict),
+        Some(calendar) => {
+            let _below = calendar.publication();
+            let links = calendar.links();
+            let part = lent_calendar(&calendar, &links);
+            of_verdict::<C, ChainView<'_>>(alloc, journal, chains, &Some(part), hash, verdict)
+        }
+    }
+}
+
+/// Of a verdict on a signature, and its chains, whoever owns them: the refusal, or where its hash stands.
+fn of_verdict<C: Compress, T: LaidChain>(
+    alloc: Global,
+    journal: &Journal<C>,
+    chains: &[T],
+    calendar: &Option<CalendarPart<'_>>,
+    hash: &Imprint,
+    verdict: Verdict,
+) -> Result<Audit, NoMemory>
+    requires few { length chains.now ≤ 16 }
+    requires levels { (t : ℕ) → verdict ≡ verdicts.Accepted t → level_after 0 (all_links (map T.plain chains.now)) ≤ highest_level }
+    requires early { IfSome calendar.now (λ part. (calendar_of part).publication < 2 ^ 63) }
+    ensures answer { IfOk result (λ answer. answer ≡
+        accepted_or_not C.image journal.now (all_links (map T.plain chains.now)) (option_map calendar_of calendar.now) hash.now verdict) }
+    ensures memory { OnErr result (HasClash
+        (accepted_or_not C.image journal.now (all_links (map T.plain chains.now)) (option_map calendar_of calendar.now) hash.now verdict)) }
+    ensures short { IfOk result IsShort }
+{
+    match verdict {
         Verdict::Refused(refusal) => Ok(Audit::NotAccepted(refusal)),
-        Verdict::Accepted(second) => match signature.calendar() {
+        Verdict::Accepted(second) => match calendar {
             None => Ok(Audit::NotAccepted(Refusal::NoCalendar)),
-            Some(calendar) => {
-                let chains = signature.chains();
-                decide::<C>(alloc, journal, chains, &calendar, hash, second)
-            }
+            Some(calendar) => decide::<C, T>(alloc, journal, chains, calendar, hash, second),
         },
     }
 }
 
 /// Of an accepted signature: whether its publication is decided, and then where its hash stands.
-fn decide<C: Compress>(
+fn decide<C: Compress, T: LaidChain>(
     alloc: Global,
     journal: &Journal<C>,
-    chains: &[ChainView<'_>],
-    calendar: &CalendarView<'_>,
-    hash: &Imprint,
-    second: u64,
-) -> Result<Audit, NoMemory>
-    requires few { length chains.now ≤ 16 }
-    requires levels { level_after 0 (all_links (map lent_chain chains.now)) ≤ highest_level }
-    ensures answer { IfOk result (λ answer. answer ≡
-        kept_or_not C.image journal.now (all_links (map lent_chain chains.now)) hash.now second (Some (calendar_seen calendar.now))) }
-    ensures memory { OnErr result (HasClash
-        (kept_or_not C.image journal.now (all_links (map lent_chain chains.now)) hash.now second (Some (calendar_seen calendar.now)))) }
-    ensures short { IfOk result IsShort }
-{
-    let publication = calendar.publication();
-    if publication < journal.start() {
-        return Ok(Audit::BeforeStart(publication));
-    }
-    match journal.first_missing(publication) {
-        Some(second) => Ok(Audit::Undecided(second)),
-        None => {
-            let links = calendar.links();
-            let part = lent_calendar(calendar, &links);
-            compare_roots::<C>(alloc, journal, chains, &part, hash, second)
-        }
-    }
-}
-
-/// Of an accepted signature whose seconds are kept: whether it leads to the kept root, and then where its hash stands.
-fn compare_roots<C: Compress>(
-    alloc: Global,
-    journal: &Journal<C>,
-    chains: &[ChainView<'_>],
+    chains: &[T],
     calendar: &CalendarPart<'_>,
     hash: &Imprint,
     second: u64,
 ) -> Result<Audit, NoMemory>
     requires few { length chains.now ≤ 16 }
-    requires levels { level_after 0 (all_links (map lent_chain chains.now)) ≤ highest_level }
+    requires levels { level_after 0 (all_links (map T.plain chains.now)) ≤ highest_level }
+    requires early { (calendar_of calendar.now).publication < 2 ^ 63 }
+    ensures answer { IfOk result (λ answer. answer ≡
+        kept_or_not C.image journal.now (all_links (map T.plain chains.now)) hash.now second (Some (calendar_of calendar.now))) }
+    ensures memory { OnErr result (HasClash
+        (kept_or_not C.image journal.now (all_links (map T.plain chains.now)) hash.now second (Some (calendar_of calendar.now)))) }
+    ensures short { IfOk result IsShort }
+{
+    let publication = calendar.publication;
+    if publication < journal.start() {
+        return Ok(Audit::BeforeStart(publication));
+    }
+    match journal.first_missing(publication) {
+        Some(second) => Ok(Audit::Undecided(second)),
+        None => compare_roots::<C, T>(alloc, journal, chains, calendar, hash, second),
+    }
+}
+
+/// Of an accepted signature whose seconds are kept: whether it leads to the kept root, and then where its hash stands.
+fn compare_roots<C: Compress, T: LaidChain>(
+    alloc: Global,
+    journal: &Journal<C>,
+    chains: &[T],
+    calendar: &CalendarPart<'_>,
+    hash: &Imprint,
+    second: u64,
+) -> Result<Audit, NoMemory>
+    requires few { length chains.now ≤ 16 }
+    requires levels { level_after 0 (all_links (map T.plain chains.now)) ≤ highest_level }
     requires early { (calendar_of calendar.now).publication < 2 ^ 63 }
     requires from { journal.now.start ≤ (calendar_of calendar.now).publication }
     requires kept { first_missing (root_at journal.now) journal.now.start (calendar_of calendar.now).publication ≡ None }
     requires journal { IsJournal C.image journal.now }
     ensures answer { IfOk result (λ answer. answer ≡
-        decided C.image journal.now (all_links (map lent_chain chains.now)) hash.now second (calendar_of calendar.now) None) }
+        decided C.image journal.now (all_links (map T.plain chains.now)) hash.now second (calendar_of calendar.now) None) }
     ensures memory { OnErr result (HasClash
-        (decided C.image journal.now (all_links (map lent_chain chains.now)) hash.now second (calendar_of calendar.now) None)) }
+        (decided C.image journal.now (all_links (map T.plain chains.now)) hash.now second (calendar_of calendar.now) None)) }
     ensures short { IfOk result IsShort }
 {
     let publication = calendar.publication;
     let given = climb_calendar::<C>(calendar.input, calendar.links);
     let kept = root_to(journal, publication);
     if given == kept {
-        lay_beside::<C>(alloc, journal, chains, calendar, hash, second)
+        lay_beside::<C, T>(alloc, journal, chains, calendar, hash, second)
     } else {
         Ok(Audit::NotDecided(publication, given, kept))
     }
@@ -165,22 +246,22 @@ fn root_to<C: Compress>(journal: &Journal<C>, last: u64) -> Imprint
 }
 
 /// Lays the links of an accepted signature, whose publication is decided, beside the kept trees.
-fn lay_beside<C: Compress>(
+fn lay_beside<C: Compress, T: LaidChain>(
     alloc: Global,
     journal: &Journal<C>,
-    chains: &[ChainView<'_>],
+    chains: &[T],
     calendar: &CalendarPart<'_>,
     hash: &Imprint,
     second: u64,
 ) -> Result<Audit, NoMemory>
     requires few { length chains.now ≤ 16 }
-    requires levels { level_after 0 (all_links (map lent_chain chains.now)) ≤ highest_level }
+    requires levels { level_after 0 (all_links (map T.plain chains.now)) ≤ highest_level }
     requires early { (calendar_of calendar.now).publication < 2 ^ 63 }
     requires journal { IsJournal C.image journal.now }
     ensures audit { IfOk result (λ audit. audit ≡
-        laid_beside C.image journal.now (all_links (map lent_chain chains.now)) hash.now second (calendar_of calendar.now)) }
+        laid_beside C.image journal.now (all_links (map T.plain chains.now)) hash.now second (calendar_of calendar.now)) }
     ensures memory { OnErr result (HasClash
-        (laid_beside C.image journal.now (all_links (map lent_chain chains.now)) hash.now second (calendar_of calendar.now))) }
+        (laid_beside C.image journal.now (all_links (map T.plain chains.now)) hash.now second (calendar_of calendar.now))) }
     ensures short { IfOk result IsShort }
 {
     let kept = CalendarTo {
@@ -191,25 +272,25 @@ fn lay_beside<C: Compress>(
     let above = along_calendar::<C, CalendarTo<'_, C>>(alloc, &kept, &input, calendar.links)?;
     match above.clash() {
         Some(clash) => Ok(Audit::Clash(clash)),
-        None => lay_below::<C>(alloc, journal.items(second), chains, hash, second),
+        None => lay_below::<C, T>(alloc, journal.items(second), chains, hash, second),
     }
 }
 
 /// Lays the links of aggregation chains beside the tree of items.
-fn lay_below<C: Compress>(
+fn lay_below<C: Compress, T: LaidChain>(
     alloc: Global,
     items: &[Item],
-    chains: &[ChainView<'_>],
+    chains: &[T],
     hash: &Imprint,
     second: u64,
 ) -> Result<Audit, NoMemory>
     requires round { IsRound items.now }
     requires count { length chains.now ≤ 16 }
-    requires levels { level_after 0 (all_links (map lent_chain chains.now)) ≤ highest_level }
+    requires levels { level_after 0 (all_links (map T.plain chains.now)) ≤ highest_level }
     ensures audit { IfOk result (λ audit. audit ≡
-        compared C.image items.now (all_links (map lent_chain chains.now)) hash.now second []) }
+        compared C.image items.now (all_links (map T.plain chains.now)) hash.now second []) }
     ensures memory { OnErr result (HasClash
-        (compared C.image items.now (all_links (map lent_chain chains.now)) hash.now second [])) }
+        (compared C.image items.now (all_links (map T.plain chains.now)) hash.now second [])) }
     ensures short { IfOk result IsShort }
 {
     let tree = ItemsOf::<C> {
@@ -220,7 +301,7 @@ fn lay_below<C: Compress>(
         imprint: *hash,
         level: 0,
     };
-    let walk = along_chains::<C, ItemsOf<'_, C>>(alloc, &tree, &start, chains)?;
+    let walk = along_chains::<C, ItemsOf<'_, C>, T>(alloc, &tree, &start, chains)?;
     match walk {
         Walk::Apart(clash) => Ok(Audit::Clash(clash)),
         Walk::At(place) => Ok(Audit::Inside(second, place.way())),

@@ -1,18 +1,15 @@
 //! What holds of audits, for the layers above to cite. None of these functions does anything.
 ghost use Rattle.std.specs.Prelude.{◌≡◌, ◌≤◌, ℕ, List};
-ghost use Rattle.ksi_imprint.specs.Imprints.{IsClash, IsImprint, zero_imprint};
-ghost use Rattle.ksi_imprint.specs.declared.clash.Clash as clashes;
+ghost use Rattle.ksi_imprint.specs.Imprints.{IsImprint};
 ghost use Rattle.ksi_aggchain.specs.Links.{highest_level};
 ghost use Rattle.ksi_aggchain.specs.Climbing.{level_after};
-ghost use Rattle.ksi_calendar.specs.Covered.{second_leaf};
 ghost use Rattle.ksi_signature.specs.declared.signature.Signature.{Signature};
 ghost use Rattle.ksi_verifier.specs.Accepted.{IsAccepted};
 ghost use Rattle.ksi_verifier.specs.Verdict.{verdict};
 ghost use Rattle.ksi_verifier.specs.declared.verdict.Verdict.TheVariants as verdicts;
-ghost use Rattle.ksi_journal.specs.Journal.{Contents, IsJournal, root_at};
-ghost use Rattle.ksi_auditor.specs.declared.answer.Audit.TheVariants as answers;
+ghost use Rattle.ksi_journal.specs.Journal.{Contents, IsJournal};
 ghost use Rattle.ksi_auditor.specs.Audit.{audit, links_of};
-ghost use Rattle.ksi_auditor.specs.Shown.{HasLinks, IsDecided, Shows, Tells};
+ghost use Rattle.ksi_auditor.specs.Shown.{HasLinks, IsDecided, MissedIsClash, Shows, Tells};
 
 use ksi_aggtree::laws::{metas_are_even, one_part, one_round, one_text};
 use ksi_beside::laws::beside_a_tree;
@@ -57,13 +54,11 @@ pub fn decided_tells()
 }
 
 /// A signature for a second before the start, or for one whose kept root is the zero imprint, is accepted against a decided
-/// publication only with a clash, which the audit answers.
+/// publication only with a clash, which the audit answers: by the law above it is one.
 pub fn missed_seconds()
     ensures { (image : List ℕ → List ℕ) (journal : Contents) (signature : Signature) (hash : List ℕ)
-        (publications : List (ℕ × List ℕ)) (t : ℕ) → ((bytes : List ℕ) → IsImprint (image bytes)) → IsJournal image journal →
-        IsImprint hash → verdict image signature hash publications ≡ verdicts.Accepted t →
-        IsDecided image journal signature → second_leaf (root_at journal) journal.start t ≡ zero_imprint →
-        (clash : clashes.Clash) × (audit image journal signature hash publications ≡ answers.Clash clash) × IsClash image clash }
+        (publications : List (ℕ × List ℕ)) → ((bytes : List ℕ) → IsImprint (image bytes)) → IsJournal image journal →
+        IsImprint hash → MissedIsClash image journal signature hash publications (audit image journal signature hash publications) }
 {
     parts();
     one_split();

@@ -1,13 +1,13 @@
 //! Audits: where an accepted hash stands in what the cores kept, or two different strings with one imprint: a collision.
 //!
-//! A lent signature is laid beside a journal. The string that each of its links hashes is compared, from the top, with the
+//! A signature is laid beside a journal. The string that each of its links hashes is compared, from the top, with the
 //! string of the kept tree at that place: first along the calendar, then along the tree of the second that the calendar
 //! links name. Where all strings are equal, the hash is a node of that tree, or its lowest links lead to an item of it. An
 //! item that has a name stands on the left below its leaf, whose string is the item's imprint, the name's metadata and the
 //! leaf's level. The first string that differs has the imprint of the kept one, so that it shows a clash of the hash function.
 //!
-//! The layer above may rely on this: [`audit_view`] gives exactly the answer that its definition computes of the signature
-//! that is shown, and what each answer says holds, whatever the hash function is; the proof needs no premise about it but
+//! The layer above may rely on this: [`audit`] and [`audit_view`], which is of a lent signature, give exactly the answer
+//! that its definition computes of the signature, by one body, and what each answer says holds, whatever the hash function is; the proof needs no premise about it but
 //! that its images are imprints. Memory is taken for the two strings of a clash alone, and is wanting only where the answer
 //! is a clash.
 //! The walk goes down by recursion, at most 63 links and 16 chains deep. In [`laws`] stands what holds of the definition.
@@ -29,9 +29,11 @@ mod calendar;
 mod chains;
 mod deep;
 mod items;
+mod laid;
 pub mod laws;
+mod links;
 mod reached;
 
 pub use answer::Audit;
-pub use auditing::audit_view;
+pub use auditing::{audit, audit_view};
 pub use ksi_imprint::{Clash, NoMemory};

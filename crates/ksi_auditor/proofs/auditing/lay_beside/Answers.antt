@@ -1,6 +1,6 @@
 use Rattle.std.proofs.Common.{map, sym, subst}
 use Rattle.ksi_verifier.specs.Leading.{all_links}
-use Rattle.ksi_verifier.specs.Lent.{calendar_of, lent_chain}
+use Rattle.ksi_verifier.specs.Lent.{calendar_of}
 use Rattle.ksi_auditor.specs.Audit.{laid_beside}
 use Rattle.ksi_auditor.specs.Shown.{HasClash}
 use Rattle.ksi_auditor.proofs.Beneath.{above_apart, above_clash, above_none}
@@ -10,13 +10,13 @@ use Rattle.ksi_auditor.proofs.auditing.lay_beside.Goals as goal
 
 pub returns-in_err-above-clause-memory : goal.returns-in_err-above-clause-memory
 returns-in_err-above-clause-memory g c =
-    let links = all_links (map lent_chain c.args.chains.now) in
+    let links = all_links (map g.T.LaidChain.plain c.args.chains.now) in
     err_told c.from_residual.result (HasClash (laid_beside g.C.Compress.image c.args.journal.now links c.args.hash.now c.args.second (calendar_of c.args.calendar.now)))
     (above_apart g.C.Compress.image c.args.journal.now links c.args.hash.now c.args.second c.calendar.result.now (calendar_of c.args.calendar.now) c.calendar.ensures c.in_err-above.ensures.memory)
 
 pub returns-in-Some-clause-audit : goal.returns-in-Some-clause-audit
 returns-in-Some-clause-audit g c =
-    let links = all_links (map lent_chain c.args.chains.now) in
+    let links = all_links (map g.T.LaidChain.plain c.args.chains.now) in
     above_clash g.C.Compress.image c.args.journal.now links c.args.hash.now c.args.second c.calendar.result.now (calendar_of c.args.calendar.now) c.calendar.ensures c.in_ok-above.above c.clash.result c.in_ok-above.ensures.walk c.clash.ensures.clash c.in-Some.clash c.in-Some.is
 
 pub lay_below-requires : goal.lay_below-requires
@@ -31,12 +31,12 @@ lay_below-requires g c =
 
 pub returns-in-None-clause-audit : goal.returns-in-None-clause-audit
 returns-in-None-clause-audit g c =
-    let links = all_links (map lent_chain c.args.chains.now) in
+    let links = all_links (map g.T.LaidChain.plain c.args.chains.now) in
     ok_goes_on c.lay_below.result _ _ c.lay_below.ensures.audit
     (above_none g.C.Compress.image c.args.journal.now links c.args.hash.now c.args.second c.calendar.result.now (calendar_of c.args.calendar.now) c.calendar.ensures c.in_ok-above.above c.clash.result c.in_ok-above.ensures.walk c.clash.ensures.clash c.items.result.now c.items.ensures c.in-None.is)
 
 pub returns-in-None-clause-memory : goal.returns-in-None-clause-memory
 returns-in-None-clause-memory g c =
-    let links = all_links (map lent_chain c.args.chains.now) in
+    let links = all_links (map g.T.LaidChain.plain c.args.chains.now) in
     err_has c.lay_below.result c.lay_below.ensures.memory
     (subst HasClash (above_none g.C.Compress.image c.args.journal.now links c.args.hash.now c.args.second c.calendar.result.now (calendar_of c.args.calendar.now) c.calendar.ensures c.in_ok-above.above c.clash.result c.in_ok-above.ensures.walk c.clash.ensures.clash c.items.result.now c.items.ensures c.in-None.is))

@@ -1,4 +1,7 @@
+use Rattle.std.proofs.Common.{sym, subst}
+use Rattle.ksi_auditor.specs.Shown.{HasClash}
 use Rattle.ksi_auditor.proofs.Cited.{Laws}
+use Rattle.ksi_auditor.proofs.Missing.{missed_leaf}
 use Rattle.ksi_auditor.proofs.Showing.{missed_shows}
 use Rattle.ksi_auditor.proofs.laws.missed_seconds.Goals as goal
 
@@ -22,4 +25,6 @@ returns c =
       clash = c.beside_a_tree.ensures.clash;
       beside = c.beside_a_tree.ensures.within;
     } in
-    λ image journal signature hash publications t lawful is_journal imprint passes decided missed. missed_shows laws image lawful journal is_journal signature hash publications imprint.size t passes decided missed
+    λ image journal signature hash publications lawful is_journal imprint t passes decided missed.
+    let m = missed_shows laws image lawful journal is_journal signature hash publications imprint.size t passes decided (missed_leaf journal t missed) in
+    subst HasClash (sym m.1) tt
