@@ -12,6 +12,7 @@ import urllib.request
 
 from . import check as checking
 from . import journal, service
+from .node import GivenUp, LostFacts
 from .programs import Missing
 
 DEFAULT = os.environ.get("KSI_SERVICE", "ksi-service-data")
@@ -196,7 +197,7 @@ def main(arguments):
     words = parser_of().parse_args(arguments)
     try:
         words.does(words)
-    except (Failed, Missing, service.Held, checking.Differs, journal.Refused, OSError) as error:
+    except (Failed, Missing, GivenUp, LostFacts, service.Held, checking.Differs, journal.Refused, OSError) as error:
         print(f"ksi-service: {error}", file=sys.stderr)
         return 1
     return 0

@@ -9,6 +9,8 @@ from collections import deque
 
 from .record import MAY_STORE, QUESTIONS, is_refusal, word
 
+MOST_VAIN_STARTS = 5
+"""How often in a row a node may end before it is given up."""
 MOST_LINES = 256
 """How many lines are on their way to a node at once; the others wait."""
 LONGEST_LINE = 1 << 22
@@ -21,6 +23,10 @@ class Down(Exception):
 
 class LostFacts(Exception):
     """A node found less than it had acknowledged, or more than can be: its file is not the one of this record."""
+
+
+class GivenUp(Exception):
+    """A node ended again and again before it answered anything."""
 
 
 class Line:
@@ -47,14 +53,19 @@ class Node:
         self.name, self.words, self.record, self.on_step = name, words, record, on_step
         self.waiting, self.flying = deque(), deque()
         self.alive, self.stopping, self.starts, self.unsaid, self.refused = False, False, 0, 0, 0
-        self.process = None
+        self.process, self.vain_starts, self.reason = None, 0, ""
 
     async def run(self):
         """Starts the process, again and again, and takes its blocks."""
         while not self.stopping:
             await self.live()
-            if not self.stopping:
-                await asyncio.sleep(0.05)
+            if self.stopping:
+                return
+            # a process that was killed may be started again at any time
+            self.vain_starts += self.process.returncode >= 0
+            if self.vain_starts == MOST_VAIN_STARTS:
+                raise GivenUp(f"{self.name} ends whenever it is started {self.reason}".rstrip())
+            await asyncio.sleep(0.05)
 
     def drop_cache(self):
         """Drops the system's cache of the file of facts, which may differ from the disk behind a sync that failed."""
@@ -90,6 +101,8 @@ class Node:
             line = (await self.process.stdout.readuntil(b"\n"))[:-1].decode()
             if line == ".":
                 return lines
+            if line.startswith("failed "):
+                self.reason = f"({line})"
             lines.append(line)
 
     async def begin(self, block):
@@ -114,6 +127,7 @@ class Node:
 
     def answered(self, block):
         line = self.flying.popleft()
+        self.vain_starts = 0
 
         def effect():
             if not line.answer.done():

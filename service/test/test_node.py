@@ -5,7 +5,7 @@ import sys
 import tempfile
 import unittest
 
-from ksi_service.node import Down, LostFacts, Node
+from ksi_service.node import Down, GivenUp, LostFacts, Node
 from ksi_service.record import Record, steps
 
 FAKE = os.path.join(os.path.dirname(os.path.abspath(__file__)), "fake_node.py")
@@ -80,6 +80,14 @@ class NodeTest(unittest.TestCase):
             return await node.ask("tell 6")
         self.play(work)
         self.assertEqual(self.told(), [("tell 5", None), ("seal 5", None), (None, None), ("tell 6", ["answer done"])])
+
+    def test_a_node_that_does_not_start_is_given_up(self):
+        self.facts = os.path.join(self.room.name, "absent", "facts")
+
+        async def work(node):
+            return None
+        with self.assertRaises(GivenUp):
+            self.play(work)
 
     def test_a_lost_fact_stops_the_host(self):
         with open(self.path, "w", encoding="ascii") as file:
