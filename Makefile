@@ -1,4 +1,4 @@
-# Installs ksi, its service, its library for C and its pages:
+# Installs ksi, its library for C, its pages and the page for browsers:
 #
 #   rt ci  (or `make`)          proves and builds the programs
 #   make install PREFIX=/usr/local
@@ -11,7 +11,6 @@ RT = rt
 CC = cc
 OUT = out
 PROGRAM = crates/ksi/out/ksi
-NODES = crates/ksi_serve_core/out/ksi_serve_core crates/ksi_serve_aggregator/out/ksi_serve_aggregator
 ARCHIVE = crates/ksi_c/out/libksi_c.a
 SONAME = libksi.so.1
 ROOT = $(DESTDIR)$(PREFIX)
@@ -24,7 +23,6 @@ all: programs library pages
 # rt proves again only what changed
 programs:
 	cd crates/ksi && $(RT) run > /dev/null
-	for it in ksi_serve_core ksi_serve_aggregator; do (cd crates/$$it && $(RT) run < /dev/null > /dev/null; test -x out/$$it) || exit 1; done
 
 library:
 	cd crates/ksi_c && $(RT) lib
@@ -44,14 +42,6 @@ check:
 install:
 	install -Dm755 $(PROGRAM) $(ROOT)/bin/ksi
 	install -Dm755 package/ksi-why $(ROOT)/bin/ksi-why
-	install -d $(ROOT)/lib/ksi
-	for it in $(NODES); do install -m755 $$it $(ROOT)/lib/ksi || exit 1; done
-	cp -r service/ksi_service $(ROOT)/lib/ksi
-	! test -e $(OUT)/page.html || install -m644 $(OUT)/page.html $(ROOT)/lib/ksi
-	rm -rf $(ROOT)/lib/ksi/ksi_service/__pycache__
-	install -Dm755 service/ksi-service $(ROOT)/lib/ksi/ksi-service
-	install -d $(ROOT)/bin
-	ln -sf ../lib/ksi/ksi-service $(ROOT)/bin/ksi-service
 	install -Dm644 $(ARCHIVE) $(ROOT)/lib/libksi.a
 	install -Dm644 $(OUT)/$(SONAME) $(ROOT)/lib/$(SONAME)
 	ln -sf $(SONAME) $(ROOT)/lib/libksi.so
@@ -60,18 +50,18 @@ install:
 	sed -e 's,@PREFIX@,$(PREFIX),' -e 's,@VERSION@,$(VERSION),' lang/c/ksi.pc.in > $(ROOT)/lib/pkgconfig/ksi.pc
 	chmod 644 $(ROOT)/lib/pkgconfig/ksi.pc
 	install -Dm644 $(OUT)/ksi.1 $(ROOT)/share/man/man1/ksi.1
-	install -Dm644 $(OUT)/ksi-service.1 $(ROOT)/share/man/man1/ksi-service.1
 	install -Dm644 $(OUT)/ksi.bash $(ROOT)/share/bash-completion/completions/ksi
 	install -Dm644 $(OUT)/_ksi $(ROOT)/share/zsh/site-functions/_ksi
 	install -Dm644 $(OUT)/ksi.fish $(ROOT)/share/fish/vendor_completions.d/ksi.fish
 	install -d $(DOC)
 	install -m644 README.md NOTICE docs/*.md $(DOC)
+	! test -e $(OUT)/page.html || install -Dm644 $(OUT)/page.html $(ROOT)/share/ksi/page.html
 
 uninstall:
-	cd $(ROOT) && rm -f bin/ksi bin/ksi-why bin/ksi-service lib/libksi.a lib/$(SONAME) lib/libksi.so include/ksi.h lib/pkgconfig/ksi.pc \
-	    share/man/man1/ksi.1 share/man/man1/ksi-service.1 share/bash-completion/completions/ksi share/zsh/site-functions/_ksi \
+	cd $(ROOT) && rm -f bin/ksi bin/ksi-why lib/libksi.a lib/$(SONAME) lib/libksi.so include/ksi.h lib/pkgconfig/ksi.pc \
+	    share/man/man1/ksi.1 share/bash-completion/completions/ksi share/zsh/site-functions/_ksi \
 	    share/fish/vendor_completions.d/ksi.fish
-	rm -rf $(DOC) $(ROOT)/lib/ksi
+	rm -rf $(DOC) $(ROOT)/share/ksi
 
 deb:
 	package/deb $(VERSION) $(OUT)

@@ -76,7 +76,7 @@ impl<C: Compress> VolatilePart<C> {
         ensures round { IsRound (items_of self.now.open_items) }
     {
         match &self.tree {
-            Some(tree) => tree.to_vec(alloc),
+            Some(tree) => tree.to_vec(),
             None => Ok(Vec::new(alloc)),
         }
     }
