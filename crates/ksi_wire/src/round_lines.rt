@@ -18,7 +18,7 @@ use ksi_schedule::{Actor, Plan};
 use std::alloc::Global;
 
 /// What a line asks of an aggregator of the plan. Each printed line of an event that may come to it is taken
-/// ([`printed_lines_are_taken`](crate::laws::printed_lines_are_taken)); of a response that is tested, not proved.
+/// ([`printed_lines_are_taken`](crate::laws::printed_lines_are_taken)); of a response that is neither proved nor tested.
 ///
 /// # Errors
 /// The first fault of the words from the left, or `Spelling` where the line is not just as what it asks is printed.
