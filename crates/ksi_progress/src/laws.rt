@@ -30,7 +30,8 @@ use ksi_world::laws::{
 /// this majority answers. Each core holds one root then.
 ///
 /// The root is the core's own candidate, where the core held nothing and this majority voted for nothing else. Of a majority
-/// of the least size, it is the imprint of the greatest vote that was cast there, or the candidate where none was.
+/// of the least size, where the core held nothing, it is the imprint of the greatest vote that was cast there, or the
+/// candidate where none was. The core has a round left.
 ///
 /// The events are two at the core, four deliveries for each core of the majority, and one for each core that is told. Two
 /// messages are sent for each voter, two for each core of the majority, and one for each core. Where all voters answer, the
@@ -89,8 +90,8 @@ pub fn no_second_is_stuck()
     seconds_are_kept();
 }
 
-/// Any core can decide, also one that does not vote. It tries as many ballots more as some majority's promises are rounds
-/// beyond its own. Its own candidate wins where it held nothing and this majority voted for nothing else.
+/// Any core that has rounds left can decide, also one that does not vote. It tries as many ballots more as some majority's
+/// promises are rounds beyond its own tried and promised ones, or more. Its own candidate wins where it held nothing and this majority voted for nothing else.
 pub fn any_core_decides()
     ensures decides { (image : List ℕ → List ℕ) (plan : PlanState) (events : List Event) → IsPlan plan → AreEvents plan events →
         (core second n : ℕ) (some : List ℕ) → core < plan.cores → InRange plan second → IsMajority (voters_on plan second) some →
@@ -132,7 +133,8 @@ pub fn all_seconds_can_be_held()
 }
 
 /// A request that waits can be joined: at most three events, and two for each step up, lead to the core's sealed items. It
-/// waits where its item stands in its aggregator's round, and each node above has an item of the one below or would take it.
+/// waits where its item stands in its aggregator's round, and each node above has an item of the one below or would take it,
+/// and where no round on the way has a response.
 /// Nobody votes in these events.
 pub fn waiting_requests_can_be_joined()
     ensures { (image : List ℕ → List ℕ) (plan : PlanState) (events : List Event) → IsPlan plan → AreEvents plan events →
@@ -157,7 +159,7 @@ pub fn joined_requests_can_be_issued()
 }
 
 /// A request that waits can be issued, after every schedule. Its core holds nothing for its second, and some majority of the
-/// second's voters cast no vote. Or else the core can come to hold the zero imprint, since that is its tree's imprint.
+/// second's voters cast no vote. What follows leads to one of two: it is issued, or the core holds the zero imprint.
 pub fn requests_can_be_issued()
     ensures { (image : List ℕ → List ℕ) (history : History) → IsSchedule history → (core steps number : ℕ) (asked : Asked) (some : List ℕ) →
         core < history.plan.cores → steps ≤ 8 → IsWaiting history.plan (world_of image history) core steps number asked →
@@ -173,8 +175,7 @@ pub fn requests_can_be_issued()
     one_first_missing();
 }
 
-/// Events that may follow a schedule make a schedule with it, within its million events. So what these laws find can be
-/// replayed.
+/// Events that may follow a schedule make a schedule with it, within its million events. What is so short can be replayed.
 pub fn schedules_go_on()
     ensures { (history : History) (later : List Event) → IsSchedule history → AreEvents history.plan later →
         length history.events + length later ≤ 1000000 → IsSchedule (record { plan = history.plan; events = history.events ++ later }) }

@@ -12,7 +12,8 @@ ghost use Rattle.ksi_synod.specs.Runs.{three, one_of_three};
 use ksi_synod::laws::{agreement, states_are_kept};
 
 /// A ballot decides, after every history, where it is beyond the promises of a majority that answers: all cores hold one root
-/// then. Some core of any list is beyond all promises of this list.
+/// then. Some core of any list that is not empty is beyond all
+/// promises of this list.
 pub fn a_ballot_decides()
     ensures decides { (set_up : SetUp) (events : List Event) → IsHistory set_up events → AreVoters set_up.cores set_up.voters →
         (core : ℕ) (candidate some : List ℕ) → core < set_up.cores → IsMajority set_up.voters some →
