@@ -1,76 +1,85 @@
-"""Holds a run against the proved world: the record's schedule is replayed, and each signature and publication that was handed out is
-compared, byte for byte, with that of the replay. A wrong record gives other bytes; so nothing of the host is trusted for it."""
+"""Holds a run against the proved world: `ksi_retrace` compares each block that a node said, and each signature that was handed out,
+with what the world says at the same place. A wrong record gives other bytes; so nothing of the host is trusted for it."""
 import os
 import random
-import subprocess
 import tempfile
 
-from . import journal
-from .programs import Missing, program
+from . import backup, extension
+from .plan import Plan
+from .proved import Core, Refused, ksi
+from .publications import Publications
+from .record import Signed, told
+from .retrace import Differs, retrace
+
+MOST_AUDITED = 1 << 17
+"""Audits want the journal of the whole run: they are made of runs of at most so many seconds."""
 
 
-class Differs(Exception):
-    """The run is not that of its record."""
-
-
-def handed_out(folder):
-    """Each signature that was handed out: its aggregator, number, imprint, second and bytes."""
-    try:
-        with open(os.path.join(folder, "issued"), encoding="ascii") as lines:
-            for line in lines:
-                if line.endswith("\n"):
-                    node, number, imprint, second, text = line.split()
-                    yield node, int(number), imprint, int(second), bytes.fromhex(text)
-    except FileNotFoundError:
-        return
-
-
-def retrace(folder, run):
-    """Compares what the nodes said with what the world says to each event, by the proved `ksi_retrace`. Returns its line."""
-    try:
-        retracer = program("ksi_retrace")
-    except Missing:
-        return None
-    if run.unsaid:
-        return None
-    with tempfile.TemporaryDirectory(dir=folder, prefix="replay-") as work:
-        for name, text in (("schedule", run.text()), ("told", "".join(run.told))):
-            with open(os.path.join(work, name), "w", encoding="ascii") as file:
-                file.write(text)
-        told = subprocess.run([retracer, "schedule", "told"], cwd=work, capture_output=True, text=True, check=False).stdout.strip()
-    if told != f"agrees {len(run.events)}":
-        raise Differs(f"ksi_retrace: {told}")
-    return told
+def look(record, samples):
+    """What the record tells beside its blocks: all published answers, the last second sealed, and some of the signatures."""
+    published, chosen, count, last, dice = set(), [], 0, 0, random.Random(1)
+    for it in told(record):
+        if isinstance(it, Signed):
+            count += 1
+            if len(chosen) < samples:
+                chosen.append(it.text)
+            elif dice.random() < samples / count:
+                chosen[dice.randrange(samples)] = it.text
+        elif it.line is not None and it.message is None:
+            words = it.line.split(" ")
+            if words[0] == "publish" and it.block and it.block[0].startswith("answer published "):
+                published.add((int(words[1]), it.block[0].split(" ")[2]))
+            if words[0] == "seal":
+                last = max(last, int(words[1]))
+    return published, [bytes.fromhex(text) for text in chosen], last
 
 
 def check(folder, samples=50, say=print):
-    """Raises Differs where the run is not that of its record; says what was compared."""
-    run = journal.make(folder)
-    issued, published = journal.read_journal(os.path.join(folder, "journal"))
-    say(f"replayed {len(run.events)} events, {run.messages} messages, {len(issued)} issued, {len(published)} published")
-    told = retrace(folder, run)
-    say(f"ksi_retrace: {told}: each block that a node said is the world's" if told else "ksi_retrace: not run (a step was never said, or it is not built)")
-    handed = list(handed_out(folder))
-    for node, number, _, _, signature in handed:
-        if issued.get(run.numbers.get((node, number))) != signature:
-            raise Differs(f"the signature of request {number} of {node} is not that of the replay")
-    say(f"{len(handed)} signatures were handed out: each is byte for byte that of the replay")
-    last = max(published, default=None)
-    chosen = [it for it in handed if last is not None and it[3] <= last]
-    for row in random.Random(1).sample(chosen, min(samples, len(chosen))):
-        use(folder, row, last)
-    say(f"{min(samples, len(chosen))} of them extended to second {last}, verified and audited")
-    return run
+    """Raises Differs where the run is not that of its record; says what was compared. Returns the counts of `ksi_retrace`."""
+    steps, unsaid, signatures = retrace(os.path.join(folder, "plan"), os.path.join(folder, "record"))
+    say(f"ksi_retrace agrees: the blocks of {steps} steps ({unsaid} of them never came) and {signatures} signatures are the proved world's")
+    published, chosen, last = look(os.path.join(folder, "record"), samples)
+    publications = Publications(folder)
+    for it in publications.published:
+        if it not in published:
+            raise Differs(f"the publication of second {it[0]} is no answer of a core")
+    say(f"{len(publications.published)} publications are answers of cores")
+    if publications.last() is not None:
+        say(f"{use(folder, chosen, publications, last)} signatures, extended to second {publications.last()}, are accepted, and found in the cores' mirrors")
+    return steps, unsaid, signatures
 
 
-def use(folder, row, last):
-    """A signature, extended to a publication, is accepted, and its hash is found in the journal."""
-    _, _, imprint, second, signature = row
-    with tempfile.TemporaryDirectory(dir=folder, prefix="extend-") as work:
-        at = lambda name: os.path.abspath(os.path.join(folder, name))
-        with open(os.path.join(work, "extended"), "wb") as file:
-            file.write(journal.extend(folder, signature, last))
-        if journal.ksi("verify", "extended", imprint, at("publications"), cwd=work) != f"accepted {second}":
-            raise Differs(f"a signature of second {second} is accepted for another second")
-        if not journal.ksi("audit", at("journal"), "extended", imprint, at("publications"), cwd=work).startswith((f"inside {second} ", f"beneath {second} ")):
-            raise Differs(f"an audit of second {second} finds something else")
+def use(folder, signatures, publications, last):
+    """Extends signatures that the last publication covers by a core, and audits them against the mirrors of all. Returns how many."""
+    plan, used = Plan.read(os.path.join(folder, "plan")), 0
+    with tempfile.TemporaryDirectory(prefix="ksi-check-") as room:
+        audited = last - plan.start < MOST_AUDITED
+        if audited:
+            backup.make(folder, room, last, say=lambda text: None)
+        with Core(folder, used % plan.cores) as core:
+            for signature in signatures:
+                if extension.parts_of(signature).second > publications.last():
+                    continue
+                parts, content = extended(core, signature, publications)
+                if audited:
+                    audit(room, parts, content, publications)
+                used += 1
+    return used
+
+
+def extended(core, signature, publications):
+    try:
+        return extension.extend_by(core, signature, publications.last(), publications.path)
+    except extension.NotExtended as reason:
+        raise Differs(f"a signature is not extended: {reason}") from None
+
+
+def audit(room, parts, content, publications):
+    with open(os.path.join(room, "extended"), "wb") as file:
+        file.write(content)
+    try:
+        line = ksi("audit", "journal.0", "extended", parts.imprint, os.path.abspath(publications.path), cwd=room)
+    except Refused as refused:
+        raise Differs(f"an audit says {refused}") from None
+    if not line.startswith((f"inside {parts.second} ", f"beneath {parts.second} ")):
+        raise Differs(f"an audit says {line}")

@@ -5,7 +5,7 @@ requests go below that core. What was lost, or came late, is asked again for a l
 import asyncio
 import time
 
-from .node import Down
+from .node import Down, Line
 
 TRIES = 40
 """How often a step is tried again before its second is given up."""
@@ -13,6 +13,10 @@ TURNS = 60
 """How often a request is made again before it is refused."""
 AFTER = 1.01
 """How long behind its beginning a second is driven, so that requests for it have come."""
+MOST_WAITING = 10_000
+"""How many requests may wait for their signatures at once."""
+MOST_AT_ONCE = 16
+"""How many seconds are driven at once: after a standstill the missed ones are decided in groups of so many."""
 
 
 class Busy(Exception):
@@ -26,8 +30,9 @@ class NotSigned(Exception):
 class Request:
     """A hash that waits for its signature in one second."""
 
-    def __init__(self, number, imprint):
+    def __init__(self, number, second, imprint):
         self.number, self.imprint = number, imprint
+        self.line = Line(f"request {number} {second} {imprint}")
         self.signature = asyncio.get_running_loop().create_future()
 
     def answer(self, text):
@@ -36,17 +41,17 @@ class Request:
 
 
 class Clock:
-    def __init__(self, network, most_waiting=10_000, now=time.time):
+    def __init__(self, network, most_waiting=MOST_WAITING, now=time.time):
         self.network, self.plan, self.now, self.most_waiting = network, network.plan, now, most_waiting
         self.asked = {}
         self.number = int(now() * 1000) << 20
-        self.turn = self.waiting = self.signed = self.again = 0
-        self.published = {}
-        self.on_signed = lambda second, aggregator, request, text: None
+        self.turn = self.waiting = self.signed = self.again = self.busy = 0
+        self.published, self.on_published = None, None
 
     async def sign(self, imprint, second=None):
         """The signature of an imprint's 64 hex digits, and the second that it is of."""
         if self.waiting >= self.most_waiting:
+            self.busy += 1
             raise Busy()
         self.waiting += 1
         try:
@@ -81,10 +86,11 @@ class Clock:
     async def ask(self, imprint, second, aggregator):
         """The signature that a second gives, or None where it gives none."""
         self.number += 1
-        request = Request(self.number, imprint)
+        request = Request(self.number, second, imprint)
         self.asked.setdefault(second, {}).setdefault(aggregator, []).append(request)
+        self.network.aggregator(aggregator).send(request.line)
         try:
-            block = await self.network.aggregator(aggregator).ask(f"request {request.number} {second} {imprint}")
+            block = await request.line.answer
         except Down:
             return None
         return await request.signature if block[0].startswith("answer number ") else None
@@ -95,9 +101,10 @@ class Clock:
         try:
             await self.close(second, leader)
             await self.decide(second, leader)
-            await self.respond(second, leader)
+            if second in self.asked:
+                await self.respond(second, leader)
+                await self.gather(second)
         finally:
-            await self.gather(second)
             for requests in self.asked.pop(second, {}).values():
                 for request in requests:
                     request.answer(None)
@@ -137,16 +144,20 @@ class Clock:
         await self.decide(second, core)
 
     async def held(self, core, text):
-        """A step of a core that wants all seconds held: those that it lacks are told to it first."""
-        for _ in range(TRIES):
+        """A step of a core that wants all seconds held: those that it lacks, the first one first, are told to it before."""
+        tries, lacking = 0, None
+        while tries < TRIES:
             try:
                 words = (await self.network.core(core).ask(text))[0].split(" ")
             except Down:
+                tries += 1
                 await asyncio.sleep(0.05)
                 continue
             if words[1] != "undecided":
                 return words
-            await self.hold(core, int(words[2]))
+            tries = tries + 1 if lacking == words[2] else 0
+            lacking = words[2]
+            await self.hold(core, int(lacking))
         return None
 
     async def respond(self, second, core):
@@ -162,7 +173,7 @@ class Clock:
         """Takes the signatures that are there, and tells whether all are."""
         whole = True
         for number, requests in self.asked.get(second, {}).items():
-            waiting = [it for it in requests if not it.signature.done()]
+            waiting = [it for it in requests if not it.signature.done() and it.line.step is not None]
             node = self.network.aggregator(number)
             try:
                 blocks = await asyncio.gather(*[node.ask(f"sign {it.number}") for it in waiting])
@@ -170,31 +181,50 @@ class Clock:
                 blocks = [["not issued"]] * len(waiting)
             for request, block in zip(waiting, blocks):
                 if block[0].startswith("signature "):
-                    text = block[0].split(" ")[1]
-                    self.on_signed(second, number, request, text)
-                    request.answer(text)
+                    self.hand_out(request, block[0].split(" ")[1])
                 else:
                     whole = False
+        await self.recorded()
         return whole
+
+    def hand_out(self, request, text):
+        """Answers a request once its signature is on the record."""
+        self.network.record.add(["signed", request.line.step, text], lambda: request.answer(text))
+
+    async def recorded(self):
+        """Waits until all that was added to the record is on the disk."""
+        there = asyncio.get_running_loop().create_future()
+        self.network.record.after(lambda: there.done() or there.set_result(None))
+        await there
 
     async def publish(self, core, second):
         """The imprint that a core publishes for a second, in hex; None where it cannot."""
         words = await self.held(core, f"publish {second}")
         if words is None or words[1] != "published":
             return None
-        self.published[second] = words[2]
+        self.published = second
+        if self.on_published:
+            await self.on_published(second, words[2])
         return words[2]
 
     async def run(self, first, publish_every):
         """Drives each second in its time, and lets a core publish so often."""
         tasks, second = set(), first
-        while True:
-            await asyncio.sleep(max(0.0, second + AFTER - self.now()))
-            jobs = [self.drive(second)]
-            if second % publish_every == publish_every - 1 and second - 2 >= self.plan.start:
-                jobs.append(self.publish(second % self.plan.cores, second - 2))
-            for job in jobs:
-                task = asyncio.create_task(job)
-                tasks.add(task)
-                task.add_done_callback(tasks.discard)
-            second += 1
+        try:
+            while True:
+                await asyncio.sleep(max(0.0, second + AFTER - self.now()))
+                while len(tasks) >= MOST_AT_ONCE:
+                    done, tasks = await asyncio.wait(tasks, return_when=asyncio.FIRST_COMPLETED)
+                    for task in done:
+                        task.result()
+                for task in [it for it in tasks if it.done()]:
+                    tasks.remove(task)
+                    task.result()
+                tasks.add(asyncio.create_task(self.drive(second)))
+                if second % publish_every == publish_every - 1 and second - 2 >= self.plan.start:
+                    tasks.add(asyncio.create_task(self.publish(second % self.plan.cores, second - 2)))
+                second += 1
+        finally:
+            for task in tasks:
+                task.cancel()
+            await asyncio.gather(*tasks, return_exceptions=True)

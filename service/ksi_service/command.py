@@ -1,6 +1,7 @@
 """The command `ksi-service`."""
 import argparse
 import asyncio
+import hashlib
 import json
 import os
 import signal
@@ -11,9 +12,12 @@ import urllib.error
 import urllib.request
 
 from . import check as checking
-from . import journal, service
+from . import backup as backing
+from . import files, service
 from .node import GivenUp, LostFacts
 from .programs import Missing
+from .proved import Refused, ksi
+from .record import last_state
 
 DEFAULT = os.environ.get("KSI_SERVICE", "ksi-service-data")
 
@@ -45,16 +49,20 @@ def ask(folder, path, content=None, kind="text/plain"):
         raise Failed(f"the door at {address} does not answer: {error}") from None
 
 
-def write(name, content):
-    """Writes a file whole, then puts it in its place."""
-    with open(name + ".new", "wb") as file:
-        file.write(content)
-    journal.keep(name + ".new", name)
+def digest_of(path):
+    """The SHA-256 of a file, in hex."""
+    digest = hashlib.sha256()
+    with open(path, "rb") as file:
+        while piece := file.read(1 << 20):
+            digest.update(piece)
+    return digest.hexdigest()
 
 
 def address_of(text):
     host, _, port = text.rpartition(":")
-    return host or "127.0.0.1", int(port)
+    if not port.isdigit() or int(port) > 65535:
+        raise Failed(f"{text} is not HOST:PORT")
+    return host.strip("[]") or "127.0.0.1", int(port)
 
 
 def start(words):
@@ -66,7 +74,7 @@ def start(words):
     for _ in range(300):
         if child.poll() is not None:
             with open(os.path.join(words.folder, "log"), encoding="utf-8", errors="replace") as log:
-                raise Failed("it did not start: " + log.read().strip().splitlines()[-1])
+                raise Failed("it did not start: " + log.read().strip().splitlines()[-1].removeprefix("ksi-service: "))
         try:
             address, number = door(words.folder)
             if number == child.pid:
@@ -79,7 +87,8 @@ def start(words):
 
 
 def run(words):
-    asyncio.run(service.run(words.folder, words.cores, words.aggregators, address_of(words.door), words.publish_every))
+    asyncio.run(service.run(words.folder, words.cores, words.aggregators, address_of(words.door), words.publish_every,
+                            words.most_waiting, words.cut_every))
 
 
 def stop(words):
@@ -101,52 +110,49 @@ def status(words):
 def sign(words):
     """Signs a file by its hash: the file does not leave its owner."""
     name = words.out or words.file + ".ksig"
-    write(name, ask(words.folder, "/sign", service.digest_of(words.file).encode()))
+    files.write(name, ask(words.folder, "/sign", digest_of(words.file).encode()))
     print(f"signed {name}")
 
 
 def extend(words):
     with open(words.signature, "rb") as file:
         content = ask(words.folder, "/extend", file.read(), "application/octet-stream")
-    write(words.out or words.signature, content)
+    files.write(words.out or words.signature, content)
     print(f"extended {words.out or words.signature}")
 
 
 def publications(words):
-    write(words.out, ask(words.folder, "/publications"))
+    files.write(words.out, ask(words.folder, "/publications"))
     print(f"saved {words.out}")
 
 
 def verify(words):
     """By the proved `ksi verify`: its own line and status."""
     try:
-        print(journal.ksi("verify", words.signature, service.digest_of(words.file), words.publications))
-    except journal.Refused as refused:
+        print(ksi("verify", words.signature, digest_of(words.file), words.publications))
+    except Refused as refused:
         raise Failed(str(refused)) from None
 
 
 def check(words):
     """Holds the record of a service that is stopped against the proved world."""
-    held = service.lock(words.folder)
+    held = files.lock(words.folder)
     checking.check(words.folder, words.samples)
     held.close()
 
 
 def backup(words):
     """The mirrors of all cores, merged, and the journal of what they hold, by the proved `ksi`."""
-    held = service.lock(words.folder)
-    journal.make(words.folder)
-    at = lambda name: os.path.abspath(os.path.join(words.out, name))
-    os.makedirs(words.out, exist_ok=True)
-    schedule, cores = os.path.abspath(os.path.join(words.folder, "schedule")), service.Plan.read(os.path.join(words.folder, "plan")).cores
-    for core in range(cores):
-        print(journal.ksi("mirror", schedule, str(core), at(f"core_{core}")))
-    os.replace(at("core_0"), at("mirror"))
-    for core in range(1, cores):
-        print(journal.ksi("merge", at("mirror"), at(f"core_{core}"), at("mirror")))
-        os.remove(at(f"core_{core}"))
-    print(journal.ksi("whole", at("mirror"), at("journal")))
+    held = files.lock(words.folder)
+    backing.make(words.folder, words.out, last_state(os.path.join(words.folder, "record"))[0].second)
     held.close()
+
+
+def positive(text):
+    number = int(text)
+    if number < 1:
+        raise ValueError(text)
+    return number
 
 
 def parser_of():
@@ -156,9 +162,11 @@ def parser_of():
         one = commands.add_parser(name, help=told)
         one.add_argument("folder", nargs="?", default=DEFAULT)
         one.add_argument("--cores", type=int, default=3, choices=range(1, 10), metavar="1..9")
-        one.add_argument("--aggregators", type=int, default=2)
+        one.add_argument("--aggregators", type=positive, default=2)
         one.add_argument("--door", default="127.0.0.1:8080", metavar="HOST:PORT", help="where to listen; port 0 takes a free one")
-        one.add_argument("--publish-every", type=int, default=3600, metavar="SECONDS")
+        one.add_argument("--publish-every", type=positive, default=3600, metavar="SECONDS", help="how often a core publishes: 3600")
+        one.add_argument("--most-waiting", type=positive, default=service.MOST_WAITING, metavar="REQUESTS", help="how many requests may wait before the door answers 503")
+        one.add_argument("--cut-every", type=positive, default=3600, metavar="SECONDS", help="how often the record begins a new file, and the one before is compressed")
         one.set_defaults(does=does)
     for name, does, told in (("stop", stop, "stop it"), ("status", status, "its counters")):
         one = commands.add_parser(name, help=told)
@@ -197,7 +205,7 @@ def main(arguments):
     words = parser_of().parse_args(arguments)
     try:
         words.does(words)
-    except (Failed, Missing, GivenUp, LostFacts, service.Held, checking.Differs, journal.Refused, OSError) as error:
+    except (Failed, Missing, GivenUp, LostFacts, files.Held, checking.Differs, Refused, OSError) as error:
         print(f"ksi-service: {error}", file=sys.stderr)
         return 1
     return 0

@@ -8,6 +8,9 @@ from .node import Line, Node
 from .programs import program
 from .record import Record
 
+MOST_DECIDED = 4096
+"""How many seconds back the host remembers what was decided; the cores remember all."""
+
 
 class Trouble:
     """What a test does to messages: the shares that are lost, given twice, and held back, and for how long at most."""
@@ -24,6 +27,18 @@ class Trouble:
         return [self.dice.uniform(0, self.longest) if self.dice.random() < self.late else 0 for _ in range(copies)]
 
 
+def second_of(text):
+    """The second of a message."""
+    words = text.split(" ", 4)
+    return int(words[1] if words[0] == "response" else words[2])
+
+
+def decree_of(text):
+    """The imprint that a message tells as decided, or None."""
+    words = text.split(" ", 4)
+    return words[4] if words[0] == "synod" and words[3] == "success" else None
+
+
 class Network:
     def __init__(self, folder, plan, trouble=None):
         self.plan, self.trouble, self.lost = plan, trouble, 0
@@ -34,7 +49,7 @@ class Network:
             name: Node(name, [programs[name[0]], file, name[1:], folder, f"{name}.facts"], self.record, self.route)
             for name in plan.names()}
         self.flights, self.calm = collections.Counter(), {}
-        self.decided = {}
+        self.decided, self.seconds_decided = collections.OrderedDict(), 0
         self.tasks = []
 
     def core(self, number):
@@ -53,10 +68,9 @@ class Network:
                 self.carry(to, text, [step, place], delay)
 
     def carry(self, to, text, message, delay):
-        words = text.split(" ", 4)
-        second = int(words[1] if words[0] == "response" else words[2])
-        if words[0] == "synod" and words[3] == "success":
-            self.decided[second] = words[4]
+        second, decree = second_of(text), decree_of(text)
+        if decree and second not in self.decided:
+            self.note_decided(second, decree)
         line = Line(text, message)
         self.flights[second] += 1
         line.answer.add_done_callback(lambda answer: self.landed(answer, second))
@@ -64,6 +78,12 @@ class Network:
             asyncio.get_running_loop().call_later(delay, self.nodes[to].send, line)
         else:
             self.nodes[to].send(line)
+
+    def note_decided(self, second, decree):
+        self.decided[second] = decree
+        self.seconds_decided += 1
+        while len(self.decided) > MOST_DECIDED:
+            self.decided.popitem(last=False)
 
     def landed(self, answer, second):
         answer.exception()
@@ -78,15 +98,15 @@ class Network:
         while self.flights.get(second):
             await self.calm.setdefault(second, asyncio.Event()).wait()
 
-    def begin(self):
-        self.tasks = [asyncio.create_task(it) for it in (self.record.run(), *(node.run() for node in self.nodes.values()))]
+    def begin(self, cut_every=3600.0):
+        self.tasks = [asyncio.create_task(it) for it in (self.record.run(cut_every), *(node.run() for node in self.nodes.values()))]
         return self.tasks
 
     async def ready(self):
         while not all(node.alive for node in self.nodes.values()):
-            ended = [task for task in self.tasks if task.done()]
-            for task in ended:
-                task.result()
+            for task in self.tasks:
+                if task.done():
+                    task.result()
             await asyncio.sleep(0.01)
 
     async def stop(self):

@@ -9,12 +9,12 @@ from collections import deque
 
 from .record import MAY_STORE, QUESTIONS, is_refusal, word
 
-MOST_VAIN_STARTS = 5
-"""How often in a row a node may end before it is given up."""
+MOST_VAIN_STARTS = 8
+"""How often in a row a node may end before it is given up: some ten seconds, as the time between starts doubles."""
+FIRST_PAUSE = 0.05
+"""How many seconds lie between an end and the next start, if it is the first in a row."""
 MOST_LINES = 256
 """How many lines are on their way to a node at once; the others wait."""
-LONGEST_LINE = 1 << 22
-"""The longest line of a block: a signature in hex fits."""
 
 
 class Down(Exception):
@@ -35,25 +35,28 @@ class Line:
     def __init__(self, text, message=None):
         self.text, self.message = text, message
         self.answer = asyncio.get_running_loop().create_future()
-
-    def is_question(self):
-        return word(self.text) in QUESTIONS
-
-    def may_store(self):
-        return word(self.text) in MAY_STORE
+        self.step = None
+        """Which step of the record it was."""
+        self.is_question = word(text) in QUESTIONS
+        self.may_store = word(text) in MAY_STORE
 
     def fail(self, name):
         if not self.answer.done():
             self.answer.set_exception(Down(name))
             self.answer.exception()
 
+    def answered(self, block):
+        if not self.answer.done():
+            self.answer.set_result(block)
+
 
 class Node:
     def __init__(self, name, words, record, on_step):
         self.name, self.words, self.record, self.on_step = name, words, record, on_step
-        self.waiting, self.flying = deque(), deque()
+        self.waiting, self.flying, self.storing = deque(), deque(), 0
         self.alive, self.stopping, self.starts, self.unsaid, self.refused = False, False, 0, 0, 0
         self.process, self.vain_starts, self.reason = None, 0, ""
+        self.ready_lines = []
 
     async def run(self):
         """Starts the process, again and again, and takes its blocks."""
@@ -65,7 +68,7 @@ class Node:
             self.vain_starts += self.process.returncode >= 0
             if self.vain_starts == MOST_VAIN_STARTS:
                 raise GivenUp(f"{self.name} ends whenever it is started {self.reason}".rstrip())
-            await asyncio.sleep(0.05)
+            await asyncio.sleep(FIRST_PAUSE * 2 ** self.vain_starts)
 
     def drop_cache(self):
         """Drops the system's cache of the file of facts, which may differ from the disk behind a sync that failed."""
@@ -79,13 +82,18 @@ class Node:
         """One life of the process."""
         self.drop_cache()
         pipe = asyncio.subprocess.PIPE
-        self.process = process = await asyncio.create_subprocess_exec(
-            *self.words, stdin=pipe, stdout=pipe, stderr=asyncio.subprocess.DEVNULL, limit=LONGEST_LINE, start_new_session=True)
+        process = await asyncio.create_subprocess_exec(
+            *self.words, stdin=pipe, stdout=pipe, stderr=asyncio.subprocess.DEVNULL, limit=1 << 20, start_new_session=True)
+        self.process, self.ready_lines = process, []
+        begun = False
         try:
-            await self.begin(await self.block())
-            while True:
-                self.answered(await self.block())
-        except (asyncio.IncompleteReadError, ConnectionError):
+            async for block in self.blocks(process):
+                if begun:
+                    self.answered(block)
+                else:
+                    self.begin(block)
+                    begun = True
+        except ConnectionError:
             pass
         finally:
             self.alive = False
@@ -95,73 +103,83 @@ class Node:
                 line.fail(self.name)
             self.waiting.clear()
 
-    async def block(self):
-        lines = []
-        while True:
-            line = (await self.process.stdout.readuntil(b"\n"))[:-1].decode()
-            if line == ".":
-                return lines
+    async def blocks(self, process):
+        """Each block that the process writes, until it ends. Lines are given on behind all blocks that came at once."""
+        block, rest = [], b""
+        while piece := await process.stdout.read(1 << 18):
+            *lines, rest = (rest + piece).split(b"\n")
+            for line in lines:
+                if line == b".":
+                    yield block
+                    block = []
+                else:
+                    block.append(line.decode("ascii", "replace"))
+            self.pump()
+        for line in block:
             if line.startswith("failed "):
                 self.reason = f"({line})"
-            lines.append(line)
 
-    async def begin(self, block):
+    def begin(self, block):
         """Sees by its count of facts which of the unanswered lines happened before the node ended."""
-        if not block or not block[0].startswith("ready "):
+        if not block[0].startswith("ready "):
             raise LostFacts(f"{self.name} began with {block}")
         found, state = int(block[0].split(" ")[1]), self.record.node(self.name)
-        storing = [at for at, (line, _) in enumerate(state.unanswered) if word(line) in MAY_STORE]
-        unsaid = 0
-        if state.facts is not None and found != state.facts:
-            if found != state.facts + 1 or not storing:
-                raise LostFacts(f"{self.name} acknowledged {state.facts} facts and found {found}")
+        known, unsaid = state.facts or 0, 0
+        if found != known:
+            storing = [at for at, (line, _) in enumerate(state.unanswered) if word(line) in MAY_STORE]
+            if found != known + 1 or not storing:
+                raise LostFacts(f"{self.name} acknowledged {known} facts and found {found}")
             unsaid = storing[0] + 1
             self.unsaid += 1
         self.record.add(["ready", self.name, found, unsaid])
-        flying, self.flying = self.flying, deque()
+        flying, self.flying, self.storing = self.flying, deque(), 0
         for line in flying:
             line.fail(self.name)
         self.starts += 1
         self.alive = True
-        self.pump()
 
     def answered(self, block):
         line = self.flying.popleft()
+        self.storing -= line.may_store
         self.vain_starts = 0
-
-        def effect():
-            if not line.answer.done():
-                line.answer.set_result(block)
-
-        if line.is_question():
-            self.record.after(effect)
+        if line.is_question:
+            self.record.after(lambda: line.answered(block))
+            return
+        step = self.record.add(["said", self.name, block], lambda: line.answered(block))
+        if is_refusal(block):
+            self.refused += 1
         else:
-            step = self.record.add(["said", self.name, block], effect)
-            if is_refusal(block):
-                self.refused += 1
-            else:
-                self.on_step(step, block)
-        self.pump()
+            line.step = step
+            self.on_step(step, block)
 
     def pump(self):
         """Gives lines on, as many as may be on their way."""
         while self.alive and self.waiting and len(self.flying) < MOST_LINES:
             line = self.waiting[0]
-            if line.may_store() and any(it.may_store() for it in self.flying):
+            if line.may_store and self.storing:
                 return
             self.flying.append(self.waiting.popleft())
+            self.storing += line.may_store
             self.give(line, self.process)
 
     def give(self, line, process):
         """Writes a line to the process, once the record has it."""
         def effect():
-            if process is self.process and process.returncode is None and not process.stdin.is_closing():
-                process.stdin.write(line.text.encode() + b"\n")
+            if process is self.process:
+                if not self.ready_lines:
+                    asyncio.get_running_loop().call_soon(self.write)
+                self.ready_lines.append(line.text)
 
-        if line.is_question():
+        if line.is_question:
             self.record.after(effect)
         else:
             self.record.add(["given", self.name, line.text, line.message], effect)
+
+    def write(self):
+        """Writes the lines that the record has by now, in one piece."""
+        lines, self.ready_lines = self.ready_lines, []
+        if self.process.returncode is None and not self.process.stdin.is_closing():
+            self.process.stdin.write("".join(f"{it}\n" for it in lines).encode())
 
     def send(self, line):
         """Puts a line on its way. A node that is down takes none."""
@@ -179,6 +197,12 @@ class Node:
     def kill(self):
         if self.process is not None and self.process.returncode is None:
             self.process.send_signal(signal.SIGKILL)
+
+    def cut(self):
+        """Gives half a line and ends the input, as a host does that is killed while it writes."""
+        if self.process is not None and self.process.returncode is None and not self.process.stdin.is_closing():
+            self.process.stdin.write(b"tell 17")
+            self.process.stdin.close()
 
     def end(self):
         """Lets the process end by the end of its input."""

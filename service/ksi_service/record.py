@@ -1,22 +1,29 @@
 """The record of a run: what was given to each node, and what each node said. It is on the disk before it has an effect.
 
-One JSON list a line:
+It is a folder of files, cut from time to time, each but the last compressed. One JSON list a line:
 
     ["given", NODE, LINE, MESSAGE]     the line was given to the node; MESSAGE is [STEP, PLACE] where the line is one that another
                                        node sent, the PLACEth message of that step; else null
     ["said", NODE, BLOCK]              the node's answer to the first line that it had not answered yet
     ["ready", NODE, RECORDS, UNSAID]   the node's process was started and found so many facts; of the lines that it had not
                                        answered the first UNSAID happened before it ended, and the others did not
+    ["signed", STEP, TEXT]             the signature, in hex, that was handed out for the request of this step
+    ["begins", STEPS, SECOND, NODES]   the first line of a file: what `State` has at this place
 
 Steps are numbered from 0 in the order of the record: a block that is no refusal, a line that happened and was never answered, and
 a restart, which is each start of a node but its first. Questions, which change nothing, are not recorded."""
 import asyncio
 import concurrent.futures
+import gzip
 import json
 import os
+import re
+import shutil
 from collections import deque
 from dataclasses import dataclass, field
-from typing import Deque, List, Optional, Tuple
+from typing import Deque, Dict, Iterator, List, Optional, Tuple
+
+from . import files
 
 MAY_STORE = {"close", "response", "seal", "ballot", "synod"}
 """The first words of lines whose step may store a fact."""
@@ -33,7 +40,7 @@ def is_refusal(block):
 
 
 def is_stored(block):
-    return "stored" in block
+    return len(block) > 1 and block[1] == "stored"
 
 
 @dataclass
@@ -53,82 +60,146 @@ class Step:
     block: Optional[List[str]]
 
 
-def entries(path):
-    """The whole lines of a record; one that was cut off is left out."""
+@dataclass
+class Signed:
+    """A signature that was handed out for the request of a step."""
+    step: int
+    text: str
+
+
+class State:
+    """What the entries of a record come to."""
+
+    def __init__(self):
+        self.steps, self.second = 0, 0
+        """How many steps there were, and the last second that a core was told to seal."""
+        self.nodes: Dict[str, NodeState] = {}
+
+    def node(self, name):
+        return self.nodes.setdefault(name, NodeState())
+
+    def take(self, entry) -> List[object]:
+        """Takes an entry on, and gives the steps and signatures that it tells of."""
+        kind, *rest = entry
+        told = list(getattr(self, "take_" + kind)(*rest))
+        self.steps += sum(isinstance(it, Step) for it in told)
+        return told
+
+    def take_given(self, name, line, message):
+        self.node(name).unanswered.append((line, message))
+        if line.startswith("seal "):
+            self.second = max(self.second, int(line.split(" ")[1]))
+        return []
+
+    def take_said(self, name, block):
+        node = self.node(name)
+        line, message = node.unanswered.popleft()
+        if node.facts is not None:
+            node.facts += is_stored(block)
+        return [] if is_refusal(block) else [Step(name, line, message, block)]
+
+    def take_ready(self, name, facts, unsaid):
+        node = self.node(name)
+        told = [Step(name, *node.unanswered.popleft(), None) for _ in range(unsaid)]
+        node.unanswered.clear()
+        if node.facts is not None:
+            told.append(Step(name, None, None, None))
+        node.facts = facts
+        return told
+
+    def take_signed(self, step, text):
+        return [Signed(step, text)]
+
+    def take_begins(self, steps, second, nodes):
+        self.steps, self.second = steps, second
+        self.nodes = {name: NodeState(facts, deque((line, message) for line, message in lines)) for name, facts, lines in nodes}
+        return []
+
+    def begins(self):
+        """The entry from which `take` makes this state."""
+        return ["begins", self.steps, self.second, [[name, node.facts, list(node.unanswered)] for name, node in self.nodes.items()]]
+
+
+def names(folder) -> List[str]:
+    """The files of a record in order. Of one that is there in both forms the whole one, which is not compressed, counts."""
     try:
-        with open(path, encoding="utf-8") as lines:
-            for line in lines:
-                if line.endswith("\n"):
-                    yield json.loads(line)
+        found = {it[:8]: it for it in sorted(os.listdir(folder), reverse=True) if re.fullmatch(r"[0-9]{8}(\.gz)?", it)}
+        return [os.path.join(folder, found[it]) for it in sorted(found)]
     except FileNotFoundError:
-        return
+        return []
 
 
-def steps(path):
-    """The steps of a record, in order."""
-    nodes = {}
-    for kind, name, *rest in entries(path):
-        node = nodes.setdefault(name, NodeState())
-        if kind == "given":
-            node.unanswered.append((rest[0], rest[1]))
-        elif kind == "said":
-            line, message = node.unanswered.popleft()
-            if not is_refusal(rest[0]):
-                yield Step(name, line, message, rest[0])
-        else:
-            happened = [node.unanswered.popleft() for _ in range(rest[1])]
-            node.unanswered.clear()
-            for line, message in happened:
-                yield Step(name, line, message, None)
-            if node.facts is not None:
-                yield Step(name, None, None, None)
-            node.facts = rest[0]
+def lines_of(path) -> Iterator[bytes]:
+    """The whole lines of a file; one that was cut off is left out."""
+    with (gzip.open if path.endswith(".gz") else open)(path, "rb") as lines:
+        for line in lines:
+            if line.endswith(b"\n"):
+                yield line
+
+
+def told(folder) -> Iterator[object]:
+    """The steps of a record and the signatures that were handed out, in order."""
+    state = State()
+    for path in names(folder):
+        for line in lines_of(path):
+            entry = json.loads(line)
+            if entry[0] != "begins" or not state.nodes:
+                yield from state.take(entry)
+
+
+def last_state(folder) -> Tuple[State, int]:
+    """What a record comes to at its end, by its last file, and how many bytes of that one are whole lines."""
+    state, whole = State(), 0
+    for path in names(folder)[-1:]:
+        for line in lines_of(path):
+            state.take(json.loads(line))
+            whole += len(line)
+    return state, whole
+
+
+def text_of(entry):
+    return json.dumps(entry, separators=(",", ":")) + "\n"
 
 
 class Record:
     """A record that is added to. What is added is written and synced in groups; then the effects that wait for it happen."""
 
-    def __init__(self, path):
-        self.path, self.step_count, self.nodes = path, 0, {}
+    def __init__(self, folder):
+        self.folder, self.bytes, self.failed = folder, 0, False
         self.waiting, self.wanted = [], asyncio.Event()
-        self.pool = concurrent.futures.ThreadPoolExecutor(1)
+        self.writer, self.packer = concurrent.futures.ThreadPoolExecutor(1), concurrent.futures.ThreadPoolExecutor(1)
+        os.makedirs(folder, exist_ok=True)
         self.recall()
-        self.file = open(path, "ab", buffering=0)
 
     def recall(self):
-        """Reads what stands, and cuts off a line that was not written whole."""
-        whole = 0
-        if os.path.exists(self.path):
-            with open(self.path, "rb") as lines:
-                for line in lines:
-                    if not line.endswith(b"\n"):
-                        break
-                    whole += len(line)
-                    self.take(json.loads(line))
-            os.truncate(self.path, whole)
+        """Reads the last file, cuts off a line that was not written whole, and goes on behind it."""
+        found = names(self.folder)
+        self.state, whole = last_state(self.folder)
+        if not found or found[-1].endswith(".gz"):
+            self.open_next(len(found) and int(os.path.basename(found[-1])[:8]))
+        else:
+            os.truncate(found[-1], whole)
+            self.number = int(os.path.basename(found[-1]))
+            self.file = open(found[-1], "ab", buffering=0)
+        for path in found[:-1]:
+            if not path.endswith(".gz"):
+                self.packer.submit(self.pack, path)
+
+    def open_next(self, number):
+        """Begins the file behind this one."""
+        self.number = number + 1
+        path = os.path.join(self.folder, f"{self.number:08}")
+        files.write(path, text_of(self.state.begins()).encode())
+        self.file = open(path, "ab", buffering=0)
 
     def node(self, name):
-        return self.nodes.setdefault(name, NodeState())
-
-    def take(self, entry):
-        kind, name, *rest = entry
-        node = self.node(name)
-        if kind == "given":
-            node.unanswered.append((rest[0], rest[1]))
-        elif kind == "said":
-            node.unanswered.popleft()
-            node.facts += is_stored(rest[0])
-            self.step_count += not is_refusal(rest[0])
-        else:
-            node.unanswered.clear()
-            self.step_count += rest[1] + (node.facts is not None)
-            node.facts = rest[0]
+        return self.state.node(name)
 
     def add(self, entry, effect=None):
-        """Adds an entry. Returns the number of the step that it ends in, if it is one."""
-        before = self.step_count
-        self.take(entry)
-        self.waiting.append((json.dumps(entry, separators=(",", ":")) + "\n", effect))
+        """Adds an entry, with what is to happen once it is on the disk. Returns how many steps there were before."""
+        before = self.state.steps
+        self.state.take(entry)
+        self.waiting.append((text_of(entry), effect))
         self.wanted.set()
         return before
 
@@ -137,28 +208,62 @@ class Record:
         self.waiting.append(("", effect))
         self.wanted.set()
 
-    def write(self, text):
-        self.file.write(text)
+    def write(self, content):
+        self.bytes += len(content)
+        rest = memoryview(content)
+        while rest:
+            rest = rest[self.file.write(rest):]
         os.fdatasync(self.file.fileno())
 
     async def flush(self):
-        """Writes and syncs what waits, and then lets its effects happen."""
+        """Writes and syncs what waits, and then lets its effects happen. After a failure nothing has an effect any more."""
         waiting, self.waiting = self.waiting, []
-        text = "".join(line for line, _ in waiting).encode()
-        if text:
-            await asyncio.get_running_loop().run_in_executor(self.pool, self.write, text)
+        content = "".join(line for line, _ in waiting).encode()
+        if self.failed:
+            return
+        if content:
+            try:
+                await asyncio.get_running_loop().run_in_executor(self.writer, self.write, content)
+            except OSError:
+                self.failed = True
+                raise
         for _, effect in waiting:
             if effect is not None:
                 effect()
 
-    async def run(self):
+    async def run(self, cut_every=3600.0):
+        """Writes what is added, and cuts the record so often."""
+        loop = asyncio.get_running_loop()
+        cut_at = loop.time() + cut_every
         while True:
             await self.wanted.wait()
             self.wanted.clear()
             await self.flush()
+            if loop.time() >= cut_at:
+                await self.cut()
+                cut_at = loop.time() + cut_every
+
+    async def cut(self):
+        """Begins a new file; the one before is compressed in its own time."""
+        while self.waiting:
+            await self.flush()
+        self.file.close()
+        before = self.file.name
+        self.open_next(self.number)
+        self.packer.submit(self.pack, before)
+
+    @staticmethod
+    def pack(path):
+        """Compresses a file, and removes it once the other is on the disk."""
+        made = f"{path}.gz.new"
+        with open(path, "rb") as whole, gzip.open(made, "wb", compresslevel=4) as packed:
+            shutil.copyfileobj(whole, packed, 1 << 20)
+        files.keep(made, f"{path}.gz")
+        files.remove(path)
 
     async def close(self):
         while self.waiting:
             await self.flush()
         self.file.close()
-        self.pool.shutdown()
+        self.writer.shutdown()
+        self.packer.shutdown()

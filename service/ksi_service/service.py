@@ -1,212 +1,211 @@
 """The service of one machine: nodes, clock, record, publications and door, over one folder."""
 import asyncio
 import collections
-import concurrent.futures
-import fcntl
-import hashlib
 import os
+import resource
 import signal
 import sys
-import threading
 import time
 from http import HTTPStatus
 
-from . import journal
-from .clock import Busy, Clock, NotSigned
-from .door import Answer, Server, signature_answer
+from . import extension, files
+from .clock import MOST_WAITING, Busy, Clock, NotSigned
+from .door import MOST_CONNECTIONS, Answer, Door, signature_answer
+from .metrics import Spans
 from .network import Network
+from .node import Down
 from .plan import Plan
 from .programs import page
-from .record import steps
+from .publications import Publications
 
 MOST_REMEMBERED = 100_000
 """How many signatures the door remembers; a client keeps its own."""
 ANSWER_SECONDS = 60
 """How long a request waits for its signature before it is refused."""
+LAST_SECONDS = 5
+"""How long a service that is told to stop still waits for requests that it has taken."""
+MOST_EXTENDING, MOST_TO_EXTEND = 4, 64
+"""How many signatures are extended at once, and how many may wait for it."""
 
 
-def content_of(path):
-    try:
-        with open(path, "rb") as file:
-            return file.read()
-    except FileNotFoundError:
-        return None
-
-
-class Held(Exception):
-    """Another service has the folder."""
-
-
-def lock(folder):
-    """Locks a folder until the process ends."""
-    file = open(os.path.join(folder, "lock"), "w", encoding="ascii")
-    try:
-        fcntl.flock(file, fcntl.LOCK_EX | fcntl.LOCK_NB)
-    except OSError:
-        raise Held(f"another service runs over {folder}") from None
-    return file
+def say(text):
+    """One line for an event worth knowing."""
+    print(text, file=sys.stderr, flush=True)
 
 
 def plan_of(folder, cores, aggregators):
     """The plan of a folder, which is made where there is none."""
     path = os.path.join(folder, "plan")
     if not os.path.exists(path):
-        with open(path + ".new", "w", encoding="ascii") as file:
-            file.write(Plan.new(cores, aggregators, int(time.time()) + 1).text())
-        journal.keep(path + ".new", path)
+        files.write(path, Plan.new(cores, aggregators, int(time.time()) + 1).text().encode())
     return Plan.read(path)
 
 
 class House:
-    """What the door asks of the service. Its calls come from the door's threads."""
+    """What the door asks of the service."""
 
-    def __init__(self, service, loop):
-        self.service, self.loop = service, loop
+    def __init__(self, service):
+        self.service, self.spans = service, Spans()
         self.remembered = collections.OrderedDict()
-        self.extending = threading.BoundedSemaphore(8)
+        self.extending, self.to_extend = asyncio.Semaphore(MOST_EXTENDING), 0
+        self.closing = False
 
-    def call(self, work):
-        return asyncio.run_coroutine_threadsafe(work, self.loop).result(ANSWER_SECONDS)
-
-    def sign(self, imprint):
+    async def sign(self, imprint):
+        if self.closing:
+            raise Answer(HTTPStatus.SERVICE_UNAVAILABLE, "the service stops", Retry_After="10")
+        began = time.monotonic()
         try:
-            text, _ = self.call(self.service.clock.sign(imprint))
+            text, _ = await asyncio.wait_for(self.service.clock.sign(imprint), ANSWER_SECONDS)
         except Busy:
-            return Answer(HTTPStatus.SERVICE_UNAVAILABLE, "too many requests wait")
-        except (NotSigned, concurrent.futures.TimeoutError):
-            return Answer(HTTPStatus.SERVICE_UNAVAILABLE, "no second took the request")
-        content = bytes.fromhex(text)
+            raise Answer(HTTPStatus.SERVICE_UNAVAILABLE, "too many requests wait", Retry_After="2") from None
+        except (NotSigned, asyncio.TimeoutError):
+            raise Answer(HTTPStatus.SERVICE_UNAVAILABLE, "no second took the request", Retry_After="10") from None
+        self.spans.add(time.monotonic() - began)
+        return signature_answer(self.remember(imprint, bytes.fromhex(text)))
+
+    def remember(self, imprint, content):
         self.remembered[imprint] = content
         self.remembered.move_to_end(imprint)
         while len(self.remembered) > MOST_REMEMBERED:
             self.remembered.popitem(last=False)
-        return signature_answer(content)
+        return content
 
     def signature(self, imprint):
         return self.remembered.get(imprint)
 
     def publications(self):
-        return content_of(os.path.join(self.service.folder, "publications"))
+        return self.service.publications.content()
 
     def page(self):
         return page()
 
-    def extend(self, content):
-        last = self.service.last_publication
-        if last is None:
-            return Answer(HTTPStatus.CONFLICT, "nothing was published yet")
-        with self.extending:
-            try:
-                return signature_answer(journal.extend(self.service.folder, content, last))
-            except journal.Refused as refused:
-                return Answer(HTTPStatus.CONFLICT, str(refused))
+    async def extend(self, content):
+        if self.service.publications.last() is None:
+            raise Answer(HTTPStatus.CONFLICT, "nothing was published yet")
+        if self.to_extend >= MOST_TO_EXTEND:
+            raise Answer(HTTPStatus.SERVICE_UNAVAILABLE, "too many signatures wait to be extended", Retry_After="2")
+        self.to_extend += 1
+        try:
+            async with self.extending:
+                return signature_answer(await self.service.extend(content))
+        except extension.NotExtended as reason:
+            raise Answer(HTTPStatus.CONFLICT, str(reason)) from None
+        finally:
+            self.to_extend -= 1
 
     def counters(self):
-        return self.service.counters()
+        return {**self.service.counters(), "sign_seconds": self.spans.told()}
 
 
 class Service:
-    def __init__(self, folder, plan, publish_every=3600, trouble=None):
-        self.folder, self.plan, self.publish_every = folder, plan, publish_every
+    def __init__(self, folder, plan, publish_every=3600, trouble=None, most_waiting=MOST_WAITING, cut_every=3600):
+        self.folder, self.plan, self.publish_every, self.cut_every = folder, plan, publish_every, cut_every
         self.network = Network(folder, plan, trouble)
-        self.clock = Clock(self.network)
-        self.issued = open(os.path.join(folder, "issued"), "a", encoding="ascii", buffering=1)
-        self.clock.on_signed = self.note_signed
-        self.last_publication = journal.last_publication(folder)
-        self.began = time.time()
-        self.tasks = []
-
-    def note_signed(self, second, aggregator, request, text):
-        self.issued.write(f"a{aggregator} {request.number} {request.imprint} {second} {text}\n")
-
-    def recall(self):
-        """Takes from the record which seconds were decided, and gives the first that was not driven."""
-        last = self.plan.start - 1
-        for step in steps(self.network.record.path):
-            for row in step.block or []:
-                if row.startswith("send ") and " success " in row:
-                    words = row.split(" ")
-                    self.network.decided[int(words[4])] = words[6]
-                    last = max(last, int(words[4]))
-        return last + 1
+        self.clock = Clock(self.network, most_waiting)
+        self.publications = Publications(folder)
+        self.clock.on_published = self.publish
+        self.began, self.door = time.time(), None
+        self.tasks, self.own = [], []
 
     async def begin(self):
-        first = self.recall()
-        self.tasks = self.network.begin()
+        first = max(self.plan.start, self.network.record.state.second)
+        self.tasks = list(self.network.begin(self.cut_every))
         await self.network.ready()
-        self.tasks = [*self.tasks, asyncio.create_task(self.clock.run(first, self.publish_every)), asyncio.create_task(self.renew())]
+        self.own = [asyncio.create_task(self.clock.run(first, self.publish_every))]
+        self.tasks += self.own
 
-    async def renew(self):
-        """Makes the journal and the publications anew once a core has published."""
-        made = self.last_publication or -1
-        while True:
-            await asyncio.sleep(0.5)
-            newest = max(self.clock.published, default=-1)
-            if newest > made:
-                await asyncio.to_thread(journal.make, self.folder)
-                self.last_publication = journal.last_publication(self.folder)
-                made = newest
+    async def publish(self, second, root):
+        """Puts a root that a core has published into the publications file."""
+        await asyncio.get_running_loop().run_in_executor(None, self.publications.add, second, root)
+
+    async def extend(self, signature):
+        """A signature that is extended to the last publication by a core that holds all seconds to it."""
+        last = self.publications.last()
+        parts, held, chain = extension.wanted(signature, last)
+        for number in range(self.plan.cores):
+            core = self.network.core((parts.second + number) % self.plan.cores)
+            try:
+                content = extension.put_together(parts, last, await core.ask(held), await core.ask(chain))
+            except Down:
+                continue
+            if content is not None:
+                return await asyncio.get_running_loop().run_in_executor(None, extension.accepted, content, parts, self.publications.path)
+        raise extension.NotExtended(f"no core that answers holds all seconds to {last}")
 
     def counters(self):
-        nodes, clock = self.network.nodes, self.clock
+        nodes, clock, record = self.network.nodes, self.clock, self.network.record
         return {
             "up_seconds": int(time.time() - self.began),
             "nodes": len(nodes), "nodes_up": sum(node.alive for node in nodes.values()),
             "node_restarts": sum(max(0, node.starts - 1) for node in nodes.values()),
-            "signed": clock.signed, "asked_again": clock.again, "waiting": clock.waiting,
-            "seconds_decided": len(self.network.decided), "steps": self.network.record.step_count,
-            "publications": len(clock.published), "last_publication": self.last_publication or 0,
+            "door_connections": len(self.door.open) if self.door else 0, "door_refused": self.door.refused if self.door else 0,
+            "lines_refused": sum(node.refused for node in nodes.values()),
+            "signed": clock.signed, "asked_again": clock.again, "waiting": clock.waiting, "busy": clock.busy,
+            "seconds_decided": self.network.seconds_decided, "last_second": record.state.second,
+            "steps": record.state.steps, "record_bytes": record.bytes,
+            "publications": len(self.publications.published), "last_publication": self.publications.last() or 0,
             "processes": {name: node.process.pid for name, node in nodes.items() if node.process},
         }
 
+    async def idle(self, seconds):
+        """Waits until no request waits, but not for long."""
+        for _ in range(int(seconds * 20)):
+            if not self.clock.waiting:
+                return
+            await asyncio.sleep(0.05)
+
     async def stop(self):
-        for task in self.tasks[-2:]:
+        for task in self.own:
             task.cancel()
-        await asyncio.gather(*self.tasks[-2:], return_exceptions=True)
+        await asyncio.gather(*self.own, return_exceptions=True)
         await self.network.stop()
-        self.issued.close()
 
     async def watch(self):
-        """Ends where one of the tasks that run for ever has ended."""
+        """Ends where one of the tasks that run for ever has ended, by what ended it."""
         done, _ = await asyncio.wait(self.tasks, return_when=asyncio.FIRST_COMPLETED)
         for task in done:
             task.result()
 
 
-async def run(folder, cores=3, aggregators=2, address=("127.0.0.1", 8080), publish_every=3600):
+def open_files(most):
+    """Lets the process have so many files open, or as many as it may. Returns how many connections that leaves room for."""
+    soft, hard = resource.getrlimit(resource.RLIMIT_NOFILE)
+    wanted = most + 256 if hard == resource.RLIM_INFINITY else min(most + 256, hard)
+    if soft < wanted:
+        resource.setrlimit(resource.RLIMIT_NOFILE, (wanted, hard))
+    return min(most, max(soft, wanted) - 256)
+
+
+async def run(folder, cores=3, aggregators=2, address=("127.0.0.1", 8080), publish_every=3600, most_waiting=MOST_WAITING, cut_every=3600):
     """Runs the service until it is told to stop."""
     os.makedirs(folder, exist_ok=True)
-    held = lock(folder)
-    journal.clear(folder)
-    service = Service(folder, plan_of(folder, cores, aggregators), publish_every)
-    await service.begin()
-    server = Server(address, House(service, asyncio.get_running_loop()))
-    threading.Thread(target=server.serve_forever, daemon=True).start()
-    with open(os.path.join(folder, "door.new"), "w", encoding="ascii") as file:
-        file.write("%s:%d\n%d\n" % (*server.server_address[:2], os.getpid()))
-    journal.keep(os.path.join(folder, "door.new"), os.path.join(folder, "door"))
-    print(f"the door is open at {server.server_address[0]}:{server.server_address[1]}", file=sys.stderr, flush=True)
+    held = files.lock(folder)
+    service = Service(folder, plan_of(folder, cores, aggregators), publish_every, most_waiting=most_waiting, cut_every=cut_every)
     told = asyncio.Event()
     for number in (signal.SIGINT, signal.SIGTERM):
         asyncio.get_running_loop().add_signal_handler(number, told.set)
-    waits = [asyncio.create_task(told.wait()), asyncio.create_task(service.watch())]
+    house = House(service)
+    door = service.door = Door(house, open_files(MOST_CONNECTIONS))
+    waits = []
     try:
+        await service.begin()
+        await door.begin(*address)
+        where = "%s:%d" % door.address()
+        files.write(os.path.join(folder, "door"), f"{where}\n{os.getpid()}\n".encode())
+        say(f"the door is open at {where}")
+        waits = [asyncio.create_task(told.wait()), asyncio.create_task(service.watch())]
         done, _ = await asyncio.wait(waits, return_when=asyncio.FIRST_COMPLETED)
         for task in done:
             task.result()
+        house.closing = True
+        await service.idle(LAST_SECONDS)
     finally:
-        server.shutdown()
+        files.remove(os.path.join(folder, "door"))
         for task in waits:
             task.cancel()
-        await service.stop()
-        os.remove(os.path.join(folder, "door"))
+        if door.server:
+            await door.stop()
+        if service.tasks:
+            await service.stop()
         held.close()
-
-
-def digest_of(path):
-    """The SHA-256 of a file, in hex."""
-    digest = hashlib.sha256()
-    with open(path, "rb") as file:
-        while piece := file.read(1 << 20):
-            digest.update(piece)
-    return digest.hexdigest()
+    say("stopped")

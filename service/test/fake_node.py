@@ -6,6 +6,8 @@ facts.seek(0)
 count = len(facts.read())
 print(f"ready {count}\n.", flush=True)
 for line in sys.stdin:
+    if not line.endswith("\n"):
+        break
     word = line.split()[0]
     if word in ("seal", "ballot"):
         facts.write("x")

@@ -4,9 +4,11 @@ import os
 import sys
 import tempfile
 import unittest
+from unittest import mock
 
 from ksi_service.node import Down, GivenUp, LostFacts, Node
-from ksi_service.record import Record, steps
+from ksi_service import node as nodes
+from ksi_service.record import Record, told
 
 FAKE = os.path.join(os.path.dirname(os.path.abspath(__file__)), "fake_node.py")
 
@@ -21,8 +23,8 @@ class NodeTest(unittest.TestCase):
     def play(self, work, waits=True):
         """Runs a node, and a play with it, over the folder's record."""
         async def go():
-            record, told = Record(self.path), []
-            node = Node("c0", [sys.executable, FAKE, self.facts], record, lambda step, block: told.append((step, block)))
+            record, steps = Record(self.path), []
+            node = Node("c0", [sys.executable, FAKE, self.facts], record, lambda step, block: steps.append((step, block)))
             tasks = [asyncio.create_task(record.run()), asyncio.create_task(node.run())]
             while not node.alive:
                 for task in tasks:
@@ -34,18 +36,23 @@ class NodeTest(unittest.TestCase):
             await asyncio.wait(tasks[1:], timeout=5)
             tasks[0].cancel()
             await record.close()
-            return said, told
+            return said, steps
         return asyncio.run(go())
 
+    def recorded(self, text):
+        os.makedirs(self.path)
+        with open(os.path.join(self.path, "00000001"), "w", encoding="ascii") as file:
+            file.write(text)
+
     def told(self):
-        return [(it.line, it.block) for it in steps(self.path)]
+        return [(it.line, it.block) for it in told(self.path)]
 
     def test_answers_come_in_order_and_are_on_the_record(self):
         async def work(node):
             return await asyncio.gather(node.ask("tell 5"), node.ask("seal 5"), node.ask("bad"))
-        said, told = self.play(work)
+        said, steps = self.play(work)
         self.assertEqual(said, [["answer done"], ["answer done", "stored", "send c0 synod 0 5 success aa"], ["refused word"]])
-        self.assertEqual([step for step, _ in told], [0, 1])
+        self.assertEqual([step for step, _ in steps], [0, 1])
         self.assertEqual([line for line, _ in self.told()], ["tell 5", "seal 5"])
 
     def test_a_step_that_was_stored_and_never_said_is_on_the_record(self):
@@ -71,8 +78,7 @@ class NodeTest(unittest.TestCase):
         self.assertEqual(self.told(), [(None, None)])
 
     def test_a_host_that_was_killed_finds_what_its_node_did(self):
-        with open(self.path, "w", encoding="ascii") as file:
-            file.write('["ready","c0",0,0]\n["given","c0","tell 5",null]\n["given","c0","seal 5",null]\n')
+        self.recorded('["ready","c0",0,0]\n["given","c0","tell 5",null]\n["given","c0","seal 5",null]\n')
         with open(self.facts, "w", encoding="ascii") as file:
             file.write("x")
 
@@ -86,12 +92,30 @@ class NodeTest(unittest.TestCase):
 
         async def work(node):
             return None
-        with self.assertRaises(GivenUp):
+        with self.assertRaises(GivenUp), mock.patch.object(nodes, "FIRST_PAUSE", 0.001):
             self.play(work)
 
+    def test_a_file_that_the_record_does_not_know_stops_the_host(self):
+        with open(self.facts, "w", encoding="ascii") as file:
+            file.write("x")
+
+        async def work(node):
+            return None
+        with self.assertRaises(LostFacts):
+            self.play(work)
+
+    def test_half_a_line_is_no_line(self):
+        async def work(node):
+            await node.ask("seal 5")
+            node.cut()
+            while not node.alive or node.starts < 2:
+                await asyncio.sleep(0.005)
+            return await node.ask("tell 7")
+        self.assertEqual(self.play(work)[0], ["answer done"])
+        self.assertEqual([line for line, _ in self.told()], ["seal 5", None, "tell 7"])
+
     def test_a_lost_fact_stops_the_host(self):
-        with open(self.path, "w", encoding="ascii") as file:
-            file.write('["ready","c0",0,0]\n["given","c0","seal 5",null]\n["said","c0",["answer done","stored"]]\n')
+        self.recorded('["ready","c0",0,0]\n["given","c0","seal 5",null]\n["said","c0",["answer done","stored"]]\n')
 
         async def work(node):
             return None

@@ -1,69 +1,170 @@
-"""The record alone: what it tells after a crash of the host, and how it becomes a schedule."""
+"""The record alone: what it tells after a crash of the host, how it is cut, and how it becomes a stream of entries."""
 import asyncio
 import json
 import os
+import stat
 import tempfile
 import unittest
+from unittest import mock
 
+from ksi_service import retrace
 from ksi_service.plan import Plan
-from ksi_service.record import Record, steps
-from ksi_service.schedule import read_run
+from ksi_service.record import Record, Signed, State, names, told
 
-
-def write(path, *entries, end="\n"):
-    with open(path, "w", encoding="utf-8") as file:
-        file.write("\n".join(json.dumps(it) for it in entries) + end)
+ONES = "1" * 64
+SEALED = [["ready", "c0", 0, 0], ["given", "c0", "seal 5", None], ["said", "c0", ["answer done", "stored"]]]
 
 
 class RecordTest(unittest.TestCase):
     def setUp(self):
         self.room = tempfile.TemporaryDirectory()
         self.addCleanup(self.room.cleanup)
-        self.path = os.path.join(self.room.name, "record")
+        self.folder = os.path.join(self.room.name, "record")
 
-    def test_a_line_that_was_cut_off_is_left_out(self):
-        write(self.path, ["ready", "c0", 0, 0], ["given", "c0", "seal 5", None], ["said", "c0", ["answer done", "stored"]], end="\n[\"giv")
+    def write(self, *entries, number=1, end="\n"):
+        os.makedirs(self.folder, exist_ok=True)
+        with open(os.path.join(self.folder, f"{number:08}"), "w", encoding="utf-8") as file:
+            file.write("\n".join(json.dumps(it) for it in [*([] if number > 1 else [["begins", 0, 0, []]]), *entries]) + end)
 
-        async def open_it():
-            record = Record(self.path)
+    def opened(self, work=None):
+        """A record that is opened, worked with, and closed."""
+        async def go():
+            record = Record(self.folder)
+            if work:
+                await work(record)
             await record.close()
             return record
-        record = asyncio.run(open_it())
-        self.assertEqual((record.step_count, record.node("c0").facts, len(record.node("c0").unanswered)), (1, 1, 0))
-        with open(self.path, encoding="utf-8") as file:
+        return asyncio.run(go())
+
+    def test_a_line_that_was_cut_off_is_left_out(self):
+        self.write(*SEALED, end="\n[\"giv")
+        state = self.opened().state
+        self.assertEqual((state.steps, state.second, state.node("c0").facts, len(state.node("c0").unanswered)), (1, 5, 1, 0))
+        with open(names(self.folder)[0], encoding="utf-8") as file:
             self.assertTrue(file.read().endswith('"stored"]]\n'))
 
     def test_effects_come_after_the_disk_and_in_order(self):
         seen = []
 
-        async def go():
-            record = Record(self.path)
-            record.add(["ready", "c0", 0, 0], lambda: seen.append(os.path.getsize(self.path) > 0))
+        async def work(record):
+            record.add(["ready", "c0", 0, 0], lambda: seen.append(os.path.getsize(names(self.folder)[0]) > 20))
             record.after(lambda: seen.append("second"))
             await record.flush()
-            await record.close()
-        asyncio.run(go())
+        self.opened(work)
         self.assertEqual(seen, [True, "second"])
 
-    def test_lines_that_happened_unsaid_are_steps_and_a_restart_follows(self):
-        write(self.path, ["ready", "a0", 0, 0], ["given", "a0", "request 9 5 " + "0" * 64, None], ["given", "a0", "close 5", None],
-              ["given", "a0", "request 10 6 " + "0" * 64, None], ["ready", "a0", 1, 2])
-        told = [(it.line, it.block) for it in steps(self.path)]
-        self.assertEqual(told, [("request 9 5 " + "0" * 64, None), ("close 5", None), (None, None)])
+    def test_a_short_write_is_gone_on_with(self):
+        class Slow:
+            def __init__(self, file):
+                self.file = file
 
-    def test_a_run_numbers_its_messages_and_requests(self):
-        imprint = "1" * 64
-        write(self.path, ["ready", "a0", 0, 0], ["ready", "c0", 0, 0], ["given", "a0", f"request 77 5 {imprint}", None],
-              ["said", "a0", ["answer number 77"]], ["given", "a0", "close 5", None],
-              ["said", "a0", ["answer done", "stored", f"send c0 submission 0 5 {imprint} 0"]],
-              ["given", "c0", f"submission 0 5 {imprint} 0", [1, 0]], ["given", "c0", "seal x", None], ["said", "c0", ["answer done"]],
-              ["said", "c0", ["refused number"]])
+            def write(self, content):
+                return self.file.write(content[:3])
+
+            def __getattr__(self, name):
+                return getattr(self.file, name)
+
+        async def work(record):
+            record.file = Slow(record.file)
+            record.add(["ready", "c0", 0, 0])
+            await record.flush()
+        self.opened(work)
+        self.assertEqual(self.opened().state.node("c0").facts, 0)
+
+    def test_nothing_has_an_effect_after_a_failed_write(self):
+        seen = []
+
+        async def work(record):
+            with mock.patch.object(record, "write", side_effect=OSError(28, "No space left on device")):
+                record.add(["ready", "c0", 0, 0], lambda: seen.append("first"))
+                with self.assertRaises(OSError):
+                    await record.flush()
+            record.add(["ready", "c1", 0, 0], lambda: seen.append("second"))
+            await record.flush()
+        self.opened(work)
+        self.assertEqual(seen, [])
+        self.assertEqual(self.opened().state.nodes, {})
+
+    def test_a_record_is_cut_and_goes_on(self):
+        async def work(record):
+            for entry in [*SEALED, ["given", "c0", "tell 5", None]]:
+                record.add(entry)
+            await record.cut()
+            record.add(["said", "c0", ["answer done"]])
+            record.add(["signed", 0, "abcd"])
+            await record.cut()
+        state = self.opened(work).state
+        self.assertEqual([os.path.basename(it) for it in names(self.folder)], ["00000001.gz", "00000002.gz", "00000003"])
+        self.assertEqual([it.line for it in told(self.folder) if not isinstance(it, Signed)], ["seal 5", "tell 5"])
+        self.assertEqual([it.text for it in told(self.folder) if isinstance(it, Signed)], ["abcd"])
+        again = self.opened().state
+        self.assertEqual((again.begins(), again.steps), (state.begins(), 2))
+
+    def test_a_file_that_was_not_compressed_is_read_once(self):
+        self.write(*SEALED)
+        with open(os.path.join(self.folder, "00000001.gz"), "wb") as file:
+            file.write(b"half of it")
+        self.assertEqual(len(list(told(self.folder))), 1)
+
+    def test_lines_that_happened_unsaid_are_steps_and_a_restart_follows(self):
+        self.write(["ready", "a0", 0, 0], ["given", "a0", "request 9 5 " + "0" * 64, None], ["given", "a0", "close 5", None],
+                   ["given", "a0", "request 10 6 " + "0" * 64, None], ["ready", "a0", 1, 2])
+        self.assertEqual([(it.line, it.block) for it in told(self.folder)],
+                         [("request 9 5 " + "0" * 64, None), ("close 5", None), (None, None)])
+
+    def run_of_two(self):
+        self.write(["ready", "a0", 0, 0], ["ready", "c0", 0, 0], ["given", "a0", f"request 77 5 {ONES}", None],
+                   ["said", "a0", ["answer number 77"]], ["given", "a0", "close 5", None],
+                   ["said", "a0", ["answer done", "stored", f"send c0 submission 0 5 {ONES} 0"]],
+                   ["given", "c0", f"submission 0 5 {ONES} 0", [1, 0]], ["given", "c0", "seal 4", None], ["said", "c0", ["answer done"]],
+                   ["said", "c0", ["refused second"]], ["signed", 0, "abcd"], ["given", "c0", "seal 5", None], ["ready", "c0", 1, 1])
         with open(os.path.join(self.room.name, "plan"), "w", encoding="ascii") as file:
             file.write(Plan.new(1, 1, 5).text())
-        run = read_run(self.room.name, self.room.name)
-        self.assertEqual(run.events, [f"request 0 5 {imprint}", "close 0 5", "deliver 0"])
-        self.assertEqual((run.messages, run.numbers), (1, {("a0", 77): 0}))
-        self.assertEqual(run.told[0], "answer number 0\n.\n")
+
+    def test_entries_are_those_of_ksi_retrace(self):
+        self.run_of_two()
+        self.assertEqual("".join(retrace.entries(self.folder)), f"""\
+a0 request 77 5 {ONES}
+answer number 77
+.
+a0 close 5
+answer done
+stored
+send c0 submission 0 5 {ONES} 0
+.
+deliver 1 0
+answer done
+.
+sign 0
+signature abcd
+.
+unsaid c0 seal 5
+restart c0
+""")
+
+    def test_what_ksi_retrace_says_is_taken(self):
+        self.run_of_two()
+        path = os.path.join(self.room.name, "ksi_retrace")
+        for text, told_of in (("cat > entries; echo agrees 5 unsaid 1 signatures 1", (5, 1, 1)), ("echo differs 2 9; exit 1", None), ("exit 7", None)):
+            with open(path, "w", encoding="ascii") as file:
+                file.write(f"#!/bin/sh\ncd {self.room.name}\n{text}\n")
+            os.chmod(path, stat.S_IRWXU)
+            with mock.patch.dict(os.environ, KSI_BIN=self.room.name):
+                if told_of:
+                    self.assertEqual(retrace.retrace("plan", self.folder), told_of)
+                else:
+                    self.assertRaises(retrace.Differs, retrace.retrace, "plan", self.folder)
+        with open(os.path.join(self.room.name, "entries"), encoding="ascii") as file:
+            self.assertEqual(file.read(), "".join(retrace.entries(self.folder)))
+
+    def test_a_state_is_made_again_of_its_entry(self):
+        state = State()
+        for entry in [*SEALED, ["given", "c0", "synod 1 5 next 17", [3, 0]]]:
+            state.take(entry)
+        again = State()
+        again.take(json.loads(json.dumps(state.begins())))
+        self.assertEqual(json.dumps(again.begins()), json.dumps(state.begins()))
+        self.assertEqual([it.line for it in again.take(["ready", "c0", 2, 1])], ["synod 1 5 next 17", None])
 
 
 if __name__ == "__main__":

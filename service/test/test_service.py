@@ -1,176 +1,184 @@
-"""The service with real processes: kills, losses, a hostile client, two services over one folder. Skipped where a program is missing."""
-import asyncio
+"""The service as people start it: by its command, over real processes. The nodes are the proved programs where they are built, else
+stand-ins, whose signatures are none; then what a run is checked by is skipped."""
+import concurrent.futures
 import hashlib
 import http.client
+import json
 import os
 import random
 import signal
-import socket
 import subprocess
 import sys
 import tempfile
-import threading
 import time
 import unittest
 
-from ksi_service import check, service
-from ksi_service.door import Server
-from ksi_service.network import Trouble
-from ksi_service.plan import Plan
-from ksi_service.programs import Missing, program
+import stands
+from ksi_service import check
+from ksi_service.elements import published_in
 
-COMMAND = os.path.join(os.path.dirname(os.path.dirname(os.path.abspath(__file__))), "ksi-service")
-
-
-def missing():
-    for name in ("ksi", "ksi_serve_core", "ksi_serve_aggregator"):
-        try:
-            program(name)
-        except Missing as it:
-            return str(it)
-    return None
+REAL = not stands.missing("ksi", "ksi_retrace", *stands.NODES)
 
 
 def imprint(number):
     return hashlib.sha256(b"document %d" % number).hexdigest()
 
 
-@unittest.skipIf(missing(), missing())
 class ServiceTest(unittest.TestCase):
     def setUp(self):
         self.room = tempfile.TemporaryDirectory(prefix="ksi-test-")
         self.addCleanup(self.room.cleanup)
-        self.folder = self.room.name
+        self.folder = os.path.join(self.room.name, "data")
+        self.outside = {**os.environ, "KSI_SERVICE": self.folder}
+        if not REAL:
+            self.outside["KSI_BIN"] = stands.make(os.path.join(self.room.name, "bin"))
 
-    def run_service(self, load, seconds, trouble=None, while_it_runs=None):
-        """Signs so many hashes a second for a while; gives the service and how many were signed. The record is then checked."""
-        async def go():
-            it = service.Service(self.folder, service.plan_of(self.folder, 3, 2), publish_every=4, trouble=trouble)
-            await it.begin()
-            asks = []
-            harm = asyncio.create_task(while_it_runs(it)) if while_it_runs else None
-            for number in range(load * seconds):
-                asks.append(asyncio.create_task(it.clock.sign(imprint(number))))
-                await asyncio.sleep(1 / load)
-            if harm:
-                harm.cancel()
-            told = await asyncio.gather(*asks)
-            last = max(second for _, second in told)
-            while (it.last_publication or 0) < last:
-                await asyncio.sleep(0.1)
-                for task in it.tasks:
-                    if task.done():
-                        task.result()
-            await it.stop()
-            return it, told
-        it, told = asyncio.run(go())
-        check.check(self.folder, samples=10, say=lambda text: None)
-        return it, told
+    def command(self, *words, status=0):
+        told = subprocess.run([sys.executable, stands.COMMAND, *words], env=self.outside, capture_output=True, text=True, check=False, cwd=self.room.name)
+        self.assertEqual(told.returncode, status, (words, told.stdout, told.stderr))
+        return told.stdout + told.stderr
 
-    def test_kills_lose_nothing(self):
-        dice = random.Random(7)
+    def start(self, *words, folder=None):
+        self.command("start", folder or self.folder, "--door", "127.0.0.1:0", "--publish-every", "2", *words)
+        self.addCleanup(self.end)
+        self.process = self.door()[1]
 
-        async def kill(it):
-            while True:
-                await asyncio.sleep(dice.expovariate(8))
-                dice.choice(list(it.network.nodes.values())).kill()
-        it, told = self.run_service(30, 8, while_it_runs=kill)
-        self.assertEqual(len(told), 240)
-        self.assertGreater(it.counters()["node_restarts"], 20)
+    def door(self):
+        with open(os.path.join(self.folder, "door"), encoding="ascii") as file:
+            address, number = file.read().split()
+        return address, int(number)
 
-    def test_lost_repeated_and_late_messages(self):
-        it, told = self.run_service(30, 6, trouble=Trouble(lost=0.2, twice=0.1, late=0.2))
-        self.assertEqual(len(told), 180)
-        self.assertGreater(it.network.lost, 0)
+    def end(self):
+        try:
+            os.kill(self.process, signal.SIGKILL)
+        except ProcessLookupError:
+            pass
 
-    def test_the_host_itself_is_killed(self):
-        words = [sys.executable, COMMAND]
-        outside = {**os.environ, "KSI_SERVICE": self.folder}
-        name = os.path.join(self.folder, "deed")
-        with open(name, "w", encoding="ascii") as file:
-            file.write("deed")
-        for turn in range(3):
-            subprocess.run([*words, "start", self.folder, "--door", "127.0.0.1:0", "--publish-every", "2"], env=outside, check=True, capture_output=True)
-            subprocess.run([*words, "sign", name, "-o", f"{name}.{turn}"], env=outside, check=True, capture_output=True)
-            with open(os.path.join(self.folder, "door"), encoding="ascii") as file:
-                number = int(file.read().split()[1])
-            self.assertNotEqual(subprocess.run([*words, "run", self.folder], env=outside, capture_output=True, check=False).returncode, 0)
-            os.kill(number, signal.SIGTERM if turn == 2 else signal.SIGKILL)
-            while os.path.exists(f"/proc/{number}"):
-                time.sleep(0.05)
-        told = subprocess.run([*words, "check", self.folder], env=outside, check=False, capture_output=True, text=True)
-        self.assertEqual(told.returncode, 0, told.stderr)
-        self.assertIn("3 signatures were handed out", told.stdout)
+    def kill(self, number=signal.SIGKILL):
+        os.kill(self.process, number)
+        while os.path.exists(f"/proc/{self.process}"):
+            time.sleep(0.02)
 
-
-class House:
-    """A house behind a door that has no nodes."""
-    def sign(self, imprint):
-        from ksi_service.door import signature_answer
-        return signature_answer(bytes.fromhex(imprint))
-
-    extend = None
-
-    def signature(self, imprint):
-        return None
-
-    def publications(self):
-        return None
-
-    def page(self):
-        return None
-
-    def counters(self):
-        return {"signed": 3}
-
-
-class DoorTest(unittest.TestCase):
-    """The door alone, with clients that mean no good."""
-
-    def setUp(self):
-        self.server = Server(("127.0.0.1", 0), House())
-        threading.Thread(target=self.server.serve_forever, daemon=True).start()
-        self.addCleanup(self.server.server_close)
-        self.addCleanup(self.server.shutdown)
-
-    def ask(self, method, path, body=None, **headers):
-        connection = http.client.HTTPConnection(*self.server.server_address, timeout=10)
-        connection.request(method, path, body, {name.replace("_", "-"): value for name, value in headers.items()})
+    def ask(self, path, body=None):
+        connection = http.client.HTTPConnection(self.door()[0], timeout=70)
+        connection.request("GET" if body is None else "POST", path, body)
         answer = connection.getresponse()
-        told = answer.status, answer.read()
-        connection.close()
-        return told
+        return answer.status, answer.read()
 
-    def test_what_is_asked_in_order(self):
-        self.assertEqual(self.ask("POST", "/sign", imprint(1).encode()), (200, bytes.fromhex(imprint(1))))
-        self.assertEqual(self.ask("POST", "/sign", imprint(1).upper().encode() + b"\n"), (200, bytes.fromhex(imprint(1))))
-        document = os.urandom(200_000)
-        self.assertEqual(self.ask("POST", "/sign", document, Content_Type="application/octet-stream"), (200, hashlib.sha256(document).digest()))
-        self.assertEqual(self.ask("GET", "/status"), (200, b'{"signed": 3}\n'))
-        self.assertEqual(self.ask("GET", "/status", Accept="text/plain"), (200, b"ksi_signed 3\n"))
-        self.assertEqual(self.ask("GET", "/publications")[0], 404)
+    def status(self):
+        return json.loads(self.ask("/status")[1])
 
-    def test_what_is_refused(self):
-        rows = [("POST", "/sign", b"no hash", 400), ("POST", "/sign", b"", 400), ("POST", "/sign", b"0" * 65, 400), ("GET", "/", None, 404),
-                ("GET", "/signature/0", None, 404), ("GET", "/../../etc/passwd", None, 404), ("POST", "/elsewhere", b"x", 404), ("PUT", "/sign", b"x", 501)]
-        for method, path, body, status in rows:
-            self.assertEqual(self.ask(method, path, body)[0], status, (method, path, body))
-        self.assertEqual(self.ask("POST", "/sign", b"x", Content_Length="99999999999")[0], 413)
-        self.assertEqual(self.ask("POST", "/sign", b"x", Content_Length="-1")[0], 411)
+    def wait_for_publication(self, second):
+        for _ in range(300):
+            if self.status()["last_publication"] >= second:
+                return
+            time.sleep(0.1)
+        self.fail("nothing was published")
 
-    def test_hostile_bytes_leave_the_door_open(self):
-        dice = random.Random(3)
-        parts = [b"GET ", b"POST ", b"/sign", b" HTTP/1.1\r\n", b"Content-Length: ", b"18446744073709551616", b"\r\n\r\n", b"\0" * 40, b"\xff" * 9, b"Transfer-Encoding: chunked\r\n", b"A" * 70000]
-        for _ in range(500):
-            with socket.create_connection(self.server.server_address, timeout=5) as client:
+    def file(self, name, text):
+        path = os.path.join(self.room.name, name)
+        with open(path, "w", encoding="ascii") as file:
+            file.write(text)
+        return path
+
+    def checked(self):
+        """The record is held against the proved world, where its programs are here."""
+        if REAL:
+            return check.check(self.folder, samples=10, say=lambda text: None)
+        return None
+
+    def test_a_day_at_the_desk(self):
+        self.start("--cut-every", "1")
+        name = self.file("deed", "I owe you one.")
+        self.assertIn("signed", self.command("sign", name))
+        self.assertIn("is refused", self.command("start", self.folder, status=1).replace("another service runs", "is refused"))
+        self.wait_for_publication(int(time.time()))
+        self.command("publications")
+        self.assertEqual(self.ask("/publications")[0], 200)
+        if REAL:
+            self.assertIn("extended", self.command("extend", f"{name}.ksig"))
+            self.assertIn("accepted", self.command("verify", name, f"{name}.ksig"))
+            other = self.file("other", "I owe you two.")
+            self.assertIn("refused V1", self.command("verify", other, f"{name}.ksig", status=1))
+        self.assertIn("stopped", self.command("stop"))
+        self.assertIn("no service runs", self.command("status", status=1))
+        self.checked()
+        self.assertIn("00000001.gz", os.listdir(os.path.join(self.folder, "record")))
+        if REAL:
+            self.assertIn("whole", self.command("backup", self.folder, os.path.join(self.room.name, "backup")))
+
+    def test_two_services_over_one_folder(self):
+        self.start()
+        self.assertIn(f"another service runs over {self.folder}", self.command("run", self.folder, status=1))
+        self.assertIn("another service", self.command("check", self.folder, status=1))
+        self.assertEqual(self.ask("/sign", imprint(1))[0], 200)
+
+    def test_kills_of_processes_and_host(self):
+        """Sixty kills, with signing going on: each request that was answered has a signature that the record knows."""
+        dice, answered, kills = random.Random(11), [], 0
+
+        def sign(number):
+            reasons = []
+            for _ in range(200):
                 try:
-                    client.sendall(b"".join(dice.choices(parts, k=dice.randint(1, 8))))
-                    client.shutdown(socket.SHUT_WR)
-                    while client.recv(65536):
+                    status, content = self.ask("/sign", imprint(number))
+                    if status == 200:
+                        answered.append(content)
+                        return None
+                    reasons.append(content)
+                except (OSError, http.client.HTTPException) as error:
+                    reasons.append(error)
+                time.sleep(0.2)
+            return reasons
+        self.start()
+        with concurrent.futures.ThreadPoolExecutor(16) as pool:
+            asks = [pool.submit(sign, number) for number in range(120)]
+            while kills < 60:
+                if kills % 20 == 19:
+                    self.kill()
+                    self.start()
+                else:
+                    try:
+                        os.kill(dice.choice(list(self.status()["processes"].values())), signal.SIGKILL)
+                    except (OSError, http.client.HTTPException, ValueError):
                         pass
-                except OSError:
-                    pass
-        self.assertEqual(self.ask("GET", "/status")[0], 200)
+                kills += 1
+                time.sleep(dice.uniform(0.02, 0.25))
+            self.assertEqual([it.result() for it in asks if it.result()], [])
+        self.wait_for_publication(int(time.time()))
+        with open(os.path.join(self.folder, "publications"), "rb") as file:
+            self.assertEqual(published_in(file.read())[-1][0], self.status()["last_publication"])
+        self.command("stop")
+        self.assertEqual(len(answered), 120)
+        told = self.checked()
+        if told:
+            self.assertGreaterEqual(told[2], 120)
+
+    @unittest.skipIf(os.geteuid() != 0, "a file system of 2 MiB is mounted by root alone")
+    def test_a_full_disk(self):
+        os.mkdir(self.folder)
+        if subprocess.run(["mount", "-t", "tmpfs", "-o", "size=2m", "tmpfs", self.folder], capture_output=True, check=False).returncode:
+            self.skipTest("no file system of 2 MiB can be mounted here")
+        self.addCleanup(subprocess.run, ["umount", "-l", self.folder], check=True)
+        self.start()
+        self.assertEqual(self.ask("/sign", imprint(1))[0], 200)
+        with open(os.path.join(self.folder, "filler"), "wb", buffering=0) as file:
+            try:
+                while True:
+                    file.write(b"\0" * 4096)
+            except OSError:
+                pass
+        for _ in range(300):
+            if not os.path.exists(f"/proc/{self.process}"):
+                break
+            time.sleep(0.1)
+        self.assertFalse(os.path.exists(f"/proc/{self.process}"), "a host goes on without a record")
+        os.remove(os.path.join(self.folder, "filler"))
+        self.start()
+        self.assertEqual(self.ask("/sign", imprint(2))[0], 200)
+        self.wait_for_publication(int(time.time()))
+        self.command("stop")
+        self.checked()
 
 
 if __name__ == "__main__":

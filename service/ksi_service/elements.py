@@ -1,0 +1,130 @@
+"""The files of `ksi`, as far as the host makes them: elements, publications files, mirrors, and a signature's extension
+(docs/FORMATS.md). Nothing here decides whether a signature is good: `ksi verify` does."""
+from typing import Iterator, List, NamedTuple, Optional, Tuple
+
+MAGIC_PUBLICATIONS, MAGIC_MIRROR = b"KSIPUBLF", b"KSIMIRR1"
+MOST_BODY = 0xFFFF
+FORWARD = 0x60
+"""The flags non-critical and forward: such an unknown element goes with an extension."""
+
+
+class Malformed(Exception):
+    """Bytes are not what they should be."""
+
+
+class Element(NamedTuple):
+    kind: int
+    flags: int
+    body: bytes
+    spelled: bytes
+
+
+def read(content: bytes, at=0) -> Iterator[Element]:
+    """The elements that bytes are, from a place on."""
+    while at < len(content):
+        long = content[at] & 0x80
+        if len(content) - at < (4 if long else 2):
+            raise Malformed(f"an element is cut off at {at}")
+        flags = content[at] & 0x60
+        if long:
+            kind, size, head = (content[at] & 0x1F) << 8 | content[at + 1], content[at + 2] << 8 | content[at + 3], 4
+        else:
+            kind, size, head = content[at] & 0x1F, content[at + 1], 2
+        end = at + head + size
+        if end > len(content):
+            raise Malformed(f"an element is cut off at {at}")
+        yield Element(kind, flags, content[at + head:end], content[at:end])
+        at = end
+
+
+def number_of(body: bytes) -> int:
+    return int.from_bytes(body, "big")
+
+
+def element(kind: int, *parts: bytes) -> bytes:
+    body = b"".join(parts)
+    if len(body) > MOST_BODY:
+        raise Malformed(f"an element would have {len(body)} bytes")
+    if kind > 0x1F or len(body) > 0xFF:
+        return bytes([0x80 | kind >> 8, kind & 0xFF, len(body) >> 8, len(body) & 0xFF]) + body
+    return bytes([kind, len(body)]) + body
+
+
+def number(kind: int, value: int) -> bytes:
+    return element(kind, value.to_bytes((value.bit_length() + 7) // 8, "big"))
+
+
+def imprint(kind: int, text: str) -> bytes:
+    """An imprint by its 64 hex digits."""
+    return element(kind, b"\x01" + bytes.fromhex(text))
+
+
+def publications_file(published: List[Tuple[int, str]]) -> bytes:
+    """The publications file of seconds and their roots in hex, created at the last one's time."""
+    last = published[-1][0] if published else 0
+    records = [element(0x703, element(0x10, number(0x02, second), imprint(0x04, root))) for second, root in published]
+    return MAGIC_PUBLICATIONS + element(0x701, number(0x01, 1), number(0x02, last)) + b"".join(records)
+
+
+def published_in(content: bytes) -> List[Tuple[int, str]]:
+    """The seconds of a publications file and their roots in hex."""
+    if not content.startswith(MAGIC_PUBLICATIONS):
+        raise Malformed("no publications file")
+    told = []
+    for it in read(content, len(MAGIC_PUBLICATIONS)):
+        if it.kind == 0x703:
+            data = next(inner for inner in read(it.body) if inner.kind == 0x10)
+            parts = {inner.kind: inner.body for inner in read(data.body)}
+            told.append((number_of(parts[0x02]), parts[0x04][1:].hex()))
+    return told
+
+
+class Parts(NamedTuple):
+    """What the host wants of a signature."""
+    kept: List[bytes]
+    """What an extension keeps, as it is spelled."""
+    second: int
+    imprint: str
+    """The hash that was signed, in hex."""
+    root: Optional[str]
+    """What its calendar chain begins with, in hex."""
+
+
+def parts_of(signature: bytes) -> Parts:
+    """The parts of a signature; Malformed where it has none. `ksi` reads it exactly: this is no check of it."""
+    tops = list(read(signature))
+    if len(tops) != 1 or tops[0].kind != 0x800:
+        raise Malformed("no signature")
+    inner = list(read(tops[0].body))
+    chains = [{part.kind: part.body for part in read(it.body)} | {-1: sum(part.kind == 0x03 for part in read(it.body))} for it in inner if it.kind == 0x801]
+    calendar = [{part.kind: part.body for part in read(it.body)} for it in inner if it.kind == 0x802]
+    if not chains or any(it.keys().isdisjoint({0x02}) or 0x05 not in it for it in chains) or any(0x05 not in it for it in calendar):
+        raise Malformed("a signature without its parts")
+    known = set(range(0x801, 0x807))
+    kept = [it.spelled for it in inner if it.kind == 0x801 or it.kind not in known and it.flags == FORWARD]
+    lowest = max(chains, key=lambda it: it[-1])
+    return Parts(kept, number_of(lowest[0x02]), lowest[0x05][1:].hex(), calendar[0][0x05][1:].hex() if calendar else None)
+
+
+def extended(parts: Parts, last: int, root: str, top: str, links: List[Tuple[str, str]]) -> bytes:
+    """A signature with the calendar chain from its second's root to the root `top` of the calendar to second `last`. A link is
+    `left` or `right`, where the chain stands, and the imprint beside it in hex, the lowest link first."""
+    chain = [number(0x01, last), number(0x02, parts.second), imprint(0x05, root)]
+    chain += [imprint(0x07 if side == "left" else 0x08, beside) for side, beside in links]
+    record = element(0x803, element(0x10, number(0x02, last), imprint(0x04, top)))
+    return element(0x800, *parts.kept, element(0x802, *chain), record)
+
+
+def mirror_file(start: int, core: int, rows: List[List[str]]) -> bytes:
+    """The mirror of what a core holds and sealed, of the rows `root T HEX` and `item T HEX LEVEL [NAME]` that it tells."""
+    roots, lists = [], {}
+    for kind, second, text, *rest in rows:
+        if kind == "root":
+            roots.append(element(0x02, number(0x01, int(second)), imprint(0x02, text)))
+        else:
+            body = b"\x01" + bytes.fromhex(text) + bytes([int(rest[0])])
+            lists.setdefault(int(second), []).append(element(0x07, body + rest[1].encode()) if rest[1:] else element(0x03, body))
+    told = [MAGIC_MIRROR, number(0x01, start), *roots]
+    for second, items in lists.items():
+        told += [element(0x09, number(0x01, second), number(0x02, core), number(0x03, len(items))), *items]
+    return b"".join([*told, element(0x06)])

@@ -1,0 +1,64 @@
+"""Files that are whole or not there: each is written beside its place, synced and renamed. And the lock on a folder."""
+import fcntl
+import os
+
+
+class Held(Exception):
+    """Another service has the folder."""
+
+
+def lock(folder):
+    """Locks a folder until the process ends, or the file that is returned is closed."""
+    file = open(os.path.join(folder, "lock"), "a", encoding="ascii")
+    try:
+        fcntl.flock(file, fcntl.LOCK_EX | fcntl.LOCK_NB)
+    except OSError:
+        file.close()
+        raise Held(f"another service runs over {folder}") from None
+    return file
+
+
+def sync_folder(folder):
+    """Has the names in a folder on the disk."""
+    number = os.open(folder or ".", os.O_RDONLY | os.O_DIRECTORY)
+    try:
+        os.fsync(number)
+    finally:
+        os.close(number)
+
+
+def keep(made, name):
+    """Puts a file in its place once it is on the disk. Both are on one file system."""
+    with open(made, "rb") as file:
+        os.fsync(file.fileno())
+    os.replace(made, name)
+    sync_folder(os.path.dirname(name))
+
+
+def write(name, content):
+    """Writes a file whole, then puts it in its place."""
+    made = f"{name}.new"
+    try:
+        with open(made, "wb") as file:
+            file.write(content)
+        keep(made, name)
+    except OSError:
+        remove(made)
+        raise
+
+
+def remove(name):
+    """Removes a file, if it is there."""
+    try:
+        os.remove(name)
+    except FileNotFoundError:
+        pass
+
+
+def content_of(name):
+    """A file's bytes, or None where there is none."""
+    try:
+        with open(name, "rb") as file:
+            return file.read()
+    except FileNotFoundError:
+        return None

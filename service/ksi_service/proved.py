@@ -1,0 +1,54 @@
+"""The proved `ksi` as a command, and a core's process that is asked questions while no service runs."""
+import os
+import subprocess
+
+from .programs import program
+
+
+class Refused(Exception):
+    """A line of `ksi` that is no success, with its status."""
+
+    def __init__(self, status, line):
+        super().__init__(line or f"ksi ended with status {status}")
+        self.status, self.line = status, line
+
+
+def ksi(*words, cwd=None):
+    """Runs `ksi` and gives its line."""
+    told = subprocess.run([program("ksi"), *words], cwd=cwd, capture_output=True, text=True, check=False)
+    if told.returncode:
+        raise Refused(told.returncode, told.stdout.strip())
+    return told.stdout.strip()
+
+
+class Core:
+    """A core's process over the facts of a service that is stopped. Questions change nothing."""
+
+    def __init__(self, folder, number):
+        self.name = f"c{number}"
+        if not os.path.exists(os.path.join(folder, f"{self.name}.facts")):
+            raise Refused(1, f"{folder} has no facts of core {number}")
+        words = [program("ksi_serve_core"), os.path.join(folder, "plan"), str(number), folder, f"{self.name}.facts"]
+        self.process = subprocess.Popen(words, stdin=subprocess.PIPE, stdout=subprocess.PIPE, stderr=subprocess.DEVNULL, text=True)
+
+    def __enter__(self):
+        self.block()
+        return self
+
+    def __exit__(self, *_):
+        self.process.stdin.close()
+        self.process.stdout.close()
+        self.process.wait()
+
+    def ask(self, line):
+        self.process.stdin.write(line + "\n")
+        self.process.stdin.flush()
+        return self.block()
+
+    def block(self):
+        rows = []
+        while (row := self.process.stdout.readline()) != ".\n":
+            if not row:
+                raise Refused(1, f"{self.name} ended: {' '.join(rows) or 'it said nothing'}")
+            rows.append(row[:-1])
+        return rows

@@ -1,0 +1,27 @@
+"""The publications of a service: a file that is written whole, synced and renamed at each of them."""
+import os
+
+from . import files
+from .elements import publications_file, published_in
+
+
+class Publications:
+    def __init__(self, folder):
+        self.path = os.path.join(folder, "publications")
+        content = files.content_of(self.path)
+        self.published = published_in(content) if content else []
+
+    def last(self):
+        """The last published second, or None."""
+        return self.published[-1][0] if self.published else None
+
+    def add(self, second, root):
+        """Publishes the root of the calendar to a second, in hex."""
+        if self.last() is not None and second <= self.last():
+            return
+        published = [*self.published, (second, root)]
+        files.write(self.path, publications_file(published))
+        self.published = published
+
+    def content(self):
+        return files.content_of(self.path)

@@ -1,0 +1,50 @@
+"""The record of a run as the proved `ksi_retrace` reads it, a stream of entries, and what it says to them.
+
+`ksi_retrace` steps the proved world through the record and compares each block that a node wrote with the world's, and each
+signature that was handed out. It trusts nothing of the host: where the record is wrong, its blocks are others."""
+import subprocess
+from typing import Iterator
+
+from .programs import program
+from .record import Signed, told
+
+
+class Differs(Exception):
+    """The run is not that of its record."""
+
+
+def head_of(step):
+    """The line that says which event a step was."""
+    if step.line is None:
+        return f"restart {step.node}"
+    words = f"{step.node} {step.line}" if step.message is None else "deliver %d %d" % tuple(step.message)
+    return words if step.block is not None else f"unsaid {words}"
+
+
+def entry_of(it):
+    """A step or a handed out signature, as an entry."""
+    if isinstance(it, Signed):
+        return f"sign {it.step}\nsignature {it.text}\n.\n"
+    rows = [head_of(it), *(it.block + ["."] if it.block is not None else [])]
+    return "".join(f"{row}\n" for row in rows)
+
+
+def entries(folder) -> Iterator[str]:
+    """The entries of a record's folder."""
+    return map(entry_of, told(folder))
+
+
+def retrace(plan, folder):
+    """The counts of steps, of steps that were never said, and of signatures, where all agree; else raises Differs with the line."""
+    with subprocess.Popen([program("ksi_retrace"), plan], stdin=subprocess.PIPE, stdout=subprocess.PIPE, stderr=subprocess.DEVNULL) as run:
+        try:
+            for entry in entries(folder):
+                run.stdin.write(entry.encode())
+            run.stdin.close()
+        except BrokenPipeError:
+            pass
+        said = run.stdout.read().decode().strip()
+    words = said.split(" ")
+    if run.returncode or words[::2] != ["agrees", "unsaid", "signatures"]:
+        raise Differs(f"ksi_retrace: {said or run.returncode}")
+    return tuple(map(int, words[1::2]))

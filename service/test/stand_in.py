@@ -1,0 +1,225 @@
+"""stand_in.py core|aggregator PLAN NUMBER FOLDER NAME: a node for tests of the host where the proved programs are not built.
+
+It takes the lines of a node and answers by the blocks of one (docs/FORMATS.md, "Lines of nodes"), and keeps its facts in a file, a
+line each. Its trees are one hash and its signatures are no signatures: the host looks into neither."""
+import collections
+import hashlib
+import os
+import sys
+
+ZERO = "0" * 64
+
+
+def digest(words):
+    return hashlib.sha256(" ".join(words).encode()).hexdigest() if words else ZERO
+
+
+class Stand:
+    """What both kinds have: facts in a file, and blocks."""
+
+    def __init__(self, plan, number, path):
+        self.number, self.parents, self.cores, self.start = number, [], 0, 0
+        with open(plan, encoding="ascii") as lines:
+            for words in map(str.split, lines):
+                if words[0] == "aggregator":
+                    self.parents.append(words[3])
+                elif words[0] in ("cores", "start"):
+                    setattr(self, words[0], int(words[1]))
+        self.file, self.rows = open(path, "a+", encoding="ascii"), []
+        self.file.seek(0)
+        self.facts = [line.split() for line in self.file]
+        for fact in self.facts:
+            self.hold(fact)
+        print(f"ready {len(self.facts)}\n.", flush=True)
+
+    def keep(self, *fact):
+        self.file.write(" ".join(fact) + "\n")
+        self.file.flush()
+        self.hold(fact)
+        self.stored = True
+
+    def serve(self):
+        for line in sys.stdin:
+            if not line.endswith("\n"):
+                return
+            words, self.rows, self.stored = line.split(), [], False
+            answer = getattr(self, "on_" + words[0], lambda *rest: "refused word")(*words[1:])
+            rows = [*([answer] if answer else []), *(["stored"] if self.stored else []), *self.rows, "."]
+            os.write(1, ("\n".join(rows) + "\n").encode())
+
+
+class Core(Stand):
+    def __init__(self, *words):
+        self.sealed, self.held, self.promised, self.voted, self.tried = {}, {}, {}, {}, {}
+        self.open, self.hand = collections.defaultdict(dict), {}
+        super().__init__(*words)
+
+    def hold(self, fact):
+        name, second, *rest = fact
+        if name == "sealed":
+            self.sealed[second] = (rest[0], rest[1:])
+        else:
+            getattr(self, name)[second] = rest[0] if len(rest) == 1 else tuple(rest)
+
+    def all(self, second, text):
+        self.rows += [f"send c{core} synod {self.number} {second} {text}" for core in range(self.cores)]
+
+    def missing(self, last):
+        return next((it for it in range(self.start, int(last) + 1) if str(it) not in self.held), None)
+
+    def on_submission(self, aggregator, second, imprint, level):
+        if second in self.sealed:
+            return "answer late"
+        if aggregator in self.open[second]:
+            return "answer known"
+        self.open[second][aggregator] = imprint
+        return "answer done"
+
+    def on_seal(self, second):
+        if second in self.sealed:
+            return "answer sealed"
+        items = self.open.pop(second, {})
+        self.keep("sealed", second, digest(list(items.values())), *items)
+        return "answer done"
+
+    def on_ballot(self, second):
+        if second not in self.sealed:
+            return "answer unsealed"
+        ballot = (max(int(self.tried.get(second, 0)), int(self.promised.get(second, 0))) // 16 + 1) * 16 + self.number
+        self.keep("tried", second, str(ballot))
+        self.hand[second] = [ballot, {}, None, set()]
+        self.all(second, f"next {ballot}")
+        return "answer done"
+
+    def on_synod(self, core, second, kind, *words):
+        return "answer done" if getattr(self, "hear_" + kind)(core, second, *words) else "answer nothing"
+
+    def hear_next(self, core, second, ballot):
+        if int(ballot) > int(self.promised.get(second, 0)):
+            self.keep("promised", second, ballot)
+            self.rows.append(f"send c{core} synod {self.number} {second} last {ballot} " + " ".join(self.voted.get(second, ())))
+            self.rows[-1] = self.rows[-1].rstrip()
+            return True
+        return False
+
+    def hear_last(self, core, second, ballot, *vote):
+        hand = self.hand.get(second)
+        if not hand or hand[0] != int(ballot) or hand[2] or core in hand[1]:
+            return False
+        hand[1][core] = vote
+        if len(hand[1]) * 2 > self.cores:
+            votes = [it for it in hand[1].values() if it]
+            hand[2] = max(votes, key=lambda it: int(it[0]))[1] if votes else self.sealed[second][0]
+            self.all(second, f"begin {ballot} {hand[2]}")
+        return True
+
+    def hear_begin(self, core, second, ballot, imprint):
+        if ballot != self.promised.get(second) or int(self.voted.get(second, (0,))[0]) >= int(ballot):
+            return False
+        self.keep("voted", second, ballot, imprint)
+        self.rows.append(f"send c{core} synod {self.number} {second} voted {ballot}")
+        return True
+
+    def hear_voted(self, core, second, ballot):
+        hand = self.hand.get(second)
+        if not hand or hand[0] != int(ballot) or not hand[2] or core in hand[3]:
+            return False
+        hand[3].add(core)
+        if len(hand[3]) == self.cores // 2 + 1:
+            if second not in self.held:
+                self.keep("held", second, hand[2])
+            self.all(second, f"success {hand[2]}")
+        return True
+
+    def hear_success(self, core, second, imprint):
+        if second in self.held:
+            return False
+        self.keep("held", second, imprint)
+        return True
+
+    def on_tell(self, second):
+        if second not in self.held:
+            return f"answer undecided {second}"
+        self.all(second, f"success {self.held[second]}")
+        return "answer done"
+
+    def on_respond(self, second):
+        if second not in self.sealed:
+            return "answer unsealed"
+        missing = self.missing(second)
+        if missing is not None:
+            return f"answer undecided {missing}"
+        imprint, aggregators = self.sealed[second]
+        if imprint == ZERO or imprint != self.held[second]:
+            return "answer notmine"
+        self.rows += [f"send a{it} response {second} {imprint}" for it in aggregators]
+        return "answer done"
+
+    def on_publish(self, second):
+        missing = self.missing(second)
+        if missing is not None:
+            return f"answer undecided {missing}"
+        return "answer published " + digest([second, self.held[second]])
+
+
+    def on_chain(self, second, last):
+        missing = self.missing(last)
+        if missing is not None:
+            return f"undecided {missing}"
+        self.rows += [f"left {digest([second])}", f"right {digest([last])}"]
+        return "chain " + digest([last, self.held[last]])
+
+    def on_held(self, first, count):
+        rows = [f"root {it} {self.held[str(it)]}" for it in range(int(first), int(first) + int(count)) if str(it) in self.held]
+        self.rows = rows[1:]
+        return rows[0] if rows else None
+
+
+class Aggregator(Stand):
+    def __init__(self, *words):
+        self.open, self.closed, self.answered = collections.defaultdict(list), {}, {}
+        self.numbers = {}
+        super().__init__(*words)
+
+    def hold(self, fact):
+        name, second, *rest = fact
+        if name == "closed":
+            self.closed[second] = rest
+            self.numbers.update({it.split(":")[0]: (second, it) for it in rest})
+        else:
+            self.answered[second] = rest[0]
+
+    def on_request(self, number, second, imprint):
+        if number in self.numbers:
+            return "refused taken"
+        if second in self.closed:
+            return "answer late"
+        self.numbers[number] = (second, f"{number}:{imprint}")
+        self.open[second].append(f"{number}:{imprint}")
+        return f"answer number {number}"
+
+    def on_close(self, second):
+        if second in self.closed:
+            return "answer closed"
+        items = self.open.pop(second, [])
+        self.keep("closed", second, *items)
+        if items:
+            self.rows.append(f"send {self.parents[self.number]} submission {self.number} {second} {digest(items)} 0")
+        return "answer done"
+
+    def on_response(self, second, text):
+        if not self.closed.get(second) or second in self.answered:
+            return "answer nothing"
+        self.keep("answered", second, text)
+        return "answer done"
+
+    def on_sign(self, number):
+        second, item = self.numbers.get(number, ("", ""))
+        if second not in self.answered or item not in self.closed.get(second, ()):
+            return "not issued"
+        return f"signature {item.split(':')[1]}{int(second):016x}{self.answered[second]}"
+
+
+if __name__ == "__main__":
+    kind, plan, number, folder, name = sys.argv[1:]
+    {"core": Core, "aggregator": Aggregator}[kind](plan, int(number), os.path.join(folder, name)).serve()

@@ -1,0 +1,31 @@
+"""What tests share: a folder of stand-ins for the programs of the nodes, and which real programs are there."""
+import os
+import stat
+import sys
+
+from ksi_service.programs import Missing, program
+
+HERE = os.path.dirname(os.path.abspath(__file__))
+COMMAND = os.path.join(os.path.dirname(HERE), "ksi-service")
+NODES = ("ksi_serve_core", "ksi_serve_aggregator")
+
+
+def missing(*names):
+    """Why a test of these programs is skipped, or None."""
+    for name in names:
+        try:
+            program(name)
+        except Missing as it:
+            return str(it)
+    return None
+
+
+def make(folder):
+    """Makes the stand-ins for the nodes' programs in a folder."""
+    os.makedirs(folder, exist_ok=True)
+    for name in NODES:
+        path = os.path.join(folder, name)
+        with open(path, "w", encoding="utf-8") as file:
+            file.write(f'#!/bin/sh\nexec {sys.executable} {os.path.join(HERE, "stand_in.py")} {name.rsplit("_", 1)[1]} "$@"\n')
+        os.chmod(path, os.stat(path).st_mode | stat.S_IXUSR)
+    return folder

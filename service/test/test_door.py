@@ -1,0 +1,203 @@
+"""The door alone, with clients that mean no good."""
+import asyncio
+import hashlib
+import http.client
+import json
+import os
+import random
+import socket
+import threading
+import time
+import unittest
+from unittest import mock
+
+from ksi_service import http as own
+from ksi_service.door import Answer, Door, signature_answer
+from ksi_service.metrics import Spans, prometheus
+
+ONES = "1" * 64
+
+
+class House:
+    """A house behind a door that has no nodes: a signature is the hash itself."""
+
+    async def sign(self, imprint):
+        if imprint == "5" * 64:
+            raise Answer(503, "too many requests wait", Retry_After="2")
+        return signature_answer(bytes.fromhex(imprint))
+
+    async def extend(self, content):
+        raise Answer(409, f"refused S3 {len(content)}")
+
+    def signature(self, imprint):
+        return b"kept" if imprint == ONES else None
+
+    def publications(self):
+        return None
+
+    def page(self):
+        return b"<html>"
+
+    def counters(self):
+        spans = Spans()
+        spans.add(0.3)
+        return {"signed": 3, "waiting": 1, "sign_seconds": spans.told()}
+
+
+class DoorTest(unittest.TestCase):
+    def setUp(self):
+        self.loop = asyncio.new_event_loop()
+        thread = threading.Thread(target=self.loop.run_forever, daemon=True)
+        thread.start()
+        self.addCleanup(self.loop.close)
+        self.addCleanup(thread.join)
+        self.addCleanup(self.loop.call_soon_threadsafe, self.loop.stop)
+        self.begin(512)
+
+    def begin(self, most):
+        self.door = self.run_there(self.open(most))
+        self.address = self.door.address()
+        self.addCleanup(self.run_there, self.door.stop())
+
+    async def open(self, most):
+        door = Door(House(), most)
+        await door.begin("127.0.0.1", 0)
+        return door
+
+    def run_there(self, work):
+        return asyncio.run_coroutine_threadsafe(work, self.loop).result(10)
+
+    def wait_for(self, connections):
+        while len(self.door.open) != connections:
+            time.sleep(0.01)
+
+    def ask(self, method, path, body=None, **headers):
+        connection = http.client.HTTPConnection(*self.address, timeout=10)
+        connection.request(method, path, body, {name.replace("_", "-"): value for name, value in headers.items()})
+        answer = connection.getresponse()
+        told = answer.status, answer.read()
+        connection.close()
+        return told
+
+    def raw(self, *pieces, more=True):
+        """What the door answers to bytes, until it ends the connection."""
+        told = b""
+        with socket.create_connection(self.address, timeout=10) as client:
+            for piece in pieces:
+                client.sendall(piece)
+            if not more:
+                client.shutdown(socket.SHUT_WR)
+            while piece := client.recv(65536):
+                told += piece
+        return told
+
+    def test_what_is_asked_in_order(self):
+        document = os.urandom(300_000)
+        rows = [("POST", "/sign", ONES.encode(), {}, 200, bytes.fromhex(ONES)),
+                ("POST", "/sign", b"\n" + b"AB" * 32 + b"\n", {}, 200, b"\xab" * 32),
+                ("POST", "/sign", document, {"Content_Type": "application/octet-stream"}, 200, hashlib.sha256(document).digest()),
+                ("POST", "/sign", b"", {"Content_Type": "application/octet-stream"}, 200, hashlib.sha256().digest()),
+                ("POST", "/sign", b"5" * 64, {}, 503, b"too many requests wait\n"),
+                ("GET", "/signature/" + ONES, None, {}, 200, b"kept"),
+                ("POST", "/extend", b"x" * 700, {}, 409, b"refused S3 700\n"),
+                ("GET", "/", None, {"Sec_Fetch_Site": "none"}, 200, b"<html>"),
+                ("GET", "/publications", None, {}, 404, b"nothing was published yet\n")]
+        for method, path, body, headers, status, content in rows:
+            self.assertEqual(self.ask(method, path, body, **headers), (status, content), (method, path))
+
+    def test_counters_as_json_and_for_prometheus(self):
+        told = json.loads(self.ask("GET", "/status")[1])
+        self.assertEqual((told["signed"], told["sign_seconds"]["count"]), (3, 1))
+        text = self.ask("GET", "/metrics")[1].decode()
+        self.assertEqual(self.ask("GET", "/status", Accept="text/plain")[1].decode(), text)
+        for row in ("# TYPE ksi_signed_total counter", "ksi_signed_total 3", "ksi_waiting 1", 'ksi_sign_seconds_bucket{le="0.25"} 0',
+                    'ksi_sign_seconds_bucket{le="0.5"} 1', 'ksi_sign_seconds_bucket{le="+Inf"} 1', "ksi_sign_seconds_sum 0.3"):
+            self.assertIn(row, text.splitlines())
+
+    def test_what_is_refused(self):
+        rows = [("POST", "/sign", b"no hash", {}, 400), ("POST", "/sign", b"", {}, 400), ("POST", "/sign", b"0" * 65, {}, 400),
+                ("POST", "/sign", b"0" * 300, {}, 400), ("POST", "/sign", b"0" * 64, {"Content_Type": "image/png"}, 415),
+                ("GET", "/signature/0", None, {}, 404), ("GET", "/signature/" + "0" * 64, None, {}, 404),
+                ("GET", "/../../etc/passwd", None, {}, 404), ("POST", "/elsewhere", b"x", {}, 404), ("PUT", "/sign", b"x", {}, 405),
+                ("GET", "/sign", None, {}, 405), ("POST", "/extend", b"x" * 65_540, {}, 413), ("GET", "/status", b"body", {}, 400),
+                ("POST", "/sign", b"0" * 64, {"Sec_Fetch_Site": "cross-site"}, 403)]
+        for method, path, body, headers, status in rows:
+            self.assertEqual(self.ask(method, path, body, **headers)[0], status, (method, path, body))
+
+    def test_a_reason_is_told_to_hostile_input(self):
+        host, sign = b"Host: x\r\n", b"POST /sign HTTP/1.1\r\nHost: x\r\n"
+        rows = [(b"\r\n\r\n", b"400", b"first line"), (b"GET\r\n\r\n", b"400", b"first line"), (b"GET / HTTP/2.0\r\n\r\n", b"400", b"first line"),
+                (b"get / HTTP/1.1\r\n" + host + b"\r\n", b"400", b"first line"), (b"GET /\xff HTTP/1.1\r\n\r\n", b"400", b"first line"),
+                (b"GET / HTTP/1.1\r\n\r\n", b"400", b"no Host"), (b"GET / HTTP/1.1\r\n" + host + host + b"\r\n", b"400", b"host stands twice"),
+                (b"GET / HTTP/1.1\r\nHost : x\r\n\r\n", b"400", b"a header"), (b"GET / HTTP/1.1\r\n" + host + b" folded\r\n\r\n", b"400", b"a header"),
+                (b"GET / HTTP/1.1\r\nHost: \0\r\n\r\n", b"400", b"a header"), (b"GET / HTTP/1.1\nHost: x\n\n", b"400", b"CR LF"),
+                (b"GET / HTTP/1.1\r\n" + host + b"A: b\r\n" * 70 + b"\r\n", b"431", b"headers"), (b"GET /" + b"a" * 9000 + b" HTTP/1.1\r\n\r\n", b"431", b"bytes"),
+                (sign + b"Content-Length: -1\r\n\r\n", b"400", b"no number"), (sign + b"Content-Length: 1e3\r\n\r\n", b"400", b"no number"),
+                (sign + b"Content-Length: 18446744073709551616\r\n\r\n", b"400", b"no number"), (sign + b"\r\n", b"411", b"Content-Length"),
+                (sign + b"Content-Length: 1\r\nContent-Length: 2\r\n\r\n", b"400", b"stands twice"),
+                (sign + b"Transfer-Encoding: chunked\r\n\r\n0\r\n\r\n", b"411", b"Content-Length"),
+                (sign + b"Content-Type: application/octet-stream\r\nContent-Length: 99999999999\r\n\r\n", b"413", b"at most"),
+                (sign + b"Content-Length: 64\r\n\r\n0123", b"400", b"ended early"), (b"GET / HT", b"400", b"ended early")]
+        for content, status, reason in rows:
+            told = self.raw(content, more=False)
+            self.assertTrue(told.startswith(b"HTTP/1.1 " + status), (content[:80], told))
+            self.assertIn(reason, told.split(b"\r\n\r\n")[1], content[:80])
+            self.assertIn(b"Connection: close", told)
+        self.assertEqual(self.ask("GET", "/status")[0], 200)
+
+    def test_a_connection_takes_many_requests(self):
+        one = b"POST /sign HTTP/1.1\r\nHost: x\r\nContent-Length: 64\r\n\r\n" + b"2" * 64
+        last = b"GET /signature/" + ONES.encode() + b" HTTP/1.1\r\nHost: x\r\nConnection: close\r\n\r\n"
+        told = self.raw(one + one[:70], one[70:] + last)
+        self.assertEqual((told.count(b"HTTP/1.1 200 OK"), told.count(b"\x22" * 32), told.endswith(b"kept")), (3, 2, True))
+
+    def test_a_client_that_waits_for_word_gets_it(self):
+        head = b"POST /sign HTTP/1.1\r\nHost: x\r\nContent-Length: 64\r\nExpect: 100-continue\r\nConnection: close\r\n\r\n"
+        with socket.create_connection(self.address, timeout=10) as client:
+            client.sendall(head)
+            self.assertEqual(client.recv(65536), b"HTTP/1.1 100 Continue\r\n\r\n")
+            client.sendall(b"2" * 64)
+            self.assertTrue(client.recv(65536).startswith(b"HTTP/1.1 200 OK"))
+
+    def test_slow_clients_are_ended(self):
+        with mock.patch.object(own, "SECONDS_FOR_HEAD", 0.2), mock.patch.object(own, "SECONDS_FOR_BODY", 0.2):
+            for piece in (b"GET / HT", b"POST /sign HTTP/1.1\r\nHost: x\r\nContent-Length: 64\r\n\r\n0"):
+                self.assertTrue(self.raw(piece).startswith(b"HTTP/1.1 408"), piece)
+
+    def test_five_hundred_hostile_requests_leave_the_door_open(self):
+        dice = random.Random(3)
+        parts = [b"GET ", b"POST ", b"/sign", b"/", b" HTTP/1.1\r\n", b"Host: x\r\n", b"Content-Length: ", b"64", b"18446744073709551616", b"\r\n\r\n", b"\r\n",
+                 b"\0" * 40, b"\xff" * 9, b"Transfer-Encoding: chunked\r\n", b"Expect: 100-continue\r\n", b"A" * 70000, b"0" * 64, os.urandom(300)]
+        starts = {b"200", b"400", b"404", b"405", b"408", b"411", b"413", b"431"}
+        for _ in range(500):
+            try:
+                told = self.raw(b"".join(dice.choices(parts, k=dice.randint(1, 12))), more=False)
+            except ConnectionError:
+                continue
+            if told:
+                self.assertIn(told.replace(b"HTTP/1.1 100 Continue\r\n\r\n", b"")[9:12], starts, told[:200])
+        self.assertEqual(self.ask("GET", "/status")[0], 200)
+
+    def test_many_idle_connections_and_one_too_many(self):
+        self.begin(50)
+        idle = [socket.create_connection(self.address, timeout=10) for _ in range(50)]
+        self.wait_for(50)
+        self.assertTrue(self.raw(b"GET /status HTTP/1.1\r\nHost: x\r\n\r\n").startswith(b"HTTP/1.1 503"))
+        for client in idle:
+            client.close()
+        self.wait_for(0)
+        self.assertEqual(self.ask("GET", "/status")[0], 200)
+
+    def test_a_failure_inside_is_told_and_logged(self):
+        with mock.patch.object(House, "publications", side_effect=OSError(5, "Input/output error")), mock.patch("sys.stderr") as log:
+            self.assertEqual(self.ask("GET", "/publications")[0], 500)
+            self.assertIn("Input/output error", log.write.call_args_list[0][0][0])
+
+
+class MetricsTest(unittest.TestCase):
+    def test_what_has_no_meaning_is_left_out(self):
+        self.assertEqual(prometheus({"processes": {"c0": 5}}), "")
+
+
+if __name__ == "__main__":
+    unittest.main()
