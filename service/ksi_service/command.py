@@ -4,6 +4,7 @@ import asyncio
 import hashlib
 import json
 import os
+import re
 import signal
 import subprocess
 import sys
@@ -13,13 +14,14 @@ import urllib.request
 
 from . import check as checking
 from . import backup as backing
-from . import files, service
-from .node import GivenUp, LostFacts
+from . import files, service, streams
+from .node import Down, GivenUp, LostFacts
 from .programs import Missing
 from .proved import Refused, ksi
 from .record import last_state
 
 DEFAULT = os.environ.get("KSI_SERVICE", "ksi-service-data")
+OVER = os.environ.get("KSI_OVER", "pipes")
 
 
 class Failed(Exception):
@@ -87,8 +89,15 @@ def start(words):
 
 
 def run(words):
-    asyncio.run(service.run(words.folder, words.cores, words.aggregators, address_of(words.door), words.publish_every,
-                            words.most_waiting, words.cut_every))
+    asyncio.run(service.run(words.folder, words.cores, words.aggregators, address_of(words.door), publish_every=words.publish_every,
+                            most_waiting=words.most_waiting, cut_every=words.cut_every, over=words.over))
+
+
+def node(words):
+    """Runs one node of a service whose lines go over Redis."""
+    if words.over == "pipes":
+        raise Failed("a node on its own needs --over redis://HOST, or KSI_OVER")
+    streams.NodeHost(words.over, words.folder, words.name, service.say).run()
 
 
 def stop(words):
@@ -155,6 +164,12 @@ def positive(text):
     return number
 
 
+def node_name(text):
+    if not re.fullmatch(r"[ca](0|[1-9][0-9]{0,3})", text):
+        raise ValueError(text)
+    return text
+
+
 def parser_of():
     parser = argparse.ArgumentParser(prog="ksi-service", description="A timestamping service of proved nodes on this machine.")
     commands = parser.add_subparsers(dest="command", required=True)
@@ -164,10 +179,16 @@ def parser_of():
         one.add_argument("--cores", type=int, default=3, choices=range(1, 10), metavar="1..9")
         one.add_argument("--aggregators", type=positive, default=2)
         one.add_argument("--door", default="127.0.0.1:8080", metavar="HOST:PORT", help="where to listen; port 0 takes a free one")
+        one.add_argument("--over", default=OVER, metavar="pipes|redis://HOST", help="how lines go: pipes on this machine, or Redis Streams to the hosts of nodes")
         one.add_argument("--publish-every", type=positive, default=3600, metavar="SECONDS", help="how often a core publishes: 3600")
         one.add_argument("--most-waiting", type=positive, default=service.MOST_WAITING, metavar="REQUESTS", help="how many requests may wait before the door answers 503")
         one.add_argument("--cut-every", type=positive, default=3600, metavar="SECONDS", help="how often the record begins a new file, and the one before is compressed")
         one.set_defaults(does=does)
+    one = commands.add_parser("node", help="run one node of a service whose lines go over Redis")
+    one.add_argument("name", type=node_name, metavar="c0|a0|..", help="which core or aggregator")
+    one.add_argument("folder", nargs="?", default=DEFAULT)
+    one.add_argument("--over", default=OVER, metavar="redis://HOST", help="the server; rediss:// for TLS")
+    one.set_defaults(does=node)
     for name, does, told in (("stop", stop, "stop it"), ("status", status, "its counters")):
         one = commands.add_parser(name, help=told)
         one.add_argument("folder", nargs="?", default=DEFAULT)
@@ -205,7 +226,7 @@ def main(arguments):
     words = parser_of().parse_args(arguments)
     try:
         words.does(words)
-    except (Failed, Missing, GivenUp, LostFacts, files.Held, checking.Differs, Refused, OSError) as error:
+    except (Failed, Missing, streams.Missing, Down, GivenUp, LostFacts, files.Held, checking.Differs, Refused, OSError) as error:
         print(f"ksi-service: {error}", file=sys.stderr)
         return 1
     return 0

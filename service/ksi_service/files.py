@@ -9,12 +9,17 @@ class Held(Exception):
 
 def lock(folder):
     """Locks a folder until the process ends, or the file that is returned is closed."""
-    file = open(os.path.join(folder, "lock"), "a", encoding="ascii")
+    return lock_of(os.path.join(folder, "lock"), f"another service runs over {folder}")
+
+
+def lock_of(path, reason):
+    """Locks a file, or raises Held with the reason."""
+    file = open(path, "a", encoding="ascii")
     try:
         fcntl.flock(file, fcntl.LOCK_EX | fcntl.LOCK_NB)
     except OSError:
         file.close()
-        raise Held(f"another service runs over {folder}") from None
+        raise Held(reason) from None
     return file
 
 

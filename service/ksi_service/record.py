@@ -8,7 +8,13 @@ It is a folder of files, cut from time to time, each but the last compressed. On
     ["ready", NODE, RECORDS, UNSAID]   the node's process was started and found so many facts; of the lines that it had not
                                        answered the first UNSAID happened before it ended, and the others did not
     ["signed", STEP, TEXT]             the signature, in hex, that was handed out for the request of this step
-    ["begins", STEPS, SECOND, NODES]   the first line of a file: what `State` has at this place
+    ["begins", STATE]                  the first line of a file: what `State` has at this place
+
+Where the nodes are on other machines, their own logs are put together to a record of these entries (remote.py):
+
+    ["did", NODE, NUMBER, ID, LINE, FROM, BLOCK]   the node took the line with this ID; FROM is null, or NODE ID PLACE of the line
+                                                   that it was sent for; NUMBER is the entry's in the node's log
+    ["restarted", NODE, NUMBER, AGAIN]             the node's process was started; AGAIN is 0 at its first start
 
 Steps are numbered from 0 in the order of the record: a block that is no refusal, a line that happened and was never answered, and
 a restart, which is each start of a node but its first. Questions, which change nothing, are not recorded."""
@@ -74,6 +80,10 @@ class State:
         self.steps, self.second = 0, 0
         """How many steps there were, and the last second that a core was told to seal."""
         self.nodes: Dict[str, NodeState] = {}
+        self.seen: Dict[str, str] = {}
+        """The last entry of each node's own log."""
+        self.sent: Dict[str, list] = {}
+        """By NODE ID of a line whose messages are on their way: its step, and how many of them did not come yet."""
 
     def node(self, name):
         return self.nodes.setdefault(name, NodeState())
@@ -110,14 +120,38 @@ class State:
     def take_signed(self, step, text):
         return [Signed(step, text)]
 
-    def take_begins(self, steps, second, nodes):
-        self.steps, self.second = steps, second
-        self.nodes = {name: NodeState(facts, deque((line, message) for line, message in lines)) for name, facts, lines in nodes}
+    def take_did(self, name, number, identity, line, sender, block):
+        self.seen[name] = number
+        message = self.came(sender) if sender else None
+        sends = sum(row.startswith("send ") for row in block or [])
+        if sends:
+            self.sent[f"{name} {identity}"] = [self.steps, sends]
+        if line.startswith("seal "):
+            self.second = max(self.second, int(line.split(" ")[1]))
+        return [Step(name, line, message, block)]
+
+    def came(self, sender):
+        """Which message it is that came. Each comes once: its addressee's host has acknowledged it."""
+        key, place = sender.rsplit(" ", 1)
+        sent = self.sent[key]
+        sent[1] -= 1
+        if not sent[1]:
+            del self.sent[key]
+        return [sent[0], int(place)]
+
+    def take_restarted(self, name, number, again):
+        self.seen[name] = number
+        return [Step(name, None, None, None)] if again else []
+
+    def take_begins(self, state):
+        self.steps, self.second, self.seen, self.sent = state["steps"], state["second"], state["seen"], state["sent"]
+        self.nodes = {name: NodeState(facts, deque((line, message) for line, message in lines)) for name, facts, lines in state["nodes"]}
         return []
 
     def begins(self):
         """The entry from which `take` makes this state."""
-        return ["begins", self.steps, self.second, [[name, node.facts, list(node.unanswered)] for name, node in self.nodes.items()]]
+        nodes = [[name, node.facts, list(node.unanswered)] for name, node in self.nodes.items()]
+        return ["begins", {"steps": self.steps, "second": self.second, "nodes": nodes, "seen": self.seen, "sent": self.sent}]
 
 
 def names(folder) -> List[str]:
@@ -143,7 +177,7 @@ def told(folder) -> Iterator[object]:
     for path in names(folder):
         for line in lines_of(path):
             entry = json.loads(line)
-            if entry[0] != "begins" or not state.nodes:
+            if entry[0] != "begins":
                 yield from state.take(entry)
 
 

@@ -17,6 +17,7 @@ from .node import Down
 from .plan import Plan
 from .programs import page
 from .publications import Publications
+from .remote import RemoteNetwork
 
 MOST_REMEMBERED = 100_000
 """How many signatures the door remembers; a client keeps its own."""
@@ -98,9 +99,9 @@ class House:
 
 
 class Service:
-    def __init__(self, folder, plan, publish_every=3600, trouble=None, most_waiting=MOST_WAITING, cut_every=3600):
+    def __init__(self, folder, plan, publish_every=3600, most_waiting=MOST_WAITING, cut_every=3600, over="pipes"):
         self.folder, self.plan, self.publish_every, self.cut_every = folder, plan, publish_every, cut_every
-        self.network = Network(folder, plan, trouble)
+        self.network = Network(folder, plan) if over == "pipes" else RemoteNetwork(folder, plan, over, say)
         self.clock = Clock(self.network, most_waiting)
         self.publications = Publications(folder)
         self.clock.on_published = self.publish
@@ -176,11 +177,11 @@ def open_files(most):
     return min(most, max(soft, wanted) - 256)
 
 
-async def run(folder, cores=3, aggregators=2, address=("127.0.0.1", 8080), publish_every=3600, most_waiting=MOST_WAITING, cut_every=3600):
+async def run(folder, cores=3, aggregators=2, address=("127.0.0.1", 8080), **options):
     """Runs the service until it is told to stop."""
     os.makedirs(folder, exist_ok=True)
     held = files.lock(folder)
-    service = Service(folder, plan_of(folder, cores, aggregators), publish_every, most_waiting=most_waiting, cut_every=cut_every)
+    service = Service(folder, plan_of(folder, cores, aggregators), **options)
     told = asyncio.Event()
     for number in (signal.SIGINT, signal.SIGTERM):
         asyncio.get_running_loop().add_signal_handler(number, told.set)

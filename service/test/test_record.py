@@ -24,7 +24,7 @@ class RecordTest(unittest.TestCase):
     def write(self, *entries, number=1, end="\n"):
         os.makedirs(self.folder, exist_ok=True)
         with open(os.path.join(self.folder, f"{number:08}"), "w", encoding="utf-8") as file:
-            file.write("\n".join(json.dumps(it) for it in [*([] if number > 1 else [["begins", 0, 0, []]]), *entries]) + end)
+            file.write("\n".join(json.dumps(it) for it in [*([] if number > 1 else [State().begins()]), *entries]) + end)
 
     def opened(self, work=None):
         """A record that is opened, worked with, and closed."""

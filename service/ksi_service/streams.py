@@ -1,0 +1,244 @@
+"""Redis Streams as the carrier of lines between machines, and the host of one node on its own machine.
+
+    ksi:plan          the plan, a string
+    ksi:to:NODE       lines for a node: line, and from (NODE ID PLACE, of the line that made it and which of its messages it is) or ask
+    ksi:log:NODE      what the node did: id, line, from, ask, said (its block), or unsaid; or ready and, but for the first start, restart
+    ksi:said:NODE     what changed nothing: ask, said. Refusals and answers to questions, of which the last few thousand are kept
+    ksi:facts:NODE    how many facts the node has acknowledged
+    ksi:done:NODE     the last transaction of the node's host
+    ksi:alive:NODE    there while the node runs
+
+What a node does with a line is one transaction: its entry in the log, a line for each addressee, the acknowledgement, and the count
+of facts. So a host that ends, or a server that is killed, loses nothing and repeats nothing that was done. It has to keep what it
+was told: `appendonly yes`, `appendfsync always`. Needs Debian's python3-redis."""
+import os
+import secrets
+import subprocess
+import sys
+import time
+
+from . import files
+from .node import FIRST_PAUSE, MOST_VAIN_STARTS, GivenUp, LostFacts
+from .programs import program
+from .record import MAY_STORE, QUESTIONS, is_refusal, is_stored, word
+
+GROUP, READER = "host", "one"
+MOST_AT_ONCE = 256
+"""How many lines a host takes at once."""
+MOST_SAID = 20_000
+ALIVE_MILLISECONDS = 1500
+BLOCK_MILLISECONDS = 500
+
+
+class Missing(Exception):
+    """The package is not installed."""
+
+
+def connect(url):
+    """A client of the server, which connects when it is used."""
+    try:
+        import redis
+    except ImportError:
+        raise Missing(f"{sys.executable} has no package redis: apt-get install python3-redis, and use Debian's python3") from None
+    return redis.Redis.from_url(url, decode_responses=True, socket_timeout=10, socket_connect_timeout=5, health_check_interval=30)
+
+
+def errors():
+    """What a server that is away raises."""
+    import redis
+    return (redis.ConnectionError, redis.TimeoutError, redis.BusyLoadingError, redis.ReadOnlyError)
+
+
+def patiently(work, say=lambda text: None):
+    """Does work that the server is needed for, again and again until it is there."""
+    pause = 0.05
+    while True:
+        try:
+            return work()
+        except errors() as error:
+            if pause == 0.05:
+                say(f"the server is away: {error}")
+            time.sleep(pause)
+            pause = min(1.0, pause * 2)
+
+
+class Ended(Exception):
+    """The node's process ended."""
+
+
+class Process:
+    """The process of a node, and its blocks."""
+
+    def __init__(self, words):
+        self.child = subprocess.Popen(words, stdin=subprocess.PIPE, stdout=subprocess.PIPE, stderr=subprocess.DEVNULL)
+
+    def give(self, lines):
+        try:
+            self.child.stdin.write("".join(f"{it}\n" for it in lines).encode())
+            self.child.stdin.flush()
+        except OSError:
+            raise Ended() from None
+
+    def block(self):
+        rows = []
+        while (row := self.child.stdout.readline()) != b".\n":
+            if not row.endswith(b"\n"):
+                raise Ended(" ".join(rows))
+            rows.append(row[:-1].decode("ascii", "replace"))
+        return rows
+
+    def end(self):
+        self.child.stdin.close()
+        self.child.stdout.close()
+        self.child.wait()
+
+
+class NodeHost:
+    """Carries lines between a node's process and the server."""
+
+    def __init__(self, url, folder, name, say=lambda text: None):
+        self.client, self.folder, self.name, self.say = connect(url), folder, name, say
+        self.to, self.log, self.said = (f"ksi:{it}:{name}" for it in ("to", "log", "said"))
+        self.process, self.facts, self.vain, self.serial = None, 0, 0, 0
+        self.run_id, self.pending, self.told_alive = secrets.token_hex(8), [], 0.0
+
+    def run(self):
+        """Serves until the process of this host is ended."""
+        os.makedirs(self.folder, exist_ok=True)
+        held = files.lock_of(os.path.join(self.folder, f"{self.name}.lock"), f"another host runs {self.name} over {self.folder}")
+        self.patiently(self.prepare)
+        try:
+            while True:
+                self.live()
+        finally:
+            held.close()
+
+    def patiently(self, work):
+        return patiently(work, self.say)
+
+    def prepare(self):
+        """Gets the plan, once it is there, and makes the stream's group."""
+        import redis
+        while not (plan := self.client.get("ksi:plan")):
+            time.sleep(0.2)
+        path = os.path.join(self.folder, "plan")
+        if files.content_of(path) not in (None, plan.encode()):
+            raise LostFacts(f"{self.folder} has another plan than the server")
+        files.write(path, plan.encode())
+        try:
+            self.client.xgroup_create(self.to, GROUP, "0", mkstream=True)
+        except redis.ResponseError as there:
+            if "BUSYGROUP" not in str(there):
+                raise
+
+    def live(self):
+        """One life of the process."""
+        node = program("ksi_serve_core" if self.name[0] == "c" else "ksi_serve_aggregator")
+        words = [node, os.path.join(self.folder, "plan"), self.name[1:], self.folder, f"{self.name}.facts"]
+        self.process = Process(words)
+        try:
+            self.begin(self.process.block())
+            while True:
+                self.take(self.lines())
+        except Ended as ended:
+            self.say(f"{self.name} ended {ended}".rstrip())
+        finally:
+            self.process.end()
+        self.vain += self.process.child.returncode >= 0
+        if self.vain == MOST_VAIN_STARTS:
+            raise GivenUp(f"{self.name} ends whenever it is started")
+        time.sleep(FIRST_PAUSE * 2 ** self.vain)
+
+    def begin(self, block):
+        """Sees which of the lines that were given and not acknowledged happened, by the count of facts."""
+        known = self.patiently(lambda: self.client.get(f"ksi:facts:{self.name}"))
+        self.pending = self.patiently(self.unacknowledged)
+        found, happened = int(block[0].split(" ")[1]), []
+        if found != int(known or 0):
+            storing = [at for at, (_, fields) in enumerate(self.pending) if word(fields["line"]) in MAY_STORE]
+            if found != int(known or 0) + 1 or not storing:
+                raise LostFacts(f"{self.name} acknowledged {known or 0} facts and found {found}")
+            happened, self.pending = self.pending[:storing[0] + 1], self.pending[storing[0] + 1:]
+        self.facts = found
+
+        def fill(commit):
+            for number, fields in happened:
+                if word(fields["line"]) not in QUESTIONS:
+                    commit.xadd(self.log, {"id": number, **fields, "unsaid": 1})
+                self.settle(commit, number)
+            commit.xadd(self.log, {"ready": found, **({"restart": 1} if known is not None else {})})
+        self.commit(fill)
+
+    def unacknowledged(self):
+        found = self.client.xreadgroup(GROUP, READER, {self.to: "0"}, count=1 << 20)
+        return [(number, fields) for number, fields in found[0][1] if fields] if found else []
+
+    def lines(self):
+        """The next lines that go to the process at once, at most one of which may store a fact, and it is the last."""
+        while not self.pending:
+            self.tell_alive()
+            try:
+                found = self.client.xreadgroup(GROUP, READER, {self.to: ">"}, count=MOST_AT_ONCE, block=BLOCK_MILLISECONDS)
+                self.pending = found[0][1] if found else []
+            except errors():
+                # lines that were on their way to this host are not new any more
+                self.pending = self.patiently(self.unacknowledged)
+        storing = next((at + 1 for at, (_, fields) in enumerate(self.pending) if word(fields["line"]) in MAY_STORE), MOST_AT_ONCE)
+        lines, self.pending = self.pending[:storing], self.pending[storing:]
+        return lines
+
+    def tell_alive(self):
+        now = time.monotonic()
+        if now - self.told_alive > ALIVE_MILLISECONDS / 4000:
+            self.patiently(lambda: self.client.set(f"ksi:alive:{self.name}", self.run_id, px=ALIVE_MILLISECONDS))
+            self.told_alive = now
+
+    def take(self, lines):
+        """Gives lines to the process, and has what came of them on the server."""
+        self.tell_alive()
+        self.process.give(fields["line"] for _, fields in lines)
+        told = [(number, fields, self.process.block()) for number, fields in lines]
+        self.vain = 0
+        self.facts += sum(is_stored(block) for _, _, block in told)
+
+        def fill(commit):
+            for number, fields, block in told:
+                self.put(commit, number, fields, block)
+        self.commit(fill)
+
+    def put(self, commit, number, fields, block):
+        """What came of one line."""
+        if word(fields["line"]) in QUESTIONS or is_refusal(block):
+            if "ask" in fields:
+                commit.xadd(self.said, {"ask": fields["ask"], "said": "\n".join(block)}, maxlen=MOST_SAID)
+        else:
+            commit.xadd(self.log, {"id": number, **fields, "said": "\n".join(block)})
+            for place, row in enumerate(it for it in block if it.startswith("send ")):
+                _, to, text = row.split(" ", 2)
+                commit.xadd(f"ksi:to:{to}", {"line": text, "from": f"{self.name} {number} {place}"})
+        self.settle(commit, number)
+
+    def settle(self, commit, number):
+        commit.xack(self.to, GROUP, number)
+        commit.xdel(self.to, number)
+
+    def commit(self, fill):
+        """Does one transaction, once: where its answer was lost, the server is asked whether it was done."""
+        self.serial += 1
+        serial = f"{self.run_id} {self.serial}"
+
+        def work():
+            if self.client.get(f"ksi:done:{self.name}") == serial:
+                return
+            self.transact(fill, serial)
+        try:
+            self.transact(fill, serial)
+        except errors():
+            self.patiently(work)
+
+    def transact(self, fill, serial):
+        commit = self.client.pipeline(transaction=True)
+        fill(commit)
+        commit.set(f"ksi:facts:{self.name}", self.facts)
+        commit.set(f"ksi:done:{self.name}", serial)
+        commit.execute()
