@@ -85,7 +85,8 @@ def start(words):
         except Failed:
             pass
         time.sleep(0.1)
-    raise Failed("it did not open its door within 30 seconds")
+    child.terminate()
+    raise Failed(f"it did not open its door within 30 seconds, and is stopped: see {os.path.join(words.folder, 'log')}")
 
 
 def run(words):

@@ -99,9 +99,9 @@ class House:
 
 
 class Service:
-    def __init__(self, folder, plan, publish_every=3600, most_waiting=MOST_WAITING, cut_every=3600, over="pipes"):
+    def __init__(self, folder, plan, publish_every=3600, most_waiting=MOST_WAITING, cut_every=3600, over="pipes", trouble=None):
         self.folder, self.plan, self.publish_every, self.cut_every = folder, plan, publish_every, cut_every
-        self.network = Network(folder, plan) if over == "pipes" else RemoteNetwork(folder, plan, over, say)
+        self.network = Network(folder, plan, trouble) if over == "pipes" else RemoteNetwork(folder, plan, over, say)
         self.clock = Clock(self.network, most_waiting)
         self.publications = Publications(folder)
         self.clock.on_published = self.publish
@@ -177,8 +177,8 @@ def open_files(most):
     return min(most, max(soft, wanted) - 256)
 
 
-async def run(folder, cores=3, aggregators=2, address=("127.0.0.1", 8080), **options):
-    """Runs the service until it is told to stop."""
+async def run(folder, cores=3, aggregators=2, address=("127.0.0.1", 8080), trouble_with=None, **options):
+    """Runs the service until it is told to stop. A test makes trouble with it."""
     os.makedirs(folder, exist_ok=True)
     held = files.lock(folder)
     service = Service(folder, plan_of(folder, cores, aggregators), **options)
@@ -187,9 +187,10 @@ async def run(folder, cores=3, aggregators=2, address=("127.0.0.1", 8080), **opt
         asyncio.get_running_loop().add_signal_handler(number, told.set)
     house = House(service)
     door = service.door = Door(house, open_files(MOST_CONNECTIONS))
-    waits = []
+    waits, troubles = [], []
     try:
         await service.begin()
+        troubles = [asyncio.create_task(trouble_with(service))] if trouble_with else []
         await door.begin(*address)
         where = "%s:%d" % door.address()
         files.write(os.path.join(folder, "door"), f"{where}\n{os.getpid()}\n".encode())
@@ -202,7 +203,7 @@ async def run(folder, cores=3, aggregators=2, address=("127.0.0.1", 8080), **opt
         await service.idle(LAST_SECONDS)
     finally:
         files.remove(os.path.join(folder, "door"))
-        for task in waits:
+        for task in [*waits, *troubles]:
             task.cancel()
         if door.server:
             await door.stop()
