@@ -75,7 +75,7 @@ class Clock:
         for _ in range(200):
             for later in range(self.plan.cores + 1):
                 leader = self.plan.leader(second + later)
-                up = [it for it in self.plan.aggregators_below(leader) if self.network.aggregator(it).alive]
+                up = [it for it in self.plan.below[leader] if self.network.aggregator(it).alive]
                 if up and self.network.core(leader).alive:
                     self.turn += 1
                     return second + later, up[self.turn % len(up)]
@@ -110,7 +110,7 @@ class Clock:
                     request.answer(None)
 
     async def close(self, second, leader):
-        for number in self.plan.aggregators_below(leader):
+        for number in self.plan.below[leader]:
             try:
                 await self.network.aggregator(number).ask(f"close {second}")
                 await self.network.quiet(second)
@@ -175,11 +175,14 @@ class Clock:
         for number, requests in self.asked.get(second, {}).items():
             waiting = [it for it in requests if not it.signature.done() and it.line.step is not None]
             node = self.network.aggregator(number)
-            try:
-                blocks = await asyncio.gather(*[node.ask(f"sign {it.number}") for it in waiting])
-            except Down:
-                blocks = [["not issued"]] * len(waiting)
-            for request, block in zip(waiting, blocks):
+            lines = [Line(f"sign {it.number}") for it in waiting]
+            for line in lines:
+                node.send(line)
+            for request, line in zip(waiting, lines):
+                try:
+                    block = await line.answer
+                except Down:
+                    block = ["not issued"]
                 if block[0].startswith("signature "):
                     self.hand_out(request, block[0].split(" ")[1])
                 else:

@@ -160,6 +160,8 @@ async def linger(reader, writer):
 
 async def drained(writer):
     """Waits until a client has taken what was written; one that takes too long loses the connection."""
+    if not writer.transport.get_write_buffer_size():
+        return
     handle = asyncio.get_running_loop().call_later(SECONDS_FOR_BODY, writer.transport.abort)
     try:
         await writer.drain()

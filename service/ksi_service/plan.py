@@ -1,5 +1,6 @@
 """The plan of a service: how many cores, who submits to whom, and the first second. Its file is a schedule without events."""
 from dataclasses import dataclass
+from functools import cached_property
 from typing import Tuple
 
 SECONDS = 1 << 24
@@ -12,6 +13,16 @@ class Plan:
     start: int
     parents: Tuple[str, ...]
     """To whom each aggregator submits: a core as `c0`, or an aggregator of a lower number as `a0`."""
+
+    @cached_property
+    def leaders(self):
+        """The cores that have aggregators."""
+        return sorted({self.core_above(it) for it in range(len(self.parents))})
+
+    @cached_property
+    def below(self):
+        """The aggregators whose items come to each core, the deepest first, so that each closes before the one above it."""
+        return {core: [it for it in reversed(range(len(self.parents))) if self.core_above(it) == core] for core in range(self.cores)}
 
     @classmethod
     def new(cls, cores, aggregators, start):
@@ -45,11 +56,6 @@ class Plan:
         parent = self.parents[aggregator]
         return int(parent[1:]) if parent[0] == "c" else self.core_above(int(parent[1:]))
 
-    def aggregators_below(self, core):
-        """The aggregators whose items come to a core, the deepest first, so that each closes before the one above it."""
-        return [it for it in reversed(range(len(self.parents))) if self.core_above(it) == core]
-
     def leader(self, second):
         """Whose candidate is to win the second: the cores that have aggregators take turns, since a decree is one core's tree."""
-        leaders = sorted({self.core_above(it) for it in range(len(self.parents))})
-        return leaders[second % len(leaders)]
+        return self.leaders[second % len(self.leaders)]

@@ -42,6 +42,24 @@ def plan_of(folder, cores, aggregators):
     return Plan.read(path)
 
 
+class TooLate(Exception):
+    """Work did not end in time."""
+
+
+async def in_time(work, seconds):
+    """Work of this task that is ended after so many seconds. (`asyncio.wait_for` would make a task of it, for each request.)"""
+    late, task = [], asyncio.current_task()
+    handle = asyncio.get_running_loop().call_later(seconds, lambda: late.append(task.cancel()))
+    try:
+        return await work
+    except asyncio.CancelledError:
+        if late:
+            raise TooLate() from None
+        raise
+    finally:
+        handle.cancel()
+
+
 class House:
     """What the door asks of the service."""
 
@@ -56,10 +74,10 @@ class House:
             raise Answer(HTTPStatus.SERVICE_UNAVAILABLE, "the service stops", Retry_After="10")
         began = time.monotonic()
         try:
-            text, _ = await asyncio.wait_for(self.service.clock.sign(imprint), ANSWER_SECONDS)
+            text, _ = await in_time(self.service.clock.sign(imprint), ANSWER_SECONDS)
         except Busy:
             raise Answer(HTTPStatus.SERVICE_UNAVAILABLE, "too many requests wait", Retry_After="2") from None
-        except (NotSigned, asyncio.TimeoutError):
+        except (NotSigned, TooLate):
             raise Answer(HTTPStatus.SERVICE_UNAVAILABLE, "no second took the request", Retry_After="10") from None
         self.spans.add(time.monotonic() - began)
         return signature_answer(self.remember(imprint, bytes.fromhex(text)))
