@@ -17,8 +17,8 @@ from .streams import ALIVE_MILLISECONDS, connect, errors, patiently
 MOST_TO_SEND = 2000
 """How many lines go to the server at once."""
 TRIM_SECONDS = 5
-QUIET_SECONDS = 2
-"""How long is waited for messages about a second at most: those to a node that is down stay where they are."""
+QUIET_SECONDS = 30
+"""How long is waited for messages about a second at most. Those to a node that is away are not waited for."""
 
 
 class RemoteNode:

@@ -122,7 +122,7 @@ class Service:
         self.network = Network(folder, plan, trouble) if over == "pipes" else RemoteNetwork(folder, plan, over, say)
         self.clock = Clock(self.network, most_waiting)
         self.publications = Publications(folder)
-        self.clock.on_published = self.publish
+        self.publishing, self.clock.on_published = asyncio.Lock(), self.publish
         self.began, self.door = time.time(), None
         self.tasks, self.own = [], []
 
@@ -134,8 +134,9 @@ class Service:
         self.tasks += self.own
 
     async def publish(self, second, root):
-        """Puts a root that a core has published into the publications file."""
-        await asyncio.get_running_loop().run_in_executor(None, self.publications.add, second, root)
+        """Puts a root that a core has published into the publications file, one after the other."""
+        async with self.publishing:
+            await asyncio.get_running_loop().run_in_executor(None, self.publications.add, second, root)
 
     async def extend(self, signature):
         """A signature that is extended to the last publication by a core that holds all seconds to it."""

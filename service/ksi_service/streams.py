@@ -223,22 +223,29 @@ class NodeHost:
         commit.xdel(self.to, number)
 
     def commit(self, fill):
-        """Does one transaction, once: where its answer was lost, the server is asked whether it was done."""
+        """Does one transaction, once. If its answer was lost, the server is asked whether it was done."""
         self.serial += 1
         serial = f"{self.run_id} {self.serial}"
-
-        def work():
-            if self.client.get(f"ksi:done:{self.name}") == serial:
-                return
-            self.transact(fill, serial)
         try:
-            self.transact(fill, serial)
+            self.transact(fill, serial, look=False)
         except errors():
-            self.patiently(work)
+            self.patiently(lambda: self.transact(fill, serial, look=True))
 
-    def transact(self, fill, serial):
-        commit = self.client.pipeline(transaction=True)
-        fill(commit)
-        commit.set(f"ksi:facts:{self.name}", self.facts)
-        commit.set(f"ksi:done:{self.name}", serial)
-        commit.execute()
+    def transact(self, fill, serial, look):
+        """A transaction that fails if another one of this host comes between: one whose connection was lost may still be on its way."""
+        import redis
+        done = f"ksi:done:{self.name}"
+        with self.client.pipeline(transaction=True) as commit:
+            while True:
+                commit.watch(done)
+                if look and commit.get(done) == serial:
+                    return
+                commit.multi()
+                fill(commit)
+                commit.set(f"ksi:facts:{self.name}", self.facts)
+                commit.set(done, serial)
+                try:
+                    commit.execute()
+                    return
+                except redis.WatchError:
+                    look = True

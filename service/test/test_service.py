@@ -63,7 +63,9 @@ class ServiceTest(unittest.TestCase):
         connection = http.client.HTTPConnection(self.door()[0], timeout=70)
         connection.request("GET" if body is None else "POST", path, body)
         answer = connection.getresponse()
-        return answer.status, answer.read()
+        told = answer.status, answer.read()
+        connection.close()
+        return told
 
     def status(self):
         return json.loads(self.ask("/status")[1])

@@ -85,7 +85,9 @@ class StreamsTest(unittest.TestCase):
         connection = http.client.HTTPConnection(self.address, timeout=70)
         connection.request("GET" if body is None else "POST", path, body)
         answer = connection.getresponse()
-        return answer.status, answer.read()
+        told = answer.status, answer.read()
+        connection.close()
+        return told
 
     def sign(self, number):
         for _ in range(300):
