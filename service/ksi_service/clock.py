@@ -6,6 +6,7 @@ import asyncio
 import time
 
 from .node import Down, Line
+from .plan import SECONDS
 
 TRIES = 40
 """How often a step is tried again before its second is given up."""
@@ -21,6 +22,10 @@ MOST_AT_ONCE = 16
 
 class Busy(Exception):
     """More requests wait than may."""
+
+
+class PlanEnded(Exception):
+    """The plan has no second any more."""
 
 
 class NotSigned(Exception):
@@ -216,6 +221,8 @@ class Clock:
         try:
             while True:
                 await asyncio.sleep(max(0.0, second + AFTER - self.now()))
+                if second >= self.plan.start + SECONDS:
+                    raise PlanEnded("the plan's 2^24 seconds are over: begin a new folder")
                 while len(tasks) >= MOST_AT_ONCE:
                     done, tasks = await asyncio.wait(tasks, return_when=asyncio.FIRST_COMPLETED)
                     for task in done:

@@ -15,6 +15,7 @@ import urllib.request
 from . import check as checking
 from . import backup as backing
 from . import files, service, streams
+from .clock import PlanEnded
 from .node import Down, GivenUp, LostFacts
 from .programs import Missing
 from .proved import Refused, ksi
@@ -227,7 +228,14 @@ def main(arguments):
     words = parser_of().parse_args(arguments)
     try:
         words.does(words)
-    except (Failed, Missing, streams.Missing, Down, GivenUp, LostFacts, files.Held, checking.Differs, Refused, OSError) as error:
+    except (Failed, Missing, streams.Missing, Down, GivenUp, LostFacts, PlanEnded, files.Held, checking.Differs, Refused, OSError) as error:
         print(f"ksi-service: {error}", file=sys.stderr)
+        return 1
+    except KeyboardInterrupt:
+        return 130
+    except Exception as error:
+        if not type(error).__module__.startswith("redis"):
+            raise
+        print(f"ksi-service: the server refuses: {error}", file=sys.stderr)
         return 1
     return 0

@@ -8,6 +8,7 @@ import unittest
 from unittest import mock
 
 import stands
+from ksi_service import clock as clocks
 from ksi_service.clock import Busy, Clock
 from ksi_service.network import Network, Trouble
 from ksi_service.plan import Plan
@@ -126,6 +127,12 @@ class ClockTest(unittest.TestCase):
             return [isinstance(it, Busy) for it in told], clock.busy, clock.waiting
         refused, busy, waiting = self.play(work, most_waiting=20)
         self.assertEqual((refused, busy, waiting), ([False] * 20 + [True] * 10, 10, 0))
+
+    def test_a_plan_ends(self):
+        async def work(_, clock):
+            with mock.patch.object(clocks, "SECONDS", 2):
+                await clock.run(clock.plan.start + 1, 3600)
+        self.assertRaises(clocks.PlanEnded, self.play, work)
 
     def test_what_was_decided_is_forgotten_in_time(self):
         async def work(network, _):
