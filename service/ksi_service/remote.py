@@ -242,11 +242,17 @@ class RemoteNetwork:
                 pass
 
     async def ready(self):
-        while not all(node.alive for node in self.nodes.values()):
+        """Waits until a majority of the cores is up, and an aggregator below one of them."""
+        while not self.may_begin():
             for task in self.tasks:
                 if task.done():
                     task.result()
             await asyncio.sleep(0.05)
+
+    def may_begin(self):
+        up = [number for number in range(self.plan.cores) if self.core(number).alive]
+        below = [it for number in up for it in self.plan.below[number] if self.aggregator(it).alive]
+        return 2 * len(up) > self.plan.cores and bool(below)
 
     async def stop(self):
         """Lets the threads end, and writes what is left of the record. The nodes go on."""

@@ -1,4 +1,4 @@
-"""The service of one machine: nodes, clock, record, publications and door, over one folder."""
+"""The service: nodes, clock, record, publications and door, over one folder."""
 import asyncio
 import collections
 import os
@@ -196,6 +196,15 @@ def open_files(most):
     return min(most, max(soft, wanted) - 256)
 
 
+async def first_of(end, work):
+    """Waits for work, or until the service is told to stop."""
+    done, _ = await asyncio.wait([end, work], return_when=asyncio.FIRST_COMPLETED)
+    if work in done:
+        work.result()
+    else:
+        work.cancel()
+
+
 async def run(folder, cores=3, aggregators=2, address=("127.0.0.1", 8080), trouble_with=None, **options):
     """Runs the service until it is told to stop. A test makes trouble with it."""
     os.makedirs(folder, exist_ok=True)
@@ -206,23 +215,21 @@ async def run(folder, cores=3, aggregators=2, address=("127.0.0.1", 8080), troub
         asyncio.get_running_loop().add_signal_handler(number, told.set)
     house = House(service)
     door = service.door = Door(house, open_files(MOST_CONNECTIONS))
-    waits, troubles = [], []
+    end, extra = asyncio.create_task(told.wait()), []
     try:
-        await service.begin()
-        troubles = [asyncio.create_task(trouble_with(service))] if trouble_with else []
-        await door.begin(*address)
-        where = "%s:%d" % door.address()
-        files.write(os.path.join(folder, "door"), f"{where}\n{os.getpid()}\n".encode())
-        say(f"the door is open at {where}")
-        waits = [asyncio.create_task(told.wait()), asyncio.create_task(service.watch())]
-        done, _ = await asyncio.wait(waits, return_when=asyncio.FIRST_COMPLETED)
-        for task in done:
-            task.result()
+        await first_of(end, asyncio.create_task(service.begin()))
+        if not end.done():
+            extra += [asyncio.create_task(trouble_with(service))] if trouble_with else []
+            await door.begin(*address)
+            where = "%s:%d" % door.address()
+            files.write(os.path.join(folder, "door"), f"{where}\n{os.getpid()}\n".encode())
+            say(f"the door is open at {where}")
+            await first_of(end, asyncio.create_task(service.watch()))
         house.closing = True
         await service.idle(LAST_SECONDS)
     finally:
         files.remove(os.path.join(folder, "door"))
-        for task in [*waits, *troubles]:
+        for task in [end, *extra]:
             task.cancel()
         if door.server:
             await door.stop()
