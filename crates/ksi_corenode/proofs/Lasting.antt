@@ -15,10 +15,12 @@ use Rattle.ksi_corenode.specs.Rows.{restart_row}
 use Rattle.ksi_corenode.specs.Events.{event_second, core_row, IsAsked, MayTake}
 use Rattle.ksi_corenode.specs.Stored.{second_of}
 use Rattle.ksi_corenode.specs.Lawful.{stored_by, with_new, MayStore, IsLawful, AreLawful}
+use Rattle.ksi_corenode.specs.Owners.{BringsOwned, StoresOwned}
 use Rattle.ksi_corenode.specs.Restored.{restored, IsOfFacts, IsWell, HasFacts}
 use Rattle.ksi_corenode.specs.CoreState.{CoreState, state_of, IsSame, IsTurn}
 use Rattle.ksi_corenode.proofs.Storing.{submission_stores, seal_stores, ballot_stores, receive_stores, tell_stores, respond_stores, turn_stores}
 use Rattle.ksi_corenode.proofs.Returning.{InRange, range_of, some_more, more_lawful, stable_is}
+use Rattle.ksi_corenode.proofs.Owning.{event_owned}
 use Rattle.ksi_corenode.proofs.Lawfulness.{IsGood, still_good, submission_good, seal_good, ballot_good, receive_good, tell_good, respond_good}
 
 -- A STEP
@@ -43,21 +45,22 @@ module _ (image : List ℕ → List ℕ) (core : CoreState) where
   event_stores (events.Publish second) = refl
 
   -- what is stored is lawful
-  pub fact_lawful : (event : CoreEvent) → MayTake core event → IsAsked core (event_second event) → IsWell image (state_of core (event_second event)) →
-      IfSome (core_row image core event).fact (λ what. IsLawful core.start (stable_state (state_of core (event_second event))) (fact_of (event_second event) what))
-  fact_lawful event may asked well = by (core_row image core event).fact (event_good event may well).fact
+  pub fact_lawful : (event : CoreEvent) → MayTake core event → IsAsked core (event_second event) → BringsOwned core.plan.cores event → core.me < core.plan.cores → IsWell image (state_of core (event_second event)) →
+      IfSome (core_row image core event).fact (λ what. IsLawful core.plan.cores core.start (stable_state (state_of core (event_second event))) (fact_of (event_second event) what))
+  fact_lawful event may asked owned there well = by (core_row image core event).fact (event_good event may well).fact (event_owned image core event owned there well.mine)
     where
-      by : (o : Option What) → IfSome o (MayStore (stable_state (state_of core (event_second event)))) →
-          IfSome o (λ what. IsLawful core.start (stable_state (state_of core (event_second event))) (fact_of (event_second event) what))
-      by None good = tt
-      by (Some what) good = record { from = asked.0; below = asked.1; what = good }
+      by : (o : Option What) → IfSome o (MayStore (stable_state (state_of core (event_second event)))) → IfSome o (StoresOwned core.plan.cores) →
+          IfSome o (λ what. IsLawful core.plan.cores core.start (stable_state (state_of core (event_second event))) (fact_of (event_second event) what))
+      by None good stored = tt
+      by (Some what) good stored = record { from = asked.0; below = asked.1; owned = stored; what = good }
 
 pub facts_last : (image : List ℕ → List ℕ) (plan : CorePlanState) (facts : List Fact) (old new : CoreState) (event : CoreEvent) (step : Step) → HasFacts image plan facts old →
-    MayTake old event → IsAsked old (event_second event) → IsTurn old new (event_second event) (core_row image old event) step → HasFacts image plan (with_new facts step.fact) new
-facts_last image plan facts old new event step has may asked is = record {
+    MayTake old event → IsAsked old (event_second event) → BringsOwned old.plan.cores event → IsTurn old new (event_second event) (core_row image old event) step → HasFacts image plan (with_new facts step.fact) new
+facts_last image plan facts old new event step has may asked owned is = record {
   planned = is.plan ∙ has.planned;
   begins = is.start ∙ has.begins;
-  lawful = subst (λ (o : Option Fact). AreLawful plan.start (with_new facts o)) (sym is.fact) (lawful turn.fact (fact_lawful image old event may asked (has.well second)));
+  there = omega (arith, has.there, is.me, ap (λ (p : CorePlanState). p.cores) is.plan);
+  lawful = subst (λ (o : Option Fact). AreLawful plan.cores plan.start (with_new facts o)) (sym is.fact) (lawful turn.fact (fact_lawful image old event may asked owned has.there (has.well second)));
   stored = λ t. turn_stores old new second turn step is (event_stores image old event) t
       ∙ ap (λ (s : StableState). with_fact step.fact t s) (has.stored t) ∙ sym (some_more facts step.fact t);
   well = λ t. subst (λ (s : SecondState). IsWell image s) (sym (is.seconds t))
@@ -70,12 +73,13 @@ facts_last image plan facts old new event step has may asked is = record {
     turn : Turn
     turn = core_row image old event
 
-    lawful : (o : Option What) → IfSome o (λ what. IsLawful old.start (stable_state (state_of old (event_second event))) (fact_of (event_second event) what)) →
-        AreLawful plan.start (with_new facts (option_map (fact_of (event_second event)) o))
+    lawful : (o : Option What) → IfSome o (λ what. IsLawful old.plan.cores old.start (stable_state (state_of old (event_second event))) (fact_of (event_second event) what)) →
+        AreLawful plan.cores plan.start (with_new facts (option_map (fact_of (event_second event)) o))
     lawful None _ = has.lawful
-    lawful (Some what) so = more_lawful plan.start facts (fact_of (event_second event) what) has.lawful
-        (subst (λ (n : ℕ). IsLawful n (stored_by facts (event_second event)) (fact_of (event_second event) what)) has.begins
-        (subst (λ (s : StableState). IsLawful old.start s (fact_of (event_second event) what)) (has.stored (event_second event)) so))
+    lawful (Some what) so = more_lawful plan.cores plan.start facts (fact_of (event_second event) what) has.lawful
+        (subst (λ (p : CorePlanState). IsLawful p.cores plan.start (stored_by facts (event_second event)) (fact_of (event_second event) what)) has.planned
+        (subst (λ (n : ℕ). IsLawful old.plan.cores n (stored_by facts (event_second event)) (fact_of (event_second event) what)) has.begins
+        (subst (λ (s : StableState). IsLawful old.plan.cores old.start s (fact_of (event_second event) what)) (has.stored (event_second event)) so)))
 
 -- COMING BACK
 
@@ -83,13 +87,14 @@ restored_well : (image : List ℕ → List ℕ) (me : ℕ) (voters : List ℕ) (
 unfolding restored
 restored_well image me voters s mine range = record { mine = mine; round = record { few = omega arith; low = λ k. omega arith }; submitted = refl; candidate = refl; tried = range.tried; promised = range.promised }
 
-pub has_facts : (image : List ℕ → List ℕ) (me : ℕ) (plan : CorePlanState) (facts : List Fact) (core : CoreState) → me < 9 → AreLawful plan.start facts → IsOfFacts image me plan facts core → HasFacts image plan facts core
-has_facts image me plan facts core mine lawful are = record {
+pub has_facts : (image : List ℕ → List ℕ) (me : ℕ) (plan : CorePlanState) (facts : List Fact) (core : CoreState) → me < 9 → me < plan.cores → AreLawful plan.cores plan.start facts → IsOfFacts image me plan facts core → HasFacts image plan facts core
+has_facts image me plan facts core mine there lawful are = record {
   planned = are.planned;
   begins = are.begins;
+  there = omega (arith, there, are.mine, ap (λ (p : CorePlanState). p.cores) are.planned);
   lawful = lawful;
   stored = stable_is image me plan facts core are;
-  well = λ t. subst (λ (s : SecondState). IsWell image s) (sym (are.seconds t)) (restored_well image me (voters_of plan t) (stored_by facts t) mine (range_of plan.start t facts lawful));
+  well = λ t. subst (λ (s : SecondState). IsWell image s) (sym (are.seconds t)) (restored_well image me (voters_of plan t) (stored_by facts t) mine (range_of plan.cores plan.start t facts lawful));
 }
 
 restart_is : (image : List ℕ → List ℕ) (s : SecondState) → IsWell image s → restored image s.vote.me s.vote.voters (stable_state s) ≡ restart_row s
@@ -133,6 +138,7 @@ pub has_facts_same : (image : List ℕ → List ℕ) (plan : CorePlanState) (fac
 has_facts_same image plan facts old new has same = record {
   planned = same.plan ∙ has.planned;
   begins = same.start ∙ has.begins;
+  there = omega (arith, has.there, same.me, ap (λ (p : CorePlanState). p.cores) same.plan);
   lawful = has.lawful;
   stored = λ t. ap stable_state (same.seconds t) ∙ has.stored t;
   well = λ t. subst (λ (s : SecondState). IsWell image s) (sym (same.seconds t)) (has.well t);

@@ -10,6 +10,7 @@ pub mod Following
 pub mod Returning
 pub mod Counting
 pub mod Lawfulness
+pub mod Owning
 pub mod Lasting
 pub mod Coming
 pub mod Fitting

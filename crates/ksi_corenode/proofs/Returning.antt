@@ -64,10 +64,11 @@ stable_is image me plan facts core are t = ap stable_state (are.seconds t)
 
 -- a fact that is lawful after others is so in the core of these
 pub lawful_there : (image : List ℕ → List ℕ) (me : ℕ) (plan : CorePlanState) (facts : List Fact) (fact : Fact) (core : CoreState) → IsOfFacts image me plan facts core →
-    IsLawful plan.start (stored_by facts fact.second) fact → IsLawful core.start (stable_state (state_of core fact.second)) fact
+    IsLawful plan.cores plan.start (stored_by facts fact.second) fact → IsLawful core.plan.cores core.start (stable_state (state_of core fact.second)) fact
 lawful_there image me plan facts fact core are lawful =
-    subst (λ (n : ℕ). IsLawful n (stable_state (state_of core fact.second)) fact) (sym are.begins)
-    (subst (λ (s : StableState). IsLawful plan.start s fact) (sym (stable_is image me plan facts core are fact.second)) lawful)
+    subst (λ (p : CorePlanState). IsLawful p.cores core.start (stable_state (state_of core fact.second)) fact) (sym are.planned)
+    (subst (λ (n : ℕ). IsLawful plan.cores n (stable_state (state_of core fact.second)) fact) (sym are.begins)
+    (subst (λ (s : StableState). IsLawful plan.cores plan.start s fact) (sym (stable_is image me plan facts core are fact.second)) lawful))
 
 -- LAWFUL FACTS
 
@@ -95,23 +96,23 @@ take_whole : (xs : List Fact) → take (length xs) xs ≡ xs
 take_whole [] = refl
 take_whole (x ∷ xs) = ap (λ (fs : List Fact). x ∷ fs) (take_whole xs)
 
-module _ (start : ℕ) (facts : List Fact) (fact : Fact) where
-  pub more_lawful : AreLawful start facts → IsLawful start (stored_by facts fact.second) fact → AreLawful start (facts ++ fact ∷ [])
+module _ (cores start : ℕ) (facts : List Fact) (fact : Fact) where
+  pub more_lawful : AreLawful cores start facts → IsLawful cores start (stored_by facts fact.second) fact → AreLawful cores start (facts ++ fact ∷ [])
   more_lawful are lawful k f is = elim (cases_lt k (length facts)) [
     | inl before ↦
-        subst (λ (fs : List Fact). IsLawful start (stored_by fs f.second) f) (sym (take_within facts (fact ∷ []) k (omega arith)))
+        subst (λ (fs : List Fact). IsLawful cores start (stored_by fs f.second) f) (sym (take_within facts (fact ∷ []) k (omega arith)))
         (are k f (sym (get_within facts (fact ∷ []) k before) ∙ is))
     | inr behind ↦
         let both : (k ≡ length facts) × (f ≡ fact) = get_behind facts fact k f behind is in
         let front : take k (facts ++ fact ∷ []) ≡ facts = take_within facts (fact ∷ []) k (omega (arith, both.0)) ∙ ap (λ (n : ℕ). take n facts) both.0 ∙ take_whole facts in
-        subst (λ (fs : List Fact). IsLawful start (stored_by fs f.second) f) (sym front)
-        (subst (λ (g : Fact). IsLawful start (stored_by facts g.second) g) (sym both.1) lawful)
+        subst (λ (fs : List Fact). IsLawful cores start (stored_by fs f.second) f) (sym front)
+        (subst (λ (g : Fact). IsLawful cores start (stored_by facts g.second) g) (sym both.1) lawful)
   ]
 
-  pub lawful_before : AreLawful start (facts ++ fact ∷ []) → AreLawful start facts
+  pub lawful_before : AreLawful cores start (facts ++ fact ∷ []) → AreLawful cores start facts
   lawful_before are k f is = elim (cases_lt k (length facts)) [
     | inl before ↦
-        subst (λ (fs : List Fact). IsLawful start (stored_by fs f.second) f) (take_within facts (fact ∷ []) k (omega arith))
+        subst (λ (fs : List Fact). IsLawful cores start (stored_by fs f.second) f) (take_within facts (fact ∷ []) k (omega arith))
         (are k f (get_within facts (fact ∷ []) k before ∙ is))
     | inr behind ↦ absurd (none facts k behind is)
   ]
@@ -121,9 +122,9 @@ module _ (start : ℕ) (facts : List Fact) (fact : Fact) where
       none (x ∷ xs) zero le is = omega arith
       none (x ∷ xs) (suc n) le is = none xs n (omega arith) is
 
-  pub last_lawful : AreLawful start (facts ++ fact ∷ []) → IsLawful start (stored_by facts fact.second) fact
+  pub last_lawful : AreLawful cores start (facts ++ fact ∷ []) → IsLawful cores start (stored_by facts fact.second) fact
   last_lawful are =
-      subst (λ (fs : List Fact). IsLawful start (stored_by fs fact.second) fact) (take_within facts (fact ∷ []) (length facts) (omega arith) ∙ take_whole facts)
+      subst (λ (fs : List Fact). IsLawful cores start (stored_by fs fact.second) fact) (take_within facts (fact ∷ []) (length facts) (omega arith) ∙ take_whole facts)
       (are (length facts) fact (get_last facts fact))
 
 -- WHAT LAWFUL FACTS LEAVE
@@ -152,8 +153,8 @@ take_past [] (suc n) is = refl
 take_past (x ∷ xs) zero is = absurd (cc is)
 take_past (x ∷ xs) (suc n) is = ap (λ (fs : List Fact). x ∷ fs) (take_past xs n is)
 
-range_next : (start t : ℕ) (facts : List Fact) → AreLawful start facts → (k : ℕ) → InRange (stored_by (take k facts) t) → InRange (stored_by (take (suc k) facts) t)
-range_next start t facts are k before = by (slice_get facts k) refl
+range_next : (cores start t : ℕ) (facts : List Fact) → AreLawful cores start facts → (k : ℕ) → InRange (stored_by (take k facts) t) → InRange (stored_by (take (suc k) facts) t)
+range_next cores start t facts are k before = by (slice_get facts k) refl
   where
     by : (o : Option Fact) → slice_get facts k ≡ o → InRange (stored_by (take (suc k) facts) t)
     by None is = subst (λ (fs : List Fact). InRange (stored_by fs t)) (sym (take_past facts k is)) before
@@ -165,12 +166,12 @@ range_next start t facts are k before = by (slice_get facts k) refl
         (subst (λ (u : ℕ). MayStore (stored_by (take k facts) u) fact.what) (sym (eqb-true t fact.second same)) (are k fact is).what) before)
         (λ _. before)))
 
-range_along : (start t : ℕ) (facts : List Fact) → AreLawful start facts → (k : ℕ) → InRange (stored_by (take k facts) t)
-range_along start t facts are zero = record { tried = omega arith; promised = omega arith }
-range_along start t facts are (suc k) = range_next start t facts are k (range_along start t facts are k)
+range_along : (cores start t : ℕ) (facts : List Fact) → AreLawful cores start facts → (k : ℕ) → InRange (stored_by (take k facts) t)
+range_along cores start t facts are zero = record { tried = omega arith; promised = omega arith }
+range_along cores start t facts are (suc k) = range_next cores start t facts are k (range_along cores start t facts are k)
 
-pub range_of : (start t : ℕ) (facts : List Fact) → AreLawful start facts → InRange (stored_by facts t)
-range_of start t facts are = subst (λ (fs : List Fact). InRange (stored_by fs t)) (take_whole facts) (range_along start t facts are (length facts))
+pub range_of : (cores start t : ℕ) (facts : List Fact) → AreLawful cores start facts → InRange (stored_by facts t)
+range_of cores start t facts are = subst (λ (fs : List Fact). InRange (stored_by fs t)) (take_whole facts) (range_along cores start t facts are (length facts))
 
 -- THE FIRST SO MANY FACTS
 

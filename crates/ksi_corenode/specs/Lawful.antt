@@ -13,6 +13,7 @@ use Rattle.ksi_corenode.specs.declared.fact.What.{What}
 use Rattle.ksi_corenode.specs.declared.fact.What.TheVariants.{Sealed, Tried, Promised, Cast, Holds}
 use Rattle.ksi_corenode.specs.declared.fact.Fact.{Fact}
 use Rattle.ksi_corenode.specs.Facts.{StableState, with_fact}
+use Rattle.ksi_corenode.specs.Owners.{StoresOwned}
 
 -- WHAT FACTS MAKE
 
@@ -54,15 +55,17 @@ MayStore s (Promised ballot) = (s.promised < ballot) × IsBallot ballot
 MayStore s (Cast vote) = (vote.ballot ≡ s.promised) × IsTrue (is_older s.vote vote.ballot) × IsBallot vote.ballot
 MayStore s (Holds root) = IsNone s.held
 
--- a fact is lawful after the stable part of its second, which is at or after the start and below 2^63
-pub record IsLawful (start : ℕ) (s : StableState) (fact : Fact) : Type 0 where
+-- a fact is lawful after the stable part of its second, which is at or after the start and below 2^63, where its ballot, if
+-- any, is of one of so many cores
+pub record IsLawful (cores start : ℕ) (s : StableState) (fact : Fact) : Type 0 where
   pub from : start ≤ fact.second
   pub below : fact.second < 2 ^ 63
+  pub owned : StoresOwned cores fact.what
   pub what : MayStore s fact.what
 
 -- each of the facts is lawful after those before it
-abbrev pub AreLawful : (start : ℕ) → List Fact → Type 0
-AreLawful start facts = (k : ℕ) (fact : Fact) → slice_get facts k ≡ Some fact → IsLawful start (stored_by (take k facts) fact.second) fact
+abbrev pub AreLawful : (cores start : ℕ) → List Fact → Type 0
+AreLawful cores start facts = (k : ℕ) (fact : Fact) → slice_get facts k ≡ Some fact → IsLawful cores start (stored_by (take k facts) fact.second) fact
 
 -- an item that is fit for a core's round: its leaf is of a level that a round takes, and an aggregator submitted it
 abbrev pub is_fit : Entry → Bool

@@ -4,6 +4,7 @@ pub mod Stored
 pub mod Kept
 pub mod Turns
 pub mod Facts
+pub mod Owners
 pub mod Rows
 pub mod CoreState
 pub mod Events

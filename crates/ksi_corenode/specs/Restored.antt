@@ -58,10 +58,11 @@ pub record IsWell (image : List ℕ → List ℕ) (s : SecondState) : Type 0 whe
   pub tried : s.vote.tried < 2 ^ 36
   pub promised : s.vote.promised < 2 ^ 36
 
--- the core of a plan that stored these facts and no others, in their order, each of them lawfully
+-- the core of a plan, which is one of its cores, that stored these facts and no others, in their order, each of them lawfully
 pub record HasFacts (image : List ℕ → List ℕ) (plan : CorePlanState) (facts : List Fact) (core : CoreState) : Type 0 where
   pub planned : core.plan ≡ plan
   pub begins : core.start ≡ plan.start
-  pub lawful : AreLawful plan.start facts
+  pub there : core.me < core.plan.cores
+  pub lawful : AreLawful plan.cores plan.start facts
   pub stored : (t : ℕ) → stable_state (state_of core t) ≡ stored_by facts t
   pub well : (t : ℕ) → IsWell image (state_of core t)

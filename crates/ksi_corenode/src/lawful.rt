@@ -8,6 +8,7 @@ ghost use Rattle.ksi_synod.specs.Rows.{is_older};
 ghost use Rattle.ksi_corenode.specs.SecondState.{SecondState};
 ghost use Rattle.ksi_corenode.specs.Facts.{stable_state};
 ghost use Rattle.ksi_corenode.specs.Lawful.{AreSubmitted, is_submitted, is_fit, IsLawful, MayStore};
+ghost use Rattle.ksi_corenode.specs.Owners.{IsOwned, StoresOwned};
 ghost use Rattle.ksi_corenode.specs.CoreState.{state_of};
 
 use crate::fact::{Fact, What};
@@ -25,13 +26,33 @@ const GREAT: u64 = 68_719_476_736;
 impl<C: Compress> Core<C> {
     /// Whether a fact is lawful after what this core stored. It takes no memory.
     pub fn may_store(&self, fact: &Fact) -> bool
-        ensures { IsTrue result ↔ IsLawful self.now.start (stable_state (state_of self.now fact.now.second)) fact.now }
+        ensures { IsTrue result ↔ IsLawful self.now.plan.cores self.now.start (stable_state (state_of self.now fact.now.second)) fact.now }
     {
         let second = fact.second;
         let sealed = self.seconds().is_sealed(second);
         let vote = self.seconds().vote(second);
-        self.start() <= second && second < LATE && may_store(sealed, &vote, &fact.what)
+        self.start() <= second
+            && second < LATE
+            && stores_owned(self.seconds().plan().cores(), &fact.what)
+            && may_store(sealed, &vote, &fact.what)
     }
+}
+
+/// Whether the ballot that is stored, if any, is of one of so many cores.
+fn stores_owned(cores: u8, what: &What) -> bool
+    ensures { IsTrue result ↔ StoresOwned cores what.now }
+{
+    match what {
+        What::Tried(ballot) | What::Promised(ballot) => is_owned(cores, *ballot),
+        What::Cast(cast) => is_owned(cores, cast.ballot),
+        What::Sealed(_) | What::Holds(_) => true,
+    }
+}
+
+fn is_owned(cores: u8, ballot: u64) -> bool
+    ensures { IsTrue result ↔ IsOwned cores ballot }
+{
+    ballot % 16 < u64::from(cores)
 }
 
 /// Whether this may be stored of a second, which is sealed or not, where this is the part in the vote on it.

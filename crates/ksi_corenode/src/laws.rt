@@ -14,6 +14,7 @@ ghost use Rattle.ksi_corenode.specs.declared.event.CoreEvent.{CoreEvent};
 ghost use Rattle.ksi_corenode.specs.declared.fact.Fact.{Fact};
 ghost use Rattle.ksi_corenode.specs.Events.{event_second, core_row, IsAsked, MayTake};
 ghost use Rattle.ksi_corenode.specs.Lawful.{stored_by, with_new, IsLawful, AreLawful};
+ghost use Rattle.ksi_corenode.specs.Owners.{BringsOwned};
 ghost use Rattle.ksi_corenode.specs.Restored.{second_with, IsOfFacts, IsWell, HasFacts};
 
 /// Each row stores its fact: the stable part of the second after it is the one before with that fact. A restart leaves the
@@ -36,15 +37,16 @@ pub fn steps_store_their_facts()
 {}
 
 /// Each step of a second that is well, at or after the start and below 2^63, stores a lawful fact, if any, and leaves it
-/// well. So a core that stored lawful facts stores lawful facts for good, and a call that fails leaves them.
+/// well. The core is one of its plan, and so is the owner of the ballot that the event brings, if any. So a core that stored
+/// lawful facts stores lawful facts for good, and a call that fails leaves them.
 pub fn steps_are_lawful()
     ensures fact { (image : List ℕ → List ℕ) (core : CoreState) (event : CoreEvent) → MayTake core event → IsAsked core (event_second event) →
-        IsWell image (state_of core (event_second event)) →
-        IfSome (core_row image core event).fact (λ what. IsLawful core.start (stable_state (state_of core (event_second event))) (fact_of (event_second event) what)) }
+        BringsOwned core.plan.cores event → core.me < core.plan.cores → IsWell image (state_of core (event_second event)) →
+        IfSome (core_row image core event).fact (λ what. IsLawful core.plan.cores core.start (stable_state (state_of core (event_second event))) (fact_of (event_second event) what)) }
     ensures well { (image : List ℕ → List ℕ) (core : CoreState) (event : CoreEvent) → MayTake core event →
         IsWell image (state_of core (event_second event)) → IsWell image (core_row image core event).after }
     ensures facts { (image : List ℕ → List ℕ) (plan : CorePlanState) (facts : List Fact) (old new : CoreState) (event : CoreEvent) (step : Step) →
-        HasFacts image plan facts old → MayTake old event → IsAsked old (event_second event) →
+        HasFacts image plan facts old → MayTake old event → IsAsked old (event_second event) → BringsOwned old.plan.cores event →
         IsTurn old new (event_second event) (core_row image old event) step → HasFacts image plan (with_new facts step.fact) new }
     ensures same { (image : List ℕ → List ℕ) (plan : CorePlanState) (facts : List Fact) (old new : CoreState) →
         HasFacts image plan facts old → IsSame old new → HasFacts image plan facts new }
@@ -52,11 +54,11 @@ pub fn steps_are_lawful()
 
 /// Facts are lawful one by one: each after those before it.
 pub fn facts_one_by_one()
-    ensures none { (start : ℕ) → AreLawful start [] }
-    ensures more { (start : ℕ) (facts : List Fact) (fact : Fact) → AreLawful start facts → IsLawful start (stored_by facts fact.second) fact →
-        AreLawful start (facts ++ fact ∷ []) }
-    ensures before { (start : ℕ) (facts : List Fact) (fact : Fact) → AreLawful start (facts ++ fact ∷ []) → AreLawful start facts }
-    ensures last { (start : ℕ) (facts : List Fact) (fact : Fact) → AreLawful start (facts ++ fact ∷ []) → IsLawful start (stored_by facts fact.second) fact }
+    ensures none { (cores start : ℕ) → AreLawful cores start [] }
+    ensures more { (cores start : ℕ) (facts : List Fact) (fact : Fact) → AreLawful cores start facts → IsLawful cores start (stored_by facts fact.second) fact →
+        AreLawful cores start (facts ++ fact ∷ []) }
+    ensures before { (cores start : ℕ) (facts : List Fact) (fact : Fact) → AreLawful cores start (facts ++ fact ∷ []) → AreLawful cores start facts }
+    ensures last { (cores start : ℕ) (facts : List Fact) (fact : Fact) → AreLawful cores start (facts ++ fact ∷ []) → IsLawful cores start (stored_by facts fact.second) fact }
     ensures stored { (facts : List Fact) (fact : Fact) (t : ℕ) → stored_by (facts ++ fact ∷ []) t ≡ with_fact (Some fact) t (stored_by facts t) }
 {}
 
@@ -71,7 +73,8 @@ pub fn one_core_of_facts()
         IsOfFacts image me plan facts old → IsSame old new → IsOfFacts image me plan facts new }
     ensures stored { (image : List ℕ → List ℕ) (me : ℕ) (plan : CorePlanState) (facts : List Fact) (core : CoreState) → IsOfFacts image me plan facts core →
         (t : ℕ) → stable_state (state_of core t) ≡ stored_by facts t }
-    ensures has { (image : List ℕ → List ℕ) (me : ℕ) (plan : CorePlanState) (facts : List Fact) (core : CoreState) → me < 9 → AreLawful plan.start facts →
+    ensures has { (image : List ℕ → List ℕ) (me : ℕ) (plan : CorePlanState) (facts : List Fact) (core : CoreState) → me < 9 → me < plan.cores →
+        AreLawful plan.cores plan.start facts →
         IsOfFacts image me plan facts core → HasFacts image plan facts core }
     ensures restarted { (image : List ℕ → List ℕ) (plan : CorePlanState) (facts : List Fact) (core other : CoreState) → HasFacts image plan facts core →
         IsOfFacts image core.me plan facts other → (t : ℕ) → state_of other t ≡ restart_row (state_of core t) }

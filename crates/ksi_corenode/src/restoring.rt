@@ -28,7 +28,7 @@ impl<C: Compress> Core<C> {
         facts: &[Fact],
     ) -> Result<Self, NoMemory>
         requires member { me < plan.now.cores }
-        requires lawful { AreLawful plan.now.start facts.now }
+        requires lawful { AreLawful plan.now.cores plan.now.start facts.now }
         ensures { IfOk result (IsOfFacts C.image me plan.now facts.now) }
     {
         let mut core = Core::new(alloc, me, plan);
@@ -43,7 +43,7 @@ impl<C: Compress> Core<C> {
     /// # Errors
     /// `NoMemory`: all is as it was.
     pub fn store(&mut self, fact: &Fact) -> Result<(), NoMemory>
-        requires { IsLawful self.old.start (stable_state (state_of self.old fact.now.second)) fact.now }
+        requires { IsLawful self.old.plan.cores self.old.start (stable_state (state_of self.old fact.now.second)) fact.now }
         ensures stored { OnOk result (IsChange self.old self.new fact.now.second (second_with C.image fact.now.what (state_of self.old fact.now.second))) }
         ensures unchanged { OnErr result (IsSame self.old self.new) }
     {

@@ -20,15 +20,17 @@ use Rattle.ksi_nodestore.proofs.Onward.{texts_size}
 use Rattle.ksi_nodestore.specs.Opens.{IsLogOf}
 use Rattle.ksi_nodestore.specs.Takes.{count_new}
 
-lawful_on : (start second : ℕ) (core : CoreState) (facts : List Fact) (row : Option What) → core.start ≡ start → ((t : ℕ) → stable_state (state_of core t) ≡ stored_by facts t)
-    → IfSome row (λ what. IsLawful core.start (stable_state (state_of core second)) (fact_of second what)) → IfSome (option_map (fact_of second) row) (λ fact. IsLawful start (stored_by facts fact.second) fact)
-lawful_on start second core facts None begins stored may = tt
-lawful_on start second core facts (Some what) begins stored may = subst (λ (n : ℕ). IsLawful n (stored_by facts second) (fact_of second what)) begins (subst (λ (s : StableState). IsLawful core.start s (fact_of second what)) (stored second) may)
+lawful_on : (cores start second : ℕ) (core : CoreState) (facts : List Fact) (row : Option What) → core.plan.cores ≡ cores → core.start ≡ start → ((t : ℕ) → stable_state (state_of core t) ≡ stored_by facts t)
+    → IfSome row (λ what. IsLawful core.plan.cores core.start (stable_state (state_of core second)) (fact_of second what)) → IfSome (option_map (fact_of second) row) (λ fact. IsLawful cores start (stored_by facts fact.second) fact)
+lawful_on cores start second core facts None planned begins stored may = tt
+lawful_on cores start second core facts (Some what) planned begins stored may =
+    subst (λ (n : ℕ). IsLawful n start (stored_by facts second) (fact_of second what)) planned
+    (subst (λ (n : ℕ). IsLawful core.plan.cores n (stored_by facts second) (fact_of second what)) begins (subst (λ (s : StableState). IsLawful core.plan.cores core.start s (fact_of second what)) (stored second) may))
 
 -- the fact that is added is lawful after those before
-pub lawful_for : (start second : ℕ) (core : CoreState) (facts : List Fact) (row : Option What) (fact : Option Fact) → core.start ≡ start → ((t : ℕ) → stable_state (state_of core t) ≡ stored_by facts t) → fact ≡ option_map (fact_of second) row
-    → IfSome row (λ what. IsLawful core.start (stable_state (state_of core second)) (fact_of second what)) → IfSome fact (λ fact. IsLawful start (stored_by facts fact.second) fact)
-lawful_for start second core facts row fact begins stored is may = subst (λ (f : Option Fact). IfSome f (λ fact. IsLawful start (stored_by facts fact.second) fact)) (sym is) (lawful_on start second core facts row begins stored may)
+pub lawful_for : (cores start second : ℕ) (core : CoreState) (facts : List Fact) (row : Option What) (fact : Option Fact) → core.plan.cores ≡ cores → core.start ≡ start → ((t : ℕ) → stable_state (state_of core t) ≡ stored_by facts t) → fact ≡ option_map (fact_of second) row
+    → IfSome row (λ what. IsLawful core.plan.cores core.start (stable_state (state_of core second)) (fact_of second what)) → IfSome fact (λ fact. IsLawful cores start (stored_by facts fact.second) fact)
+lawful_for cores start second core facts row fact planned begins stored is may = subst (λ (f : Option Fact). IfSome f (λ fact. IsLawful cores start (stored_by facts fact.second) fact)) (sym is) (lawful_on cores start second core facts row planned begins stored may)
 
 -- there are no more records than bytes in them
 pub few_records : (records : List (List ℕ)) → length records ≤ length (records_text records)
@@ -48,10 +50,10 @@ counted_on records more facts (Some fact) counted is = omega (arith, length-appe
 
 -- the fact of a step is lawful after those that the core stored
 pub may_go_on : (image : List ℕ → List ℕ) (plan : CorePlanState) (facts : List Fact) (core new : CoreState) (event : CoreEvent) (step : Step) → HasFacts image plan facts core → IsTurn core new (event_second event) (core_row image core event) step
-    → IfSome (core_row image core event).fact (λ what. IsLawful core.start (stable_state (state_of core (event_second event))) (fact_of (event_second event) what))
-    → IfSome step.fact (λ fact. IsLawful plan.start (stored_by facts fact.second) fact)
+    → IfSome (core_row image core event).fact (λ what. IsLawful core.plan.cores core.start (stable_state (state_of core (event_second event))) (fact_of (event_second event) what))
+    → IfSome step.fact (λ fact. IsLawful plan.cores plan.start (stored_by facts fact.second) fact)
 may_go_on image plan facts core new event step has turn may =
-    lawful_for plan.start (event_second event) core facts (core_row image core event).fact step.fact has.begins has.stored turn.fact may
+    lawful_for plan.cores plan.start (event_second event) core facts (core_row image core event).fact step.fact (ap (λ (p : CorePlanState). p.cores) has.planned) has.begins has.stored turn.fact may
 
 -- the store of what was found in a file
 pub store_found : {D : Type 0} (image : List ℕ → List ℕ) (content : D → List ℕ) (images : D → List ℕ → Type 0) (me : ℕ) (plan : CorePlanState) (facts : List Fact) (file : List ℕ) (core : CoreState) (log : GateLog D) (records : ℕ)

@@ -21,7 +21,7 @@ header_again me cores start member few early =
     ap (λ (n : ℕ). good_header me cores n) (from_be_bytes-to_be_bytes_8 start fits)
     ∙ ap (λ (b : Bool). if b then Ok (record { core = me; cores = cores; start = start }) else Err (Bad me cores start)) (good_numbers me cores start member few early)
 
-pub formatted_file : ((start : ℕ) → AreLawful start []) → ((header : List ℕ) (records : List (List ℕ)) (gate : ℕ) (rest : List ℕ) → All (λ content. length content < 2 ^ 32) records → gate ≢ 1
+pub formatted_file : ((cores start : ℕ) → AreLawful cores start []) → ((header : List ℕ) (records : List (List ℕ)) (gate : ℕ) (rest : List ℕ) → All (λ content. length content < 2 ^ 32) records → gate ≢ 1
     → reading_of (length header) (header ++ (records_text records ++ gate ∷ rest)) ≡ behind records (ends (Closed (length header + length (records_text records)))))
     → (me : ℕ) (plan : CorePlanState) → me < plan.cores → IsCorePlan plan → IsFileOf me plan [] (empty_file me plan.cores plan.start)
 formatted_file none again me plan member is =
@@ -31,6 +31,6 @@ formatted_file none again me plan member is =
     record {
       gate = 18;
       head = header_again me plan.cores plan.start member few early;
-      are = record { texts = subst (λ (r : Reading). AreTexts [] r.records) (sym reads) tt; lawful = none plan.start };
+      are = record { texts = subst (λ (r : Reading). AreTexts [] r.records) (sym reads) tt; lawful = none plan.cores plan.start };
       closed = ap (λ (r : Reading). r.ending) reads;
     }

@@ -4,6 +4,7 @@ pub mod Onward
 pub mod Sizes
 pub mod Rows
 pub mod Acknowledged
+pub mod Readied
 pub mod Formatted
 pub mod Tested
 pub mod Folded

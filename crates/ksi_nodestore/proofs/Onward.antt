@@ -26,12 +26,16 @@ texts_size (f ∷ fs) [] are = absurd are
 texts_size (f ∷ fs) (c ∷ cs) are = ap suc (texts_size fs cs are.1)
 
 -- what is lawful for a core of facts is lawful after them
-module _ (start : ℕ) (facts : List Fact) (core : CoreState) (fact : Fact) (begins : core.start ≡ start) (stored : (t : ℕ) → stable_state (state_of core t) ≡ stored_by facts t) where
-  pub lawful_after : IsLawful core.start (stable_state (state_of core fact.second)) fact → IsLawful start (stored_by facts fact.second) fact
-  lawful_after is = subst (λ (n : ℕ). IsLawful n (stored_by facts fact.second) fact) begins (subst (λ (s : StableState). IsLawful core.start s fact) (stored fact.second) is)
+module _ (cores start : ℕ) (facts : List Fact) (core : CoreState) (fact : Fact) (planned : core.plan.cores ≡ cores) (begins : core.start ≡ start) (stored : (t : ℕ) → stable_state (state_of core t) ≡ stored_by facts t) where
+  pub lawful_after : IsLawful core.plan.cores core.start (stable_state (state_of core fact.second)) fact → IsLawful cores start (stored_by facts fact.second) fact
+  lawful_after is =
+      subst (λ (n : ℕ). IsLawful n start (stored_by facts fact.second) fact) planned
+      (subst (λ (n : ℕ). IsLawful core.plan.cores n (stored_by facts fact.second) fact) begins (subst (λ (s : StableState). IsLawful core.plan.cores core.start s fact) (stored fact.second) is))
 
-  pub lawful_before : IsLawful start (stored_by facts fact.second) fact → IsLawful core.start (stable_state (state_of core fact.second)) fact
-  lawful_before is = subst (λ (n : ℕ). IsLawful n (stable_state (state_of core fact.second)) fact) (sym begins) (subst (λ (s : StableState). IsLawful start s fact) (sym (stored fact.second)) is)
+  pub lawful_before : IsLawful cores start (stored_by facts fact.second) fact → IsLawful core.plan.cores core.start (stable_state (state_of core fact.second)) fact
+  lawful_before is =
+      subst (λ (n : ℕ). IsLawful n core.start (stable_state (state_of core fact.second)) fact) (sym planned)
+      (subst (λ (n : ℕ). IsLawful cores n (stable_state (state_of core fact.second)) fact) (sym begins) (subst (λ (s : StableState). IsLawful cores start s fact) (sym (stored fact.second)) is))
 
 -- ALONG THE RECORDS
 
@@ -66,9 +70,9 @@ core_more image me plan records k content core within is of new on = (
   on.3,
 )
 
-pub fault_here : (start : ℕ) (facts : List Fact) (records : List (List ℕ)) (k place : ℕ) (content : List ℕ) → k < length records → content ≡ get_or records k content → place ≡ 18 + length (records_text (take k records))
-    → AreFactsOf start facts (take k records) → HasNoFact start facts content → IsFault start records place
-fault_here start facts records k place content within is here are none = record {
+pub fault_here : (cores start : ℕ) (facts : List Fact) (records : List (List ℕ)) (k place : ℕ) (content : List ℕ) → k < length records → content ≡ get_or records k content → place ≡ 18 + length (records_text (take k records))
+    → AreFactsOf cores start facts (take k records) → HasNoFact cores start facts content → IsFault cores start records place
+fault_here cores start facts records k place content within is here are none = record {
   facts = facts;
   before = take k records;
   content = content;
@@ -85,11 +89,11 @@ pub file_before : (me : ℕ) (plan : CorePlanState) (facts : List Fact) (file im
 file_before me plan facts file image is opens = record {
   gate = opens.gate;
   head = ap header_at opens.head ∙ is.head;
-  are = subst (λ (rs : List (List ℕ)). AreFactsOf plan.start facts rs) (sym opens.kept) is.are;
+  are = subst (λ (rs : List (List ℕ)). AreFactsOf plan.cores plan.start facts rs) (sym opens.kept) is.are;
   closed = opens.closed;
 }
 
-pub file_after : (me : ℕ) (plan : CorePlanState) (facts : List Fact) (fact : Fact) (content file image : List ℕ) → IsTextOf fact content → AreLawful plan.start (facts ++ fact ∷ []) → IsFileOf me plan facts file
+pub file_after : (me : ℕ) (plan : CorePlanState) (facts : List Fact) (fact : Fact) (content file image : List ℕ) → IsTextOf fact content → AreLawful plan.cores plan.start (facts ++ fact ∷ []) → IsFileOf me plan facts file
     → OpensTo 18 (take 18 file) ((reading_of 18 file).records ++ content ∷ []) image → IsFileOf me plan (facts ++ fact ∷ []) image
 file_after me plan facts fact content file image text lawful is opens = record {
   gate = opens.gate;
@@ -101,7 +105,7 @@ file_after me plan facts fact content file image text lawful is opens = record {
   closed = opens.closed;
 }
 
-pub file_either : (me : ℕ) (plan : CorePlanState) (facts : List Fact) (fact : Fact) (content file : List ℕ) → IsTextOf fact content → AreLawful plan.start (facts ++ fact ∷ []) → IsFileOf me plan facts file
+pub file_either : (me : ℕ) (plan : CorePlanState) (facts : List Fact) (fact : Fact) (content file : List ℕ) → IsTextOf fact content → AreLawful plan.cores plan.start (facts ++ fact ∷ []) → IsFileOf me plan facts file
     → (image : List ℕ) → IsBeforeOrAfter 18 file content image → IsFileOf me plan facts image ⊎ IsFileOf me plan (facts ++ fact ∷ []) image
 file_either me plan facts fact content file text lawful is image (inl before) = inl (file_before me plan facts file image is before)
 file_either me plan facts fact content file text lawful is image (inr after) = inr (file_after me plan facts fact content file image text lawful is after)

@@ -27,15 +27,15 @@ has_numbers : (file : List ℕ) (core cores start : ℕ) → HasNumbers file cor
 has_numbers file core cores start (inl head) = ap told head
 has_numbers file core cores start (inr bad) = ap told bad
 
-one_place : (start : ℕ) (file : List ℕ) (one other : ℕ) → IsMalformedAt start file one → IsMalformedAt start file other → one ≡ other
-one_place start file one other (inl fault) (inl another) =
-    let same : ◌≡◌ {A = Result (List Fact) ℕ} (Err one) (Err other) = sym (read_fault start (reading_of 18 file).records one fault) ∙ read_fault start (reading_of 18 file).records other another in
+one_place : (cores start : ℕ) (file : List ℕ) (one other : ℕ) → IsMalformedAt cores start file one → IsMalformedAt cores start file other → one ≡ other
+one_place cores start file one other (inl fault) (inl another) =
+    let same : ◌≡◌ {A = Result (List Fact) ℕ} (Err one) (Err other) = sym (read_fault cores start (reading_of 18 file).records one fault) ∙ read_fault cores start (reading_of 18 file).records other another in
     cc same
-one_place start file one other (inl fault) (inr ends) =
-    absurd (let no : ◌≡◌ {A = Result (List Fact) ℕ} (Err one) (Ok ends.0) = sym (read_fault start (reading_of 18 file).records one fault) ∙ read_whole start ends.0 (reading_of 18 file).records ends.1 in cc no)
-one_place start file one other (inr ends) (inl fault) =
-    absurd (let no : ◌≡◌ {A = Result (List Fact) ℕ} (Err other) (Ok ends.0) = sym (read_fault start (reading_of 18 file).records other fault) ∙ read_whole start ends.0 (reading_of 18 file).records ends.1 in cc no)
-one_place start file one other (inr ends) (inr another) = let same : Broken one ≡ Broken other = sym ends.2 ∙ another.2 in cc same
+one_place cores start file one other (inl fault) (inr ends) =
+    absurd (let no : ◌≡◌ {A = Result (List Fact) ℕ} (Err one) (Ok ends.0) = sym (read_fault cores start (reading_of 18 file).records one fault) ∙ read_whole cores start ends.0 (reading_of 18 file).records ends.1 in cc no)
+one_place cores start file one other (inr ends) (inl fault) =
+    absurd (let no : ◌≡◌ {A = Result (List Fact) ℕ} (Err other) (Ok ends.0) = sym (read_fault cores start (reading_of 18 file).records other fault) ∙ read_whole cores start ends.0 (reading_of 18 file).records ends.1 in cc no)
+one_place cores start file one other (inr ends) (inr another) = let same : Broken one ≡ Broken other = sym ends.2 ∙ another.2 in cc same
 
 module _ (me : ℕ) (plan : CorePlanState) (file : List ℕ) where
   formatted : (core cores start : ℕ) → header_at (take 18 file) ≡ Err heads.NotFormatted → HasNumbers file core cores start → ⊥
@@ -64,4 +64,4 @@ module _ (me : ℕ) (plan : CorePlanState) (file : List ℕ) where
   one_reason (opens.Malformed place) opens.NoMemory is another inside within = absurd (within tt)
   one_reason (opens.Malformed place) opens.NotFormatted is another inside within = absurd (formatted me plan.cores plan.start another (inl is.0))
   one_reason (opens.Malformed place) (opens.Foreign core cores start) is another inside within = absurd (own core cores start place another is)
-  one_reason (opens.Malformed place) (opens.Malformed other) is another inside within = ap opens.Malformed (one_place plan.start file place other is.1 another.1)
+  one_reason (opens.Malformed place) (opens.Malformed other) is another inside within = ap opens.Malformed (one_place plan.cores plan.start file place other is.1 another.1)

@@ -48,13 +48,13 @@ module _ (facts : List Fact) (core : CoreState) (stored : (t : ℕ) → stable_s
 
 -- A FILE THAT IS OPENED
 
-pub said_of : (file : List ℕ) (header : Header) (plan : CorePlanState) (facts : List Fact) (counts : Counts) → plan.start ≡ header.start → plan.voters ≡ [] → header_at (take 18 file) ≡ Ok header → IsFileOf header.core plan facts file → counts ≡ counts_of facts
+pub said_of : (file : List ℕ) (header : Header) (plan : CorePlanState) (facts : List Fact) (counts : Counts) → plan.cores ≡ header.cores → plan.start ≡ header.start → plan.voters ≡ [] → header_at (take 18 file) ≡ Ok header → IsFileOf header.core plan facts file → counts ≡ counts_of facts
     → Inspects file (Ok (record { core = header.core; counts = counts }))
 unfolding inspected
-said_of file header plan facts counts start without head is counted = (
+said_of file header plan facts counts cores start without head is counted = (
   ap (λ (h : Result Header HeaderFault). inspected_behind file h) head
       ∙ ap (λ (read : Result (List Fact) ℕ). inspected_facts header.core (reading_of 18 file).ending read)
-      (ap (λ (n : ℕ). facts_read n (reading_of 18 file).records [] 18) (sym start) ∙ read_whole plan.start facts (reading_of 18 file).records is.are)
+      ((λ i. facts_read (sym cores i) (sym start i) (reading_of 18 file).records [] 18) ∙ read_whole plan.cores plan.start facts (reading_of 18 file).records is.are)
       ∙ ap (λ (ending : Ending). inspected_facts header.core ending (Ok facts)) is.closed
       ∙ ap (λ (c : Counts). Ok (record { core = header.core; counts = c })) (sym counted),
   record { plan = plan; facts = facts; without_voters = without; file_is = is; counted = counted },
@@ -62,17 +62,17 @@ said_of file header plan facts counts start without head is counted = (
 
 -- A FILE THAT IS BROKEN
 
-facts_fault : (core start : ℕ) (file : List ℕ) (place : ℕ) → IsMalformedAt start file place
-    → inspected_facts core (reading_of 18 file).ending (facts_read start (reading_of 18 file).records [] 18) ≡ Err (faults.Malformed place)
-facts_fault core start file place (inl fault) = ap (λ (read : Result (List Fact) ℕ). inspected_facts core (reading_of 18 file).ending read) (read_fault start (reading_of 18 file).records place fault)
-facts_fault core start file place (inr ends) =
-    ap (λ (read : Result (List Fact) ℕ). inspected_facts core (reading_of 18 file).ending read) (read_whole start ends.0 (reading_of 18 file).records ends.1)
+facts_fault : (core cores start : ℕ) (file : List ℕ) (place : ℕ) → IsMalformedAt cores start file place
+    → inspected_facts core (reading_of 18 file).ending (facts_read cores start (reading_of 18 file).records [] 18) ≡ Err (faults.Malformed place)
+facts_fault core cores start file place (inl fault) = ap (λ (read : Result (List Fact) ℕ). inspected_facts core (reading_of 18 file).ending read) (read_fault cores start (reading_of 18 file).records place fault)
+facts_fault core cores start file place (inr ends) =
+    ap (λ (read : Result (List Fact) ℕ). inspected_facts core (reading_of 18 file).ending read) (read_whole cores start ends.0 (reading_of 18 file).records ends.1)
     ∙ ap (λ (ending : Ending). inspected_facts core ending (Ok ends.0)) ends.2
 
-broken_of : (file : List ℕ) (header : Header) (place : ℕ) → header_at (take 18 file) ≡ Ok header → IsMalformedAt header.start file place → (inspected file ≡ Err (faults.Malformed place)) × IsNodeFault file (faults.Malformed place)
+broken_of : (file : List ℕ) (header : Header) (place : ℕ) → header_at (take 18 file) ≡ Ok header → IsMalformedAt header.cores header.start file place → (inspected file ≡ Err (faults.Malformed place)) × IsNodeFault file (faults.Malformed place)
 unfolding inspected
 broken_of file header place head is = (
-  ap (λ (h : Result Header HeaderFault). inspected_behind file h) head ∙ facts_fault header.core header.start file place is,
+  ap (λ (h : Result Header HeaderFault). inspected_behind file h) head ∙ facts_fault header.core header.cores header.start file place is,
   (header, head, is),
 )
 
@@ -96,14 +96,14 @@ not_failed D (opens.Foreign core cores start) disk has is = absurd (cc is)
 not_failed D (opens.Malformed place) disk has is = absurd (cc is)
 not_failed D opens.NoMemory disk has is = absurd (cc is)
 
-pub fault_said : (file : List ℕ) (header : Header) (plan : CorePlanState) (refusal : OpenRefusal) (told : Refused NodeFault) → plan.start ≡ header.start → header_at (take 18 file) ≡ Ok header → IsBroken refusal → IsRefused header.core plan file refusal
+pub fault_said : (file : List ℕ) (header : Header) (plan : CorePlanState) (refusal : OpenRefusal) (told : Refused NodeFault) → plan.cores ≡ header.cores → plan.start ≡ header.start → header_at (take 18 file) ≡ Ok header → IsBroken refusal → IsRefused header.core plan file refusal
     → refusal ≡ refused_for told → Inspects file (Err told)
-fault_said file header plan refusal (refused.Fault faults.NotFormatted) start head broken is same = absurd (subst IsBroken same broken)
-fault_said file header plan refusal (refused.Fault (faults.Malformed place)) start head broken is same =
+fault_said file header plan refusal (refused.Fault faults.NotFormatted) cores start head broken is same = absurd (subst IsBroken same broken)
+fault_said file header plan refusal (refused.Fault (faults.Malformed place)) cores start head broken is same =
     let here : IsRefused header.core plan file (opens.Malformed place) = subst (λ (r : OpenRefusal). IsRefused header.core plan file r) same is in
-    broken_of file header place head (subst (λ (n : ℕ). IsMalformedAt n file place) start here.1)
-fault_said file header plan refusal (refused.Fault (faults.Bad core cores begin)) start head broken is same = absurd (subst IsBroken same broken)
-fault_said file header plan refusal refused.NoMemory start head broken is same = tt
+    broken_of file header place head (subst (λ (n : ℕ). IsMalformedAt header.cores n file place) start (subst (λ (n : ℕ). IsMalformedAt n plan.start file place) cores here.1))
+fault_said file header plan refusal (refused.Fault (faults.Bad core others begin)) cores start head broken is same = absurd (subst IsBroken same broken)
+fault_said file header plan refusal refused.NoMemory cores start head broken is same = tt
 
 -- A FILE WITHOUT A HEADER
 
@@ -120,7 +120,7 @@ always_opened me plan facts file opens.NotFormatted is refused = absurd (let no 
 always_opened me plan facts file (opens.Foreign core cores start) is refused = own_header file (record { core = me; cores = plan.cores; start = plan.start }) plan (opens.Foreign core cores start) refl refl is.head (λ no. cc no) refused
 always_opened me plan facts file (opens.Malformed place) is refused = by refused.1
   where
-    by : IsMalformedAt plan.start file place → ⊥
-    by (inl fault) = absurd (let no : Ok facts ≡ Err place = sym (read_whole plan.start facts (reading_of 18 file).records is.are) ∙ read_fault plan.start (reading_of 18 file).records place fault in cc no)
+    by : IsMalformedAt plan.cores plan.start file place → ⊥
+    by (inl fault) = absurd (let no : Ok facts ≡ Err place = sym (read_whole plan.cores plan.start facts (reading_of 18 file).records is.are) ∙ read_fault plan.cores plan.start (reading_of 18 file).records place fault in cc no)
     by (inr ends) = absurd (let no : Closed is.gate ≡ Broken place = sym is.closed ∙ ends.2 in cc no)
 always_opened me plan facts file opens.NoMemory is refused = tt

@@ -11,15 +11,16 @@ use Rattle.ksi_corenode.specs.declared.fact.What.{What}
 use Rattle.ksi_corenode.specs.declared.fact.What.TheVariants.{Sealed, Tried, Promised, Cast, Holds}
 use Rattle.ksi_corenode.specs.declared.fact.Fact.{Fact}
 use Rattle.ksi_corenode.specs.Facts.{StableState}
+use Rattle.ksi_corenode.specs.Owners.{owner_of, StoresOwned}
 use Rattle.ksi_corenode.specs.Lawful.{is_submitted, is_fit, stored_by, AreSubmitted, IsLawful, MayStore}
-use Rattle.ksi_nodestore.specs.FactReading.{is_ballot, is_lawful, may_store, next_fact, where_lawful}
+use Rattle.ksi_nodestore.specs.FactReading.{is_ballot, is_lawful, may_store, next_fact, stores_owned, where_lawful}
 use Rattle.ksi_nodestore.specs.Texts.{IsTextOf}
 use Rattle.ksi_nodestore.specs.TextReading.{fact_at}
 use Rattle.ksi_nodestore.proofs.Spelled.{fact_again}
 
 -- ITEMS OF A ROUND
 
-items_length : (entries : List Entry) → length (items_of entries) ≡ length entries
+pub items_length : (entries : List Entry) → length (items_of entries) ≡ length entries
 items_length [] = refl
 items_length (x ∷ xs) = ap suc (items_length xs)
 
@@ -88,27 +89,43 @@ may_known s (Cast vote) is =
     (eqb-true vote.ballot s.promised one.0, two.0, ballot_known vote.ballot two.1)
 may_known s (Holds root) is = is_not (is_some s.held) is
 
-pub lawful_tested : (start : ℕ) (s : StableState) (fact : Fact) → IsLawful start s fact → is_lawful start s fact ≡ true
-lawful_tested start s fact is =
-    and_from (nat_le start fact.second) (nat_lt fact.second (2 ^ 63) && may_store s fact.what) (le-leb start fact.second is.from)
-    (and_from (nat_lt fact.second (2 ^ 63)) (may_store s fact.what) (lt-ltb fact.second (2 ^ 63) is.below) (may_tested s fact.what is.what))
+owned_tested : (cores : ℕ) (what : What) → StoresOwned cores what → stores_owned cores what ≡ true
+owned_tested cores (Sealed items) owned = refl
+owned_tested cores (Tried ballot) owned = lt-ltb (owner_of ballot) cores owned
+owned_tested cores (Promised ballot) owned = lt-ltb (owner_of ballot) cores owned
+owned_tested cores (Cast vote) owned = lt-ltb (owner_of vote.ballot) cores owned
+owned_tested cores (Holds root) owned = refl
 
-pub lawful_known : (start : ℕ) (s : StableState) (fact : Fact) → is_lawful start s fact ≡ true → IsLawful start s fact
-lawful_known start s fact is =
-    let one = and_parts (nat_le start fact.second) (nat_lt fact.second (2 ^ 63) && may_store s fact.what) is in
-    let two = and_parts (nat_lt fact.second (2 ^ 63)) (may_store s fact.what) one.1 in
-    record { from = leb-true start fact.second one.0; below = ltb-true fact.second (2 ^ 63) two.0; what = may_known s fact.what two.1 }
+owned_known : (cores : ℕ) (what : What) → stores_owned cores what ≡ true → StoresOwned cores what
+owned_known cores (Sealed items) is = tt
+owned_known cores (Tried ballot) is = ltb-true (owner_of ballot) cores is
+owned_known cores (Promised ballot) is = ltb-true (owner_of ballot) cores is
+owned_known cores (Cast vote) is = ltb-true (owner_of vote.ballot) cores is
+owned_known cores (Holds root) is = tt
+
+pub lawful_tested : (cores start : ℕ) (s : StableState) (fact : Fact) → IsLawful cores start s fact → is_lawful cores start s fact ≡ true
+lawful_tested cores start s fact is =
+    and_from (nat_le start fact.second) (nat_lt fact.second (2 ^ 63) && (stores_owned cores fact.what && may_store s fact.what)) (le-leb start fact.second is.from)
+    (and_from (nat_lt fact.second (2 ^ 63)) (stores_owned cores fact.what && may_store s fact.what) (lt-ltb fact.second (2 ^ 63) is.below)
+    (and_from (stores_owned cores fact.what) (may_store s fact.what) (owned_tested cores fact.what is.owned) (may_tested s fact.what is.what)))
+
+pub lawful_known : (cores start : ℕ) (s : StableState) (fact : Fact) → is_lawful cores start s fact ≡ true → IsLawful cores start s fact
+lawful_known cores start s fact is =
+    let one = and_parts (nat_le start fact.second) (nat_lt fact.second (2 ^ 63) && (stores_owned cores fact.what && may_store s fact.what)) is in
+    let two = and_parts (nat_lt fact.second (2 ^ 63)) (stores_owned cores fact.what && may_store s fact.what) one.1 in
+    let three = and_parts (stores_owned cores fact.what) (may_store s fact.what) two.1 in
+    record { from = leb-true start fact.second one.0; below = ltb-true fact.second (2 ^ 63) two.0; owned = owned_known cores fact.what three.0; what = may_known s fact.what three.1 }
 
 -- THE NEXT FACT
 
 -- what is spelled and lawful is the next
-pub next_is : (start : ℕ) (facts : List Fact) (fact : Fact) (content : List ℕ) → IsTextOf fact content → IsLawful start (stored_by facts fact.second) fact → next_fact start facts content ≡ Some fact
-next_is start facts fact content text lawful =
-    ap (λ (found : Option Fact). where_lawful start facts found) (fact_again fact content text)
-    ∙ ap (λ (b : Bool). if b then Some fact else None) (lawful_tested start (stored_by facts fact.second) fact lawful)
+pub next_is : (cores start : ℕ) (facts : List Fact) (fact : Fact) (content : List ℕ) → IsTextOf fact content → IsLawful cores start (stored_by facts fact.second) fact → next_fact cores start facts content ≡ Some fact
+next_is cores start facts fact content text lawful =
+    ap (λ (found : Option Fact). where_lawful cores start facts found) (fact_again fact content text)
+    ∙ ap (λ (b : Bool). if b then Some fact else None) (lawful_tested cores start (stored_by facts fact.second) fact lawful)
 
 -- what is spelled and not lawful is none
-pub next_none : (start : ℕ) (facts : List Fact) (fact : Fact) (content : List ℕ) → fact_at content ≡ Some fact → (IsLawful start (stored_by facts fact.second) fact → ⊥) → next_fact start facts content ≡ None
-next_none start facts fact content read unlawful =
-    let no : is_lawful start (stored_by facts fact.second) fact ≡ false = false_from_ne_true (is_lawful start (stored_by facts fact.second) fact) (λ is. unlawful (lawful_known start (stored_by facts fact.second) fact is)) in
-    ap (λ (found : Option Fact). where_lawful start facts found) read ∙ ap (λ (b : Bool). if b then Some fact else None) no
+pub next_none : (cores start : ℕ) (facts : List Fact) (fact : Fact) (content : List ℕ) → fact_at content ≡ Some fact → (IsLawful cores start (stored_by facts fact.second) fact → ⊥) → next_fact cores start facts content ≡ None
+next_none cores start facts fact content read unlawful =
+    let no : is_lawful cores start (stored_by facts fact.second) fact ≡ false = false_from_ne_true (is_lawful cores start (stored_by facts fact.second) fact) (λ is. unlawful (lawful_known cores start (stored_by facts fact.second) fact is)) in
+    ap (λ (found : Option Fact). where_lawful cores start facts found) read ∙ ap (λ (b : Bool). if b then Some fact else None) no

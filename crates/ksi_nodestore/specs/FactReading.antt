@@ -1,5 +1,5 @@
 -- Which facts records spell one after the other, as a function of the records.
-use Rattle.std.specs.Prelude.{ℕ, ◌+◌, ◌^◌, ◌==◌, nat_le, nat_lt, ◌&&◌, not, Bool, is_some, if◌then◌else◌, List, [], ◌∷◌, ◌++◌, length, Option, Some, None, Result, Ok, Err}
+use Rattle.std.specs.Prelude.{ℕ, ◌+◌, ◌^◌, true, ◌==◌, nat_le, nat_lt, ◌&&◌, not, Bool, is_some, if◌then◌else◌, List, [], ◌∷◌, ◌++◌, length, Option, Some, None, Result, Ok, Err}
 use Rattle.std.specs.List.{list_all}
 use Rattle.ksi_aggtree.specs.Rounds.{most_items}
 use Rattle.ksi_synod.specs.Rows.{is_older}
@@ -7,6 +7,7 @@ use Rattle.ksi_corenode.specs.declared.fact.What.{What}
 use Rattle.ksi_corenode.specs.declared.fact.What.TheVariants.{Sealed, Tried, Promised, Cast, Holds}
 use Rattle.ksi_corenode.specs.declared.fact.Fact.{Fact}
 use Rattle.ksi_corenode.specs.Facts.{StableState}
+use Rattle.ksi_corenode.specs.Owners.{owner_of}
 use Rattle.ksi_corenode.specs.Lawful.{is_fit, stored_by}
 use Rattle.ksi_nodestore.specs.TextReading.{fact_at}
 
@@ -21,17 +22,25 @@ may_store s (Promised ballot) = nat_lt s.promised ballot && is_ballot ballot
 may_store s (Cast vote) = (vote.ballot == s.promised) && (is_older s.vote vote.ballot && is_ballot vote.ballot)
 may_store s (Holds root) = not (is_some s.held)
 
--- whether a fact is lawful after the stable part of its second
-abbrev pub is_lawful : (start : ℕ) → StableState → Fact → Bool
-is_lawful start s fact = nat_le start fact.second && (nat_lt fact.second (2 ^ 63) && may_store s fact.what)
+-- whether the ballot that is stored, if any, is of one of so many cores
+abbrev pub stores_owned : (cores : ℕ) → What → Bool
+stores_owned cores (Sealed items) = true
+stores_owned cores (Tried ballot) = nat_lt (owner_of ballot) cores
+stores_owned cores (Promised ballot) = nat_lt (owner_of ballot) cores
+stores_owned cores (Cast vote) = nat_lt (owner_of vote.ballot) cores
+stores_owned cores (Holds root) = true
 
-abbrev pub where_lawful : (start : ℕ) → List Fact → Option Fact → Option Fact
-where_lawful start facts None = None
-where_lawful start facts (Some fact) = if is_lawful start (stored_by facts fact.second) fact then Some fact else None
+-- whether a fact is lawful after the stable part of its second
+abbrev pub is_lawful : (cores start : ℕ) → StableState → Fact → Bool
+is_lawful cores start s fact = nat_le start fact.second && (nat_lt fact.second (2 ^ 63) && (stores_owned cores fact.what && may_store s fact.what))
+
+abbrev pub where_lawful : (cores start : ℕ) → List Fact → Option Fact → Option Fact
+where_lawful cores start facts None = None
+where_lawful cores start facts (Some fact) = if is_lawful cores start (stored_by facts fact.second) fact then Some fact else None
 
 -- the fact that a content spells, where it is lawful after these
-abbrev pub next_fact : (start : ℕ) → List Fact → List ℕ → Option Fact
-next_fact start facts content = where_lawful start facts (fact_at content)
+abbrev pub next_fact : (cores start : ℕ) → List Fact → List ℕ → Option Fact
+next_fact cores start facts content = where_lawful cores start facts (fact_at content)
 
 -- a record at a place spells this fact, or none
 abbrev pub gone_on : (others : List Fact → ℕ → Result (List Fact) ℕ) → List Fact → (place : ℕ) → List ℕ → Option Fact → Result (List Fact) ℕ
@@ -40,6 +49,6 @@ gone_on others facts place content (Some fact) = others (facts ++ fact ∷ []) (
 
 -- the facts that records from a place on spell behind these, each lawful after those before it; or the place of the first
 -- record that spells none
-abbrev pub facts_read : (start : ℕ) → List (List ℕ) → List Fact → (place : ℕ) → Result (List Fact) ℕ
-facts_read start [] facts place = Ok facts
-facts_read start (content ∷ contents) facts place = gone_on (facts_read start contents) facts place content (next_fact start facts content)
+abbrev pub facts_read : (cores start : ℕ) → List (List ℕ) → List Fact → (place : ℕ) → Result (List Fact) ℕ
+facts_read cores start [] facts place = Ok facts
+facts_read cores start (content ∷ contents) facts place = gone_on (facts_read cores start contents) facts place content (next_fact cores start facts content)

@@ -38,7 +38,7 @@ inspected_facts core (Closed gate) (Ok facts) = Ok (record { core = core; counts
 abbrev pub inspected_behind : List ℕ → Result Header HeaderFault → Result Inspected NodeFault
 inspected_behind file (Err heads.NotFormatted) = Err faults.NotFormatted
 inspected_behind file (Err (heads.Bad core cores start)) = Err (faults.Bad core cores start)
-inspected_behind file (Ok header) = inspected_facts header.core (reading_of 18 file).ending (facts_read header.start (reading_of 18 file).records [] 18)
+inspected_behind file (Ok header) = inspected_facts header.core (reading_of 18 file).ending (facts_read header.cores header.start (reading_of 18 file).records [] 18)
 
 -- what a file says: its header first, then its records, then how they end
 unfoldable pub inspected : List ℕ → Result Inspected NodeFault
@@ -57,7 +57,7 @@ pub record IsInspected (file : List ℕ) (said : Inspected) : Type 0 where
 -- the header is none, or its numbers are out of their bounds; or the file is broken behind it
 abbrev pub IsNodeFault : List ℕ → NodeFault → Type 0
 IsNodeFault file faults.NotFormatted = header_at (take 18 file) ≡ Err heads.NotFormatted
-IsNodeFault file (faults.Malformed place) = (header : Header) × (header_at (take 18 file) ≡ Ok header) × IsMalformedAt header.start file place
+IsNodeFault file (faults.Malformed place) = (header : Header) × (header_at (take 18 file) ≡ Ok header) × IsMalformedAt header.cores header.start file place
 IsNodeFault file (faults.Bad core cores start) = header_at (take 18 file) ≡ Err (heads.Bad core cores start)
 
 -- what is answered of a file

@@ -22,7 +22,7 @@ abbrev pub IsRefused : (me : ℕ) → CorePlanState → List ℕ → OpenRefusal
 IsRefused me plan file Failed = Unit {0}
 IsRefused me plan file NotFormatted = header_at (take 18 file) ≡ Err fault.NotFormatted
 IsRefused me plan file (Foreign core cores start) = HasNumbers file core cores start × ((core ≡ me) → (cores ≡ plan.cores) → (start ≡ plan.start) → ⊥)
-IsRefused me plan file (Malformed place) = (header_at (take 18 file) ≡ Ok (record { core = me; cores = plan.cores; start = plan.start })) × IsMalformedAt plan.start file place
+IsRefused me plan file (Malformed place) = (header_at (take 18 file) ≡ Ok (record { core = me; cores = plan.cores; start = plan.start })) × IsMalformedAt plan.cores plan.start file place
 IsRefused me plan file NoMemory = Unit {0}
 
 -- a refusal that is not of the file
@@ -57,7 +57,7 @@ FoldsAs image me plan records (Ok core) = IsCoreOf image me plan records core
 FoldsAs image me plan records (Err Failed) = ⊥
 FoldsAs image me plan records (Err NotFormatted) = ⊥
 FoldsAs image me plan records (Err (Foreign core cores start)) = ⊥
-FoldsAs image me plan records (Err (Malformed place)) = IsFault plan.start records place
+FoldsAs image me plan records (Err (Malformed place)) = IsFault plan.cores plan.start records place
 FoldsAs image me plan records (Err NoMemory) = Unit {0}
 
 -- the header of a file is that of core me of a plan, or why it is not

@@ -20,9 +20,9 @@ AreTexts (fact ∷ facts) [] = ⊥
 AreTexts (fact ∷ facts) (content ∷ contents) = IsTextOf fact content × AreTexts facts contents
 
 -- the records spell these facts, each of which is lawful after those before it
-pub record AreFactsOf (start : ℕ) (facts : List Fact) (records : List (List ℕ)) : Type 0 where
+pub record AreFactsOf (cores start : ℕ) (facts : List Fact) (records : List (List ℕ)) : Type 0 where
   pub texts : AreTexts facts records
-  pub lawful : AreLawful start facts
+  pub lawful : AreLawful cores start facts
 
 -- the first 18 bytes are a header of these numbers, which are in their bounds or not
 abbrev pub HasNumbers : List ℕ → (core cores start : ℕ) → Type 0
@@ -33,37 +33,37 @@ HasNumbers file core cores start =
 pub record IsFileOf (me : ℕ) (plan : CorePlanState) (facts : List Fact) (file : List ℕ) : Type 0 where
   pub gate : ℕ
   pub head : header_at (take 18 file) ≡ Ok (record { core = me; cores = plan.cores; start = plan.start })
-  pub are : AreFactsOf plan.start facts (reading_of 18 file).records
+  pub are : AreFactsOf plan.cores plan.start facts (reading_of 18 file).records
   pub closed : (reading_of 18 file).ending ≡ ending.Closed gate
 
 -- the content is no spelling of a fact that is lawful after these, and is read as none
-pub record HasNoFact (start : ℕ) (facts : List Fact) (content : List ℕ) : Type 0 where
-  pub lawful : (fact : Fact) → IsTextOf fact content → IsLawful start (stored_by facts fact.second) fact → ⊥
-  pub read : next_fact start facts content ≡ None
+pub record HasNoFact (cores start : ℕ) (facts : List Fact) (content : List ℕ) : Type 0 where
+  pub lawful : (fact : Fact) → IsTextOf fact content → IsLawful cores start (stored_by facts fact.second) fact → ⊥
+  pub read : next_fact cores start facts content ≡ None
 
 -- a record at this place is no spelling of a fact that is lawful after the facts of the records before it
-pub record IsFault (start : ℕ) (records : List (List ℕ)) (place : ℕ) : Type 0 where
+pub record IsFault (cores start : ℕ) (records : List (List ℕ)) (place : ℕ) : Type 0 where
   pub facts : List Fact
   pub before : List (List ℕ)
   pub content : List ℕ
   pub others : List (List ℕ)
-  pub are : AreFactsOf start facts before
+  pub are : AreFactsOf cores start facts before
   pub split : records ≡ before ++ content ∷ others
   pub here : place ≡ 18 + length (records_text before)
-  pub none : HasNoFact start facts content
+  pub none : HasNoFact cores start facts content
 
 -- a file is broken at this place: a record there is no fact's, or the records, which are facts', do not end at a closed gate
-abbrev pub IsMalformedAt : (start : ℕ) → List ℕ → (place : ℕ) → Type 0
-IsMalformedAt start file place =
-    IsFault start (reading_of 18 file).records place
-    ⊎ ((facts : List Fact) × AreFactsOf start facts (reading_of 18 file).records × ((reading_of 18 file).ending ≡ ending.Broken place))
+abbrev pub IsMalformedAt : (cores start : ℕ) → List ℕ → (place : ℕ) → Type 0
+IsMalformedAt cores start file place =
+    IsFault cores start (reading_of 18 file).records place
+    ⊎ ((facts : List Fact) × AreFactsOf cores start facts (reading_of 18 file).records × ((reading_of 18 file).ending ≡ ending.Broken place))
 
 -- a core of facts goes on with a record: it is the core with the fact too, or the record is no lawful fact's
 abbrev pub GoesOn : (List ℕ → List ℕ) → (me : ℕ) → CorePlanState → List Fact → List ℕ → CoreState → Bool → Type 0
 GoesOn image me plan facts content core true =
-    (fact : Fact) × IsTextOf fact content × AreLawful plan.start (facts ++ fact ∷ []) × IsOfFacts image me plan (facts ++ fact ∷ []) core
-GoesOn image me plan facts content core false = HasNoFact plan.start facts content
+    (fact : Fact) × IsTextOf fact content × AreLawful plan.cores plan.start (facts ++ fact ∷ []) × IsOfFacts image me plan (facts ++ fact ∷ []) core
+GoesOn image me plan facts content core false = HasNoFact plan.cores plan.start facts content
 
 -- the core of the facts that the records spell
 abbrev pub IsCoreOf : (List ℕ → List ℕ) → (me : ℕ) → CorePlanState → List (List ℕ) → CoreState → Type 0
-IsCoreOf image me plan records core = (facts : List Fact) × AreFactsOf plan.start facts records × IsOfFacts image me plan facts core
+IsCoreOf image me plan records core = (facts : List Fact) × AreFactsOf plan.cores plan.start facts records × IsOfFacts image me plan facts core

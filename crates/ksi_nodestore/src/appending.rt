@@ -30,8 +30,8 @@ pub(crate) fn append_fact<D: Disk>(
     requires empty { record_.content ≡ [] }
     requires room { most_bytes fact.now.what ≤ record_.room }
     requires lawful { CanSpell fact.now.what }
-    ensures kept { (me : ℕ) (plan : CorePlanState) (facts : List Fact) → IsLogOf D.content D.images me plan facts log.old → IsLawful plan.start (stored_by facts fact.now.second) fact.now → OnOk result (IsLogOf D.content D.images me plan (facts ++ fact.now ∷ []) log.new) }
-    ensures any_moment { (me : ℕ) (plan : CorePlanState) (facts : List Fact) → IsLogOf D.content D.images me plan facts log.old → IsLawful plan.start (stored_by facts fact.now.second) fact.now →
+    ensures kept { (me : ℕ) (plan : CorePlanState) (facts : List Fact) → IsLogOf D.content D.images me plan facts log.old → IsLawful plan.cores plan.start (stored_by facts fact.now.second) fact.now → OnOk result (IsLogOf D.content D.images me plan (facts ++ fact.now ∷ []) log.new) }
+    ensures any_moment { (me : ℕ) (plan : CorePlanState) (facts : List Fact) → IsLogOf D.content D.images me plan facts log.old → IsLawful plan.cores plan.start (stored_by facts fact.now.second) fact.now →
         LeavesOnly D.moment D.images_since log.old.disk log.new.disk (λ image. IsFileOf me plan facts image ⊎ IsFileOf me plan (facts ++ fact.now ∷ []) image) }
     ensures exact { (me : ℕ) (plan : CorePlanState) (facts : List Fact) → IsLogOf D.content D.images me plan facts log.old → D.content log.old.disk ≡ node_text me plan facts → OnOk result (D.content log.new.disk ≡ node_text me plan (facts ++ fact.now ∷ [])) }
     ensures spent { OnErr result (log.new.is_spent ≡ true) }
@@ -55,8 +55,8 @@ pub(crate) fn keep<D: Disk>(
 ) -> Result<(), DiskFailed>
     requires settled { IsSettled D.content D.images log.old }
     requires ready { IsReady record_ fact.now }
-    ensures kept { (me : ℕ) (plan : CorePlanState) (facts : List Fact) → IsLogOf D.content D.images me plan facts log.old → IfSome fact.now (λ fact. IsLawful plan.start (stored_by facts fact.second) fact) → OnOk result (HasKept D.content D.images me plan facts fact.now log.old log.new) }
-    ensures any_moment { (me : ℕ) (plan : CorePlanState) (facts : List Fact) → IsLogOf D.content D.images me plan facts log.old → IfSome fact.now (λ fact. IsLawful plan.start (stored_by facts fact.second) fact) →
+    ensures kept { (me : ℕ) (plan : CorePlanState) (facts : List Fact) → IsLogOf D.content D.images me plan facts log.old → IfSome fact.now (λ fact. IsLawful plan.cores plan.start (stored_by facts fact.second) fact) → OnOk result (HasKept D.content D.images me plan facts fact.now log.old log.new) }
+    ensures any_moment { (me : ℕ) (plan : CorePlanState) (facts : List Fact) → IsLogOf D.content D.images me plan facts log.old → IfSome fact.now (λ fact. IsLawful plan.cores plan.start (stored_by facts fact.second) fact) →
         LeavesOnly D.moment D.images_since log.old.disk log.new.disk (IsFileBeforeOrAfter me plan facts fact.now) }
     ensures spent { OnErr result (log.new.is_spent ≡ true) }
     ensures counted { DiskCounts (D.faults log.old.disk) (D.faults log.new.disk) result }

@@ -46,7 +46,7 @@ fn fold_record<C: Compress>(
     core: &mut Core<C>,
     content: &[u8],
 ) -> Result<bool, NoMemory>
-    ensures { IfOk result (λ stored. (me : ℕ) (plan : CorePlanState) (facts : List Fact) → AreLawful plan.start facts → IsOfFacts C.image me plan facts core.old → GoesOn C.image me plan facts content.now core.new stored) }
+    ensures { IfOk result (λ stored. (me : ℕ) (plan : CorePlanState) (facts : List Fact) → AreLawful plan.cores plan.start facts → IsOfFacts C.image me plan facts core.old → GoesOn C.image me plan facts content.now core.new stored) }
 {
     one_core_of_facts();
     facts_one_by_one();

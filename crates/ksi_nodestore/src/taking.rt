@@ -5,6 +5,7 @@ ghost use Rattle.ksi_corenode.specs.declared.fact.Fact.{Fact};
 ghost use Rattle.ksi_corenode.specs.CoreState.{IsTurn};
 ghost use Rattle.ksi_corenode.specs.Events.{event_second, core_row, IsAsked, MayTake};
 ghost use Rattle.ksi_corenode.specs.Lawful.{with_new};
+ghost use Rattle.ksi_corenode.specs.Owners.{BringsOwned};
 ghost use Rattle.ksi_disk.specs.Images.{LeavesOnly};
 ghost use Rattle.ksi_corenode.specs.Counted.{count_below};
 ghost use Rattle.ksi_nodestore.specs.declared.refusal.TakeRefusal.TheVariants.{Spent};
@@ -23,7 +24,7 @@ use ksi_imprint::Compress;
 
 impl<C: Compress, D: Disk> NodeStore<C, D> {
     /// Takes an event by the call of the core that it is, under that call's condition, for a second at or after the start
-    /// and below 2^63. Its fact, if any, is appended to the file before the step is handed out: from then on each image has
+    /// and below 2^63; the ballot that it brings, if any, is of a core of the plan. Its fact, if any, is appended to the file before the step is handed out: from then on each image has
     /// it.
     ///
     /// # Errors
@@ -33,6 +34,7 @@ impl<C: Compress, D: Disk> NodeStore<C, D> {
     pub fn take(&mut self, event: CoreEvent) -> Result<Step, TakeRefusal>
         requires event { MayTake self.old.core event }
         requires asked { IsAsked self.old.core (event_second event) }
+        requires owned { BringsOwned self.old.core.plan.cores event }
         ensures turn { IfOk result (λ step. IsTurn self.old.core self.new.core (event_second event) (core_row C.image self.old.core event) step) }
         ensures stored { (me : ℕ) (plan : CorePlanState) (facts : List Fact) → IsStoreOf C.image D.content D.images me plan facts self.old → IfOk result (λ step. IsStoreOf C.image D.content D.images me plan (with_new facts step.fact) self.new) }
         ensures exact { (me : ℕ) (plan : CorePlanState) (facts : List Fact) → IsStoreOf C.image D.content D.images me plan facts self.old → D.content self.old.log.disk ≡ node_text me plan facts →
@@ -85,6 +87,7 @@ impl<C: Compress, D: Disk> NodeStore<C, D> {
         requires fresh { self.old.log.is_spent ≡ false }
         requires event { MayTake self.old.core event.now }
         requires asked { IsAsked self.old.core (event_second event.now) }
+        requires owned { BringsOwned self.old.core.plan.cores event.now }
         ensures turn { IfOk result (λ step. IsTurn self.old.core self.new.core (event_second event.now) (core_row C.image self.old.core event.now) step) }
         ensures stored { (me : ℕ) (plan : CorePlanState) (facts : List Fact) → IsStoreOf C.image D.content D.images me plan facts self.old → IfOk result (λ step. HasTaken C.image D.content D.images me plan facts step.fact self.old self.new) }
         ensures any_moment { (me : ℕ) (plan : CorePlanState) (facts : List Fact) → IsStoreOf C.image D.content D.images me plan facts self.old →

@@ -32,7 +32,7 @@ use Rattle.ksi_wire.specs.Lines.{item_words, cast_words, vote_words, core_words}
 use Rattle.ksi_wire.specs.RoundLines.{asked_words, short}
 use Rattle.ksi_wire.specs.Asked.{Got, number_in, imprint_in, second_in, core_in, lower_in, is_same, ballot_in, name_in, is_same_name, item_in, cast_in, vote_in, submission_in, receive_in, core_event_in, core_event_of, short_in, if_spelled}
 use Rattle.ksi_wire.specs.AskedRounds.{sign_in, event_in, asked_in, aggregator_line_of}
-use Rattle.ksi_wire.specs.Taken.{IsDigest, IsSubmitted, IsCast, IsVote, ComesToCore, ComesToAggregator}
+use Rattle.ksi_wire.specs.Taken.{IsDigest, IsSubmitted, IsBallotOf, IsCast, IsVote, ComesToCore, ComesToAggregator}
 
 -- ---- words
 
@@ -61,8 +61,8 @@ same_actor (actors.Aggregator k) = (Rattle.std.proofs.lemmas.Bool.Decides.Decide
 lower_taken : (plan : PlanState) (me : Actor) (k : ℕ) (rest : List Text) → IsPlan plan → k < length plan.parents → parent_of plan k ≡ me → lower_in plan me (decimal k ∷ rest) ≡ Ok (k, rest)
 lower_taken plan me k rest h lt below = rw (number_again k (omega (arith, h.many)), lt-ltb _ _ lt, below, same_actor me) refl
 
-ballot_taken : (b : ℕ) (rest : List Text) → IsBallot b → ballot_in (decimal b ∷ rest) ≡ Ok (b, rest)
-ballot_taken b rest is = rw (number_again b (omega (arith, is.1)), le-leb _ _ is.0, lt-ltb _ _ is.1) refl
+ballot_taken : (plan : PlanState) (b : ℕ) (rest : List Text) → IsBallotOf plan b → ballot_in plan (decimal b ∷ rest) ≡ Ok (b, rest)
+ballot_taken plan b rest is = rw (number_again b (omega (arith, is.0.1)), le-leb _ _ is.0.0, lt-ltb _ _ is.0.1, lt-ltb _ _ is.1) refl
 
 name_taken : (name : Option Text) → IfSome name IsName → name_in (name_words name) ≡ Ok (name, [])
 name_taken None is = refl
@@ -79,16 +79,16 @@ item_taken plan me from second item h is =
 
 -- ---- the lines to a core
 
-cast_taken : (promised : ℕ) (vote : Option Vote) → IfSome vote IsCast → cast_in promised (cast_words vote) ≡ Ok (votes.LastVote (record { ballot = promised; vote = vote }), [])
-cast_taken promised None is = refl
-cast_taken promised (Some vote) is = rw (ballot_taken vote.ballot (hex_of vote.imprint ∷ []) is.0, imprint_taken vote.imprint [] is.1) refl
+cast_taken : (plan : PlanState) (promised : ℕ) (vote : Option Vote) → IfSome vote (IsCast plan) → cast_in plan promised (cast_words vote) ≡ Ok (votes.LastVote (record { ballot = promised; vote = vote }), [])
+cast_taken plan promised None is = refl
+cast_taken plan promised (Some vote) is = rw (ballot_taken plan vote.ballot (hex_of vote.imprint ∷ []) is.0, imprint_taken vote.imprint [] is.1) refl
 
-vote_taken : (m : SynodMessage) → IsVote m → vote_in (vote_words m) ≡ Ok (m, [])
-vote_taken (votes.NextBallot b) is = rw (ballot_taken b [] is) refl
-vote_taken (votes.LastVote last) is = rw (ballot_taken last.ballot (cast_words last.vote) is.0, cast_taken last.ballot last.vote is.1) refl
-vote_taken (votes.BeginBallot b decree) is = rw (ballot_taken b (hex_of decree ∷ []) is.0, imprint_taken decree [] is.1) refl
-vote_taken (votes.Voted b) is = rw (ballot_taken b [] is) refl
-vote_taken (votes.Success decree) is = rw (imprint_taken decree [] is) refl
+vote_taken : (plan : PlanState) (m : SynodMessage) → IsVote plan m → vote_in plan (vote_words m) ≡ Ok (m, [])
+vote_taken plan (votes.NextBallot b) is = rw (ballot_taken plan b [] is) refl
+vote_taken plan (votes.LastVote last) is = rw (ballot_taken plan last.ballot (cast_words last.vote) is.0, cast_taken plan last.ballot last.vote is.1) refl
+vote_taken plan (votes.BeginBallot b decree) is = rw (ballot_taken plan b (hex_of decree ∷ []) is.0, imprint_taken decree [] is.1) refl
+vote_taken plan (votes.Voted b) is = rw (ballot_taken plan b [] is) refl
+vote_taken plan (votes.Success decree) is = rw (imprint_taken decree [] is) refl
 
 core_event_taken : (plan : PlanState) (me : ℕ) (event : CoreEvent) → IsPlan plan → ComesToCore plan me event → core_event_in plan me (core_words event) ≡ Ok (event, [])
 core_event_taken plan me (events.Submission from second item) h is =
@@ -96,7 +96,7 @@ core_event_taken plan me (events.Submission from second item) h is =
 core_event_taken plan me (events.Seal t) h is = rw (second_taken plan t [] h is) refl
 core_event_taken plan me (events.Ballot t) h is = rw (second_taken plan t [] h is) refl
 core_event_taken plan me (events.Receive from second m) h is =
-    rw (core_taken plan from (decimal second ∷ vote_words m) h is.0, second_taken plan second (vote_words m) h is.1, vote_taken m is.2) refl
+    rw (core_taken plan from (decimal second ∷ vote_words m) h is.0, second_taken plan second (vote_words m) h is.1, vote_taken plan m is.2) refl
 core_event_taken plan me (events.Tell t) h is = rw (second_taken plan t [] h is) refl
 core_event_taken plan me (events.Respond t) h is = rw (second_taken plan t [] h is) refl
 core_event_taken plan me (events.Publish t) h is = rw (second_taken plan t [] h is) refl
@@ -138,20 +138,20 @@ submission_clean plan me from second item h is =
     (more (decimal from) (decimal second ∷ item_words item) (number-clean from (omega (arith, h.many, is.there)))
     (more (decimal second) (item_words item) (second_clean plan second h is.in_range) (item_clean plan me from second item h is)))
 
-ballot_clean : (b : ℕ) → IsBallot b → IsCleanWord (decimal b)
-ballot_clean b is = number-clean b (omega (arith, is.1))
+ballot_clean : (plan : PlanState) (b : ℕ) → IsBallotOf plan b → IsCleanWord (decimal b)
+ballot_clean plan b is = number-clean b (omega (arith, is.0.1))
 
-cast_clean : (vote : Option Vote) → IfSome vote IsCast → IsClean (cast_words vote)
-cast_clean None is = tt
-cast_clean (Some vote) is = two (decimal vote.ballot) (hex_of vote.imprint) (ballot_clean vote.ballot is.0) (digest_clean vote.imprint is.1)
+cast_clean : (plan : PlanState) (vote : Option Vote) → IfSome vote (IsCast plan) → IsClean (cast_words vote)
+cast_clean plan None is = tt
+cast_clean plan (Some vote) is = two (decimal vote.ballot) (hex_of vote.imprint) (ballot_clean plan vote.ballot is.0) (digest_clean vote.imprint is.1)
 
-vote_clean : (m : SynodMessage) → IsVote m → IsClean (vote_words m)
-vote_clean (votes.NextBallot b) is = two (codes "next") (decimal b) (plain (codes "next") refl) (ballot_clean b is)
-vote_clean (votes.LastVote last) is =
-    more (codes "last") (decimal last.ballot ∷ cast_words last.vote) (plain (codes "last") refl) (more (decimal last.ballot) (cast_words last.vote) (ballot_clean last.ballot is.0) (cast_clean last.vote is.1))
-vote_clean (votes.BeginBallot b decree) is = three (codes "begin") (decimal b) (hex_of decree) (plain (codes "begin") refl) (ballot_clean b is.0) (digest_clean decree is.1)
-vote_clean (votes.Voted b) is = two (codes "voted") (decimal b) (plain (codes "voted") refl) (ballot_clean b is)
-vote_clean (votes.Success decree) is = two (codes "success") (hex_of decree) (plain (codes "success") refl) (digest_clean decree is)
+vote_clean : (plan : PlanState) (m : SynodMessage) → IsVote plan m → IsClean (vote_words m)
+vote_clean plan (votes.NextBallot b) is = two (codes "next") (decimal b) (plain (codes "next") refl) (ballot_clean plan b is)
+vote_clean plan (votes.LastVote last) is =
+    more (codes "last") (decimal last.ballot ∷ cast_words last.vote) (plain (codes "last") refl) (more (decimal last.ballot) (cast_words last.vote) (ballot_clean plan last.ballot is.0) (cast_clean plan last.vote is.1))
+vote_clean plan (votes.BeginBallot b decree) is = three (codes "begin") (decimal b) (hex_of decree) (plain (codes "begin") refl) (ballot_clean plan b is.0) (digest_clean decree is.1)
+vote_clean plan (votes.Voted b) is = two (codes "voted") (decimal b) (plain (codes "voted") refl) (ballot_clean plan b is)
+vote_clean plan (votes.Success decree) is = two (codes "success") (hex_of decree) (plain (codes "success") refl) (digest_clean decree is)
 
 of_second_clean : (plan : PlanState) (name : Text) (t : ℕ) → IsPlan plan → list_all (λ b. ltb 32 b) name ≡ true → InRange plan t → IsClean (name ∷ decimal t ∷ [])
 of_second_clean plan name t h all is = two name (decimal t) (plain name all) (second_clean plan t h is)
@@ -163,7 +163,7 @@ core_clean plan me (events.Ballot t) h is = of_second_clean plan (codes "ballot"
 core_clean plan me (events.Receive from second m) h is =
     more (codes "synod") (decimal from ∷ decimal second ∷ vote_words m) (plain (codes "synod") refl)
     (more (decimal from) (decimal second ∷ vote_words m) (number-clean from (omega (arith, h.core_plan.few, is.0)))
-    (more (decimal second) (vote_words m) (second_clean plan second h is.1) (vote_clean m is.2)))
+    (more (decimal second) (vote_words m) (second_clean plan second h is.1) (vote_clean plan m is.2)))
 core_clean plan me (events.Tell t) h is = of_second_clean plan (codes "tell") t h refl is
 core_clean plan me (events.Respond t) h is = of_second_clean plan (codes "respond") t h refl is
 core_clean plan me (events.Publish t) h is = of_second_clean plan (codes "publish") t h refl is

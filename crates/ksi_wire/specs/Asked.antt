@@ -16,6 +16,7 @@ use Rattle.ksi_schedule.specs.declared.actor.Actor.{Actor}
 use Rattle.ksi_schedule.specs.declared.actor.Actor.TheVariants as actors
 use Rattle.ksi_synod.specs.declared.messages.SynodMessage.{SynodMessage}
 use Rattle.ksi_synod.specs.declared.messages.SynodMessage.TheVariants as votes
+use Rattle.ksi_corenode.specs.Owners.{owner_of}
 use Rattle.ksi_corenode.specs.declared.event.CoreEvent.{CoreEvent}
 use Rattle.ksi_corenode.specs.declared.event.CoreEvent.TheVariants as events
 use Rattle.ksi_wire.specs.declared.fault.WireFault.{WireFault}
@@ -70,9 +71,9 @@ is_same _ _ = false
 abbrev pub lower_in : PlanState → Actor → List Text → Got ℕ
 lower_in plan me ws = number_in ws >>= λ k rest. if nat_lt k (length plan.parents) && is_same (parent_of plan k) me then Ok (k, rest) else Err faults.Actor
 
--- a ballot has a round from 1 to 2^32 - 1
-abbrev pub ballot_in : List Text → Got ℕ
-ballot_in ws = number_in ws >>= λ b rest. if nat_le 16 b && nat_lt b (2 ^ 36) then Ok (b, rest) else Err Ballot
+-- a ballot has a round from 1 to 2^32 - 1, and is of a core of the plan
+abbrev pub ballot_in : PlanState → List Text → Got ℕ
+ballot_in plan ws = number_in ws >>= λ b rest. if (nat_le 16 b && nat_lt b (2 ^ 36)) && nat_lt (owner_of b) plan.cores then Ok (b, rest) else Err Ballot
 
 -- the name that is left, if one is
 abbrev pub name_in : List Text → Got (Option Text)
@@ -99,19 +100,19 @@ is_empty [] = true
 is_empty (word ∷ rest) = false
 
 -- the vote that was cast so far, if one was, behind the ballot of a promise
-abbrev pub cast_in : ℕ → List Text → Got SynodMessage
-cast_in promised ws =
+abbrev pub cast_in : PlanState → ℕ → List Text → Got SynodMessage
+cast_in plan promised ws =
     if is_empty ws
     then Ok (votes.LastVote (record { ballot = promised; vote = None }), ws)
-    else (ballot_in ws >>= λ b ws. imprint_in ws >>= λ imprint rest. Ok (votes.LastVote (record { ballot = promised; vote = Some (record { ballot = b; imprint = imprint }) }), rest))
+    else (ballot_in plan ws >>= λ b ws. imprint_in ws >>= λ imprint rest. Ok (votes.LastVote (record { ballot = promised; vote = Some (record { ballot = b; imprint = imprint }) }), rest))
 
-abbrev pub vote_in : List Text → Got SynodMessage
-vote_in ws =
+abbrev pub vote_in : PlanState → List Text → Got SynodMessage
+vote_in plan ws =
     word_in ws >>= λ kind ws.
-    if bytes_eq kind (codes "next") then (ballot_in ws >>= λ b rest. Ok (votes.NextBallot b, rest))
-    else if bytes_eq kind (codes "last") then (ballot_in ws >>= λ b rest. cast_in b rest)
-    else if bytes_eq kind (codes "begin") then (ballot_in ws >>= λ b ws. imprint_in ws >>= λ decree rest. Ok (votes.BeginBallot b decree, rest))
-    else if bytes_eq kind (codes "voted") then (ballot_in ws >>= λ b rest. Ok (votes.Voted b, rest))
+    if bytes_eq kind (codes "next") then (ballot_in plan ws >>= λ b rest. Ok (votes.NextBallot b, rest))
+    else if bytes_eq kind (codes "last") then (ballot_in plan ws >>= λ b rest. cast_in plan b rest)
+    else if bytes_eq kind (codes "begin") then (ballot_in plan ws >>= λ b ws. imprint_in ws >>= λ decree rest. Ok (votes.BeginBallot b decree, rest))
+    else if bytes_eq kind (codes "voted") then (ballot_in plan ws >>= λ b rest. Ok (votes.Voted b, rest))
     else if bytes_eq kind (codes "success") then (imprint_in ws >>= λ decree rest. Ok (votes.Success decree, rest))
     else Err Word
 
@@ -123,7 +124,7 @@ submission_in plan me ws =
 
 abbrev pub receive_in : PlanState → List Text → Got CoreEvent
 receive_in plan ws =
-    core_in plan ws >>= λ from ws. second_in plan ws >>= λ second ws. vote_in ws >>= λ m rest. Ok (events.Receive from second m, rest)
+    core_in plan ws >>= λ from ws. second_in plan ws >>= λ second ws. vote_in plan ws >>= λ m rest. Ok (events.Receive from second m, rest)
 
 abbrev pub core_event_in : PlanState → (me : ℕ) → List Text → Got CoreEvent
 core_event_in plan me ws =

@@ -8,6 +8,7 @@ use Rattle.ksi_schedule.specs.Plans.{PlanState, InRange, parent_of, name_of}
 use Rattle.ksi_schedule.specs.declared.actor.Actor.{Actor}
 use Rattle.ksi_schedule.specs.declared.actor.Actor.TheVariants as actors
 use Rattle.ksi_synod.specs.Ballots.{IsBallot}
+use Rattle.ksi_corenode.specs.Owners.{IsOwned}
 use Rattle.ksi_synod.specs.declared.messages.Vote.{Vote}
 use Rattle.ksi_synod.specs.declared.messages.SynodMessage.{SynodMessage}
 use Rattle.ksi_synod.specs.declared.messages.SynodMessage.TheVariants as votes
@@ -31,21 +32,25 @@ pub record IsSubmitted (plan : PlanState) (me : Actor) (from second : ℕ) (item
   pub level : item.level < 239
   pub named : item.name ≡ name_of plan from
 
-abbrev pub IsCast : Vote → Type 0
-IsCast vote = IsBallot vote.ballot × IsDigest vote.imprint
+-- a ballot of a core of the plan
+abbrev pub IsBallotOf : PlanState → ℕ → Type 0
+IsBallotOf plan ballot = IsBallot ballot × IsOwned plan.cores ballot
 
-abbrev pub IsVote : SynodMessage → Type 0
-IsVote (votes.NextBallot b) = IsBallot b
-IsVote (votes.LastVote last) = IsBallot last.ballot × IfSome last.vote IsCast
-IsVote (votes.BeginBallot b decree) = IsBallot b × IsDigest decree
-IsVote (votes.Voted b) = IsBallot b
-IsVote (votes.Success decree) = IsDigest decree
+abbrev pub IsCast : PlanState → Vote → Type 0
+IsCast plan vote = IsBallotOf plan vote.ballot × IsDigest vote.imprint
+
+abbrev pub IsVote : PlanState → SynodMessage → Type 0
+IsVote plan (votes.NextBallot b) = IsBallotOf plan b
+IsVote plan (votes.LastVote last) = IsBallotOf plan last.ballot × IfSome last.vote (IsCast plan)
+IsVote plan (votes.BeginBallot b decree) = IsBallotOf plan b × IsDigest decree
+IsVote plan (votes.Voted b) = IsBallotOf plan b
+IsVote plan (votes.Success decree) = IsDigest decree
 
 abbrev pub ComesToCore : PlanState → (me : ℕ) → CoreEvent → Type 0
 ComesToCore plan me (events.Submission from second item) = IsSubmitted plan (actors.Core me) from second item
 ComesToCore plan me (events.Seal second) = InRange plan second
 ComesToCore plan me (events.Ballot second) = InRange plan second
-ComesToCore plan me (events.Receive from second m) = (from < plan.cores) × InRange plan second × IsVote m
+ComesToCore plan me (events.Receive from second m) = (from < plan.cores) × InRange plan second × IsVote plan m
 ComesToCore plan me (events.Tell second) = InRange plan second
 ComesToCore plan me (events.Respond second) = InRange plan second
 ComesToCore plan me (events.Publish second) = InRange plan second

@@ -1,6 +1,7 @@
 // The lines to a core.
 ghost use Rattle.std.specs.Prelude.{◌≡◌, IfOk};
 ghost use Rattle.ksi_corenode.specs.Events.{event_second, IsAsked, MayTake};
+ghost use Rattle.ksi_corenode.specs.Owners.{BringsOwned};
 ghost use Rattle.ksi_corenode.specs.CoreState.{CoreState};
 ghost use Rattle.ksi_schedule.specs.Printed.{line_of};
 ghost use Rattle.ksi_schedule.specs.Reading.{words_left};
@@ -32,6 +33,7 @@ pub fn core_event(
     ensures exact { Answers (core_event_of plan.now me line.now) result }
     ensures text { IfOk result (λ event. line.now ≡ line_of (core_words event)) }
     ensures may { IfOk result (λ event. (it : CoreState) → it.start ≡ plan.now.start → MayTake it event × IsAsked it (event_second event)) }
+    ensures owned { IfOk result (BringsOwned plan.now.cores) }
 {
     let mut words = Words::new(line);
     let event = match any_event(plan, me, &mut words) {
@@ -51,6 +53,7 @@ pub fn core_event(
 fn any_event(plan: &Plan, me: u8, words: &mut Words<'_>) -> Result<CoreEvent, WireFault>
     ensures read { Reads (core_event_in plan.now me (words_left words.old.left)) result (words_left words.new.left) }
     ensures may { IfOk result (λ event. (it : CoreState) → it.start ≡ plan.now.start → MayTake it event × IsAsked it (event_second event)) }
+    ensures owned { IfOk result (BringsOwned plan.now.cores) }
 {
     let kind = words.next_word()?;
     if is(kind, b"submission") {
@@ -75,6 +78,7 @@ fn any_event(plan: &Plan, me: u8, words: &mut Words<'_>) -> Result<CoreEvent, Wi
 fn submission(plan: &Plan, me: u8, words: &mut Words<'_>) -> Result<CoreEvent, WireFault>
     ensures read { Reads (submission_in plan.now me (words_left words.old.left)) result (words_left words.new.left) }
     ensures may { IfOk result (λ event. (it : CoreState) → it.start ≡ plan.now.start → MayTake it event × IsAsked it (event_second event)) }
+    ensures owned { IfOk result (BringsOwned plan.now.cores) }
 {
     let from = lower(plan, Actor::Core(me), words)?;
     let second = second(plan, words)?;
@@ -85,9 +89,10 @@ fn submission(plan: &Plan, me: u8, words: &mut Words<'_>) -> Result<CoreEvent, W
 fn message(plan: &Plan, words: &mut Words<'_>) -> Result<CoreEvent, WireFault>
     ensures read { Reads (receive_in plan.now (words_left words.old.left)) result (words_left words.new.left) }
     ensures may { IfOk result (λ event. (it : CoreState) → it.start ≡ plan.now.start → MayTake it event × IsAsked it (event_second event)) }
+    ensures owned { IfOk result (BringsOwned plan.now.cores) }
 {
     let from = core(plan, words)?;
     let second = second(plan, words)?;
-    let message = vote(words)?;
+    let message = vote(plan, words)?;
     Ok(CoreEvent::Receive(from, second, message))
 }

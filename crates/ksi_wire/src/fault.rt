@@ -11,7 +11,7 @@ pub enum WireFault {
     Actor,
     /// The second is not one of the plan's.
     Second,
-    /// The ballot is below 16 or from 2^36 on.
+    /// The ballot is below 16 or from 2^36 on, or of no core of the plan.
     Ballot,
     /// The level is above 238.
     Level,

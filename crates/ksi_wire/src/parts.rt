@@ -1,6 +1,7 @@
 // The parts of a line: seconds, actors, ballots, names, items.
 ghost use Rattle.std.specs.Prelude.{◌≡◌, ◌≤◌, ◌<◌, ◌^◌, length, IfOk};
 ghost use Rattle.ksi_synod.specs.Ballots.{IsBallot};
+ghost use Rattle.ksi_corenode.specs.Owners.{IsOwned};
 ghost use Rattle.ksi_aggtree.specs.Rounds.{leaf_level, highest_item};
 ghost use Rattle.ksi_schedule.specs.Reading.{words_left};
 ghost use Rattle.ksi_wire.specs.Asked.{second_in, core_in, lower_in, is_same, is_same_name, ballot_in, name_in, item_in, Reads};
@@ -62,12 +63,14 @@ fn is_same(one: Actor, other: Actor) -> bool
     }
 }
 
-pub(crate) fn ballot(words: &mut Words<'_>) -> Result<u64, WireFault>
-    ensures read { Reads (ballot_in (words_left words.old.left)) result (words_left words.new.left) }
+/// A ballot of a core of the plan.
+pub(crate) fn ballot(plan: &Plan, words: &mut Words<'_>) -> Result<u64, WireFault>
+    ensures read { Reads (ballot_in plan.now (words_left words.old.left)) result (words_left words.new.left) }
     ensures round { IfOk result IsBallot }
+    ensures owned { IfOk result (IsOwned plan.now.cores) }
 {
     let n = words.number()?;
-    if 16 <= n && n < 1 << 36 {
+    if 16 <= n && n < 1 << 36 && n % 16 < u64::from(plan.cores()) {
         Ok(n)
     } else {
         Err(WireFault::Ballot)

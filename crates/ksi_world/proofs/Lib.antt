@@ -40,6 +40,7 @@ pub mod Counting
 pub mod SealedStays
 pub mod AskedCores
 pub mod AskedSends
+pub mod AskedOwners
 pub mod Choosing
 pub mod OwnSeconds
 pub mod Submitting

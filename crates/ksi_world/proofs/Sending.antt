@@ -14,7 +14,9 @@ use Rattle.ksi_synod.specs.declared.messages.SynodMessage.{SynodMessage}
 use Rattle.ksi_synod.specs.declared.messages.SynodMessage.TheVariants as message
 use Rattle.ksi_synod.specs.Voters.{cores_below}
 use Rattle.ksi_synod.specs.CorePlans.{IsCorePlan, voters_of}
-use Rattle.ksi_synod.specs.Rows.{OfBallot, OfReply}
+use Rattle.ksi_synod.specs.Rows.{OfBallot}
+use Rattle.ksi_corenode.specs.Owners.{NamesOwned}
+use Rattle.ksi_world.proofs.Small.{OfCores}
 use Rattle.ksi_signature.specs.declared.above.Above.{Above}
 use Rattle.ksi_corenode.specs.declared.step.Send as core_step
 use Rattle.ksi_corenode.specs.declared.step.Send.TheVariants as core_sends
@@ -71,7 +73,7 @@ module _ (plan : PlanState) where
   -- WHAT A CORE SENDS
 
   abbrev pub FineSend : (j : ℕ) → core_step.Send → Type 0
-  FineSend j (core_sends.Synod to m) = (to < plan.cores) × OfBallot m
+  FineSend j (core_sends.Synod to m) = (to < plan.cores) × OfBallot m × NamesOwned plan.cores m
   FineSend j (core_sends.Response to above) = (to < length plan.parents) × (length above.chains ≤ depth_of plan (actors.Aggregator to))
 
   abbrev pub FineSends : (j : ℕ) → List core_step.Send → Type 0
@@ -82,21 +84,21 @@ module _ (plan : PlanState) where
   fine_both j [] ys h k = k
   fine_both j (x ∷ xs) ys h k = (h.0, fine_both j xs ys h.1 k)
 
-  pub fine_each : (j : ℕ) (to : List ℕ) (m : SynodMessage) → AreCoresOf plan.cores to → OfBallot m → FineSends j (to_each to m)
+  pub fine_each : (j : ℕ) (to : List ℕ) (m : SynodMessage) → AreCoresOf plan.cores to → OfBallot m × NamesOwned plan.cores m → FineSends j (to_each to m)
   fine_each j [] m are is = tt
-  fine_each j (core ∷ to) m are is = ((are.0, is), fine_each j to m are.1 is)
+  fine_each j (core ∷ to) m are is = ((are.0, is.0, is.1), fine_each j to m are.1 is)
 
-  pub fine_told : IsCorePlan (core_plan_of plan) → (j second from : ℕ) (o : Option SynodMessage) → from < plan.cores → OfReply o → FineSends j (turns.told (core_plan_of plan) second from o)
+  pub fine_told : IsCorePlan (core_plan_of plan) → (j second from : ℕ) (o : Option SynodMessage) → from < plan.cores → OfCores plan.cores o → FineSends j (turns.told (core_plan_of plan) second from o)
   fine_told planned j second from None lt is = tt
-  fine_told planned j second from (Some (message.LastVote l)) lt is = ((lt, is), tt)
-  fine_told planned j second from (Some (message.Voted b)) lt is = ((lt, is), tt)
+  fine_told planned j second from (Some (message.LastVote l)) lt is = ((lt, is.0, is.1), tt)
+  fine_told planned j second from (Some (message.Voted b)) lt is = ((lt, is.0, is.1), tt)
   fine_told planned j second from (Some (message.NextBallot b)) lt is = fine_each j (voters_of (core_plan_of plan) second) (message.NextBallot b) (voters_of-there (core_plan_of plan) second planned) is
   fine_told planned j second from (Some (message.BeginBallot b d)) lt is = fine_each j (voters_of (core_plan_of plan) second) (message.BeginBallot b d) (voters_of-there (core_plan_of plan) second planned) is
   fine_told planned j second from (Some (message.Success d)) lt is = fine_each j (cores_below plan.cores) (message.Success d) (below_of plan.cores plan.cores (omega arith)) is
 
   pub core_posts : (j t : ℕ) (sends : List core_step.Send) → j < plan.cores → InRange plan t → FineSends j sends → ArePosts plan (map (core_message j t) sends)
   core_posts j t [] lt range fine = no_posts
-  core_posts j t (core_sends.Synod to m ∷ ss) lt range fine = one_post _ _ (record { second = range; sent = (lt, fine.0.0, fine.0.1) }) (core_posts j t ss lt range fine.1)
+  core_posts j t (core_sends.Synod to m ∷ ss) lt range fine = one_post _ _ (record { second = range; sent = (lt, fine.0.0, fine.0.1, fine.0.2) }) (core_posts j t ss lt range fine.1)
   core_posts j t (core_sends.Response to above ∷ ss) lt range fine = one_post _ _ (record { second = range; sent = fine.0 }) (core_posts j t ss lt range fine.1)
 
   -- WHAT AN AGGREGATOR SENDS

@@ -40,7 +40,7 @@ module _ (image : List ℕ → List ℕ) (plan : PlanState) (is : IsPlan plan) (
 
   -- what the second of a core always is
   record IsSecond (j accepted : ℕ) (s : SecondState) : Type 0 where
-    small : IsSmall s.vote
+    small : IsSmall plan.cores s.vote
     open_items : AreOf plan (actors.Core j) accepted s.open_items
     sealed : (entries : List Entry) → s.sealed ≡ Some entries → AreOf plan (actors.Core j) accepted entries
 
@@ -49,7 +49,7 @@ module _ (image : List ℕ → List ℕ) (plan : PlanState) (is : IsPlan plan) (
 
   core_sound : (w : WorldState) (j t : ℕ) (turn : Turn) → j < plan.cores → InRange plan t → IsSecond j (length w.requests) turn.after → FineSends plan j turn.sends → IsSound plan w → IsSound plan (at_core w j t turn).world
   core_sound w j t turn lt range second fine sound = record {
-    small = λ i u i_lt. cond_both (eqb i j && eqb u t) turn.after (w.seconds i u) (λ s. IsSmall s.vote) (λ _. second.small) (λ _. sound.small i u i_lt);
+    small = λ i u i_lt. cond_both (eqb i j && eqb u t) turn.after (w.seconds i u) (λ s. IsSmall plan.cores s.vote) (λ _. second.small) (λ _. sound.small i u i_lt);
     open_items = λ i u. cond_both (eqb i j && eqb u t) turn.after (w.seconds i u) (λ s. AreOf plan (actors.Core i) (length w.requests) s.open_items)
         (λ here. subst (λ i. AreOf plan (actors.Core i) (length w.requests) turn.after.open_items) (sym (same i u here)) second.open_items) (λ _. sound.open_items i u);
     sealed = λ i u. cond_both (eqb i j && eqb u t) turn.after (w.seconds i u) (λ s. (entries : List Entry) → s.sealed ≡ Some entries → AreOf plan (actors.Core i) (length w.requests) entries)
@@ -75,12 +75,12 @@ module _ (image : List ℕ → List ℕ) (plan : PlanState) (is : IsPlan plan) (
       (λ _. cond_both (is_full s.open_items) _ _ (λ row. IsSound plan (at_core w j t (item_taken s row)).world) (λ _. core_sound w j t (item_taken s (s.open_items, answers.Full)) lt range (record { small = old.small; open_items = old.open_items; sealed = old.sealed }) tt sound)
       (λ _. core_sound w j t (item_taken s (s.open_items ++ submitted from item ∷ [], answers.Done)) lt range (record { small = old.small; open_items = are_push plan (actors.Core j) (length w.requests) s.open_items (submitted from item) old.open_items sent; sealed = old.sealed }) tt sound)))
 
-  seal_small : (v : VoteState) (d : List ℕ) → IsSmall v → IsSmall (seal v d)
+  seal_small : (v : VoteState) (d : List ℕ) → IsSmall plan.cores v → IsSmall plan.cores (seal v d)
   unfolding seal
   seal_small v d small = by v.candidate
     where
-      by : (o : Option (List ℕ)) → IsSmall (seal_of o v d)
-      by None = as_small v small (sealed_with v d) refl refl refl
+      by : (o : Option (List ℕ)) → IsSmall plan.cores (seal_of o v d)
+      by None = as_small plan.cores v small (sealed_with v d) refl refl refl
       by (Some c) = small
 
   seal_sound : (w : WorldState) (j t : ℕ) → j < plan.cores → InRange plan t → IsSound plan w → IsSound plan (at_core w j t (seal_row image (w.seconds j t))).world
@@ -96,7 +96,7 @@ module _ (image : List ℕ → List ℕ) (plan : PlanState) (is : IsPlan plan) (
   ballot_sound w j t lt range sound =
       let s = w.seconds j t in
       let old = second_of w j t lt sound in
-      let fine = fine_try s.vote old.small in
+      let fine = fine_try plan.cores s.vote old.small in
       core_sound w j t (ballot_row (core_plan_of plan) t j s) lt range (record { small = fine.0; open_items = old.open_items; sealed = old.sealed }) (fine_told plan is.core_plan j t j (ballot_told (try_ballot s.vote).1) lt fine.1) sound
 
   receive_sound : (w : WorldState) (j t from : ℕ) (m : SynodMessage) → InRange plan t → IsSent plan (actors.Core from) (actors.Core j) (contents.Synod m) → IsSound plan w → IsSound plan (at_core w j t (receive_row (core_plan_of plan) t from m (w.seconds j t))).world
@@ -104,7 +104,7 @@ module _ (image : List ℕ → List ℕ) (plan : PlanState) (is : IsPlan plan) (
   receive_sound w j t from m range sent sound =
       let s = w.seconds j t in
       let old = second_of w j t sent.1 sound in
-      let fine = fine_receive s.vote old.small from m sent.2 in
+      let fine = fine_receive plan.cores s.vote old.small from m (sent.2, sent.3) in
       core_sound w j t (receive_row (core_plan_of plan) t from m s) sent.1 range (record { small = fine.0; open_items = old.open_items; sealed = old.sealed }) (fine_told plan is.core_plan j t from (receive s.vote from m).1 sent.0 fine.1) sound
 
   tell_sound : (w : WorldState) (j t : ℕ) → j < plan.cores → InRange plan t → IsSound plan w → IsSound plan (at_core w j t (tell_row (core_plan_of plan) t j (w.seconds j t))).world
@@ -112,7 +112,7 @@ module _ (image : List ℕ → List ℕ) (plan : PlanState) (is : IsPlan plan) (
   tell_sound w j t lt range sound =
       let s = w.seconds j t in
       let old = second_of w j t lt sound in
-      core_sound w j t (tell_row (core_plan_of plan) t j s) lt range (record { small = old.small; open_items = old.open_items; sealed = old.sealed }) (fine_told plan is.core_plan j t j (held_told s.vote.held) lt (fine_held s.vote.held)) sound
+      core_sound w j t (tell_row (core_plan_of plan) t j s) lt range (record { small = old.small; open_items = old.open_items; sealed = old.sealed }) (fine_told plan is.core_plan j t j (held_told s.vote.held) lt (fine_held plan.cores s.vote.held)) sound
 
   respond_sound : (w : WorldState) (j t : ℕ) (held : Roots) → j < plan.cores → InRange plan t → IsSound plan w → IsSound plan (at_core w j t (respond_row image held plan.start t (w.seconds j t))).world
   unfolding respond_row
@@ -253,7 +253,7 @@ module _ (image : List ℕ → List ℕ) (plan : PlanState) (is : IsPlan plan) (
   happens_sound w (events.Respond j t) at sound = respond_sound w j t (held_in w j) at.0 at.1 sound
   happens_sound w (events.Publish j p) at sound = record { small = sound.small; open_items = sound.open_items; sealed = sound.sealed; rounds = sound.rounds; wire = sound.wire }
   happens_sound w (events.RestartCore j) at sound = record {
-    small = λ i u lt. cond_both (eqb i j) (restart_row (w.seconds i u)) (w.seconds i u) (λ s. IsSmall s.vote) (λ _. as_small (w.seconds i u).vote (sound.small i u lt) (restarted (w.seconds i u).vote) refl refl refl) (λ _. sound.small i u lt);
+    small = λ i u lt. cond_both (eqb i j) (restart_row (w.seconds i u)) (w.seconds i u) (λ s. IsSmall plan.cores s.vote) (λ _. as_small plan.cores (w.seconds i u).vote (sound.small i u lt) (restarted (w.seconds i u).vote) refl refl refl) (λ _. sound.small i u lt);
     open_items = λ i u. cond_both (eqb i j) (restart_row (w.seconds i u)) (w.seconds i u) (λ s. AreOf plan (actors.Core i) (length w.requests) s.open_items) (λ _. tt) (λ _. sound.open_items i u);
     sealed = λ i u. cond_both (eqb i j) (restart_row (w.seconds i u)) (w.seconds i u) (λ s. (entries : List Entry) → s.sealed ≡ Some entries → AreOf plan (actors.Core i) (length w.requests) entries) (λ _. sound.sealed i u) (λ _. sound.sealed i u);
     rounds = sound.rounds;
@@ -275,7 +275,7 @@ module _ (image : List ℕ → List ℕ) (plan : PlanState) (is : IsPlan plan) (
 pub first_sound : (plan : PlanState) → IsPlan plan → IsSound plan (first_world plan)
 unfolding first_world fresh_second fresh_vote
 first_sound plan is = record {
-  small = λ j t lt. record { tried = lit< tt; promised = lit< tt; me = omega (arith, is.core_plan.few, lt) };
+  small = λ j t lt. record { tried = lit< tt; promised = lit< tt; me = omega (arith, is.core_plan.few, lt); there = lt };
   open_items = λ j t. tt;
   sealed = λ j t entries at. absurd (cc at);
   rounds = λ k t. record { open_items = no_round plan (actors.Aggregator k) 0; closed = λ entries at. absurd (cc at) };

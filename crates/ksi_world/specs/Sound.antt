@@ -8,6 +8,7 @@ use Rattle.ksi_aggtree.specs.Rounds.{most_items}
 use Rattle.ksi_aggtree.specs.Entries.{is_from}
 use Rattle.ksi_synod.specs.VoteState.{VoteState}
 use Rattle.ksi_synod.specs.Rows.{OfBallot}
+use Rattle.ksi_corenode.specs.Owners.{NamesOwned}
 use Rattle.ksi_aggregator.specs.Rows.{RoundState}
 use Rattle.ksi_schedule.specs.declared.actor.Actor.{Actor}
 use Rattle.ksi_schedule.specs.declared.actor.Actor.TheVariants as actors
@@ -31,16 +32,18 @@ depth_of plan actor = depth_within plan 8 actor
 abbrev pub IsLow : PlanState → Actor → Item → Type 0
 IsLow plan sender item = item.level + 17 * depth_of plan sender ≤ 153
 
--- the core's ballots are ballots
-pub record IsSmall (v : VoteState) : Type 0 where
+-- the core's ballots are ballots, and it is one of so many cores
+pub record IsSmall (cores : ℕ) (v : VoteState) : Type 0 where
   pub tried : v.tried < 2 ^ 36
   pub promised : v.promised < 2 ^ 36
   pub me : v.me < 16
+  pub there : v.me < cores
 
 -- WHAT IS SENT, by whom and to whom
 
+-- a message of the vote names a ballot of one of the cores, if any
 abbrev pub IsSent : PlanState → (sender addressee : Actor) → Content → Type 0
-IsSent plan (actors.Core from) (actors.Core to) (contents.Synod m) = (from < plan.cores) × (to < plan.cores) × OfBallot m
+IsSent plan (actors.Core from) (actors.Core to) (contents.Synod m) = (from < plan.cores) × (to < plan.cores) × OfBallot m × NamesOwned plan.cores m
 IsSent plan (actors.Aggregator from) to (contents.Submission item) = (from < length plan.parents) × (to ≡ parent_of plan from) × IsLow plan (actors.Aggregator from) item
 IsSent plan sender (actors.Aggregator to) (contents.Response above) = (to < length plan.parents) × (length above.chains ≤ depth_of plan (actors.Aggregator to))
 IsSent plan _ _ _ = ⊥
@@ -76,7 +79,7 @@ pub record IsRoundState (plan : PlanState) (k accepted : ℕ) (r : RoundState) :
   pub closed : (entries : List Entry) → r.closed ≡ Some entries → IsRoundAt plan (actors.Aggregator k) accepted entries
 
 pub record IsSound (plan : PlanState) (w : WorldState) : Type 0 where
-  pub small : (j t : ℕ) → j < plan.cores → IsSmall (w.seconds j t).vote
+  pub small : (j t : ℕ) → j < plan.cores → IsSmall plan.cores (w.seconds j t).vote
   pub open_items : (j t : ℕ) → AreOf plan (actors.Core j) (length w.requests) (w.seconds j t).open_items
   pub sealed : (j t : ℕ) (entries : List Entry) → (w.seconds j t).sealed ≡ Some entries → AreOf plan (actors.Core j) (length w.requests) entries
   pub rounds : (k t : ℕ) → IsRoundState plan k (length w.requests) (w.rounds k t)

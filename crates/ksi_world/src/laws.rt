@@ -25,6 +25,7 @@ ghost use Rattle.ksi_aggtree.specs.Names.{IsName};
 ghost use Rattle.ksi_aggtree.specs.Rounds.{IsRound};
 ghost use Rattle.ksi_corenode.specs.CoreState.{CoreState, state_of, IsTurn};
 ghost use Rattle.ksi_corenode.specs.Events.{core_row, event_second, IsAsked, MayTake};
+ghost use Rattle.ksi_corenode.specs.Owners.{BringsOwned};
 ghost use Rattle.ksi_corenode.specs.declared.event.CoreEvent as asked;
 ghost use Rattle.ksi_corenode.specs.declared.step.Step.{Step};
 ghost use Rattle.ksi_world.specs.Nodes.{core_turn, IsCore};
@@ -267,12 +268,15 @@ pub fn sealed_is_listed()
 }
 
 /// What an event asks of a core it may be asked: the core may take it, and its second is at or after the start and below 2^63.
+/// The ballot that it brings, if any, is of a core of the plan.
 /// A core that keeps what the world keeps of it, and takes that, keeps what the world keeps then. The world's second of the
 /// core is that of its turn, and the turn's messages stand behind all that were sent before; nothing is asked of another core.
 /// An event that asks nothing of a core leaves it, or restarts it.
 pub fn events_are_turns()
     ensures may { (image : List ℕ → List ℕ) (plan : PlanState) (before : List Event) → IsPlan plan → AreEvents plan before → (core : ℕ) (event : Event) (one : asked.CoreEvent) → IsEvent plan event →
         asked_of core (after image plan before).wire event ≡ Some one → (it : CoreState) → it.start ≡ plan.start → MayTake it one × IsAsked it (event_second one) }
+    ensures owned { (image : List ℕ → List ℕ) (plan : PlanState) (before : List Event) → IsPlan plan → AreEvents plan before → (core : ℕ) (event : Event) (one : asked.CoreEvent) →
+        asked_of core (after image plan before).wire event ≡ Some one → BringsOwned plan.cores one }
     ensures row { (image : List ℕ → List ℕ) (plan : PlanState) (w : WorldState) (core : ℕ) (it : CoreState) (one : asked.CoreEvent) → IsCore plan (w.seconds core) core it →
         core_row image it one ≡ core_turn image plan w core one }
     ensures turn { (image : List ℕ → List ℕ) (plan : PlanState) (w : WorldState) (core : ℕ) (event : Event) (one : asked.CoreEvent) (old new : CoreState) (step : Step) → asked_of core w.wire event ≡ Some one →

@@ -3,7 +3,7 @@ use Rattle.ksi_corenode.proofs.laws.facts_one_by_one.Goals as goal
 
 pub returns : goal.returns
 returns c = record {
-  none = λ start k fact is. absurd (cc is);
+  none = λ cores start k fact is. absurd (cc is);
   more = more_lawful;
   before = lawful_before;
   last = last_lawful;

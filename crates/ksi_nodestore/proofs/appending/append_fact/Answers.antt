@@ -16,7 +16,7 @@ returns-clause-kept g c = λ me plan facts is may.
     let file = g.D.Disk.content c.args.log.now.disk in
     let fact = c.args.fact.now in
     let content = c.put_fact.new.record_.content in
-    let lawful = c.facts_one_by_one.ensures.more plan.start facts fact is.file.are.lawful may in
+    let lawful = c.facts_one_by_one.ensures.more plan.cores plan.start facts fact is.file.are.lawful may in
     on_ok c.append.result c.append.ensures.acknowledged
     (λ done. record {
       settled = done.0;
@@ -30,7 +30,7 @@ returns-clause-any_moment g c = λ me plan facts is may.
     let file = g.D.Disk.content log.disk in
     let fact = c.args.fact.now in
     let content = c.put_fact.new.record_.content in
-    let lawful = c.facts_one_by_one.ensures.more plan.start facts fact is.file.are.lawful may in
+    let lawful = c.facts_one_by_one.ensures.more plan.cores plan.start facts fact is.file.are.lawful may in
     leaves_more g.D.Disk.moment g.D.Disk.images_since log.disk c.append.new.self.disk (IsBeforeOrAfter log.from file content) (λ image. IsFileOf me plan facts image ⊎ IsFileOf me plan (facts ++ fact ∷ []) image)
     c.append.ensures.any_moment (λ image either. file_either me plan facts fact content file c.put_fact.ensures.text lawful is.file image (subst (λ (n : ℕ). IsBeforeOrAfter n file content image) is.from either))
 

@@ -17,7 +17,7 @@ returns-in-None-clause-any_moment g c = λ me plan facts is may.
 
 pub returns-in-Some-record_-clause-any_moment : goal.returns-in-Some-record_-clause-any_moment
 returns-in-Some-record_-clause-any_moment g c = λ me plan facts is may.
-    subst (λ (f : Option Fact). IfSome f (λ fact. IsLawful plan.start (stored_by facts fact.second) fact) → LeavesOnly g.D.Disk.moment g.D.Disk.images_since c.args.log.now.disk c.append_fact.new.log.disk (IsFileBeforeOrAfter me plan facts f))
+    subst (λ (f : Option Fact). IfSome f (λ fact. IsLawful plan.cores plan.start (stored_by facts fact.second) fact) → LeavesOnly g.D.Disk.moment g.D.Disk.images_since c.args.log.now.disk c.append_fact.new.log.disk (IsFileBeforeOrAfter me plan facts f))
     (sym c.in-Some.is) (λ lawful. c.append_fact.ensures.any_moment me plan facts is lawful) may
 
 pub returns-in-None-clause-kept : goal.returns-in-None-clause-kept
@@ -26,7 +26,7 @@ returns-in-None-clause-kept g c = λ me plan facts is may.
 
 pub returns-in-Some-record_-clause-kept : goal.returns-in-Some-record_-clause-kept
 returns-in-Some-record_-clause-kept g c = λ me plan facts is may.
-    subst (λ (f : Option Fact). IfSome f (λ fact. IsLawful plan.start (stored_by facts fact.second) fact) → OnOk c.append_fact.result (HasKept g.D.Disk.content g.D.Disk.images me plan facts f c.args.log.now c.append_fact.new.log)) (sym c.in-Some.is)
+    subst (λ (f : Option Fact). IfSome f (λ fact. IsLawful plan.cores plan.start (stored_by facts fact.second) fact) → OnOk c.append_fact.result (HasKept g.D.Disk.content g.D.Disk.images me plan facts f c.args.log.now c.append_fact.new.log)) (sym c.in-Some.is)
     (λ lawful. on_both c.append_fact.result (c.append_fact.ensures.kept me plan facts is lawful) (λ file_is. c.append_fact.ensures.exact me plan facts is file_is) (λ log exact. record { log = log; exact = exact })) may
 
 pub returns-in-Some-record_-clause-sure : goal.returns-in-Some-record_-clause-sure

@@ -5,7 +5,7 @@ use Rattle.ksi_nodestore.proofs.folding.fold_records.Goals as goal
 
 pub folding-init : goal.folding-init
 folding-init g c = record {
-  so_far = ([], record { texts = tt; lawful = c.facts_one_by_one.ensures.none c.args.plan.now.start }, c.one_core_of_facts.ensures.none g.C.Compress.image c.args.me c.args.plan.now c.new-core.result c.new-core.ensures.me c.new-core.ensures.plan c.new-core.ensures.start c.new-core.ensures.seconds);
+  so_far = ([], record { texts = tt; lawful = c.facts_one_by_one.ensures.none c.args.plan.now.cores c.args.plan.now.start }, c.one_core_of_facts.ensures.none g.C.Compress.image c.args.me c.args.plan.now c.new-core.result c.new-core.ensures.me c.new-core.ensures.plan c.new-core.ensures.start c.new-core.ensures.seconds);
   here = refl;
 }
 
@@ -17,7 +17,7 @@ returns-then-not-branch g c =
     let is : content ≡ get_or records k content = subst (λ (x : List ℕ). x ≡ get_or records k x) (sym c.as_slice-content.ensures) c.index-records-k.is in
     let of = c.folding.invariant.so_far in
     let none = subst (λ (b : Bool). GoesOn g.C.Compress.image c.args.me c.args.plan.now of.0 content c.fold_record.new.core b) c.if-not-branch.true (c.in_ok-fold_record.ensures c.args.me c.args.plan.now of.0 of.1.lawful of.2) in
-    fault_here c.args.plan.now.start of.0 records k c.folding.place content (omega arith) is c.folding.invariant.here of.1 none
+    fault_here c.args.plan.now.cores c.args.plan.now.start of.0 records k c.folding.place content (omega arith) is c.folding.invariant.here of.1 none
 
 pub overflow_add-place-in-folding : goal.overflow_add-place-in-folding
 overflow_add-place-in-folding g c =

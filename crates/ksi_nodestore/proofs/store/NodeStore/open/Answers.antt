@@ -13,7 +13,8 @@ invariant_of-result g c = λ fresh.
     let file : IsFileOf me plan facts (content c.args.disk) = record { gate = c.in-Ok.found.gate; head = found.head; are = found.folded.1; closed = found.closed } in
     let few = c.cores.ensures.limits.few in
     let below : me < 9 = omega arith in
-    let has = c.one_core_of_facts.ensures.has g.C.Compress.image me plan facts c.in-Ok.found.core below found.folded.1.lawful found.folded.2 in (
+    let there : me < plan.cores = omega arith in
+    let has = c.one_core_of_facts.ensures.has g.C.Compress.image me plan facts c.in-Ok.found.core below there found.folded.1.lawful found.folded.2 in (
       me,
       plan,
       facts,
@@ -31,7 +32,8 @@ returns-in-Ok-clause-opens g c =
     let file : IsFileOf me plan facts (content c.args.disk) = record { gate = c.in-Ok.found.gate; head = found.head; are = found.folded.1; closed = found.closed } in
     let few = c.cores.ensures.limits.few in
     let below : me < 9 = omega arith in
-    let has = c.one_core_of_facts.ensures.has g.C.Compress.image me plan facts c.in-Ok.found.core below found.folded.1.lawful found.folded.2 in (
+    let there : me < plan.cores = omega arith in
+    let has = c.one_core_of_facts.ensures.has g.C.Compress.image me plan facts c.in-Ok.found.core below there found.folded.1.lawful found.folded.2 in (
       facts,
       file,
       found.folded.2,
