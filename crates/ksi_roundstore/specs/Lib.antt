@@ -5,3 +5,5 @@ pub mod StoreState
 pub mod Refusals
 pub mod Opens
 pub mod Takes
+pub mod Written
+pub mod Stores

@@ -22,6 +22,7 @@ mod formatting;
 mod found;
 mod heading;
 mod heads;
+pub mod laws;
 mod numbers;
 mod opening;
 mod reading;
