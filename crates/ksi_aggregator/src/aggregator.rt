@@ -9,7 +9,7 @@ ghost use Rattle.ksi_aggregator.specs.Issuing.{IsIssued, NotIssued};
 use crate::place::Place;
 use crate::rounds::Rounds;
 use crate::step::Step;
-use ksi_aggtree::{Item, Name};
+use ksi_aggtree::{Entry, Item, Name};
 use ksi_imprint::{Bytes, Compress, Imprint, NoMemory};
 use ksi_signature::{Above, Answer};
 use std::alloc::Global;
@@ -72,6 +72,16 @@ impl<C: Compress> Aggregator<C> {
         ensures { result ≡ length (items_in (rounds_of self.now second)) }
     {
         self.rounds.count(second)
+    }
+
+    /// The items of the round of a second, if it is not closed; else none. They are those that a closing stores.
+    ///
+    /// # Errors
+    /// `NoMemory`.
+    pub fn open_items(&self, second: u64) -> Result<Vec<Entry>, NoMemory>
+        ensures { IfOk result (λ items. items.items ≡ (rounds_of self.now second).open_items) }
+    {
+        self.rounds.open_items(second)
     }
 
     /// Whether an item of a lower aggregator stands in the round of a second. A response to it then has at most 7 chains.

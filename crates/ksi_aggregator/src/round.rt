@@ -65,6 +65,17 @@ impl<C: Compress> Round<C> {
         self.entries.count()
     }
 
+    /// The items, if the round is not closed; else none.
+    pub(crate) fn open_items(&self, alloc: Global) -> Result<Vec<Entry>, NoMemory>
+        ensures { IfOk result (λ items. items.items ≡ self.now.open_items) }
+    {
+        if self.is_closed {
+            Ok(Vec::new(alloc))
+        } else {
+            self.entries.to_vec()
+        }
+    }
+
     /// Whether an item of a lower aggregator is there.
     pub(crate) fn has_lower(&self) -> bool
         ensures { result ≡ has_lower (items_in self.now) }

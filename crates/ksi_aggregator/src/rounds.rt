@@ -10,7 +10,7 @@ ghost use Rattle.ksi_aggregator.specs.Issuing.{IsIssuedAt, NotIssuedAt};
 
 use crate::round::Round;
 use crate::step::Step;
-use ksi_aggtree::{Item, Name};
+use ksi_aggtree::{Entry, Item, Name};
 use ksi_imprint::{Bytes, Compress, Imprint, NoMemory};
 use ksi_signature::{Above, Answer};
 use std::alloc::Global;
@@ -50,6 +50,16 @@ impl<C: Compress> Rounds<C> {
         match self.map.get(&second) {
             Some(round) => round.count(),
             None => 0,
+        }
+    }
+
+    /// The items of the round of a second, if it is not closed; else none.
+    pub(crate) fn open_items(&self, second: u64) -> Result<Vec<Entry>, NoMemory>
+        ensures { IfOk result (λ items. items.items ≡ (round_at self.now second).open_items) }
+    {
+        match self.map.get(&second) {
+            Some(round) => round.open_items(self.alloc),
+            None => Ok(Vec::new(self.alloc)),
         }
     }
 

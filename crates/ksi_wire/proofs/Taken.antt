@@ -25,7 +25,7 @@ use Rattle.ksi_corenode.specs.declared.event.CoreEvent.{CoreEvent}
 use Rattle.ksi_corenode.specs.declared.event.CoreEvent.TheVariants as events
 use Rattle.ksi_wire.specs.declared.fault.WireFault.{WireFault}
 use Rattle.ksi_wire.specs.declared.event.ShortEvent.TheVariants as shorts
-use Rattle.ksi_wire.specs.declared.event.RoundEvent.TheVariants as rounds
+use Rattle.ksi_aggregator.specs.declared.event.RoundEvent.TheVariants as rounds
 use Rattle.ksi_wire.specs.declared.event.AggregatorLine.{AggregatorLine}
 use Rattle.ksi_wire.specs.declared.event.AggregatorLine.TheVariants as lines
 use Rattle.ksi_wire.specs.Lines.{item_words, cast_words, vote_words, core_words}

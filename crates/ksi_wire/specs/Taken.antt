@@ -14,8 +14,8 @@ use Rattle.ksi_synod.specs.declared.messages.SynodMessage.{SynodMessage}
 use Rattle.ksi_synod.specs.declared.messages.SynodMessage.TheVariants as votes
 use Rattle.ksi_corenode.specs.declared.event.CoreEvent.{CoreEvent}
 use Rattle.ksi_corenode.specs.declared.event.CoreEvent.TheVariants as events
-use Rattle.ksi_wire.specs.declared.event.RoundEvent.{RoundEvent}
-use Rattle.ksi_wire.specs.declared.event.RoundEvent.TheVariants as rounds
+use Rattle.ksi_aggregator.specs.declared.event.RoundEvent.{RoundEvent}
+use Rattle.ksi_aggregator.specs.declared.event.RoundEvent.TheVariants as rounds
 use Rattle.ksi_wire.specs.declared.event.AggregatorLine.{AggregatorLine}
 use Rattle.ksi_wire.specs.declared.event.AggregatorLine.TheVariants as lines
 

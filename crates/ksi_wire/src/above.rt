@@ -2,7 +2,11 @@
 ghost use Rattle.std.specs.Prelude.{◌≡◌, ◌⊎◌, ◌<◌, ◌≤◌, ◌^◌, ◌∷◌, [], length, IsTrue, IfOk, IfSome};
 ghost use Rattle.std.specs.List.{AllByRecursion};
 ghost use Rattle.ksi_signature.specs.Above.{AreRoundLinks, IsNode, IsNameLink};
-ghost use Rattle.ksi_wire.specs.Responses.{above_text, input_of};
+ghost use Rattle.ksi_signature.specs.File.{IsSignature};
+ghost use Rattle.ksi_signature.specs.Issued.{issued};
+ghost use Rattle.ksi_signature.specs.Written.{signature_text};
+ghost use Rattle.ksi_tlv.specs.Spelling.{AreBytes};
+ghost use Rattle.ksi_wire.specs.Responses.{above_text, input_of, IsTold};
 
 use crate::fault::WireFault;
 use hex::FromHexError;
@@ -27,13 +31,21 @@ fn input_of(above: &Above) -> Imprint
 /// The word for the chains above a round of a second.
 pub fn above_text(alloc: Global, second: u64, above: &Above) -> Result<Bytes, NoMemory>
     requires { second < 2 ^ 63 }
-    ensures { IfOk result (λ text. text ≡ above_text second above.now) }
+    ensures text { IfOk result (λ text. text ≡ above_text second above.now) }
+    ensures bytes { IfOk result (λ text. AreBytes (signature_text (issued second (input_of above.now) [] above.now))) }
+    ensures again { IfOk result (λ text. IsSignature (signature_text (issued second (input_of above.now) [] above.now)) (issued second (input_of above.now) [] above.now)) }
 {
     let input = input_of(above);
     let bytes = issue(alloc, second, &input, &[], above)?;
+    are_bytes(bytes.as_slice());
     let text = hex::encode(alloc, bytes.as_slice())?;
     Ok(Bytes::from_vec(text.into_bytes()))
 }
+
+/// The members of a slice of bytes are bytes. It does nothing.
+fn are_bytes(bytes: &[u8])
+    ensures { AreBytes bytes.now }
+{}
 
 /// The chains above a round of a second, read from their word.
 ///
@@ -43,6 +55,7 @@ pub fn read_above(alloc: Global, second: u64, text: &[u8]) -> Result<Above, Refu
     requires { second < 2 ^ 63 }
     ensures text { IfOk result (λ above. text.now ≡ above_text second above) }
     ensures chains { IfOk result (λ above. length above.chains ≤ 7) }
+    ensures told { IfOk result (IsTold second) }
 {
     let bytes = decoded(alloc, text)?;
     let signature = signature_of(alloc, &bytes)?;

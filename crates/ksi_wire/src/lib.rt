@@ -33,7 +33,7 @@ mod votes;
 pub use above::{above_text, read_above};
 pub use answers::put_answer;
 pub use core_lines::core_event;
-pub use event::{AggregatorLine, RoundEvent};
+pub use event::AggregatorLine;
 pub use fault::WireFault;
 pub use limits::MOST_LINE;
 pub use printing::{put_core_event, put_response, put_round_event};

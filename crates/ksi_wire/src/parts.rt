@@ -3,6 +3,7 @@ ghost use Rattle.std.specs.Prelude.{◌≡◌, ◌≤◌, ◌<◌, ◌^◌, leng
 ghost use Rattle.ksi_synod.specs.Ballots.{IsBallot};
 ghost use Rattle.ksi_corenode.specs.Owners.{IsOwned};
 ghost use Rattle.ksi_aggtree.specs.Rounds.{leaf_level, highest_item};
+ghost use Rattle.ksi_schedule.specs.Plans.{InRange};
 ghost use Rattle.ksi_schedule.specs.Reading.{words_left};
 ghost use Rattle.ksi_wire.specs.Asked.{second_in, core_in, lower_in, is_same, is_same_name, ballot_in, name_in, item_in, Reads};
 
@@ -18,6 +19,7 @@ pub(crate) fn second(plan: &Plan, words: &mut Words<'_>) -> Result<u64, WireFaul
     ensures read { Reads (second_in plan.now (words_left words.old.left)) result (words_left words.new.left) }
     ensures after { IfOk result (λ t. plan.now.start ≤ t) }
     ensures early { IfOk result (λ t. t < 2 ^ 63) }
+    ensures within { IfOk result (InRange plan.now) }
 {
     let n = words.number()?;
     let start = plan.core_plan().start();

@@ -2,13 +2,15 @@
 ghost use Rattle.std.specs.Prelude.{◌≡◌, ◌<◌, ◌^◌, ◌++◌, ◌∷◌, [], codes, OnOk};
 ghost use Rattle.std.specs.Fmt.{decimal};
 ghost use Rattle.ksi_schedule.specs.Printed.{hex_of, name_words, spaced, line_of};
-ghost use Rattle.ksi_wire.specs.RoundLines.{round_second, round_words, short};
+ghost use Rattle.ksi_aggregator.specs.Events.{event_second};
+ghost use Rattle.ksi_wire.specs.RoundLines.{round_words, short};
 ghost use Rattle.ksi_wire.specs.Responses.{above_text};
 ghost use Rattle.ksi_wire.specs.Lines.{core_words, vote_words, last_words, item_words};
 
 use crate::above::above_text;
-use crate::event::{RoundEvent, ShortEvent};
+use crate::event::ShortEvent;
 use itoa::Buffer;
+use ksi_aggregator::RoundEvent;
 use ksi_aggtree::{Item, Name};
 use ksi_corenode::CoreEvent;
 use ksi_imprint::{Imprint, NoMemory};
@@ -140,7 +142,7 @@ pub fn put_round_event(
     text: &mut Vec<u8>,
     event: &RoundEvent,
 ) -> Result<(), NoMemory>
-    requires { round_second event.now < 2 ^ 63 }
+    requires { event_second event.now < 2 ^ 63 }
     ensures { OnOk result (text.new.items ≡ text.old.items ++ line_of (round_words event.now)) }
 {
     match event {

@@ -1,18 +1,20 @@
 // The lines to an aggregator.
 ghost use Rattle.std.specs.Prelude.{◌≡◌, false, Ok, IfOk};
 ghost use Rattle.ksi_schedule.specs.Pieces.{words};
+ghost use Rattle.ksi_schedule.specs.Plans.{PlanState};
 ghost use Rattle.ksi_schedule.specs.Printed.{line_of};
 ghost use Rattle.ksi_schedule.specs.Reading.{words_left};
-ghost use Rattle.ksi_wire.specs.RoundLines.{round_words, asked_words, short, FitsRound, MayBeTaken};
+ghost use Rattle.ksi_wire.specs.RoundLines.{round_words, asked_words, short, FitsRound, IsToldIn, MayBeTaken};
 ghost use Rattle.ksi_wire.specs.Asked.{short_in, if_spelled, Answers, Reads};
 ghost use Rattle.ksi_wire.specs.AskedRounds.{aggregator_line_of, event_in, is_response, sign_in};
 
 use crate::above::read_above;
 use crate::cursor::{Words, is};
-use crate::event::{AggregatorLine, RoundEvent, ShortEvent};
+use crate::event::{AggregatorLine, ShortEvent};
 use crate::fault::WireFault;
 use crate::parts::{item, lower, name, second};
 use crate::printing::{put_of_second, put_short, put_sign, put_word};
+use ksi_aggregator::RoundEvent;
 use ksi_imprint::Refused;
 use ksi_schedule::{Actor, Plan};
 use std::alloc::Global;
@@ -33,6 +35,7 @@ pub fn aggregator_line(
     ensures exact { is_response (words line.now) ≡ false → Answers (aggregator_line_of plan.now me line.now) result }
     ensures text { IfOk result (λ told. line.now ≡ line_of (asked_words told)) }
     ensures may { IfOk result MayBeTaken }
+    ensures told { IfOk result (IsToldIn plan.now) }
 {
     let mut words = Words::new(line);
     let kind = match words.next_word() {
@@ -53,6 +56,7 @@ fn sign(alloc: Global, line: &[u8], words: Words<'_>) -> Result<AggregatorLine, 
     ensures exact { Answers (if_spelled asked_words line.now (sign_in (words_left words.entry.left))) result }
     ensures text { IfOk result (λ told. line.now ≡ line_of (asked_words told)) }
     ensures may { IfOk result MayBeTaken }
+    ensures told { (plan : PlanState) → IfOk result (IsToldIn plan) }
 {
     let mut words = words;
     let number = match words.number() {
@@ -80,6 +84,7 @@ fn event(
     ensures exact { Answers (if_spelled asked_words line.now (event_in plan.now me kind.now (words_left words.entry.left))) result }
     ensures text { IfOk result (λ told. line.now ≡ line_of (asked_words told)) }
     ensures may { IfOk result MayBeTaken }
+    ensures told { IfOk result (IsToldIn plan.now) }
 {
     let mut words = words;
     let event = match short_event(plan, me, kind, &mut words) {
@@ -144,6 +149,7 @@ fn response(
 ) -> Result<AggregatorLine, Refused<WireFault>>
     ensures text { IfOk result (λ told. line.now ≡ line_of (asked_words told)) }
     ensures may { IfOk result MayBeTaken }
+    ensures told { IfOk result (IsToldIn plan.now) }
 {
     let mut words = words;
     let second = or_refused(second(plan, &mut words))?;

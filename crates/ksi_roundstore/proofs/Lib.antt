@@ -1,0 +1,5 @@
+pub mod Rows
+pub mod Along
+pub mod Kept
+pub mod Cut
+pub mod Spelled

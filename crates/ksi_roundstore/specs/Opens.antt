@@ -1,0 +1,103 @@
+-- What the opening of an aggregator's file answers.
+use Rattle.std.specs.Prelude.{◌≡◌, ℕ, ◌+◌, ◌<◌, ◌^◌, List, length, take, Option, Some, None, Result, Ok, Err}
+use Rattle.ksi_ports.specs.Outside.{Raises}
+use Rattle.ksi_aggregator.specs.Rounds.{AggregatorState}
+use Rattle.ksi_gates.specs.declared.ending.Ending.TheVariants as ending
+use Rattle.ksi_gates.specs.Gates.{reading_of}
+use Rattle.ksi_roundstore.specs.declared.refusal.OpenRefusal.{OpenRefusal}
+use Rattle.ksi_roundstore.specs.declared.refusal.OpenRefusal.TheVariants.{Failed, NotFormatted, Foreign, Malformed, NoMemory}
+use Rattle.ksi_roundstore.specs.declared.found.Found.{Found}
+use Rattle.ksi_roundstore.specs.Headers.{header_at}
+use Rattle.ksi_roundstore.specs.StoreState.{StoreState, IsStored, records_in}
+
+-- the header is that of aggregator me of a plan with this start, or none, or another one
+abbrev pub HeadsAs : (me start : ℕ) → List ℕ → Result Unit OpenRefusal → Type 0
+HeadsAs me start file (Ok done) = header_at (take 20 file) ≡ Some (record { aggregator = me; start = start })
+HeadsAs me start file (Err Failed) = Unit {0}
+HeadsAs me start file (Err NotFormatted) = header_at (take 20 file) ≡ None
+HeadsAs me start file (Err (Foreign aggregator first)) =
+    (header_at (take 20 file) ≡ Some (record { aggregator = aggregator; start = first })) × ((aggregator ≡ me) → (first ≡ start) → ⊥)
+HeadsAs me start file (Err (Malformed place)) = ⊥
+HeadsAs me start file (Err NoMemory) = ⊥
+
+-- the count of faults after reads: it rises where the disk failed, and stays else
+abbrev pub CountsReads : {T : Type 0} → ℕ → ℕ → Result T OpenRefusal → Type 0
+CountsReads before now (Ok value) = now ≡ before
+CountsReads before now (Err Failed) = Raises before now
+CountsReads before now (Err NotFormatted) = now ≡ before
+CountsReads before now (Err (Foreign aggregator start)) = now ≡ before
+CountsReads before now (Err (Malformed place)) = now ≡ before
+CountsReads before now (Err NoMemory) = now ≡ before
+
+-- what is read stays, where no call of the disk failed and memory was not wanting
+abbrev pub StaysRead : {T : Type 0} → (before now : List ℕ) → Result T OpenRefusal → Type 0
+StaysRead before now (Ok value) = now ≡ before
+StaysRead before now (Err Failed) = Unit {0}
+StaysRead before now (Err NotFormatted) = now ≡ before
+StaysRead before now (Err (Foreign aggregator start)) = now ≡ before
+StaysRead before now (Err (Malformed place)) = now ≡ before
+StaysRead before now (Err NoMemory) = Unit {0}
+
+-- the aggregator of the records of a file
+abbrev pub FoldsAs : (me : ℕ) → Result AggregatorState OpenRefusal → Type 0
+FoldsAs me (Ok aggregator) = aggregator.me ≡ me
+FoldsAs me (Err Failed) = ⊥
+FoldsAs me (Err NotFormatted) = ⊥
+FoldsAs me (Err (Foreign aggregator start)) = ⊥
+FoldsAs me (Err (Malformed place)) = Unit {0}
+FoldsAs me (Err NoMemory) = Unit {0}
+
+-- what was found in a file of aggregator me of a plan: the gate behind its records, and how many there are
+pub record IsFoundIn {C : Type 0} (me start : ℕ) (file : List ℕ) (found : Found C) : Type 0 where
+  pub head : header_at (take 20 file) ≡ Some (record { aggregator = me; start = start })
+  pub mine : found.aggregator.me ≡ me
+  pub closed : (reading_of 20 file).ending ≡ ending.Closed found.gate
+  pub within : found.gate + 1 < 2 ^ 64
+  pub counted : found.records ≡ length (records_in file)
+
+abbrev pub FindsAs : {C : Type 0} → (me start : ℕ) → List ℕ → Result (Found C) OpenRefusal → Type 0
+FindsAs me start file (Ok found) = IsFoundIn me start file found
+FindsAs me start file (Err refusal) = Unit {0}
+
+-- THE STORE
+
+-- a file was opened: its header is that of aggregator me of the plan, and the store has it
+pub record IsOpened {D : Type 0} (content : D → List ℕ) (images : D → List ℕ → Type 0) (me start : ℕ) (file : List ℕ) (store : StoreState D) : Type 0 where
+  pub head : header_at (take 20 file) ≡ Some (record { aggregator = me; start = start })
+  pub mine : store.aggregator.me ≡ me
+  pub stored : IsStored content images store
+
+abbrev pub OpensAs : {D : Type 0} → (content : D → List ℕ) (images : D → List ℕ → Type 0) → (me start : ℕ) → List ℕ → Result (StoreState D) (OpenRefusal × D) → Type 0
+OpensAs content images me start file (Ok store) = IsOpened content images me start file store
+OpensAs content images me start file (Err refused) = Unit {0}
+
+-- the disk, in the store or handed back
+abbrev pub disk_after : {D : Type 0} → Result (StoreState D) (OpenRefusal × D) → D
+disk_after (Ok store) = store.log.disk
+disk_after (Err refused) = refused.1
+
+-- the count of faults after an opening: it rises where the disk failed, and stays else
+abbrev pub OpenCounts : {D : Type 0} → ℕ → (D → ℕ) → Result (StoreState D) (OpenRefusal × D) → Type 0
+OpenCounts before faults (Ok store) = faults store.log.disk ≡ before
+OpenCounts before faults (Err (Failed, disk)) = Raises before (faults disk)
+OpenCounts before faults (Err (NotFormatted, disk)) = faults disk ≡ before
+OpenCounts before faults (Err (Foreign aggregator start, disk)) = faults disk ≡ before
+OpenCounts before faults (Err (Malformed place, disk)) = faults disk ≡ before
+OpenCounts before faults (Err (NoMemory, disk)) = faults disk ≡ before
+
+-- the disk's content stays: in the store, and where the refusal is of the file
+abbrev pub StaysOpened : {D : Type 0} → (content : D → List ℕ) → List ℕ → Result (StoreState D) (OpenRefusal × D) → Type 0
+StaysOpened content file (Ok store) = content store.log.disk ≡ file
+StaysOpened content file (Err (Failed, disk)) = Unit {0}
+StaysOpened content file (Err (NotFormatted, disk)) = content disk ≡ file
+StaysOpened content file (Err (Foreign aggregator start, disk)) = content disk ≡ file
+StaysOpened content file (Err (Malformed place, disk)) = content disk ≡ file
+StaysOpened content file (Err (NoMemory, disk)) = Unit {0}
+
+abbrev pub HasNotFailed : {D : Type 0} → Result (StoreState D) (OpenRefusal × D) → Type 0
+HasNotFailed (Ok store) = Unit {0}
+HasNotFailed (Err (Failed, disk)) = ⊥
+HasNotFailed (Err (NotFormatted, disk)) = Unit {0}
+HasNotFailed (Err (Foreign aggregator start, disk)) = Unit {0}
+HasNotFailed (Err (Malformed place, disk)) = Unit {0}
+HasNotFailed (Err (NoMemory, disk)) = Unit {0}

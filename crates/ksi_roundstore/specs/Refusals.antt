@@ -1,0 +1,9 @@
+-- The refusal of a reading as one of an opening.
+use Rattle.ksi_gates.specs.declared.refusal.ReadRefusal.{ReadRefusal}
+use Rattle.ksi_gates.specs.declared.refusal.ReadRefusal.TheVariants as read
+use Rattle.ksi_roundstore.specs.declared.refusal.OpenRefusal.{OpenRefusal}
+use Rattle.ksi_roundstore.specs.declared.refusal.OpenRefusal.TheVariants as open_refusal
+
+abbrev pub as_refusal : ReadRefusal → OpenRefusal
+as_refusal read.Failed = open_refusal.Failed
+as_refusal read.NoMemory = open_refusal.NoMemory

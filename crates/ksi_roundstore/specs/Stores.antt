@@ -1,0 +1,38 @@
+-- What an aggregator's file says: the facts of an aggregator. And the store of one.
+use Rattle.std.specs.Prelude.{◌≡◌, ◌⊎◌, ℕ, List, length, take, Option, Some}
+use Rattle.std.specs.List.{AllByRecursion}
+use Rattle.ksi_schedule.specs.Plans.{PlanState}
+use Rattle.ksi_aggregator.specs.declared.fact.Fact.{Fact}
+use Rattle.ksi_aggregator.specs.Rounds.{rounds_of}
+use Rattle.ksi_roundfacts.specs.Lawful.{AreLawful, with_new}
+use Rattle.ksi_roundfacts.specs.Restored.{HasFacts}
+use Rattle.ksi_gates.specs.declared.ending.Ending.TheVariants as ending
+use Rattle.ksi_gates.specs.Gates.{reading_of}
+use Rattle.ksi_gates.specs.Logs.{IsSettled}
+use Rattle.ksi_roundstore.specs.Headers.{header_at}
+use Rattle.ksi_roundstore.specs.StoreState.{StoreState, records_in}
+use Rattle.ksi_roundstore.specs.Texts.{event_of}
+use Rattle.ksi_roundstore.specs.Written.{AreTexts, IsWritten}
+
+-- the file of aggregator me of a plan, with these facts in its records, up to a closed gate; what stands behind that does not
+-- count
+pub record IsFileOf (me : ℕ) (plan : PlanState) (facts : List Fact) (file : List ℕ) : Type 0 where
+  pub gate : ℕ
+  pub head : header_at (take 20 file) ≡ Some (record { aggregator = me; start = plan.start })
+  pub texts : AreTexts plan me facts (records_in file)
+  pub lawful : AreLawful facts
+  pub closed : (reading_of 20 file).ending ≡ ending.Closed gate
+
+-- a file of these facts, with one more or without it
+abbrev pub IsFileBeforeOrAfter : (me : ℕ) → PlanState → List Fact → Option Fact → List ℕ → Type 0
+IsFileBeforeOrAfter me plan facts more file = IsFileOf me plan facts file ⊎ IsFileOf me plan (with_new facts more) file
+
+-- The store of aggregator me of a plan with these facts: they are in the file, which is on the disk for good, and the
+-- aggregator has stored them and no others. Each open item came by an event that its line says again.
+pub record IsStoreOf {D : Type 0} (content : D → List ℕ) (images : D → List ℕ → Type 0) (me : ℕ) (plan : PlanState) (facts : List Fact) (store : StoreState D) : Type 0 where
+  pub mine : store.aggregator.me ≡ me
+  pub has : HasFacts facts (rounds_of store.aggregator)
+  pub items : (t : ℕ) → AllByRecursion (λ entry. IsWritten plan me (event_of t entry)) (rounds_of store.aggregator t).open_items
+  pub settled : IsSettled content images store.log
+  pub from : store.log.from ≡ 20
+  pub file : IsFileOf me plan facts (content store.log.disk)

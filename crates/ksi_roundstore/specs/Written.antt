@@ -1,0 +1,73 @@
+-- Which events have a line that is read again, and which facts a text.
+use Rattle.std.specs.Prelude.{◌≡◌, ℕ, ◌<◌, ◌^◌, ◌==◌, false, List, [], ◌∷◌, ◌++◌, map, Ok}
+use Rattle.std.specs.List.{AllByRecursion}
+use Rattle.ksi_aggtree.specs.declared.entries.Entry.{Entry}
+use Rattle.ksi_aggtree.specs.declared.entries.Origin.{Origin}
+use Rattle.ksi_aggtree.specs.declared.entries.Origin.TheVariants as origins
+use Rattle.ksi_aggtree.specs.declared.item.Item.{Item}
+use Rattle.ksi_aggregator.specs.declared.event.RoundEvent.{RoundEvent}
+use Rattle.ksi_aggregator.specs.declared.event.RoundEvent.TheVariants as events
+use Rattle.ksi_aggregator.specs.declared.fact.Fact.{Fact}
+use Rattle.ksi_aggregator.specs.declared.fact.RoundFact.{RoundFact}
+use Rattle.ksi_aggregator.specs.declared.fact.RoundFact.TheVariants.{Closed, Answered}
+use Rattle.ksi_schedule.specs.Pieces.{Text}
+use Rattle.ksi_schedule.specs.Plans.{PlanState, InRange}
+use Rattle.ksi_schedule.specs.Printed.{line_of}
+use Rattle.ksi_wire.specs.declared.event.AggregatorLine.TheVariants as lines
+use Rattle.ksi_wire.specs.AskedRounds.{aggregator_line_of}
+use Rattle.ksi_wire.specs.Responses.{IsTold}
+use Rattle.ksi_wire.specs.RoundLines.{FitsRound, round_words}
+use Rattle.ksi_roundstore.specs.Texts.{event_of, fact_text}
+
+-- a text without a line feed
+abbrev pub IsLine : Text → Type 0
+IsLine [] = Unit {0}
+IsLine (b ∷ text) = ((b == 10) ≡ false) × IsLine text
+
+-- the line of an event asks aggregator me of a plan for it; a response is of a second of the plan, and can be told
+abbrev pub IsAskedBy : PlanState → (me : ℕ) → RoundEvent → Type 0
+IsAskedBy plan me (events.Request number second imprint name) =
+    aggregator_line_of plan me (line_of (round_words (events.Request number second imprint name))) ≡ Ok (lines.Event (events.Request number second imprint name))
+IsAskedBy plan me (events.Submission from second item) =
+    aggregator_line_of plan me (line_of (round_words (events.Submission from second item))) ≡ Ok (lines.Event (events.Submission from second item))
+IsAskedBy plan me (events.Close second) =
+    aggregator_line_of plan me (line_of (round_words (events.Close second))) ≡ Ok (lines.Event (events.Close second))
+IsAskedBy plan me (events.Response second above) = InRange plan second × IsTold second above
+
+-- an event to aggregator me of a plan that its line says again
+pub record IsWritten (plan : PlanState) (me : ℕ) (event : RoundEvent) : Type 0 where
+  pub line : IsLine (line_of (round_words event))
+  pub fits : FitsRound event
+  pub asked : IsAskedBy plan me event
+
+-- the events that make a fact: those of a round's items and its closing, or that of its response
+abbrev pub what_events : (second : ℕ) → RoundFact → List RoundEvent
+what_events second (Closed items) = map (event_of second) items ++ events.Close second ∷ []
+what_events second (Answered above) = events.Response second above ∷ []
+
+abbrev pub fact_events : Fact → List RoundEvent
+fact_events fact = what_events fact.second fact.what
+
+-- the content is the text of a fact, whose events are written
+pub record IsTextOf (plan : PlanState) (me : ℕ) (fact : Fact) (content : List ℕ) : Type 0 where
+  pub written : AllByRecursion (IsWritten plan me) (fact_events fact)
+  pub text : content ≡ fact_text fact
+
+-- each record is the text of the fact at its place
+abbrev pub AreTexts : PlanState → (me : ℕ) → List Fact → List (List ℕ) → Type 0
+AreTexts plan me [] [] = Unit {0}
+AreTexts plan me [] (content ∷ contents) = ⊥
+AreTexts plan me (fact ∷ facts) [] = ⊥
+AreTexts plan me (fact ∷ facts) (content ∷ contents) = IsTextOf plan me fact content × AreTexts plan me facts contents
+
+-- an item of a request has level 0: its line says no level
+abbrev pub IsPlainItem : Origin → Item → Type 0
+IsPlainItem (origins.Request number) item = item.level ≡ 0
+IsPlainItem (origins.Aggregator from) item = Unit {0}
+
+abbrev pub IsPlainEntry : Entry → Type 0
+IsPlainEntry entry = IsPlainItem entry.origin entry.item
+
+abbrev pub IsPlain : RoundFact → Type 0
+IsPlain (Closed items) = AllByRecursion IsPlainEntry items
+IsPlain (Answered above) = Unit {0}

@@ -1,0 +1,67 @@
+// The events whose lines a text is.
+ghost use Rattle.std.specs.Prelude.{◌≡◌, ◌∷◌, ◌++◌, IfOk, IfSome};
+ghost use Rattle.std.specs.List.{AllByRecursion};
+ghost use Rattle.ksi_wire.specs.RoundLines.{FitsRound};
+
+use ksi_aggregator::RoundEvent;
+use ksi_imprint::{NoMemory, Refused};
+use ksi_schedule::Plan;
+use ksi_wire::{AggregatorLine, aggregator_line};
+use memchr::memchr;
+use std::alloc::Global;
+
+/// The events to aggregator `me` of a plan whose lines a text is; none where it is no such text.
+pub(crate) fn read_events(
+    alloc: Global,
+    plan: &Plan,
+    me: u32,
+    text: &[u8],
+) -> Result<Option<Vec<RoundEvent>>, NoMemory>
+    ensures fit { IfOk result (λ found. IfSome found (λ events. AllByRecursion FitsRound events.items)) }
+{
+    let mut events = Vec::new(alloc);
+    let mut rest = text;
+    'reading: while let Some((line, behind)) = next_line(rest) {
+        match read_line(alloc, plan, me, line)? {
+            Some(event) => events.push(event)?,
+            None => return Ok(None),
+        }
+        rest = behind;
+    }
+    if rest.is_empty() {
+        Ok(Some(events))
+    } else {
+        Ok(None)
+    }
+}
+
+/// The event whose line it is; none where it is no event's.
+fn read_line(
+    alloc: Global,
+    plan: &Plan,
+    me: u32,
+    line: &[u8],
+) -> Result<Option<RoundEvent>, NoMemory>
+    ensures fits { IfOk result (λ found. IfSome found FitsRound) }
+{
+    match aggregator_line(alloc, plan, me, line) {
+        Ok(AggregatorLine::Event(event)) => Ok(Some(event)),
+        Ok(AggregatorLine::Sign(_)) => Ok(None),
+        Err(Refused::Fault(_)) => Ok(None),
+        Err(Refused::NoMemory) => Err(NoMemory),
+    }
+}
+
+/// The first line of a text and what follows it; none where there is no line feed.
+fn next_line(text: &[u8]) -> Option<(&[u8], &[u8])>
+    ensures { IfSome result (λ parts. text.now ≡ parts.0.now ++ 10 ∷ parts.1.now) }
+{
+    let place = memchr(b'\n', text)?;
+    let (line, others) = text.split_at(place);
+    let (feed, behind) = others.split_at(1);
+    if feed == b"\n".as_slice() {
+        Some((line, behind))
+    } else {
+        None
+    }
+}

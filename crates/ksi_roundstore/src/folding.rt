@@ -1,0 +1,115 @@
+// The aggregator of the facts that records spell.
+ghost use Rattle.std.specs.Prelude.{◌≡◌, ◌+◌, length, IfOk, OnOk};
+ghost use Rattle.std.specs.List.{AllByRecursion};
+ghost use Rattle.ksi_gates.specs.Gates.{records_text};
+ghost use Rattle.ksi_aggregator.specs.Events.{event_second, MayTake, round_row};
+ghost use Rattle.ksi_aggregator.specs.Rounds.{rounds_of, IsTurn};
+ghost use Rattle.ksi_roundstore.specs.Facts.{is_accepted};
+ghost use Rattle.ksi_roundstore.specs.Opens.{FoldsAs};
+ghost use Rattle.ksi_wire.specs.RoundLines.{FitsRound};
+
+use crate::OpenRefusal;
+use crate::events::read_events;
+use crate::shape::is_fact;
+use ksi_aggregator::{Aggregator, RoundEvent, Step};
+use ksi_imprint::{Bytes, Compress, NoMemory};
+use ksi_schedule::Plan;
+use ksi_signature::Answer;
+use std::alloc::Global;
+
+/// The aggregator of the facts that the records spell, which stand behind a header and end at this place.
+pub(crate) fn fold_records<C: Compress>(
+    alloc: Global,
+    me: u32,
+    plan: &Plan,
+    records: &[Bytes],
+    end: u64,
+) -> Result<Aggregator<C>, OpenRefusal>
+    requires end { 20 + length (records_text records.now) ≡ end }
+    ensures { FoldsAs me result }
+{
+    let mut aggregator = Aggregator::new(alloc, me);
+    let mut place = 20;
+    'folding: for k in 0..records.len() {
+        let content = records[k].as_slice();
+        if !fold_record(alloc, plan, &mut aggregator, content)? {
+            return Err(OpenRefusal::Malformed(place));
+        }
+        place += 5 + content.len() as u64;
+    }
+    Ok(aggregator)
+}
+
+/// Stores the fact of a record, where it spells one that is lawful after those before.
+fn fold_record<C: Compress>(
+    alloc: Global,
+    plan: &Plan,
+    aggregator: &mut Aggregator<C>,
+    content: &[u8],
+) -> Result<bool, NoMemory>
+    ensures me { OnOk result (aggregator.new.me ≡ aggregator.old.me) }
+{
+    match read_events(alloc, plan, aggregator.me(), content)? {
+        Some(events) if is_fact(&events) => take_all(aggregator, &events),
+        _ => Ok(false),
+    }
+}
+
+/// Takes events, and tells whether each of them was accepted.
+fn take_all<C: Compress>(
+    aggregator: &mut Aggregator<C>,
+    events: &[RoundEvent],
+) -> Result<bool, NoMemory>
+    requires fit { AllByRecursion FitsRound events.now }
+    ensures me { OnOk result (aggregator.new.me ≡ aggregator.old.me) }
+{
+    'taking: for k in 0..events.len() {
+        if !take_event(aggregator, &events[k])? {
+            return Ok(false);
+        }
+    }
+    Ok(true)
+}
+
+/// Takes an event, and tells whether it was accepted.
+fn take_event<C: Compress>(
+    aggregator: &mut Aggregator<C>,
+    event: &RoundEvent,
+) -> Result<bool, NoMemory>
+    requires fits { FitsRound event.now }
+    ensures me { OnOk result (aggregator.new.me ≡ aggregator.old.me) }
+{
+    if let RoundEvent::Request(number, _, _, _) = event {
+        if !aggregator.is_new(*number) {
+            return Ok(false);
+        }
+    }
+    let step = step_of(aggregator, event)?;
+    Ok(is_accepted(&step.answer))
+}
+
+/// The step of an event, by the call that it is.
+fn step_of<C: Compress>(
+    aggregator: &mut Aggregator<C>,
+    event: &RoundEvent,
+) -> Result<Step, NoMemory>
+    requires fits { FitsRound event.now }
+    requires may { MayTake (rounds_of aggregator.old) event.now }
+    ensures me { aggregator.new.me ≡ aggregator.old.me }
+    ensures turn { IfOk result (IsTurn (rounds_of aggregator.old) (rounds_of aggregator.new) (event_second event.now) (round_row C.image event.now (rounds_of aggregator.old (event_second event.now)))) }
+{
+    match event {
+        RoundEvent::Request(number, second, imprint, name) => {
+            aggregator.request(*number, *second, *imprint, *name)
+        }
+        RoundEvent::Submission(from, second, item) => aggregator.submission(*from, *second, *item),
+        RoundEvent::Close(second) => aggregator.close(*second),
+        RoundEvent::Response(second, above) => aggregator.response(*second, above),
+    }
+}
+
+fn is_accepted(answer: &Answer) -> bool
+    ensures { result ≡ is_accepted answer.now }
+{
+    matches!(answer, Answer::Done | Answer::Number(_))
+}
