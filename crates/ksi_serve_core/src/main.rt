@@ -1,0 +1,78 @@
+//! `ksi_serve_core PLAN CORE FOLDER NAME`: a core of the plan that the schedule file PLAN begins with. Its facts are in the file
+//! NAME of FOLDER, which is made if it is missing. It takes lines from standard input, and says a block for each on standard
+//! output. The status is 0 at the end of the input, and 1 at a fault, which the last line names: `failed WORD`.
+#![tactic(auto)]
+
+ghost use Rattle.std.specs.Prelude.{◌<◌};
+
+use ksi_host_disk::HostDisk;
+use ksi_imprint::Sha;
+use ksi_nodestore::{NodeStore, OpenRefusal, format};
+use ksi_schedule::Plan;
+use ksi_service::{Failure, HostOutlet, end, plan_of, serve_core, words};
+use std::io::BufReader;
+use std::process::ExitCode;
+
+fn main(rt: HostRuntime) -> ExitCode {
+    let outcome = run(&rt);
+    end(&rt, outcome)
+}
+
+fn run(rt: &HostRuntime) -> Result<(), Failure> {
+    let words = words(rt)?;
+    let plan = plan_of(rt, words.plan.as_str())?;
+    if words.node >= u64::from(plan.cores()) {
+        return Err(Failure::Node);
+    }
+    serve(
+        rt,
+        &plan,
+        words.node as u8,
+        words.folder.as_str(),
+        words.name.as_str(),
+    )
+}
+
+fn serve(rt: &HostRuntime, plan: &Plan, me: u8, folder: &str, name: &str) -> Result<(), Failure>
+    requires { me < plan.now.cores }
+{
+    let disk = disk_of(rt, plan, me, folder, name)?;
+    match NodeStore::<Sha, HostDisk>::open(rt.alloc(), me, plan.core_plan(), disk) {
+        Ok(mut store) => {
+            let mut reader = BufReader::new(rt.alloc(), rt.stdin())?;
+            let mut out = HostOutlet::new(rt.stdout());
+            serve_core(rt.alloc(), plan, me, &mut store, &mut reader, &mut out)
+        }
+        Err((OpenRefusal::NoMemory, _)) => Err(Failure::Memory),
+        Err((_, _)) => Err(Failure::File),
+    }
+}
+
+/// The disk of a core, which is formatted if its file is empty. A disk that was written to is opened again, to be read.
+fn disk_of(
+    rt: &HostRuntime,
+    plan: &Plan,
+    me: u8,
+    folder: &str,
+    name: &str,
+) -> Result<HostDisk, Failure>
+    requires { me < plan.now.cores }
+{
+    {
+        let mut disk = opened(rt, folder, name)?;
+        if !disk.is_empty() {
+            return Ok(disk);
+        }
+        if format(me, plan.core_plan(), &mut disk).is_err() {
+            return Err(Failure::Disk);
+        }
+    }
+    opened(rt, folder, name)
+}
+
+fn opened(rt: &HostRuntime, folder: &str, name: &str) -> Result<HostDisk, Failure> {
+    match HostDisk::open(rt, folder, name) {
+        Ok(disk) => Ok(disk),
+        Err(error) => Err(Failure::of(&error, Failure::File)),
+    }
+}

@@ -1,0 +1,5 @@
+pub mod Inlet
+pub mod Refused
+pub mod Saying
+pub mod Serving
+pub mod CoreOutcomes

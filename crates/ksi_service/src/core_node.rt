@@ -1,0 +1,149 @@
+//! A core as a process.
+ghost use Rattle.std.specs.Prelude.{◌≡◌, OnOk, Ok, Err, Some, None};
+ghost use Rattle.ksi_corenode.specs.Events.{event_second, IsAsked, MayTake};
+ghost use Rattle.ksi_nodestore.specs.StoreState.{IsStore};
+ghost use Rattle.ksi_service.specs.Inlet.{came_line};
+ghost use Rattle.ksi_service.specs.Serving.{Answered, IsServed};
+ghost use Rattle.ksi_service.specs.CoreOutcomes.{AskedOutcome, CoreOutcome};
+
+use crate::failure::Failure;
+use crate::inlet::next_line;
+use crate::outlet::Outlet;
+use ksi_corenode::CoreEvent;
+use ksi_disk::Disk;
+use ksi_imprint::{Compress, Refused};
+use ksi_nodestore::NodeStore;
+use ksi_schedule::Plan;
+use ksi_wire::{WireFault, core_event, core_step_text};
+use std::alloc::Global;
+use std::io::BufRead;
+
+/// Takes each line until the input ends, and says a block for each. The store is that of core `me` of the plan, as
+/// `NodeStore::open` makes it.
+///
+/// # Errors
+/// `Disk`, `Memory` or `Stream`. The process is to end: its file is to be opened again.
+pub fn serve_core<C: Compress, D: Disk, R: BufRead, O: Outlet>(
+    alloc: Global,
+    plan: &Plan,
+    me: u8,
+    store: &mut NodeStore<C, D>,
+    reader: &mut R,
+    out: &mut O,
+) -> Result<(), Failure>
+    requires start { store.old.core.start ≡ plan.now.start }
+    requires me { store.old.core.me ≡ me }
+    requires stored { IsStore C.image D.content D.images store.old }
+    ensures served { OnOk result (IsServed (CoreOutcome C.image plan.now me) store.old.records (R.remaining reader.old) store.old store.new (O.said out.old) (O.said out.new)) }
+{
+    out.say_ready(store.counts().records)?;
+    let mut line = Vec::new(alloc);
+    'serving: for _ in 0..u64::MAX {
+        let came = next_line(reader, &mut line)?;
+        if came.is_end() {
+            return Ok(());
+        }
+        take_what_came(alloc, plan, me, store, came.is_long(), &line, out)?;
+    }
+    Err(Failure::Stream)
+}
+
+/// Takes a line, or refuses one that was too long.
+fn take_what_came<C: Compress, D: Disk, O: Outlet>(
+    alloc: Global,
+    plan: &Plan,
+    me: u8,
+    store: &mut NodeStore<C, D>,
+    is_long: bool,
+    line: &[u8],
+    out: &mut O,
+) -> Result<(), Failure>
+    requires start { store.old.core.start ≡ plan.now.start }
+    requires me { store.old.core.me ≡ me }
+    requires stored { IsStore C.image D.content D.images store.old }
+    ensures answered { OnOk result (Answered (CoreOutcome C.image plan.now me) (came_line is_long line.now) store.old store.new (O.said out.old) (O.said out.new)) }
+    ensures start { OnOk result (store.new.core.start ≡ store.old.core.start) }
+    ensures me { OnOk result (store.new.core.me ≡ store.old.core.me) }
+    ensures stored { OnOk result (IsStore C.image D.content D.images store.new) }
+{
+    if is_long {
+        refuse(WireFault::Long, store, out)
+    } else {
+        take_line(alloc, plan, me, store, line, out)
+    }
+}
+
+/// Takes a line.
+fn take_line<C: Compress, D: Disk, O: Outlet>(
+    alloc: Global,
+    plan: &Plan,
+    me: u8,
+    store: &mut NodeStore<C, D>,
+    line: &[u8],
+    out: &mut O,
+) -> Result<(), Failure>
+    requires start { store.old.core.start ≡ plan.now.start }
+    requires me { store.old.core.me ≡ me }
+    requires stored { IsStore C.image D.content D.images store.old }
+    ensures answered { OnOk result (Answered (CoreOutcome C.image plan.now me) (Some line.now) store.old store.new (O.said out.old) (O.said out.new)) }
+    ensures start { OnOk result (store.new.core.start ≡ store.old.core.start) }
+    ensures me { OnOk result (store.new.core.me ≡ store.old.core.me) }
+    ensures stored { OnOk result (IsStore C.image D.content D.images store.new) }
+{
+    match core_event(alloc, plan, me, line) {
+        Ok(event) => take_event(alloc, me, store, event, out),
+        Err(Refused::Fault(fault)) => refuse(fault, store, out),
+        Err(Refused::NoMemory) => Err(Failure::Memory),
+    }
+}
+
+/// Refuses a line.
+fn refuse<C: Compress, D: Disk, O: Outlet>(
+    fault: WireFault,
+    _store: &NodeStore<C, D>,
+    out: &mut O,
+) -> Result<(), Failure>
+    ensures { OnOk result (Answered (λ _. AskedOutcome C.image 0 (Err fault)) None _store.now _store.now (O.said out.old) (O.said out.new)) }
+{
+    out.say_refusal(fault)?;
+    Ok(())
+}
+
+/// Takes an event, and says what came of it once its fact is on the disk for good.
+fn take_event<C: Compress, D: Disk, O: Outlet>(
+    alloc: Global,
+    me: u8,
+    store: &mut NodeStore<C, D>,
+    event: CoreEvent,
+    out: &mut O,
+) -> Result<(), Failure>
+    requires may { MayTake store.old.core event }
+    requires asked { IsAsked store.old.core (event_second event) }
+    requires me { store.old.core.me ≡ me }
+    requires stored { IsStore C.image D.content D.images store.old }
+    ensures answered { OnOk result (Answered (λ _. AskedOutcome C.image me (Ok event)) None store.old store.new (O.said out.old) (O.said out.new)) }
+    ensures start { OnOk result (store.new.core.start ≡ store.old.core.start) }
+    ensures me { OnOk result (store.new.core.me ≡ store.old.core.me) }
+    ensures stored { OnOk result (IsStore C.image D.content D.images store.new) }
+{
+    let second = second_of(&event);
+    let step = store.take(event)?;
+    let text = core_step_text(alloc, me, second, &step)?;
+    out.say_step(store, &text)?;
+    Ok(())
+}
+
+/// The second of an event.
+fn second_of(event: &CoreEvent) -> u64
+    ensures { result ≡ event_second event.now }
+{
+    match event {
+        CoreEvent::Submission(_, second, _) => *second,
+        CoreEvent::Seal(second) => *second,
+        CoreEvent::Ballot(second) => *second,
+        CoreEvent::Receive(_, second, _) => *second,
+        CoreEvent::Tell(second) => *second,
+        CoreEvent::Respond(second) => *second,
+        CoreEvent::Publish(second) => *second,
+    }
+}

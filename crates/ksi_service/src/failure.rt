@@ -1,0 +1,67 @@
+use ksi_imprint::NoMemory;
+use ksi_nodestore::TakeRefusal;
+use std::io::{self, ErrorKind};
+
+/// Why a node ends before its input does.
+#[derive(Clone, Copy, Debug, PartialEq, Eq)]
+pub enum Failure {
+    /// The words of the command.
+    Words,
+    /// The plan's file cannot be read or is no schedule.
+    Plan,
+    /// The node is not in the plan.
+    Node,
+    /// The node's file cannot be opened, or is another node's or broken.
+    File,
+    /// A write or sync failed. The file is to be opened again.
+    Disk,
+    /// Memory was wanting.
+    Memory,
+    /// The input or the output failed.
+    Stream,
+}
+
+impl Failure {
+    /// The word behind `failed`.
+    pub fn word(&self) -> &'static [u8] {
+        match self {
+            Failure::Words => b"words",
+            Failure::Plan => b"plan",
+            Failure::Node => b"node",
+            Failure::File => b"file",
+            Failure::Disk => b"disk",
+            Failure::Memory => b"memory",
+            Failure::Stream => b"stream",
+        }
+    }
+
+    /// Want of memory where the error says so, and else this.
+    pub fn of(error: &io::Error, other: Failure) -> Failure {
+        if error.kind() == ErrorKind::OutOfMemory {
+            Failure::Memory
+        } else {
+            other
+        }
+    }
+}
+
+impl From<io::Error> for Failure {
+    fn from(error: io::Error) -> Self {
+        Failure::of(&error, Failure::Stream)
+    }
+}
+
+impl From<NoMemory> for Failure {
+    fn from(_: NoMemory) -> Self {
+        Failure::Memory
+    }
+}
+
+impl From<TakeRefusal> for Failure {
+    fn from(refusal: TakeRefusal) -> Self {
+        match refusal {
+            TakeRefusal::Failed | TakeRefusal::Spent => Failure::Disk,
+            TakeRefusal::NoMemory => Failure::Memory,
+        }
+    }
+}

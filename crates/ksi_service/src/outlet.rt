@@ -1,0 +1,104 @@
+//! Where what nodes say goes.
+ghost use Rattle.std.specs.Prelude.{◌≡◌, ℕ, List, Option, OnOk};
+ghost use Rattle.std.specs.Io.KnownBytes.{Appends};
+ghost use Rattle.ksi_service.specs.Saying.{MaySay};
+ghost use Rattle.ksi_service.specs.Serving.{block_text, ready_text};
+ghost use Rattle.ksi_service.specs.Refused.{fault_word, refusal_text};
+
+use ksi_disk::Disk;
+use ksi_imprint::Compress;
+use ksi_nodestore::NodeStore;
+use ksi_wire::WireFault;
+use std::io::{self, Write};
+
+/// Takes what a node says. The guard is owed at the call itself, so it holds of each text of a step that ever goes out,
+/// whether or not the process ends.
+pub trait Outlet {
+    /// All bytes that were said, where they are known.
+    ghost said: { Self → Option (List ℕ) };
+
+    /// What came of a step of a core whose facts are in this store.
+    fn say_step<C: Compress, D: Disk>(
+        &mut self,
+        store: &NodeStore<C, D>,
+        text: &[u8],
+    ) -> io::Result<()>
+        requires { MaySay C.image D.content D.images store.now text.now }
+        ensures { OnOk result (Appends (said self.old) (said self.new) text.now) };
+
+    /// A line that was no event, and changed nothing.
+    fn say_refusal(&mut self, fault: WireFault) -> io::Result<()>
+        ensures { OnOk result (Appends (said self.old) (said self.new) (refusal_text fault)) };
+
+    /// The node is there, with so many records.
+    fn say_ready(&mut self, records: u64) -> io::Result<()>
+        ensures { OnOk result (Appends (said self.old) (said self.new) (ready_text records)) };
+}
+
+/// A writer, to which each text of a step goes out by one write.
+#[derive(Drop)]
+pub struct HostOutlet<W: Write> {
+    writer: W,
+}
+
+impl<W: Write> HostOutlet<W> {
+    pub fn new(writer: W) -> Self
+        ensures { result.writer ≡ writer }
+    {
+        HostOutlet { writer }
+    }
+}
+
+impl<W: Write> Outlet for HostOutlet<W> {
+    ghost said = { λ out. W.contents out.writer };
+
+    fn say_step<C: Compress, D: Disk>(
+        &mut self,
+        _store: &NodeStore<C, D>,
+        text: &[u8],
+    ) -> io::Result<()> {
+        self.writer.write_all(text)
+    }
+
+    fn say_refusal(&mut self, fault: WireFault) -> io::Result<()> {
+        put_block(&mut self.writer, b"refused ", word_of(fault))
+    }
+
+    fn say_ready(&mut self, records: u64) -> io::Result<()> {
+        let mut digits = itoa::Buffer::new();
+        put_block(
+            &mut self.writer,
+            b"ready ",
+            digits.format(records).as_bytes(),
+        )
+    }
+}
+
+/// A block of one line: its beginning, and its last word.
+fn put_block<W: Write>(writer: &mut W, front: &[u8], word: &[u8]) -> io::Result<()>
+    ensures { OnOk result (Appends (W.contents writer.old) (W.contents writer.new) (block_text front.now word.now)) }
+{
+    writer.write_all(front)?;
+    writer.write_all(word)?;
+    writer.write_all(b"\n.\n")
+}
+
+/// The word of a fault.
+fn word_of(fault: WireFault) -> &'static [u8]
+    ensures { result.now ≡ fault_word fault }
+{
+    match fault {
+        WireFault::Word => b"word",
+        WireFault::Number => b"number",
+        WireFault::Hash => b"hash",
+        WireFault::Actor => b"actor",
+        WireFault::Second => b"second",
+        WireFault::Ballot => b"ballot",
+        WireFault::Level => b"level",
+        WireFault::Name => b"name",
+        WireFault::Above => b"above",
+        WireFault::Spelling => b"spelling",
+        WireFault::Long => b"long",
+        WireFault::Taken => b"taken",
+    }
+}

@@ -1,0 +1,84 @@
+// What the programs of nodes share.
+use crate::failure::Failure;
+use ksi_imprint::Refused;
+use ksi_schedule::{Plan, read_number, read_schedule};
+use std::io::Write;
+use std::process::ExitCode;
+use std::{env, fs};
+
+/// The words of the command: the plan's file, the number of the node, and the folder and the name of its file.
+#[derive(Drop)]
+pub struct Command {
+    pub plan: String,
+    pub node: u64,
+    pub folder: String,
+    pub name: String,
+}
+
+/// The words behind the program's name.
+///
+/// # Errors
+/// `Words`: there are not four, the second is no number, or one is not UTF-8. `Memory`.
+pub fn words(rt: &HostRuntime) -> Result<Command, Failure> {
+    let mut args = match env::args(rt) {
+        Ok(args) => args,
+        Err(error) => return Err(Failure::of(&error, Failure::Words)),
+    };
+    let _program = args.next();
+    let (Some(plan), Some(node), Some(folder), Some(name), None) = (
+        args.next(),
+        args.next(),
+        args.next(),
+        args.next(),
+        args.next(),
+    ) else {
+        return Err(Failure::Words);
+    };
+    let Some(node) = read_number(node.as_str().as_bytes()) else {
+        return Err(Failure::Words);
+    };
+    Ok(Command {
+        plan,
+        node,
+        folder,
+        name,
+    })
+}
+
+/// The plan that a schedule file begins with.
+///
+/// # Errors
+/// `Plan`: the file cannot be read, or is no schedule. `Memory`.
+pub fn plan_of(rt: &HostRuntime, name: &str) -> Result<Plan, Failure> {
+    let text = match fs::read(rt, name) {
+        Ok(text) => text,
+        Err(error) => return Err(Failure::of(&error, Failure::Plan)),
+    };
+    match read_schedule(rt.alloc(), &text) {
+        Ok(schedule) => {
+            let (plan, _) = schedule.into_parts();
+            Ok(plan)
+        }
+        Err(Refused::Fault(_)) => Err(Failure::Plan),
+        Err(Refused::NoMemory) => Err(Failure::Memory),
+    }
+}
+
+/// The status of a run. After a failure its last line is `failed` and the failure's word.
+pub fn end(rt: &HostRuntime, outcome: Result<(), Failure>) -> ExitCode {
+    match outcome {
+        Ok(()) => ExitCode::from(0),
+        Err(failure) => {
+            let mut out = rt.stdout();
+            // nobody may be there to read it
+            let _ = put_failure(&mut out, failure);
+            ExitCode::from(1)
+        }
+    }
+}
+
+fn put_failure<W: Write>(out: &mut W, failure: Failure) -> std::io::Result<()> {
+    out.write_all(b"failed ")?;
+    out.write_all(failure.word())?;
+    out.write_all(b"\n")
+}
