@@ -12,3 +12,4 @@ pub mod Writings
 pub mod Roomy
 pub mod Reasons
 pub mod Crashed
+pub mod Restarted
