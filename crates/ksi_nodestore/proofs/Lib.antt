@@ -13,3 +13,4 @@ pub mod Writings
 pub mod Roomy
 pub mod Reasons
 pub mod Crashed
+pub mod Restarted

@@ -33,6 +33,7 @@ mod numbers;
 mod opening;
 mod reading;
 mod refusal;
+mod restarting;
 mod room;
 mod store;
 mod taking;
