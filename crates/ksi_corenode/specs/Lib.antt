@@ -11,3 +11,4 @@ pub mod Next
 pub mod Lawful
 pub mod Restored
 pub mod Counted
+pub mod ItemsLeft
