@@ -12,3 +12,4 @@ pub mod Next
 pub mod Lawful
 pub mod Restored
 pub mod Counted
+pub mod ItemsLeft

@@ -10,10 +10,12 @@ ghost use Rattle.ksi_corenode.specs.Rows.{submission_row, seal_row, ballot_answe
 ghost use Rattle.ksi_corenode.specs.CoreState.{state_of, held_by, IsSame, IsChange, IsTurn};
 ghost use Rattle.ksi_corenode.specs.Kept.{Keeps};
 ghost use Rattle.ksi_corenode.specs.Settled.{IsCalendarOf};
+ghost use Rattle.ksi_corenode.specs.ItemsLeft.{items_left};
 
 use crate::fact::{What, fact_of};
 use crate::growing::lengthen;
 use crate::lazy_calendar::LazyCalendar;
+use crate::lent_items::LentItems;
 use crate::receiving::receive;
 use crate::seconds::Seconds;
 use crate::sending::{push_all, push_told};
@@ -81,6 +83,16 @@ impl<C: Compress> Core<C> {
         ensures round { IfSome result (λ entries. IsRound (items_of entries.now)) }
     {
         self.seconds.sealed(second)
+    }
+
+    /// The sealed items of a second in order, lent without where they came from; none where the second is not sealed.
+    pub fn items(&self, second: u64) -> Option<LentItems<'_>>
+        ensures { option_map items_left result ≡ option_map items_of (state_of self.now second).sealed }
+    {
+        match self.sealed(second) {
+            Some(entries) => Some(LentItems::new(entries)),
+            None => None,
+        }
     }
 
     /// The first second.

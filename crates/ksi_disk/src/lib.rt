@@ -10,7 +10,7 @@
 //! ```text
 //! let mut disk = MemDisk::new(alloc, b"", 100, 4, failing)?;
 //! disk.write_at(0, b"abc")?;
-//! let torn = disk.image(alloc, 1, Fate::Front(2))?;
+//! let torn = disk.image(1, Fate::Front(2))?;
 //! disk.sync()?;
 //! ```
 #![tactic(auto)]

@@ -17,6 +17,7 @@ use std::marker::Model;
 /// are to fail. A write that finds no room, or a write or a sync that finds no turn, fails too and does nothing.
 #[derive(Drop)]
 pub struct MemDisk {
+    alloc: Global,
     start: Vec<u8>,
     content: Vec<u8>,
     marks: Vec<Mark>,
@@ -66,6 +67,7 @@ impl MemDisk {
         let mut content = bytes.to_vec(alloc)?;
         content.reserve(room)?;
         Ok(MemDisk {
+            alloc,
             start,
             content,
             marks: Vec::with_capacity(alloc, turns)?,
@@ -132,13 +134,16 @@ impl MemDisk {
     }
 
     /// What a crash leaves at a moment, where all writes since the last sync before it have this fate.
-    pub fn image(&self, alloc: Global, moment: usize, fate: Fate) -> Result<Bytes, NoMemory>
+    ///
+    /// # Errors
+    /// `NoMemory`: no image is made.
+    pub fn image(&self, moment: usize, fate: Fate) -> Result<Bytes, NoMemory>
         requires { moment ≤ length self.now.deeds }
         ensures value { IfOk result (λ image. image ≡ image_by fate self.now.start (deeds_at moment self.now.deeds)) }
         ensures lawful { IfOk result (λ image. IsImage self.now.start (deeds_at moment self.now.deeds) image) }
     {
         let (first, _) = self.marks.split_at(moment);
-        let image = replayed(alloc, fate, &self.start, first, &self.pieces)?;
+        let image = replayed(self.alloc, fate, &self.start, first, &self.pieces)?;
         Ok(Bytes::from_vec(image))
     }
 

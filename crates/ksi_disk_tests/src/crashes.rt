@@ -27,7 +27,7 @@ fn all_open(
         return Ok(false);
     }
     for fate in &FATES {
-        let image = disk.image(alloc, moment, *fate)?;
+        let image = disk.image(moment, *fate)?;
         let found = opened(alloc, image.as_slice(), 2)?;
         if found != Ok(least) && found != Ok(most) {
             return Ok(false);

@@ -77,11 +77,11 @@ fn written(alloc: Global) -> Result<MemDisk, Fail> {
     Ok(disk)
 }
 
-fn is_left(alloc: Global, disk: &MemDisk, row: &Row) -> Result<bool, Fail> {
+fn is_left(disk: &MemDisk, row: &Row) -> Result<bool, Fail> {
     if row.moment > disk.moments() {
         return Ok(false);
     }
-    Ok(disk.image(alloc, row.moment, row.fate)?.as_slice() == row.image)
+    Ok(disk.image(row.moment, row.fate)?.as_slice() == row.image)
 }
 
 #[test]
@@ -90,7 +90,7 @@ fn each_fate_leaves_its_image(rt: HostRuntime) -> Result<(), Fail> {
     let disk = written(alloc)?;
     assert!(rt; disk.bytes() == b"abWXYZ".as_slice());
     for row in &ROWS {
-        assert!(rt; is_left(alloc, &disk, row)?);
+        assert!(rt; is_left(&disk, row)?);
     }
     Ok(())
 }

@@ -151,7 +151,7 @@ fn all_open(alloc: Global, disk: &MemDisk, moment: usize) -> Result<bool, Fail> 
     let since = moment.saturating_sub(3) as u64;
     let mut open = true;
     for fate in &FATES {
-        let image = disk.image(alloc, moment, *fate)?;
+        let image = disk.image(moment, *fate)?;
         open = opens_to(alloc, image.as_slice(), since / 4, (since + 1) / 4)? && open;
     }
     Ok(open)

@@ -201,6 +201,24 @@ fn the_system_loads_no_removed_file_and_no_folder(rt: HostRuntime) -> Result<(),
     Ok(())
 }
 
+/// In a folder that is not there, and over a folder, nothing can be saved.
+#[test]
+fn the_system_saves_in_no_missing_folder_and_over_none(rt: HostRuntime) {
+    static SAVES: [(&str, &[u8], Result<(), SaveRefusal>); 3] = [
+        ("ksi_ports_no_folder/saved", b"by", Err(SaveRefusal::Failed)),
+        (".", b"by", Err(SaveRefusal::Failed)),
+        ("ksi_ports_behind", b"by", Ok(())),
+    ];
+    let mut files = HostFiles::new(&rt);
+    save(&rt, rt.alloc(), &mut files, &SAVES);
+    let counts = [
+        files.counts().calls,
+        files.counts().faults,
+        files.counts().saves,
+    ];
+    same(&rt, "counts", counts, [3, 2, 3]);
+}
+
 #[test]
 fn the_system_writes(rt: HostRuntime) {
     const PUTS: [(&[u8], Result<(), SinkFailed>); 3] = [

@@ -5,6 +5,7 @@ pub mod MergingMirrors
 pub mod JournalOf
 pub mod Joining
 pub mod JoiningMirrors
+pub mod Faults
 pub mod Files
 pub mod Sound
 pub mod Ordered

@@ -1,6 +1,7 @@
 //! What holds of unions and of merging, for the layers above to cite. None of these functions does anything.
 ghost use Rattle.std.specs.Prelude.{◌≡◌, ◌↔◌, ◌⊎◌, ℕ, List, Option, Ok, Err};
 ghost use Rattle.ksi_journal.specs.declared.fault.JournalFault.{JournalFault};
+ghost use Rattle.ksi_journal.specs.declared.fault.JournalFault.TheVariants.{TreeRoot, Voters};
 ghost use Rattle.ksi_mirror.specs.declared.refusal.MergeRefusal.{MergeRefusal};
 ghost use Rattle.ksi_mirror.specs.Maps.{AgreeAll, IsUnion};
 ghost use Rattle.ksi_mirror.specs.Mirrors.{MirrorState, root_of, list_of, IsMirror};
@@ -108,6 +109,12 @@ pub fn mirror_or_fault()
 {
     whole_or_fault::<MirrorLoading, JournalFault>();
 }
+
+/// No fault of a mirror's file is about the tree of a second, J4, or about voters, J10.
+pub fn no_tree_and_no_voters()
+    ensures tree { (bytes : List ℕ) (second : ℕ) (root computed : List ℕ) → IsMirrorFault bytes (TreeRoot second root computed) → ⊥ }
+    ensures voters { (bytes : List ℕ) (place : ℕ) → IsMirrorFault bytes (Voters place) → ⊥ }
+{}
 
 /// What is read in bytes is the mirror that they are, or their first fault.
 pub fn mirror_is_read()

@@ -16,6 +16,7 @@
 #![tactic(auto)]
 
 mod entries;
+mod fault;
 mod fields;
 pub mod laws;
 mod loading;
@@ -30,6 +31,7 @@ mod uniting;
 mod whole_journal;
 mod writer;
 
+pub use fault::MirrorFault;
 pub use ksi_imprint::{NoMemory, Refused};
 pub use ksi_journal::JournalFault;
 pub use merging::merge;

@@ -8,11 +8,11 @@ ghost use Rattle.ksi_mirror.specs.Mirrors.{mirror_of_parts, IsMirror};
 ghost use Rattle.ksi_mirror.specs.Elements.{MirrorSaid, WantsFor, mirror_order, nothing_yet};
 ghost use Rattle.ksi_mirror.specs.File.{magic, IsMirrorFile, IsMirrorFault, IsOther, IsWantingInside};
 
+use crate::fault::MirrorFault;
 use crate::loading::MirrorLoading;
 use crate::mirror::Mirror;
 use crate::parts::MirrorParts;
 use ksi_imprint::Refused;
-use ksi_journal::JournalFault;
 use ksi_order::laws::values_are_bounded;
 use ksi_order::walk;
 use ksi_tlv::after_magic;
@@ -26,13 +26,13 @@ pub(crate) const MAGIC: &[u8] = b"KSIMIRR1";
 /// # Errors
 /// The first fault in order of bytes, J1 to J3, J5 to J9, as those of a journal; or `NoMemory`: only for an element behind
 /// the start that has no fault, and before which there is none.
-pub fn load_mirror(alloc: Global, bytes: &[u8]) -> Result<Mirror, Refused<JournalFault>>
+pub fn load_mirror(alloc: Global, bytes: &[u8]) -> Result<Mirror, Refused<MirrorFault>>
     ensures mirror { IfOk result (IsMirrorFile bytes.now) }
     ensures refused { IfRefused result (IsMirrorFault bytes.now) (IsWantingInside bytes.now) }
     ensures other { IsOther bytes.now → result ≡ Err (Fault Magic) }
 {
     let Some(rest) = behind_magic(bytes) else {
-        return Err(Refused::Fault(JournalFault::Magic));
+        return Err(Refused::Fault(MirrorFault::Magic));
     };
     match parts_in(alloc, rest) {
         Ok(parts) => Ok(Mirror::new(parts)),
@@ -51,7 +51,7 @@ fn behind_magic(bytes: &[u8]) -> Option<&[u8]>
 }
 
 /// What the elements behind the magic say.
-fn parts_in(alloc: Global, rest: &[u8]) -> Result<MirrorParts, Refused<JournalFault>>
+fn parts_in(alloc: Global, rest: &[u8]) -> Result<MirrorParts, Refused<MirrorFault>>
     requires { 8 + length rest.now < 2 ^ 64 }
     ensures mirror { IfOk result (λ parts. IsMirror (mirror_of_parts parts)) }
     ensures whole { IfOk result (λ parts. (said : MirrorSaid) ×

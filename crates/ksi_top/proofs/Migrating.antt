@@ -1,11 +1,12 @@
 -- What a migration's report means.
-use Rattle.std.proofs.Common.{◌≡◌, ℕ, ◌+◌, ◌≤◌, Bool, true, false, List, [], length, Option, Some, Result, Ok, Err, refl, sym, ap, ◌∙◌}
+use Rattle.std.proofs.Common.{◌≡◌, ℕ, ◌+◌, ◌≤◌, Bool, true, false, List, [], length, Option, Some, Result, Ok, Err, arith, refl, sym, ap, ◌∙◌}
 use Rattle.std.specs.Prelude.{IfOk, ◌↔◌, nat_lt, unwrap_or}
 use Rattle.std.specs.Str.{bytes_eq}
 use Rattle.std.specs.declared.alloc.AllocError.{AllocError}
 use Rattle.std.proofs.lemmas.Bool.{le-ltb, ltb-false, cond-true}
 use Rattle.std.proofs.lemmas.Slice.Eq.{bytes_eq-Decides}
 use Rattle.ksi_imprint.specs.Imprints.{imprint_of}
+use Rattle.ksi_tlv.specs.Spelling.{AreBytes}
 use Rattle.ksi_ports.specs.Stored.{Held, with_file}
 use Rattle.ksi_signature.specs.declared.signature.Signature.{Signature}
 use Rattle.ksi_extender.specs.Extended.{extended}
@@ -16,6 +17,7 @@ use Rattle.ksi_journal.specs.Journal.{Contents}
 use Rattle.ksi_journal.specs.File.{IsJournalFile}
 use Rattle.ksi_journal.specs.Reading.{journal_at}
 use Rattle.ksi_journal.specs.Written.{text_in}
+use Rattle.ksi_journal.specs.declared.version.Version.{Version}
 use Rattle.ksi_journal.specs.declared.version.Version.TheVariants.{Two}
 use Rattle.ksi_top.specs.declared.report.Report.{Report}
 use Rattle.ksi_top.specs.declared.status.Status.TheVariants.{TooLong}
@@ -95,11 +97,15 @@ gives_the_same before after old new is beside = record {
   compares_with = λ other proof same others.
       behind_same (loaded_journal 1 after other) (loaded_journal 1 before other) (λ j. (compare_beside j new proof).ran after) (λ j. (compare_beside j old proof).ran before)
       (journal_same 1 before after other same) (λ j. beside_compared j before after old new proof beside others);
+  compares_itself = λ proof others.
+      behind_same (loaded_journal 1 after new) (loaded_journal 1 before old) (λ j. (compare_beside j new proof).ran after) (λ j. (compare_beside j old proof).ran before)
+      is (λ j. beside_compared j before after old new proof beside others);
 }
 
 -- ---- the report
 
-module _ (journals_read : (bytes : List ℕ) (journal : Contents) → (journal_at imprint_of bytes ≡ Ok journal) ↔ IsJournalFile imprint_of bytes journal) where
+module _ (journals_read : (bytes : List ℕ) (journal : Contents) → (journal_at imprint_of bytes ≡ Ok journal) ↔ IsJournalFile imprint_of bytes journal)
+    (shortest : (bytes : List ℕ) (journal : Contents) (version : Version) → AreBytes bytes → IsJournalFile imprint_of bytes journal → length (text_in version journal) ≤ length bytes) where
   -- a journal file within the limit is read as its journal
   read_as : (n : ℕ) (held : Held) (name bytes : List ℕ) (journal : Contents) → content held name ≡ bytes → length bytes ≤ file_limit → IsJournalFile imprint_of bytes journal → loaded_journal n held name ≡ Ok journal
   unfolding loaded_journal loaded
@@ -114,16 +120,19 @@ module _ (journals_read : (bytes : List ℕ) (journal : Contents) → (journal_a
       by true e = absurd (let no : Err (report TooLong (too_long_line 1)) ≡ Ok journal = rw e at is in cc no)
       by false e = ltb-false _ _ e
 
-  pub migrate_means : (held : Held) (old new : List ℕ) (journal : Contents) (computed : Result Report AllocError) → loaded_journal 1 held old ≡ Ok journal → IsJournalFile imprint_of (content held old) journal
+  pub migrate_means : (held : Held) (old new : List ℕ) (journal : Contents) (computed : Result Report AllocError) → loaded_journal 1 held old ≡ Ok journal → IsJournalFile imprint_of (content held old) journal → AreBytes (content held old)
       → IfOk computed (λ report. report ≡ migrated new journal) → IfOk computed (λ _. IsJournalFile imprint_of (text_in Two journal) journal) → IfOk computed (IsMigrated held old new)
-  migrate_means held old new journal (Ok report) loaded is reported again = record {
+  migrate_means held old new journal (Ok report) loaded is bytes reported again = record {
     journal = journal;
     journal_is = is;
     reported = reported;
     again = again;
-    same = λ few.
+    short = shortest (content held old) journal Two bytes is;
+    same =
+        let few = few_read held old journal loaded in
+        let short = shortest (content held old) journal Two bytes is in
         let after = with_file held new (text_in Two journal) in
-        let read : (n : ℕ) → loaded_journal n after new ≡ Ok journal = λ n. read_as n after new (text_in Two journal) journal (saved_here held new (text_in Two journal)) few again in
-        gives_the_same held after old new (read 1 ∙ sym loaded) (read 2 ∙ sym (read_as 2 held old (content held old) journal refl (few_read held old journal loaded) is));
+        let read : (n : ℕ) → loaded_journal n after new ≡ Ok journal = λ n. read_as n after new (text_in Two journal) journal (saved_here held new (text_in Two journal)) (omega arith) again in
+        gives_the_same held after old new (read 1 ∙ sym loaded) (read 2 ∙ sym (read_as 2 held old (content held old) journal refl few is));
   }
-  migrate_means held old new journal (Err none) loaded is reported again = tt
+  migrate_means held old new journal (Err none) loaded is bytes reported again = tt

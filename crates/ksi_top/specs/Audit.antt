@@ -11,7 +11,7 @@ use Rattle.ksi_verifier.specs.Verdict.{verdict}
 use Rattle.ksi_auditor.specs.declared.answer.Audit.{Audit}
 use Rattle.ksi_auditor.specs.declared.answer.Audit.TheVariants as answers
 use Rattle.ksi_auditor.specs.Audit as audits
-use Rattle.ksi_auditor.specs.Shown.{IsDecided, Shows, Tells}
+use Rattle.ksi_auditor.specs.Shown.{IsDecided, MissedIsClash, Shows, Tells}
 use Rattle.ksi_lines.specs.Answers.{audit_line}
 use Rattle.ksi_top.specs.declared.report.Report.{Report}
 use Rattle.ksi_top.specs.declared.status.Status.{Status}
@@ -29,13 +29,15 @@ abbrev pub audited : Audit → Report
 audited answer = report (audit_status answer) (audit_line answer)
 
 -- The report is that of an answer which shows what it says. Where the signature is accepted and its publication is
--- decided, the answer tells where the hash stands, or has a clash.
+-- decided, the answer tells where the hash stands, or has a clash. For a second before the start, or for a missed one, such
+-- a signature has a clash.
 pub record IsAnswered (journal : Contents) (signature : Signature) (hash : List ℕ) (pairs : List (ℕ × List ℕ)) (report : Report) : Type 0 where
   pub answer : Audit
   pub audit_is : answer ≡ audits.audit imprint_of journal signature hash pairs
   pub reported : report ≡ audited answer
   pub shown : Shows imprint_of journal signature hash answer
   pub tells : (t : ℕ) → verdict imprint_of signature hash pairs ≡ Accepted t → IsDecided imprint_of journal signature → Tells answer
+  pub missed : MissedIsClash imprint_of journal signature hash pairs answer
 
 -- with the publications that are read
 pub record IsAuditedOver (journal : Contents) (signature : Signature) (hash publications : List ℕ) (report : Report) : Type 0 where

@@ -41,14 +41,19 @@ pub record GivesTheSame (before after : Held) (old new : List ℕ) : Type 0 wher
       (compare_command new other proof).ran after ≡ (compare_command old other proof).ran before
   pub compares_with : (other proof : List ℕ) → content after other ≡ content before other → content after proof ≡ content before proof →
       (compare_command other new proof).ran after ≡ (compare_command other old proof).ran before
+  -- as both
+  pub compares_itself : (proof : List ℕ) → content after proof ≡ content before proof →
+      (compare_command new new proof).ran after ≡ (compare_command old old proof).ran before
 
--- What is saved is a journal file of the journal that was loaded. So it is read as the old one, unless it passes the limit.
+-- What is saved is a journal file of the journal that was loaded, and is no longer than what was loaded. So it is within the
+-- limit, and is read as the old one.
 pub record IsMigrated (held : Held) (old new : List ℕ) (report : Report) : Type 0 where
   pub journal : Contents
   pub journal_is : IsJournalFile imprint_of (content held old) journal
   pub reported : report ≡ migrated new journal
   pub again : IsJournalFile imprint_of (text_in Two journal) journal
-  pub same : length (text_in Two journal) ≤ file_limit → GivesTheSame held (with_file held new (text_in Two journal)) old new
+  pub short : length (text_in Two journal) ≤ length (content held old)
+  pub same : GivesTheSame held (with_file held new (text_in Two journal)) old new
 
 -- the journal is loaded, and is saved in version 2
 abbrev pub migrate_command : (old new : List ℕ) → CommandRow

@@ -8,6 +8,7 @@ ghost use Rattle.ksi_mirror.specs.File.{IsMirrorFile};
 ghost use Rattle.ksi_nodestore.specs.Inspecting.{IsInspected};
 ghost use Rattle.ksi_publications.specs.File.{IsPublications};
 ghost use Rattle.ksi_schedule.specs.Spelled.{IsScheduleText};
+ghost use Rattle.ksi_tlv.specs.Spelling.{AreBytes};
 ghost use Rattle.ksi_top.specs.Loading.{content, loaded, loaded_front, loaded_journal, loaded_proof, loaded_publications, loaded_schedule, loaded_mirror, loaded_node, file_limit};
 ghost use Rattle.ksi_top.specs.Promised.{IsLoaded};
 
@@ -19,6 +20,7 @@ use crate::status::Status;
 use ksi_consistency::Front;
 use ksi_imprint::{Bytes, Sha};
 use ksi_journal::Journal;
+use ksi_journal::laws::are_bytes;
 use ksi_lines::Word::{Number, Text};
 use ksi_lines::print;
 use ksi_logblock::LineProof;
@@ -58,9 +60,12 @@ pub(crate) fn load_journal<F: Files>(
 ) -> Result<Journal<Sha>, Halt>
     ensures loaded { IsLoaded F.Files n file_limit (loaded_journal n (F.held files.old) name.now) files.old files.new result }
     ensures is { IsTrue F.tells → IfOk result (IsJournalFile imprint_of (content (F.held files.old) name.now)) }
+    ensures bytes { IsTrue F.tells → IfOk result (λ _. AreBytes (content (F.held files.old) name.now)) }
 {
     let bytes = load_file(alloc, files, FILE_LIMIT, n, name)?;
-    read_journal(alloc, n, bytes.as_slice())
+    let slice = bytes.as_slice();
+    are_bytes(slice);
+    read_journal(alloc, n, slice)
 }
 
 /// The front that file word `n` is.

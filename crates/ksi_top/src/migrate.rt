@@ -11,7 +11,7 @@ ghost use Rattle.ksi_top.specs.Migrate.{migrate_command, migrated};
 use crate::loading::load_journal;
 use crate::report::{Halt, Report, Saved, ended};
 use ksi_imprint::{Bytes, NoMemory, Refused, Sha};
-use ksi_journal::laws::journal_is_read;
+use ksi_journal::laws::{file_is_journal, journal_is_read};
 use ksi_journal::{Journal, Version, VersionRefusal, write_version};
 use ksi_lines::Word::{Number, Text};
 use ksi_lines::print;
@@ -28,6 +28,7 @@ pub(crate) fn migrate<F: Files>(
     ensures { Performed F.Files (migrate_command old.now new.now) files.old files.new result }
 {
     journal_is_read();
+    file_is_journal();
     let journal = load_journal(alloc, files, 1, old)?;
     ended(migrated(alloc, new, &journal))
 }

@@ -9,3 +9,4 @@ returns-clause-answered c =
     answered c.args.journal.now lent c.args.hash.now c.args.publications.now c.in_ok-audit.audit c.audited.result
     c.audited.ensures c.in_ok-audit.ensures.answer c.in_ok-audit.ensures.shown
     (λ t accepted decided. c.decided_tells.ensures imprint_of c.args.journal.now lent c.args.hash.now c.args.publications.now t c.start-start.ensures.journal accepted decided)
+    c.in_ok-audit.ensures.missed

@@ -14,4 +14,4 @@ pub returns : goal.returns
 returns g c =
     performed_last g.F.Files _ _ _ _ (λ j held. migrated c.args.new.now j) _ _ _ _ c.migrated.result _
     (saving_ends _ _ _) c.in_ok-journal.ensures.loaded c.ended.ensures (ends_as 1 _ _ c.migrated.ensures.migrated (saving_ends _ _ _)) (λ tells. c.migrated.ensures.migrated)
-    (λ tells. migrate_means (c.journal_is_read.ensures.journal imprint_of) _ _ _ _ c.migrated.result (c.in_ok-journal.ensures.loaded.told tells) (c.in_ok-journal.ensures.is tells) c.migrated.ensures.migrated c.migrated.ensures.again)
+    (λ tells. migrate_means (c.journal_is_read.ensures.journal imprint_of) (c.file_is_journal.ensures.shortest imprint_of) _ _ _ _ c.migrated.result (c.in_ok-journal.ensures.loaded.told tells) (c.in_ok-journal.ensures.is tells) (c.in_ok-journal.ensures.bytes tells) c.migrated.ensures.migrated c.migrated.ensures.again)
