@@ -42,6 +42,7 @@ pub enum PushRefusal {
 /// the list of lines.
 #[derive(Drop)]
 pub struct Block<'a, C: Compress> {
+    alloc: Global,
     seed: [u8; 32],
     lines: Vec<&'a [u8]>,
     leaves: Vec<Imprint>,
@@ -66,6 +67,7 @@ impl<'a, C: Compress> Block<'a, C> {
         ensures { result ≡ record { seed = seed; lines = [] } }
     {
         Block {
+            alloc,
             seed,
             lines: Vec::new(alloc),
             leaves: Vec::new(alloc),
@@ -133,7 +135,7 @@ impl<'a, C: Compress> Block<'a, C> {
     ///
     /// # Errors
     /// `NoMemory`: all is as it was.
-    pub fn proof(&self, alloc: Global, k: usize) -> Result<LineProof, NoMemory>
+    pub fn proof(&self, k: usize) -> Result<LineProof, NoMemory>
         requires { k < length self.now.lines }
         ensures mask { IfOk result (λ proof. proof.mask ≡ mask_at C.image self.now k) }
         ensures links { IfOk result (λ proof. plain_line_links proof.links ≡ plain_links (chain_of C.image (items_of C.image self.now) k)) }
@@ -143,10 +145,10 @@ impl<'a, C: Compress> Block<'a, C> {
     {
         own_proofs();
         let _count = self.count();
-        self.mask_and_links(alloc, k)
+        self.mask_and_links(k)
     }
 
-    fn mask_and_links(&self, alloc: Global, k: usize) -> Result<LineProof, NoMemory>
+    fn mask_and_links(&self, k: usize) -> Result<LineProof, NoMemory>
         requires { k < length self.now.lines }
         ensures mask { IfOk result (λ proof. proof.mask ≡ mask_at C.image self.now k) }
         ensures links { IfOk result (λ proof. plain_line_links proof.links ≡ plain_links (chain_of C.image (items_of C.image self.now) k)) }
@@ -155,7 +157,7 @@ impl<'a, C: Compress> Block<'a, C> {
         one_chain();
         let leaves = self.leaves();
         let mask = mask_of::<C>(&self.seed, leaves, k);
-        let mut links = Vec::with_capacity(alloc, 16)?;
+        let mut links = Vec::with_capacity(self.alloc, 16)?;
         links_over::<C>(leaves, k, 0, leaves.len(), 16, &mut links)?;
         Ok(LineProof {
             mask,

@@ -14,7 +14,7 @@
 //! ```text
 //! let mut block = Block::<Sha>::new(alloc, seed);
 //! block.push(line)?;
-//! let proof = block.proof(alloc, 0)?;
+//! let proof = block.proof(0)?;
 //! assert_eq!(root_of::<Sha>(line, &proof).ok(), block.root().map(|root| root.imprint));
 //! ```
 #![tactic(auto)]

@@ -47,7 +47,7 @@ unfolding named_in
 named_in_is at =
     test_is (leb 34 (length at.element.body)) (or_named (head_in highest_named at) >>= called at.place (drop 34 at.element.body)) (Err (faults.Imprint at.place))
     (bind_is (or_named (head_in highest_named at)) (called at.place (drop 34 at.element.body)) (or_named_is (head_in highest_named at))
-        (λ item. test_is (is_name (drop 34 at.element.body)) _ _ tt refl))
+    (λ item. test_is (is_name (drop 34 at.element.body)) _ _ tt refl))
     refl
 
 item_in_is : (at : PlacedTlv) → OnFault (item_in at)

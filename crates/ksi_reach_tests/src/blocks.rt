@@ -31,7 +31,7 @@ fn proof_of(
     if k >= block.count() {
         return Ok(None);
     }
-    let proof = block.proof(alloc, k)?;
+    let proof = block.proof(k)?;
     let root = root_of::<Tiny>(block.line(k), &proof).ok();
     Ok(match proof.links.as_slice() {
         [link] => Some((proof.mask, *link, root)),

@@ -33,7 +33,7 @@ fn a_proof_is_written_as_by_hand(rt: HostRuntime) -> Result<(), Fail> {
             if block.count() == 0 {
                 None
             } else {
-                let proof = block.proof(alloc, 0)?;
+                let proof = block.proof(0)?;
                 Some(write_proof(alloc, &proof)?)
             }
         }

@@ -5,6 +5,7 @@
 //! published. That the journal of every history is one, with or without memory to make it, is a law ([`laws`]).
 //! [`mirror_of`] gives what a core holds and has sealed; mirrors of the cores of one history, at any moments, are never
 //! refused when they are merged, and those of all cores at its end come to the kept seconds of its journal.
+//! [`read_schedule`] and [`print`] are those of `ksi_schedule`, for callers of [`replay`].
 //!
 //! ```text
 //! let schedule = read_schedule(alloc, text)?;
@@ -20,5 +21,6 @@ mod replaying;
 
 pub use journal::journal_of;
 pub use ksi_imprint::NoMemory;
+pub use ksi_schedule::{LineFault, Schedule, ScheduleFault, print, read_schedule};
 pub use mirror::mirror_of;
 pub use replaying::replay;

@@ -67,7 +67,7 @@ fn proof_saved(
     ensures told { IfOk result (λ report. report ≡ proof_saved block.now.seed k out.now block.now.lines) }
     ensures saves { IfOk result (SavesProof block.now.seed k out.now block.now.lines) }
 {
-    let proof = block.proof(alloc, k)?;
+    let proof = block.proof(k)?;
     let text = write_proof(alloc, &proof)?;
     let line = print(Text("line"), &[], &[Number(k as u64)]);
     Ok(Report::saving(line, Saved::named(alloc, out, text)?))
