@@ -72,5 +72,13 @@ fn a_file_is_refused(rt: HostRuntime) -> Result<(), Fail> {
     let mut file = FILE;
     file[140] = 32;
     assert!(rt; opened(alloc, &file, START)? == Err(OpenRefusal::Malformed(119)));
+    // the ballot that is tried, and the one that is promised, is of a core that the plan has not: 14, 8 and 1
+    for (at, gate) in [(96, 75), (118, 97)] {
+        for ballot in [222, 104, 17] {
+            let mut file = FILE;
+            file[at] = ballot;
+            assert!(rt; opened(alloc, &file, START)? == Err(OpenRefusal::Malformed(gate)));
+        }
+    }
     Ok(())
 }

@@ -1,7 +1,8 @@
 //! The one core of a plan is stopped at each call of its disk, and its file is opened again, whatever a crash leaves.
-ghost use Rattle.std.specs.Prelude.{◌≡◌, ◌≤◌, ◌^◌};
+ghost use Rattle.std.specs.Prelude.{◌≡◌, ◌≤◌, ◌^◌, ℕ};
 ghost use Rattle.ksi_corenode.specs.CoreState.{CoreState};
 ghost use Rattle.ksi_corenode.specs.Events.{event_second, IsAsked, MayTake};
+ghost use Rattle.ksi_corenode.specs.Owners.{BringsOwned, NamesOwned};
 ghost use Rattle.ksi_synod.specs.Rows.{OfBallot};
 
 use crate::node_files::opened;
@@ -31,7 +32,7 @@ impl<C: Compress, D: Disk> Model for Running<C, D> {
 
     ghost view = { λ running. running.store.core };
 
-    ghost invariant = { λ running. running.store.core.start ≡ 1700000000 };
+    ghost invariant = { λ running. (running.store.core.start ≡ 1700000000) × (running.store.core.plan.cores ≡ 1) };
 }
 
 impl<C: Compress, D: Disk> Running<C, D> {
@@ -47,6 +48,7 @@ impl<C: Compress, D: Disk> Running<C, D> {
     fn take(self, event: &CoreEvent) -> Result<Self, D>
         requires may { (core : CoreState) → core.start ≡ 1700000000 → MayTake core event.now }
         requires asked { (core : CoreState) → core.start ≡ 1700000000 → IsAsked core (event_second event.now) }
+        requires owned { (cores : ℕ) → cores ≡ 1 → BringsOwned cores event.now }
     {
         let mut store = self.store;
         match store.take(*event) {
@@ -60,6 +62,7 @@ impl<C: Compress, D: Disk> Running<C, D> {
 fn event(n: usize) -> CoreEvent
     ensures may { (core : CoreState) → core.start ≡ 1700000000 → MayTake core result }
     ensures asked { (core : CoreState) → core.start ≡ 1700000000 → IsAsked core (event_second result) }
+    ensures owned { (cores : ℕ) → cores ≡ 1 → BringsOwned cores result }
 {
     match n {
         0 => CoreEvent::Submission(0, START, Item::new(root(), 0)),
@@ -71,7 +74,8 @@ fn event(n: usize) -> CoreEvent
 
 /// What the core sends itself: its ballot, its promise, the decree to vote on, its vote, and the root that it then holds.
 fn message(n: usize) -> SynodMessage
-    ensures { OfBallot result }
+    ensures ballot { OfBallot result }
+    ensures owned { (cores : ℕ) → cores ≡ 1 → NamesOwned cores result }
 {
     match n {
         3 => SynodMessage::NextBallot(16),

@@ -10,6 +10,7 @@ use Rattle.ksi_corenode.specs.Facts.{fact_of}
 use Rattle.ksi_corenode.specs.Lawful.{with_new, AreLawful}
 use Rattle.ksi_corenode.specs.CoreState.{CoreState, state_of, IsTurn}
 use Rattle.ksi_corenode.specs.Events.{core_row, event_second, IsAsked, MayTake}
+use Rattle.ksi_corenode.specs.Owners.{BringsOwned}
 use Rattle.ksi_corenode.specs.Restored.{HasFacts, IsOfFacts}
 use Rattle.ksi_corenode.specs.declared.event.CoreEvent.{CoreEvent}
 use Rattle.ksi_corenode.specs.declared.fact.Fact.{Fact}
@@ -39,6 +40,7 @@ pub record Laws (image : List ℕ → List ℕ) (plan : PlanState) : Type 0 wher
   pub rows : RowsStore image
   pub may : (before : List Event) → AreEvents plan before → (core : ℕ) (event : Event) (one : CoreEvent) → IsEvent plan event → asked_of core (after image plan before).wire event ≡ Some one
       → (it : CoreState) → it.start ≡ plan.start → MayTake it one × IsAsked it (event_second one)
+  pub owned : (before : List Event) → AreEvents plan before → (core : ℕ) (event : Event) (one : CoreEvent) → asked_of core (after image plan before).wire event ≡ Some one → BringsOwned plan.cores one
   pub row : (w : WorldState) (core : ℕ) (it : CoreState) (one : CoreEvent) → IsCore plan (w.seconds core) core it → core_row image it one ≡ core_turn image plan w core one
   pub seconds : (w : WorldState) (core : ℕ) (event : Event) (one : CoreEvent) → asked_of core w.wire event ≡ Some one
       → (t : ℕ) → (happens image plan w event).world.seconds core t ≡ (if eqb t (event_second one) then (core_turn image plan w core one).after else w.seconds core t)
@@ -46,9 +48,9 @@ pub record Laws (image : List ℕ → List ℕ) (plan : PlanState) : Type 0 wher
   pub still : (w : WorldState) (core : ℕ) (event : Event) → asked_of core w.wire event ≡ None → is_restart_of core event ≡ false → (t : ℕ) → (happens image plan w event).world.seconds core t ≡ w.seconds core t
   pub restarted : (w : WorldState) (core : ℕ) (event : Event) → is_restart_of core event ≡ true → (t : ℕ) → (happens image plan w event).world.seconds core t ≡ restart_row (w.seconds core t)
   pub one : (me : ℕ) (core_plan : CorePlanState) (facts others : List Fact) (file : List ℕ) → IsFileOf me core_plan facts file → IsFileOf me core_plan others file → facts ≡ others
-  pub grows : (core_plan : CorePlanState) (facts : List Fact) (old new : CoreState) (event : CoreEvent) (step : Step) → HasFacts image core_plan facts old → MayTake old event → IsAsked old (event_second event)
+  pub grows : (core_plan : CorePlanState) (facts : List Fact) (old new : CoreState) (event : CoreEvent) (step : Step) → HasFacts image core_plan facts old → MayTake old event → IsAsked old (event_second event) → BringsOwned old.plan.cores event
       → IsTurn old new (event_second event) (core_row image old event) step → HasFacts image core_plan (with_new facts step.fact) new
-  pub made : (me : ℕ) (core_plan : CorePlanState) (facts : List Fact) (core : CoreState) → me < 9 → AreLawful core_plan.start facts → IsOfFacts image me core_plan facts core → HasFacts image core_plan facts core
+  pub made : (me : ℕ) (core_plan : CorePlanState) (facts : List Fact) (core : CoreState) → me < 9 → me < core_plan.cores → AreLawful core_plan.cores core_plan.start facts → IsOfFacts image me core_plan facts core → HasFacts image core_plan facts core
   pub back : (core_plan : CorePlanState) (facts : List Fact) (core other : CoreState) → HasFacts image core_plan facts core → IsOfFacts image core.me core_plan facts other
       → (t : ℕ) → state_of other t ≡ restart_row (state_of core t)
   pub back_with : (core_plan : CorePlanState) (facts : List Fact) (core other : CoreState) (event : CoreEvent) → HasFacts image core_plan facts core → MayTake core event
@@ -88,7 +90,7 @@ module _ (image : List ℕ → List ℕ) (plan : PlanState) (laws : Laws image p
       → ((t : ℕ) → state_of running.core t ≡ (World events).seconds j t) → IsCoreAfter image plan events j running
   opened_after events j running lt file opened keeps =
       let of = of_facts j (Facts events j) running file opened in
-      record { mine = of.mine; has = laws.made j CorePlan (Facts events j) running.core (omega (arith, lt, laws.plan_is.core_plan.few)) file.are.lawful of; file = file; keeps = keeps }
+      record { mine = of.mine; has = laws.made j CorePlan (Facts events j) running.core (omega (arith, lt, laws.plan_is.core_plan.few)) lt file.are.lawful of; file = file; keeps = keeps }
 
   -- before anything happened
   pub first_core : (j : ℕ) (running : Running) → j < plan.cores → IsFileOf j CorePlan [] running.file → WasOpened image j CorePlan running → IsCoreAfter image plan [] j running
@@ -116,10 +118,11 @@ module _ (image : List ℕ → List ℕ) (plan : PlanState) (laws : Laws image p
         → IsCoreAfter image plan (before ++ event ∷ []) j new
     took_after are event_is asked here new took =
         let may = laws.may before are j event asked event_is here old.core is.has.begins in
+        let owned = subst (λ (p : CorePlanState). BringsOwned p.cores asked) (sym is.has.planned) (laws.owned before are j event asked here) in
         let same : with_new (Facts before j) took.step.fact ≡ Facts (before ++ event ∷ []) j = ap (λ (fact : Option Fact). with_new (Facts before j) fact) took.turn.fact ∙ next_facts asked here in
         record {
           mine = took.turn.me ∙ is.mine;
-          has = subst (λ (fs : List Fact). HasFacts image CorePlan fs new.core) same (laws.grows CorePlan (Facts before j) old.core new.core asked took.step is.has may.0 may.1 took.turn);
+          has = subst (λ (fs : List Fact). HasFacts image CorePlan fs new.core) same (laws.grows CorePlan (Facts before j) old.core new.core asked took.step is.has may.0 may.1 owned took.turn);
           file = subst (λ (fs : List Fact). IsFileOf j CorePlan fs new.file) same (took.file (Facts before j) is.file);
           keeps = λ t. took.turn.seconds t ∙ next_second asked here t;
         }

@@ -85,10 +85,10 @@ most_room s (whats.Promised ballot) may = omega arith
 most_room s (whats.Cast vote) may = omega arith
 most_room s (whats.Holds root) may = omega arith
 
-pub affords_most : (start second : ℕ) (s : StableState) (row : Option What) (meter : Option Meter) → Affords 6750227 4 meter → IfSome row (λ what. IsLawful start s (fact_of second what)) → AffordsMost (option_map (fact_of second) row) meter
-affords_most start second s None meter affords may = tt
-affords_most start second s (Some what) None affords may = affords
-affords_most start second s (Some what) (Some meter) affords may = (omega (arith, affords.0, most_room s what may.what), affords.1)
+pub affords_most : (cores start second : ℕ) (s : StableState) (row : Option What) (meter : Option Meter) → Affords 6750227 4 meter → IfSome row (λ what. IsLawful cores start s (fact_of second what)) → AffordsMost (option_map (fact_of second) row) meter
+affords_most cores start second s None meter affords may = tt
+affords_most cores start second s (Some what) None affords may = affords
+affords_most cores start second s (Some what) (Some meter) affords may = (omega (arith, affords.0, most_room s what may.what), affords.1)
 
 -- what an event takes of a disk that tells what it takes
 pub sure_for : (disk old new : StoredDisk) (room turns : ℕ) (fact : Option Fact) → old ≡ with_room disk room turns → disk.failing ≡ [] → SpendsFor fact (meter_of old) (meter_of new) → new.failing ≡ []

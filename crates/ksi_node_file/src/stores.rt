@@ -3,6 +3,7 @@ ghost use Rattle.std.specs.Prelude.{◌≡◌, ◌<◌, ℕ, List, [], IfOk};
 ghost use Rattle.ksi_synod.specs.CorePlans.{CorePlanState};
 ghost use Rattle.ksi_corenode.specs.declared.fact.Fact.{Fact};
 ghost use Rattle.ksi_corenode.specs.Events.{event_second, IsAsked, MayTake};
+ghost use Rattle.ksi_corenode.specs.Owners.{BringsOwned};
 ghost use Rattle.ksi_disk.specs.Deeds.{content_of};
 ghost use Rattle.ksi_nodestore.specs.Spelling.{node_text};
 ghost use Rattle.ksi_nodestore.specs.Stores.{IsFileOf};
@@ -92,6 +93,7 @@ pub(crate) fn taken<C: Compress>(
     requires held { (me : ℕ) × (plan : CorePlanState) × (facts : List Fact) × IsInMemory C.image me plan facts store }
     requires event { MayTake store.core event }
     requires asked { IsAsked store.core (event_second event) }
+    requires owned { BringsOwned store.core.plan.cores event }
     ensures { (me : ℕ) (plan : CorePlanState) (facts : List Fact) → IsInMemory C.image me plan facts store → IfOk result (HasTaken C.image me plan facts event store) }
 {
     steps_are_lawful();

@@ -35,7 +35,7 @@ impl<C: Compress> Model for Kept<C> {
     ghost view = { λ kept. kept.facts.items };
 
     ghost invariant = { λ kept. (0 < kept.plan.cores) × (kept.plan.start ≡ 1700000000)
-        × AreLawful kept.plan.start kept.facts.items
+        × AreLawful kept.plan.cores kept.plan.start kept.facts.items
         × IsOfFacts C.image 0 kept.plan kept.facts.items kept.core };
 }
 

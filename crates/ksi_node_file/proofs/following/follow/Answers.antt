@@ -1,6 +1,8 @@
 use Rattle.ksi_schedule.specs.Plans.{core_plan_of}
-use Rattle.std.proofs.Common.{◌≡◌, ◌∙◌, Some, sym}
+use Rattle.std.proofs.Common.{◌≡◌, ◌∙◌, Some, sym, subst}
 use Rattle.std.proofs.lemmas.Result.{IfOk-weaker}
+use Rattle.ksi_synod.specs.CorePlans.{CorePlanState}
+use Rattle.ksi_corenode.specs.Owners.{BringsOwned}
 use Rattle.ksi_world.specs.Histories.{after}
 use Rattle.ksi_world.specs.CoreEvents.{asked_of}
 use Rattle.ksi_node_file.specs.CoreFacts.{core_facts}
@@ -24,6 +26,14 @@ taken-requires-clause-asked g c =
     let h = c.args.world.now in
     let asked : asked_of c.args.core (after image h.plan h.events).wire c.args.event.now ≡ Some c.in-Some.asked = sym c.asked_of.ensures ∙ c.in-Some.is in
     (c.events_are_turns.ensures.may image h.plan h.events c.plan-plan.ensures.limits c.events-events.ensures.lawful c.args.core c.args.event.now c.in-Some.asked c.requires.event asked c.args.store.core c.requires.following.held.stored.has.begins).1
+
+pub taken-requires-clause-owned : goal.taken-requires-clause-owned
+taken-requires-clause-owned g c =
+    let image = g.C.Compress.image in
+    let h = c.args.world.now in
+    let asked : asked_of c.args.core (after image h.plan h.events).wire c.args.event.now ≡ Some c.in-Some.asked = sym c.asked_of.ensures ∙ c.in-Some.is in
+    subst (λ (p : CorePlanState). BringsOwned p.cores c.in-Some.asked) (sym c.requires.following.held.stored.has.planned)
+    (c.events_are_turns.ensures.owned image h.plan h.events c.plan-plan.ensures.limits c.events-events.ensures.lawful c.args.core c.args.event.now c.in-Some.asked asked)
 
 pub returns-in-Some : goal.returns-in-Some
 returns-in-Some g c =

@@ -14,14 +14,15 @@ returns c =
       step = λ before event. c.step_is_by_facts.ensures image plan is before event;
       rows = record { submission = adds.submission; seal = adds.seal image; ballot = adds.ballot; receive = adds.receive; tell = adds.tell; respond = adds.respond image };
       may = λ before are core event one event_is asked it start. turns.may image plan before is are core event one event_is asked it start;
+      owned = λ before are core event one asked. turns.owned image plan before is are core event one asked;
       row = λ w core it one keeps. turns.row image plan w core it one keeps;
       seconds = λ w core event one asked t. turns.seconds image plan w core event one asked t;
       others = λ w core other event one asked apart. turns.others w core other event one asked apart;
       still = λ w core event none other t. turns.still image plan w core event none other t;
       restarted = λ w core event mine t. turns.restarted image plan w core event mine t;
       one = λ me core_plan facts others file one other. c.a_crash_is_a_restart.ensures.one me core_plan facts others file one other;
-      grows = λ core_plan facts old new event step has may asked turn. c.steps_are_lawful.ensures.facts image core_plan facts old new event step has may asked turn;
-      made = λ me core_plan facts core lt lawful of. c.one_core_of_facts.ensures.has image me core_plan facts core lt lawful of;
+      grows = λ core_plan facts old new event step has may asked owned turn. c.steps_are_lawful.ensures.facts image core_plan facts old new event step has may asked owned turn;
+      made = λ me core_plan facts core lt there lawful of. c.one_core_of_facts.ensures.has image me core_plan facts core lt there lawful of;
       back = λ core_plan facts core other has of t. c.one_core_of_facts.ensures.restarted image core_plan facts core other has of t;
       back_with = λ core_plan facts core other event has may of t. c.steps_come_back.ensures image core_plan facts core other event has may of t;
     } in

@@ -39,8 +39,8 @@ take_want-requires g c =
     let made = c.in_ok-make_room.ensures.made in
     let core_is = ap (λ (s : StoreState StoredDisk). s.core) made in
     let disk_is = ap (λ (s : StoreState StoredDisk). s.log.disk) made in
-    let may = c.steps_are_lawful.ensures.fact image core event c.requires.event c.requires.asked (is.stored.has.well (event_second event)) in
-    let affords = affords_most core.start (event_second event) (stable_state (state_of core (event_second event))) (core_row image core event).fact (meter_of roomy.log.disk)
+    let may = c.steps_are_lawful.ensures.fact image core event c.requires.event c.requires.asked c.requires.owned is.stored.has.there (is.stored.has.well (event_second event)) in
+    let affords = affords_most core.plan.cores core.start (event_second event) (stable_state (state_of core (event_second event))) (core_row image core event).fact (meter_of roomy.log.disk)
     (affords_now store.log.disk roomy.log.disk 6750227 4 disk_is is.sure) may in
     let most = subst (λ (c : CoreState). AffordsMost (fact_added image c event) (meter_of roomy.log.disk)) (sym core_is) affords in
     take_want_of c.take.result c.in-Err.refusal roomy.log.is_spent c.in-Err.is (λ failed. c.take.ensures.costs.enough most failed) (λ spent. c.take.ensures.spent.0 spent) (ap (λ (s : StoreState StoredDisk). s.log.is_spent) made ∙ is.stored.settled.fresh)

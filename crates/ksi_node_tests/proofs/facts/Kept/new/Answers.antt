@@ -10,9 +10,9 @@ invariant_of-result g c =
     let image = g.C.Compress.image in
     let plan = c.new-plan.result in
     let core = c.new-2 in
-    subst (λ (facts : List Fact). (0 < plan.cores) × (plan.start ≡ 1700000000) × AreLawful plan.start facts × IsOfFacts image 0 plan facts core.result) (sym c.new.ensures.items) (
+    subst (λ (facts : List Fact). (0 < plan.cores) × (plan.start ≡ 1700000000) × AreLawful plan.cores plan.start facts × IsOfFacts image 0 plan facts core.result) (sym c.new.ensures.items) (
       omega (arith, ap (λ (p : CorePlanState). p.cores) c.new-plan.ensures.plan),
       ap (λ (p : CorePlanState). p.start) c.new-plan.ensures.plan,
-      c.facts_one_by_one.ensures.none plan.start,
+      c.facts_one_by_one.ensures.none plan.cores plan.start,
       c.one_core_of_facts.ensures.none image 0 plan core.result core.ensures.me core.ensures.plan core.ensures.start core.ensures.seconds,
     )
