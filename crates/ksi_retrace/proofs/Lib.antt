@@ -1,0 +1,4 @@
+pub mod MarkLemmas
+pub mod RecordLemmas
+pub mod LineLemmas
+pub mod SaidLemmas

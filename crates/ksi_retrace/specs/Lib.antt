@@ -1,0 +1,4 @@
+pub mod Agreeing
+pub mod Entries
+pub mod Marks
+pub mod Told

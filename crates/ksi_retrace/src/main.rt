@@ -1,0 +1,102 @@
+//! `ksi_retrace PLAN [RECORD]` holds the record of a live run against the world of its plan.
+//!
+//! PLAN is a schedule file without events. The record comes from the file RECORD, or from standard input, entry by entry
+//! (docs/FORMATS.md, "Records of runs"). The program prints one line: `agrees` with counts, `differs` with the first entry
+//! whose block is not what the world says at its place, `refused` with what is no entry, or `failed`.
+#![tactic(auto)]
+
+mod fault;
+mod head;
+mod mark;
+mod printing;
+mod reading;
+mod stream;
+mod telling;
+mod tracer;
+
+use ksi_imprint::{Refused, Sha};
+use ksi_schedule::read_schedule;
+use std::fs::File;
+use std::io::{self, BufRead, BufReader, ErrorKind, Write};
+use std::process::ExitCode;
+use std::{env, fs};
+use stream::{Counts, Retraced, retrace};
+
+fn main(rt: HostRuntime) -> ExitCode {
+    match run(&rt) {
+        Ok(code) => ExitCode::from(code),
+        Err(_) => ExitCode::from(4),
+    }
+}
+
+fn run(rt: &HostRuntime) -> io::Result<u8> {
+    let words: Vec<String> = env::args(rt)?.collect(rt.alloc())?;
+    match words.as_slice() {
+        [_, plan] => {
+            let mut record = BufReader::new(rt.alloc(), rt.reader())?;
+            hold(rt, plan.as_str(), &mut record)
+        }
+        [_, plan, record] => match File::open(rt, record.as_str()) {
+            Ok(file) => {
+                let mut record = BufReader::new(rt.alloc(), file)?;
+                hold(rt, plan.as_str(), &mut record)
+            }
+            Err(_) => fail(rt, "stream", 4),
+        },
+        _ => fail(rt, "words", 2),
+    }
+}
+
+/// Holds a record against the world of the plan in a file.
+fn hold<S: BufRead>(rt: &HostRuntime, plan: &str, record: &mut S) -> io::Result<u8> {
+    let text = match fs::read(rt, plan) {
+        Ok(text) => text,
+        Err(_) => return fail(rt, "plan", 3),
+    };
+    let schedule = match read_schedule(rt.alloc(), &text) {
+        Ok(schedule) => schedule,
+        Err(Refused::Fault(_)) => return fail(rt, "plan", 3),
+        Err(Refused::NoMemory) => return fail(rt, "memory", 5),
+    };
+    if !schedule.events().is_empty() {
+        return fail(rt, "plan", 3);
+    }
+    match retrace::<Sha, S>(rt.alloc(), schedule.plan(), record) {
+        Ok(found) => tell(rt, found),
+        Err(error) if error.kind() == ErrorKind::OutOfMemory => fail(rt, "memory", 5),
+        Err(_) => fail(rt, "stream", 4),
+    }
+}
+
+/// Prints what was found. The result is the exit status.
+fn tell(rt: &HostRuntime, found: Retraced) -> io::Result<u8> {
+    match found {
+        Retraced::Agrees(counts) => {
+            let Counts {
+                steps,
+                unsaid,
+                signatures,
+            } = counts;
+            println!(rt; "agrees {steps} unsaid {unsaid} signatures {signatures}")?;
+            Ok(0)
+        }
+        Retraced::Differs(place) => {
+            let line = place.lines.saturating_add(1);
+            println!(rt; "differs {} {line}", place.entries)?;
+            Ok(1)
+        }
+        Retraced::Refused(fault, place) => {
+            let line = place.lines.saturating_add(1);
+            let mut out = io::writer(rt);
+            out.write_all(b"refused ")?;
+            out.write_all(fault.word())?;
+            println!(rt; " {} {line}", place.entries)?;
+            Ok(3)
+        }
+    }
+}
+
+fn fail(rt: &HostRuntime, why: &str, status: u8) -> io::Result<u8> {
+    println!(rt; "failed {why}")?;
+    Ok(status)
+}
