@@ -1,7 +1,6 @@
 -- A store that follows a core of a world goes on with an event.
 use Rattle.ksi_schedule.specs.Plans.{PlanState, core_plan_of}
 use Rattle.std.proofs.Common.{◌≡◌, ℕ, List, [], ◌∷◌, ◌++◌, option_map, refl, sym, ap, subst, ◌∙◌, Option, Some, None}
-use Rattle.ksi_synod.specs.CorePlans.{CorePlanState}
 use Rattle.ksi_synod.specs.VoteState as votes
 use Rattle.ksi_corenode.specs.SecondState.{fresh_second}
 use Rattle.ksi_corenode.specs.Rows.{restart_row}
@@ -10,14 +9,14 @@ use Rattle.ksi_corenode.specs.Facts.{fact_of}
 use Rattle.ksi_corenode.specs.Lawful.{with_new}
 use Rattle.ksi_corenode.specs.CoreState.{CoreState, state_of, IsTurn}
 use Rattle.ksi_corenode.specs.Events.{core_row, event_second}
-use Rattle.ksi_corenode.specs.Restored.{HasFacts, IsOfFacts, restored}
+use Rattle.ksi_corenode.specs.Restored.{IsOfFacts, restored}
 use Rattle.ksi_corenode.specs.declared.event.CoreEvent.{CoreEvent}
 use Rattle.ksi_corenode.specs.declared.fact.Fact.{Fact}
 use Rattle.ksi_corenode.specs.declared.step.Step.{Step}
 use Rattle.ksi_disk.specs.Deeds.{StoredDisk, content_of}
-use Rattle.ksi_nodestore.specs.StoreState.{StoreState}
-use Rattle.ksi_nodestore.specs.Spelling.{node_text}
-use Rattle.ksi_nodestore.specs.Stores.{IsFileOf}
+use Rattle.ksi_gates.specs.declared.log.GateLog.{GateLog}
+use Rattle.ksi_nodestore.specs.Crashes.{IsRestarted}
+use Rattle.ksi_nodestore.specs.StoreState.{IsStoreOf, StoreState}
 use Rattle.ksi_schedule.specs.declared.event.Event.{Event}
 use Rattle.ksi_world.specs.Histories.{WorldState, after, first_world, happens, run}
 use Rattle.ksi_world.specs.Nodes.{IsCore, core_turn}
@@ -26,7 +25,7 @@ use Rattle.ksi_facts.specs.Seen.{seen}
 use Rattle.ksi_facts.specs.State.{world_seen}
 use Rattle.ksi_facts.specs.Steps.{IsStepByFacts}
 use Rattle.ksi_node_file.specs.CoreFacts.{core_facts}
-use Rattle.ksi_node_file.specs.Followed.{HasTaken, IsFollowing, IsInMemory, IsOpened}
+use Rattle.ksi_node_file.specs.Followed.{HasTaken, images_of, IsFollowing, IsInMemory, IsOpened}
 use Rattle.ksi_node_file.proofs.FactsMore.{RowsStore, facts_asked, facts_first, facts_unasked}
 
 run_more : (image : List ℕ → List ℕ) (plan : PlanState) (w : WorldState) (es : List Event) (e : Event) → run image plan w (es ++ e ∷ []) ≡ (happens image plan (run image plan w es) e).world
@@ -40,13 +39,6 @@ after_more image plan es e = run_more image plan (first_world plan) es e
 pub first_keeps : (image : List ℕ → List ℕ) (plan : PlanState) (j t : ℕ) (core : CoreState) → IsOfFacts image j (core_plan_of plan) [] core → state_of core t ≡ (after image plan []).seconds j t
 unfolding after first_world restored fresh_second votes.fresh_vote
 first_keeps image plan j t core is = is.seconds t
-
--- the disk of a store is that of a file of its facts, and nothing but that
-pub opens_on : (image : List ℕ → List ℕ) (j : ℕ) (facts : List Fact) (plan other : CorePlanState) (old : StoreState StoredDisk) (disk : StoredDisk) → other ≡ plan → disk ≡ old.log.disk → IsInMemory image j plan facts old
-    → IsFileOf j other facts (content_of disk) × (content_of disk ≡ node_text j other facts) × (disk.failing ≡ [])
-opens_on image j facts plan other old disk plan_is disk_is held =
-    subst (λ (p : CorePlanState). IsFileOf j p facts (content_of disk) × (content_of disk ≡ node_text j p facts) × (disk.failing ≡ [])) (sym plan_is)
-    (subst (λ (d : StoredDisk). IsFileOf j plan facts (content_of d) × (content_of d ≡ node_text j plan facts) × (d.failing ≡ [])) (sym disk_is) (held.stored.file, held.exact, held.sure))
 
 -- before anything happened
 pub follows_first : (image : List ℕ → List ℕ) (plan : PlanState) (j : ℕ) (store : StoreState StoredDisk) → IsOpened image j (core_plan_of plan) [] store → IsFollowing image plan [] j store
@@ -89,17 +81,14 @@ module _ (image : List ℕ → List ℕ) (plan : PlanState) (before : List Event
 
   -- a restart
   pub follows_restart : asked_of j (after image plan before).wire event ≡ None → ((t : ℕ) → (happens image plan (after image plan before) event).world.seconds j t ≡ restart_row ((after image plan before).seconds j t))
-      → ((facts others : List Fact) (file : List ℕ) (core other : CoreState) → HasFacts image (core_plan_of plan) facts core → IsFileOf core.me (core_plan_of plan) facts file → IsFileOf core.me (core_plan_of plan) others file
-      → IsOfFacts image core.me (core_plan_of plan) others other → (t : ℕ) → state_of other t ≡ restart_row (state_of core t))
-      → IsOpened image j (core_plan_of plan) (core_facts image plan before j) new → IsFollowing image plan (before ++ event ∷ []) j new
-  follows_restart asked restarts again opened =
+      → IsRestarted old.core new.core → new.log ≡ old.log → IsStoreOf image content_of images_of j (core_plan_of plan) (core_facts image plan before j) new → IsFollowing image plan (before ++ event ∷ []) j new
+  follows_restart asked restarts again log_is stored =
       let facts = core_facts image plan before j in
-      let stored = follows.held.stored in
-      let file : IsFileOf old.core.me (core_plan_of plan) facts (content_of old.log.disk) = subst (λ (n : ℕ). IsFileOf n (core_plan_of plan) facts (content_of old.log.disk)) (sym stored.mine) stored.file in
-      let made : IsOfFacts image old.core.me (core_plan_of plan) facts new.core = subst (λ (n : ℕ). IsOfFacts image n (core_plan_of plan) facts new.core) (sym stored.mine) opened.made in
       record {
-        held = subst (λ (facts : List Fact). IsInMemory image j (core_plan_of plan) facts new) (sym (facts_unasked image plan before event j seen_is step asked)) opened.held;
-        keeps = λ t.
-            again facts facts (content_of old.log.disk) old.core new.core stored.has file file made t
-            ∙ ap restart_row (follows.keeps t) ∙ sym (restarts t) ∙ ap (λ (w : WorldState). w.seconds j t) (sym (after_more image plan before event));
+        held = subst (λ (facts : List Fact). IsInMemory image j (core_plan_of plan) facts new) (sym (facts_unasked image plan before event j seen_is step asked)) (record {
+          stored = stored;
+          exact = ap (λ (log : GateLog StoredDisk). content_of log.disk) log_is ∙ follows.held.exact;
+          sure = ap (λ (log : GateLog StoredDisk). log.disk.failing) log_is ∙ follows.held.sure;
+        });
+        keeps = λ t. again t ∙ ap restart_row (follows.keeps t) ∙ sym (restarts t) ∙ ap (λ (w : WorldState). w.seconds j t) (sym (after_more image plan before event));
       }

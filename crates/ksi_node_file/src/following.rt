@@ -1,17 +1,15 @@
 // A store follows a core of a world, one event after the other.
 ghost use Rattle.std.specs.Prelude.{◌≡◌, ◌<◌, ◌++◌, ◌∷◌, [], None, IfOk};
-ghost use Rattle.ksi_schedule.specs.Plans.{core_plan_of};
 ghost use Rattle.ksi_schedule.specs.Events.{IsEvent};
 ghost use Rattle.ksi_world.specs.CoreEvents.{asked_of, is_restart_of};
 ghost use Rattle.ksi_world.specs.Histories.{world_of};
 ghost use Rattle.ksi_node_file.specs.Followed.{IsFollowing};
 
-use crate::stores::{empty_store, opened, taken};
+use crate::stores::{empty_store, taken};
 use ksi_disk::MemDisk;
 use ksi_facts::laws::{rows_add_what_they_store, step_is_by_facts, world_is_seen};
 use ksi_imprint::{Compress, NoMemory};
 use ksi_nodestore::NodeStore;
-use ksi_nodestore::laws::a_crash_is_a_restart;
 use ksi_schedule::{Event, Plan};
 use ksi_world::World;
 use ksi_world::laws::events_are_turns;
@@ -31,7 +29,6 @@ pub(crate) fn first<C: Compress>(
 
 /// The store after an event more, which is about to happen in the world.
 pub(crate) fn follow<C: Compress>(
-    alloc: Global,
     world: &World<C>,
     store: NodeStore<C, MemDisk>,
     core: u8,
@@ -50,32 +47,33 @@ pub(crate) fn follow<C: Compress>(
     let _plan = world.plan();
     match world.asked_of(core, event) {
         Some(asked) => taken(store, asked),
-        None => unasked(alloc, world, store, core, event),
+        None => Ok(unasked(world, store, core, event)),
     }
 }
 
-/// The same of an event that asks nothing of the core.
+/// The same of an event that asks nothing of the core. Where the core restarts so does its store, whose file stays: opening it
+/// again would leave the core in the same state, and would cost as much as all that is in it.
 fn unasked<C: Compress>(
-    alloc: Global,
     world: &World<C>,
     store: NodeStore<C, MemDisk>,
     core: u8,
     event: &Event,
-) -> Result<NodeStore<C, MemDisk>, NoMemory>
+) -> NodeStore<C, MemDisk>
     requires member { core < world.now.plan.cores }
     requires none { asked_of core (world_of C.image world.now).wire event.now ≡ None }
     requires following { IsFollowing C.image world.now.plan world.now.events core store }
-    ensures { IfOk result (IsFollowing C.image world.now.plan (world.now.events ++ event.now ∷ []) core) }
+    ensures { IsFollowing C.image world.now.plan (world.now.events ++ event.now ∷ []) core result }
 {
     events_are_turns();
     step_is_by_facts();
     world_is_seen();
-    a_crash_is_a_restart();
-    let plan = world.plan();
+    let _plan = world.plan();
     if is_restart_of(core, event) {
-        opened(alloc, core, plan.core_plan(), store.into_disk())
+        let mut store = store;
+        store.restart();
+        store
     } else {
-        Ok(store)
+        store
     }
 }
 

@@ -53,14 +53,13 @@ fn followed<C: Compress>(
     let mut world = World::<C>::new(alloc, schedule.plan())?;
     let mut store = first::<C>(alloc, schedule.plan(), core)?;
     'events: for event in schedule.events() {
-        store = onward(alloc, &mut world, store, core, event)?;
+        store = onward(&mut world, store, core, event)?;
     }
     Ok(store)
 }
 
 /// An event more, of the world and of the store.
 fn onward<C: Compress>(
-    alloc: Global,
     world: &mut World<C>,
     store: NodeStore<C, MemDisk>,
     core: u8,
@@ -72,7 +71,7 @@ fn onward<C: Compress>(
     ensures happened { OnOk result (world.new ≡ with_event world.old event.now) }
     ensures following { IfOk result (IsFollowing C.image world.new.plan world.new.events core) }
 {
-    let store = follow(alloc, world, store, core, event)?;
+    let store = follow(world, store, core, event)?;
     world.step(*event)?;
     Ok(store)
 }

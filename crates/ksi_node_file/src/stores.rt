@@ -55,7 +55,7 @@ fn formatted(alloc: Global, core: u8, plan: &CorePlan) -> Result<MemDisk, NoMemo
 }
 
 /// The store of a file of facts.
-pub(crate) fn opened<C: Compress>(
+fn opened<C: Compress>(
     alloc: Global,
     core: u8,
     plan: &CorePlan,
