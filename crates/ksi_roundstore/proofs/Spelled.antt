@@ -112,7 +112,7 @@ one_above is_one t u one other first second is =
     let second_bytes = signature_text (issued u (input_of other) [] other) in
     let bytes : first_bytes ≡ second_bytes = hex_once first_bytes second_bytes (are_bytes first_bytes first.bytes) (are_bytes second_bytes second.bytes) is in
     let same = is_one first_bytes (issued t (input_of one) [] one) (issued u (input_of other) [] other) first.again
-        (subst (λ (l : List ℕ). IsSignature l (issued u (input_of other) [] other)) (sym bytes) second.again) in
+    (subst (λ (l : List ℕ). IsSignature l (issued u (input_of other) [] other)) (sym bytes) second.again) in
     sym (told_again t (input_of one) one) ∙ ap above_told same ∙ told_again u (input_of other) other
 
 -- EVENTS
@@ -150,7 +150,6 @@ third [] = 0
 third (a ∷ []) = 0
 third (a ∷ b ∷ []) = 0
 third (a ∷ b ∷ c ∷ text) = c
-
 
 -- FACTS BY THEIR EVENTS
 

@@ -7,3 +7,4 @@ pub mod Opens
 pub mod Takes
 pub mod Written
 pub mod Stores
+pub mod Crashes

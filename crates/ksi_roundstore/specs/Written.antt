@@ -40,6 +40,11 @@ pub record IsWritten (plan : PlanState) (me : ℕ) (event : RoundEvent) : Type 0
   pub fits : FitsRound event
   pub asked : IsAskedBy plan me event
 
+-- a line is read as this event: it is its line, and where it has no line feed, the event is written by it
+pub record IsReadAs (plan : PlanState) (me : ℕ) (line : Text) (event : RoundEvent) : Type 0 where
+  pub text : line ≡ line_of (round_words event)
+  pub written : IsLine line → IsWritten plan me event
+
 -- the events that make a fact: those of a round's items and its closing, or that of its response
 abbrev pub what_events : (second : ℕ) → RoundFact → List RoundEvent
 what_events second (Closed items) = map (event_of second) items ++ events.Close second ∷ []

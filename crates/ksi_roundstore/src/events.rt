@@ -1,7 +1,8 @@
 // The events whose lines a text is.
 ghost use Rattle.std.specs.Prelude.{◌≡◌, ◌∷◌, ◌++◌, IfOk, IfSome};
 ghost use Rattle.std.specs.List.{AllByRecursion};
-ghost use Rattle.ksi_wire.specs.RoundLines.{FitsRound};
+ghost use Rattle.ksi_roundstore.specs.Texts.{lines_of};
+ghost use Rattle.ksi_roundstore.specs.Written.{IsLine, IsReadAs, IsWritten};
 
 use ksi_aggregator::RoundEvent;
 use ksi_imprint::{NoMemory, Refused};
@@ -17,7 +18,8 @@ pub(crate) fn read_events(
     me: u32,
     text: &[u8],
 ) -> Result<Option<Vec<RoundEvent>>, NoMemory>
-    ensures fit { IfOk result (λ found. IfSome found (λ events. AllByRecursion FitsRound events.items)) }
+    ensures lines { IfOk result (λ found. IfSome found (λ events. text.now ≡ lines_of events.items)) }
+    ensures written { IfOk result (λ found. IfSome found (λ events. AllByRecursion (IsWritten plan.now me) events.items)) }
 {
     let mut events = Vec::new(alloc);
     let mut rest = text;
@@ -42,7 +44,7 @@ fn read_line(
     me: u32,
     line: &[u8],
 ) -> Result<Option<RoundEvent>, NoMemory>
-    ensures fits { IfOk result (λ found. IfSome found FitsRound) }
+    ensures { IfOk result (λ found. IfSome found (IsReadAs plan.now me line.now)) }
 {
     match aggregator_line(alloc, plan, me, line) {
         Ok(AggregatorLine::Event(event)) => Ok(Some(event)),
@@ -54,7 +56,8 @@ fn read_line(
 
 /// The first line of a text and what follows it; none where there is no line feed.
 fn next_line(text: &[u8]) -> Option<(&[u8], &[u8])>
-    ensures { IfSome result (λ parts. text.now ≡ parts.0.now ++ 10 ∷ parts.1.now) }
+    ensures text { IfSome result (λ parts. text.now ≡ parts.0.now ++ 10 ∷ parts.1.now) }
+    ensures line { IfSome result (λ parts. IsLine parts.0.now) }
 {
     let place = memchr(b'\n', text)?;
     let (line, others) = text.split_at(place);

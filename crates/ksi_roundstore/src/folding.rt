@@ -1,10 +1,10 @@
 // The aggregator of the facts that records spell.
-ghost use Rattle.std.specs.Prelude.{◌≡◌, ◌+◌, length, IfOk, OnOk};
+ghost use Rattle.std.specs.Prelude.{◌≡◌, ◌+◌, length, IfOk, IsTrue, OnOk};
 ghost use Rattle.std.specs.List.{AllByRecursion};
 ghost use Rattle.ksi_gates.specs.Gates.{records_text};
 ghost use Rattle.ksi_aggregator.specs.Events.{event_second, MayTake, round_row};
 ghost use Rattle.ksi_aggregator.specs.Rounds.{rounds_of, IsTurn};
-ghost use Rattle.ksi_roundstore.specs.Facts.{is_accepted};
+ghost use Rattle.ksi_roundstore.specs.Facts.{is_accepted, TakesAll, TakesAs};
 ghost use Rattle.ksi_roundstore.specs.Opens.{FoldsAs};
 ghost use Rattle.ksi_wire.specs.RoundLines.{FitsRound};
 
@@ -62,6 +62,7 @@ fn take_all<C: Compress>(
 ) -> Result<bool, NoMemory>
     requires fit { AllByRecursion FitsRound events.now }
     ensures me { OnOk result (aggregator.new.me ≡ aggregator.old.me) }
+    ensures taken { IfOk result (TakesAll C.image (rounds_of aggregator.old) (rounds_of aggregator.new) events.now) }
 {
     'taking: for k in 0..events.len() {
         if !take_event(aggregator, &events[k])? {
@@ -78,14 +79,26 @@ fn take_event<C: Compress>(
 ) -> Result<bool, NoMemory>
     requires fits { FitsRound event.now }
     ensures me { OnOk result (aggregator.new.me ≡ aggregator.old.me) }
+    ensures taken { IfOk result (TakesAs C.image (rounds_of aggregator.old) (rounds_of aggregator.new) event.now) }
 {
-    if let RoundEvent::Request(number, _, _, _) = event {
-        if !aggregator.is_new(*number) {
-            return Ok(false);
-        }
+    if !may_come(aggregator, event) {
+        return Ok(false);
     }
     let step = step_of(aggregator, event)?;
     Ok(is_accepted(&step.answer))
+}
+
+/// Whether an event may come: the number of a request is new.
+fn may_come<C: Compress>(aggregator: &Aggregator<C>, event: &RoundEvent) -> bool
+    requires { FitsRound event.now }
+    ensures { IsTrue result → MayTake (rounds_of aggregator.now) event.now }
+{
+    match event {
+        RoundEvent::Request(number, _, _, _) => aggregator.is_new(*number),
+        RoundEvent::Submission(_, _, _) => true,
+        RoundEvent::Close(_) => true,
+        RoundEvent::Response(_, _) => true,
+    }
 }
 
 /// The step of an event, by the call that it is.

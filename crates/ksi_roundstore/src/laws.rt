@@ -1,9 +1,22 @@
 //! What holds of the files of aggregators, for the layers above to cite. These functions do nothing.
-ghost use Rattle.std.specs.Prelude.{◌≡◌, ℕ, List};
+ghost use Rattle.std.specs.Prelude.{◌≡◌, ◌<◌, ◌^◌, ℕ, List};
 ghost use Rattle.ksi_schedule.specs.Plans.{PlanState};
+ghost use Rattle.ksi_aggregator.specs.declared.event.RoundEvent.{RoundEvent};
 ghost use Rattle.ksi_aggregator.specs.declared.fact.Fact.{Fact};
-ghost use Rattle.ksi_roundstore.specs.Stores.{IsFileOf};
+ghost use Rattle.ksi_aggregator.specs.declared.step.Step.{Step};
+ghost use Rattle.ksi_aggregator.specs.Events.{event_second, MayTake};
+ghost use Rattle.ksi_aggregator.specs.Rounds.{AggregatorState, rounds_of};
+ghost use Rattle.ksi_roundfacts.specs.Lawful.{with_new};
+ghost use Rattle.ksi_roundfacts.specs.Restored.{HasFacts, IsOfFacts};
+ghost use Rattle.ksi_roundstore.specs.Crashes.{IsRestarted, IsRestartedEither};
+ghost use Rattle.ksi_roundstore.specs.StoreState.{StoreState};
+ghost use Rattle.ksi_roundstore.specs.Stores.{IsFileBeforeOrAfter, IsFileOf, IsStoreOf};
+ghost use Rattle.ksi_roundstore.specs.Takes.{fact_added, HasEither, HasStored, TookTurn};
+ghost use Rattle.ksi_roundstore.specs.Written.{IsWritten};
 
+use ksi_disk::Disk;
+use ksi_imprint::Compress;
+use ksi_roundfacts::laws::{one_aggregator_of_facts, steps_are_lawful};
 use ksi_signature::laws::signature_or_fault;
 
 /// A file is of one list of facts.
@@ -11,4 +24,31 @@ pub fn a_file_is_of_one_list_of_facts()
     ensures { (me : ℕ) (plan : PlanState) (facts others : List Fact) (file : List ℕ) → IsFileOf me plan facts file → IsFileOf me plan others file → facts ≡ others }
 {
     signature_or_fault();
+}
+
+/// A store of facts that takes an event is the store of these and of the event's, if any. A crash at any moment of the event
+/// leaves a file of the facts before, with the event's or without. Each clause takes what clauses of `take` say: `turn`,
+/// `stored` and `any_moment`.
+pub fn stores_go_on<C: Compress, D: Disk>()
+    ensures stored { (me : ℕ) (plan : PlanState) (facts : List Fact) (old new : StoreState D) (event : RoundEvent) (step : Step) → IsStoreOf D.content D.images me plan facts old → MayTake (rounds_of old.aggregator) event → event_second event < 2 ^ 63 →
+        IsWritten plan me event → TookTurn C.image old.aggregator new.aggregator event step → HasStored D.content D.images step.fact old.log new.log → IsStoreOf D.content D.images me plan (with_new facts step.fact) new }
+    ensures left { (me : ℕ) (plan : PlanState) (facts : List Fact) (old : StoreState D) (event : RoundEvent) (file : List ℕ) → IsStoreOf D.content D.images me plan facts old → MayTake (rounds_of old.aggregator) event → event_second event < 2 ^ 63 →
+        IsWritten plan me event → HasEither (D.content old.log.disk) (fact_added C.image old.aggregator event) file → IsFileBeforeOrAfter me plan facts (fact_added C.image old.aggregator event) file }
+{
+    steps_are_lawful();
+    one_aggregator_of_facts();
+}
+
+/// An aggregator that is of the facts in a file of all facts that an aggregator stored is that aggregator after a restart. One
+/// that is of the facts in a file that has the fact of an event more, or not, is that aggregator after this event and a
+/// restart, or after a restart alone.
+pub fn a_crash_is_a_restart()
+    ensures restarted { (me : ℕ) (plan : PlanState) (facts others : List Fact) (file : List ℕ) (aggregator other : AggregatorState) → HasFacts facts (rounds_of aggregator) → IsFileOf me plan facts file → IsFileOf me plan others file →
+        IsOfFacts me others other → IsRestarted aggregator other }
+    ensures left { (image : List ℕ → List ℕ) (me : ℕ) (plan : PlanState) (facts others : List Fact) (file : List ℕ) (aggregator other : AggregatorState) (event : RoundEvent) → HasFacts facts (rounds_of aggregator) → MayTake (rounds_of aggregator) event → event_second event < 2 ^ 63 →
+        IsFileBeforeOrAfter me plan facts (fact_added image aggregator event) file → IsFileOf me plan others file → IsOfFacts me others other → IsRestartedEither image aggregator event other }
+{
+    a_file_is_of_one_list_of_facts();
+    steps_are_lawful();
+    one_aggregator_of_facts();
 }

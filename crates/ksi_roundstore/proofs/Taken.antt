@@ -1,0 +1,37 @@
+-- Events that are taken one after the other.
+use Rattle.std.proofs.Common.{◌≡◌, ℕ, ◌<◌, ◌+◌, Bool, true, false, List, [], ◌∷◌, ◌++◌, take, length, get_or, refl, sym, subst, ap, ◌∙◌}
+use Rattle.std.proofs.lemmas.List.{take_more}
+use Rattle.ksi_signature.specs.declared.answer.Answer.{Answer}
+use Rattle.ksi_aggregator.specs.declared.event.RoundEvent.{RoundEvent}
+use Rattle.ksi_aggregator.specs.declared.step.Step.{Step}
+use Rattle.ksi_aggregator.specs.Events.{MayTake, event_second, round_row}
+use Rattle.ksi_aggregator.specs.Rounds.{IsTurn}
+use Rattle.ksi_aggregator.specs.Rows.{RoundState}
+use Rattle.ksi_roundstore.specs.Facts.{AreAccepted, IsAccepted, TakesAs, is_accepted, round_after, rounds_after}
+
+module _ (image : List ℕ → List ℕ) where
+  pub takes_as : (old new : ℕ → RoundState) (event : RoundEvent) (step : Step) (result : Bool) → MayTake old event → IsTurn old new (event_second event) (round_row image event (old (event_second event))) step → result ≡ is_accepted step.answer → TakesAs image old new event result
+  takes_as old new event step true may turn is = (record { may = may; accepted = ap is_accepted (sym turn.answer) ∙ sym is }, turn.after)
+  takes_as old new event step false may turn is = tt
+
+  after_then : (rounds : ℕ → RoundState) (some others : List RoundEvent) → rounds_after image rounds (some ++ others) ≡ rounds_after image (rounds_after image rounds some) others
+  after_then rounds [] others = refl
+  after_then rounds (event ∷ some) others = after_then (round_after image rounds event) some others
+
+  accepted_then : (rounds : ℕ → RoundState) (some : List RoundEvent) (event : RoundEvent) → AreAccepted image rounds some → IsAccepted image (rounds_after image rounds some) event → AreAccepted image rounds (some ++ event ∷ [])
+  accepted_then rounds [] event are is = (is, tt)
+  accepted_then rounds (first ∷ some) event are is = (are.0, accepted_then (round_after image rounds first) some event are.1 is)
+
+  accepted_front : (rounds : ℕ → RoundState) (some : List RoundEvent) (event : RoundEvent) → AreAccepted image rounds (some ++ event ∷ []) → AreAccepted image rounds some × IsAccepted image (rounds_after image rounds some) event
+  accepted_front rounds [] event are = (tt, are.0)
+  accepted_front rounds (first ∷ some) event are = let rest = accepted_front (round_after image rounds first) some event are.1 in ((are.0, rest.0), rest.1)
+
+  -- one event more
+  pub one_more : (old mid new : ℕ → RoundState) (list : List RoundEvent) (k : ℕ) (event : RoundEvent) → k < length list → event ≡ get_or list k event → AreAccepted image old (take k list) → ((t : ℕ) → mid t ≡ rounds_after image old (take k list) t)
+      → TakesAs image mid new event true → AreAccepted image old (take (k + 1) list) × ((t : ℕ) → new t ≡ rounds_after image old (take (k + 1) list) t)
+  one_more old mid new list k event within is are here took =
+      let more : take (k + 1) list ≡ take k list ++ event ∷ [] = take_more list k event within ∙ ap (λ (e : RoundEvent). take k list ++ e ∷ []) (sym is) in
+      let mids : mid ≡ rounds_after image old (take k list) = (λ i t. here t i) in (
+        subst (λ (l : List RoundEvent). AreAccepted image old l) (sym more) (accepted_then old (take k list) event are (subst (λ (rounds : ℕ → RoundState). IsAccepted image rounds event) mids took.0)),
+        λ t. took.1 t ∙ ap (λ (rounds : ℕ → RoundState). round_after image rounds event t) mids ∙ sym (ap (λ (rounds : ℕ → RoundState). rounds t) (after_then old (take k list) (event ∷ []))) ∙ ap (λ (l : List RoundEvent). rounds_after image old l t) (sym more),
+      )
