@@ -3,3 +3,5 @@ pub mod Refused
 pub mod Saying
 pub mod Serving
 pub mod CoreOutcomes
+pub mod RoundOutcomes
+pub mod RoundSaying
