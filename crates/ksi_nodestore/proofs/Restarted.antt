@@ -1,5 +1,5 @@
 -- A store whose core restarts keeps its facts.
-use Rattle.std.proofs.Common.{◌≡◌, ◌∙◌, ℕ, List, [], refl, sym, ap, subst, arith}
+use Rattle.std.proofs.Common.{◌≡◌, ◌<◌, ◌∙◌, ℕ, List, [], refl, sym, ap, subst, arith}
 use Rattle.ksi_aggtree.specs.Rounds.{IsRound}
 use Rattle.ksi_synod.specs.CorePlans.{CorePlanState}
 use Rattle.ksi_corenode.specs.declared.fact.Fact.{Fact}
@@ -20,10 +20,11 @@ no_round = record { few = omega arith; low = λ k. omega arith }
 well_again : (image : List ℕ → List ℕ) (s : SecondState) → IsWell image s → IsWell image (restart_row s)
 well_again image s is = record { mine = is.mine; round = no_round; submitted = refl; candidate = is.candidate; tried = is.tried; promised = is.promised }
 
-has_again : (image : List ℕ → List ℕ) (plan : CorePlanState) (facts : List Fact) (old new : CoreState) → new.plan ≡ old.plan → new.start ≡ old.start → IsRestarted old new → HasFacts image plan facts old → HasFacts image plan facts new
-has_again image plan facts old new plan_is start_is again has = record {
+has_again : (image : List ℕ → List ℕ) (plan : CorePlanState) (facts : List Fact) (old new : CoreState) → new.me ≡ old.me → new.plan ≡ old.plan → new.start ≡ old.start → IsRestarted old new → HasFacts image plan facts old → HasFacts image plan facts new
+has_again image plan facts old new me_is plan_is start_is again has = record {
   planned = plan_is ∙ has.planned;
   begins = start_is ∙ has.begins;
+  there = subst (λ n. n < new.plan.cores) (sym me_is) (subst (λ (p : CorePlanState). old.me < p.cores) (sym plan_is) has.there);
   lawful = has.lawful;
   stored = λ t. ap stable_state (again t) ∙ has.stored t;
   well = λ t. subst (IsWell image) (sym (again t)) (well_again image (state_of old t) (has.well t));
@@ -34,7 +35,7 @@ module _ {D : Type 0} (image : List ℕ → List ℕ) (content : D → List ℕ)
       → IsStoreOf image content images me plan facts old → IsStoreOf image content images me plan facts new
   store_again me_is plan_is start_is again log_is records_is is = record {
     mine = me_is ∙ is.mine;
-    has = has_again image plan facts old.core new.core plan_is start_is again is.has;
+    has = has_again image plan facts old.core new.core me_is plan_is start_is again is.has;
     counted = records_is ∙ is.counted;
     settled = subst (λ (log : GateLog D). IsSettled content images log) (sym log_is) is.settled;
     from = ap (λ (log : GateLog D). log.from) log_is ∙ is.from;
