@@ -10,7 +10,7 @@ use Rattle.ksi_roundstore.specs.StoreState.{StoreState}
 use Rattle.ksi_wire.specs.declared.event.AggregatorLine.{AggregatorLine}
 use Rattle.ksi_wire.specs.declared.fault.WireFault.{WireFault}
 use Rattle.ksi_wire.specs.RoundLines.{FitsRound}
-use Rattle.ksi_service.specs.Refused.{refusal_text}
+use Rattle.ksi_wire.specs.Refused.{refusal_text}
 use Rattle.ksi_service.specs.RoundOutcomes.{AskedRound, IsAsked, RoundOutcome}
 use Rattle.ksi_service.specs.Serving.{Answered}
 

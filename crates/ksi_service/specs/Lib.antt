@@ -1,5 +1,4 @@
 pub mod Inlet
-pub mod Refused
 pub mod Saying
 pub mod Serving
 pub mod CoreOutcomes

@@ -20,7 +20,7 @@ use Rattle.ksi_wire.specs.declared.fault.WireFault.TheVariants.{Long, Taken}
 use Rattle.ksi_wire.specs.AskedRounds.{aggregator_line_of, is_response}
 use Rattle.ksi_wire.specs.RoundLines.{asked_words}
 use Rattle.ksi_wire.specs.Steps.{round_step_text}
-use Rattle.ksi_service.specs.Refused.{refusal_text}
+use Rattle.ksi_wire.specs.Refused.{refusal_text}
 
 -- a line asks this: it is its text; and where it is no response it is read so
 pub record Asks (plan : PlanState) (me : ℕ) (line : Text) (asked : AggregatorLine) : Type 0 where

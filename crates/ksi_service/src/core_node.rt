@@ -3,6 +3,8 @@ ghost use Rattle.std.specs.Prelude.{◌≡◌, OnOk, Ok, Err, Some, None};
 ghost use Rattle.ksi_corenode.specs.Events.{event_second, IsAsked, MayTake};
 ghost use Rattle.ksi_corenode.specs.Owners.{BringsOwned};
 ghost use Rattle.ksi_nodestore.specs.StoreState.{IsStore};
+ghost use Rattle.ksi_wire.specs.Questions.{IsSpan};
+ghost use Rattle.ksi_wire.specs.declared.questions.CoreLine.TheVariants.{Event, Held};
 ghost use Rattle.ksi_service.specs.Inlet.{came_line};
 ghost use Rattle.ksi_service.specs.Serving.{Answered, IsServed};
 ghost use Rattle.ksi_service.specs.CoreOutcomes.{AskedOutcome, CoreOutcome};
@@ -15,7 +17,7 @@ use ksi_disk::Disk;
 use ksi_imprint::{Compress, Refused};
 use ksi_nodestore::NodeStore;
 use ksi_schedule::Plan;
-use ksi_wire::{WireFault, core_event, core_step_text};
+use ksi_wire::{CoreLine, Span, WireFault, core_line, core_step_text, held_text};
 use std::alloc::Global;
 use std::io::BufRead;
 
@@ -96,8 +98,9 @@ fn take_line<C: Compress, D: Disk, O: Outlet>(
     ensures me { OnOk result (store.new.core.me ≡ store.old.core.me) }
     ensures stored { OnOk result (IsStore C.image D.content D.images store.new) }
 {
-    match core_event(alloc, plan, me, line) {
-        Ok(event) => take_event(alloc, me, store, event, out),
+    match core_line(alloc, plan, me, line) {
+        Ok(CoreLine::Event(event)) => take_event(alloc, me, store, event, out),
+        Ok(CoreLine::Held(span)) => tell(alloc, store, span, out),
         Err(Refused::Fault(fault)) => refuse(fault, store, out),
         Err(Refused::NoMemory) => Err(Failure::Memory),
     }
@@ -115,6 +118,21 @@ fn refuse<C: Compress, D: Disk, O: Outlet>(
     Ok(())
 }
 
+/// Tells what the core has of some seconds.
+fn tell<C: Compress, D: Disk, O: Outlet>(
+    alloc: Global,
+    store: &NodeStore<C, D>,
+    span: Span,
+    out: &mut O,
+) -> Result<(), Failure>
+    requires { IsSpan span }
+    ensures { OnOk result (Answered (λ _. AskedOutcome C.image 0 (Ok (Held span))) None store.now store.now (O.said out.old) (O.said out.new)) }
+{
+    let text = held_text(alloc, store.core(), span)?;
+    out.say_held(store, span, &text)?;
+    Ok(())
+}
+
 /// Takes an event, and says what came of it once its fact is on the disk for good.
 fn take_event<C: Compress, D: Disk, O: Outlet>(
     alloc: Global,
@@ -128,7 +146,7 @@ fn take_event<C: Compress, D: Disk, O: Outlet>(
     requires owned { BringsOwned store.old.core.plan.cores event }
     requires me { store.old.core.me ≡ me }
     requires stored { IsStore C.image D.content D.images store.old }
-    ensures answered { OnOk result (Answered (λ _. AskedOutcome C.image me (Ok event)) None store.old store.new (O.said out.old) (O.said out.new)) }
+    ensures answered { OnOk result (Answered (λ _. AskedOutcome C.image me (Ok (Event event))) None store.old store.new (O.said out.old) (O.said out.new)) }
     ensures start { OnOk result (store.new.core.start ≡ store.old.core.start) }
     ensures cores { OnOk result (store.new.core.plan.cores ≡ store.old.core.plan.cores) }
     ensures me { OnOk result (store.new.core.me ≡ store.old.core.me) }

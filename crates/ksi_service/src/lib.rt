@@ -6,8 +6,9 @@
 //! is refused by its first fault and changes nothing.
 //!
 //! The layers above may rely on this. At the end of the input what was said is `ready` and the count of records, then a
-//! block for each line in order: the text of the one step of its event, or its refusal. What `NodeStore::open` ensures is all
-//! that is asked. Which lines an input has is not proved but tested: [`next_line`] keeps at most 32,001 bytes of it.
+//! block for each line of the input in order: the text of the one step of its event, what the core has, or its refusal. What
+//! `NodeStore::open` ensures is all that is asked. [`next_line`] gives just the input's next line, and keeps at most 32,000
+//! bytes of one that is longer.
 //!
 //! ```text
 //! let mut reader = BufReader::new(rt.alloc(), rt.stdin())?;

@@ -6,14 +6,15 @@ ghost use Rattle.ksi_service.specs.RoundOutcomes.{SignTold};
 ghost use Rattle.ksi_service.specs.RoundSaying.{MaySayRound};
 ghost use Rattle.ksi_service.specs.Saying.{MaySay};
 ghost use Rattle.ksi_service.specs.Serving.{block_text, ready_text};
-ghost use Rattle.ksi_service.specs.Refused.{fault_word, refusal_text};
+ghost use Rattle.ksi_wire.specs.Refused.{refusal_text};
+ghost use Rattle.ksi_wire.specs.Told.{held_text};
 
 use ksi_disk::Disk;
 use ksi_imprint::Compress;
 use ksi_nodestore::NodeStore;
 use ksi_roundstore::RoundStore;
 use ksi_schedule::Plan;
-use ksi_wire::WireFault;
+use ksi_wire::{Span, WireFault};
 use std::io::{self, Write};
 
 /// Takes what a node says. The guard is owed at the call itself, so it holds of each text of a step that ever goes out,
@@ -29,6 +30,16 @@ pub trait Outlet {
         text: &[u8],
     ) -> io::Result<()>
         requires { MaySay C.image D.content D.images store.now text.now }
+        ensures { OnOk result (Appends (said self.old) (said self.new) text.now) };
+
+    /// What the core of this store has of some seconds.
+    fn say_held<C: Compress, D: Disk>(
+        &mut self,
+        store: &NodeStore<C, D>,
+        span: Span,
+        text: &[u8],
+    ) -> io::Result<()>
+        requires { text.now ≡ held_text store.now.core span }
         ensures { OnOk result (Appends (said self.old) (said self.new) text.now) };
 
     /// A line that was no event, and changed nothing.
@@ -85,8 +96,17 @@ impl<W: Write> Outlet for HostOutlet<W> {
         self.writer.write_all(text)
     }
 
+    fn say_held<C: Compress, D: Disk>(
+        &mut self,
+        _store: &NodeStore<C, D>,
+        _span: Span,
+        text: &[u8],
+    ) -> io::Result<()> {
+        self.writer.write_all(text)
+    }
+
     fn say_refusal(&mut self, fault: WireFault) -> io::Result<()> {
-        put_block(&mut self.writer, b"refused ", word_of(fault))
+        put_block(&mut self.writer, b"refused ", fault.word())
     }
 
     fn say_ready(&mut self, records: u64) -> io::Result<()> {
@@ -124,24 +144,4 @@ fn put_block<W: Write>(writer: &mut W, front: &[u8], word: &[u8]) -> io::Result<
     writer.write_all(front)?;
     writer.write_all(word)?;
     writer.write_all(b"\n.\n")
-}
-
-/// The word of a fault.
-fn word_of(fault: WireFault) -> &'static [u8]
-    ensures { result.now ≡ fault_word fault }
-{
-    match fault {
-        WireFault::Word => b"word",
-        WireFault::Number => b"number",
-        WireFault::Hash => b"hash",
-        WireFault::Actor => b"actor",
-        WireFault::Second => b"second",
-        WireFault::Ballot => b"ballot",
-        WireFault::Level => b"level",
-        WireFault::Name => b"name",
-        WireFault::Above => b"above",
-        WireFault::Spelling => b"spelling",
-        WireFault::Long => b"long",
-        WireFault::Taken => b"taken",
-    }
 }

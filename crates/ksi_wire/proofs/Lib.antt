@@ -1,2 +1,3 @@
 pub mod Taken
 mod Ends
+mod ToldLines

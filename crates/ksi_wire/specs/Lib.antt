@@ -1,7 +1,10 @@
 pub mod Asked
 pub mod AskedRounds
 pub mod Lines
+pub mod Questions
+pub mod Refused
 pub mod Responses
 pub mod RoundLines
 pub mod Steps
 pub mod Taken
+pub mod Told

@@ -1,3 +1,6 @@
+ghost use Rattle.std.specs.Prelude.{◌≡◌};
+ghost use Rattle.ksi_wire.specs.Refused.{fault_word};
+
 /// Why a line is refused.
 #[derive(Clone, Copy, Debug, PartialEq, Eq)]
 pub enum WireFault {
@@ -29,7 +32,9 @@ pub enum WireFault {
 
 impl WireFault {
     /// The word of the fault.
-    pub fn word(&self) -> &'static [u8] {
+    pub fn word(&self) -> &'static [u8]
+        ensures { result.now ≡ fault_word self.now }
+    {
         match self {
             WireFault::Word => b"word",
             WireFault::Number => b"number",

@@ -4,7 +4,7 @@
 //! that the addressee takes. A response carries a signature file in hex.
 //!
 //! The layers above may rely on this. A line is taken only where it is exactly the text of the event that it is read as, so
-//! each event has one line ([`core_event`], [`aggregator_line`]). A line that is not taken has one fault, the first from the
+//! each event has one line ([`core_line`], [`aggregator_line`]). A line that is not taken has one fault, the first from the
 //! left. The printed line of each event that may come to a node is taken again, by the law
 //! [`printed_lines_are_taken`](laws::printed_lines_are_taken); a response's is left out. And the text of a step is its answer,
 //! whether a fact was stored, and the lines of its messages ([`core_step_text`], [`round_step_text`]).
@@ -26,8 +26,10 @@ pub mod laws;
 mod limits;
 mod parts;
 mod printing;
+mod questions;
 mod round_lines;
 mod sending;
+mod telling;
 mod votes;
 
 pub use above::{above_text, read_above};
@@ -37,5 +39,7 @@ pub use event::AggregatorLine;
 pub use fault::WireFault;
 pub use limits::MOST_LINE;
 pub use printing::{put_core_event, put_response, put_round_event};
+pub use questions::{CoreLine, Span, core_line};
 pub use round_lines::aggregator_line;
 pub use sending::{core_step_text, put_to, round_step_text};
+pub use telling::held_text;

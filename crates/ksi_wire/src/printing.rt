@@ -54,7 +54,7 @@ fn put_name(text: &mut Vec<u8>, name: &Option<Name>) -> Result<(), NoMemory>
 }
 
 /// The words of an item, each behind a space.
-fn put_item(text: &mut Vec<u8>, item: &Item) -> Result<(), NoMemory>
+pub(crate) fn put_item(text: &mut Vec<u8>, item: &Item) -> Result<(), NoMemory>
     ensures { OnOk result (text.new.items ≡ text.old.items ++ spaced (item_words item.now)) }
 {
     put_imprint(text, &item.imprint)?;
@@ -63,7 +63,7 @@ fn put_item(text: &mut Vec<u8>, item: &Item) -> Result<(), NoMemory>
 }
 
 /// A first word and two numbers.
-fn put_front(text: &mut Vec<u8>, name: &[u8], one: u64, two: u64) -> Result<(), NoMemory>
+pub(crate) fn put_front(text: &mut Vec<u8>, name: &[u8], one: u64, two: u64) -> Result<(), NoMemory>
     ensures { OnOk result (text.new.items ≡ text.old.items ++ line_of (name.now ∷ decimal one ∷ decimal two ∷ [])) }
 {
     text.extend_from_slice(name)?;

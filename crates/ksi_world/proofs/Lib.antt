@@ -44,3 +44,4 @@ pub mod AskedOwners
 pub mod Choosing
 pub mod OwnSeconds
 pub mod Submitting
+pub mod Known

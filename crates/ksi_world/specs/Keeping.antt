@@ -24,6 +24,14 @@ IsIdle core from end = (t : ℕ) → from ≤ t → t < end → held_by core t �
 abbrev pub AreIdle : List CoreState → (from end : ℕ) → Type 0
 AreIdle cores from end = (j : ℕ) (core : CoreState) → slice_get cores j ≡ Some core → IsIdle core from end
 
+-- the core holds nothing before the known second, which is at most the end; nothing is said of one that has passed
+abbrev pub IsKnown : CoreState → (from end known : ℕ) → Type 0
+IsKnown core from end known = from ≤ known → (known ≤ end) × IsIdle core from known
+
+-- this is so of each core, and the known second at its place
+abbrev pub AreKnown : List CoreState → (from end : ℕ) → List ℕ → Type 0
+AreKnown cores from end known = (j : ℕ) (core : CoreState) (one : ℕ) → slice_get cores j ≡ Some core → slice_get known j ≡ Some one → IsKnown core from end one
+
 module _ (image : List ℕ → List ℕ) where
   -- the sealed items of the first core whose candidate the root is
   abbrev pub sealed_among : List CoreState → (second : ℕ) → (root : List ℕ) → Option (List Item)

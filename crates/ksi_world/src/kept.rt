@@ -1,10 +1,10 @@
 //! The kept seconds: what the cores hold, and whose items it is.
-ghost use Rattle.std.specs.Prelude.{◌≡◌, ◌<◌, ◌≤◌, ◌+◌, ◌^◌, ◌++◌, [], IfOk, IfSome, IfNone, OnOk, option_map};
+ghost use Rattle.std.specs.Prelude.{◌≡◌, ◌<◌, ◌≤◌, ◌+◌, ◌^◌, ◌++◌, [], length, replicate, IfOk, IfSome, IfNone, OnOk, option_map};
 ghost use Rattle.std.specs.Option.{option_copied};
 ghost use Rattle.ksi_aggtree.specs.Entries.{items_of};
 ghost use Rattle.ksi_corenode.specs.CoreState.{state_of};
 ghost use Rattle.ksi_world.specs.Records.{kept_before, kept_among, sealed_as};
-ghost use Rattle.ksi_world.specs.Keeping.{root_among, sealed_among, items_among, second_among, IsIdle, AreIdle};
+ghost use Rattle.ksi_world.specs.Keeping.{root_among, sealed_among, items_among, second_among, IsIdle, AreIdle, IsKnown, AreKnown};
 
 use ksi_aggtree::{Entry, Item, Items, Second};
 use ksi_corenode::Core;
@@ -70,8 +70,8 @@ pub(crate) fn kept_under(plan: &Plan, seconds: Vec<Second>) -> Kept
     }
 }
 
-/// The kept ones of so many seconds from the first one on, rising. Only seconds that a core holds or sealed something for
-/// are looked at.
+/// The kept ones of so many seconds from the first one on, rising. Only the first one, and those that a core holds or sealed
+/// something for, are looked at. A core is asked for its next one once it has passed, so all of them are walked once.
 pub(crate) fn kept_seconds<C: Compress>(
     alloc: Global,
     cores: &[Core<C>],
@@ -82,9 +82,10 @@ pub(crate) fn kept_seconds<C: Compress>(
     ensures { IfOk result (λ kept. kept.items ≡ kept_among (second_among C.image cores.now) start many) }
 {
     let end = start + many;
+    let mut known = all_at(alloc, start, cores.len())?;
     let mut kept = Vec::new(alloc);
     let mut from = start;
-    'keeping: while let Some(second) = next_below(cores, from, end) {
+    'keeping: while let Some(second) = next_below(cores, &mut known, from, end) {
         put_kept(alloc, cores, second, &mut kept)?;
         from = second + 1;
     }
@@ -106,27 +107,50 @@ fn put_kept<C: Compress>(
     Ok(())
 }
 
-/// The first second from this one on and before the end that a core holds or sealed something for.
-fn next_below<C: Compress>(cores: &[Core<C>], from: u64, end: u64) -> Option<u64>
-    requires { from ≤ end }
+/// So many times the same second.
+fn all_at(alloc: Global, second: u64, many: usize) -> Result<Vec<u64>, NoMemory>
+    ensures { IfOk result (λ known. known.items ≡ replicate many second) }
+{
+    Ok(vec![in alloc; second; many]?)
+}
+
+/// The first second from this one on and before the end that a core may hold or have sealed something for. Of each core it is
+/// known up to which second it holds nothing; where that one has passed the core is asked again.
+fn next_below<C: Compress>(
+    cores: &[Core<C>],
+    known: &mut Vec<u64>,
+    from: u64,
+    end: u64,
+) -> Option<u64>
+    requires order { from ≤ end }
+    requires many { length known.old.items ≡ length cores.now }
+    requires known { AreKnown cores.now from end known.old.items }
+    ensures many { length known.new.items ≡ length cores.now }
+    ensures known { AreKnown cores.now from end known.new.items }
     ensures within { IfSome result (λ second. (from ≤ second) × (second < end)) }
     ensures idle { IfSome result (AreIdle cores.now from) }
     ensures none { IfNone result (AreIdle cores.now from end) }
 {
     let mut next = end;
-    'asking: for core in cores {
-        next = next_of(core, from, next);
+    'asking: for place in 0..cores.len() {
+        let second = idle_up_to(&cores[place], known[place], from, end);
+        known[place] = second;
+        next = next.min(second);
     }
     if next < end { Some(next) } else { None }
 }
 
-/// The same of one core, or the end.
-fn next_of<C: Compress>(core: &Core<C>, from: u64, end: u64) -> u64
-    requires { from ≤ end }
+/// Up to which second, at most the end, a core holds nothing from this one on: what is known, or what the core says.
+fn idle_up_to<C: Compress>(core: &Core<C>, known: u64, from: u64, end: u64) -> u64
+    requires order { from ≤ end }
+    requires known { IsKnown core.now from end known }
     ensures behind { from ≤ result }
     ensures within { result ≤ end }
     ensures idle { IsIdle core.now from result }
 {
+    if from <= known {
+        return known;
+    }
     match core.next_second(from) {
         Some(second) => second.min(end),
         None => end,
