@@ -1,24 +1,18 @@
--- What an aggregator may say, and what it answers.
-use Rattle.std.proofs.Common.{◌≡◌, ◌<◌, ◌^◌, ℕ, List, Option, Some, None, Result, Ok, Err, refl, inl, inr}
+-- What an aggregator answers.
+use Rattle.std.proofs.Common.{ℕ, List, Option, Some, None, Result, Ok, Err, OnOk, refl}
 use Rattle.std.specs.Io.KnownBytes.{Appends}
 use Rattle.ksi_schedule.specs.Pieces.{Text}
 use Rattle.ksi_schedule.specs.Plans.{PlanState}
-use Rattle.ksi_aggregator.specs.declared.event.RoundEvent.{RoundEvent}
-use Rattle.ksi_aggregator.specs.declared.event.RoundEvent.TheVariants as events
-use Rattle.ksi_aggregator.specs.Events.{event_second}
 use Rattle.ksi_roundstore.specs.StoreState.{StoreState}
 use Rattle.ksi_wire.specs.declared.event.AggregatorLine.{AggregatorLine}
 use Rattle.ksi_wire.specs.declared.fault.WireFault.{WireFault}
-use Rattle.ksi_wire.specs.RoundLines.{FitsRound}
 use Rattle.ksi_wire.specs.Refused.{refusal_text}
 use Rattle.ksi_service.specs.RoundOutcomes.{AskedRound, IsAsked, RoundOutcome}
 use Rattle.ksi_service.specs.Serving.{Answered}
 
-pub is_early : (event : RoundEvent) → FitsRound event → event_second event < 2 ^ 63
-is_early (events.Request number second imprint name) fits = fits
-is_early (events.Submission from second item) fits = fits.0
-is_early (events.Close second) fits = fits
-is_early (events.Response second above) fits = fits.0
+pub on_ok : {T E P Q : Type 0} (result : Result T E) → (P → Q) → OnOk result P → OnOk result Q
+on_ok (Ok value) then is = then is
+on_ok (Err refusal) then is = tt
 
 module _ {D : Type 0} (image : List ℕ → List ℕ) (plan : PlanState) (me : ℕ) where
   -- a line that asks this is answered as it
