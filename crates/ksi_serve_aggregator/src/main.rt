@@ -7,7 +7,7 @@ ghost use Rattle.std.specs.Prelude.{◌<◌, length};
 
 use ksi_host_disk::HostDisk;
 use ksi_imprint::Sha;
-use ksi_roundstore::{RoundStore, OpenRefusal, format};
+use ksi_roundstore::{OpenRefusal, RoundStore, format};
 use ksi_schedule::Plan;
 use ksi_service::{Failure, HostOutlet, end, plan_of, serve_aggregator, words};
 use std::io::BufReader;
@@ -24,7 +24,13 @@ fn run(rt: &HostRuntime) -> Result<(), Failure> {
     if words.node >= plan.aggregators() as u64 {
         return Err(Failure::Node);
     }
-    serve(rt, &plan, words.node as u32, words.folder.as_str(), words.name.as_str())
+    serve(
+        rt,
+        &plan,
+        words.node as u32,
+        words.folder.as_str(),
+        words.name.as_str(),
+    )
 }
 
 fn serve(rt: &HostRuntime, plan: &Plan, me: u32, folder: &str, name: &str) -> Result<(), Failure>
