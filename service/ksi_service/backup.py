@@ -3,11 +3,13 @@
 A file of `ksi` has at most 64 MiB, so mirrors are made of so many seconds each. The journal of the first part is from the plan's
 start on, as `ksi extend` and `ksi audit` want it."""
 import os
+import tempfile
 
 from . import files
 from .elements import mirror_file
 from .plan import Plan
 from .proved import Core, ksi
+from .replay import schedule_of
 
 AT_ONCE = 1024
 """Of how many seconds a core tells at once."""
@@ -15,11 +17,17 @@ SECONDS = 1 << 17
 """The seconds of a part: 36 hours, 14 MB with one aggregator below each core that leads."""
 
 
+class NotTold(Exception):
+    """The cores' program does not answer `held`."""
+
+
 def rows_of(core, first, last):
     """What a core tells of the seconds from `first` to `last`."""
     rows = []
     for second in range(first, last + 1, AT_ONCE):
         told = core.ask(f"held {second} {min(AT_ONCE, last + 1 - second)}")
+        if told == ["refused word"]:
+            raise NotTold()
         rows += [row.split(" ") for row in told]
     return rows
 
@@ -35,15 +43,29 @@ def make(folder, out, last, say=print):
     os.makedirs(out, exist_ok=True)
     at = lambda name: os.path.abspath(os.path.join(out, name))
     for number in range(plan.cores):
+        for part, content in enumerate(mirrors(folder, plan, number, last)):
+            mirror = at(f"mirror.{part}")
+            if number == 0:
+                files.write(mirror, content)
+                continue
+            files.write(at("other"), content)
+            say(f"part {part}, core {number}: {ksi('merge', mirror, at('other'), mirror)}")
+            files.remove(at("other"))
+    for part in range(len(os.listdir(out))):
+        if os.path.exists(at(f"mirror.{part}")):
+            say(f"part {part}: {ksi('whole', at(f'mirror.{part}'), at(f'journal.{part}'))}")
+
+
+def mirrors(folder, plan, number, last):
+    """A core's mirrors, one for each part; where it tells none, one by a replay of the record."""
+    try:
         with Core(folder, number) as core:
-            for part, (first, end) in enumerate(parts(plan, last)):
-                mirror = at(f"mirror.{part}")
-                content = mirror_file(plan.start, number, rows_of(core, first, end))
-                if number == 0:
-                    files.write(mirror, content)
-                    continue
-                files.write(at("other"), content)
-                say(f"part {part}, core {number}: {ksi('merge', mirror, at('other'), mirror)}")
-                files.remove(at("other"))
-    for part, _ in enumerate(parts(plan, last)):
-        say(f"part {part}: {ksi('whole', at(f'mirror.{part}'), at(f'journal.{part}'))}")
+            for first, end in parts(plan, last):
+                yield mirror_file(plan.start, number, rows_of(core, first, end))
+    except NotTold:
+        with tempfile.TemporaryDirectory(prefix="ksi-backup-") as work:
+            with open(os.path.join(folder, "plan"), encoding="ascii") as file:
+                text = schedule_of(file.read(), os.path.join(folder, "record"), work)
+            files.write(os.path.join(work, "schedule"), text.encode())
+            ksi("mirror", "schedule", str(number), "mirror", cwd=work)
+            yield files.content_of(os.path.join(work, "mirror"))

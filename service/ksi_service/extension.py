@@ -11,6 +11,10 @@ class NotExtended(Exception):
     """Why a signature is not extended."""
 
 
+class NoChains(Exception):
+    """The cores' program does not answer `chain` and `held`."""
+
+
 def wanted(signature, last):
     """The parts of a signature, and what to ask a core for its extension to second `last`."""
     try:
@@ -24,6 +28,8 @@ def wanted(signature, last):
 
 def put_together(parts, last, held, chain):
     """The extension from what a core answered to both questions, or None where it lacks a second."""
+    if chain == ["refused word"]:
+        raise NoChains()
     if held[:1] == ["refused second"] or chain[:1] == ["refused second"]:
         raise NotExtended(f"second {parts.second} is not one of this service")
     roots = [row.split(" ")[2] for row in held if row.startswith("root ")]
@@ -52,10 +58,21 @@ def accepted(content, parts, publications):
     return content
 
 
-def extend_by(core, signature, last, publications):
+def by_replay(replay, parts, signature, last, publications):
+    """Extends by a replay of the record."""
+    try:
+        return accepted(replay.extend(signature, last), parts, publications)
+    except Refused as refused:
+        raise NotExtended(str(refused)) from None
+
+
+def extend_by(core, signature, last, publications, replay):
     """Extends by a core of a service that is stopped."""
     parts, held, chain = wanted(signature, last)
-    content = put_together(parts, last, core.ask(held), core.ask(chain))
+    try:
+        content = put_together(parts, last, core.ask(held), core.ask(chain))
+    except NoChains:
+        return parts, by_replay(replay, parts, signature, last, publications)
     if content is None:
         raise NotExtended(f"{core.name} lacks a second up to {last}")
     return parts, accepted(content, parts, publications)

@@ -18,6 +18,7 @@ from .plan import Plan
 from .programs import page
 from .publications import Publications
 from .remote import RemoteNetwork
+from .replay import Replay
 
 MOST_REMEMBERED = 100_000
 """How many signatures the door remembers; a client keeps its own."""
@@ -121,7 +122,7 @@ class Service:
         self.folder, self.plan, self.publish_every, self.cut_every = folder, plan, publish_every, cut_every
         self.network = Network(folder, plan, trouble) if over == "pipes" else RemoteNetwork(folder, plan, over, say)
         self.clock = Clock(self.network, most_waiting)
-        self.publications = Publications(folder)
+        self.publications, self.replay = Publications(folder), Replay(folder)
         self.publishing, self.clock.on_published = asyncio.Lock(), self.publish
         self.began, self.door = time.time(), None
         self.tasks, self.own = [], []
@@ -136,7 +137,10 @@ class Service:
     async def publish(self, second, root):
         """Puts a root that a core has published into the publications file, one after the other."""
         async with self.publishing:
-            await asyncio.get_running_loop().run_in_executor(None, self.publications.add, second, root)
+            await self.in_thread(self.publications.add, second, root)
+
+    async def in_thread(self, work, *words):
+        return await asyncio.get_running_loop().run_in_executor(None, work, *words)
 
     async def extend(self, signature):
         """A signature that is extended to the last publication by a core that holds all seconds to it."""
@@ -148,8 +152,10 @@ class Service:
                 content = extension.put_together(parts, last, await core.ask(held), await core.ask(chain))
             except Down:
                 continue
+            except extension.NoChains:
+                return await self.in_thread(extension.by_replay, self.replay, parts, signature, last, self.publications.path)
             if content is not None:
-                return await asyncio.get_running_loop().run_in_executor(None, extension.accepted, content, parts, self.publications.path)
+                return await self.in_thread(extension.accepted, content, parts, self.publications.path)
         raise extension.NotExtended(f"no core that answers holds all seconds to {last}")
 
     def counters(self):

@@ -1,7 +1,8 @@
 """stand_in.py core|aggregator PLAN NUMBER FOLDER NAME: a node for tests of the host where the proved programs are not built.
 
 It takes the lines of a node and answers by the blocks of one (docs/FORMATS.md, "Lines of nodes"), and keeps its facts in a file, a
-line each. Its trees are one hash and its signatures are no signatures: the host looks into neither."""
+line each. Its trees are one hash and its signatures are no signatures, but for a round of one request above which a proved core
+stands: then the response is the signature. The host looks into neither."""
 import collections
 import hashlib
 import os
@@ -204,7 +205,8 @@ class Aggregator(Stand):
         items = self.open.pop(second, [])
         self.keep("closed", second, *items)
         if items:
-            self.rows.append(f"send {self.parents[self.number]} submission {self.number} {second} {digest(items)} 0")
+            root = items[0].split(":")[1] if len(items) == 1 else digest(items)
+            self.rows.append(f"send {self.parents[self.number]} submission {self.number} {second} {root} 0")
         return "answer done"
 
     def on_response(self, second, text):
@@ -217,6 +219,8 @@ class Aggregator(Stand):
         second, item = self.numbers.get(number, ("", ""))
         if second not in self.answered or item not in self.closed.get(second, ()):
             return "not issued"
+        if len(self.closed[second]) == 1 and len(self.answered[second]) > 64:
+            return f"signature {self.answered[second]}"
         return f"signature {item.split(':')[1]}{int(second):016x}{self.answered[second]}"
 
 
