@@ -16,6 +16,7 @@ from . import check as checking
 from . import backup as backing
 from . import files, service, streams
 from .clock import PlanEnded
+from .elements import Malformed, parts_of
 from .node import Down, GivenUp, LostFacts
 from .programs import Missing
 from .proved import Refused, ksi
@@ -121,8 +122,18 @@ def status(words):
 def sign(words):
     """Signs a file by its hash: the file does not leave its owner."""
     name = words.out or words.file + ".ksig"
-    files.write(name, ask(words.folder, "/sign", digest_of(words.file).encode()))
-    print(f"signed {name}")
+    content = ask(words.folder, "/sign", digest_of(words.file).encode())
+    files.write(name, content)
+    print(f"signed {name}{time_of(content)}")
+
+
+def time_of(signature):
+    """The second of a signature, as people read it."""
+    try:
+        second = parts_of(signature).second
+        return f": second {second}, {time.strftime('%Y-%m-%d %H:%M:%S', time.gmtime(second))} UTC"
+    except (Malformed, ValueError, OverflowError):
+        return ""
 
 
 def extend(words):
@@ -142,7 +153,10 @@ def verify(words):
     try:
         print(ksi("verify", words.signature, digest_of(words.file), words.publications))
     except Refused as refused:
-        raise Failed(str(refused)) from None
+        hint = ""
+        if refused.line.startswith("refused V13 "):
+            hint = f" (the signature is not extended to a publication of that file: ksi-service extend {words.signature}, and ksi-service publications)"
+        raise Failed(f"{refused}{hint}") from None
 
 
 def check(words):

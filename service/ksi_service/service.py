@@ -101,7 +101,7 @@ class House:
 
     async def extend(self, content):
         if self.service.publications.last() is None:
-            raise Answer(HTTPStatus.CONFLICT, "nothing was published yet")
+            raise Answer(HTTPStatus.CONFLICT, f"nothing was published yet: a core publishes every {self.service.publish_every} seconds")
         if self.to_extend >= MOST_TO_EXTEND:
             raise Answer(HTTPStatus.SERVICE_UNAVAILABLE, "too many signatures wait to be extended", Retry_After="2")
         self.to_extend += 1
