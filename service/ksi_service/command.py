@@ -187,13 +187,13 @@ def node_name(text):
 
 
 def parser_of():
-    parser = argparse.ArgumentParser(prog="ksi-service", description="A timestamping service of proved nodes on this machine.")
+    parser = argparse.ArgumentParser(prog="ksi-service", description="A timestamping service of proved nodes, on one machine or several.")
     commands = parser.add_subparsers(dest="command", required=True)
     for name, does, told in (("start", start, "start it in the background"), ("run", run, "run it until it is interrupted")):
         one = commands.add_parser(name, help=told)
         one.add_argument("folder", nargs="?", default=DEFAULT)
-        one.add_argument("--cores", type=int, default=3, choices=range(1, 10), metavar="1..9")
-        one.add_argument("--aggregators", type=positive, default=2)
+        one.add_argument("--cores", type=int, default=3, choices=range(1, 10), metavar="1..9", help="how many cores a new folder has: 3")
+        one.add_argument("--aggregators", type=positive, default=2, metavar="NUMBER", help="how many aggregators a new folder has: 2")
         one.add_argument("--door", default="127.0.0.1:8080", metavar="HOST:PORT", help="where to listen; port 0 takes a free one")
         one.add_argument("--over", default=OVER, metavar="pipes|redis://HOST", help="how lines go: pipes on this machine, or Redis Streams to the hosts of nodes")
         one.add_argument("--publish-every", type=positive, default=3600, metavar="SECONDS", help="how often a core publishes: 3600")

@@ -18,6 +18,7 @@ from http import HTTPStatus
 from . import http
 from .http import Answer
 from .metrics import prometheus
+from .programs import Missing
 
 MOST_DOCUMENT = 64 << 20
 """The largest document, in bytes."""
@@ -78,7 +79,9 @@ class Door:
             answer = told
         except TimeoutError:
             raise
-        except (OSError, RuntimeError) as error:
+        except Missing as missing:
+            answer = Answer(HTTPStatus.SERVICE_UNAVAILABLE, str(missing))
+        except Exception as error:
             print(f"{request.method} {request.path}: {error!r}", file=sys.stderr, flush=True)
             answer = Answer(HTTPStatus.INTERNAL_SERVER_ERROR, "the service failed at this")
         self.refused += 400 <= answer.status < 500
