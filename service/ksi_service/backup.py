@@ -3,22 +3,15 @@
 A file of `ksi` has at most 64 MiB, so mirrors are made of so many seconds each. The journal of the first part is from the plan's
 start on, as `ksi extend` and `ksi audit` want it."""
 import os
-import tempfile
 
 from . import files
+from .extension import AT_ONCE
 from .elements import mirror_file
 from .plan import Plan
-from .proved import Core, ksi
-from .replay import schedule_of
+from .proved import Core, Refused, ksi
 
-AT_ONCE = 1024
-"""Of how many seconds a core tells at once."""
 SECONDS = 1 << 17
 """The seconds of a part: 36 hours, 14 MB with one aggregator below each core that leads."""
-
-
-class NotTold(Exception):
-    """The cores' program does not answer `held`."""
 
 
 def rows_of(core, first, last):
@@ -27,7 +20,7 @@ def rows_of(core, first, last):
     for second in range(first, last + 1, AT_ONCE):
         told = core.ask(f"held {second} {min(AT_ONCE, last + 1 - second)}")
         if told == ["refused word"]:
-            raise NotTold()
+            raise Refused(1, "the cores' program does not answer `held`")
         rows += [row.split(" ") for row in told]
     return rows
 
@@ -57,15 +50,7 @@ def make(folder, out, last, say=print):
 
 
 def mirrors(folder, plan, number, last):
-    """A core's mirrors, one for each part; where it tells none, one by a replay of the record."""
-    try:
-        with Core(folder, number) as core:
-            for first, end in parts(plan, last):
-                yield mirror_file(plan.start, number, rows_of(core, first, end))
-    except NotTold:
-        with tempfile.TemporaryDirectory(prefix="ksi-backup-") as work:
-            with open(os.path.join(folder, "plan"), encoding="ascii") as file:
-                text = schedule_of(file.read(), os.path.join(folder, "record"), work)
-            files.write(os.path.join(work, "schedule"), text.encode())
-            ksi("mirror", "schedule", str(number), "mirror", cwd=work)
-            yield files.content_of(os.path.join(work, "mirror"))
+    """A core's mirrors, one for each part."""
+    with Core(folder, number) as core:
+        for first, end in parts(plan, last):
+            yield mirror_file(plan.start, number, rows_of(core, first, end))

@@ -9,6 +9,7 @@ import time
 from http import HTTPStatus
 
 from . import extension, files
+from .calendar import Calendar
 from .clock import MOST_WAITING, Busy, Clock, NotSigned
 from .door import MOST_CONNECTIONS, Answer, Door, signature_answer
 from .metrics import Spans
@@ -18,7 +19,6 @@ from .plan import Plan
 from .programs import page
 from .publications import Publications
 from .remote import RemoteNetwork
-from .replay import Replay
 
 MOST_REMEMBERED = 100_000
 """How many signatures the door remembers; a client keeps its own."""
@@ -122,7 +122,7 @@ class Service:
         self.folder, self.plan, self.publish_every, self.cut_every = folder, plan, publish_every, cut_every
         self.network = Network(folder, plan, trouble) if over == "pipes" else RemoteNetwork(folder, plan, over, say)
         self.clock = Clock(self.network, most_waiting)
-        self.publications, self.replay = Publications(folder), Replay(folder)
+        self.publications, self.calendar = Publications(folder), Calendar(plan.start)
         self.publishing, self.clock.on_published = asyncio.Lock(), self.publish
         self.began, self.door = time.time(), None
         self.tasks, self.own = [], []
@@ -145,18 +145,25 @@ class Service:
     async def extend(self, signature):
         """A signature that is extended to the last publication by a core that holds all seconds to it."""
         last = self.publications.last()
-        parts, held, chain = extension.wanted(signature, last)
+        parts = extension.wanted(signature, last)
         for number in range(self.plan.cores):
             core = self.network.core((parts.second + number) % self.plan.cores)
             try:
-                content = extension.put_together(parts, last, await core.ask(held), await core.ask(chain))
+                make = await self.asked(core, extension.asking(self.calendar, parts, last))
             except Down:
                 continue
-            except extension.NoChains:
-                return await self.in_thread(extension.by_replay, self.replay, parts, signature, last, self.publications.path)
-            if content is not None:
-                return await self.in_thread(extension.accepted, content, parts, self.publications.path)
+            if make is not None:
+                return await self.in_thread(extension.accepted, make, parts, self.publications.path)
         raise extension.NotExtended(f"no core that answers holds all seconds to {last}")
+
+    async def asked(self, core, work):
+        """What work returns that asks a core questions."""
+        answer = None
+        try:
+            while True:
+                answer = await core.ask(work.send(answer))
+        except StopIteration as end:
+            return end.value
 
     def counters(self):
         nodes, clock, record = self.network.nodes, self.clock, self.network.record
