@@ -1,6 +1,7 @@
 """The service: nodes, clock, record, publications and door, over one folder."""
 import asyncio
 import collections
+import gc
 import os
 import resource
 import signal
@@ -220,6 +221,8 @@ async def first_of(end, work):
 
 async def run(folder, cores=3, aggregators=2, address=("127.0.0.1", 8080), trouble_with=None, **options):
     """Runs the service until it is told to stop. A test makes trouble with it."""
+    # futures and lines come and go by thousands a second, and nothing of them is in a cycle
+    gc.set_threshold(50_000, 20, 50)
     os.makedirs(folder, exist_ok=True)
     held = files.lock(folder)
     service = Service(folder, plan_of(folder, cores, aggregators), **options)
