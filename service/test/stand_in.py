@@ -4,6 +4,7 @@ It takes the lines of a node and answers by the blocks of one (docs/FORMATS.md, 
 line each. Its trees are one hash and its signatures are no signatures, but for a round of one request above which a proved core
 stands: then the response is the signature. The host looks into neither."""
 import collections
+import fcntl
 import hashlib
 import os
 import sys
@@ -27,6 +28,10 @@ class Stand:
                 elif words[0] in ("cores", "start"):
                     setattr(self, words[0], int(words[1]))
         self.file, self.rows = open(path, "a+", encoding="ascii"), []
+        try:
+            fcntl.flock(self.file, fcntl.LOCK_EX | fcntl.LOCK_NB)
+        except OSError:
+            sys.exit("failed file")
         self.file.seek(0)
         self.facts = [line.split() for line in self.file]
         for fact in self.facts:

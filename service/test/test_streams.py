@@ -62,6 +62,10 @@ class StreamsTest(unittest.TestCase):
         self.running[name].kill()
         self.running[name].wait()
 
+    def log(self, name):
+        with open(os.path.join(self.room.name, f"{name}.log"), encoding="utf-8") as file:
+            return f"{name}: {file.read()}"
+
     def kill_process(self, name):
         """Kills the node's process alone; its host goes on."""
         told = subprocess.run(["ps", "-o", "pid=", "--ppid", str(self.running[name].pid)], capture_output=True, text=True, check=False)
@@ -127,7 +131,7 @@ class StreamsTest(unittest.TestCase):
                     self.kill_process(dice.choice(NODES))
             signed = [it.result() for it in asks]
         self.assertNotIn(None, signed)
-        self.assertEqual([name for name in NODES if self.running[name].poll() is not None], [], "a host ended")
+        self.assertEqual([self.log(name) for name in NODES if self.running[name].poll() is not None], [], "a host ended")
         self.running["head"].send_signal(signal.SIGTERM)
         self.running["head"].wait(20)
         for name in NODES:
