@@ -1,6 +1,7 @@
 //! A core as a process.
 ghost use Rattle.std.specs.Prelude.{◌≡◌, OnOk, Ok, Err, Some, None};
 ghost use Rattle.ksi_corenode.specs.Events.{event_second, IsAsked, MayTake};
+ghost use Rattle.ksi_corenode.specs.Owners.{BringsOwned};
 ghost use Rattle.ksi_nodestore.specs.StoreState.{IsStore};
 ghost use Rattle.ksi_wire.specs.Questions.{IsSpan};
 ghost use Rattle.ksi_wire.specs.declared.questions.CoreLine.TheVariants.{Event, Held};
@@ -34,6 +35,7 @@ pub fn serve_core<C: Compress, D: Disk, R: BufRead, O: Outlet>(
     out: &mut O,
 ) -> Result<(), Failure>
     requires start { store.old.core.start ≡ plan.now.start }
+    requires cores { store.old.core.plan.cores ≡ plan.now.cores }
     requires me { store.old.core.me ≡ me }
     requires stored { IsStore C.image D.content D.images store.old }
     ensures served { OnOk result (IsServed (CoreOutcome C.image plan.now me) store.old.records (R.remaining reader.old) store.old store.new (O.said out.old) (O.said out.new)) }
@@ -61,10 +63,12 @@ fn take_what_came<C: Compress, D: Disk, O: Outlet>(
     out: &mut O,
 ) -> Result<(), Failure>
     requires start { store.old.core.start ≡ plan.now.start }
+    requires cores { store.old.core.plan.cores ≡ plan.now.cores }
     requires me { store.old.core.me ≡ me }
     requires stored { IsStore C.image D.content D.images store.old }
     ensures answered { OnOk result (Answered (CoreOutcome C.image plan.now me) (came_line is_long line.now) store.old store.new (O.said out.old) (O.said out.new)) }
     ensures start { OnOk result (store.new.core.start ≡ store.old.core.start) }
+    ensures cores { OnOk result (store.new.core.plan.cores ≡ store.old.core.plan.cores) }
     ensures me { OnOk result (store.new.core.me ≡ store.old.core.me) }
     ensures stored { OnOk result (IsStore C.image D.content D.images store.new) }
 {
@@ -85,10 +89,12 @@ fn take_line<C: Compress, D: Disk, O: Outlet>(
     out: &mut O,
 ) -> Result<(), Failure>
     requires start { store.old.core.start ≡ plan.now.start }
+    requires cores { store.old.core.plan.cores ≡ plan.now.cores }
     requires me { store.old.core.me ≡ me }
     requires stored { IsStore C.image D.content D.images store.old }
     ensures answered { OnOk result (Answered (CoreOutcome C.image plan.now me) (Some line.now) store.old store.new (O.said out.old) (O.said out.new)) }
     ensures start { OnOk result (store.new.core.start ≡ store.old.core.start) }
+    ensures cores { OnOk result (store.new.core.plan.cores ≡ store.old.core.plan.cores) }
     ensures me { OnOk result (store.new.core.me ≡ store.old.core.me) }
     ensures stored { OnOk result (IsStore C.image D.content D.images store.new) }
 {
@@ -137,10 +143,12 @@ fn take_event<C: Compress, D: Disk, O: Outlet>(
 ) -> Result<(), Failure>
     requires may { MayTake store.old.core event }
     requires asked { IsAsked store.old.core (event_second event) }
+    requires owned { BringsOwned store.old.core.plan.cores event }
     requires me { store.old.core.me ≡ me }
     requires stored { IsStore C.image D.content D.images store.old }
     ensures answered { OnOk result (Answered (λ _. AskedOutcome C.image me (Ok (Event event))) None store.old store.new (O.said out.old) (O.said out.new)) }
     ensures start { OnOk result (store.new.core.start ≡ store.old.core.start) }
+    ensures cores { OnOk result (store.new.core.plan.cores ≡ store.old.core.plan.cores) }
     ensures me { OnOk result (store.new.core.me ≡ store.old.core.me) }
     ensures stored { OnOk result (IsStore C.image D.content D.images store.new) }
 {

@@ -7,6 +7,7 @@ use Rattle.ksi_schedule.specs.Plans.{PlanState}
 use Rattle.ksi_corenode.specs.declared.event.CoreEvent.{CoreEvent}
 use Rattle.ksi_corenode.specs.CoreState.{CoreState}
 use Rattle.ksi_corenode.specs.Events.{event_second, IsAsked, MayTake}
+use Rattle.ksi_corenode.specs.Owners.{BringsOwned}
 use Rattle.ksi_wire.specs.declared.fault.WireFault.{WireFault}
 use Rattle.ksi_wire.specs.declared.fault.WireFault.TheVariants.{Number}
 use Rattle.ksi_wire.specs.declared.questions.Span.{Span}
@@ -53,3 +54,8 @@ IsSpan span = span.from + span.count < 2 ^ 64
 abbrev pub MayBeAsked : PlanState → CoreLine → Type 0
 MayBeAsked plan (lines.Event event) = (it : CoreState) → it.start ≡ plan.start → MayTake it event × IsAsked it (event_second event)
 MayBeAsked plan (lines.Held span) = IsSpan span
+
+-- the ballot that an event brings, if any, is of one of so many cores
+abbrev pub AsksOwned : (cores : ℕ) → CoreLine → Type 0
+AsksOwned cores (lines.Event event) = BringsOwned cores event
+AsksOwned cores (lines.Held span) = Unit {0}

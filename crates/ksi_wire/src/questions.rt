@@ -4,7 +4,7 @@ ghost use Rattle.ksi_schedule.specs.Pieces.{words};
 ghost use Rattle.ksi_schedule.specs.Printed.{line_of};
 ghost use Rattle.ksi_schedule.specs.Reading.{words_left};
 ghost use Rattle.ksi_wire.specs.Asked.{Answers, Reads};
-ghost use Rattle.ksi_wire.specs.Questions.{asks_held, core_line_of, held_of, held_words, span_in, IsSpan, MayBeAsked};
+ghost use Rattle.ksi_wire.specs.Questions.{asks_held, core_line_of, held_of, held_words, span_in, AsksOwned, IsSpan, MayBeAsked};
 
 use crate::core_lines::core_event;
 use crate::cursor::{Words, is};
@@ -46,6 +46,7 @@ pub fn core_line(
 ) -> Result<CoreLine, Refused<WireFault>>
     ensures exact { Answers (core_line_of plan.now me line.now) result }
     ensures may { IfOk result (MayBeAsked plan.now) }
+    ensures owned { IfOk result (AsksOwned plan.now.cores) }
 {
     if asks_held(line) {
         match held(alloc, plan, line) {

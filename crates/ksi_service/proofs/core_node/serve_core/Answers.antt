@@ -14,6 +14,7 @@ serving-init g c =
     let ready : Appends told now (ready_text c.args.store.now.records) = subst (λ n. Appends told now (ready_text n)) c.counts.ensures.records c.in_ok-say_ready.ensures in
     record {
       start = c.requires.start;
+      cores = c.requires.cores;
       me = c.requires.me;
       stored = c.requires.stored;
       served = record {
@@ -46,6 +47,7 @@ serving-preserved g c =
     let same : came_line (is_long came) text ≡ line = (λ i. came_line (sym c.is_long.ensures i) (sym c.deref.ensures.value i)) in
     record {
       start = c.in_ok-take_what_came.ensures.start ∙ c.serving.invariant.start;
+      cores = c.in_ok-take_what_came.ensures.cores ∙ c.serving.invariant.cores;
       me = c.in_ok-take_what_came.ensures.me ∙ c.serving.invariant.me;
       stored = c.in_ok-take_what_came.ensures.stored;
       served = record {

@@ -8,6 +8,7 @@ use Rattle.ksi_service.proofs.core_node.serve_core.Given as goal
 abbrev pub invariant-serving : goal.invariant-serving
 invariant-serving g l = record {
   start : l.store.core.start ≡ l.plan.start;
+  cores : l.store.core.plan.cores ≡ l.plan.cores;
   me : l.store.core.me ≡ l.me;
   stored : IsStore g.C.Compress.image g.D.Disk.content g.D.Disk.images l.store;
   served : Serving (CoreOutcome g.C.Compress.image l.plan l.me) l.fn.store.records (g.R.Read.remaining l.fn.reader) (g.R.Read.remaining l.reader) l.fn.store l.store (g.O.Outlet.said l.fn.out) (g.O.Outlet.said l.out);
