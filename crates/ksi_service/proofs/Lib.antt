@@ -1,4 +1,5 @@
 mod Lines
 mod Pieces
+mod RoundLemmas
 mod SayLemmas
 mod ServeLemmas

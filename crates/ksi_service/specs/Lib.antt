@@ -2,3 +2,5 @@ pub mod Inlet
 pub mod Saying
 pub mod Serving
 pub mod CoreOutcomes
+pub mod RoundOutcomes
+pub mod RoundSaying

@@ -65,3 +65,14 @@ impl From<TakeRefusal> for Failure {
         }
     }
 }
+
+impl From<ksi_roundstore::TakeRefusal> for Failure {
+    fn from(refusal: ksi_roundstore::TakeRefusal) -> Self {
+        match refusal {
+            ksi_roundstore::TakeRefusal::Failed | ksi_roundstore::TakeRefusal::Spent => {
+                Failure::Disk
+            }
+            ksi_roundstore::TakeRefusal::NoMemory => Failure::Memory,
+        }
+    }
+}

@@ -22,9 +22,11 @@ mod failure;
 mod inlet;
 mod outlet;
 mod program;
+mod round_node;
 
 pub use core_node::serve_core;
 pub use failure::Failure;
 pub use inlet::{Came, next_line};
 pub use outlet::{HostOutlet, Outlet};
 pub use program::{Command, end, plan_of, words};
+pub use round_node::serve_aggregator;

@@ -1,6 +1,9 @@
 //! Where what nodes say goes.
 ghost use Rattle.std.specs.Prelude.{◌≡◌, ℕ, List, Option, OnOk};
 ghost use Rattle.std.specs.Io.KnownBytes.{Appends};
+ghost use Rattle.ksi_aggregator.specs.Rounds.{rounds_of};
+ghost use Rattle.ksi_service.specs.RoundOutcomes.{SignTold};
+ghost use Rattle.ksi_service.specs.RoundSaying.{MaySayRound};
 ghost use Rattle.ksi_service.specs.Saying.{MaySay};
 ghost use Rattle.ksi_service.specs.Serving.{block_text, ready_text};
 ghost use Rattle.ksi_wire.specs.Refused.{refusal_text};
@@ -9,6 +12,8 @@ ghost use Rattle.ksi_wire.specs.Told.{held_text};
 use ksi_disk::Disk;
 use ksi_imprint::Compress;
 use ksi_nodestore::NodeStore;
+use ksi_roundstore::RoundStore;
+use ksi_schedule::Plan;
 use ksi_wire::{Span, WireFault};
 use std::io::{self, Write};
 
@@ -44,6 +49,26 @@ pub trait Outlet {
     /// The node is there, with so many records.
     fn say_ready(&mut self, records: u64) -> io::Result<()>
         ensures { OnOk result (Appends (said self.old) (said self.new) (ready_text records)) };
+
+    /// What came of a step of an aggregator whose facts are in this store.
+    fn say_round_step<C: Compress, D: Disk>(
+        &mut self,
+        plan: &Plan,
+        store: &RoundStore<C, D>,
+        text: &[u8],
+    ) -> io::Result<()>
+        requires { MaySayRound C.image D.content D.images plan.now store.now text.now }
+        ensures { OnOk result (Appends (said self.old) (said self.new) text.now) };
+
+    /// The signature of a request in hex, or that none is issued.
+    fn say_signature<C: Compress, D: Disk>(
+        &mut self,
+        store: &RoundStore<C, D>,
+        number: u64,
+        text: &[u8],
+    ) -> io::Result<()>
+        requires { SignTold C.image (rounds_of store.now.aggregator) number text.now }
+        ensures { OnOk result (Appends (said self.old) (said self.new) text.now) };
 }
 
 /// A writer, to which each text of a step goes out by one write.
@@ -91,6 +116,24 @@ impl<W: Write> Outlet for HostOutlet<W> {
             b"ready ",
             digits.format(records).as_bytes(),
         )
+    }
+
+    fn say_round_step<C: Compress, D: Disk>(
+        &mut self,
+        _plan: &Plan,
+        _store: &RoundStore<C, D>,
+        text: &[u8],
+    ) -> io::Result<()> {
+        self.writer.write_all(text)
+    }
+
+    fn say_signature<C: Compress, D: Disk>(
+        &mut self,
+        _store: &RoundStore<C, D>,
+        _number: u64,
+        text: &[u8],
+    ) -> io::Result<()> {
+        self.writer.write_all(text)
     }
 }
 

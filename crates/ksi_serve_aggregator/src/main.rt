@@ -1,0 +1,72 @@
+//! `ksi_serve_aggregator PLAN AGGREGATOR FOLDER NAME`: an aggregator of the plan that the schedule file PLAN begins with. Its facts are in the file
+//! NAME of FOLDER, which is made if it is missing. It takes lines from standard input, and says a block for each on standard
+//! output. The status is 0 at the end of the input, and 1 at a fault, which the last line names: `failed WORD`.
+#![tactic(auto)]
+
+ghost use Rattle.std.specs.Prelude.{◌<◌, length};
+
+use ksi_host_disk::HostDisk;
+use ksi_imprint::Sha;
+use ksi_roundstore::{RoundStore, OpenRefusal, format};
+use ksi_schedule::Plan;
+use ksi_service::{Failure, HostOutlet, end, plan_of, serve_aggregator, words};
+use std::io::BufReader;
+use std::process::ExitCode;
+
+fn main(rt: HostRuntime) -> ExitCode {
+    let outcome = run(&rt);
+    end(&rt, outcome)
+}
+
+fn run(rt: &HostRuntime) -> Result<(), Failure> {
+    let words = words(rt)?;
+    let plan = plan_of(rt, words.plan.as_str())?;
+    if words.node >= plan.aggregators() as u64 {
+        return Err(Failure::Node);
+    }
+    serve(rt, &plan, words.node as u32, words.folder.as_str(), words.name.as_str())
+}
+
+fn serve(rt: &HostRuntime, plan: &Plan, me: u32, folder: &str, name: &str) -> Result<(), Failure>
+    requires { me < length plan.now.parents }
+{
+    let disk = disk_of(rt, plan, me, folder, name)?;
+    match RoundStore::<Sha, HostDisk>::open(rt.alloc(), me, plan, disk) {
+        Ok(mut store) => {
+            let mut reader = BufReader::new(rt.alloc(), rt.stdin())?;
+            let mut out = HostOutlet::new(rt.stdout());
+            serve_aggregator(rt.alloc(), plan, me, &mut store, &mut reader, &mut out)
+        }
+        Err((OpenRefusal::NoMemory, _)) => Err(Failure::Memory),
+        Err((_, _)) => Err(Failure::File),
+    }
+}
+
+/// The disk of an aggregator, which is formatted if its file is empty. A disk that was written to is opened again, to be read.
+fn disk_of(
+    rt: &HostRuntime,
+    plan: &Plan,
+    me: u32,
+    folder: &str,
+    name: &str,
+) -> Result<HostDisk, Failure>
+    requires { me < length plan.now.parents }
+{
+    {
+        let mut disk = opened(rt, folder, name)?;
+        if !disk.is_empty() {
+            return Ok(disk);
+        }
+        if format(me, plan, &mut disk).is_err() {
+            return Err(Failure::Disk);
+        }
+    }
+    opened(rt, folder, name)
+}
+
+fn opened(rt: &HostRuntime, folder: &str, name: &str) -> Result<HostDisk, Failure> {
+    match HostDisk::open(rt, folder, name) {
+        Ok(disk) => Ok(disk),
+        Err(error) => Err(Failure::of(&error, Failure::File)),
+    }
+}

@@ -1,0 +1,79 @@
+-- What comes of a line to an aggregator.
+use Rattle.std.specs.Prelude.{◌≡◌, ◌⊎◌, ℕ, List, [], ◌∷◌, codes, false, Option, Some, None, Result, Ok, Err, is_some}
+use Rattle.hex.specs.Hex.{encode_lower}
+use Rattle.ksi_schedule.specs.Pieces.{Text, words}
+use Rattle.ksi_schedule.specs.Plans.{PlanState}
+use Rattle.ksi_schedule.specs.Printed.{line_of, text_of_lines}
+use Rattle.ksi_aggregator.specs.declared.event.RoundEvent.{RoundEvent}
+use Rattle.ksi_aggregator.specs.declared.event.RoundEvent.TheVariants as events
+use Rattle.ksi_aggregator.specs.declared.step.Step.{Step}
+use Rattle.ksi_aggregator.specs.Events.{event_second, MayTake}
+use Rattle.ksi_aggregator.specs.Issuing.{IsIssued, NotIssued}
+use Rattle.ksi_aggregator.specs.Rows.{RoundState}
+use Rattle.ksi_aggregator.specs.Rounds.{rounds_of, IsNew}
+use Rattle.ksi_roundstore.specs.StoreState.{StoreState}
+use Rattle.ksi_roundstore.specs.Takes.{TookTurn}
+use Rattle.ksi_wire.specs.declared.event.AggregatorLine.{AggregatorLine}
+use Rattle.ksi_wire.specs.declared.event.AggregatorLine.TheVariants as lines
+use Rattle.ksi_wire.specs.declared.fault.WireFault.{WireFault}
+use Rattle.ksi_wire.specs.declared.fault.WireFault.TheVariants.{Long, Taken}
+use Rattle.ksi_wire.specs.AskedRounds.{aggregator_line_of, is_response}
+use Rattle.ksi_wire.specs.RoundLines.{asked_words}
+use Rattle.ksi_wire.specs.Steps.{round_step_text}
+use Rattle.ksi_wire.specs.Refused.{refusal_text}
+
+-- a line asks this: it is its text; and where it is no response it is read so
+pub record Asks (plan : PlanState) (me : ℕ) (line : Text) (asked : AggregatorLine) : Type 0 where
+  pub text : line ≡ line_of (asked_words asked)
+  pub read : is_response (words line) ≡ false → aggregator_line_of plan me line ≡ Ok asked
+
+-- what a line asks, or its first fault, which is not said here of a response's
+abbrev pub IsAsked : PlanState → (me : ℕ) → Option Text → Result AggregatorLine WireFault → Type 0
+IsAsked plan me None asked = asked ≡ Err Long
+IsAsked plan me (Some line) (Ok asked) = Asks plan me line asked
+IsAsked plan me (Some line) (Err fault) = is_response (words line) ≡ false → aggregator_line_of plan me line ≡ Err fault
+
+-- the text of the step of an event
+abbrev pub round_said : PlanState → (me : ℕ) → RoundEvent → Step → Text
+round_said plan me event step = round_step_text plan me (event_second event) step.answer (is_some step.fact) step.sends
+
+-- the one step of an event that is due is taken, and its text said
+pub record HasTaken {D : Type 0} (image : List ℕ → List ℕ) (plan : PlanState) (me : ℕ) (event : RoundEvent) (before after : StoreState D) (said : Text) : Type 0 where
+  pub step : Step
+  pub due : MayTake (rounds_of before.aggregator) event
+  pub turn : TookTurn image before.aggregator after.aggregator event step
+  pub text : said ≡ round_said plan me event step
+
+-- the request's number stands for another
+abbrev pub IsTaken : (rounds : ℕ → RoundState) → RoundEvent → Type 0
+IsTaken rounds (events.Request number second imprint name) = IsNew number rounds → ⊥
+IsTaken rounds (events.Submission from second item) = ⊥
+IsTaken rounds (events.Close second) = ⊥
+IsTaken rounds (events.Response second above) = ⊥
+
+-- an event is taken, or refused as its number is taken
+abbrev pub EventOutcome : {D : Type 0} → (List ℕ → List ℕ) → PlanState → (me : ℕ) → RoundEvent → (before after : StoreState D) → (said : Text) → Type 0
+EventOutcome image plan me event before after said =
+    HasTaken image plan me event before after said ⊎ (IsTaken (rounds_of before.aggregator) event × (after ≡ before) × (said ≡ refusal_text Taken))
+
+-- the signature of a request in hex, or that none is issued
+abbrev pub signature_text : List ℕ → Text
+signature_text bytes = text_of_lines ((codes "signature" ∷ encode_lower bytes ∷ []) ∷ (codes "." ∷ []) ∷ [])
+
+abbrev pub not_issued_text : Text
+not_issued_text = text_of_lines ((codes "not" ∷ codes "issued" ∷ []) ∷ (codes "." ∷ []) ∷ [])
+
+abbrev pub SignTold : (List ℕ → List ℕ) → (rounds : ℕ → RoundState) → (number : ℕ) → (said : Text) → Type 0
+SignTold image rounds number said =
+    ((bytes : List ℕ) × IsIssued image rounds number bytes × (said ≡ signature_text bytes)) ⊎ (NotIssued rounds number × (said ≡ not_issued_text))
+
+-- A question and a refusal change nothing.
+abbrev pub AskedRound : {D : Type 0} → (List ℕ → List ℕ) → PlanState → (me : ℕ) → Result AggregatorLine WireFault → (before after : StoreState D) → (said : Text) → Type 0
+AskedRound image plan me (Ok (lines.Event event)) before after said = EventOutcome image plan me event before after said
+AskedRound image plan me (Ok (lines.Sign number)) before after said = (after ≡ before) × SignTold image (rounds_of before.aggregator) number said
+AskedRound image plan me (Err fault) before after said = (after ≡ before) × (said ≡ refusal_text fault)
+
+pub record RoundOutcome {D : Type 0} (image : List ℕ → List ℕ) (plan : PlanState) (me : ℕ) (line : Option Text) (before after : StoreState D) (said : Text) : Type 0 where
+  pub asked : Result AggregatorLine WireFault
+  pub is : IsAsked plan me line asked
+  pub outcome : AskedRound image plan me asked before after said

@@ -1,0 +1,22 @@
+-- What an aggregator may say, and when.
+use Rattle.std.specs.Prelude.{◌≡◌, ℕ, List}
+use Rattle.ksi_schedule.specs.Pieces.{Text}
+use Rattle.ksi_schedule.specs.Plans.{PlanState}
+use Rattle.ksi_aggregator.specs.declared.event.RoundEvent.{RoundEvent}
+use Rattle.ksi_aggregator.specs.declared.step.Step.{Step}
+use Rattle.ksi_aggregator.specs.Events.{MayTake}
+use Rattle.ksi_aggregator.specs.Rounds.{rounds_of}
+use Rattle.ksi_roundstore.specs.StoreState.{StoreState}
+use Rattle.ksi_roundstore.specs.Takes.{HasStored, TookTurn}
+use Rattle.ksi_service.specs.RoundOutcomes.{round_said}
+
+-- The text is that of a step that led from an earlier store to this one: the row of an event that was due in the aggregator
+-- before it. And the file of the store, which is on the disk for good, has the records before and that of the step's fact.
+pub record MaySayRound {D : Type 0} (image : List ℕ → List ℕ) (content : D → List ℕ) (images : D → List ℕ → Type 0) (plan : PlanState) (store : StoreState D) (said : Text) : Type 0 where
+  pub before : StoreState D
+  pub event : RoundEvent
+  pub step : Step
+  pub due : MayTake (rounds_of before.aggregator) event
+  pub turn : TookTurn image before.aggregator store.aggregator event step
+  pub stored : HasStored content images step.fact before.log store.log
+  pub text : said ≡ round_said plan before.aggregator.me event step
