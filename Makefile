@@ -1,4 +1,4 @@
-# Installs ksi, its library for C, its pages and the page for browsers:
+# Installs ksi, ksi-service, the library for C, their pages and the page for browsers:
 #
 #   rt ci  (or `make`)          proves and builds the programs
 #   make install PREFIX=/usr/local
@@ -11,6 +11,12 @@ RT = rt
 CC = cc
 OUT = out
 PROGRAM = crates/ksi/out/ksi
+# of the nodes of ksi-service: installed where they are built
+NODES = ksi_serve_core ksi_serve_aggregator ksi_retrace
+# what has a page and completions
+NAMES = ksi ksi-service
+# what a static program is linked with
+KIT = $(dir $(realpath $(shell command -v $(RT))))..
 ARCHIVE = crates/ksi_c/out/libksi_c.a
 SONAME = libksi.so.1
 ROOT = $(DESTDIR)$(PREFIX)
@@ -18,11 +24,12 @@ DOC = $(ROOT)/share/doc/ksi
 
 all: programs library pages
 
-.PHONY: all programs pages page library check install uninstall deb sums
+.PHONY: all programs pages page library static check install uninstall deb sums
 
 # rt proves again only what changed
 programs:
 	cd crates/ksi && $(RT) run > /dev/null
+	for it in $(NODES); do ! test -d crates/$$it || (cd crates/$$it && $(RT) run < /dev/null > /dev/null) || exit; done
 
 library:
 	cd crates/ksi_c && $(RT) lib
@@ -31,6 +38,12 @@ library:
 
 pages:
 	python3 package/manual.py $(OUT)
+
+# programs without a library of the system, from the objects that `programs` leaves
+static:
+	mkdir -p $(OUT)
+	$(CC) -static -Wl,--build-id=none -o $(OUT)/ksi-static crates/ksi/out/ksi.o $(KIT)/c/libos_c.a $(KIT)/c/liblibc_c.a
+	strip $(OUT)/*-static
 
 # the page that verifies in the browser: $(OUT)/page.html
 page:
@@ -42,6 +55,11 @@ check:
 install:
 	install -Dm755 $(PROGRAM) $(ROOT)/bin/ksi
 	install -Dm755 package/ksi-why $(ROOT)/bin/ksi-why
+	install -Dm755 service/ksi-service $(ROOT)/lib/ksi/ksi-service
+	install -d $(ROOT)/lib/ksi/ksi_service
+	install -m644 service/ksi_service/*.py $(ROOT)/lib/ksi/ksi_service
+	for it in $(NODES); do ! test -e crates/$$it/out/$$it || install -m755 crates/$$it/out/$$it $(ROOT)/lib/ksi/$$it || exit; done
+	ln -sf ../lib/ksi/ksi-service $(ROOT)/bin/ksi-service
 	install -Dm644 $(ARCHIVE) $(ROOT)/lib/libksi.a
 	install -Dm644 $(OUT)/$(SONAME) $(ROOT)/lib/$(SONAME)
 	ln -sf $(SONAME) $(ROOT)/lib/libksi.so
@@ -49,19 +67,23 @@ install:
 	install -d $(ROOT)/lib/pkgconfig
 	sed -e 's,@PREFIX@,$(PREFIX),' -e 's,@VERSION@,$(VERSION),' lang/c/ksi.pc.in > $(ROOT)/lib/pkgconfig/ksi.pc
 	chmod 644 $(ROOT)/lib/pkgconfig/ksi.pc
-	install -Dm644 $(OUT)/ksi.1 $(ROOT)/share/man/man1/ksi.1
-	install -Dm644 $(OUT)/ksi.bash $(ROOT)/share/bash-completion/completions/ksi
-	install -Dm644 $(OUT)/_ksi $(ROOT)/share/zsh/site-functions/_ksi
-	install -Dm644 $(OUT)/ksi.fish $(ROOT)/share/fish/vendor_completions.d/ksi.fish
+	for it in $(NAMES); do \
+	    install -Dm644 $(OUT)/$$it.1 $(ROOT)/share/man/man1/$$it.1 && \
+	    install -Dm644 $(OUT)/$$it.bash $(ROOT)/share/bash-completion/completions/$$it && \
+	    install -Dm644 $(OUT)/_$$it $(ROOT)/share/zsh/site-functions/_$$it && \
+	    install -Dm644 $(OUT)/$$it.fish $(ROOT)/share/fish/vendor_completions.d/$$it.fish || exit; \
+	done
 	install -d $(DOC)
 	install -m644 README.md NOTICE docs/*.md $(DOC)
 	! test -e $(OUT)/page.html || install -Dm644 $(OUT)/page.html $(ROOT)/share/ksi/page.html
+	! test -e $(OUT)/page.html || ln -sf ../../share/ksi/page.html $(ROOT)/lib/ksi/page.html
 
 uninstall:
-	cd $(ROOT) && rm -f bin/ksi bin/ksi-why lib/libksi.a lib/$(SONAME) lib/libksi.so include/ksi.h lib/pkgconfig/ksi.pc \
-	    share/man/man1/ksi.1 share/bash-completion/completions/ksi share/zsh/site-functions/_ksi \
-	    share/fish/vendor_completions.d/ksi.fish
-	rm -rf $(DOC) $(ROOT)/share/ksi
+	cd $(ROOT) && rm -f bin/ksi-why lib/libksi.a lib/$(SONAME) lib/libksi.so include/ksi.h lib/pkgconfig/ksi.pc
+	cd $(ROOT) && for it in $(NAMES); do \
+	    rm -f bin/$$it share/man/man1/$$it.1 share/bash-completion/completions/$$it share/zsh/site-functions/_$$it share/fish/vendor_completions.d/$$it.fish; \
+	done
+	rm -rf $(DOC) $(ROOT)/share/ksi $(ROOT)/lib/ksi
 
 deb:
 	package/deb $(VERSION) $(OUT)

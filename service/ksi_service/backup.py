@@ -5,12 +5,11 @@ start on, as `ksi extend` and `ksi audit` want it."""
 import os
 
 from . import files
+from .extension import AT_ONCE
 from .elements import mirror_file
 from .plan import Plan
-from .proved import Core, ksi
+from .proved import Core, Refused, ksi
 
-AT_ONCE = 1024
-"""Of how many seconds a core tells at once."""
 SECONDS = 1 << 17
 """The seconds of a part: 36 hours, 14 MB with one aggregator below each core that leads."""
 
@@ -20,6 +19,8 @@ def rows_of(core, first, last):
     rows = []
     for second in range(first, last + 1, AT_ONCE):
         told = core.ask(f"held {second} {min(AT_ONCE, last + 1 - second)}")
+        if told == ["refused word"]:
+            raise Refused(1, "the cores' program does not answer `held`")
         rows += [row.split(" ") for row in told]
     return rows
 
@@ -35,15 +36,21 @@ def make(folder, out, last, say=print):
     os.makedirs(out, exist_ok=True)
     at = lambda name: os.path.abspath(os.path.join(out, name))
     for number in range(plan.cores):
-        with Core(folder, number) as core:
-            for part, (first, end) in enumerate(parts(plan, last)):
-                mirror = at(f"mirror.{part}")
-                content = mirror_file(plan.start, number, rows_of(core, first, end))
-                if number == 0:
-                    files.write(mirror, content)
-                    continue
-                files.write(at("other"), content)
-                say(f"part {part}, core {number}: {ksi('merge', mirror, at('other'), mirror)}")
-                files.remove(at("other"))
-    for part, _ in enumerate(parts(plan, last)):
-        say(f"part {part}: {ksi('whole', at(f'mirror.{part}'), at(f'journal.{part}'))}")
+        for part, content in enumerate(mirrors(folder, plan, number, last)):
+            mirror = at(f"mirror.{part}")
+            if number == 0:
+                files.write(mirror, content)
+                continue
+            files.write(at("other"), content)
+            say(f"part {part}, core {number}: {ksi('merge', mirror, at('other'), mirror)}")
+            files.remove(at("other"))
+    for part in range(len(os.listdir(out))):
+        if os.path.exists(at(f"mirror.{part}")):
+            say(f"part {part}: {ksi('whole', at(f'mirror.{part}'), at(f'journal.{part}'))}")
+
+
+def mirrors(folder, plan, number, last):
+    """A core's mirrors, one for each part."""
+    with Core(folder, number) as core:
+        for first, end in parts(plan, last):
+            yield mirror_file(plan.start, number, rows_of(core, first, end))

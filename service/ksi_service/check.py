@@ -5,6 +5,8 @@ import random
 import tempfile
 
 from . import backup, extension
+from .calendar import Calendar
+from .elements import parts_of
 from .plan import Plan
 from .proved import Core, Refused, ksi
 from .publications import Publications
@@ -56,22 +58,19 @@ def use(folder, signatures, publications, last):
         audited = last - plan.start < MOST_AUDITED
         if audited:
             backup.make(folder, room, last, say=lambda text: None)
-        with Core(folder, used % plan.cores) as core:
+        calendar = Calendar(plan.start)
+        with Core(folder, 0) as core:
             for signature in signatures:
-                if extension.parts_of(signature).second > publications.last():
+                if parts_of(signature).second > publications.last():
                     continue
-                parts, content = extended(core, signature, publications)
+                try:
+                    parts, content = extension.extend_by(core, calendar, signature, publications)
+                except extension.NotExtended as reason:
+                    raise Differs(f"a signature is not extended: {reason}") from None
                 if audited:
                     audit(room, parts, content, publications)
                 used += 1
     return used
-
-
-def extended(core, signature, publications):
-    try:
-        return extension.extend_by(core, signature, publications.last(), publications.path)
-    except extension.NotExtended as reason:
-        raise Differs(f"a signature is not extended: {reason}") from None
 
 
 def audit(room, parts, content, publications):

@@ -16,6 +16,7 @@ from . import check as checking
 from . import backup as backing
 from . import files, service, streams
 from .clock import PlanEnded
+from .elements import Malformed, parts_of
 from .node import Down, GivenUp, LostFacts
 from .programs import Missing
 from .proved import Refused, ksi
@@ -121,8 +122,18 @@ def status(words):
 def sign(words):
     """Signs a file by its hash: the file does not leave its owner."""
     name = words.out or words.file + ".ksig"
-    files.write(name, ask(words.folder, "/sign", digest_of(words.file).encode()))
-    print(f"signed {name}")
+    content = ask(words.folder, "/sign", digest_of(words.file).encode())
+    files.write(name, content)
+    print(f"signed {name}{time_of(content)}")
+
+
+def time_of(signature):
+    """The second of a signature, as people read it."""
+    try:
+        second = parts_of(signature).second
+        return f": second {second}, {time.strftime('%Y-%m-%d %H:%M:%S', time.gmtime(second))} UTC"
+    except (Malformed, ValueError, OverflowError):
+        return ""
 
 
 def extend(words):
@@ -142,7 +153,10 @@ def verify(words):
     try:
         print(ksi("verify", words.signature, digest_of(words.file), words.publications))
     except Refused as refused:
-        raise Failed(str(refused)) from None
+        hint = ""
+        if refused.line.startswith("refused V13 "):
+            hint = f" (the signature is not extended to a publication of that file: ksi-service extend {words.signature}, and ksi-service publications)"
+        raise Failed(f"{refused}{hint}") from None
 
 
 def check(words):
@@ -173,13 +187,13 @@ def node_name(text):
 
 
 def parser_of():
-    parser = argparse.ArgumentParser(prog="ksi-service", description="A timestamping service of proved nodes on this machine.")
+    parser = argparse.ArgumentParser(prog="ksi-service", description="A timestamping service of proved nodes, on one machine or several.")
     commands = parser.add_subparsers(dest="command", required=True)
     for name, does, told in (("start", start, "start it in the background"), ("run", run, "run it until it is interrupted")):
         one = commands.add_parser(name, help=told)
         one.add_argument("folder", nargs="?", default=DEFAULT)
-        one.add_argument("--cores", type=int, default=3, choices=range(1, 10), metavar="1..9")
-        one.add_argument("--aggregators", type=positive, default=2)
+        one.add_argument("--cores", type=int, default=3, choices=range(1, 10), metavar="1..9", help="how many cores a new folder has: 3")
+        one.add_argument("--aggregators", type=positive, default=2, metavar="NUMBER", help="how many aggregators a new folder has: 2")
         one.add_argument("--door", default="127.0.0.1:8080", metavar="HOST:PORT", help="where to listen; port 0 takes a free one")
         one.add_argument("--over", default=OVER, metavar="pipes|redis://HOST", help="how lines go: pipes on this machine, or Redis Streams to the hosts of nodes")
         one.add_argument("--publish-every", type=positive, default=3600, metavar="SECONDS", help="how often a core publishes: 3600")

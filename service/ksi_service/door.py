@@ -13,16 +13,20 @@ import hashlib
 import json
 import re
 import sys
+import time
 from http import HTTPStatus
 
 from . import http
 from .http import Answer
 from .metrics import prometheus
+from .programs import Missing
 
 MOST_DOCUMENT = 64 << 20
 """The largest document, in bytes."""
 MOST_SIGNATURE = 65_539
 MOST_CONNECTIONS = 12_000
+LOOK_SECONDS = 0.25
+"""How often the door looks for clients that take too long."""
 HASH = re.compile(rb"\s*([0-9a-fA-F]{64})\s*")
 KINDS = {"application/octet-stream": True, "text/plain": False, "application/x-www-form-urlencoded": False, "": False}
 """Whether a body of this type is a document; else it is a hash."""
@@ -37,12 +41,21 @@ class Door:
 
     def __init__(self, house, most_connections=MOST_CONNECTIONS):
         self.house, self.most_connections, self.open, self.refused = house, most_connections, set(), 0
-        self.server = None
+        self.server = self.looking = None
         self.paths = {"/sign": ("POST", self.sign), "/extend": ("POST", self.extend), "/publications": ("GET", self.publications),
                       "/status": ("GET", self.status), "/metrics": ("GET", self.metrics), "/": ("GET", self.page)}
 
     async def begin(self, host, port):
         self.server = await asyncio.start_server(self.connected, host, port, limit=http.MOST_HEAD, backlog=1024)
+        self.looking = asyncio.create_task(self.look())
+
+    async def look(self):
+        """Ends what takes too long."""
+        while True:
+            await asyncio.sleep(LOOK_SECONDS)
+            now = time.monotonic()
+            for connection in self.open:
+                connection.look(now)
 
     def address(self):
         return self.server.sockets[0].getsockname()[:2]
@@ -50,24 +63,26 @@ class Door:
     async def stop(self):
         """Takes no more connections, and ends those that are open."""
         self.server.close()
-        for writer in list(self.open):
-            writer.transport.abort()
+        self.looking.cancel()
+        for connection in list(self.open):
+            connection.writer.transport.abort()
         await asyncio.sleep(0)
 
     async def connected(self, reader, writer):
         """One connection, if not too many are open."""
-        self.open.add(writer)
+        connection = http.Connection(reader, writer)
+        self.open.add(connection)
         try:
             if len(self.open) > self.most_connections:
                 answer = Answer(HTTPStatus.SERVICE_UNAVAILABLE, "too many connections are open", Retry_After="2")
                 writer.write(answer.head(True) + answer.content)
+                await http.linger(connection)
             else:
-                await http.serve(reader, writer, self.reply)
-            await http.linger(reader, writer)
+                await http.serve(connection, self.reply)
         except (ConnectionError, TimeoutError, asyncio.CancelledError):
             pass
         finally:
-            self.open.discard(writer)
+            self.open.discard(connection)
             writer.close()
 
     async def reply(self, request):
@@ -78,7 +93,9 @@ class Door:
             answer = told
         except TimeoutError:
             raise
-        except (OSError, RuntimeError) as error:
+        except Missing as missing:
+            answer = Answer(HTTPStatus.SERVICE_UNAVAILABLE, str(missing))
+        except Exception as error:
             print(f"{request.method} {request.path}: {error!r}", file=sys.stderr, flush=True)
             answer = Answer(HTTPStatus.INTERNAL_SERVER_ERROR, "the service failed at this")
         self.refused += 400 <= answer.status < 500

@@ -3,6 +3,7 @@
 What is read is strict: a head of lines that end in CR LF, names and values of printable ASCII, a body only by one Content-Length."""
 import asyncio
 import re
+import time
 from http import HTTPStatus
 
 MOST_HEAD = 8192
@@ -37,29 +38,35 @@ class Answer(Exception):
         return "".join(f"{row}\r\n" for row in rows).encode() + b"\r\n"
 
 
-class Limit:
-    """Lets a reader fail once a time is over."""
+class Connection:
+    """A connection to a client, and until when it has to have sent what is waited for."""
 
-    def __init__(self, reader, seconds):
-        self.handle = asyncio.get_running_loop().call_later(seconds, reader.set_exception, TimeoutError())
+    def __init__(self, reader, writer):
+        self.reader, self.writer, self.until = reader, writer, None
 
-    def __enter__(self):
-        return self
+    def limit(self, seconds):
+        self.until = time.monotonic() + seconds
 
-    def __exit__(self, *_):
-        self.handle.cancel()
+    def free(self):
+        self.until = None
+
+    def look(self, now):
+        """Lets what is waited for fail if its time is over. Somebody looks from time to time."""
+        if self.until is not None and now > self.until:
+            self.until = None
+            self.reader.set_exception(TimeoutError())
 
 
 class Request:
     """A request whose head was read. Its body is still to come."""
 
-    def __init__(self, head, reader, writer):
+    def __init__(self, head, connection):
         first, *rows = head.split("\r\n")
         words = FIRST.fullmatch(first)
         if not words:
             raise Answer(HTTPStatus.BAD_REQUEST, "the first line is not METHOD /PATH HTTP/1.1")
         self.method, self.path, minor = words[1], words[2], words[3]
-        self.headers, self.reader, self.writer = headers_of(rows), reader, writer
+        self.headers, self.connection = headers_of(rows), connection
         if minor == "1" and "host" not in self.headers:
             raise Answer(HTTPStatus.BAD_REQUEST, "there is no Host")
         self.left = self.length()
@@ -83,14 +90,15 @@ class Request:
         if self.left > most:
             raise Answer(HTTPStatus.REQUEST_ENTITY_TOO_LARGE, f"at most {most} bytes")
         if self.left and self.headers.get("expect", "").lower() == "100-continue":
-            self.writer.write(b"HTTP/1.1 100 Continue\r\n\r\n")
-        with Limit(self.reader, SECONDS_FOR_BODY + self.left / BYTES_A_SECOND):
-            while self.left:
-                piece = await self.reader.read(min(self.left, 1 << 16))
-                if not piece:
-                    raise Answer(HTTPStatus.BAD_REQUEST, "the body ended early")
-                self.left -= len(piece)
-                yield piece
+            self.connection.writer.write(b"HTTP/1.1 100 Continue\r\n\r\n")
+        self.connection.limit(SECONDS_FOR_BODY + self.left / BYTES_A_SECOND)
+        while self.left:
+            piece = await self.connection.reader.read(min(self.left, 1 << 16))
+            if not piece:
+                raise Answer(HTTPStatus.BAD_REQUEST, "the body ended early")
+            self.left -= len(piece)
+            yield piece
+        self.connection.free()
 
     async def body(self, most):
         return b"".join([piece async for piece in self.pieces(most)])
@@ -112,48 +120,50 @@ def headers_of(rows):
     return headers
 
 
-async def read_head(reader):
+async def read_head(connection):
     """The text of a request's head, or None where the client sends no more."""
+    connection.limit(SECONDS_FOR_HEAD)
     try:
-        with Limit(reader, SECONDS_FOR_HEAD):
-            head = await reader.readuntil(b"\r\n\r\n")
+        head = await connection.reader.readuntil(b"\r\n\r\n")
     except asyncio.IncompleteReadError as rest:
         if not rest.partial.strip():
             return None
         raise Answer(HTTPStatus.BAD_REQUEST, "the head ended early, or its lines do not end in CR LF") from None
     except asyncio.LimitOverrunError:
         raise Answer(HTTPStatus.REQUEST_HEADER_FIELDS_TOO_LARGE, f"a head has at most {MOST_HEAD} bytes") from None
+    connection.free()
     return head[:-4].decode("latin-1")
 
 
-async def serve(reader, writer, reply):
+async def serve(connection, reply):
     """Answers the requests of a connection by `reply`, which gives an Answer for a Request."""
     ends = False
     while not ends:
         request = None
         try:
-            head = await read_head(reader)
+            head = await read_head(connection)
             if head is None:
                 return
-            request = Request(head, reader, writer)
+            request = Request(head, connection)
             answer = await reply(request)
         except Answer as refused:
             answer = refused
         except TimeoutError:
             answer = Answer(HTTPStatus.REQUEST_TIMEOUT, "it took too long")
         ends = request is None or request.ends or request.left > 0
-        writer.write(answer.head(ends) + answer.content)
-        await drained(writer)
+        connection.writer.write(answer.head(ends) + answer.content)
+        await drained(connection.writer)
+    await linger(connection)
 
 
-async def linger(reader, writer):
+async def linger(connection):
     """Takes what a client still sends for a moment, so that it reads the last answer before the connection ends."""
     try:
-        writer.write_eof()
-        with Limit(reader, SECONDS_TO_LINGER):
-            for _ in range(MOST_TO_LINGER >> 14):
-                if not await reader.read(1 << 14):
-                    return
+        connection.writer.write_eof()
+        connection.limit(SECONDS_TO_LINGER)
+        for _ in range(MOST_TO_LINGER >> 14):
+            if not await connection.reader.read(1 << 14):
+                return
     except (TimeoutError, OSError):
         pass
 

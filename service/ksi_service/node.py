@@ -39,6 +39,7 @@ class Line:
         """Which step of the record it was."""
         self.is_question = word(text) in QUESTIONS
         self.may_store = word(text) in MAY_STORE
+        self.is_request = word(text) == "request"
 
     def fail(self, name):
         if not self.answer.done():
@@ -145,7 +146,7 @@ class Node:
         if line.is_question:
             self.record.after(lambda: line.answered(block))
             return
-        step = self.record.add(["said", self.name, block], lambda: line.answered(block))
+        step = self.record.add(["said", self.name, block], lambda: line.answered(block), not line.is_request)
         if is_refusal(block):
             self.refused += 1
         else:
@@ -173,7 +174,7 @@ class Node:
         if line.is_question:
             self.record.after(effect)
         else:
-            self.record.add(["given", self.name, line.text, line.message], effect)
+            self.record.add(["given", self.name, line.text, line.message], effect, not line.is_request)
 
     def write(self):
         """Writes the lines that the record has by now, in one piece."""

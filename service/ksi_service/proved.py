@@ -36,7 +36,10 @@ class Core:
         return self
 
     def __exit__(self, *_):
-        self.process.stdin.close()
+        try:
+            self.process.stdin.close()
+        except OSError:
+            pass
         self.process.stdout.close()
         self.process.wait()
 

@@ -37,6 +37,10 @@ QUESTIONS = {"sign", "chain", "mirror", "held"}
 """The first words of lines that ask for what a node has, and change nothing."""
 
 
+SOON = 0.008
+"""How many seconds an entry that is not urgent waits for others at most."""
+
+
 def word(line):
     return line.split(" ", 1)[0]
 
@@ -199,7 +203,7 @@ class Record:
     """A record that is added to. What is added is written and synced in groups; then the effects that wait for it happen."""
 
     def __init__(self, folder):
-        self.folder, self.bytes, self.failed = folder, 0, False
+        self.folder, self.bytes, self.failed, self.soon = folder, 0, False, False
         self.waiting, self.wanted = [], asyncio.Event()
         self.writer, self.packer = concurrent.futures.ThreadPoolExecutor(1), concurrent.futures.ThreadPoolExecutor(1)
         os.makedirs(folder, exist_ok=True)
@@ -229,12 +233,17 @@ class Record:
     def node(self, name):
         return self.state.node(name)
 
-    def add(self, entry, effect=None):
-        """Adds an entry, with what is to happen once it is on the disk. Returns how many steps there were before."""
+    def add(self, entry, effect=None, urgent=True):
+        """Adds an entry, with what is to happen once it is on the disk. Returns how many steps there were before. What is not urgent
+        waits some milliseconds for others to be written with it."""
         before = self.state.steps
         self.state.take(entry)
         self.waiting.append((text_of(entry), effect))
-        self.wanted.set()
+        if urgent:
+            self.wanted.set()
+        elif not self.soon:
+            self.soon = True
+            asyncio.get_running_loop().call_later(SOON, self.wanted.set)
         return before
 
     def after(self, effect):
@@ -251,7 +260,7 @@ class Record:
 
     async def flush(self):
         """Writes and syncs what waits, and then lets its effects happen. After a failure nothing has an effect any more."""
-        waiting, self.waiting = self.waiting, []
+        waiting, self.waiting, self.soon = self.waiting, [], False
         content = "".join(line for line, _ in waiting).encode()
         if self.failed:
             return

@@ -1,6 +1,7 @@
 """The service: nodes, clock, record, publications and door, over one folder."""
 import asyncio
 import collections
+import gc
 import os
 import resource
 import signal
@@ -9,6 +10,7 @@ import time
 from http import HTTPStatus
 
 from . import extension, files
+from .calendar import Calendar
 from .clock import MOST_WAITING, Busy, Clock, NotSigned
 from .door import MOST_CONNECTIONS, Answer, Door, signature_answer
 from .metrics import Spans
@@ -100,7 +102,7 @@ class House:
 
     async def extend(self, content):
         if self.service.publications.last() is None:
-            raise Answer(HTTPStatus.CONFLICT, "nothing was published yet")
+            raise Answer(HTTPStatus.CONFLICT, f"nothing was published yet: a core publishes every {self.service.publish_every} seconds")
         if self.to_extend >= MOST_TO_EXTEND:
             raise Answer(HTTPStatus.SERVICE_UNAVAILABLE, "too many signatures wait to be extended", Retry_After="2")
         self.to_extend += 1
@@ -121,7 +123,7 @@ class Service:
         self.folder, self.plan, self.publish_every, self.cut_every = folder, plan, publish_every, cut_every
         self.network = Network(folder, plan, trouble) if over == "pipes" else RemoteNetwork(folder, plan, over, say)
         self.clock = Clock(self.network, most_waiting)
-        self.publications = Publications(folder)
+        self.publications, self.calendar = Publications(folder), Calendar(plan.start)
         self.publishing, self.clock.on_published = asyncio.Lock(), self.publish
         self.began, self.door = time.time(), None
         self.tasks, self.own = [], []
@@ -136,21 +138,33 @@ class Service:
     async def publish(self, second, root):
         """Puts a root that a core has published into the publications file, one after the other."""
         async with self.publishing:
-            await asyncio.get_running_loop().run_in_executor(None, self.publications.add, second, root)
+            await self.in_thread(self.publications.add, second, root)
+
+    async def in_thread(self, work, *words):
+        return await asyncio.get_running_loop().run_in_executor(None, work, *words)
 
     async def extend(self, signature):
         """A signature that is extended to the last publication by a core that holds all seconds to it."""
         last = self.publications.last()
-        parts, held, chain = extension.wanted(signature, last)
+        parts = extension.wanted(signature, last)
         for number in range(self.plan.cores):
             core = self.network.core((parts.second + number) % self.plan.cores)
             try:
-                content = extension.put_together(parts, last, await core.ask(held), await core.ask(chain))
+                make = await self.asked(core, extension.asking(self.calendar, parts, last))
             except Down:
                 continue
-            if content is not None:
-                return await asyncio.get_running_loop().run_in_executor(None, extension.accepted, content, parts, self.publications.path)
+            if make is not None:
+                return await self.in_thread(extension.accepted, make, parts, self.publications.path)
         raise extension.NotExtended(f"no core that answers holds all seconds to {last}")
+
+    async def asked(self, core, work):
+        """What work returns that asks a core questions."""
+        answer = None
+        try:
+            while True:
+                answer = await core.ask(work.send(answer))
+        except StopIteration as end:
+            return end.value
 
     def counters(self):
         nodes, clock, record = self.network.nodes, self.clock, self.network.record
@@ -207,6 +221,8 @@ async def first_of(end, work):
 
 async def run(folder, cores=3, aggregators=2, address=("127.0.0.1", 8080), trouble_with=None, **options):
     """Runs the service until it is told to stop. A test makes trouble with it."""
+    # futures and lines come and go by thousands a second, and nothing of them is in a cycle
+    gc.set_threshold(50_000, 20, 50)
     os.makedirs(folder, exist_ok=True)
     held = files.lock(folder)
     service = Service(folder, plan_of(folder, cores, aggregators), **options)

@@ -88,7 +88,11 @@ class Process:
         return rows
 
     def end(self):
-        self.child.stdin.close()
+        """Ends the input; what was not taken of it is gone with the process."""
+        try:
+            self.child.stdin.close()
+        except OSError:
+            pass
         self.child.stdout.close()
         self.child.wait()
 

@@ -1,8 +1,10 @@
 """stand_in.py core|aggregator PLAN NUMBER FOLDER NAME: a node for tests of the host where the proved programs are not built.
 
 It takes the lines of a node and answers by the blocks of one (docs/FORMATS.md, "Lines of nodes"), and keeps its facts in a file, a
-line each. Its trees are one hash and its signatures are no signatures: the host looks into neither."""
+line each. Its trees are one hash and its signatures are no signatures, but for a round of one request above which a proved core
+stands: then the response is the signature. The host looks into neither."""
 import collections
+import fcntl
 import hashlib
 import os
 import sys
@@ -26,6 +28,10 @@ class Stand:
                 elif words[0] in ("cores", "start"):
                     setattr(self, words[0], int(words[1]))
         self.file, self.rows = open(path, "a+", encoding="ascii"), []
+        try:
+            fcntl.flock(self.file, fcntl.LOCK_EX | fcntl.LOCK_NB)
+        except OSError:
+            sys.exit("failed file")
         self.file.seek(0)
         self.facts = [line.split() for line in self.file]
         for fact in self.facts:
@@ -204,7 +210,8 @@ class Aggregator(Stand):
         items = self.open.pop(second, [])
         self.keep("closed", second, *items)
         if items:
-            self.rows.append(f"send {self.parents[self.number]} submission {self.number} {second} {digest(items)} 0")
+            root = items[0].split(":")[1] if len(items) == 1 else digest(items)
+            self.rows.append(f"send {self.parents[self.number]} submission {self.number} {second} {root} 0")
         return "answer done"
 
     def on_response(self, second, text):
@@ -217,6 +224,8 @@ class Aggregator(Stand):
         second, item = self.numbers.get(number, ("", ""))
         if second not in self.answered or item not in self.closed.get(second, ()):
             return "not issued"
+        if len(self.closed[second]) == 1 and len(self.answered[second]) > 64:
+            return f"signature {self.answered[second]}"
         return f"signature {item.split(':')[1]}{int(second):016x}{self.answered[second]}"
 
 

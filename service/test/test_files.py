@@ -5,7 +5,9 @@ import unittest
 from unittest import mock
 
 import stands
+from ksi_service import calendar as calendars
 from ksi_service import elements, extension, files
+from ksi_service.calendar import ZERO, Calendar, join
 from ksi_service.proved import Refused, ksi
 from ksi_service.publications import Publications
 
@@ -68,44 +70,87 @@ class ElementsTest(unittest.TestCase):
             self.assertEqual(elements.extended(parts, last, parts.root, root, links), wanted)
 
 
+class Teller:
+    """A core that tells roots, and a chain or none."""
+
+    def __init__(self, roots, chain):
+        self.roots, self.chain, self.asked, self.name = roots, chain, [], "c0"
+
+    def ask(self, line):
+        self.asked.append(line)
+        word, first, count = line.split(" ")
+        if word == "chain":
+            return self.chain
+        return [f"root {it} {self.roots[it]}" for it in range(int(first), int(first) + int(count)) if it in self.roots]
+
+
 class ExtensionTest(unittest.TestCase):
     """Without `ksi`: what is asked of a core, and when nothing is extended."""
 
     def setUp(self):
         self.signature = data("linked_signature")
-        self.parts, self.held, self.chain = extension.wanted(self.signature, 9)
+        self.parts = extension.wanted(self.signature, 9)
+        self.room = tempfile.TemporaryDirectory()
+        self.addCleanup(self.room.cleanup)
+        self.publications = Publications(self.room.name)
+        self.publications.add(9, ONES)
 
-    def test_what_is_asked(self):
-        self.assertEqual((self.held, self.chain), ("held 5 1", "chain 5 9"))
+    def extend(self, roots, chain, says="accepted 5"):
+        self.core, self.calendar = Teller(roots, chain), Calendar(3)
+        with mock.patch.object(extension, "ksi", side_effect=says if isinstance(says, Exception) else [says]):
+            return extension.extend_by(self.core, self.calendar, self.signature, self.publications)[1]
 
-    def put(self, held, chain):
-        return extension.put_together(self.parts, 9, held, chain)
+    def test_a_chain_that_a_core_tells(self):
+        content = self.extend({5: self.parts.root}, [f"chain {TWOS}", f"left {ONES}", f"right {TWOS}"])
+        self.assertEqual(elements.parts_of(content), self.parts)
+        self.assertEqual(self.core.asked, ["held 5 1", "chain 5 9"])
+
+    def test_a_chain_of_the_roots_that_a_core_tells(self):
+        roots = {it: f"{it:064x}" for it in range(3, 10)} | {5: self.parts.root}
+        content = self.extend(roots, ["refused word"])
+        self.assertEqual(self.core.asked, ["held 5 1", "chain 5 9", "held 3 7"])
+        root, links = self.calendar.chain(5, 9)
+        self.assertEqual(content, elements.extended(self.parts, 9, self.parts.root, root, links))
 
     def test_what_is_not_extended(self):
+        whole = {it: ONES for it in range(3, 10)} | {5: self.parts.root}
+        for roots, chain, says, reason in (
+                ({}, [], "", "lacks a second"), ({5: ONES}, [], "", "another root"), ({5: self.parts.root}, ["undecided 4"], "", "lacks a second"),
+                ({5: self.parts.root, 3: ONES}, ["refused word"], "", "lacks a second"),
+                (whole, ["refused word"], Refused(1, "refused V14 9"), "V14"), (whole, ["refused word"], "accepted 6", "accepted 6")):
+            with self.assertRaisesRegex(extension.NotExtended, reason):
+                self.extend(roots, chain, says)
         with self.assertRaisesRegex(extension.NotExtended, "after the last publication"):
-            extension.wanted(self.signature, 0)
+            extension.wanted(self.signature, 4)
         with self.assertRaisesRegex(extension.NotExtended, "cut off"):
             extension.wanted(b"\x88\x00\x00\x00\x00", 9)
-        with self.assertRaisesRegex(extension.NotExtended, "not one of this service"):
-            self.put(["refused second"], ["refused second"])
-        with self.assertRaisesRegex(extension.NotExtended, "another root"):
-            self.put([f"root 5 {ONES}"], [f"chain {TWOS}"])
-        self.assertIsNone(self.put([f"root 5 {self.parts.root}"], ["undecided 4"]))
-        self.assertIsNone(self.put([], [f"chain {TWOS}"]))
 
-    def test_what_is_put_together(self):
-        content = self.put([f"root 5 {self.parts.root}"], [f"chain {TWOS}", f"left {ONES}", f"right {TWOS}"])
-        again = elements.parts_of(content)
-        self.assertEqual(again, self.parts)
-        self.assertEqual(self.put([f"root 5 {self.parts.root}"], [f"chain {TWOS}"] + [f"left {ONES}"] * 3)[:2], b"\x88\x00")
 
-    def test_nothing_is_handed_out_that_ksi_refuses(self):
-        with mock.patch.object(extension, "ksi", side_effect=Refused(1, "refused V13 9")), self.assertRaisesRegex(extension.NotExtended, "V13"):
-            extension.accepted(b"x", self.parts, "publications")
-        with mock.patch.object(extension, "ksi", return_value="accepted 2"), self.assertRaises(extension.NotExtended):
-            extension.accepted(b"x", self.parts, "publications")
-        with mock.patch.object(extension, "ksi", return_value="accepted 5"):
-            self.assertEqual(extension.accepted(b"x", self.parts, "publications"), b"x")
+class CalendarTest(unittest.TestCase):
+    def test_the_tree_is_that_of_its_definition(self):
+        def tree(leaves):
+            if len(leaves) == 1:
+                return leaves[0]
+            left = 1
+            while left * 2 < len(leaves):
+                left *= 2
+            return join(tree(leaves[:left]), tree(leaves[left:]))
+
+        def climbed(leaf, links):
+            for side, beside in links:
+                beside = b"\x01" + bytes.fromhex(beside)
+                leaf = join(leaf, beside) if side == "left" else join(beside, leaf)
+            return leaf
+        with mock.patch.object(calendars, "KEPT", 2):
+            for start in (0, 1, 5, 8, 13):
+                calendar, leaves = Calendar(start), [ZERO] * start
+                for second in range(start, start + 30):
+                    calendar.add(f"{second:064x}")
+                    leaves.append(b"\x01" + bytes.fromhex(f"{second:064x}"))
+                    root, links = calendar.chain(start, second)
+                    self.assertEqual(bytes.fromhex(root), tree(leaves)[1:])
+                    for it in range(start, second + 1):
+                        self.assertEqual(climbed(leaves[it], calendar.chain(it, second)[1])[1:].hex(), root)
 
 
 class FilesTest(unittest.TestCase):

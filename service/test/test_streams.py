@@ -62,6 +62,16 @@ class StreamsTest(unittest.TestCase):
         self.running[name].kill()
         self.running[name].wait()
 
+    def log(self, name):
+        with open(os.path.join(self.room.name, f"{name}.log"), encoding="utf-8") as file:
+            return f"{name}: {file.read()}"
+
+    def kill_process(self, name):
+        """Kills the node's process alone; its host goes on."""
+        told = subprocess.run(["ps", "-o", "pid=", "--ppid", str(self.running[name].pid)], capture_output=True, text=True, check=False)
+        for number in told.stdout.split():
+            os.kill(int(number), signal.SIGKILL)
+
     def serve(self):
         self.begin("server", ["redis-server", "--port", str(self.port), "--bind", "127.0.0.1", "--dir", self.room.name, "--save", "",
                               "--appendonly", "yes", "--appendfsync", "always"])
@@ -113,12 +123,15 @@ class StreamsTest(unittest.TestCase):
                 elif turn == 6:
                     self.kill("head")
                     self.head()
-                else:
+                elif turn % 2:
                     name = dice.choice(NODES)
                     self.kill(name)
                     self.host(name)
+                else:
+                    self.kill_process(dice.choice(NODES))
             signed = [it.result() for it in asks]
         self.assertNotIn(None, signed)
+        self.assertEqual([self.log(name) for name in NODES if self.running[name].poll() is not None], [], "a host ended")
         self.running["head"].send_signal(signal.SIGTERM)
         self.running["head"].wait(20)
         for name in NODES:

@@ -1,5 +1,5 @@
 -- What a step was given, behind another word.
-use Rattle.std.proofs.Common.{◌≡◌, List, ◌∷◌, refl}
+use Rattle.std.proofs.Common.{◌≡◌, ◌∷◌, refl}
 use Rattle.ksi_schedule.specs.Printed.{line_of, spaced}
 use Rattle.ksi_schedule.specs.declared.event.Event.TheVariants as events
 use Rattle.ksi_retrace.specs.declared.head.Given.{Given}

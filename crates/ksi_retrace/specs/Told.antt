@@ -15,11 +15,11 @@ use Rattle.ksi_signature.specs.declared.answer.Answer.TheVariants as answers
 use Rattle.ksi_world.specs.declared.message.Content.{Content}
 use Rattle.ksi_world.specs.declared.message.Content.TheVariants as contents
 use Rattle.ksi_world.specs.declared.message.Message.{Message}
-use Rattle.ksi_world.specs.Histories.{WorldState, Happening, happens, after}
+use Rattle.ksi_world.specs.Histories.{Happening, happens, after}
 use Rattle.ksi_world.specs.Records.{issued_of}
 use Rattle.ksi_wire.specs.Lines.{core_words}
 use Rattle.ksi_wire.specs.Responses.{above_text}
-use Rattle.ksi_wire.specs.Steps.{answer_words, step_text}
+use Rattle.ksi_wire.specs.Steps.{step_text}
 use Rattle.ksi_retrace.specs.declared.head.Given.{Given}
 use Rattle.ksi_retrace.specs.declared.head.Given.TheVariants as given
 use Rattle.ksi_retrace.specs.declared.head.Head.{Head}

@@ -37,11 +37,7 @@ pub(crate) fn vote(plan: &Plan, words: &mut Words<'_>) -> Result<SynodMessage, W
 }
 
 /// What a voter last voted for, if anything, behind the ballot of its promise.
-fn last_vote(
-    plan: &Plan,
-    promised: u64,
-    words: &mut Words<'_>,
-) -> Result<SynodMessage, WireFault>
+fn last_vote(plan: &Plan, promised: u64, words: &mut Words<'_>) -> Result<SynodMessage, WireFault>
     requires ballot { IsBallot promised }
     requires owned { IsOwned plan.now.cores promised }
     ensures read { Reads (cast_in plan.now promised (words_left words.old.left)) result (words_left words.new.left) }

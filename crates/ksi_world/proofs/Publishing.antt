@@ -14,7 +14,7 @@ use Rattle.ksi_world.specs.Validity.{AreTimes}
 use Rattle.ksi_world.proofs.Rising.{put_before, put_on, put_after}
 use Rattle.ksi_world.proofs.Asking.{delivered_leaves}
 
-put_times : (p : ℕ) (root : List ℕ) (from before : ℕ) (xs : List (ℕ × List ℕ)) → from ≤ p → p < before → AreTimes from before xs → AreTimes from before (put_rising p root xs)
+pub put_times : (p : ℕ) (root : List ℕ) (from before : ℕ) (xs : List (ℕ × List ℕ)) → from ≤ p → p < before → AreTimes from before xs → AreTimes from before (put_rising p root xs)
 put_times p root from before [] le lt are = (le, lt, tt)
 put_times p root from before (x ∷ xs) le lt are = elim (cases_lt p x.0) [
   | inl here ↦ subst (AreTimes from before) (sym (put_before p root x xs here)) (le, lt, (omega (arith, here), are.1, are.2))

@@ -25,7 +25,7 @@ use ksi_signature::{Above, Answer};
 use std::alloc::Global;
 use std::marker::Model;
 
-/// All nodes, all messages ever sent, the accepted requests, and what was published.
+/// All nodes, all messages ever sent, the accepted requests, and what was published, whose seconds rise.
 #[derive(Drop)]
 pub(crate) struct Nodes<C: Compress> {
     cores: Vec<Core<C>>,
@@ -36,11 +36,15 @@ pub(crate) struct Nodes<C: Compress> {
 }
 
 impl<C: Compress> Model for Nodes<C> {
+    ghost use Rattle.std.specs.Prelude.{◌^◌};
     ghost use Rattle.ksi_world.specs.Nodes.{NodesState};
+    ghost use Rattle.ksi_world.specs.Validity.{AreTimes};
 
     ghost Value = { NodesState };
 
     ghost view = { λ n. record { cores = n.cores.items; aggregators = n.aggregators.items; wire = n.wire.items; requests = n.requests.items; published = n.published.items } };
+
+    ghost invariant = { λ n. AreTimes 0 (2 ^ 64) n.published.items };
 }
 
 impl<C: Compress> Nodes<C> {

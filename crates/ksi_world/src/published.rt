@@ -1,15 +1,18 @@
-//! The published seconds, rising.
-ghost use Rattle.std.specs.Prelude.{◌≡◌, ◌≤◌, ◌<◌, vec_len, vec_capacity, length, slice_get};
+//! The published seconds, rising. A second is found among them by halving.
+ghost use Rattle.std.specs.Prelude.{◌≡◌, ◌≤◌, ◌<◌, ◌^◌, vec_len, vec_capacity, length, slice_get};
 ghost use Rattle.ksi_world.specs.Histories.{put_rising, published_with};
 ghost use Rattle.ksi_world.specs.Places.{place_of, is_second};
+ghost use Rattle.ksi_world.specs.Validity.{AreTimes};
 
 use ksi_imprint::Imprint;
 use ksi_signature::Answer;
 
 /// Puts what was answered in its place, where there is room: a published root whose second is new.
 pub(crate) fn put_answer(published: &mut Vec<(u64, Imprint)>, second: u64, answer: &Answer)
-    requires { vec_len published.old < vec_capacity published.old }
-    ensures { published.new.items ≡ published_with published.old.items second answer.now }
+    requires room { vec_len published.old < vec_capacity published.old }
+    requires rising { AreTimes 0 (2 ^ 64) published.old.items }
+    ensures put { published.new.items ≡ published_with published.old.items second answer.now }
+    ensures rising { AreTimes 0 (2 ^ 64) published.new.items }
 {
     if let Answer::Published(root) = answer {
         put_rising(published, second, *root);
@@ -18,7 +21,8 @@ pub(crate) fn put_answer(published: &mut Vec<(u64, Imprint)>, second: u64, answe
 
 /// Puts a root in its place, where its second is new.
 fn put_rising(published: &mut Vec<(u64, Imprint)>, second: u64, root: Imprint)
-    requires { vec_len published.old < vec_capacity published.old }
+    requires room { vec_len published.old < vec_capacity published.old }
+    requires rising { AreTimes 0 (2 ^ 64) published.old.items }
     ensures { published.new.items ≡ put_rising second root published.old.items }
 {
     let place = place_of(published, second);
@@ -41,14 +45,21 @@ fn is_second(published: &[(u64, Imprint)], place: usize, second: u64) -> bool
     }
 }
 
-/// How many seconds stand before this one.
+/// How many seconds stand before this one, by halving.
 fn place_of(published: &[(u64, Imprint)], second: u64) -> usize
+    requires rising { AreTimes 0 (2 ^ 64) published.now }
     ensures place { result ≡ place_of second published.now }
     ensures within { result ≤ length published.now }
 {
-    let mut place = 0;
-    'passing: while place < published.len() && published[place].0 < second {
-        place += 1;
+    let mut low = 0;
+    let mut high = published.len();
+    'halving: while low < high {
+        let middle = low + (high - low) / 2;
+        if published[middle].0 < second {
+            low = middle + 1;
+        } else {
+            high = middle;
+        }
     }
-    place
+    low
 }

@@ -4,7 +4,7 @@ use Rattle.ksi_schedule.specs.Events.{History, AreEvents}
 use Rattle.ksi_schedule.specs.declared.event.Event.{Event}
 use Rattle.std.specs.Io.KnownBytes.{Consumes}
 use Rattle.ksi_retrace.specs.declared.stream.Next.{Next}
-use Rattle.ksi_retrace.specs.Entries.{Entry, record_text, entry_text, IsHead}
+use Rattle.ksi_retrace.specs.Entries.{Entry, record_text, entry_text}
 use Rattle.ksi_retrace.specs.Told.{with_head, IsTold, AreTold}
 use Rattle.ksi_retrace.specs.Agreeing.{IsNext, Agrees}
 use Rattle.ksi_retrace.proofs.RecordLemmas.{record_more, consumes_more, consumed_all, told_more}

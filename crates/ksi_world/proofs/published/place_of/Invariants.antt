@@ -1,12 +1,15 @@
-use Rattle.std.proofs.Common.{◌≡◌, ◌≤◌, ◌+◌, ◌-◌, length, drop}
-use Rattle.ksi_world.specs.Places.{place_of}
+use Rattle.std.proofs.Common.{ℕ, ◌<◌, ◌≤◌, ◌-◌, List, length, get_or}
 use Rattle.ksi_world.proofs.published.place_of.Given as goal
 
-abbrev pub invariant-passing : goal.invariant-passing
-invariant-passing l = record {
-  passed : place_of l.second l.published ≡ l.place + place_of l.second (drop l.place l.published);
-  within : l.place ≤ length l.published;
-}
+-- those in front of the low place are before the second, and those from the high place on are not
+pub record Halving (pairs : List (ℕ × List ℕ)) (second low high : ℕ) : Type 0 where
+  pub order : low ≤ high
+  pub within : high ≤ length pairs
+  pub before : (j : ℕ) (d : ℕ × List ℕ) → j < low → (get_or pairs j d).0 < second
+  pub behind : (j : ℕ) (d : ℕ × List ℕ) → high ≤ j → j < length pairs → second ≤ (get_or pairs j d).0
 
-abbrev pub decreases-passing : goal.decreases-passing
-decreases-passing l = length l.published - l.place
+abbrev pub invariant-halving : goal.invariant-halving
+invariant-halving l = Halving l.published l.second l.low l.high
+
+abbrev pub decreases-halving : goal.decreases-halving
+decreases-halving l = l.high - l.low

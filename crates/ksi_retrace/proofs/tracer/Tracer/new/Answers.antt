@@ -1,4 +1,4 @@
-use Rattle.std.proofs.Common.{◌≡◌, List, [], ◌∷◌, ◌++◌, ◌∙◌, ap, sym}
+use Rattle.std.proofs.Common.{List, [], ◌∷◌, ◌++◌, ◌∙◌, ap, sym}
 use Rattle.ksi_schedule.specs.Events.{History}
 use Rattle.ksi_world.specs.Histories.{first_world, world_of}
 use Rattle.ksi_retrace.specs.declared.mark.Mark.{Mark}

@@ -1,0 +1,43 @@
+// A page of a headless Chromium, spoken to by the DevTools protocol: `ask` a command, `told` of events, `value` of an expression, and
+// `close`.
+import { spawn } from 'node:child_process';
+import fs from 'node:fs';
+import os from 'node:os';
+import path from 'node:path';
+
+export const wait = (ms) => new Promise((done) => setTimeout(done, ms));
+
+export async function open() {
+  const home = fs.mkdtempSync(path.join(os.tmpdir(), 'ksi-'));
+  const browser = spawn('chromium', ['--headless', '--no-sandbox', '--disable-gpu', '--remote-debugging-port=0', `--user-data-dir=${home}`, 'about:blank'], { stdio: ['ignore', 'ignore', 'pipe'] });
+  const address = await new Promise((found) => { let text = ''; browser.stderr.on('data', (d) => { text += d; const m = text.match(/ws:\/\/\S+/); if (m) found(m[0]); }); });
+  const tabs = await (await fetch(`http://127.0.0.1:${new URL(address).port}/json`)).json();
+  const socket = new WebSocket(tabs.find((tab) => tab.type === 'page').webSocketDebuggerUrl);
+  await new Promise((opened) => { socket.onopen = opened; });
+  let count = 0;
+  const waiting = new Map(), told = [];
+  socket.onmessage = (message) => {
+    const said = JSON.parse(message.data);
+    if (said.id === undefined) told.push(said); else waiting.get(said.id)?.(said);
+  };
+  const ask = (method, params = {}) => new Promise((done) => { const id = ++count; waiting.set(id, (said) => done(said.result ?? said)); socket.send(JSON.stringify({ id, method, params })); });
+  const value = async (expression) => {
+    const { result, exceptionDetails } = await ask('Runtime.evaluate', { expression, returnByValue: true, awaitPromise: true });
+    if (exceptionDetails) throw new Error(exceptionDetails.exception?.description ?? exceptionDetails.text);
+    return result.value;
+  };
+  const close = async () => {
+    const closed = new Promise((done) => browser.on('exit', done));
+    browser.kill();
+    await closed;
+    fs.rmSync(home, { recursive: true, force: true, maxRetries: 5, retryDelay: 200 });
+  };
+  await ask('Page.enable');
+  return { ask, told, value, close };
+}
+
+// A link that brings the three files of a folder with it.
+export function linked(page, folder) {
+  const part = (name) => fs.readFileSync(path.join(folder, name)).toString('base64url');
+  return `file://${page}#d=${part('deed.txt')}&s=${part('deed.ksig')}&p=${part('publications.bin')}&dn=deed.txt&sn=deed.ksig&pn=publications.bin`;
+}

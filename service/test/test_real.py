@@ -1,0 +1,32 @@
+"""What wants the proved programs: the demo, and a short run of chaos, with lost, repeated, late and cut lines, kills and a full disk."""
+import os
+import subprocess
+import sys
+import unittest
+
+import stands
+
+MISSING = stands.missing("ksi", "ksi_retrace", *stands.NODES)
+SERVICE = os.path.dirname(stands.HERE)
+
+
+@unittest.skipIf(MISSING, MISSING)
+class RealTest(unittest.TestCase):
+    def run_script(self, *words):
+        told = subprocess.run([sys.executable, os.path.join(SERVICE, words[0]), *words[1:]], capture_output=True, text=True, check=False, timeout=110)
+        self.assertEqual(told.returncode, 0, told.stdout + told.stderr)
+        return told.stdout
+
+    def test_the_demo(self):
+        said = self.run_script("demo")
+        self.assertEqual(said.count("accepted"), 2, said)
+        self.assertIn("ksi_retrace agrees", said)
+
+    def test_a_short_chaos(self):
+        said = self.run_script("chaos", "--seconds", "30", "--seed", "5")
+        self.assertIn("ksi_retrace agrees", said)
+        self.assertIn("are accepted, and found in the cores' mirrors", said)
+
+
+if __name__ == "__main__":
+    unittest.main()
