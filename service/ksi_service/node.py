@@ -13,8 +13,8 @@ MOST_VAIN_STARTS = 8
 """How often in a row a node may end before it is given up: some ten seconds, as the time between starts doubles."""
 FIRST_PAUSE = 0.05
 """How many seconds lie between an end and the next start, if it is the first in a row."""
-MOST_LINES = 256
-"""How many lines are on their way to a node at once; the others wait."""
+MOST_LINES = 1024
+"""How many lines are on their way to a node at once; the others wait. Each waits for two writes of the record."""
 
 
 class Down(Exception):
