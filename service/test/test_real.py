@@ -23,7 +23,7 @@ class RealTest(unittest.TestCase):
         self.assertIn("ksi_retrace agrees", said)
 
     def test_a_short_chaos(self):
-        said = self.run_script("chaos", "--seconds", "30", "--seed", "5")
+        said = self.run_script("chaos", "--seconds", "20", "--seed", "5")
         self.assertIn("ksi_retrace agrees", said)
         self.assertIn("are accepted, and found in the cores' mirrors", said)
 

@@ -95,10 +95,11 @@ class ServiceTest(unittest.TestCase):
         self.assertIn("signed", self.command("sign", name))
         self.assertIn("is refused", self.command("start", self.folder, status=1).replace("another service runs", "is refused"))
         self.wait_for_publication(int(time.time()))
-        self.command("publications")
         self.assertEqual(self.ask("/publications")[0], 200)
         if REAL:
             self.assertIn("extended", self.command("extend", f"{name}.ksig"))
+        self.command("publications")
+        if REAL:
             self.assertIn("accepted", self.command("verify", name, f"{name}.ksig"))
             other = self.file("other", "I owe you two.")
             self.assertIn("refused V1", self.command("verify", other, f"{name}.ksig", status=1))
