@@ -175,6 +175,14 @@ module _ (so others : ℕ → Bool) (start count from : ℕ) (beside : IsBeside 
     before = λ u behind earlier. beside.other u (λ later. omega (arith, behind, earlier, later)) ∙ none u behind earlier;
   }
 
+  -- a second in the list is itself the next one
+  pub here_next : start ≤ from → from < start + count → IsNext so from from
+  here_next behind within = record {
+    behind = omega arith;
+    this = beside.listed from behind within;
+    before = λ u later earlier. absurd (omega (arith, later, earlier));
+  }
+
   pub earlier_next : (t : ℕ) → max from start < start + count → IsNext others from t → IsNext so from (min t (max from start))
   earlier_next t within next = elim (cases_lt t (max from start)) [
     | inl earlier ↦ let same : t ≡ min t (max from start) = omega (arith, earlier) in subst (λ (s : ℕ). IsNext so from s) same (record {

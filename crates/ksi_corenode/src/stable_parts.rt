@@ -85,8 +85,20 @@ impl StableParts {
         }
     }
 
-    /// The first second from this one on that something is held or sealed for.
+    /// The first second from this one on that something is held or sealed for. A settled one is found without a look at the
+    /// others.
     pub fn next_from(&self, from: u64) -> Option<u64>
+        ensures next { IfSome result (IsNext (λ t. part_held_or_sealed (part_of self.now t)) from) }
+        ensures none { IsNone result → (t : ℕ) → from ≤ t → part_held_or_sealed (part_of self.now t) ≡ false }
+    {
+        if self.start <= from && from - self.start < self.settled.len() as u64 {
+            return Some(from);
+        }
+        self.next_beside(from)
+    }
+
+    /// The same of a second that is not settled: the next one is the first settled one, or one of the others.
+    fn next_beside(&self, from: u64) -> Option<u64>
         ensures next { IfSome result (IsNext (λ t. part_held_or_sealed (part_of self.now t)) from) }
         ensures none { IsNone result → (t : ℕ) → from ≤ t → part_held_or_sealed (part_of self.now t) ≡ false }
     {
