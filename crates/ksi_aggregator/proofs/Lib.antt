@@ -3,3 +3,4 @@ pub mod Found
 pub mod Restart
 pub mod Words
 pub mod Storing
+pub mod Listing

@@ -1,6 +1,7 @@
 pub mod Rows
 pub mod Responses
 pub mod Rounds
+pub mod Listed
 pub mod Facts
 pub mod Refusals
 pub mod Issuing

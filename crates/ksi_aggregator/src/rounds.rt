@@ -1,5 +1,5 @@
 //! The rounds of all seconds.
-ghost use Rattle.std.specs.Prelude.{◌≡◌, ◌≤◌, ◌<◌, ◌^◌, ℕ, length, Some, IsTrue, ◌↔◌, IfOk, IfSome, IfNone, OnOk, OnErr};
+ghost use Rattle.std.specs.Prelude.{◌≡◌, ◌≤◌, ◌<◌, ◌==◌, ◌^◌, ℕ, true, false, if◌then◌else◌, length, Some, IsTrue, ◌↔◌, IfOk, IfSome, IfNone, OnOk, OnErr};
 ghost use Rattle.std.specs.Ordering.{nat_cmp};
 ghost use Rattle.std.specs.BTreeMap.{get};
 ghost use Rattle.ksi_aggtree.specs.Rounds.{leaf_level, highest_item};
@@ -7,6 +7,7 @@ ghost use Rattle.ksi_aggregator.specs.Rows.{fresh_round, round_request, round_su
 ghost use Rattle.ksi_aggregator.specs.Rounds.{round_at, items_in, HasPlace, SameRounds, IsTurn, StandsAt};
 ghost use Rattle.ksi_aggregator.specs.Responses.{has_lower};
 ghost use Rattle.ksi_aggregator.specs.Issuing.{IsIssuedAt, NotIssuedAt};
+ghost use Rattle.ksi_aggregator.specs.Listed.{is_among};
 
 use crate::round::Round;
 use crate::step::Step;
@@ -17,20 +18,25 @@ use std::alloc::Global;
 use std::collections::BTreeMap;
 use std::marker::Model;
 
-/// The rounds that are kept. The round of a second that nothing is kept of is a fresh one.
+/// The rounds that are kept. The round of a second that nothing is kept of is a fresh one. Listed are the seconds whose first
+/// item came since the last restart, so that the next one looks at no others.
 #[derive(Drop)]
 pub(crate) struct Rounds<C: Compress> {
     alloc: Global,
     map: BTreeMap<u64, Round<C>>,
+    listed: Vec<u64>,
 }
 
 impl<C: Compress> Model for Rounds<C> {
     ghost use Rattle.std.specs.Prelude.{ℕ, List};
     ghost use Rattle.ksi_aggregator.specs.Rows.{RoundState};
+    ghost use Rattle.ksi_aggregator.specs.Listed.{AreListed};
 
     ghost Value = { List (ℕ × RoundState) };
 
     ghost view = { λ rounds. rounds.map.entries };
+
+    ghost invariant = { λ rounds. AreListed rounds.listed.items rounds.map.entries };
 }
 
 impl<C: Compress> Rounds<C> {
@@ -40,6 +46,7 @@ impl<C: Compress> Rounds<C> {
         Rounds {
             alloc,
             map: BTreeMap::new(alloc),
+            listed: Vec::new(alloc),
         }
     }
 
@@ -94,6 +101,8 @@ impl<C: Compress> Rounds<C> {
         ensures step { IfOk result (IsTurn (round_at self.old) (round_at self.new) second (round_request number imprint name (round_at self.old second))) }
         ensures unchanged { OnErr result (SameRounds (round_at self.old) (round_at self.new)) }
     {
+        let count = self.count(second);
+        list(&mut self.listed, second, count)?;
         make_room(self.alloc, &mut self.map, second)?;
         match self.map.get_mut(&second) {
             Some(round) => {
@@ -115,6 +124,8 @@ impl<C: Compress> Rounds<C> {
         ensures step { IfOk result (IsTurn (round_at self.old) (round_at self.new) second (round_submission aggregator item (round_at self.old second))) }
         ensures unchanged { OnErr result (SameRounds (round_at self.old) (round_at self.new)) }
     {
+        let count = self.count(second);
+        list(&mut self.listed, second, count)?;
         make_room(self.alloc, &mut self.map, second)?;
         match self.map.get_mut(&second) {
             Some(round) => {
@@ -154,7 +165,9 @@ impl<C: Compress> Rounds<C> {
     pub(crate) fn restart(&mut self)
         ensures { (t : ℕ) → round_at self.new t ≡ round_restarted (round_at self.old t) }
     {
-        self.map.retain(|_, round| round.is_closed());
+        'forgetting: while let Some(second) = self.listed.pop() {
+            forget_open(&mut self.map, second);
+        }
     }
 
     /// What is issued of an item of a round.
@@ -191,4 +204,28 @@ fn make_room<C: Compress>(
     let fresh = Round::new(alloc)?;
     map.insert(second, fresh)?;
     Ok(())
+}
+
+/// Lists a second to which the first item comes.
+fn list(listed: &mut Vec<u64>, second: u64, count: usize) -> Result<(), NoMemory>
+    ensures more { (t : ℕ) → is_among t listed.new.items ≡ false → is_among t listed.old.items ≡ false }
+    ensures there { OnOk result (count ≡ 0 → is_among second listed.new.items ≡ true) }
+{
+    if count == 0 {
+        listed.push(second)?;
+    }
+    Ok(())
+}
+
+/// Forgets the round of a second, unless it is closed.
+fn forget_open<C: Compress>(map: &mut BTreeMap<u64, Round<C>>, second: u64)
+    ensures { (t : ℕ) → round_at map.new.entries t ≡ (if t == second then round_restarted (round_at map.old.entries second) else round_at map.old.entries t) }
+{
+    let is_open = match map.get(&second) {
+        Some(round) => !round.is_closed(),
+        None => false,
+    };
+    if is_open {
+        map.remove(&second);
+    }
 }
