@@ -1,4 +1,4 @@
-use Rattle.std.proofs.Common.{◌≡◌, ℕ, List, Bool, true, false, ap, sym, subst, refl, ◌∙◌}
+use Rattle.std.proofs.Common.{ap, sym, refl, ◌∙◌}
 use Rattle.ksi_aggregator.specs.Listed.{is_among}
 use Rattle.ksi_aggregator.proofs.Listing.{fewer, there}
 use Rattle.ksi_aggregator.proofs.rounds.list.Goals as goal
