@@ -1,6 +1,6 @@
 -- What an event that asks something of a core sends, and that it asks nothing of the others.
 use Rattle.ksi_schedule.specs.Plans.{PlanState, core_plan_of}
-use Rattle.std.proofs.Common.{◌≡◌, ℕ, ◌++◌, eqb, Bool, true, false, if◌then◌else◌, List, [], refl, sym, ap, subst, ◌∙◌, append-nil, Option, Some, None}
+use Rattle.std.proofs.Common.{◌≡◌, ℕ, ◌++◌, eqb, Bool, true, false, if◌then◌else◌, List, refl, sym, ap, subst, ◌∙◌, append-nil, Option, Some, None}
 use Rattle.std.specs.Prelude.{map, slice_get, ◌≢◌}
 use Rattle.std.proofs.lemmas.Bool.{eqb-true}
 use Rattle.ksi_corenode.specs.Turns.{Turn}

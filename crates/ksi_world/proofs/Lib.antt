@@ -45,3 +45,6 @@ pub mod Choosing
 pub mod OwnSeconds
 pub mod Submitting
 pub mod Known
+pub mod AskedRounds
+pub mod AskedMay
+pub mod AskedOuts

@@ -1,5 +1,5 @@
 -- Ballots stay ballots: what is tried and promised is below 2^36, and what is sent names a ballot of a core.
-use Rattle.std.proofs.Common.{◌≡◌, ℕ, ◌+◌, ◌*◌, ◌%◌, ◌^◌, ◌<◌, Bool, ◌&&◌, eqb, ltb, List, refl, arith, Option, Some, None}
+use Rattle.std.proofs.Common.{◌≡◌, ℕ, ◌+◌, ◌*◌, ◌^◌, ◌<◌, Bool, ◌&&◌, eqb, ltb, List, refl, arith, Option, Some, None}
 use Rattle.std.proofs.lemmas.Bool.{cond_both, eqb-false}
 use Rattle.ksi_synod.specs.declared.messages.LastVote.{LastVote}
 use Rattle.ksi_synod.specs.declared.messages.SynodMessage.{SynodMessage}

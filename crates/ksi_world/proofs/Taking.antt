@@ -24,12 +24,12 @@ use Rattle.ksi_world.proofs.Depths.{depth_most, depth_child}
 module _ (plan : PlanState) where
   -- A NEW NUMBER
 
-  entry_of : (here : Actor) (n : ℕ) (es : List Entry) (i : ℕ) (e : Entry) → AreOf plan here n es → slice_get es i ≡ Some e → IsOf plan here n e.origin e.item
+  pub entry_of : (here : Actor) (n : ℕ) (es : List Entry) (i : ℕ) (e : Entry) → AreOf plan here n es → slice_get es i ≡ Some e → IsOf plan here n e.origin e.item
   entry_of here n [] i e are at = absurd (cc at)
   entry_of here n (x ∷ es) zero e are at = let same : x ≡ e = cc at in subst (λ (e : Entry). IsOf plan here n e.origin e.item) same are.0
   entry_of here n (x ∷ es) (suc i) e are at = entry_of here n es i e are.1 at
 
-  round_in : (k n : ℕ) (r : RoundState) → IsRoundState plan k n r → IsRoundAt plan (actors.Aggregator k) n (items_in r)
+  pub round_in : (k n : ℕ) (r : RoundState) → IsRoundState plan k n r → IsRoundAt plan (actors.Aggregator k) n (items_in r)
   round_in k n r is = by r.closed refl
     where
       by : (closed : Option (List Entry)) → r.closed ≡ closed → IsRoundAt plan (actors.Aggregator k) n (unwrap_or closed r.open_items)
@@ -103,7 +103,7 @@ module _ (plan : PlanState) where
           omega (arith, count_lower image (actors.Aggregator k) n 0 above (items_of (e ∷ es)) (e ∷ es) round.are, few_below (length plan.parents) (e ∷ es) round.once)
 
   module _ (is : IsPlan plan) where
-    lower_depth : (here : Actor) (n : ℕ) (es : List Entry) → AreOf plan here n es → has_lower es ≡ true → suc (depth_of plan here) ≤ 8
+    pub lower_depth : (here : Actor) (n : ℕ) (es : List Entry) → AreOf plan here n es → has_lower es ≡ true → suc (depth_of plan here) ≤ 8
     lower_depth here n [] are lower = absurd (cc lower)
     lower_depth here n (e ∷ es) are lower = by e.origin e.item are.0 (lower_depth here n es are.1) lower
       where

@@ -12,3 +12,4 @@ pub mod Keeping
 pub mod Joined
 pub mod Wire
 pub mod CoreEvents
+pub mod RoundEvents

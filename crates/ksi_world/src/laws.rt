@@ -10,7 +10,7 @@ ghost use Rattle.ksi_schedule.specs.Events.{History, AreEvents, AskForImprints, 
 ghost use Rattle.ksi_schedule.specs.Schedules.{IsHistory};
 ghost use Rattle.ksi_world.specs.declared.outcome.Asked.{Asked};
 ghost use Rattle.ksi_world.specs.Lasting.{AreSecondsOf, AreSubmitted, IsAskedOf};
-ghost use Rattle.ksi_world.specs.Histories.{WorldState, held_in, after, core_message, world_of, happens};
+ghost use Rattle.ksi_world.specs.Histories.{WorldState, held_in, after, core_message, round_message, world_of, happens};
 ghost use Rattle.ksi_signature.specs.Carried.{MayBeIssued};
 ghost use Rattle.ksi_signature.specs.declared.answer.Answer.TheVariants.{Published};
 ghost use Rattle.ksi_corenode.specs.Rows.{publish_answer, restart_row};
@@ -30,6 +30,11 @@ ghost use Rattle.ksi_corenode.specs.declared.event.CoreEvent as asked;
 ghost use Rattle.ksi_corenode.specs.declared.step.Step.{Step};
 ghost use Rattle.ksi_world.specs.Nodes.{core_turn, IsCore};
 ghost use Rattle.ksi_world.specs.CoreEvents.{asked_of, is_restart_of};
+ghost use Rattle.ksi_aggregator.specs.declared.event.RoundEvent.{RoundEvent};
+ghost use Rattle.ksi_aggregator.specs.Events as rounds;
+ghost use Rattle.ksi_aggregator.specs.Issuing.{IsIssued};
+ghost use Rattle.ksi_aggregator.specs.Rows.{round_restarted};
+ghost use Rattle.ksi_world.specs.RoundEvents.{round_asked_of, is_restart_of_aggregator, round_turn};
 
 use ksi_aggchain::laws::levels_rise;
 use ksi_aggtree::laws::{metas_are_even, one_chain, one_round};
@@ -291,6 +296,33 @@ pub fn events_are_turns()
         (t : ℕ) → (happens image plan w event).world.seconds core t ≡ w.seconds core t }
     ensures restarted { (image : List ℕ → List ℕ) (plan : PlanState) (w : WorldState) (core : ℕ) (event : Event) → is_restart_of core event ≡ true →
         (t : ℕ) → (happens image plan w event).world.seconds core t ≡ restart_row (w.seconds core t) }
+{
+    one_round();
+}
+
+/// What an event asks of an aggregator it may be asked: the aggregator may take it, and its second is below 2^63. The world's
+/// round is that of its turn, and the turn's messages stand behind all that were sent before; nothing is asked of another
+/// node. An event that asks nothing of an aggregator leaves it, or restarts it. What a round issues of a number is issued of
+/// the request of that number.
+pub fn rounds_are_turns()
+    ensures may { (image : List ℕ → List ℕ) (plan : PlanState) (before : List Event) → IsPlan plan → AreEvents plan before → (aggregator : ℕ) (event : Event) (one : RoundEvent) → IsEvent plan event →
+        round_asked_of aggregator (after image plan before) event ≡ Some one → rounds.MayTake ((after image plan before).rounds aggregator) one × (rounds.event_second one < 2 ^ 63) }
+    ensures rounds { (image : List ℕ → List ℕ) (plan : PlanState) (w : WorldState) (aggregator : ℕ) (event : Event) (one : RoundEvent) → round_asked_of aggregator w event ≡ Some one →
+        (t : ℕ) → (happens image plan w event).world.rounds aggregator t ≡ (if t == rounds.event_second one then (round_turn image w aggregator one).after else w.rounds aggregator t) }
+    ensures sends { (image : List ℕ → List ℕ) (plan : PlanState) (w : WorldState) (aggregator : ℕ) (event : Event) (one : RoundEvent) → round_asked_of aggregator w event ≡ Some one →
+        (happens image plan w event).world.wire ≡ w.wire ++ map (round_message plan aggregator (rounds.event_second one)) (round_turn image w aggregator one).sends }
+    ensures others { (w : WorldState) (aggregator other : ℕ) (event : Event) (one : RoundEvent) → round_asked_of aggregator w event ≡ Some one → other ≢ aggregator →
+        (round_asked_of other w event ≡ None) × (is_restart_of_aggregator other event ≡ false) }
+    ensures cores { (w : WorldState) (aggregator core : ℕ) (event : Event) (one : RoundEvent) → round_asked_of aggregator w event ≡ Some one →
+        (asked_of core w.wire event ≡ None) × (is_restart_of core event ≡ false) }
+    ensures aggregators { (w : WorldState) (core aggregator : ℕ) (event : Event) (one : asked.CoreEvent) → asked_of core w.wire event ≡ Some one →
+        (round_asked_of aggregator w event ≡ None) × (is_restart_of_aggregator aggregator event ≡ false) }
+    ensures still { (image : List ℕ → List ℕ) (plan : PlanState) (w : WorldState) (aggregator : ℕ) (event : Event) → round_asked_of aggregator w event ≡ None → is_restart_of_aggregator aggregator event ≡ false →
+        (t : ℕ) → (happens image plan w event).world.rounds aggregator t ≡ w.rounds aggregator t }
+    ensures restarted { (image : List ℕ → List ℕ) (plan : PlanState) (w : WorldState) (aggregator : ℕ) (event : Event) → is_restart_of_aggregator aggregator event ≡ true →
+        (t : ℕ) → (happens image plan w event).world.rounds aggregator t ≡ round_restarted (w.rounds aggregator t) }
+    ensures issued { (image : List ℕ → List ℕ) (plan : PlanState) (events : List Event) (aggregator number : ℕ) (text : List ℕ) → IsIssued image ((after image plan events).rounds aggregator) number text →
+        issued_of image (after image plan events) number ≡ Some text }
 {
     one_round();
 }

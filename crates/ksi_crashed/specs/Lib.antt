@@ -1,0 +1,3 @@
+pub mod RoundFacts
+pub mod Aggregators
+pub mod Crashed
