@@ -131,7 +131,8 @@ struct ksi_step {
  * links of the aggregation chains, then those of the calendar chain. Each chain
  * begins at its own input hash. Returns 0, and STEP is written; 1, where there
  * is none, or where a level would pass 255; 3, where the bytes are no
- * signature. Says nothing of whether the signature is accepted. */
+ * signature. At 1 and 3 STEP stays as it was. Says nothing of whether the
+ * signature is accepted. */
 uint32_t ksi_step(const uint8_t *signature, size_t signature_len,
                   size_t number, struct ksi_step *step);
 
