@@ -76,11 +76,11 @@ class Clock:
         raise NotSigned()
 
     async def place(self, second):
-        """The first second from this one on whose leader is up, and an aggregator below it."""
+        """The first second from this one on whose leader is up, and an aggregator below it with all that stand between."""
         for _ in range(200):
             for later in range(self.plan.cores + 1):
                 leader = self.plan.leader(second + later)
-                up = [it for it in self.plan.below[leader] if self.network.aggregator(it).alive]
+                up = [it for it in self.plan.below[leader] if all(self.network.aggregator(above).alive for above in self.plan.ways[it])]
                 if up and self.network.core(leader).alive:
                     self.turn += 1
                     return second + later, up[self.turn % len(up)]
@@ -115,12 +115,16 @@ class Clock:
                     request.answer(None)
 
     async def close(self, second, leader):
-        for number in self.plan.below[leader]:
-            try:
-                await self.network.aggregator(number).ask(f"close {second}")
-                await self.network.quiet(second)
-            except Down:
-                pass
+        """Closes the rounds below the leader, level by level, so that what one submits comes before the one above it closes."""
+        for level in self.plan.levels[leader]:
+            await asyncio.gather(*(self.close_one(number, second) for number in level))
+            await self.network.quiet(second)
+
+    async def close_one(self, number, second):
+        try:
+            await self.network.aggregator(number).ask(f"close {second}")
+        except Down:
+            pass
 
     async def decide(self, second, first):
         """Ballots, until the second is decided: by the leader at first, then by the others in turn."""

@@ -18,6 +18,7 @@ from . import files, service, streams
 from .clock import PlanEnded
 from .elements import Malformed, parts_of
 from .node import Down, GivenUp, LostFacts
+from .plan import Odd
 from .programs import Missing
 from .proved import Refused, ksi
 from .record import last_state
@@ -192,8 +193,8 @@ def parser_of():
     for name, does, told in (("start", start, "start it in the background"), ("run", run, "run it until it is interrupted")):
         one = commands.add_parser(name, help=told)
         one.add_argument("folder", nargs="?", default=DEFAULT)
-        one.add_argument("--cores", type=int, default=3, choices=range(1, 10), metavar="1..9", help="how many cores a new folder has: 3")
-        one.add_argument("--aggregators", type=positive, default=2, metavar="NUMBER", help="how many aggregators a new folder has: 2")
+        one.add_argument("--cores", type=int, choices=range(1, 10), metavar="1..9", help="how many cores a new folder has: 3")
+        one.add_argument("--aggregators", metavar="NUMBER|PARENTS", help="how many aggregators a new folder has, 2; or to whom each submits, as c0,c1,a0,a0")
         one.add_argument("--door", default="127.0.0.1:8080", metavar="HOST:PORT", help="where to listen; port 0 takes a free one")
         one.add_argument("--over", default=OVER, metavar="pipes|redis://HOST", help="how lines go: pipes on this machine, or Redis Streams to the hosts of nodes")
         one.add_argument("--publish-every", type=positive, default=3600, metavar="SECONDS", help="how often a core publishes: 3600")
@@ -242,7 +243,7 @@ def main(arguments):
     words = parser_of().parse_args(arguments)
     try:
         words.does(words)
-    except (Failed, Missing, streams.Missing, Down, GivenUp, LostFacts, PlanEnded, files.Held, checking.Differs, Refused, OSError) as error:
+    except (Failed, Missing, streams.Missing, Down, GivenUp, LostFacts, Odd, PlanEnded, files.Held, checking.Differs, Refused, OSError) as error:
         print(f"ksi-service: {error}", file=sys.stderr)
         return 1
     except KeyboardInterrupt:

@@ -16,11 +16,13 @@ from .door import MOST_CONNECTIONS, Answer, Door, signature_answer
 from .metrics import Spans
 from .network import Network
 from .node import Down
-from .plan import Plan
+from .plan import Odd, Plan, parents_of
 from .programs import page
 from .publications import Publications
 from .remote import RemoteNetwork
 
+CORES, AGGREGATORS = 3, "2"
+"""What a new folder has."""
 MOST_REMEMBERED = 100_000
 """How many signatures the door remembers; a client keeps its own."""
 ANSWER_SECONDS = 60
@@ -36,12 +38,16 @@ def say(text):
     print(text, file=sys.stderr, flush=True)
 
 
-def plan_of(folder, cores, aggregators):
-    """The plan of a folder, which is made where there is none."""
+def plan_of(folder, cores=None, aggregators=None):
+    """The plan of a folder, which is made where there is none. What is asked for has to be what an old folder has."""
     path = os.path.join(folder, "plan")
     if not os.path.exists(path):
-        files.write(path, Plan.new(cores, aggregators, int(time.time()) + 1).text().encode())
-    return Plan.read(path)
+        parents = parents_of(aggregators or AGGREGATORS, cores or CORES)
+        files.write(path, Plan(cores or CORES, int(time.time()) + 1, parents).text().encode())
+    plan = Plan.read(path)
+    if cores not in (None, plan.cores) or aggregators is not None and parents_of(aggregators, plan.cores) != plan.parents:
+        raise Odd(f"{folder} has a plan already, {plan.told()}: another one wants a new folder")
+    return plan
 
 
 class TooLate(Exception):
@@ -219,7 +225,7 @@ async def first_of(end, work):
         work.cancel()
 
 
-async def run(folder, cores=3, aggregators=2, address=("127.0.0.1", 8080), trouble_with=None, **options):
+async def run(folder, cores=None, aggregators=None, address=("127.0.0.1", 8080), trouble_with=None, **options):
     """Runs the service until it is told to stop. A test makes trouble with it."""
     # futures and lines come and go by thousands a second, and nothing of them is in a cycle
     gc.set_threshold(50_000, 20, 50)

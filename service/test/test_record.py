@@ -119,7 +119,7 @@ class RecordTest(unittest.TestCase):
                    ["given", "c0", f"submission 0 5 {ONES} 0", [1, 0]], ["given", "c0", "seal 4", None], ["said", "c0", ["answer done"]],
                    ["said", "c0", ["refused second"]], ["signed", 0, "abcd"], ["given", "c0", "seal 5", None], ["ready", "c0", 1, 1])
         with open(os.path.join(self.room.name, "plan"), "w", encoding="ascii") as file:
-            file.write(Plan.new(1, 1, 5).text())
+            file.write(Plan(1, 5, ("c0",)).text())
 
     def test_entries_are_those_of_ksi_retrace(self):
         self.run_of_two()
