@@ -62,7 +62,7 @@ class ClockTest(unittest.TestCase):
 
     def test_aggregators_below_aggregators(self):
         async def work(network, clock):
-            signed = await asyncio.gather(*[clock.sign(imprint(number), int(time.time()) + number % 2) for number in range(60)])
+            signed = await asyncio.gather(*[clock.sign(imprint(number), network.plan.start + number % 2) for number in range(60)])
             return signed, network.plan.levels
         signed, levels = self.play(work, aggregators="c0,c2,a0,a1,a2,a2")
         self.assertEqual([text[:64] for text, _ in signed], [imprint(number) for number in range(60)])
