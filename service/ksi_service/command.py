@@ -14,6 +14,7 @@ import urllib.request
 
 from . import check as checking
 from . import backup as backing
+from . import replay as replaying
 from . import files, service, streams
 from .clock import PlanEnded
 from .elements import Malformed, parts_of
@@ -164,6 +165,8 @@ def check(words):
     """Holds the record of a service that is stopped against the proved world."""
     held = files.lock(words.folder)
     checking.check(words.folder, words.samples)
+    if words.replay:
+        print(replaying.replay(words.folder, words.replay, words.samples))
     held.close()
 
 
@@ -228,7 +231,8 @@ def parser_of():
     one.set_defaults(does=verify)
     one = commands.add_parser("check", help="hold the record of a stopped service against the proved world")
     one.add_argument("folder", nargs="?", default=DEFAULT)
-    one.add_argument("--samples", type=int, default=50)
+    one.add_argument("--samples", type=int, default=50, metavar="NUMBER", help="how many signatures are extended, verified and audited: 50")
+    one.add_argument("--replay", metavar="OUT", help="replay the run by ksi too, whose schedule and journal are saved in the folder OUT")
     one.set_defaults(does=check)
     one = commands.add_parser("backup", help="save what the cores of a stopped service hold")
     one.add_argument("folder", nargs="?", default=DEFAULT)

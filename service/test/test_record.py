@@ -7,9 +7,10 @@ import tempfile
 import unittest
 from unittest import mock
 
-from ksi_service import retrace
+from ksi_service import replay, retrace
 from ksi_service.plan import Plan
-from ksi_service.record import Record, Signed, State, names, told
+from ksi_service.record import Record, Signed, State, Step, names, told
+from ksi_service.replay import schedule_of
 
 ONES = "1" * 64
 SEALED = [["ready", "c0", 0, 0], ["given", "c0", "seal 5", None], ["said", "c0", ["answer done", "stored"]]]
@@ -141,6 +142,28 @@ signature abcd
 unsaid c0 seal 5
 restart c0
 """)
+
+    def test_a_run_as_a_schedule(self):
+        self.run_of_two()
+        asked = []
+
+        def sends_of_unsaid(schedule):
+            asked.append(schedule.text())
+            return 3
+        schedule, handed = schedule_of("plan\n", told(self.folder), sends_of_unsaid)
+        self.assertEqual(schedule.text(), f"plan\nrequest 0 5 {ONES}\nclose 0 5\ndeliver 0\nseal 0 5\nrestart c0\n")
+        self.assertEqual((schedule.sent, handed, asked), (3, {0: "abcd"}, [schedule.text().replace("restart c0\n", "")]))
+
+    def test_which_requests_have_numbers(self):
+        rows = [("request 5 7 " + ONES, ["answer number 5"]), ("close 7", ["answer done"]), ("request 6 7 " + ONES, ["answer late"]),
+                ("request 7 7 " + ONES, None), ("request 8 8 " + ONES, None), ("close 8", None), ("request 9 9 " + ONES, ["answer number 9"])]
+        schedule, _ = schedule_of("", (Step("a2", line, None, block) for line, block in rows), lambda so_far: 0)
+        self.assertEqual(schedule.numbers, {0: 0, 4: 1, 6: 2})
+        self.assertEqual(schedule.events[:2], [f"request 2 7 {ONES}", "close 2 7"])
+
+    def test_a_run_that_is_too_long_for_a_schedule(self):
+        with mock.patch.object(replay, "MOST_EVENTS", 2), self.assertRaises(retrace.Differs):
+            schedule_of("", [Step("c0", "tell 5", None, ["answer done"])] * 3, None)
 
     def test_what_ksi_retrace_says_is_taken(self):
         self.run_of_two()
