@@ -8,9 +8,9 @@ from . import backup, extension
 from .calendar import Calendar
 from .elements import parts_of
 from .plan import Plan
-from .proved import Core, Refused, ksi
+from .proved import Refused, Stopped, ksi
 from .publications import Publications
-from .record import Signed, told
+from .record import Signed, last_state, told
 from .retrace import Differs, retrace
 
 MOST_AUDITED = 1 << 17
@@ -40,6 +40,7 @@ def check(folder, samples=50, say=print):
     """Raises Differs where the run is not that of its record; says what was compared. Returns the counts of `ksi_retrace`."""
     steps, unsaid, signatures = retrace(os.path.join(folder, "plan"), os.path.join(folder, "record"))
     say(f"ksi_retrace agrees: the blocks of {steps} steps ({unsaid} of them never came) and {signatures} signatures are the proved world's")
+    say(f"{facts_there(folder)} facts that nodes acknowledged are in their files")
     published, chosen, last = look(os.path.join(folder, "record"), samples)
     publications = Publications(folder)
     for it in publications.published:
@@ -51,6 +52,19 @@ def check(folder, samples=50, say=print):
     return steps, unsaid, signatures
 
 
+def facts_there(folder):
+    """Raises Differs where a node's file has other facts than the node acknowledged; one more may be there, which it had no time to
+    tell. Returns how many were acknowledged."""
+    state, acknowledged = last_state(os.path.join(folder, "record"))[0], 0
+    for name in Plan.read(os.path.join(folder, "plan")).names():
+        known = state.node(name).facts or 0
+        with Stopped(folder, name) as node:
+            if node.facts not in (known, known + 1):
+                raise Differs(f"{name} acknowledged {known} facts, and its file has {node.facts}")
+        acknowledged += known
+    return acknowledged
+
+
 def use(folder, signatures, publications, last):
     """Extends signatures that the last publication covers by a core, and audits them against the mirrors of all. Returns how many."""
     plan, used = Plan.read(os.path.join(folder, "plan")), 0
@@ -59,7 +73,7 @@ def use(folder, signatures, publications, last):
         if audited:
             backup.make(folder, room, last, say=lambda text: None)
         calendar = Calendar(plan.start)
-        with Core(folder, 0) as core:
+        with Stopped(folder, "c0") as core:
             for signature in signatures:
                 if parts_of(signature).second > publications.last():
                     continue

@@ -22,7 +22,7 @@ from .node import Down, GivenUp, LostFacts
 from .plan import Odd
 from .programs import Missing
 from .proved import Refused, ksi
-from .record import last_state
+from .record import Broken, last_state
 
 DEFAULT = os.environ.get("KSI_SERVICE", "ksi-service-data")
 OVER = os.environ.get("KSI_OVER", "pipes")
@@ -247,7 +247,7 @@ def main(arguments):
     words = parser_of().parse_args(arguments)
     try:
         words.does(words)
-    except (Failed, Missing, streams.Missing, Down, GivenUp, LostFacts, Odd, PlanEnded, files.Held, checking.Differs, Refused, OSError) as error:
+    except (Failed, Missing, Broken, streams.Missing, Down, GivenUp, LostFacts, Odd, PlanEnded, files.Held, checking.Differs, Refused, OSError) as error:
         print(f"ksi-service: {error}", file=sys.stderr)
         return 1
     except KeyboardInterrupt:

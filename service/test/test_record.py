@@ -1,5 +1,6 @@
 """The record alone: what it tells after a crash of the host, how it is cut, and how it becomes a stream of entries."""
 import asyncio
+import gzip
 import json
 import os
 import stat
@@ -9,7 +10,7 @@ from unittest import mock
 
 from ksi_service import replay, retrace
 from ksi_service.plan import Plan
-from ksi_service.record import Record, Signed, State, Step, names, told
+from ksi_service.record import Broken, Record, Signed, State, Step, names, told
 from ksi_service.replay import schedule_of
 
 ONES = "1" * 64
@@ -43,6 +44,26 @@ class RecordTest(unittest.TestCase):
         self.assertEqual((state.steps, state.second, state.node("c0").facts, len(state.node("c0").unanswered)), (1, 5, 1, 0))
         with open(names(self.folder)[0], encoding="utf-8") as file:
             self.assertTrue(file.read().endswith('"stored"]]\n'))
+
+    def test_what_a_crash_left_of_the_end_is_left_out(self):
+        said = json.dumps(["said", "c0", ["answer done"]]).encode()
+        for torn in (b"\0" * 40, b"\0" * 40 + b"\n" + said + b"\n", said[:9] + b"\0" * 20 + said[29:] + b"\n" + said + b"\n", b"\xff\n", b"\n"):
+            self.write(*SEALED)
+            with open(names(self.folder)[0], "ab") as file:
+                file.write(torn)
+            before = len(list(told(self.folder)))
+            state = self.opened().state
+            self.assertEqual((before, state.steps, len(list(told(self.folder)))), (1, 1, 1), torn)
+
+    def test_a_broken_file_before_the_last_is_told(self):
+        self.write(*SEALED, end="\n[\n")
+        self.write(State().begins(), number=2)
+        self.assertRaises(Broken, list, told(self.folder))
+        os.remove(os.path.join(self.folder, "00000001"))
+        for content in (b"\x1f\x8b half of it", gzip.compress(json.dumps(State().begins()).encode() + b"\n")[:-9]):
+            with open(os.path.join(self.folder, "00000001.gz"), "wb") as file:
+                file.write(content)
+            self.assertRaises(Broken, list, told(self.folder))
 
     def test_effects_come_after_the_disk_and_in_order(self):
         seen = []
