@@ -1,4 +1,5 @@
 """Where the proved programs and the page are: as the gate or `make` left them in this checkout, or as they were installed."""
+import functools
 import os
 import shutil
 
@@ -29,6 +30,12 @@ def page():
     """The page's content, or None where it is not built."""
     for path in (os.path.join(TOP, "out", "page.html"), os.path.join(BESIDE, "page.html")):
         if os.path.isfile(path):
-            with open(path, "rb") as file:
-                return file.read()
+            return content_since(path, os.stat(path).st_mtime_ns)
     return None
+
+
+@functools.lru_cache(maxsize=1)
+def content_since(path, _):
+    """What a file has since a time: all that ask have the same bytes in memory."""
+    with open(path, "rb") as file:
+        return file.read()

@@ -12,7 +12,7 @@ from http import HTTPStatus
 from . import extension, files
 from .calendar import Calendar
 from .clock import MOST_WAITING, Busy, Clock, NotSigned
-from .door import MOST_CONNECTIONS, Answer, Door, signature_answer
+from .door import MOST_ACCEPTED, MOST_CONNECTIONS, Answer, Door, signature_answer
 from .metrics import Spans
 from .network import Network
 from .node import Down
@@ -29,6 +29,8 @@ ANSWER_SECONDS = 60
 """How long a request waits for its signature before it is refused."""
 LAST_SECONDS = 5
 """How long a service that is told to stop still waits for requests that it has taken."""
+OTHER_FILES = MOST_ACCEPTED + 1024
+"""How many files may be open beside the connections that are served."""
 MOST_EXTENDING, MOST_TO_EXTEND = 4, 64
 """How many signatures are extended at once, and how many may wait for it."""
 
@@ -101,7 +103,7 @@ class House:
         return self.remembered.get(imprint)
 
     def publications(self):
-        return self.service.publications.content()
+        return self.service.publications.content
 
     def page(self):
         return page()
@@ -208,12 +210,13 @@ class Service:
 
 
 def open_files(most):
-    """Lets the process have so many files open, or as many as it may. Returns how many connections that leaves room for."""
+    """Lets the process have so many connections open, or as many as it may. Returns how many. Beside them there is room for those that
+    are accepted at once, for nodes and for the record: a host that could not open its record would end."""
     soft, hard = resource.getrlimit(resource.RLIMIT_NOFILE)
-    wanted = most + 256 if hard == resource.RLIM_INFINITY else min(most + 256, hard)
+    wanted = most + OTHER_FILES if hard == resource.RLIM_INFINITY else min(most + OTHER_FILES, hard)
     if soft < wanted:
         resource.setrlimit(resource.RLIMIT_NOFILE, (wanted, hard))
-    return min(most, max(soft, wanted) - 256)
+    return min(most, max(wanted - OTHER_FILES, wanted // 8))
 
 
 async def first_of(end, work):
