@@ -52,7 +52,8 @@ def ask(folder, path, content=None, kind="text/plain"):
     except urllib.error.HTTPError as error:
         raise Failed(error.read().decode(errors="replace").strip()) from None
     except OSError as error:
-        raise Failed(f"the door at {address} does not answer: {error}") from None
+        state = "does not answer" if files.is_held(folder) else "is closed, and no service runs: ksi-service start " + folder
+        raise Failed(f"the door at {address} {state} ({error})") from None
 
 
 def digest_of(path):
@@ -107,9 +108,11 @@ def node(words):
 
 def stop(words):
     _, number = door(words.folder)
+    if not files.is_held(words.folder):
+        raise Failed(f"no service runs over {words.folder}: it ended without being stopped")
     os.kill(number, signal.SIGTERM)
     for _ in range(300):
-        if not os.path.exists(os.path.join(words.folder, "door")):
+        if not files.is_held(words.folder):
             print("stopped")
             return
         time.sleep(0.1)
@@ -118,7 +121,7 @@ def stop(words):
 
 def status(words):
     for name, value in json.loads(ask(words.folder, "/status")).items():
-        print(f"{name} {value}")
+        print(f"{name} " + (" ".join(f"{key}={it}" for key, it in value.items()) if isinstance(value, dict) else str(value)))
 
 
 def sign(words):

@@ -13,7 +13,7 @@ from . import extension, files
 from .calendar import Calendar
 from .clock import MOST_WAITING, Busy, Clock, NotSigned
 from .door import MOST_ACCEPTED, MOST_CONNECTIONS, Answer, Door, signature_answer
-from .metrics import Spans
+from .metrics import Spans, memory
 from .network import Network
 from .node import Down
 from .plan import Odd, Plan, parents_of
@@ -186,8 +186,12 @@ class Service:
             "seconds_decided": self.network.seconds_decided, "last_second": record.state.second,
             "steps": record.state.steps, "record_bytes": record.bytes,
             "publications": len(self.publications.published), "last_publication": self.publications.last() or 0,
-            "processes": {name: node.process.pid for name, node in nodes.items() if node.process},
+            "processes": self.processes(), "memory_bytes": memory({"host": os.getpid(), **self.processes()}),
         }
+
+    def processes(self):
+        """The numbers of the nodes' processes that run on this machine."""
+        return {name: node.process.pid for name, node in self.network.nodes.items() if node.alive and node.process}
 
     async def idle(self, seconds):
         """Waits until no request waits, but not for long."""
@@ -234,6 +238,7 @@ async def run(folder, cores=None, aggregators=None, address=("127.0.0.1", 8080),
     gc.set_threshold(50_000, 20, 50)
     os.makedirs(folder, exist_ok=True)
     held = files.lock(folder)
+    files.remove(os.path.join(folder, "door"))
     service = Service(folder, plan_of(folder, cores, aggregators), **options)
     told = asyncio.Event()
     for number in (signal.SIGINT, signal.SIGTERM):

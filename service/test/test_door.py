@@ -15,7 +15,7 @@ from unittest import mock
 from ksi_service import door as doors
 from ksi_service import http as own
 from ksi_service.door import Answer, Door, signature_answer
-from ksi_service.metrics import Spans, prometheus
+from ksi_service.metrics import Spans, memory, prometheus
 
 ONES = "1" * 64
 
@@ -255,6 +255,12 @@ class DoorTest(unittest.TestCase):
 class MetricsTest(unittest.TestCase):
     def test_what_has_no_meaning_is_left_out(self):
         self.assertEqual(prometheus({"processes": {"c0": 5}}), "")
+
+    def test_memory_of_processes_that_run(self):
+        told = memory({"host": os.getpid(), "gone": 1 << 30})
+        self.assertEqual(list(told), ["host"])
+        self.assertGreater(told["host"], 1 << 20)
+        self.assertIn('ksi_memory_bytes{process="host"} 5', prometheus({"memory_bytes": {"host": 5}}).splitlines())
 
 
 if __name__ == "__main__":

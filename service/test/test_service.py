@@ -14,7 +14,7 @@ import time
 import unittest
 
 import stands
-from ksi_service import check
+from ksi_service import check, record
 from ksi_service.elements import published_in
 
 REAL = not stands.missing("ksi", "ksi_retrace", *stands.NODES)
@@ -115,6 +115,35 @@ class ServiceTest(unittest.TestCase):
         self.assertIn(f"another service runs over {self.folder}", self.command("run", self.folder, status=1))
         self.assertIn("another service", self.command("check", self.folder, status=1))
         self.assertEqual(self.ask("/sign", imprint(1))[0], 200)
+
+    def test_who_is_told_to_stop_answers_all_that_it_took(self):
+        self.start()
+        told = []
+
+        def sign(number):
+            try:
+                told.append(self.ask("/sign", imprint(number)))
+            except (OSError, http.client.HTTPException) as error:
+                told.append((0, error))
+        self.assertEqual(self.ask("/sign", imprint(0))[0], 200)
+        with concurrent.futures.ThreadPoolExecutor(40) as pool:
+            asks = [pool.submit(sign, number) for number in range(1, 41)]
+            while self.status()["waiting"] < 40:
+                time.sleep(0.02)
+            self.assertIn("stopped", self.command("stop"))
+            for it in asks:
+                it.result()
+        self.assertEqual({status for status, _ in told}, {200})
+        handed = {bytes.fromhex(it.text) for it in record.told(os.path.join(self.folder, "record")) if isinstance(it, record.Signed)}
+        self.assertEqual({content for _, content in told} - handed, set())
+        self.assertIn("no service runs", self.command("stop", status=1))
+        self.checked()
+
+    def test_a_host_that_was_killed_leaves_no_service_to_be_stopped(self):
+        self.start()
+        self.kill()
+        self.assertIn("ended without being stopped", self.command("stop", status=1))
+        self.assertIn("no service runs", self.command("status", status=1))
 
     def test_kills_of_processes_and_host(self):
         """Sixty kills, with signing going on: each request that was answered has a signature that the record knows."""
