@@ -3,6 +3,7 @@ with what the world says at the same place. A wrong record gives other bytes; so
 import os
 import random
 import tempfile
+from typing import NamedTuple
 
 from . import backup, extension
 from .calendar import Calendar
@@ -15,6 +16,20 @@ from .retrace import Differs, retrace
 
 MOST_AUDITED = 1 << 17
 """Audits want the journal of the whole run: they are made of runs of at most so many seconds."""
+
+
+class Counts(NamedTuple):
+    """What was compared and found right."""
+    steps: int
+    unsaid: int
+    """How many of the steps were stored and never said."""
+    signatures: int
+    """How many signatures that were handed out are byte for byte the world's."""
+    facts: int
+    """How many facts nodes acknowledged; all are in their files."""
+    publications: int
+    used: int
+    """How many signatures were extended, verified and, in a run that is short enough, audited."""
 
 
 def look(record, samples):
@@ -37,19 +52,22 @@ def look(record, samples):
 
 
 def check(folder, samples=50, say=print):
-    """Raises Differs where the run is not that of its record; says what was compared. Returns the counts of `ksi_retrace`."""
+    """Raises Differs where the run is not that of its record; says and returns what was compared."""
     steps, unsaid, signatures = retrace(os.path.join(folder, "plan"), os.path.join(folder, "record"))
     say(f"ksi_retrace agrees: the blocks of {steps} steps ({unsaid} of them never came) and {signatures} signatures are the proved world's")
-    say(f"{facts_there(folder)} facts that nodes acknowledged are in their files")
+    facts = facts_there(folder)
+    say(f"{facts} facts that nodes acknowledged are in their files")
     published, chosen, last = look(os.path.join(folder, "record"), samples)
     publications = Publications(folder)
     for it in publications.published:
         if it not in published:
             raise Differs(f"the publication of second {it[0]} is no answer of a core")
     say(f"{len(publications.published)} publications are answers of cores")
+    used = 0
     if publications.last() is not None:
-        say(f"{use(folder, chosen, publications, last)} signatures, extended to second {publications.last()}, are accepted, and found in the cores' mirrors")
-    return steps, unsaid, signatures
+        used = use(folder, chosen, publications, last)
+        say(f"{used} signatures, extended to second {publications.last()}, are accepted, and found in the cores' mirrors")
+    return Counts(steps, unsaid, signatures, facts, len(publications.published), used)
 
 
 def facts_there(folder):

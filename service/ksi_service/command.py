@@ -169,7 +169,7 @@ def check(words):
     held = files.lock(words.folder)
     checking.check(words.folder, words.samples)
     if words.replay:
-        print(replaying.replay(words.folder, words.replay, words.samples))
+        replaying.replay(words.folder, words.replay, words.samples)
     held.close()
 
 

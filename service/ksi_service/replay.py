@@ -5,7 +5,7 @@ A schedule numbers messages in the order in which they were sent, and requests i
 sent whose block never came is not on the record: the world is asked, by a replay of the schedule up to it."""
 import os
 from dataclasses import dataclass, field
-from typing import Dict, Iterable, List, Set, Tuple
+from typing import Dict, Iterable, List, NamedTuple, Set, Tuple
 
 from . import files
 from .elements import number_of, published_in, read
@@ -94,9 +94,18 @@ def issued_in(journal: bytes) -> Dict[int, bytes]:
     return told_of
 
 
-def replay(folder: str, out: str, samples: int) -> str:
+class Counts(NamedTuple):
+    """What was compared and found the same."""
+    events: int
+    signatures: int
+    signed: int
+    """How many of the signatures were taken from the journal by `ksi sign` too."""
+    publications: int
+
+
+def replay(folder: str, out: str, samples: int, say=print) -> Counts:
     """Replays the run of a service's folder into OUT/schedule and OUT/journal. Raises Differs where a signature or a publication is
-    another; some of the signatures are taken from the journal by `ksi sign` too. Says what was compared."""
+    another; some of the signatures are taken from the journal by `ksi sign` too. Says and returns what was compared."""
     os.makedirs(out, exist_ok=True)
     at = lambda name: os.path.abspath(os.path.join(out, name))
 
@@ -113,9 +122,9 @@ def replay(folder: str, out: str, samples: int) -> str:
         ksi("sign", at("journal"), str(number), at("signature"))
         compare({number: handed[number]}, {number: files.content_of(at("signature"))})
     files.remove(at("signature"))
-    published = compare_publications(folder, at("journal"), at("publications"))
-    return (f"ksi replay of the run's {len(schedule.events)} events makes each of its {len(handed)} signatures, byte for byte, "
-            f"{min(samples, len(handed))} of them by ksi sign, and its {published} publications")
+    counts_of = Counts(len(schedule.events), len(handed), min(samples, len(handed)), compare_publications(folder, at("journal"), at("publications")))
+    say("ksi replay of the run's %d events makes each of its %d signatures, byte for byte (%d seen by ksi sign), and its %d publications" % counts_of)
+    return counts_of
 
 
 def compare(handed: Dict[int, str], issued: Dict[int, bytes]) -> None:

@@ -245,11 +245,10 @@ async def run(folder, cores=None, aggregators=None, address=("127.0.0.1", 8080),
         asyncio.get_running_loop().add_signal_handler(number, told.set)
     house = House(service)
     door = service.door = Door(house, open_files(MOST_CONNECTIONS))
-    end, extra = asyncio.create_task(told.wait()), []
+    end, extra = asyncio.create_task(told.wait()), [asyncio.create_task(trouble_with(service))] if trouble_with else []
     try:
         await first_of(end, asyncio.create_task(service.begin()))
         if not end.done():
-            extra += [asyncio.create_task(trouble_with(service))] if trouble_with else []
             await door.begin(*address)
             where = "%s:%d" % door.address()
             files.write(os.path.join(folder, "door"), f"{where}\n{os.getpid()}\n".encode())

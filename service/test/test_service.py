@@ -184,7 +184,7 @@ class ServiceTest(unittest.TestCase):
         self.assertEqual(len(answered), 120)
         told = self.checked()
         if told:
-            self.assertGreaterEqual(told[2], 120)
+            self.assertGreaterEqual(told.signatures, 120)
 
     @unittest.skipIf(os.geteuid() != 0, "a file system of 2 MiB is mounted by root alone")
     def test_a_full_disk(self):
