@@ -26,6 +26,8 @@ from .record import Broken, last_state
 
 DEFAULT = os.environ.get("KSI_SERVICE", "ksi-service-data")
 OVER = os.environ.get("KSI_OVER", "pipes")
+FOR_A_PERSON = 3
+"""The status where starting again does not help."""
 
 
 class Failed(Exception):
@@ -252,7 +254,7 @@ def main(arguments):
         words.does(words)
     except (Failed, Missing, Broken, streams.Missing, Down, GivenUp, LostFacts, Odd, PlanEnded, files.Held, checking.Differs, Refused, OSError) as error:
         print(f"ksi-service: {error}", file=sys.stderr)
-        return 1
+        return FOR_A_PERSON if isinstance(error, (Broken, LostFacts, PlanEnded)) else 1
     except KeyboardInterrupt:
         return 130
     except Exception as error:
