@@ -23,9 +23,12 @@ class RealTest(unittest.TestCase):
         self.assertIn("ksi_retrace agrees", said)
 
     def test_a_short_chaos(self):
-        said = self.run_script("chaos", "--seconds", "20", "--seed", "5")
+        said = self.run_script("chaos", "--seconds", "20", "--rate", "10", "--samples", "50", "--seed", "5")
         self.assertIn("ksi_retrace agrees", said)
-        self.assertIn("are accepted, and found in the cores' mirrors", said)
+        rows = dict(row[2:-2].split(" | ") for row in said.splitlines() if row.startswith("| "))
+        for name, least in (("signatures that clients got, all on the record", 50), ("messages lost", 20), ("processes killed by SIGKILL", 5),
+                            ("signatures extended, accepted by `ksi verify`, found by `ksi audit`", 25)):
+            self.assertGreaterEqual(int(rows[name]), least, said)
 
 
 if __name__ == "__main__":

@@ -14,7 +14,7 @@ import time
 import unittest
 
 import stands
-from ksi_service import check, record
+from ksi_service import check, record, replay
 from ksi_service.elements import published_in
 
 REAL = not stands.missing("ksi", "ksi_retrace", *stands.NODES)
@@ -84,10 +84,13 @@ class ServiceTest(unittest.TestCase):
         return path
 
     def checked(self):
-        """The record is held against the proved world, where its programs are here."""
-        if REAL:
-            return check.check(self.folder, samples=10, say=lambda text: None)
-        return None
+        """The record is held against the proved world, and replayed to each signature, where the programs for it are here."""
+        if not REAL:
+            return None
+        found = check.check(self.folder, samples=10, say=lambda text: None)
+        again = replay.replay(self.folder, os.path.join(self.room.name, "replay"), samples=1000, say=lambda text: None)
+        self.assertEqual((again.events, again.signatures, again.signed, again.publications), (found.steps, found.signatures, found.signatures, found.publications))
+        return found
 
     def test_a_day_at_the_desk(self):
         self.start("--cut-every", "1")
@@ -109,6 +112,20 @@ class ServiceTest(unittest.TestCase):
         self.assertIn("00000001.gz", os.listdir(os.path.join(self.folder, "record")))
         if REAL:
             self.assertIn("whole", self.command("backup", self.folder, os.path.join(self.room.name, "backup")))
+
+    def test_aggregators_below_aggregators(self):
+        """Two cores; below the one aggregators in a row, as many as may be, below the other a tree of them."""
+        self.start("--cores", "2", "--aggregators", "c0,a0,a1,a2,a3,a4,a5,c1,a7,a7,a8")
+        with concurrent.futures.ThreadPoolExecutor(30) as pool:
+            answers = list(pool.map(lambda number: self.ask("/sign", imprint(number)), range(90)))
+        self.assertEqual({status for status, _ in answers}, {200})
+        self.wait_for_publication(int(time.time()))
+        self.command("stop")
+        below = {it.node for it in record.told(os.path.join(self.folder, "record")) if isinstance(it, record.Step) and it.line and it.line.startswith("response ")}
+        self.assertGreater(len(below), 4)
+        found = self.checked()
+        if found:
+            self.assertEqual((found.signatures, found.used), (90, 10))
 
     def test_two_services_over_one_folder(self):
         self.start()
