@@ -219,6 +219,15 @@ class Clock:
             await self.on_published(second, words[2])
         return words[2]
 
+    async def end(self, tasks):
+        """The end of the plan: what is under way is waited for, and the last second is published."""
+        await asyncio.gather(*tasks)
+        last = self.plan.start + SECONDS - 1
+        for core in range(self.plan.cores):
+            if await self.publish(core, last) is not None:
+                break
+        raise PlanEnded(f"the plan's last second was {last}, and is published: begin a new folder, and keep this one")
+
     async def run(self, first, publish_every):
         """Drives each second in its time, and lets a core publish so often."""
         tasks, second = set(), first
@@ -226,7 +235,7 @@ class Clock:
             while True:
                 await asyncio.sleep(max(0.0, second + AFTER - self.now()))
                 if second >= self.plan.start + SECONDS:
-                    raise PlanEnded("the plan's 2^24 seconds are over: begin a new folder")
+                    await self.end(tasks)
                 while len(tasks) >= MOST_AT_ONCE:
                     done, tasks = await asyncio.wait(tasks, return_when=asyncio.FIRST_COMPLETED)
                     for task in done:

@@ -15,13 +15,15 @@ import urllib.request
 from . import check as checking
 from . import backup as backing
 from . import replay as replaying
-from . import files, service, streams
+from . import extension, files, service, streams
+from .calendar import Calendar
 from .clock import PlanEnded
 from .elements import Malformed, parts_of
 from .node import Down, GivenUp, LostFacts
-from .plan import Odd
+from .plan import Odd, Plan
 from .programs import Missing
-from .proved import Refused, ksi
+from .proved import Refused, Stopped, ksi
+from .publications import Publications
 from .record import Broken, last_state
 
 DEFAULT = os.environ.get("KSI_SERVICE", "ksi-service-data")
@@ -144,10 +146,26 @@ def time_of(signature):
 
 
 def extend(words):
+    """By the service, or if it does not run, by a core's file: a folder whose plan is over still extends."""
     with open(words.signature, "rb") as file:
-        content = ask(words.folder, "/extend", file.read(), "application/octet-stream")
+        signature = file.read()
+    if os.path.exists(os.path.join(words.folder, "plan")) and not files.is_held(words.folder):
+        content = extended_by_file(words.folder, signature)
+    else:
+        content = ask(words.folder, "/extend", signature, "application/octet-stream")
     files.write(words.out or words.signature, content)
     print(f"extended {words.out or words.signature}")
+
+
+def extended_by_file(folder, signature):
+    with files.lock(folder), Stopped(folder, "c0") as core:
+        published = Publications(folder)
+        if published.last() is None:
+            raise Failed(f"nothing was published yet over {folder}")
+        try:
+            return extension.extend_by(core, Calendar(Plan.read(os.path.join(folder, "plan")).start), signature, published)[1]
+        except extension.NotExtended as reason:
+            raise Failed(str(reason)) from None
 
 
 def publications(words):

@@ -52,6 +52,11 @@ class Connection:
     def limit(self, seconds):
         self.until = time.monotonic() + seconds
 
+    def prolong(self, seconds):
+        """More time for a client that is in time so far."""
+        if self.until is not None:
+            self.until += seconds
+
     def free(self):
         self.until = None
 
@@ -102,7 +107,7 @@ class Request:
             if not piece:
                 raise Answer(HTTPStatus.BAD_REQUEST, "the body ended early")
             self.left -= len(piece)
-            self.connection.until += len(piece) / BYTES_A_SECOND
+            self.connection.prolong(len(piece) / BYTES_A_SECOND)
             yield piece
         self.connection.free()
 

@@ -151,11 +151,17 @@ class ClockTest(unittest.TestCase):
         refused, busy, waiting = self.play(work, most_waiting=20)
         self.assertEqual((refused, busy, waiting), ([False] * 20 + [True] * 10, 10, 0))
 
-    def test_a_plan_ends(self):
+    def test_a_plan_ends_with_its_last_second_published(self):
+        seen = []
+
         async def work(_, clock):
-            with mock.patch.object(clocks, "SECONDS", 2):
-                await clock.run(clock.plan.start + 1, 3600)
+            with mock.patch.object(clocks, "SECONDS", 3):
+                try:
+                    await clock.run(clock.plan.start, 3600)
+                finally:
+                    seen.append(clock.published - clock.plan.start)
         self.assertRaises(clocks.PlanEnded, self.play, work)
+        self.assertEqual(seen, [2])
 
     def test_what_was_decided_is_forgotten_in_time(self):
         async def work(network, _):

@@ -108,6 +108,9 @@ class ServiceTest(unittest.TestCase):
             self.assertIn("refused V1", self.command("verify", other, f"{name}.ksig", status=1))
         self.assertIn("stopped", self.command("stop"))
         self.assertIn("no service runs", self.command("status", status=1))
+        if REAL:
+            self.assertIn("extended", self.command("extend", f"{name}.ksig"))
+            self.assertIn("accepted", self.command("verify", name, f"{name}.ksig"))
         self.checked()
         self.assertIn("00000001.gz", os.listdir(os.path.join(self.folder, "record")))
         if REAL:
