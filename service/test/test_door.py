@@ -204,6 +204,14 @@ class DoorTest(unittest.TestCase):
         idle[-1].sendall(b"TP/1.1\r\nHost: x\r\n\r\n")
         self.assertEqual(idle[-1].recv(12), b"HTTP/1.1 200")
 
+    def test_slow_clients_keep_nobody_out(self):
+        self.begin(20)
+        for _ in range(15):
+            for piece in (b"", b"GET / HT", b"POST /sign HTTP/1.1\r\nHost: x\r\nA: b", b"\r\n"):
+                self.connect(piece)
+            self.assertEqual(self.ask("POST", "/sign", ONES.encode()), (200, bytes.fromhex(ONES)))
+        self.assertLessEqual(len(self.door.open), 20)
+
     def test_where_all_connections_are_at_work_one_more_is_refused(self):
         self.begin(5)
         ask = b"POST /sign HTTP/1.1\r\nHost: x\r\nContent-Length: 64\r\n\r\n" + b"6" * 64
