@@ -23,7 +23,18 @@ def program(name):
     found = shutil.which(name)
     if found:
         return found
-    raise Missing(f"{name} is not built: run `rt run` in crates/{name}, or `rt ci` at the top")
+    raise Missing(f"{name} is not built: `make programs` at the top builds it, and so does `rt ci`")
+
+
+def missing(names):
+    """What to say of the programs that are not built, or None if all are."""
+    absent = []
+    for name in names:
+        try:
+            program(name)
+        except Missing:
+            absent.append(name)
+    return f"not built yet: {', '.join(absent)}. `make programs` at the top builds them, and so does `rt ci`" if absent else None
 
 
 def page():
