@@ -17,10 +17,11 @@ class Publications:
         return self.published[-1][0] if self.published else None
 
     def add(self, second, root):
-        """Publishes the root of the calendar to a second, in hex."""
+        """Publishes the root of the calendar to a second, in hex, unless a later one was. Returns whether it did."""
         if self.last() is not None and second <= self.last():
-            return
+            return False
         published = [*self.published, (second, root)]
         content = publications_file(published)
         files.write(self.path, content)
         self.published, self.content = published, content
+        return True

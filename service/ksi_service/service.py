@@ -129,7 +129,7 @@ class House:
 class Service:
     def __init__(self, folder, plan, publish_every=3600, most_waiting=MOST_WAITING, cut_every=3600, over="pipes", trouble=None):
         self.folder, self.plan, self.publish_every, self.cut_every = folder, plan, publish_every, cut_every
-        self.network = Network(folder, plan, trouble) if over == "pipes" else RemoteNetwork(folder, plan, over, say)
+        self.network = Network(folder, plan, trouble, say) if over == "pipes" else RemoteNetwork(folder, plan, over, say)
         self.clock = Clock(self.network, most_waiting)
         self.publications, self.calendar = Publications(folder), Calendar(plan.start)
         self.publishing, self.clock.on_published = asyncio.Lock(), self.publish
@@ -146,7 +146,8 @@ class Service:
     async def publish(self, second, root):
         """Puts a root that a core has published into the publications file, one after the other."""
         async with self.publishing:
-            await self.in_thread(self.publications.add, second, root)
+            if await self.in_thread(self.publications.add, second, root):
+                say(f"published second {second}, root {root}")
 
     async def in_thread(self, work, *words):
         return await asyncio.get_running_loop().run_in_executor(None, work, *words)
