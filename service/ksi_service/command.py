@@ -56,8 +56,9 @@ def ask(folder, path, content=None, kind="text/plain"):
     except urllib.error.HTTPError as error:
         raise Failed(error.read().decode(errors="replace").strip()) from None
     except OSError as error:
-        state = "does not answer" if files.is_held(folder) else "is closed, and no service runs: ksi-service start " + folder
-        raise Failed(f"the door at {address} {state} ({error})") from None
+        if files.is_held(folder):
+            raise Failed(f"the door at {address} does not answer: {getattr(error, 'reason', error)}") from None
+        raise Failed(f"no service runs over {folder}, and the last one was not stopped: ksi-service start {folder}") from None
 
 
 def digest_of(path):
@@ -113,7 +114,7 @@ def node(words):
 def stop(words):
     _, number = door(words.folder)
     if not files.is_held(words.folder):
-        raise Failed(f"no service runs over {words.folder}: it ended without being stopped")
+        raise Failed(f"no service runs over {words.folder}, and the last one was not stopped")
     os.kill(number, signal.SIGTERM)
     for _ in range(300):
         if not files.is_held(words.folder):
@@ -125,7 +126,9 @@ def stop(words):
 
 def status(words):
     for name, value in json.loads(ask(words.folder, "/status")).items():
-        print(f"{name} " + (" ".join(f"{key}={it}" for key, it in value.items()) if isinstance(value, dict) else str(value)))
+        if isinstance(value, dict):
+            value = " ".join(f"{key}={it}" for key, it in value.items() if not isinstance(it, dict))
+        print(f"{name:16} {value}")
 
 
 def sign(words):
@@ -271,7 +274,8 @@ def main(arguments):
     try:
         words.does(words)
     except (Failed, Missing, Broken, streams.Missing, Down, GivenUp, LostFacts, Odd, PlanEnded, files.Held, checking.Differs, Refused, OSError) as error:
-        print(f"ksi-service: {error}", file=sys.stderr)
+        named = isinstance(error, OSError) and error.filename is not None
+        print("ksi-service: " + (f"{error.filename}: {error.strerror}" if named else str(error)), file=sys.stderr)
         return FOR_A_PERSON if isinstance(error, (Broken, LostFacts, PlanEnded)) else 1
     except KeyboardInterrupt:
         return 130

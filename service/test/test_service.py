@@ -162,7 +162,7 @@ class ServiceTest(unittest.TestCase):
     def test_a_host_that_was_killed_leaves_no_service_to_be_stopped(self):
         self.start()
         self.kill()
-        self.assertIn("ended without being stopped", self.command("stop", status=1))
+        self.assertIn("the last one was not stopped", self.command("stop", status=1))
         self.assertIn("no service runs", self.command("status", status=1))
 
     def test_kills_of_processes_and_host(self):
