@@ -2,6 +2,7 @@
 #
 #   rt ci  (or `make`)          proves and builds the programs
 #   make install PREFIX=/usr/local
+#   make install-service        of it only ksi and ksi-service, with the units of service/deploy
 #
 # Nothing is built under `install`, so root needs no rt.
 VERSION = $(shell cat VERSION)
@@ -21,10 +22,11 @@ ARCHIVE = crates/ksi_c/out/libksi_c.a
 SONAME = libksi.so.1
 ROOT = $(DESTDIR)$(PREFIX)
 DOC = $(ROOT)/share/doc/ksi
+UNITS = ksi-service.service ksi-head.service ksi-node@.service
 
 all: programs library pages
 
-.PHONY: all programs pages page library static check install uninstall deb sums
+.PHONY: all programs pages page library static check install install-service uninstall deb sums
 
 # rt proves again only what changed
 programs:
@@ -52,14 +54,19 @@ page:
 check:
 	.ci/run
 
-install:
+install-service:
 	install -Dm755 $(PROGRAM) $(ROOT)/bin/ksi
-	install -Dm755 package/ksi-why $(ROOT)/bin/ksi-why
 	install -Dm755 service/ksi-service $(ROOT)/lib/ksi/ksi-service
-	install -d $(ROOT)/lib/ksi/ksi_service
+	install -d $(ROOT)/lib/ksi/ksi_service $(ROOT)/lib/systemd/system $(ROOT)/lib/sysusers.d
 	install -m644 service/ksi_service/*.py $(ROOT)/lib/ksi/ksi_service
 	for it in $(NODES); do ! test -e crates/$$it/out/$$it || install -m755 crates/$$it/out/$$it $(ROOT)/lib/ksi/$$it || exit; done
+	ln -sf ../../bin/ksi $(ROOT)/lib/ksi/ksi
 	ln -sf ../lib/ksi/ksi-service $(ROOT)/bin/ksi-service
+	for it in $(UNITS); do sed -e 's,@PREFIX@,$(PREFIX),' service/deploy/$$it > $(ROOT)/lib/systemd/system/$$it && chmod 644 $(ROOT)/lib/systemd/system/$$it || exit; done
+	install -m644 service/deploy/ksi.sysusers $(ROOT)/lib/sysusers.d/ksi.conf
+
+install: install-service
+	install -Dm755 package/ksi-why $(ROOT)/bin/ksi-why
 	install -Dm644 $(ARCHIVE) $(ROOT)/lib/libksi.a
 	install -Dm644 $(OUT)/$(SONAME) $(ROOT)/lib/$(SONAME)
 	ln -sf $(SONAME) $(ROOT)/lib/libksi.so
@@ -83,6 +90,7 @@ uninstall:
 	cd $(ROOT) && for it in $(NAMES); do \
 	    rm -f bin/$$it share/man/man1/$$it.1 share/bash-completion/completions/$$it share/zsh/site-functions/_$$it share/fish/vendor_completions.d/$$it.fish; \
 	done
+	cd $(ROOT) && rm -f $(UNITS:%=lib/systemd/system/%) lib/sysusers.d/ksi.conf
 	rm -rf $(DOC) $(ROOT)/share/ksi $(ROOT)/lib/ksi
 
 deb:

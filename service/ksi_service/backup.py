@@ -8,7 +8,7 @@ from . import files
 from .extension import AT_ONCE
 from .elements import mirror_file
 from .plan import Plan
-from .proved import Core, Refused, ksi
+from .proved import Refused, Stopped, ksi
 
 SECONDS = 1 << 17
 """The seconds of a part: 36 hours, 14 MB with one aggregator below each core that leads."""
@@ -51,6 +51,6 @@ def make(folder, out, last, say=print):
 
 def mirrors(folder, plan, number, last):
     """A core's mirrors, one for each part."""
-    with Core(folder, number) as core:
+    with Stopped(folder, f"c{number}") as core:
         for first, end in parts(plan, last):
             yield mirror_file(plan.start, number, rows_of(core, first, end))

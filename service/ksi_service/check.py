@@ -3,18 +3,33 @@ with what the world says at the same place. A wrong record gives other bytes; so
 import os
 import random
 import tempfile
+from typing import NamedTuple
 
 from . import backup, extension
 from .calendar import Calendar
 from .elements import parts_of
 from .plan import Plan
-from .proved import Core, Refused, ksi
+from .proved import Refused, Stopped, ksi
 from .publications import Publications
-from .record import Signed, told
+from .record import Signed, last_state, told
 from .retrace import Differs, retrace
 
 MOST_AUDITED = 1 << 17
 """Audits want the journal of the whole run: they are made of runs of at most so many seconds."""
+
+
+class Counts(NamedTuple):
+    """What was compared and found right."""
+    steps: int
+    unsaid: int
+    """How many of the steps were stored and never said."""
+    signatures: int
+    """How many signatures that were handed out are byte for byte the world's."""
+    facts: int
+    """How many facts nodes acknowledged; all are in their files."""
+    publications: int
+    used: int
+    """How many signatures were extended, verified and, in a run that is short enough, audited."""
 
 
 def look(record, samples):
@@ -37,18 +52,35 @@ def look(record, samples):
 
 
 def check(folder, samples=50, say=print):
-    """Raises Differs where the run is not that of its record; says what was compared. Returns the counts of `ksi_retrace`."""
+    """Raises Differs where the run is not that of its record; says and returns what was compared."""
     steps, unsaid, signatures = retrace(os.path.join(folder, "plan"), os.path.join(folder, "record"))
     say(f"ksi_retrace agrees: the blocks of {steps} steps ({unsaid} of them never came) and {signatures} signatures are the proved world's")
+    facts = facts_there(folder)
+    say(f"{facts} facts that nodes acknowledged are in their files")
     published, chosen, last = look(os.path.join(folder, "record"), samples)
     publications = Publications(folder)
     for it in publications.published:
         if it not in published:
             raise Differs(f"the publication of second {it[0]} is no answer of a core")
     say(f"{len(publications.published)} publications are answers of cores")
+    used = 0
     if publications.last() is not None:
-        say(f"{use(folder, chosen, publications, last)} signatures, extended to second {publications.last()}, are accepted, and found in the cores' mirrors")
-    return steps, unsaid, signatures
+        used = use(folder, chosen, publications, last)
+        say(f"{used} signatures, extended to second {publications.last()}, are accepted, and found in the cores' mirrors")
+    return Counts(steps, unsaid, signatures, facts, len(publications.published), used)
+
+
+def facts_there(folder):
+    """Raises Differs where a node's file has other facts than the node acknowledged; one more may be there, which it had no time to
+    tell. Returns how many were acknowledged."""
+    state, acknowledged = last_state(os.path.join(folder, "record"))[0], 0
+    for name in Plan.read(os.path.join(folder, "plan")).names():
+        known = state.node(name).facts or 0
+        with Stopped(folder, name) as node:
+            if node.facts not in (known, known + 1):
+                raise Differs(f"{name} acknowledged {known} facts, and its file has {node.facts}")
+        acknowledged += known
+    return acknowledged
 
 
 def use(folder, signatures, publications, last):
@@ -59,7 +91,7 @@ def use(folder, signatures, publications, last):
         if audited:
             backup.make(folder, room, last, say=lambda text: None)
         calendar = Calendar(plan.start)
-        with Core(folder, 0) as core:
+        with Stopped(folder, "c0") as core:
             for signature in signatures:
                 if parts_of(signature).second > publications.last():
                     continue

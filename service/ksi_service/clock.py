@@ -76,11 +76,11 @@ class Clock:
         raise NotSigned()
 
     async def place(self, second):
-        """The first second from this one on whose leader is up, and an aggregator below it."""
+        """The first second from this one on whose leader is up, and an aggregator below it with all that stand between."""
         for _ in range(200):
             for later in range(self.plan.cores + 1):
                 leader = self.plan.leader(second + later)
-                up = [it for it in self.plan.below[leader] if self.network.aggregator(it).alive]
+                up = [it for it in self.plan.below[leader] if all(self.network.aggregator(above).alive for above in self.plan.ways[it])]
                 if up and self.network.core(leader).alive:
                     self.turn += 1
                     return second + later, up[self.turn % len(up)]
@@ -115,12 +115,16 @@ class Clock:
                     request.answer(None)
 
     async def close(self, second, leader):
-        for number in self.plan.below[leader]:
-            try:
-                await self.network.aggregator(number).ask(f"close {second}")
-                await self.network.quiet(second)
-            except Down:
-                pass
+        """Closes the rounds below the leader, level by level, so that what one submits comes before the one above it closes."""
+        for level in self.plan.levels[leader]:
+            await asyncio.gather(*(self.close_one(number, second) for number in level))
+            await self.network.quiet(second)
+
+    async def close_one(self, number, second):
+        try:
+            await self.network.aggregator(number).ask(f"close {second}")
+        except Down:
+            pass
 
     async def decide(self, second, first):
         """Ballots, until the second is decided: by the leader at first, then by the others in turn."""
@@ -215,6 +219,15 @@ class Clock:
             await self.on_published(second, words[2])
         return words[2]
 
+    async def end(self, tasks):
+        """The end of the plan: what is under way is waited for, and the last second is published."""
+        await asyncio.gather(*tasks)
+        last = self.plan.start + SECONDS - 1
+        for core in range(self.plan.cores):
+            if await self.publish(core, last) is not None:
+                break
+        raise PlanEnded(f"the plan's last second was {last}, and is published: begin a new folder, and keep this one")
+
     async def run(self, first, publish_every):
         """Drives each second in its time, and lets a core publish so often."""
         tasks, second = set(), first
@@ -222,7 +235,7 @@ class Clock:
             while True:
                 await asyncio.sleep(max(0.0, second + AFTER - self.now()))
                 if second >= self.plan.start + SECONDS:
-                    raise PlanEnded("the plan's 2^24 seconds are over: begin a new folder")
+                    await self.end(tasks)
                 while len(tasks) >= MOST_AT_ONCE:
                     done, tasks = await asyncio.wait(tasks, return_when=asyncio.FIRST_COMPLETED)
                     for task in done:

@@ -14,16 +14,22 @@ import urllib.request
 
 from . import check as checking
 from . import backup as backing
-from . import files, service, streams
+from . import replay as replaying
+from . import extension, files, service, streams
+from .calendar import Calendar
 from .clock import PlanEnded
 from .elements import Malformed, parts_of
 from .node import Down, GivenUp, LostFacts
+from .plan import Odd, Plan
 from .programs import Missing
-from .proved import Refused, ksi
-from .record import last_state
+from .proved import Refused, Stopped, ksi
+from .publications import Publications
+from .record import Broken, last_state
 
 DEFAULT = os.environ.get("KSI_SERVICE", "ksi-service-data")
 OVER = os.environ.get("KSI_OVER", "pipes")
+FOR_A_PERSON = 3
+"""The status where starting again does not help."""
 
 
 class Failed(Exception):
@@ -50,7 +56,9 @@ def ask(folder, path, content=None, kind="text/plain"):
     except urllib.error.HTTPError as error:
         raise Failed(error.read().decode(errors="replace").strip()) from None
     except OSError as error:
-        raise Failed(f"the door at {address} does not answer: {error}") from None
+        if files.is_held(folder):
+            raise Failed(f"the door at {address} does not answer: {getattr(error, 'reason', error)}") from None
+        raise Failed(f"no service runs over {folder}, and the last one was not stopped: ksi-service start {folder}") from None
 
 
 def digest_of(path):
@@ -105,9 +113,11 @@ def node(words):
 
 def stop(words):
     _, number = door(words.folder)
+    if not files.is_held(words.folder):
+        raise Failed(f"no service runs over {words.folder}, and the last one was not stopped")
     os.kill(number, signal.SIGTERM)
     for _ in range(300):
-        if not os.path.exists(os.path.join(words.folder, "door")):
+        if not files.is_held(words.folder):
             print("stopped")
             return
         time.sleep(0.1)
@@ -116,7 +126,9 @@ def stop(words):
 
 def status(words):
     for name, value in json.loads(ask(words.folder, "/status")).items():
-        print(f"{name} {value}")
+        if isinstance(value, dict):
+            value = " ".join(f"{key}={it}" for key, it in value.items() if not isinstance(it, dict))
+        print(f"{name:16} {value}")
 
 
 def sign(words):
@@ -137,10 +149,26 @@ def time_of(signature):
 
 
 def extend(words):
+    """By the service, or if it does not run, by a core's file: a folder whose plan is over still extends."""
     with open(words.signature, "rb") as file:
-        content = ask(words.folder, "/extend", file.read(), "application/octet-stream")
+        signature = file.read()
+    if os.path.exists(os.path.join(words.folder, "plan")) and not files.is_held(words.folder):
+        content = extended_by_file(words.folder, signature)
+    else:
+        content = ask(words.folder, "/extend", signature, "application/octet-stream")
     files.write(words.out or words.signature, content)
     print(f"extended {words.out or words.signature}")
+
+
+def extended_by_file(folder, signature):
+    with files.lock(folder), Stopped(folder, "c0") as core:
+        published = Publications(folder)
+        if published.last() is None:
+            raise Failed(f"nothing was published yet over {folder}")
+        try:
+            return extension.extend_by(core, Calendar(Plan.read(os.path.join(folder, "plan")).start), signature, published)[1]
+        except extension.NotExtended as reason:
+            raise Failed(str(reason)) from None
 
 
 def publications(words):
@@ -163,6 +191,8 @@ def check(words):
     """Holds the record of a service that is stopped against the proved world."""
     held = files.lock(words.folder)
     checking.check(words.folder, words.samples)
+    if words.replay:
+        replaying.replay(words.folder, words.replay, words.samples)
     held.close()
 
 
@@ -192,8 +222,8 @@ def parser_of():
     for name, does, told in (("start", start, "start it in the background"), ("run", run, "run it until it is interrupted")):
         one = commands.add_parser(name, help=told)
         one.add_argument("folder", nargs="?", default=DEFAULT)
-        one.add_argument("--cores", type=int, default=3, choices=range(1, 10), metavar="1..9", help="how many cores a new folder has: 3")
-        one.add_argument("--aggregators", type=positive, default=2, metavar="NUMBER", help="how many aggregators a new folder has: 2")
+        one.add_argument("--cores", type=int, choices=range(1, 10), metavar="1..9", help="how many cores a new folder has: 3")
+        one.add_argument("--aggregators", metavar="NUMBER|PARENTS", help="how many aggregators a new folder has, 2; or to whom each submits, as c0,c1,a0,a0")
         one.add_argument("--door", default="127.0.0.1:8080", metavar="HOST:PORT", help="where to listen; port 0 takes a free one")
         one.add_argument("--over", default=OVER, metavar="pipes|redis://HOST", help="how lines go: pipes on this machine, or Redis Streams to the hosts of nodes")
         one.add_argument("--publish-every", type=positive, default=3600, metavar="SECONDS", help="how often a core publishes: 3600")
@@ -227,7 +257,8 @@ def parser_of():
     one.set_defaults(does=verify)
     one = commands.add_parser("check", help="hold the record of a stopped service against the proved world")
     one.add_argument("folder", nargs="?", default=DEFAULT)
-    one.add_argument("--samples", type=int, default=50)
+    one.add_argument("--samples", type=int, default=50, metavar="NUMBER", help="how many signatures are extended, verified and audited: 50")
+    one.add_argument("--replay", metavar="OUT", help="replay the run by ksi too, whose schedule and journal are saved in the folder OUT")
     one.set_defaults(does=check)
     one = commands.add_parser("backup", help="save what the cores of a stopped service hold")
     one.add_argument("folder", nargs="?", default=DEFAULT)
@@ -242,9 +273,10 @@ def main(arguments):
     words = parser_of().parse_args(arguments)
     try:
         words.does(words)
-    except (Failed, Missing, streams.Missing, Down, GivenUp, LostFacts, PlanEnded, files.Held, checking.Differs, Refused, OSError) as error:
-        print(f"ksi-service: {error}", file=sys.stderr)
-        return 1
+    except (Failed, Missing, Broken, streams.Missing, Down, GivenUp, LostFacts, Odd, PlanEnded, files.Held, checking.Differs, Refused, OSError) as error:
+        named = isinstance(error, OSError) and error.filename is not None
+        print("ksi-service: " + (f"{error.filename}: {error.strerror}" if named else str(error)), file=sys.stderr)
+        return FOR_A_PERSON if isinstance(error, (Broken, LostFacts, PlanEnded)) else 1
     except KeyboardInterrupt:
         return 130
     except Exception as error:

@@ -9,6 +9,7 @@
 
 A refusal has a reason in plain text. Nothing is logged of a request."""
 import asyncio
+import contextlib
 import hashlib
 import json
 import re
@@ -25,6 +26,10 @@ MOST_DOCUMENT = 64 << 20
 """The largest document, in bytes."""
 MOST_SIGNATURE = 65_539
 MOST_CONNECTIONS = 12_000
+MOST_BODIES = 256
+"""How many documents and signatures are on their way in at once."""
+MOST_ACCEPTED = 1024
+"""How many connections the system may hand over before one is looked at."""
 LOOK_SECONDS = 0.25
 """How often the door looks for clients that take too long."""
 HASH = re.compile(rb"\s*([0-9a-fA-F]{64})\s*")
@@ -41,12 +46,13 @@ class Door:
 
     def __init__(self, house, most_connections=MOST_CONNECTIONS):
         self.house, self.most_connections, self.open, self.refused = house, most_connections, set(), 0
+        self.idle, self.bodies = {}, 0
         self.server = self.looking = None
         self.paths = {"/sign": ("POST", self.sign), "/extend": ("POST", self.extend), "/publications": ("GET", self.publications),
                       "/status": ("GET", self.status), "/metrics": ("GET", self.metrics), "/": ("GET", self.page)}
 
     async def begin(self, host, port):
-        self.server = await asyncio.start_server(self.connected, host, port, limit=http.MOST_HEAD, backlog=1024)
+        self.server = await asyncio.start_server(self.connected, host, port, limit=http.MOST_HEAD, backlog=MOST_ACCEPTED)
         self.looking = asyncio.create_task(self.look())
 
     async def look(self):
@@ -68,17 +74,28 @@ class Door:
             connection.writer.transport.abort()
         await asyncio.sleep(0)
 
+    def make_room(self):
+        """Ends the connection that has waited longest for a request, if as many are open as may. Returns whether there is room."""
+        if len(self.open) < self.most_connections:
+            return True
+        longest = next(iter(self.idle), None)
+        if longest is None:
+            return False
+        del self.idle[longest]
+        self.open.discard(longest)
+        longest.writer.transport.abort()
+        return True
+
     async def connected(self, reader, writer):
-        """One connection, if not too many are open."""
-        connection = http.Connection(reader, writer)
-        self.open.add(connection)
+        """One connection. If all that may be open are at work, it is refused."""
+        connection = http.Connection(reader, writer, self.idle)
         try:
-            if len(self.open) > self.most_connections:
+            if self.make_room():
+                self.open.add(connection)
+                await http.serve(connection, self.reply)
+            else:
                 answer = Answer(HTTPStatus.SERVICE_UNAVAILABLE, "too many connections are open", Retry_After="2")
                 writer.write(answer.head(True) + answer.content)
-                await http.linger(connection)
-            else:
-                await http.serve(connection, self.reply)
         except (ConnectionError, TimeoutError, asyncio.CancelledError):
             pass
         finally:
@@ -105,7 +122,7 @@ class Door:
         if request.headers.get("sec-fetch-site") == "cross-site":
             raise Answer(HTTPStatus.FORBIDDEN, "another site's page asks")
         method, work = self.paths.get(request.path) or self.signature_path(request.path)
-        if request.method != method:
+        if request.method != method and (request.method, method) != ("HEAD", "GET"):
             raise Answer(HTTPStatus.METHOD_NOT_ALLOWED, f"only {method}", Allow=method)
         if method == "GET" and request.left:
             raise Answer(HTTPStatus.BAD_REQUEST, "a GET has no body")
@@ -133,16 +150,30 @@ class Door:
             raise Answer(HTTPStatus.UNSUPPORTED_MEDIA_TYPE, "a hash is text/plain, a document application/octet-stream")
         if KINDS[kind]:
             digest = hashlib.sha256()
-            async for piece in request.pieces(MOST_DOCUMENT):
-                digest.update(piece)
+            with self.body_coming():
+                async for piece in request.pieces(MOST_DOCUMENT):
+                    digest.update(piece)
             return digest.hexdigest()
         found = HASH.fullmatch(await request.body(256)) if request.left <= 256 else None
         if not found:
             raise Answer(HTTPStatus.BAD_REQUEST, "a hash has 64 hex digits; a document is sent as application/octet-stream")
         return found[1].decode().lower()
 
+    @contextlib.contextmanager
+    def body_coming(self):
+        """While a body is on its way, of which not too many are."""
+        if self.bodies >= MOST_BODIES:
+            raise Answer(HTTPStatus.SERVICE_UNAVAILABLE, "too many documents are on their way", Retry_After="2")
+        self.bodies += 1
+        try:
+            yield
+        finally:
+            self.bodies -= 1
+
     async def extend(self, request):
-        return await self.house.extend(await request.body(MOST_SIGNATURE))
+        with self.body_coming():
+            content = await request.body(MOST_SIGNATURE)
+        return await self.house.extend(content)
 
     async def publications(self, _):
         content = self.house.publications()
@@ -162,4 +193,4 @@ class Door:
         content = self.house.page()
         if content is None:
             raise Answer(HTTPStatus.NOT_FOUND, "the page is not built: make page")
-        return Answer(HTTPStatus.OK, content, "text/html; charset=utf-8")
+        return Answer(HTTPStatus.OK, content, "text/html; charset=utf-8", Content_Security_Policy="frame-ancestors 'none'", Referrer_Policy="no-referrer")

@@ -12,6 +12,15 @@ def lock(folder):
     return lock_of(os.path.join(folder, "lock"), f"another service runs over {folder}")
 
 
+def is_held(folder):
+    """Whether a service runs over a folder."""
+    try:
+        lock(folder).close()
+        return False
+    except Held:
+        return True
+
+
 def lock_of(path, reason):
     """Locks a file, or raises Held with the reason."""
     file = open(path, "a", encoding="ascii")

@@ -15,7 +15,9 @@ SECONDS_FOR_BODY = 30
 SECONDS_TO_LINGER = 2
 MOST_TO_LINGER = 1 << 20
 BYTES_A_SECOND = 128 << 10
-"""A body may take SECONDS_FOR_BODY, and a second more for so many bytes."""
+"""A body, of a request or an answer, may take SECONDS_FOR_BODY, and a second more for so many bytes that came."""
+PIECE = 16 << 10
+"""How many bytes of an answer wait for a client at most."""
 FIRST = re.compile(r"([A-Z]{1,16}) (/[!-~]*) HTTP/1\.([01])")
 HEADER = re.compile(r"([!#$%&'*+.^_`|~0-9A-Za-z-]+):[ \t]*([ -~\t]*)")
 ONCE = {"content-length", "content-type", "host", "transfer-encoding", "expect", "connection"}
@@ -31,7 +33,7 @@ class Answer(Exception):
         self.content = content if isinstance(content, bytes) else (content + "\n").encode()
         self.headers = {name.replace("_", "-"): value for name, value in headers.items()}
 
-    def head(self, ends, whole=True):
+    def head(self, ends):
         rows = [f"HTTP/1.1 {self.status.value} {self.status.phrase}", f"Content-Type: {self.kind}", f"Content-Length: {len(self.content)}",
                 "X-Content-Type-Options: nosniff", "Cache-Control: no-store", *(f"{name}: {value}" for name, value in self.headers.items())]
         rows += ["Connection: close"] if ends else []
@@ -41,11 +43,19 @@ class Answer(Exception):
 class Connection:
     """A connection to a client, and until when it has to have sent what is waited for."""
 
-    def __init__(self, reader, writer):
+    def __init__(self, reader, writer, idle=None):
         self.reader, self.writer, self.until = reader, writer, None
+        self.idle = {} if idle is None else idle
+        """Where it stands while it waits for the head of a request, behind those that have waited longer."""
+        writer.transport.set_write_buffer_limits(high=PIECE)
 
     def limit(self, seconds):
         self.until = time.monotonic() + seconds
+
+    def prolong(self, seconds):
+        """More time for a client that is in time so far."""
+        if self.until is not None:
+            self.until += seconds
 
     def free(self):
         self.until = None
@@ -70,7 +80,7 @@ class Request:
         if minor == "1" and "host" not in self.headers:
             raise Answer(HTTPStatus.BAD_REQUEST, "there is no Host")
         self.left = self.length()
-        self.ends = minor == "0" or self.headers.get("connection", "").lower() == "close"
+        self.ends = minor == "0" or "close" in re.split(r"[ \t]*,[ \t]*", self.headers.get("connection", "").lower())
 
     def length(self):
         """How many bytes the body has."""
@@ -91,12 +101,13 @@ class Request:
             raise Answer(HTTPStatus.REQUEST_ENTITY_TOO_LARGE, f"at most {most} bytes")
         if self.left and self.headers.get("expect", "").lower() == "100-continue":
             self.connection.writer.write(b"HTTP/1.1 100 Continue\r\n\r\n")
-        self.connection.limit(SECONDS_FOR_BODY + self.left / BYTES_A_SECOND)
+        self.connection.limit(SECONDS_FOR_BODY)
         while self.left:
             piece = await self.connection.reader.read(min(self.left, 1 << 16))
             if not piece:
                 raise Answer(HTTPStatus.BAD_REQUEST, "the body ended early")
             self.left -= len(piece)
+            self.connection.prolong(len(piece) / BYTES_A_SECOND)
             yield piece
         self.connection.free()
 
@@ -123,6 +134,7 @@ def headers_of(rows):
 async def read_head(connection):
     """The text of a request's head, or None where the client sends no more."""
     connection.limit(SECONDS_FOR_HEAD)
+    connection.idle[connection] = None
     try:
         head = await connection.reader.readuntil(b"\r\n\r\n")
     except asyncio.IncompleteReadError as rest:
@@ -131,6 +143,8 @@ async def read_head(connection):
         raise Answer(HTTPStatus.BAD_REQUEST, "the head ended early, or its lines do not end in CR LF") from None
     except asyncio.LimitOverrunError:
         raise Answer(HTTPStatus.REQUEST_HEADER_FIELDS_TOO_LARGE, f"a head has at most {MOST_HEAD} bytes") from None
+    finally:
+        connection.idle.pop(connection, None)
     connection.free()
     return head[:-4].decode("latin-1")
 
@@ -151,8 +165,7 @@ async def serve(connection, reply):
         except TimeoutError:
             answer = Answer(HTTPStatus.REQUEST_TIMEOUT, "it took too long")
         ends = request is None or request.ends or request.left > 0
-        connection.writer.write(answer.head(ends) + answer.content)
-        await drained(connection.writer)
+        await send(connection.writer, answer.head(ends), b"" if request and request.method == "HEAD" else answer.content)
     await linger(connection)
 
 
@@ -168,12 +181,16 @@ async def linger(connection):
         pass
 
 
-async def drained(writer):
-    """Waits until a client has taken what was written; one that takes too long loses the connection."""
-    if not writer.transport.get_write_buffer_size():
+async def send(writer, head, content):
+    """Writes an answer, a piece at a time; a client that takes too long to read it loses the connection."""
+    writer.write(head + content[:PIECE])
+    if len(content) <= PIECE and not writer.transport.get_write_buffer_size():
         return
-    handle = asyncio.get_running_loop().call_later(SECONDS_FOR_BODY, writer.transport.abort)
+    handle = asyncio.get_running_loop().call_later(SECONDS_FOR_BODY + len(content) / BYTES_A_SECOND, writer.transport.abort)
     try:
+        for at in range(PIECE, len(content), PIECE):
+            await writer.drain()
+            writer.write(content[at:at + PIECE])
         await writer.drain()
     finally:
         handle.cancel()

@@ -1,5 +1,6 @@
-"""Counters in Prometheus' text form, and how long requests take."""
+"""Counters in Prometheus' text form, how long requests take, and how much memory processes have."""
 import bisect
+import os
 
 TELLS = {
     "up_seconds": ("gauge", "Seconds since the service was started."),
@@ -43,6 +44,18 @@ class Spans:
         return {"within": told, "sum": round(self.sum, 3), "count": below}
 
 
+def memory(processes):
+    """The resident memory of processes in bytes, by their names."""
+    told = {}
+    for name, number in processes.items():
+        try:
+            with open(f"/proc/{number}/statm", encoding="ascii") as file:
+                told[name] = int(file.read().split()[1]) * os.sysconf("SC_PAGE_SIZE")
+        except OSError:
+            pass
+    return told
+
+
 def prometheus(counters):
     rows = []
     for name, value in counters.items():
@@ -50,6 +63,10 @@ def prometheus(counters):
             kind, tells = TELLS[name]
             full = f"ksi_{name}_total" if kind == "counter" else f"ksi_{name}"
             rows += [f"# HELP {full} {tells}", f"# TYPE {full} {kind}", f"{full} {value}"]
+    held = counters.get("memory_bytes")
+    if held:
+        rows += ["# HELP ksi_memory_bytes Resident memory of the host and of each node.", "# TYPE ksi_memory_bytes gauge"]
+        rows += [f'ksi_memory_bytes{{process="{name}"}} {size}' for name, size in held.items()]
     spans = counters.get("sign_seconds")
     if spans:
         rows += ["# HELP ksi_sign_seconds From a request to its signature.", "# TYPE ksi_sign_seconds histogram"]

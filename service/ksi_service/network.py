@@ -40,13 +40,13 @@ def decree_of(text):
 
 
 class Network:
-    def __init__(self, folder, plan, trouble=None):
+    def __init__(self, folder, plan, trouble=None, say=lambda text: None):
         self.plan, self.trouble, self.lost = plan, trouble, 0
         self.record = Record(os.path.join(folder, "record"))
         programs = {"c": program("ksi_serve_core"), "a": program("ksi_serve_aggregator")}
         file = os.path.join(folder, "plan")
         self.nodes = {
-            name: Node(name, [programs[name[0]], file, name[1:], folder, f"{name}.facts"], self.record, self.route)
+            name: Node(name, [programs[name[0]], file, name[1:], folder, f"{name}.facts"], self.record, self.route, say)
             for name in plan.names()}
         self.flights, self.calm = collections.Counter(), {}
         self.decided, self.seconds_decided = collections.OrderedDict(), 0

@@ -52,8 +52,8 @@ class Line:
 
 
 class Node:
-    def __init__(self, name, words, record, on_step):
-        self.name, self.words, self.record, self.on_step = name, words, record, on_step
+    def __init__(self, name, words, record, on_step, say=lambda text: None):
+        self.name, self.words, self.record, self.on_step, self.say = name, words, record, on_step, say
         self.waiting, self.flying, self.storing = deque(), deque(), 0
         self.alive, self.stopping, self.starts, self.unsaid, self.refused = False, False, 0, 0, 0
         self.process, self.vain_starts, self.reason = None, 0, ""
@@ -69,6 +69,9 @@ class Node:
             self.vain_starts += self.process.returncode >= 0
             if self.vain_starts == MOST_VAIN_STARTS:
                 raise GivenUp(f"{self.name} ends whenever it is started {self.reason}".rstrip())
+            status = self.process.returncode
+            how = f"was killed by signal {-status}" if status < 0 else f"ended with status {status} {self.reason}".rstrip()
+            self.say(f"{self.name} {how}, and is started again")
             await asyncio.sleep(FIRST_PAUSE * 2 ** self.vain_starts)
 
     def drop_cache(self):
@@ -85,7 +88,7 @@ class Node:
         pipe = asyncio.subprocess.PIPE
         process = await asyncio.create_subprocess_exec(
             *self.words, stdin=pipe, stdout=pipe, stderr=asyncio.subprocess.DEVNULL, limit=1 << 20, start_new_session=True)
-        self.process, self.ready_lines = process, []
+        self.process, self.ready_lines, self.reason = process, [], ""
         begun = False
         try:
             async for block in self.blocks(process):

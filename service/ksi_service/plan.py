@@ -1,10 +1,35 @@
 """The plan of a service: how many cores, who submits to whom, and the first second. Its file is a schedule without events."""
+import re
 from dataclasses import dataclass
 from functools import cached_property
-from typing import Tuple
+from typing import List, Tuple
 
 SECONDS = 1 << 24
 """How many seconds a plan has from its start on: 194 days."""
+MOST_LEVELS = 7
+"""How many aggregators may stand above one another: a response has at most seven chains."""
+MOST_AGGREGATORS = 4096
+
+
+class Odd(Exception):
+    """What is wrong with the words of a plan."""
+
+
+def parents_of(text: str, cores: int) -> Tuple[str, ...]:
+    """To whom each aggregator submits, by words: so many aggregators below the cores in turn, or all parents, as `c0,c1,a0,a0`."""
+    if re.fullmatch(r"[1-9][0-9]{0,4}", text):
+        parents = tuple(f"c{number % cores}" for number in range(int(text)))
+    else:
+        parents = tuple(text.split(","))
+    if len(parents) > MOST_AGGREGATORS:
+        raise Odd(f"a plan has at most {MOST_AGGREGATORS} aggregators")
+    for number, parent in enumerate(parents):
+        found = re.fullmatch(r"([ca])(0|[1-9][0-9]{0,3})", parent)
+        if not found or int(found[2]) >= (cores if found[1] == "c" else number):
+            raise Odd(f"aggregator {number} submits to a core below {cores} or to an aggregator below {number}, as c0 or a0, and not to '{parent}'")
+    if max(map(len, Plan(cores, 0, parents).ways)) > MOST_LEVELS:
+        raise Odd(f"at most {MOST_LEVELS} aggregators stand above one another")
+    return parents
 
 
 @dataclass(frozen=True)
@@ -21,13 +46,23 @@ class Plan:
 
     @cached_property
     def below(self):
-        """The aggregators whose items come to each core, the deepest first, so that each closes before the one above it."""
-        return {core: [it for it in reversed(range(len(self.parents))) if self.core_above(it) == core] for core in range(self.cores)}
+        """The aggregators whose items come to each core."""
+        return {core: [it for it in range(len(self.parents)) if self.core_above(it) == core] for core in range(self.cores)}
 
-    @classmethod
-    def new(cls, cores, aggregators, start):
-        """Aggregators submit to the cores in turn."""
-        return cls(cores, start, tuple(f"c{number % cores}" for number in range(aggregators)))
+    @cached_property
+    def levels(self):
+        """The aggregators below each core by levels, the deepest first: each closes before the one above it."""
+        deepest = max(map(len, self.ways), default=0)
+        by_level = {core: [[it for it in below if len(self.ways[it]) == level] for level in range(deepest, 0, -1)] for core, below in self.below.items()}
+        return {core: list(filter(None, levels)) for core, levels in by_level.items()}
+
+    @cached_property
+    def ways(self) -> List[List[int]]:
+        """Of each aggregator those on the way up to its core, itself the first."""
+        ways: List[List[int]] = []
+        for number, parent in enumerate(self.parents):
+            ways.append([number, *([] if parent[0] == "c" else ways[int(parent[1:])])])
+        return ways
 
     @classmethod
     def read(cls, path):
@@ -43,6 +78,10 @@ class Plan:
                     parents.append(words[3])
         return cls(cores, start, tuple(parents))
 
+    def told(self) -> str:
+        """The plan in words, as the command takes it."""
+        return f"--cores {self.cores} --aggregators {','.join(self.parents)}"
+
     def text(self):
         rows = ["ksi-schedule 1", f"cores {self.cores}", f"start {self.start}"]
         rows += [f"aggregator {number} parent {parent}" for number, parent in enumerate(self.parents)]
@@ -52,9 +91,8 @@ class Plan:
         """The nodes: `c0`, `c1` .. and `a0`, `a1` .."""
         return [f"c{number}" for number in range(self.cores)] + [f"a{number}" for number in range(len(self.parents))]
 
-    def core_above(self, aggregator):
-        parent = self.parents[aggregator]
-        return int(parent[1:]) if parent[0] == "c" else self.core_above(int(parent[1:]))
+    def core_above(self, aggregator) -> int:
+        return int(self.parents[self.ways[aggregator][-1]][1:])
 
     def leader(self, second):
         """Whose candidate is to win the second: the cores that have aggregators take turns, since a decree is one core's tree."""

@@ -1,4 +1,5 @@
 """Where the proved programs and the page are: as the gate or `make` left them in this checkout, or as they were installed."""
+import functools
 import os
 import shutil
 
@@ -22,13 +23,30 @@ def program(name):
     found = shutil.which(name)
     if found:
         return found
-    raise Missing(f"{name} is not built: run `rt run` in crates/{name}, or `rt ci` at the top")
+    raise Missing(f"{name} is not built: `make programs` at the top builds it, and so does `rt ci`")
+
+
+def missing(names):
+    """What to say of the programs that are not built, or None if all are."""
+    absent = []
+    for name in names:
+        try:
+            program(name)
+        except Missing:
+            absent.append(name)
+    return f"not built yet: {', '.join(absent)}. `make programs` at the top builds them, and so does `rt ci`" if absent else None
 
 
 def page():
     """The page's content, or None where it is not built."""
     for path in (os.path.join(TOP, "out", "page.html"), os.path.join(BESIDE, "page.html")):
         if os.path.isfile(path):
-            with open(path, "rb") as file:
-                return file.read()
+            return content_since(path, os.stat(path).st_mtime_ns)
     return None
+
+
+@functools.lru_cache(maxsize=1)
+def content_since(path, _):
+    """What a file has since a time: all that ask have the same bytes in memory."""
+    with open(path, "rb") as file:
+        return file.read()

@@ -1,4 +1,4 @@
-"""The proved `ksi` as a command, and a core's process that is asked questions while no service runs."""
+"""The proved `ksi` as a command, and a node's process that is asked questions while no service runs."""
 import os
 import subprocess
 
@@ -21,18 +21,19 @@ def ksi(*words, cwd=None):
     return told.stdout.strip()
 
 
-class Core:
-    """A core's process over the facts of a service that is stopped. Questions change nothing."""
+class Stopped:
+    """A node's process over its facts of a service that is stopped. Questions change nothing."""
 
-    def __init__(self, folder, number):
-        self.name = f"c{number}"
-        if not os.path.exists(os.path.join(folder, f"{self.name}.facts")):
-            raise Refused(1, f"{folder} has no facts of core {number}")
-        words = [program("ksi_serve_core"), os.path.join(folder, "plan"), str(number), folder, f"{self.name}.facts"]
+    def __init__(self, folder, name):
+        self.name, self.facts = name, 0
+        if not os.path.exists(os.path.join(folder, f"{name}.facts")):
+            raise Refused(1, f"{folder} has no facts of {name}")
+        node = program("ksi_serve_core" if name[0] == "c" else "ksi_serve_aggregator")
+        words = [node, os.path.join(folder, "plan"), name[1:], folder, f"{name}.facts"]
         self.process = subprocess.Popen(words, stdin=subprocess.PIPE, stdout=subprocess.PIPE, stderr=subprocess.DEVNULL, text=True)
 
     def __enter__(self):
-        self.block()
+        self.facts = int(self.block()[0].split(" ")[1])
         return self
 
     def __exit__(self, *_):

@@ -8,20 +8,20 @@ from .elements import publications_file, published_in
 class Publications:
     def __init__(self, folder):
         self.path = os.path.join(folder, "publications")
-        content = files.content_of(self.path)
-        self.published = published_in(content) if content else []
+        self.content = files.content_of(self.path)
+        """The file's bytes, or None where nothing was published."""
+        self.published = published_in(self.content) if self.content else []
 
     def last(self):
         """The last published second, or None."""
         return self.published[-1][0] if self.published else None
 
     def add(self, second, root):
-        """Publishes the root of the calendar to a second, in hex."""
+        """Publishes the root of the calendar to a second, in hex, unless a later one was. Returns whether it did."""
         if self.last() is not None and second <= self.last():
-            return
+            return False
         published = [*self.published, (second, root)]
-        files.write(self.path, publications_file(published))
-        self.published = published
-
-    def content(self):
-        return files.content_of(self.path)
+        content = publications_file(published)
+        files.write(self.path, content)
+        self.published, self.content = published, content
+        return True

@@ -25,6 +25,7 @@ import json
 import os
 import re
 import shutil
+import zlib
 from collections import deque
 from dataclasses import dataclass, field
 from typing import Deque, Dict, Iterator, List, Optional, Tuple
@@ -126,6 +127,8 @@ class State:
 
     def take_did(self, name, number, identity, line, sender, block):
         self.seen[name] = number
+        node = self.node(name)
+        node.facts = (node.facts or 0) + (word(line) in MAY_STORE if block is None else is_stored(block))
         message = self.came(sender) if sender else None
         sends = sum(row.startswith("send ") for row in block or [])
         if sends:
@@ -167,20 +170,39 @@ def names(folder) -> List[str]:
         return []
 
 
+class Broken(Exception):
+    """A record's file is not what was written."""
+
+
 def lines_of(path) -> Iterator[bytes]:
-    """The whole lines of a file; one that was cut off is left out."""
+    """The lines of a file, compressed or not."""
     with (gzip.open if path.endswith(".gz") else open)(path, "rb") as lines:
-        for line in lines:
-            if line.endswith(b"\n"):
-                yield line
+        try:
+            yield from lines
+        except (EOFError, zlib.error, gzip.BadGzipFile) as fault:
+            raise Broken(f"{path} is not what was compressed: {fault}") from None
+
+
+def entries_of(path, is_last) -> Iterator[Tuple[list, int]]:
+    """The entries of a file, each with how many bytes its line has. A crash may have left of the last file's end, which was not synced
+    and had no effect, a line that is cut off or has holes: there the entries end."""
+    for line in lines_of(path):
+        try:
+            entry = json.loads(line) if line.endswith(b"\n") else None
+        except ValueError:
+            entry = None
+        if entry is None:
+            if not is_last:
+                raise Broken(f"{path} has a line that is no entry")
+            return
+        yield entry, len(line)
 
 
 def told(folder) -> Iterator[object]:
     """The steps of a record and the signatures that were handed out, in order."""
-    state = State()
-    for path in names(folder):
-        for line in lines_of(path):
-            entry = json.loads(line)
+    state, found = State(), names(folder)
+    for path in found:
+        for entry, _ in entries_of(path, path == found[-1]):
             if entry[0] != "begins":
                 yield from state.take(entry)
 
@@ -189,9 +211,9 @@ def last_state(folder) -> Tuple[State, int]:
     """What a record comes to at its end, by its last file, and how many bytes of that one are whole lines."""
     state, whole = State(), 0
     for path in names(folder)[-1:]:
-        for line in lines_of(path):
-            state.take(json.loads(line))
-            whole += len(line)
+        for entry, size in entries_of(path, True):
+            state.take(entry)
+            whole += size
     return state, whole
 
 

@@ -12,21 +12,25 @@ from http import HTTPStatus
 from . import extension, files
 from .calendar import Calendar
 from .clock import MOST_WAITING, Busy, Clock, NotSigned
-from .door import MOST_CONNECTIONS, Answer, Door, signature_answer
-from .metrics import Spans
+from .door import MOST_ACCEPTED, MOST_CONNECTIONS, Answer, Door, signature_answer
+from .metrics import Spans, memory
 from .network import Network
 from .node import Down
-from .plan import Plan
+from .plan import Odd, Plan, parents_of
 from .programs import page
 from .publications import Publications
 from .remote import RemoteNetwork
 
+CORES, AGGREGATORS = 3, "2"
+"""What a new folder has."""
 MOST_REMEMBERED = 100_000
 """How many signatures the door remembers; a client keeps its own."""
 ANSWER_SECONDS = 60
 """How long a request waits for its signature before it is refused."""
 LAST_SECONDS = 5
 """How long a service that is told to stop still waits for requests that it has taken."""
+OTHER_FILES = MOST_ACCEPTED + 1024
+"""How many files may be open beside the connections that are served."""
 MOST_EXTENDING, MOST_TO_EXTEND = 4, 64
 """How many signatures are extended at once, and how many may wait for it."""
 
@@ -36,12 +40,16 @@ def say(text):
     print(text, file=sys.stderr, flush=True)
 
 
-def plan_of(folder, cores, aggregators):
-    """The plan of a folder, which is made where there is none."""
+def plan_of(folder, cores=None, aggregators=None):
+    """The plan of a folder, which is made where there is none. What is asked for has to be what an old folder has."""
     path = os.path.join(folder, "plan")
     if not os.path.exists(path):
-        files.write(path, Plan.new(cores, aggregators, int(time.time()) + 1).text().encode())
-    return Plan.read(path)
+        parents = parents_of(aggregators or AGGREGATORS, cores or CORES)
+        files.write(path, Plan(cores or CORES, int(time.time()) + 1, parents).text().encode())
+    plan = Plan.read(path)
+    if cores not in (None, plan.cores) or aggregators is not None and parents_of(aggregators, plan.cores) != plan.parents:
+        raise Odd(f"{folder} has a plan already, {plan.told()}: another one wants a new folder")
+    return plan
 
 
 class TooLate(Exception):
@@ -95,7 +103,7 @@ class House:
         return self.remembered.get(imprint)
 
     def publications(self):
-        return self.service.publications.content()
+        return self.service.publications.content
 
     def page(self):
         return page()
@@ -121,7 +129,7 @@ class House:
 class Service:
     def __init__(self, folder, plan, publish_every=3600, most_waiting=MOST_WAITING, cut_every=3600, over="pipes", trouble=None):
         self.folder, self.plan, self.publish_every, self.cut_every = folder, plan, publish_every, cut_every
-        self.network = Network(folder, plan, trouble) if over == "pipes" else RemoteNetwork(folder, plan, over, say)
+        self.network = Network(folder, plan, trouble, say) if over == "pipes" else RemoteNetwork(folder, plan, over, say)
         self.clock = Clock(self.network, most_waiting)
         self.publications, self.calendar = Publications(folder), Calendar(plan.start)
         self.publishing, self.clock.on_published = asyncio.Lock(), self.publish
@@ -138,7 +146,8 @@ class Service:
     async def publish(self, second, root):
         """Puts a root that a core has published into the publications file, one after the other."""
         async with self.publishing:
-            await self.in_thread(self.publications.add, second, root)
+            if await self.in_thread(self.publications.add, second, root):
+                say(f"published second {second}, root {root}")
 
     async def in_thread(self, work, *words):
         return await asyncio.get_running_loop().run_in_executor(None, work, *words)
@@ -178,8 +187,12 @@ class Service:
             "seconds_decided": self.network.seconds_decided, "last_second": record.state.second,
             "steps": record.state.steps, "record_bytes": record.bytes,
             "publications": len(self.publications.published), "last_publication": self.publications.last() or 0,
-            "processes": {name: node.process.pid for name, node in nodes.items() if node.process},
+            "processes": self.processes(), "memory_bytes": memory({"host": os.getpid(), **self.processes()}),
         }
+
+    def processes(self):
+        """The numbers of the nodes' processes that run on this machine."""
+        return {name: node.process.pid for name, node in self.network.nodes.items() if node.alive and node.process}
 
     async def idle(self, seconds):
         """Waits until no request waits, but not for long."""
@@ -202,12 +215,13 @@ class Service:
 
 
 def open_files(most):
-    """Lets the process have so many files open, or as many as it may. Returns how many connections that leaves room for."""
+    """Lets the process have so many connections open, or as many as it may. Returns how many. Beside them there is room for those that
+    are accepted at once, for nodes and for the record: a host that could not open its record would end."""
     soft, hard = resource.getrlimit(resource.RLIMIT_NOFILE)
-    wanted = most + 256 if hard == resource.RLIM_INFINITY else min(most + 256, hard)
+    wanted = most + OTHER_FILES if hard == resource.RLIM_INFINITY else min(most + OTHER_FILES, hard)
     if soft < wanted:
         resource.setrlimit(resource.RLIMIT_NOFILE, (wanted, hard))
-    return min(most, max(soft, wanted) - 256)
+    return min(most, max(wanted - OTHER_FILES, wanted // 8))
 
 
 async def first_of(end, work):
@@ -219,23 +233,23 @@ async def first_of(end, work):
         work.cancel()
 
 
-async def run(folder, cores=3, aggregators=2, address=("127.0.0.1", 8080), trouble_with=None, **options):
+async def run(folder, cores=None, aggregators=None, address=("127.0.0.1", 8080), trouble_with=None, **options):
     """Runs the service until it is told to stop. A test makes trouble with it."""
     # futures and lines come and go by thousands a second, and nothing of them is in a cycle
     gc.set_threshold(50_000, 20, 50)
     os.makedirs(folder, exist_ok=True)
     held = files.lock(folder)
+    files.remove(os.path.join(folder, "door"))
     service = Service(folder, plan_of(folder, cores, aggregators), **options)
     told = asyncio.Event()
     for number in (signal.SIGINT, signal.SIGTERM):
         asyncio.get_running_loop().add_signal_handler(number, told.set)
     house = House(service)
     door = service.door = Door(house, open_files(MOST_CONNECTIONS))
-    end, extra = asyncio.create_task(told.wait()), []
+    end, extra = asyncio.create_task(told.wait()), [asyncio.create_task(trouble_with(service))] if trouble_with else []
     try:
         await first_of(end, asyncio.create_task(service.begin()))
         if not end.done():
-            extra += [asyncio.create_task(trouble_with(service))] if trouble_with else []
             await door.begin(*address)
             where = "%s:%d" % door.address()
             files.write(os.path.join(folder, "door"), f"{where}\n{os.getpid()}\n".encode())

@@ -191,7 +191,7 @@ class Aggregator(Stand):
         name, second, *rest = fact
         if name == "closed":
             self.closed[second] = rest
-            self.numbers.update({it.split(":")[0]: (second, it) for it in rest})
+            self.numbers.update({it.split(":")[0]: (second, it) for it in rest if it[0] != "a"})
         else:
             self.answered[second] = rest[0]
 
@@ -203,6 +203,14 @@ class Aggregator(Stand):
         self.numbers[number] = (second, f"{number}:{imprint}")
         self.open[second].append(f"{number}:{imprint}")
         return f"answer number {number}"
+
+    def on_submission(self, aggregator, second, imprint, level):
+        if second in self.closed:
+            return "answer late"
+        if any(it.startswith(f"a{aggregator}:") for it in self.open[second]):
+            return "answer known"
+        self.open[second].append(f"a{aggregator}:{imprint}")
+        return "answer done"
 
     def on_close(self, second):
         if second in self.closed:
@@ -218,6 +226,7 @@ class Aggregator(Stand):
         if not self.closed.get(second) or second in self.answered:
             return "answer nothing"
         self.keep("answered", second, text)
+        self.rows += [f"send {it.split(':')[0]} response {second} {text}" for it in self.closed[second] if it[0] == "a"]
         return "answer done"
 
     def on_sign(self, number):

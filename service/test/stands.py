@@ -3,7 +3,7 @@ import os
 import stat
 import sys
 
-from ksi_service.programs import Missing, program
+from ksi_service import programs
 
 HERE = os.path.dirname(os.path.abspath(__file__))
 COMMAND = os.path.join(os.path.dirname(HERE), "ksi-service")
@@ -12,12 +12,7 @@ NODES = ("ksi_serve_core", "ksi_serve_aggregator")
 
 def missing(*names):
     """Why a test of these programs is skipped, or None."""
-    for name in names:
-        try:
-            program(name)
-        except Missing as it:
-            return str(it)
-    return None
+    return programs.missing(names)
 
 
 def make(folder):

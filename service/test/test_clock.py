@@ -11,7 +11,7 @@ import stands
 from ksi_service import clock as clocks
 from ksi_service.clock import Busy, Clock
 from ksi_service.network import Network, Trouble
-from ksi_service.plan import Plan
+from ksi_service.plan import Odd, Plan, parents_of
 from ksi_service.record import Signed, told
 from ksi_service.service import plan_of
 
@@ -29,10 +29,10 @@ class ClockTest(unittest.TestCase):
         named.start()
         self.addCleanup(named.stop)
 
-    def play(self, work, trouble=None, cores=3, aggregators=2, start=None, **options):
+    def play(self, work, trouble=None, cores=3, aggregators="2", start=None, **options):
         """Runs a network and its clock, and a play with them."""
         async def go():
-            plan = plan_of(self.folder, cores, aggregators) if start is None else Plan.new(cores, aggregators, start)
+            plan = plan_of(self.folder, cores, aggregators) if start is None else Plan(cores, start, parents_of(aggregators, cores))
             with open(os.path.join(self.folder, "plan"), "w", encoding="ascii") as file:
                 file.write(plan.text())
             network = Network(self.folder, plan, trouble)
@@ -59,6 +59,29 @@ class ClockTest(unittest.TestCase):
         for number, (text, second) in enumerate(signed):
             self.assertEqual(text[:80], imprint(number) + f"{second:016x}")
         self.assertEqual(sorted(it.text for it in self.handed_out()), sorted(text for text, _ in signed))
+
+    def test_aggregators_below_aggregators(self):
+        async def work(network, clock):
+            signed = await asyncio.gather(*[clock.sign(imprint(number), network.plan.start + number % 2) for number in range(60)])
+            return signed, network.plan.levels
+        signed, levels = self.play(work, aggregators="c0,c2,a0,a1,a2,a2")
+        self.assertEqual([text[:64] for text, _ in signed], [imprint(number) for number in range(60)])
+        self.assertEqual(levels, {0: [[4, 5], [2], [0]], 1: [], 2: [[3], [1]]})
+        steps = [it for it in told(os.path.join(self.folder, "record")) if not isinstance(it, Signed)]
+        below = {it.node for it in steps if it.line and it.line.startswith("submission ") and it.block[0] == "answer done"}
+        self.assertEqual(below, {"c0", "c2", "a0", "a1", "a2"})
+        self.assertEqual(sum(it.line is not None and it.line.startswith("submission ") and it.block[0] == "answer late" for it in steps), 0)
+
+    def test_plans(self):
+        self.assertEqual(parents_of("4", 3), ("c0", "c1", "c2", "c0"))
+        self.assertEqual(parents_of("c1,a0,a1", 2), ("c1", "a0", "a1"))
+        for text in ("", "0", "c3", "a0", "c0,a1", "c0,b1", "c0,,c1", "c00", "5000", "c0,a0,a1,a2,a3,a4,a5,a6"):
+            self.assertRaises(Odd, parents_of, text, 3)
+        plan = plan_of(self.folder, 2, "c1,a0")
+        self.assertEqual((plan_of(self.folder), plan_of(self.folder, 2, "c1,a0")), (plan, plan))
+        for cores, aggregators in ((3, None), (None, "2")):
+            with self.assertRaisesRegex(Odd, "--cores 2 --aggregators c1,a0"):
+                plan_of(self.folder, cores, aggregators)
 
     def test_kills_lose_nothing(self):
         dice = random.Random(7)
@@ -128,11 +151,17 @@ class ClockTest(unittest.TestCase):
         refused, busy, waiting = self.play(work, most_waiting=20)
         self.assertEqual((refused, busy, waiting), ([False] * 20 + [True] * 10, 10, 0))
 
-    def test_a_plan_ends(self):
+    def test_a_plan_ends_with_its_last_second_published(self):
+        seen = []
+
         async def work(_, clock):
-            with mock.patch.object(clocks, "SECONDS", 2):
-                await clock.run(clock.plan.start + 1, 3600)
+            with mock.patch.object(clocks, "SECONDS", 3):
+                try:
+                    await clock.run(clock.plan.start, 3600)
+                finally:
+                    seen.append(clock.published - clock.plan.start)
         self.assertRaises(clocks.PlanEnded, self.play, work)
+        self.assertEqual(seen, [2])
 
     def test_what_was_decided_is_forgotten_in_time(self):
         async def work(network, _):

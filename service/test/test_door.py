@@ -1,5 +1,6 @@
 """The door alone, with clients that mean no good."""
 import asyncio
+import contextlib
 import hashlib
 import http.client
 import json
@@ -11,9 +12,10 @@ import time
 import unittest
 from unittest import mock
 
+from ksi_service import door as doors
 from ksi_service import http as own
 from ksi_service.door import Answer, Door, signature_answer
-from ksi_service.metrics import Spans, prometheus
+from ksi_service.metrics import Spans, memory, prometheus
 
 ONES = "1" * 64
 
@@ -21,9 +23,13 @@ ONES = "1" * 64
 class House:
     """A house behind a door that has no nodes: a signature is the hash itself."""
 
+    published = None
+
     async def sign(self, imprint):
         if imprint == "5" * 64:
             raise Answer(503, "too many requests wait", Retry_After="2")
+        if imprint == "6" * 64:
+            await asyncio.sleep(0.5)
         return signature_answer(bytes.fromhex(imprint))
 
     async def extend(self, content):
@@ -33,7 +39,7 @@ class House:
         return b"kept" if imprint == ONES else None
 
     def publications(self):
-        return None
+        return self.published
 
     def page(self):
         return b"<html>"
@@ -178,15 +184,75 @@ class DoorTest(unittest.TestCase):
                 self.assertIn(told.replace(b"HTTP/1.1 100 Continue\r\n\r\n", b"")[9:12], starts, told[:200])
         self.assertEqual(self.ask("GET", "/status")[0], 200)
 
-    def test_many_idle_connections_and_one_too_many(self):
+    def connect(self, content=b""):
+        client = socket.create_connection(self.address, timeout=10)
+        self.addCleanup(client.close)
+        client.sendall(content)
+        return client
+
+    def test_whoever_waits_longest_makes_room(self):
         self.begin(50)
-        idle = [socket.create_connection(self.address, timeout=10) for _ in range(50)]
+        idle = [self.connect(b"GET / HT" if number % 2 else b"") for number in range(50)]
         self.wait_for(50)
-        self.assertTrue(self.raw(b"GET /status HTTP/1.1\r\nHost: x\r\n\r\n").startswith(b"HTTP/1.1 503"))
-        for client in idle:
-            client.close()
-        self.wait_for(0)
+        for at in range(3):
+            idle.append(self.connect())
+            with contextlib.suppress(ConnectionError):
+                self.assertEqual(idle[at].recv(9), b"")
         self.assertEqual(self.ask("GET", "/status")[0], 200)
+        self.wait_for(49)
+        idle = idle[:50]
+        idle[-1].sendall(b"TP/1.1\r\nHost: x\r\n\r\n")
+        self.assertEqual(idle[-1].recv(12), b"HTTP/1.1 200")
+
+    def test_slow_clients_keep_nobody_out(self):
+        self.begin(20)
+        for _ in range(15):
+            for piece in (b"", b"GET / HT", b"POST /sign HTTP/1.1\r\nHost: x\r\nA: b", b"\r\n"):
+                self.connect(piece)
+            self.assertEqual(self.ask("POST", "/sign", ONES.encode()), (200, bytes.fromhex(ONES)))
+        self.assertLessEqual(len(self.door.open), 20)
+
+    def test_where_all_connections_are_at_work_one_more_is_refused(self):
+        self.begin(5)
+        ask = b"POST /sign HTTP/1.1\r\nHost: x\r\nContent-Length: 64\r\n\r\n" + b"6" * 64
+        busy = [self.connect(ask) for _ in range(5)]
+        while len(self.door.open) < 5 or self.door.idle:
+            time.sleep(0.01)
+        self.assertTrue(self.raw().startswith(b"HTTP/1.1 503"))
+        self.assertEqual({client.recv(12) for client in busy}, {b"HTTP/1.1 200"})
+
+    def test_a_body_that_does_not_come_and_too_many_that_are_coming(self):
+        head = b"POST /sign HTTP/1.1\r\nHost: x\r\nContent-Type: application/octet-stream\r\nContent-Length: 67108864\r\n\r\n"
+        with mock.patch.object(doors, "MOST_BODIES", 3):
+            coming = [self.connect(head + b"0" * 999) for _ in range(3)]
+            while self.door.bodies < 3:
+                time.sleep(0.01)
+            self.assertIn(b"too many documents", self.raw(head, more=False))
+            self.assertEqual(self.ask("POST", "/extend", b"x")[0], 503)
+            self.assertEqual(self.ask("POST", "/sign", ONES.encode())[0], 200)
+            for client in coming:
+                client.close()
+            self.wait_for(0)
+        self.assertEqual(self.door.bodies, 0)
+        with mock.patch.object(own, "SECONDS_FOR_BODY", 0.2):
+            self.assertTrue(self.raw(head + b"0" * 999).startswith(b"HTTP/1.1 408"))
+
+    def test_a_client_that_does_not_read_is_ended_and_holds_little(self):
+        with mock.patch.object(House, "published", b"p" * (8 << 20)):
+            self.assertEqual(self.ask("GET", "/publications"), (200, House.published))
+            with mock.patch.object(own, "SECONDS_FOR_BODY", 0.2), mock.patch.object(own, "BYTES_A_SECOND", 1 << 30):
+                client = self.connect(b"GET /publications HTTP/1.1\r\nHost: x\r\n\r\n")
+                self.wait_for(1)
+                time.sleep(0.1)
+                held = [it.writer.transport.get_write_buffer_size() for it in self.door.open]
+                self.wait_for(0)
+        self.assertTrue(all(0 < it <= 2 * own.PIECE for it in held), held)
+        self.assertLess(len(client.recv(1 << 20)), 8 << 20)
+
+    def test_a_head_has_no_body_behind_it(self):
+        ask = b" / HTTP/1.1\r\nHost: x\r\n\r\nGET /signature/" + ONES.encode() + b" HTTP/1.1\r\nHost: x\r\nConnection: x, Close\r\n\r\n"
+        told = self.raw(b"HEAD" + ask)
+        self.assertEqual((told.count(b"HTTP/1.1 200 OK"), b"Content-Length: 6\r\n" in told, b"<html>" in told, told.endswith(b"kept")), (2, True, False, True))
 
     def test_a_failure_inside_is_told_and_logged(self):
         with mock.patch.object(House, "publications", side_effect=OSError(5, "Input/output error")), mock.patch("sys.stderr") as log:
@@ -197,6 +263,12 @@ class DoorTest(unittest.TestCase):
 class MetricsTest(unittest.TestCase):
     def test_what_has_no_meaning_is_left_out(self):
         self.assertEqual(prometheus({"processes": {"c0": 5}}), "")
+
+    def test_memory_of_processes_that_run(self):
+        told = memory({"host": os.getpid(), "gone": 1 << 30})
+        self.assertEqual(list(told), ["host"])
+        self.assertGreater(told["host"], 1 << 20)
+        self.assertIn('ksi_memory_bytes{process="host"} 5', prometheus({"memory_bytes": {"host": 5}}).splitlines())
 
 
 if __name__ == "__main__":

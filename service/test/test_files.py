@@ -174,8 +174,8 @@ class FilesTest(unittest.TestCase):
     def test_publications_rise_and_are_found_again(self):
         publications = Publications(self.room.name)
         self.assertIsNone(publications.last())
-        for second, root in ((5, ONES), (9, TWOS), (7, ONES)):
-            publications.add(second, root)
+        told = [publications.add(second, root) for second, root in ((5, ONES), (9, TWOS), (7, ONES))]
+        self.assertEqual(told, [True, True, False])
         self.assertEqual(Publications(self.room.name).published, [(5, ONES), (9, TWOS)])
 
 

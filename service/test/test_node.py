@@ -19,12 +19,13 @@ class NodeTest(unittest.TestCase):
         self.addCleanup(self.room.cleanup)
         self.path = os.path.join(self.room.name, "record")
         self.facts = os.path.join(self.room.name, "facts")
+        self.log = []
 
     def play(self, work, waits=True):
         """Runs a node, and a play with it, over the folder's record."""
         async def go():
             record, steps = Record(self.path), []
-            node = Node("c0", [sys.executable, FAKE, self.facts], record, lambda step, block: steps.append((step, block)))
+            node = Node("c0", [sys.executable, FAKE, self.facts], record, lambda step, block: steps.append((step, block)), self.log.append)
             tasks = [asyncio.create_task(record.run()), asyncio.create_task(node.run())]
             while not node.alive:
                 for task in tasks:
@@ -76,6 +77,7 @@ class NodeTest(unittest.TestCase):
         said, _ = self.play(work)
         self.assertTrue(all(isinstance(it, Down) for it in said))
         self.assertEqual(self.told(), [(None, None)])
+        self.assertEqual(self.log, ["c0 ended with status 1, and is started again"])
 
     def test_a_host_that_was_killed_finds_what_its_node_did(self):
         self.recorded('["ready","c0",0,0]\n["given","c0","tell 5",null]\n["given","c0","seal 5",null]\n')

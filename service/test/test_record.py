@@ -1,5 +1,6 @@
 """The record alone: what it tells after a crash of the host, how it is cut, and how it becomes a stream of entries."""
 import asyncio
+import gzip
 import json
 import os
 import stat
@@ -7,9 +8,10 @@ import tempfile
 import unittest
 from unittest import mock
 
-from ksi_service import retrace
+from ksi_service import replay, retrace
 from ksi_service.plan import Plan
-from ksi_service.record import Record, Signed, State, names, told
+from ksi_service.record import Broken, Record, Signed, State, Step, names, told
+from ksi_service.replay import schedule_of
 
 ONES = "1" * 64
 SEALED = [["ready", "c0", 0, 0], ["given", "c0", "seal 5", None], ["said", "c0", ["answer done", "stored"]]]
@@ -42,6 +44,26 @@ class RecordTest(unittest.TestCase):
         self.assertEqual((state.steps, state.second, state.node("c0").facts, len(state.node("c0").unanswered)), (1, 5, 1, 0))
         with open(names(self.folder)[0], encoding="utf-8") as file:
             self.assertTrue(file.read().endswith('"stored"]]\n'))
+
+    def test_what_a_crash_left_of_the_end_is_left_out(self):
+        said = json.dumps(["said", "c0", ["answer done"]]).encode()
+        for torn in (b"\0" * 40, b"\0" * 40 + b"\n" + said + b"\n", said[:9] + b"\0" * 20 + said[29:] + b"\n" + said + b"\n", b"\xff\n", b"\n"):
+            self.write(*SEALED)
+            with open(names(self.folder)[0], "ab") as file:
+                file.write(torn)
+            before = len(list(told(self.folder)))
+            state = self.opened().state
+            self.assertEqual((before, state.steps, len(list(told(self.folder)))), (1, 1, 1), torn)
+
+    def test_a_broken_file_before_the_last_is_told(self):
+        self.write(*SEALED, end="\n[\n")
+        self.write(State().begins(), number=2)
+        self.assertRaises(Broken, list, told(self.folder))
+        os.remove(os.path.join(self.folder, "00000001"))
+        for content in (b"\x1f\x8b half of it", gzip.compress(json.dumps(State().begins()).encode() + b"\n")[:-9]):
+            with open(os.path.join(self.folder, "00000001.gz"), "wb") as file:
+                file.write(content)
+            self.assertRaises(Broken, list, told(self.folder))
 
     def test_effects_come_after_the_disk_and_in_order(self):
         seen = []
@@ -119,7 +141,7 @@ class RecordTest(unittest.TestCase):
                    ["given", "c0", f"submission 0 5 {ONES} 0", [1, 0]], ["given", "c0", "seal 4", None], ["said", "c0", ["answer done"]],
                    ["said", "c0", ["refused second"]], ["signed", 0, "abcd"], ["given", "c0", "seal 5", None], ["ready", "c0", 1, 1])
         with open(os.path.join(self.room.name, "plan"), "w", encoding="ascii") as file:
-            file.write(Plan.new(1, 1, 5).text())
+            file.write(Plan(1, 5, ("c0",)).text())
 
     def test_entries_are_those_of_ksi_retrace(self):
         self.run_of_two()
@@ -141,6 +163,28 @@ signature abcd
 unsaid c0 seal 5
 restart c0
 """)
+
+    def test_a_run_as_a_schedule(self):
+        self.run_of_two()
+        asked = []
+
+        def sends_of_unsaid(schedule):
+            asked.append(schedule.text())
+            return 3
+        schedule, handed = schedule_of("plan\n", told(self.folder), sends_of_unsaid)
+        self.assertEqual(schedule.text(), f"plan\nrequest 0 5 {ONES}\nclose 0 5\ndeliver 0\nseal 0 5\nrestart c0\n")
+        self.assertEqual((schedule.sent, handed, asked), (3, {0: "abcd"}, [schedule.text().replace("restart c0\n", "")]))
+
+    def test_which_requests_have_numbers(self):
+        rows = [("request 5 7 " + ONES, ["answer number 5"]), ("close 7", ["answer done"]), ("request 6 7 " + ONES, ["answer late"]),
+                ("request 7 7 " + ONES, None), ("request 8 8 " + ONES, None), ("close 8", None), ("request 9 9 " + ONES, ["answer number 9"])]
+        schedule, _ = schedule_of("", (Step("a2", line, None, block) for line, block in rows), lambda so_far: 0)
+        self.assertEqual(schedule.numbers, {0: 0, 4: 1, 6: 2})
+        self.assertEqual(schedule.events[:2], [f"request 2 7 {ONES}", "close 2 7"])
+
+    def test_a_run_that_is_too_long_for_a_schedule(self):
+        with mock.patch.object(replay, "MOST_EVENTS", 2), self.assertRaises(retrace.Differs):
+            schedule_of("", [Step("c0", "tell 5", None, ["answer done"])] * 3, None)
 
     def test_what_ksi_retrace_says_is_taken(self):
         self.run_of_two()

@@ -14,7 +14,7 @@ import time
 import unittest
 
 import stands
-from ksi_service import check
+from ksi_service import check, record, replay
 from ksi_service.elements import published_in
 
 REAL = not stands.missing("ksi", "ksi_retrace", *stands.NODES)
@@ -84,10 +84,13 @@ class ServiceTest(unittest.TestCase):
         return path
 
     def checked(self):
-        """The record is held against the proved world, where its programs are here."""
-        if REAL:
-            return check.check(self.folder, samples=10, say=lambda text: None)
-        return None
+        """The record is held against the proved world, and replayed to each signature, where the programs for it are here."""
+        if not REAL:
+            return None
+        found = check.check(self.folder, samples=10, say=lambda text: None)
+        again = replay.replay(self.folder, os.path.join(self.room.name, "replay"), samples=1000, say=lambda text: None)
+        self.assertEqual((again.events, again.signatures, again.signed, again.publications), (found.steps, found.signatures, found.signatures, found.publications))
+        return found
 
     def test_a_day_at_the_desk(self):
         self.start("--cut-every", "1")
@@ -105,16 +108,62 @@ class ServiceTest(unittest.TestCase):
             self.assertIn("refused V1", self.command("verify", other, f"{name}.ksig", status=1))
         self.assertIn("stopped", self.command("stop"))
         self.assertIn("no service runs", self.command("status", status=1))
+        if REAL:
+            self.assertIn("extended", self.command("extend", f"{name}.ksig"))
+            self.assertIn("accepted", self.command("verify", name, f"{name}.ksig"))
         self.checked()
         self.assertIn("00000001.gz", os.listdir(os.path.join(self.folder, "record")))
         if REAL:
             self.assertIn("whole", self.command("backup", self.folder, os.path.join(self.room.name, "backup")))
+
+    def test_aggregators_below_aggregators(self):
+        """Two cores; below the one aggregators in a row, as many as may be, below the other a tree of them."""
+        self.start("--cores", "2", "--aggregators", "c0,a0,a1,a2,a3,a4,a5,c1,a7,a7,a8")
+        with concurrent.futures.ThreadPoolExecutor(30) as pool:
+            answers = list(pool.map(lambda number: self.ask("/sign", imprint(number)), range(90)))
+        self.assertEqual({status for status, _ in answers}, {200})
+        self.wait_for_publication(int(time.time()))
+        self.command("stop")
+        below = {it.node for it in record.told(os.path.join(self.folder, "record")) if isinstance(it, record.Step) and it.line and it.line.startswith("response ")}
+        self.assertGreater(len(below), 4)
+        found = self.checked()
+        if found:
+            self.assertEqual((found.signatures, found.used), (90, 10))
 
     def test_two_services_over_one_folder(self):
         self.start()
         self.assertIn(f"another service runs over {self.folder}", self.command("run", self.folder, status=1))
         self.assertIn("another service", self.command("check", self.folder, status=1))
         self.assertEqual(self.ask("/sign", imprint(1))[0], 200)
+
+    def test_who_is_told_to_stop_answers_all_that_it_took(self):
+        self.start()
+        told = []
+
+        def sign(number):
+            try:
+                told.append(self.ask("/sign", imprint(number)))
+            except (OSError, http.client.HTTPException) as error:
+                told.append((0, error))
+        self.assertEqual(self.ask("/sign", imprint(0))[0], 200)
+        with concurrent.futures.ThreadPoolExecutor(40) as pool:
+            asks = [pool.submit(sign, number) for number in range(1, 41)]
+            while self.status()["waiting"] < 40:
+                time.sleep(0.02)
+            self.assertIn("stopped", self.command("stop"))
+            for it in asks:
+                it.result()
+        self.assertEqual({status for status, _ in told}, {200})
+        handed = {bytes.fromhex(it.text) for it in record.told(os.path.join(self.folder, "record")) if isinstance(it, record.Signed)}
+        self.assertEqual({content for _, content in told} - handed, set())
+        self.assertIn("no service runs", self.command("stop", status=1))
+        self.checked()
+
+    def test_a_host_that_was_killed_leaves_no_service_to_be_stopped(self):
+        self.start()
+        self.kill()
+        self.assertIn("the last one was not stopped", self.command("stop", status=1))
+        self.assertIn("no service runs", self.command("status", status=1))
 
     def test_kills_of_processes_and_host(self):
         """Sixty kills, with signing going on: each request that was answered has a signature that the record knows."""
@@ -155,7 +204,7 @@ class ServiceTest(unittest.TestCase):
         self.assertEqual(len(answered), 120)
         told = self.checked()
         if told:
-            self.assertGreaterEqual(told[2], 120)
+            self.assertGreaterEqual(told.signatures, 120)
 
     @unittest.skipIf(os.geteuid() != 0, "a file system of 2 MiB is mounted by root alone")
     def test_a_full_disk(self):

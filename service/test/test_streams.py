@@ -143,7 +143,7 @@ class StreamsTest(unittest.TestCase):
         if REAL:
             for name in NODES:
                 shutil.copy(os.path.join(self.room.name, name, f"{name}.facts"), os.path.join(self.room.name, "head"))
-            self.assertGreaterEqual(check.check(os.path.join(self.room.name, "head"), samples=10, say=lambda text: None)[2], 100)
+            self.assertGreaterEqual(check.check(os.path.join(self.room.name, "head"), samples=10, say=lambda text: None).signatures, 100)
 
 
 if __name__ == "__main__":

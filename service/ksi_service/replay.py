@@ -1,0 +1,144 @@
+"""The run of a record as a schedule, replayed by the proved `ksi`: its journal has to have each signature that was handed out, byte for
+byte, and each publication.
+
+A schedule numbers messages in the order in which they were sent, and requests in the order in which they were accepted. What a step
+sent whose block never came is not on the record: the world is asked, by a replay of the schedule up to it."""
+import os
+from dataclasses import dataclass, field
+from typing import Dict, Iterable, List, NamedTuple, Set, Tuple
+
+from . import files
+from .elements import number_of, published_in, read
+from .proved import ksi
+from .publications import Publications
+from .record import Signed, Step, told
+from .retrace import Differs
+
+MOST_EVENTS = 1_000_000
+"""The most events of a schedule."""
+ISSUED = 0x04
+"""The kind of a journal's element that has a number and its signature."""
+MAGIC = 8
+"""The bytes before a journal's elements."""
+
+
+@dataclass
+class Schedule:
+    """The events of a run."""
+    plan: str
+    events: List[str] = field(default_factory=list)
+    sent: int = 0
+    first: List[int] = field(default_factory=list)
+    """Of each step the number of the first message that it sent."""
+    requests: int = 0
+    numbers: Dict[int, int] = field(default_factory=dict)
+    """The number of the request that a step accepted."""
+    closed: Set[Tuple[str, str]] = field(default_factory=set)
+    """The aggregators and seconds whose rounds are closed."""
+
+    def text(self) -> str:
+        return self.plan + "".join(f"{it}\n" for it in self.events)
+
+    def add(self, step: Step, sends_of_unsaid) -> None:
+        """Takes a step on. Of one that was never said `sends_of_unsaid` tells how many messages there are by then."""
+        if len(self.events) == MOST_EVENTS:
+            raise Differs(f"the run has more than {MOST_EVENTS} steps, the most that a schedule has: ksi_retrace alone holds it")
+        self.first.append(self.sent)
+        self.events.append(self.event_of(step))
+        if step.line is not None and step.block is None:
+            self.sent = sends_of_unsaid(self)
+        else:
+            self.sent += sum(row.startswith("send ") for row in step.block or [])
+
+    def event_of(self, step: Step) -> str:
+        if step.line is None:
+            return f"restart {step.node}"
+        if step.message is not None:
+            at, place = step.message
+            return f"deliver {self.first[at] + place}"
+        words = step.line.split(" ")
+        if words[0] == "request":
+            if self.accepted(step, words[2]):
+                self.numbers[len(self.events)] = self.requests
+                self.requests += 1
+            return " ".join(["request", step.node[1:], *words[2:]])
+        if words[0] == "close":
+            self.closed.add((step.node, words[1]))
+        return " ".join([words[0], step.node[1:], *words[1:]])
+
+    def accepted(self, step: Step, second: str) -> bool:
+        """Whether the aggregator took a request: by its answer, or if that never came, by its round, which was open or closed."""
+        if step.block is None:
+            return (step.node, second) not in self.closed
+        return step.block[0].startswith("answer number ")
+
+
+def schedule_of(plan: str, run: Iterable[object], sends_of_unsaid) -> Tuple[Schedule, Dict[int, str]]:
+    """The schedule of a run, and by their numbers in it the requests whose signatures were handed out."""
+    schedule, handed = Schedule(plan), {}
+    for it in run:
+        if isinstance(it, Signed):
+            handed[schedule.numbers[it.step]] = it.text
+        else:
+            schedule.add(it, sends_of_unsaid)
+    return schedule, handed
+
+
+def issued_in(journal: bytes) -> Dict[int, bytes]:
+    """The signatures of a journal by their numbers."""
+    told_of = {}
+    for it in read(journal, MAGIC):
+        if it.kind == ISSUED:
+            number, signature = read(it.body)
+            told_of[number_of(number.body)] = signature.body
+    return told_of
+
+
+class Counts(NamedTuple):
+    """What was compared and found the same."""
+    events: int
+    signatures: int
+    signed: int
+    """How many of the signatures were taken from the journal by `ksi sign` too."""
+    publications: int
+
+
+def replay(folder: str, out: str, samples: int, say=print) -> Counts:
+    """Replays the run of a service's folder into OUT/schedule and OUT/journal. Raises Differs where a signature or a publication is
+    another; some of the signatures are taken from the journal by `ksi sign` too. Says and returns what was compared."""
+    os.makedirs(out, exist_ok=True)
+    at = lambda name: os.path.abspath(os.path.join(out, name))
+
+    def counts(schedule):
+        files.write(at("schedule"), schedule.text().encode())
+        return dict(zip(*[iter(ksi("replay", at("schedule"), at("journal")).split(" "))] * 2))
+    with open(os.path.join(folder, "plan"), encoding="ascii") as file:
+        schedule, handed = schedule_of(file.read(), told(os.path.join(folder, "record")), lambda so_far: int(counts(so_far)["messages"]))
+    said = counts(schedule)
+    if (int(said["events"]), int(said["messages"])) != (len(schedule.events), schedule.sent):
+        raise Differs(f"the run has {len(schedule.events)} events and {schedule.sent} messages, its replay {said['events']} and {said['messages']}")
+    compare(handed, issued_in(files.content_of(at("journal"))))
+    for number in sorted(handed)[:samples]:
+        ksi("sign", at("journal"), str(number), at("signature"))
+        compare({number: handed[number]}, {number: files.content_of(at("signature"))})
+    files.remove(at("signature"))
+    counts_of = Counts(len(schedule.events), len(handed), min(samples, len(handed)), compare_publications(folder, at("journal"), at("publications")))
+    say("ksi replay of the run's %d events makes each of its %d signatures, byte for byte (%d seen by ksi sign), and its %d publications" % counts_of)
+    return counts_of
+
+
+def compare(handed: Dict[int, str], issued: Dict[int, bytes]) -> None:
+    for number, text in handed.items():
+        if issued.get(number) != bytes.fromhex(text):
+            raise Differs(f"the signature of request {number} that was handed out is not that of its replay")
+
+
+def compare_publications(folder: str, journal: str, made: str) -> int:
+    """Sees that the service's publications are of the journal. Returns how many there are."""
+    published = Publications(folder).published
+    if published:
+        ksi("publish", journal, made)
+        missing = set(published) - set(published_in(files.content_of(made)))
+        if missing:
+            raise Differs(f"the publication of second {min(missing)[0]} is not that of the run's replay")
+    return len(published)
