@@ -1,11 +1,11 @@
 -- Lines behind one another are cut in one way.
-use Rattle.std.proofs.Common.{◌≡◌, ◌≢◌, ℕ, ◌<◌, eqb, Bool, true, false, List, [], ◌∷◌, ◌++◌, refl, sym, ◌∙◌, ap, subst, arith}
+use Rattle.std.proofs.Common.{◌≡◌, ℕ, eqb, true, false, List, [], ◌∷◌, ◌++◌, refl, sym, ◌∙◌, ap, subst}
 use Rattle.std.proofs.lemmas.Bool.Decides.{Decides-eqb}
 use Rattle.ksi_schedule.specs.Pieces.{Text}
 use Rattle.ksi_schedule.proofs.Cuts.{Lacks}
 use Rattle.ksi_roundstore.specs.Written.{IsLine}
 
-itself : (mark : ℕ) → eqb mark mark ≡ true
+pub itself : (mark : ℕ) → eqb mark mark ≡ true
 itself mark = (Decides-eqb mark mark).1 refl
 
 no_mark : {P : Type 0} (mark b : ℕ) → eqb b mark ≡ false → b ≡ mark → P

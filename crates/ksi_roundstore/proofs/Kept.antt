@@ -1,14 +1,14 @@
 -- A store goes on with the record of a fact.
-use Rattle.std.proofs.Common.{◌≡◌, ◌⊎◌, inl, inr, ℕ, ◌+◌, ◌≤◌, ◌<◌, ◌^◌, List, [], ◌∷◌, ◌++◌, length, take, false, Option, Some, None, refl, sym, subst, ap, ◌∙◌, arith, length-append}
+use Rattle.std.proofs.Common.{◌≡◌, inl, ℕ, ◌+◌, ◌<◌, ◌^◌, List, [], ◌∷◌, length, Option, Some, None, refl, sym, subst, ap, arith, length-append}
 use Rattle.ksi_aggregator.specs.declared.fact.Fact.{Fact}
 use Rattle.ksi_aggregator.specs.Rounds.{AggregatorState}
-use Rattle.ksi_disk.specs.Images.{LeavesOnly, Only}
+use Rattle.ksi_disk.specs.Images.{LeavesOnly}
 use Rattle.ksi_disk.specs.ImageLaws.{leaves_now}
 use Rattle.ksi_gates.specs.declared.ending.Ending.TheVariants.{Closed}
 use Rattle.ksi_gates.specs.declared.log.GateLog.{GateLog}
-use Rattle.ksi_gates.specs.Logs.{IsSettled, OpensTo}
+use Rattle.ksi_gates.specs.Logs.{IsSettled}
 use Rattle.ksi_gates.specs.Gates.{place_of, reading_of, records_text}
-use Rattle.ksi_roundstore.specs.StoreState.{IsStored, StoreState, records_in}
+use Rattle.ksi_roundstore.specs.StoreState.{IsStored, records_in}
 use Rattle.ksi_roundstore.specs.Takes.{HasEither, HasMore, HasStored, count_new}
 use Rattle.ksi_roundstore.specs.Texts.{fact_text, with_record}
 use Rattle.ksi_roundstore.proofs.Along.{few_records}

@@ -6,3 +6,9 @@ pub mod Spelled
 pub mod ReadAs
 pub mod Onward
 pub mod Taken
+pub mod Made
+pub mod Folded
+pub mod Crashed
+pub mod Formatted
+pub mod Accepted
+pub mod Unread

@@ -12,20 +12,18 @@ use Rattle.ksi_aggregator.specs.declared.event.RoundEvent.{RoundEvent}
 use Rattle.ksi_aggregator.specs.declared.event.RoundEvent.TheVariants as events
 use Rattle.ksi_aggregator.specs.declared.fact.Fact.{Fact}
 use Rattle.ksi_aggregator.specs.declared.fact.RoundFact.{RoundFact}
-use Rattle.ksi_aggregator.specs.declared.fact.RoundFact.TheVariants.{Closed, Answered}
 use Rattle.ksi_aggregator.specs.declared.step.Step.{Step}
 use Rattle.ksi_aggregator.specs.Events.{MayTake, event_second, round_row}
 use Rattle.ksi_aggregator.specs.Rounds.{AggregatorState, IsTurn, fact_of, rounds_of}
 use Rattle.ksi_aggregator.specs.Rows.{RoundState, RoundTurn, closed_now, request_entry, response_where, round_added, round_close, round_request, round_response, round_restarted, round_still, round_submission, submitted_entry}
 use Rattle.ksi_roundfacts.specs.Lawful.{AreLawful, with_new}
 use Rattle.ksi_roundfacts.specs.Restored.{HasFacts, IsOfFacts}
-use Rattle.ksi_gates.specs.Gates.{reading_of}
-use Rattle.ksi_roundstore.specs.Crashes.{IsRestarted, IsRestartedAfter, IsRestartedEither}
+use Rattle.ksi_roundstore.specs.Crashes.{IsRestartedEither}
 use Rattle.ksi_roundstore.specs.Headers.{header_at}
 use Rattle.ksi_roundstore.specs.StoreState.{StoreState, records_in}
 use Rattle.ksi_roundstore.specs.Stores.{IsFileBeforeOrAfter, IsFileOf, IsStoreOf}
 use Rattle.ksi_roundstore.specs.Takes.{HasEither, HasMore, HasStored, TookTurn, fact_added}
-use Rattle.ksi_roundstore.specs.Texts.{event_of, fact_text, with_record}
+use Rattle.ksi_roundstore.specs.Texts.{event_of, fact_text}
 use Rattle.ksi_roundstore.specs.Written.{AreTexts, IsTextOf, IsWritten, fact_events, what_events}
 use Rattle.ksi_roundstore.proofs.Rows.{request_none, submission_none}
 
@@ -37,7 +35,7 @@ all_of : {X Y : Type 0} (f : X → Y) (P : Y → Type 0) (xs : List X) → AllBy
 all_of f P [] are = tt
 all_of f P (x ∷ xs) are = (are.0, all_of f P xs are.1)
 
-texts_more : (plan : PlanState) (me : ℕ) (facts : List Fact) (records : List (List ℕ)) (fact : Fact) (content : List ℕ) → AreTexts plan me facts records → IsTextOf plan me fact content → AreTexts plan me (facts ++ fact ∷ []) (records ++ content ∷ [])
+pub texts_more : (plan : PlanState) (me : ℕ) (facts : List Fact) (records : List (List ℕ)) (fact : Fact) (content : List ℕ) → AreTexts plan me facts records → IsTextOf plan me fact content → AreTexts plan me (facts ++ fact ∷ []) (records ++ content ∷ [])
 texts_more plan me [] [] fact content are is = (is, tt)
 texts_more plan me [] (c ∷ cs) fact content are is = absurd are
 texts_more plan me (f ∷ fs) [] fact content are is = absurd are

@@ -1,5 +1,5 @@
 -- Lines are read as the events that they are of.
-use Rattle.std.proofs.Common.{◌≡◌, ℕ, suc, ◌<◌, ◌≤◌, eqb, Bool, true, false, List, [], ◌∷◌, ◌++◌, codes, take, drop, length, get_or, refl, sym, ◌∙◌, ap, subst, append_assoc, append-nil, Result, Ok, Err}
+use Rattle.std.proofs.Common.{◌≡◌, ℕ, false, List, [], ◌∷◌, ◌++◌, codes, refl, sym, ◌∙◌, ap, subst, append_assoc, Ok}
 use Rattle.std.specs.List.{AllByRecursion}
 use Rattle.std.specs.Fmt.{decimal}
 use Rattle.ksi_aggregator.specs.declared.event.RoundEvent.{RoundEvent}
@@ -15,7 +15,6 @@ use Rattle.ksi_wire.specs.Lines.{item_words}
 use Rattle.ksi_wire.specs.RoundLines.{FitsRound, IsToldIn, round_words}
 use Rattle.ksi_roundstore.specs.Texts.{lines_of}
 use Rattle.ksi_roundstore.specs.Written.{IsLine, IsReadAs, IsWritten}
-use Rattle.ksi_roundstore.proofs.Cut.{lacks_line}
 use Rattle.ksi_roundstore.proofs.Spelled.{lines_then}
 
 module _ (plan : PlanState) (me : ℕ) (line : Text) where

@@ -1,13 +1,12 @@
 -- The texts of the facts that rows store.
-use Rattle.std.proofs.Common.{◌≡◌, ℕ, ◌<◌, ◌^◌, Bool, true, false, if◌then◌else◌, List, [], ◌∷◌, length, is_some, Option, Some, None, IfSome, refl, subst, sym, ap}
+use Rattle.std.proofs.Common.{◌≡◌, ℕ, Bool, true, false, if◌then◌else◌, List, [], ◌∷◌, is_some, Option, Some, None, IfSome, refl}
 use Rattle.ksi_aggtree.specs.declared.item.Item.{Item}
 use Rattle.ksi_aggtree.specs.declared.entries.Entry.{Entry}
 use Rattle.ksi_aggtree.specs.Entries.{has_from, is_full}
 use Rattle.ksi_signature.specs.declared.above.Above.{Above}
 use Rattle.ksi_signature.specs.declared.answer.Answer.TheVariants as answers
 use Rattle.ksi_aggregator.specs.declared.event.RoundEvent.TheVariants as events
-use Rattle.ksi_aggregator.specs.declared.fact.RoundFact.{RoundFact}
-use Rattle.ksi_aggregator.specs.declared.fact.RoundFact.TheVariants.{Closed, Answered}
+use Rattle.ksi_aggregator.specs.declared.fact.RoundFact.TheVariants.{Closed}
 use Rattle.ksi_aggregator.specs.Rounds.{fact_of}
 use Rattle.ksi_aggregator.specs.Rows.{RoundState, RoundTurn, round_still, round_added, request_entry, submitted_entry, closed_now, round_request, round_submission, round_close, response_where, round_response}
 use Rattle.ksi_roundstore.specs.Texts.{fact_text, lines_of, what_text}

@@ -16,7 +16,7 @@ use Rattle.ksi_signature.specs.declared.signature.Signature.{Signature}
 use Rattle.ksi_split.specs.declared.tree_link.TreeLink.{TreeLink}
 use Rattle.ksi_tlv.specs.Spelling.{AreBytes}
 use Rattle.ksi_signature.specs.File.{IsSignature}
-use Rattle.ksi_signature.specs.Issued.{issued, issued_chains, own_chain}
+use Rattle.ksi_signature.specs.Issued.{issued, issued_chains}
 use Rattle.ksi_signature.specs.Values.{Aggregation, Calendar}
 use Rattle.ksi_signature.specs.Written.{signature_text}
 use Rattle.ksi_aggregator.specs.declared.event.RoundEvent.{RoundEvent}
@@ -35,13 +35,13 @@ use Rattle.ksi_wire.specs.declared.fault.WireFault.{WireFault}
 use Rattle.ksi_wire.specs.AskedRounds.{aggregator_line_of}
 use Rattle.ksi_wire.specs.Responses.{above_text, input_of, IsTold}
 use Rattle.ksi_wire.specs.RoundLines.{round_words}
-use Rattle.ksi_roundstore.specs.Texts.{event_from, event_of, lines_of, fact_text, what_text}
+use Rattle.ksi_roundstore.specs.Texts.{event_from, event_of, lines_of, what_text}
 use Rattle.ksi_roundfacts.specs.Lawful.{AreAdded, AreLawful, IsFit, MayStore, stored_by}
 use Rattle.ksi_aggregator.specs.Facts.{StableRound}
 use Rattle.ksi_roundstore.specs.StoreState.{records_in}
 use Rattle.ksi_roundstore.specs.Stores.{IsFileOf}
 use Rattle.ksi_roundstore.specs.Written.{AreTexts, IsPlain, IsPlainEntry, IsPlainItem, IsTextOf, IsWritten, fact_events, what_events}
-use Rattle.ksi_roundstore.proofs.Cut.{cut_once, line_lacks, IsSameCut}
+use Rattle.ksi_roundstore.proofs.Cut.{cut_once, line_lacks}
 
 -- LINES
 
@@ -316,7 +316,7 @@ plain_added front (entry ∷ entries) are = (plain_item front entry.origin entry
     plain_item front (origins.Request number) item fit = fit
     plain_item front (origins.Aggregator from) item fit = tt
 
-plain_what : (stored : ℕ → StableRound) (second : ℕ) (what : RoundFact) → MayStore stored second what → IsPlain what
+pub plain_what : (stored : ℕ → StableRound) (second : ℕ) (what : RoundFact) → MayStore stored second what → IsPlain what
 plain_what stored second (Closed items) may = plain_added [] items may.added
 plain_what stored second (Answered above) may = tt
 

@@ -1,7 +1,6 @@
 -- Events that are taken one after the other.
 use Rattle.std.proofs.Common.{◌≡◌, ℕ, ◌<◌, ◌+◌, Bool, true, false, List, [], ◌∷◌, ◌++◌, take, length, get_or, refl, sym, subst, ap, ◌∙◌}
 use Rattle.std.proofs.lemmas.List.{take_more}
-use Rattle.ksi_signature.specs.declared.answer.Answer.{Answer}
 use Rattle.ksi_aggregator.specs.declared.event.RoundEvent.{RoundEvent}
 use Rattle.ksi_aggregator.specs.declared.step.Step.{Step}
 use Rattle.ksi_aggregator.specs.Events.{MayTake, event_second, round_row}
@@ -14,15 +13,15 @@ module _ (image : List ℕ → List ℕ) where
   takes_as old new event step true may turn is = (record { may = may; accepted = ap is_accepted (sym turn.answer) ∙ sym is }, turn.after)
   takes_as old new event step false may turn is = tt
 
-  after_then : (rounds : ℕ → RoundState) (some others : List RoundEvent) → rounds_after image rounds (some ++ others) ≡ rounds_after image (rounds_after image rounds some) others
+  pub after_then : (rounds : ℕ → RoundState) (some others : List RoundEvent) → rounds_after image rounds (some ++ others) ≡ rounds_after image (rounds_after image rounds some) others
   after_then rounds [] others = refl
   after_then rounds (event ∷ some) others = after_then (round_after image rounds event) some others
 
-  accepted_then : (rounds : ℕ → RoundState) (some : List RoundEvent) (event : RoundEvent) → AreAccepted image rounds some → IsAccepted image (rounds_after image rounds some) event → AreAccepted image rounds (some ++ event ∷ [])
+  pub accepted_then : (rounds : ℕ → RoundState) (some : List RoundEvent) (event : RoundEvent) → AreAccepted image rounds some → IsAccepted image (rounds_after image rounds some) event → AreAccepted image rounds (some ++ event ∷ [])
   accepted_then rounds [] event are is = (is, tt)
   accepted_then rounds (first ∷ some) event are is = (are.0, accepted_then (round_after image rounds first) some event are.1 is)
 
-  accepted_front : (rounds : ℕ → RoundState) (some : List RoundEvent) (event : RoundEvent) → AreAccepted image rounds (some ++ event ∷ []) → AreAccepted image rounds some × IsAccepted image (rounds_after image rounds some) event
+  pub accepted_front : (rounds : ℕ → RoundState) (some : List RoundEvent) (event : RoundEvent) → AreAccepted image rounds (some ++ event ∷ []) → AreAccepted image rounds some × IsAccepted image (rounds_after image rounds some) event
   accepted_front rounds [] event are = (tt, are.0)
   accepted_front rounds (first ∷ some) event are = let rest = accepted_front (round_after image rounds first) some event are.1 in ((are.0, rest.0), rest.1)
 

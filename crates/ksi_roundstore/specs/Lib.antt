@@ -7,4 +7,5 @@ pub mod Opens
 pub mod Takes
 pub mod Written
 pub mod Stores
+pub mod Folds
 pub mod Crashes

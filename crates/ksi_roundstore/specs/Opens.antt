@@ -1,14 +1,18 @@
 -- What the opening of an aggregator's file answers.
-use Rattle.std.specs.Prelude.{◌≡◌, ℕ, ◌+◌, ◌<◌, ◌^◌, List, length, take, Option, Some, None, Result, Ok, Err}
+use Rattle.std.specs.Prelude.{◌≡◌, ℕ, ◌+◌, ◌<◌, ◌^◌, List, length, take, Some, None, Result, Ok, Err}
 use Rattle.ksi_ports.specs.Outside.{Raises}
-use Rattle.ksi_aggregator.specs.Rounds.{AggregatorState}
+use Rattle.ksi_schedule.specs.Plans.{PlanState}
+use Rattle.ksi_aggregator.specs.declared.fact.Fact.{Fact}
+use Rattle.ksi_roundfacts.specs.Restored.{IsOfFacts}
 use Rattle.ksi_gates.specs.declared.ending.Ending.TheVariants as ending
 use Rattle.ksi_gates.specs.Gates.{reading_of}
 use Rattle.ksi_roundstore.specs.declared.refusal.OpenRefusal.{OpenRefusal}
 use Rattle.ksi_roundstore.specs.declared.refusal.OpenRefusal.TheVariants.{Failed, NotFormatted, Foreign, Malformed, NoMemory}
 use Rattle.ksi_roundstore.specs.declared.found.Found.{Found}
 use Rattle.ksi_roundstore.specs.Headers.{header_at}
-use Rattle.ksi_roundstore.specs.StoreState.{StoreState, IsStored, records_in}
+use Rattle.ksi_roundstore.specs.Folds.{IsAggregatorOf}
+use Rattle.ksi_roundstore.specs.StoreState.{StoreState, records_in}
+use Rattle.ksi_roundstore.specs.Stores.{IsFileOf, IsStoreOf}
 
 -- the header is that of aggregator me of a plan with this start, or none, or another one
 abbrev pub HeadsAs : (me start : ℕ) → List ℕ → Result Unit OpenRefusal → Type 0
@@ -38,38 +42,26 @@ StaysRead before now (Err (Foreign aggregator start)) = now ≡ before
 StaysRead before now (Err (Malformed place)) = now ≡ before
 StaysRead before now (Err NoMemory) = Unit {0}
 
--- the aggregator of the records of a file
-abbrev pub FoldsAs : (me : ℕ) → Result AggregatorState OpenRefusal → Type 0
-FoldsAs me (Ok aggregator) = aggregator.me ≡ me
-FoldsAs me (Err Failed) = ⊥
-FoldsAs me (Err NotFormatted) = ⊥
-FoldsAs me (Err (Foreign aggregator start)) = ⊥
-FoldsAs me (Err (Malformed place)) = Unit {0}
-FoldsAs me (Err NoMemory) = Unit {0}
-
--- what was found in a file of aggregator me of a plan: the gate behind its records, and how many there are
-pub record IsFoundIn {C : Type 0} (me start : ℕ) (file : List ℕ) (found : Found C) : Type 0 where
-  pub head : header_at (take 20 file) ≡ Some (record { aggregator = me; start = start })
-  pub mine : found.aggregator.me ≡ me
+-- what was found in a file of aggregator me of a plan: the aggregator of its records, the gate behind them, and how many
+-- there are
+pub record IsFoundIn {C : Type 0} (me : ℕ) (plan : PlanState) (file : List ℕ) (found : Found C) : Type 0 where
+  pub head : header_at (take 20 file) ≡ Some (record { aggregator = me; start = plan.start })
+  pub folded : IsAggregatorOf plan me (records_in file) found.aggregator
   pub closed : (reading_of 20 file).ending ≡ ending.Closed found.gate
   pub within : found.gate + 1 < 2 ^ 64
   pub counted : found.records ≡ length (records_in file)
 
-abbrev pub FindsAs : {C : Type 0} → (me start : ℕ) → List ℕ → Result (Found C) OpenRefusal → Type 0
-FindsAs me start file (Ok found) = IsFoundIn me start file found
-FindsAs me start file (Err refusal) = Unit {0}
+abbrev pub FindsAs : {C : Type 0} → (me : ℕ) → PlanState → List ℕ → Result (Found C) OpenRefusal → Type 0
+FindsAs me plan file (Ok found) = IsFoundIn me plan file found
+FindsAs me plan file (Err refusal) = Unit {0}
 
 -- THE STORE
 
--- a file was opened: its header is that of aggregator me of the plan, and the store has it
-pub record IsOpened {D : Type 0} (content : D → List ℕ) (images : D → List ℕ → Type 0) (me start : ℕ) (file : List ℕ) (store : StoreState D) : Type 0 where
-  pub head : header_at (take 20 file) ≡ Some (record { aggregator = me; start = start })
-  pub mine : store.aggregator.me ≡ me
-  pub stored : IsStored content images store
-
-abbrev pub OpensAs : {D : Type 0} → (content : D → List ℕ) (images : D → List ℕ → Type 0) → (me start : ℕ) → List ℕ → Result (StoreState D) (OpenRefusal × D) → Type 0
-OpensAs content images me start file (Ok store) = IsOpened content images me start file store
-OpensAs content images me start file (Err refused) = Unit {0}
+-- what is answered of a file: the store of the facts in it, whose aggregator is made of them; and it counts its records
+abbrev pub OpensAs : {D : Type 0} → (content : D → List ℕ) (images : D → List ℕ → Type 0) → (me : ℕ) → PlanState → List ℕ → Result (StoreState D) (OpenRefusal × D) → Type 0
+OpensAs content images me plan file (Ok store) =
+    (facts : List Fact) × IsFileOf me plan facts file × IsOfFacts me facts store.aggregator × IsStoreOf content images me plan facts store × (store.records ≡ length facts)
+OpensAs content images me plan file (Err refused) = Unit {0}
 
 -- the disk, in the store or handed back
 abbrev pub disk_after : {D : Type 0} → Result (StoreState D) (OpenRefusal × D) → D

@@ -1,5 +1,5 @@
 -- What an aggregator's file says: the facts of an aggregator. And the store of one.
-use Rattle.std.specs.Prelude.{◌≡◌, ◌⊎◌, ℕ, List, length, take, Option, Some}
+use Rattle.std.specs.Prelude.{◌≡◌, ◌⊎◌, ℕ, List, take, Option, Some}
 use Rattle.std.specs.List.{AllByRecursion}
 use Rattle.ksi_schedule.specs.Plans.{PlanState}
 use Rattle.ksi_aggregator.specs.declared.fact.Fact.{Fact}

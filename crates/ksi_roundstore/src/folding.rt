@@ -1,11 +1,14 @@
 // The aggregator of the facts that records spell.
-ghost use Rattle.std.specs.Prelude.{◌≡◌, ◌+◌, length, IfOk, IsTrue, OnOk};
+ghost use Rattle.std.specs.Prelude.{◌≡◌, ◌+◌, ℕ, List, length, IfOk, IsTrue, OnOk};
 ghost use Rattle.std.specs.List.{AllByRecursion};
 ghost use Rattle.ksi_gates.specs.Gates.{records_text};
 ghost use Rattle.ksi_aggregator.specs.Events.{event_second, MayTake, round_row};
 ghost use Rattle.ksi_aggregator.specs.Rounds.{rounds_of, IsTurn};
 ghost use Rattle.ksi_roundstore.specs.Facts.{is_accepted, TakesAll, TakesAs};
-ghost use Rattle.ksi_roundstore.specs.Opens.{FoldsAs};
+ghost use Rattle.ksi_aggregator.specs.declared.fact.Fact.{Fact};
+ghost use Rattle.ksi_roundfacts.specs.Lawful.{AreLawful};
+ghost use Rattle.ksi_roundfacts.specs.Restored.{IsOfFacts};
+ghost use Rattle.ksi_roundstore.specs.Folds.{FoldsAs, GoesOn};
 ghost use Rattle.ksi_wire.specs.RoundLines.{FitsRound};
 
 use crate::OpenRefusal;
@@ -13,6 +16,7 @@ use crate::events::read_events;
 use crate::shape::is_fact;
 use ksi_aggregator::{Aggregator, RoundEvent, Step};
 use ksi_imprint::{Bytes, Compress, NoMemory};
+use ksi_roundfacts::laws::{facts_one_by_one, one_aggregator_of_facts};
 use ksi_schedule::Plan;
 use ksi_signature::Answer;
 use std::alloc::Global;
@@ -26,8 +30,10 @@ pub(crate) fn fold_records<C: Compress>(
     end: u64,
 ) -> Result<Aggregator<C>, OpenRefusal>
     requires end { 20 + length (records_text records.now) ≡ end }
-    ensures { FoldsAs me result }
+    ensures { FoldsAs plan.now me records.now result }
 {
+    one_aggregator_of_facts();
+    facts_one_by_one();
     let mut aggregator = Aggregator::new(alloc, me);
     let mut place = 20;
     'folding: for k in 0..records.len() {
@@ -47,11 +53,17 @@ fn fold_record<C: Compress>(
     aggregator: &mut Aggregator<C>,
     content: &[u8],
 ) -> Result<bool, NoMemory>
-    ensures me { OnOk result (aggregator.new.me ≡ aggregator.old.me) }
+    ensures { IfOk result (λ stored. (me : ℕ) (facts : List Fact) → AreLawful facts → IsOfFacts me facts aggregator.old → GoesOn plan.now me facts content.now aggregator.new stored) }
 {
     match read_events(alloc, plan, aggregator.me(), content)? {
-        Some(events) if is_fact(&events) => take_all(aggregator, &events),
-        _ => Ok(false),
+        None => Ok(false),
+        Some(events) => {
+            if is_fact(&events) {
+                take_all(aggregator, &events)
+            } else {
+                Ok(false)
+            }
+        }
     }
 }
 

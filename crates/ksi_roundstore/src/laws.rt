@@ -1,6 +1,7 @@
 //! What holds of the files of aggregators, for the layers above to cite. These functions do nothing.
-ghost use Rattle.std.specs.Prelude.{◌≡◌, ◌<◌, ◌^◌, ℕ, List};
-ghost use Rattle.ksi_schedule.specs.Plans.{PlanState};
+ghost use Rattle.std.specs.Prelude.{◌≡◌, ◌<◌, ◌^◌, ℕ, List, [], length, Ok};
+ghost use Rattle.ksi_disk.specs.Images.{LeavesOnly};
+ghost use Rattle.ksi_schedule.specs.Plans.{IsPlan, PlanState};
 ghost use Rattle.ksi_aggregator.specs.declared.event.RoundEvent.{RoundEvent};
 ghost use Rattle.ksi_aggregator.specs.declared.fact.Fact.{Fact};
 ghost use Rattle.ksi_aggregator.specs.declared.step.Step.{Step};
@@ -9,14 +10,17 @@ ghost use Rattle.ksi_aggregator.specs.Rounds.{AggregatorState, rounds_of};
 ghost use Rattle.ksi_roundfacts.specs.Lawful.{with_new};
 ghost use Rattle.ksi_roundfacts.specs.Restored.{HasFacts, IsOfFacts};
 ghost use Rattle.ksi_roundstore.specs.Crashes.{IsRestarted, IsRestartedEither};
+ghost use Rattle.ksi_roundstore.specs.Headers.{empty_file};
+ghost use Rattle.ksi_roundstore.specs.Opens.{OpensAs};
 ghost use Rattle.ksi_roundstore.specs.StoreState.{StoreState};
 ghost use Rattle.ksi_roundstore.specs.Stores.{IsFileBeforeOrAfter, IsFileOf, IsStoreOf};
 ghost use Rattle.ksi_roundstore.specs.Takes.{fact_added, HasEither, HasStored, TookTurn};
 ghost use Rattle.ksi_roundstore.specs.Written.{IsWritten};
 
 use ksi_disk::Disk;
+use ksi_gates::laws::records_are_read_again;
 use ksi_imprint::Compress;
-use ksi_roundfacts::laws::{one_aggregator_of_facts, steps_are_lawful};
+use ksi_roundfacts::laws::{facts_one_by_one, one_aggregator_of_facts, steps_are_lawful};
 use ksi_signature::laws::signature_or_fault;
 
 /// A file is of one list of facts.
@@ -51,4 +55,32 @@ pub fn a_crash_is_a_restart()
     a_file_is_of_one_list_of_facts();
     steps_are_lawful();
     one_aggregator_of_facts();
+}
+
+/// A crash at any moment of a `take`, and one behind a `take` that failed: the store that is then opened, over whatever image
+/// is left, has the aggregator of the facts that were acknowledged before, as a restart leaves it, with the event in work or
+/// without it. A crash between two events leaves it as a restart does. A crash while a file is opened leaves what might have
+/// been left before. Each clause takes what a call's clauses say: `any_moment` and `opens`.
+pub fn crashes_are_restarts<C: Compress, D: Disk, E: Disk>()
+    ensures taking { (me : ℕ) (plan : PlanState) (facts : List Fact) (old new : StoreState D) (event : RoundEvent) (file : List ℕ) (opened : StoreState E) → IsStoreOf D.content D.images me plan facts old → MayTake (rounds_of old.aggregator) event →
+        IsWritten plan me event → LeavesOnly D.moment D.images_since old.log.disk new.log.disk (HasEither (D.content old.log.disk) (fact_added C.image old.aggregator event)) → D.images_since new.log.disk (D.moment old.log.disk) file →
+        OpensAs E.content E.images me plan file (Ok opened) → IsRestartedEither C.image old.aggregator event opened.aggregator }
+    ensures failed { (me : ℕ) (plan : PlanState) (facts : List Fact) (old new : StoreState D) (event : RoundEvent) (file : List ℕ) (opened : StoreState E) → IsStoreOf D.content D.images me plan facts old → MayTake (rounds_of old.aggregator) event →
+        IsWritten plan me event → LeavesOnly D.moment D.images_since old.log.disk new.log.disk (HasEither (D.content old.log.disk) (fact_added C.image old.aggregator event)) → D.images new.log.disk file →
+        OpensAs E.content E.images me plan file (Ok opened) → IsRestartedEither C.image old.aggregator event opened.aggregator }
+    ensures idle { (me : ℕ) (plan : PlanState) (facts : List Fact) (old : StoreState D) (file : List ℕ) (opened : StoreState E) → IsStoreOf D.content D.images me plan facts old → D.images old.log.disk file →
+        OpensAs E.content E.images me plan file (Ok opened) → IsRestarted old.aggregator opened.aggregator }
+    ensures opening { (old new : D) (file : List ℕ) → LeavesOnly D.moment D.images_since old new (D.images old) → D.images_since new (D.moment old) file → D.images old file }
+{
+    steps_are_lawful();
+    one_aggregator_of_facts();
+    signature_or_fault();
+}
+
+/// After `format` the file is one of no facts.
+pub fn a_new_file_has_no_facts()
+    ensures { (me : ℕ) (plan : PlanState) → me < length plan.parents → IsPlan plan → IsFileOf me plan [] (empty_file me plan.start) }
+{
+    facts_one_by_one();
+    records_are_read_again();
 }

@@ -17,6 +17,7 @@ use ksi_disk::Disk;
 use ksi_gates::laws::{closed_gates_are_in_the_file, records_stand_one_after_the_other};
 use ksi_gates::{Ending, GateLog, LogRead, read_log, settle};
 use ksi_imprint::Compress;
+use ksi_roundfacts::laws::one_aggregator_of_facts;
 use ksi_schedule::Plan;
 use std::alloc::Global;
 
@@ -28,7 +29,7 @@ pub(crate) fn read_file<C: Compress, D: Disk>(
     disk: &mut D,
 ) -> Result<Found<C>, OpenRefusal>
     requires member { me < length plan.now.parents }
-    ensures found { FindsAs me plan.now.start (D.content disk.old) result }
+    ensures found { FindsAs me plan.now (D.content disk.old) result }
     ensures stays { StaysRead (D.content disk.old) (D.content disk.new) result }
     ensures durable { OnOk result (Only (D.content disk.old) (D.images disk.new)) }
     ensures no_image { AddsNone (D.images disk.old) (D.images disk.new) }
@@ -51,7 +52,7 @@ fn read_settled<C: Compress, D: Disk>(
 ) -> Result<Found<C>, OpenRefusal>
     requires member { me < length plan.now.parents }
     requires len { len ≡ length (D.content disk.old) }
-    ensures found { FindsAs me plan.now.start (D.content disk.old) result }
+    ensures found { FindsAs me plan.now (D.content disk.old) result }
     ensures stays { StaysRead (D.content disk.old) (D.content disk.new) result }
     ensures nothing { WroteNothing D.images D.moment D.images_since D.meter disk.old disk.new }
     ensures counted { CountsReads (D.faults disk.old) (D.faults disk.new) result }
@@ -73,7 +74,7 @@ fn find<C: Compress>(
     requires member { me < length plan.now.parents }
     requires end { 20 + length (records_text read.records.items) ≡ place_of read.ending }
     ensures found { (file : List ℕ) → header_at (take 20 file) ≡ Some (record { aggregator = me; start = plan.now.start }) → length file < 2 ^ 64 →
-        read.records.items ≡ (reading_of 20 file).records → read.ending ≡ (reading_of 20 file).ending → FindsAs me plan.now.start file result }
+        read.records.items ≡ (reading_of 20 file).records → read.ending ≡ (reading_of 20 file).ending → FindsAs me plan.now file result }
     ensures calm { (faults : ℕ) → CountsReads faults faults result }
     ensures sure { IsErrOf result Failed → ⊥ }
 {
@@ -112,7 +113,7 @@ impl<C: Compress, D: Disk> RoundStore<C, D> {
     /// `Failed`, and the disk's count of faults rises; `NotFormatted`; `Foreign`; `Malformed`; `NoMemory`.
     pub fn open(alloc: Global, me: u32, plan: &Plan, disk: D) -> Result<Self, (OpenRefusal, D)>
         requires member { me < length plan.now.parents }
-        ensures opens { OpensAs D.content D.images me plan.now.start (D.content disk) result }
+        ensures opens { OpensAs D.content D.images me plan.now (D.content disk) result }
         ensures stays { StaysOpened D.content (D.content disk) result }
         ensures no_image { AddsNone (D.images disk) (D.images (disk_after result)) }
         ensures any_moment { LeavesOnly D.moment D.images_since disk (disk_after result) (D.images disk) }
@@ -120,6 +121,7 @@ impl<C: Compress, D: Disk> RoundStore<C, D> {
         ensures costs { Spends 0 1 (D.meter disk) (D.meter (disk_after result)) }
         ensures sure { Affords 0 1 (D.meter disk) → HasNotFailed result }
     {
+        one_aggregator_of_facts();
         let mut disk = disk;
         match read_file(alloc, me, plan, &mut disk) {
             Ok(found) => {

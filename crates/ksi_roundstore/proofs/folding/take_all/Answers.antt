@@ -1,4 +1,4 @@
-use Rattle.std.proofs.Common.{◌≡◌, ◌∙◌, Bool, subst, arith}
+use Rattle.std.proofs.Common.{◌∙◌, Bool, subst, arith}
 use Rattle.ksi_aggregator.specs.Rounds.{rounds_of}
 use Rattle.ksi_roundstore.specs.Facts.{TakesAs}
 use Rattle.ksi_roundstore.proofs.Taken.{one_more}

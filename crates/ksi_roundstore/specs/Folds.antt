@@ -1,0 +1,33 @@
+-- What opening makes of the records of a file: the aggregator of their facts, one after the other.
+use Rattle.std.specs.Prelude.{ℕ, List, [], ◌∷◌, ◌++◌, true, false, Bool, Result, Ok, Err}
+use Rattle.ksi_schedule.specs.Plans.{PlanState}
+use Rattle.ksi_aggregator.specs.declared.fact.Fact.{Fact}
+use Rattle.ksi_aggregator.specs.Rounds.{AggregatorState}
+use Rattle.ksi_roundfacts.specs.Lawful.{AreLawful}
+use Rattle.ksi_roundfacts.specs.Restored.{IsOfFacts}
+use Rattle.ksi_roundstore.specs.declared.refusal.OpenRefusal.{OpenRefusal}
+use Rattle.ksi_roundstore.specs.declared.refusal.OpenRefusal.TheVariants.{Failed, NotFormatted, Foreign, Malformed, NoMemory}
+use Rattle.ksi_roundstore.specs.Written.{AreTexts, IsTextOf}
+
+-- the records are the texts of these facts, each of which is lawful after those before it
+pub record AreFactsOf (plan : PlanState) (me : ℕ) (facts : List Fact) (records : List (List ℕ)) : Type 0 where
+  pub texts : AreTexts plan me facts records
+  pub lawful : AreLawful facts
+
+-- an aggregator of facts goes on with a record: it is the aggregator with the record's fact too
+abbrev pub GoesOn : PlanState → (me : ℕ) → List Fact → List ℕ → AggregatorState → Bool → Type 0
+GoesOn plan me facts content aggregator true =
+    (fact : Fact) × IsTextOf plan me fact content × AreLawful (facts ++ fact ∷ []) × IsOfFacts me (facts ++ fact ∷ []) aggregator
+GoesOn plan me facts content aggregator false = Unit {0}
+
+-- the aggregator of the facts whose texts the records are
+abbrev pub IsAggregatorOf : PlanState → (me : ℕ) → List (List ℕ) → AggregatorState → Type 0
+IsAggregatorOf plan me records aggregator = (facts : List Fact) × AreFactsOf plan me facts records × IsOfFacts me facts aggregator
+
+abbrev pub FoldsAs : PlanState → (me : ℕ) → List (List ℕ) → Result AggregatorState OpenRefusal → Type 0
+FoldsAs plan me records (Ok aggregator) = IsAggregatorOf plan me records aggregator
+FoldsAs plan me records (Err Failed) = ⊥
+FoldsAs plan me records (Err NotFormatted) = ⊥
+FoldsAs plan me records (Err (Foreign aggregator start)) = ⊥
+FoldsAs plan me records (Err (Malformed place)) = Unit {0}
+FoldsAs plan me records (Err NoMemory) = Unit {0}
