@@ -12,7 +12,7 @@ ghost use Rattle.ksi_corenode.specs.declared.event.CoreEvent.{CoreEvent};
 ghost use Rattle.ksi_disk.specs.Images.{LeavesOnly};
 ghost use Rattle.ksi_node_file.specs.Crashed as core_node;
 ghost use Rattle.ksi_nodestore.specs.Stores as core_stores;
-ghost use Rattle.ksi_roundstore.specs.Opens.{StaysOpened};
+ghost use Rattle.ksi_roundstore.specs.Opens.{OpensAs, StaysOpened};
 ghost use Rattle.ksi_roundstore.specs.Stores.{IsFileOf, IsStoreOf};
 ghost use Rattle.ksi_roundstore.specs.StoreState.{StoreState};
 ghost use Rattle.ksi_roundstore.specs.Takes.{fact_added, HasEither, HasStored, TookTurn};
@@ -37,17 +37,19 @@ use ksi_roundfacts::laws::{
 use ksi_roundstore::laws::{a_file_is_of_one_list_of_facts, stores_go_on};
 use ksi_world::laws::rounds_are_turns;
 
-/// The calls of a store of an aggregator are deeds, by their clauses: an event that was taken (`turn`, `stored`), for what a
-/// history asks; and an opening behind a crash at any moment of a `take`, or behind one that failed (`any_moment`), where the
-/// fact of the event was stored or was not. `calls_are_deeds` of `ksi_node_file` says the same of cores.
+/// The calls of a store of an aggregator are deeds, by their clauses: an event that was taken (`turn`, `stored`), as what a
+/// history asks; a file that was opened (`opens`); and an opening behind a crash at any moment of a `take`, or behind one that
+/// failed (`any_moment`), where the fact of the event was stored or was not. `calls_are_deeds` of `ksi_node_file` says the same
+/// of cores.
 pub fn round_calls_are_deeds<C: Compress, D: Disk, E: Disk>()
     ensures took { (me : ℕ) (plan : PlanState) (facts : List Fact) (old new : StoreState D) (asked live : RoundEvent) (step : Step) → IsStoreOf D.content D.images me plan facts old → MayTake (rounds_of old.aggregator) live →
         event_second live < 2 ^ 63 → IsWritten plan me live → IsTakenAs (rounds_of old.aggregator) asked live → TookTurn C.image old.aggregator new.aggregator live step →
         HasStored D.content D.images step.fact old.log new.log → TookStep C.image me plan asked (running_in D.content old) (running_in D.content new) }
+    ensures opened { (me : ℕ) (plan : PlanState) (file : List ℕ) (store : StoreState E) → OpensAs E.content E.images me plan file (Ok store) → WasOpened me plan (running_in E.content store) }
     ensures cut_off { (me : ℕ) (plan : PlanState) (facts : List Fact) (old new : StoreState D) (asked live : RoundEvent) (file : List ℕ) (store : StoreState E) → IsStoreOf D.content D.images me plan facts old → MayTake (rounds_of old.aggregator) live →
         event_second live < 2 ^ 63 → IsWritten plan me live → IsTakenAs (rounds_of old.aggregator) asked live →
         LeavesOnly D.moment D.images_since old.log.disk new.log.disk (HasEither (D.content old.log.disk) (fact_added C.image old.aggregator live)) → D.images_since new.log.disk (D.moment old.log.disk) file →
-        WasOpened me plan (running_in E.content store) → StaysOpened E.content file (Ok store) →
+        OpensAs E.content E.images me plan file (Ok store) → StaysOpened E.content file (Ok store) →
         (stored : Bool) × WasCutOff C.image me plan asked stored (running_in D.content old) (running_in E.content store) }
 {
     a_file_is_of_one_list_of_facts();

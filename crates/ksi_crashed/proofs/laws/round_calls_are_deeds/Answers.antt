@@ -12,6 +12,7 @@ returns g c =
     record {
       took = λ me plan facts old new asked live step is may early written so turn stored.
           took one me plan image content facts old new asked live step is.file so turn (goes.stored me plan facts old new live step is may early written turn stored).file;
-      cut_off = λ me plan facts old new asked live file store is may early written so leaves left opened stays.
-          cut_off one me plan image content facts old asked live file (running_in others store) is.file so (goes.left me plan facts old live file is may early written (leaves.each file left)) stays opened;
+      opened = λ me plan file store opens. (opens.0, opens.3.file, opens.2);
+      cut_off = λ me plan facts old new asked live file store is may early written so leaves left opens stays.
+          cut_off one me plan image content facts old asked live file (running_in others store) is.file so (goes.left me plan facts old live file is may early written (leaves.each file left)) stays (opens.0, opens.3.file, opens.2);
     }
