@@ -13,7 +13,7 @@ from .torn import tear, torn_write
 LOST = TWICE = LATE = 0.1
 TORN = 0.5
 """How often a node's file is torn before the node starts."""
-SECONDS_TO_CUT, SECONDS_TO_POWER_CUT = 3, 60
+SECONDS_TO_CUT, SECONDS_TO_POWER_CUT = 3, 20
 """How long it takes on average until a line is cut, and until the power fails."""
 
 
