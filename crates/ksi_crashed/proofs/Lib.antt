@@ -1,6 +1,7 @@
 pub mod Naming
 pub mod Closing
 pub mod FactsMore
+pub mod Answering
 pub mod Renumbering
 pub mod Stepping
 pub mod Deeds

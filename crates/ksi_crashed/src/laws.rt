@@ -12,6 +12,7 @@ ghost use Rattle.ksi_corenode.specs.declared.event.CoreEvent.{CoreEvent};
 ghost use Rattle.ksi_disk.specs.Images.{LeavesOnly};
 ghost use Rattle.ksi_node_file.specs.Crashed as core_node;
 ghost use Rattle.ksi_nodestore.specs.Stores as core_stores;
+ghost use Rattle.ksi_roundfacts.specs.Renamed.{answer_renamed};
 ghost use Rattle.ksi_roundstore.specs.Opens.{OpensAs, StaysOpened};
 ghost use Rattle.ksi_roundstore.specs.Stores.{IsFileOf, IsStoreOf};
 ghost use Rattle.ksi_roundstore.specs.StoreState.{StoreState};
@@ -21,7 +22,7 @@ ghost use Rattle.ksi_schedule.specs.Events.{AreEvents, IsEvent};
 ghost use Rattle.ksi_schedule.specs.Plans.{core_plan_of, IsPlan, PlanState};
 ghost use Rattle.ksi_schedule.specs.declared.event.Event.{Event};
 ghost use Rattle.ksi_world.specs.CoreEvents.{asked_of};
-ghost use Rattle.ksi_world.specs.Histories.{after, core_message, round_message};
+ghost use Rattle.ksi_world.specs.Histories.{after, core_message, happens, round_message};
 ghost use Rattle.ksi_world.specs.Records.{issued_of};
 ghost use Rattle.ksi_world.specs.RoundEvents.{round_asked_of};
 ghost use Rattle.ksi_crashed.specs.Aggregators.{IsAggregatorAfter, IsTakenAs, Running, running_in, TookStep, WasCutOff, WasOpened};
@@ -63,7 +64,8 @@ pub fn round_calls_are_deeds<C: Compress, D: Disk, E: Disk>()
 /// are one.
 ///
 /// The messages that a node hands out are those of the history's wire, at their place. Those of an event that was cut off were
-/// never handed out: if they stand in the wire, they are lost ones. And so what holds after every history holds of nodes that
+/// never handed out: if they stand in the wire, they are lost ones. What an aggregator answers is what the history answers, with
+/// its own numbers. And so what holds after every history holds of nodes that
 /// crash: two cores that hold a root for a second hold the same, and what a live aggregator issues is issued of a request of the
 /// history, the one that has its number there.
 pub fn crashed_nodes_have_a_history()
@@ -78,6 +80,9 @@ pub fn crashed_nodes_have_a_history()
     ensures aggregator_messages { (image : List ℕ → List ℕ) (plan : PlanState) → IsPlan plan → (before : List Event) (event : Event) (k : ℕ) (old new : Running) (asked : RoundEvent) → AreEvents plan before → IsEvent plan event →
         IsAggregatorAfter image plan before k old → round_asked_of k (after image plan before) event ≡ Some asked → (took : TookStep image k plan asked old new) →
         (after image plan (before ++ event ∷ [])).wire ≡ (after image plan before).wire ++ map (round_message plan k (event_second asked)) took.step.sends }
+    ensures answers { (image : List ℕ → List ℕ) (plan : PlanState) → IsPlan plan → (before : List Event) (event : Event) (k : ℕ) (old new : Running) (asked : RoundEvent) → AreEvents plan before → IsEvent plan event →
+        IsAggregatorAfter image plan before k old → round_asked_of k (after image plan before) event ≡ Some asked → (took : TookStep image k plan asked old new) →
+        (next : IsAggregatorAfter image plan (before ++ event ∷ []) k new) × (took.step.answer ≡ answer_renamed next.name (happens image plan (after image plan before) event).outcome.answer) }
     ensures agree { (image : List ℕ → List ℕ) (plan : PlanState) → IsPlan plan → (events : List Event) (one other second : ℕ) (running others : core_node.Running) (root found : List ℕ) → AreEvents plan events →
         core_node.IsCoreAfter image plan events one running → core_node.IsCoreAfter image plan events other others → held_by running.core second ≡ Some root → held_by others.core second ≡ Some found → root ≡ found }
     ensures issued { (image : List ℕ → List ℕ) (plan : PlanState) (events : List Event) (k : ℕ) (running : Running) (number : ℕ) (text : List ℕ) → (is : IsAggregatorAfter image plan events k running) →
