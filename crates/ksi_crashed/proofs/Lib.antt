@@ -7,3 +7,4 @@ pub mod Stepping
 pub mod Deeds
 pub mod Issuing
 pub mod Calls
+pub mod OneNode

@@ -26,6 +26,7 @@ ghost use Rattle.ksi_world.specs.Histories.{after, core_message, happens, round_
 ghost use Rattle.ksi_world.specs.Records.{issued_of};
 ghost use Rattle.ksi_world.specs.RoundEvents.{round_asked_of};
 ghost use Rattle.ksi_crashed.specs.Aggregators.{IsAggregatorAfter, IsTakenAs, Running, running_in, TookStep, WasCutOff, WasOpened};
+ghost use Rattle.ksi_crashed.specs.AsNode.{IsAggregatorNode};
 ghost use Rattle.ksi_crashed.specs.Crashed.{all_events, AreNodesAfter, Deed, Nodes, Runs};
 
 use ksi_disk::Disk;
@@ -98,4 +99,13 @@ pub fn crashed_nodes_have_a_history()
     step_is_by_facts();
     steps_are_lawful();
     world_is_seen();
+}
+
+/// An aggregator is a node in general, whose state is its rounds. So the laws of `ksi_gates` hold of it: a crash is a restart
+/// (`crash_is_a_restart`), and any run of one aggregator has a history (`crashes_are_restarts`).
+pub fn an_aggregator_is_a_node()
+    ensures { (image : List ℕ → List ℕ) (me : ℕ) → IsAggregatorNode image me }
+{
+    one_aggregator_of_facts();
+    steps_are_lawful();
 }
