@@ -14,16 +14,16 @@ use Rattle.ksi_roundstore.specs.Takes.{HasEither, fact_added}
 use Rattle.ksi_roundstore.specs.Written.{IsWritten}
 use Rattle.ksi_roundstore.proofs.Made.{early}
 use Rattle.ksi_roundstore.proofs.Onward.{Laws, left_files, restart_either}
-use Rattle.ksi_roundstore.proofs.Spelled.{IsOneSignature, one_file}
+use Rattle.ksi_roundstore.proofs.Spelled.{one_file}
 
-module _ (laws : Laws) (is_one : IsOneSignature) (image : List ℕ → List ℕ) where
+module _ (laws : Laws) (image : List ℕ → List ℕ) where
   pub left_either : (me : ℕ) (plan : PlanState) (facts others : List Fact) (file : List ℕ) (aggregator other : AggregatorState) (event : RoundEvent) → HasFacts facts (rounds_of aggregator) → MayTake (rounds_of aggregator) event
       → event_second event < 2 ^ 63 → IsFileBeforeOrAfter me plan facts (fact_added image aggregator event) file → IsFileOf me plan others file → IsOfFacts me others other → IsRestartedEither image aggregator event other
   left_either me plan facts others file aggregator other event has may below left found of =
       let one_of : (facts ≡ others) ⊎ (with_new facts (fact_added image aggregator event) ≡ others) =
       elim left [
-        | inl before ↦ inl (one_file is_one me plan facts others file before found)
-        | inr after ↦ inr (one_file is_one me plan (with_new facts (fact_added image aggregator event)) others file after found)
+        | inl before ↦ inl (one_file me plan facts others file before found)
+        | inr after ↦ inr (one_file me plan (with_new facts (fact_added image aggregator event)) others file after found)
       ] in
       restart_either laws image me facts others aggregator other event has may below one_of of
 
@@ -40,4 +40,4 @@ module _ (laws : Laws) (is_one : IsOneSignature) (image : List ℕ → List ℕ)
       → IsStoreOf content images me plan facts old → images old.log.disk file → IsFileOf me plan others file → IsOfFacts me others opened.aggregator → IsRestarted old.aggregator opened.aggregator
   store_idle content images me plan facts others old file opened is left found of =
       let here : IsFileOf me plan facts file = subst (λ (l : List ℕ). IsFileOf me plan facts l) (sym (is.settled.durable file left)) is.file in
-      laws.restarted me others (rounds_of old.aggregator) opened.aggregator (subst (λ (l : List Fact). HasFacts l (rounds_of old.aggregator)) (one_file is_one me plan facts others file here found) is.has) of
+      laws.restarted me others (rounds_of old.aggregator) opened.aggregator (subst (λ (l : List Fact). HasFacts l (rounds_of old.aggregator)) (one_file me plan facts others file here found) is.has) of

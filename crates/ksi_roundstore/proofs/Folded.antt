@@ -1,5 +1,7 @@
 -- An aggregator goes on with the facts of records, and the store of what was found.
-use Rattle.std.proofs.Common.{◌≡◌, ℕ, suc, ◌+◌, ◌<◌, List, [], ◌∷◌, ◌++◌, length, take, get_or, true, refl, sym, subst, ap}
+use Rattle.std.proofs.Common.{◌≡◌, ℕ, suc, ◌+◌, ◌<◌, List, [], ◌∷◌, ◌++◌, length, take, get_or, true, refl, sym, subst, ap, drop, ◌∙◌}
+use Rattle.std.proofs.lemmas.List.{drop_more, take-append-drop}
+use Rattle.ksi_gates.specs.Gates.{records_text}
 use Rattle.std.specs.List.{AllByRecursion}
 use Rattle.ksi_aggtree.specs.declared.entries.Entry.{Entry}
 use Rattle.ksi_schedule.specs.Plans.{PlanState}
@@ -9,7 +11,7 @@ use Rattle.ksi_aggregator.specs.Rows.{RoundState}
 use Rattle.ksi_roundfacts.specs.Restored.{HasFacts, IsOfFacts}
 use Rattle.ksi_gates.specs.declared.log.GateLog.{GateLog}
 use Rattle.ksi_gates.specs.Logs.{IsSettled}
-use Rattle.ksi_roundstore.specs.Folds.{GoesOn, IsAggregatorOf}
+use Rattle.ksi_roundstore.specs.Folds.{AreFactsOf, GoesOn, HasNoFact, IsAggregatorOf, IsFault}
 use Rattle.ksi_roundstore.specs.Stores.{IsFileOf, IsStoreOf}
 use Rattle.ksi_roundstore.specs.Texts.{event_of}
 use Rattle.ksi_roundstore.specs.Written.{AreTexts, IsWritten}
@@ -47,4 +49,18 @@ store_found content images me plan facts file aggregator log records is of has s
   settled = settled;
   from = from;
   file = subst (λ (l : List ℕ). IsFileOf me plan facts l) (sym here) is;
+}
+
+-- a record of no fact stands here
+pub fault_here : (plan : PlanState) (me : ℕ) (facts : List Fact) (records : List (List ℕ)) (k place : ℕ) (content : List ℕ) → k < length records → content ≡ get_or records k content → place ≡ 20 + length (records_text (take k records))
+    → AreFactsOf plan me facts (take k records) → HasNoFact plan me facts content → IsFault plan me records place
+fault_here plan me facts records k place content within is here are none = record {
+  facts = facts;
+  before = take k records;
+  content = content;
+  others = drop (k + 1) records;
+  are = are;
+  split = sym (take-append-drop k records) ∙ ap (λ (l : List (List ℕ)). take k records ++ l) (drop_more records k content within ∙ ap (λ (c : List ℕ). c ∷ drop (k + 1) records) (sym is));
+  here = here;
+  none = none;
 }

@@ -12,3 +12,5 @@ pub mod Crashed
 pub mod Formatted
 pub mod Accepted
 pub mod Unread
+pub mod Reasons
+pub mod Untaken

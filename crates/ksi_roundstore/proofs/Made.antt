@@ -32,6 +32,7 @@ use Rattle.ksi_roundstore.proofs.ReadAs.{all_fit}
 use Rattle.ksi_roundstore.proofs.Rows.{request_none, submission_none}
 use Rattle.ksi_roundstore.proofs.Spelled.{text_is_lines}
 use Rattle.ksi_roundstore.proofs.Taken.{accepted_front, after_then}
+use Rattle.ksi_roundstore.proofs.Untaken.{not_accepted}
 
 fit_front : (items : List RoundEvent) (last : RoundEvent) → AllByRecursion FitsRound (items ++ last ∷ []) → AllByRecursion FitsRound items × FitsRound last
 fit_front [] last fit = (tt, fit.0)
@@ -241,5 +242,6 @@ module _ (image : List ℕ → List ℕ) where
       → IfOk result (λ stored. (me : ℕ) (facts : List Fact) → AreLawful facts → IsOfFacts me facts old → GoesOn plan me facts content new stored)
   took_all plan content old new list (Ok true) text written made mine took = λ me facts lawful of.
       goes_on_with plan me facts content old new list lawful of mine text (subst (λ (n : ℕ). AllByRecursion (IsWritten plan n) list) of.mine written) made took.0 took.1
-  took_all plan content old new list (Ok false) text written made mine took = λ me facts lawful of. tt
+  took_all plan content old new list (Ok false) text written made mine took = λ me facts lawful of.
+      not_accepted image plan me facts content old list text (subst (λ (n : ℕ). AllByRecursion (IsWritten plan n) list) of.mine written) of took
   took_all plan content old new list (Err failure) text written made mine took = tt

@@ -1,56 +1,41 @@
 -- Lines are read as the events that they are of.
-use Rattle.std.proofs.Common.{◌≡◌, ℕ, false, List, [], ◌∷◌, ◌++◌, codes, refl, sym, ◌∙◌, ap, subst, append_assoc, Ok}
+use Rattle.std.proofs.Common.{◌≡◌, ℕ, List, [], ◌∷◌, ◌++◌, sym, ◌∙◌, ap, subst, append_assoc, Result, Ok, Err}
 use Rattle.std.specs.List.{AllByRecursion}
-use Rattle.std.specs.Fmt.{decimal}
 use Rattle.ksi_aggregator.specs.declared.event.RoundEvent.{RoundEvent}
-use Rattle.ksi_aggregator.specs.declared.event.RoundEvent.TheVariants as events
-use Rattle.ksi_schedule.specs.Pieces.{Text, words}
+use Rattle.ksi_schedule.specs.Pieces.{Text}
 use Rattle.ksi_schedule.specs.Plans.{PlanState}
-use Rattle.ksi_schedule.specs.Printed.{hex_of, line_of, name_words, spaced}
-use Rattle.ksi_schedule.proofs.Again.{plain}
-use Rattle.ksi_schedule.proofs.Cuts.{words-cut, lacks_before}
+use Rattle.ksi_schedule.specs.Printed.{line_of}
+use Rattle.ksi_wire.specs.declared.event.AggregatorLine.{AggregatorLine}
 use Rattle.ksi_wire.specs.declared.event.AggregatorLine.TheVariants as lines
-use Rattle.ksi_wire.specs.AskedRounds.{aggregator_line_of, is_response}
-use Rattle.ksi_wire.specs.Lines.{item_words}
-use Rattle.ksi_wire.specs.RoundLines.{FitsRound, IsToldIn, round_words}
+use Rattle.ksi_wire.specs.declared.fault.WireFault.{WireFault}
+use Rattle.ksi_wire.specs.AskedRounds.{aggregator_line_of}
+use Rattle.ksi_wire.specs.RoundLines.{FitsRound, round_words}
 use Rattle.ksi_roundstore.specs.Texts.{lines_of}
 use Rattle.ksi_roundstore.specs.Written.{IsLine, IsReadAs, IsWritten}
 use Rattle.ksi_roundstore.proofs.Spelled.{lines_then}
 
-module _ (plan : PlanState) (me : ℕ) (line : Text) where
-  no_response : (event : RoundEvent) (rest : Text) (word : Text) → line ≡ word ++ 32 ∷ rest → Rattle.ksi_schedule.proofs.Cuts.Lacks 32 word → is_response (word ∷ words rest) ≡ false → is_response (words line) ≡ false
-  no_response event rest word is free other = ap (λ (l : Text). is_response (words l)) is ∙ ap is_response (words-cut word rest free) ∙ other
+-- a line that was taken is read as its event
+pub read_as : (plan : PlanState) (me : ℕ) (line : Text) (event : RoundEvent) → line ≡ line_of (round_words event) → aggregator_line_of plan me line ≡ Ok (lines.Event event) → FitsRound event → IsReadAs plan me line event
+read_as plan me line event is exact fits = record {
+  text = is;
+  written = λ free. record {
+    line = subst IsLine is free;
+    fits = fits;
+    asked = ap (λ (l : Text). aggregator_line_of plan me l) (sym is) ∙ exact;
+  };
+}
 
-  -- a line that was taken is read as its event
-  pub read_as : (event : RoundEvent) → line ≡ line_of (round_words event) → (is_response (words line) ≡ false → aggregator_line_of plan me line ≡ Ok (lines.Event event)) → FitsRound event → IsToldIn plan (lines.Event event) → IsReadAs plan me line event
-  read_as (events.Request number second imprint name) is exact fits told = record {
-    text = is;
-    written = λ free. record {
-      line = subst IsLine is free;
-      fits = fits;
-      asked = ap (λ (l : Text). aggregator_line_of plan me l) (sym is) ∙ exact (no_response (events.Request number second imprint name) (decimal number ++ spaced (decimal second ∷ hex_of imprint ∷ name_words name)) (codes "request") is (plain (codes "request") refl).0 refl);
-    };
-  }
-  read_as (events.Submission from second item) is exact fits told = record {
-    text = is;
-    written = λ free. record {
-      line = subst IsLine is free;
-      fits = fits;
-      asked = ap (λ (l : Text). aggregator_line_of plan me l) (sym is) ∙ exact (no_response (events.Submission from second item) (decimal from ++ spaced (decimal second ∷ item_words item)) (codes "submission") is (plain (codes "submission") refl).0 refl);
-    };
-  }
-  read_as (events.Close second) is exact fits told = record {
-    text = is;
-    written = λ free. record {
-      line = subst IsLine is free;
-      fits = fits;
-      asked = ap (λ (l : Text). aggregator_line_of plan me l) (sym is) ∙ exact (no_response (events.Close second) (decimal second ++ spaced []) (codes "close") is (plain (codes "close") refl).0 refl);
-    };
-  }
-  read_as (events.Response second above) is exact fits told = record {
-    text = is;
-    written = λ free. record { line = subst IsLine is free; fits = fits; asked = told };
-  }
+-- a line that was refused is no event's
+pub not_refused : (plan : PlanState) (me : ℕ) (line : Text) (fault : WireFault) → aggregator_line_of plan me line ≡ Err fault → (event : RoundEvent) → IsWritten plan me event → line ≡ line_of (round_words event) → ⊥
+not_refused plan me line fault refused event written is =
+    let no : ◌≡◌ {A = Result AggregatorLine WireFault} (Err fault) (Ok (lines.Event event)) = sym refused ∙ ap (λ (l : Text). aggregator_line_of plan me l) is ∙ written.asked in
+    absurd (cc no)
+
+-- nor is one that asks for a signature
+pub not_signed : (plan : PlanState) (me : ℕ) (line : Text) (number : ℕ) → aggregator_line_of plan me line ≡ Ok (lines.Sign number) → (event : RoundEvent) → IsWritten plan me event → line ≡ line_of (round_words event) → ⊥
+not_signed plan me line number signed event written is =
+    let no : ◌≡◌ {A = Result AggregatorLine WireFault} (Ok (lines.Sign number)) (Ok (lines.Event event)) = sym signed ∙ ap (λ (l : Text). aggregator_line_of plan me l) is ∙ written.asked in
+    absurd (cc no)
 
 -- one line more
 pub line_more : (text rest line behind : Text) (list : List RoundEvent) (event : RoundEvent) → text ≡ lines_of list ++ rest → rest ≡ line ++ 10 ∷ behind → line ≡ line_of (round_words event) → text ≡ lines_of (list ++ event ∷ []) ++ behind

@@ -1,6 +1,7 @@
 -- Events that are taken one after the other.
-use Rattle.std.proofs.Common.{◌≡◌, ℕ, ◌<◌, ◌+◌, Bool, true, false, List, [], ◌∷◌, ◌++◌, take, length, get_or, refl, sym, subst, ap, ◌∙◌}
-use Rattle.std.proofs.lemmas.List.{take_more}
+use Rattle.std.proofs.Common.{◌≡◌, ℕ, ◌<◌, ◌+◌, Bool, true, false, List, [], ◌∷◌, ◌++◌, take, length, get_or, refl, sym, subst, ap, ◌∙◌, drop}
+use Rattle.std.proofs.lemmas.List.{drop_more, take-append-drop, take_more}
+use Rattle.std.proofs.lemmas.Bool.{false≢true}
 use Rattle.ksi_aggregator.specs.declared.event.RoundEvent.{RoundEvent}
 use Rattle.ksi_aggregator.specs.declared.step.Step.{Step}
 use Rattle.ksi_aggregator.specs.Events.{MayTake, event_second, round_row}
@@ -11,7 +12,7 @@ use Rattle.ksi_roundstore.specs.Facts.{AreAccepted, IsAccepted, TakesAs, is_acce
 module _ (image : List ℕ → List ℕ) where
   pub takes_as : (old new : ℕ → RoundState) (event : RoundEvent) (step : Step) (result : Bool) → MayTake old event → IsTurn old new (event_second event) (round_row image event (old (event_second event))) step → result ≡ is_accepted step.answer → TakesAs image old new event result
   takes_as old new event step true may turn is = (record { may = may; accepted = ap is_accepted (sym turn.answer) ∙ sym is }, turn.after)
-  takes_as old new event step false may turn is = tt
+  takes_as old new event step false may turn is = λ was. absurd (false≢true (is ∙ ap is_accepted turn.answer ∙ was.accepted))
 
   pub after_then : (rounds : ℕ → RoundState) (some others : List RoundEvent) → rounds_after image rounds (some ++ others) ≡ rounds_after image (rounds_after image rounds some) others
   after_then rounds [] others = refl
@@ -24,6 +25,19 @@ module _ (image : List ℕ → List ℕ) where
   pub accepted_front : (rounds : ℕ → RoundState) (some : List RoundEvent) (event : RoundEvent) → AreAccepted image rounds (some ++ event ∷ []) → AreAccepted image rounds some × IsAccepted image (rounds_after image rounds some) event
   accepted_front rounds [] event are = (tt, are.0)
   accepted_front rounds (first ∷ some) event are = let rest = accepted_front (round_after image rounds first) some event are.1 in ((are.0, rest.0), rest.1)
+
+  accepted_at : (rounds : ℕ → RoundState) (some : List RoundEvent) (event : RoundEvent) (others : List RoundEvent) → AreAccepted image rounds (some ++ event ∷ others) → IsAccepted image (rounds_after image rounds some) event
+  accepted_at rounds [] event others are = are.0
+  accepted_at rounds (first ∷ some) event others are = accepted_at (round_after image rounds first) some event others are.1
+
+  -- where one of them is not accepted, they are not all accepted
+  pub not_all : (old mid : ℕ → RoundState) (list : List RoundEvent) (k : ℕ) (event : RoundEvent) → k < length list → event ≡ get_or list k event → ((t : ℕ) → mid t ≡ rounds_after image old (take k list) t)
+      → TakesAs image mid mid event false → AreAccepted image old list → ⊥
+  not_all old mid list k event within is here none are =
+      let mids : rounds_after image old (take k list) ≡ mid = (λ i t. sym (here t) i) in
+      let split : list ≡ take k list ++ event ∷ drop (k + 1) list =
+      sym (take-append-drop k list) ∙ ap (λ (l : List RoundEvent). take k list ++ l) (drop_more list k event within ∙ ap (λ (e : RoundEvent). e ∷ drop (k + 1) list) (sym is)) in
+      none (subst (λ (rounds : ℕ → RoundState). IsAccepted image rounds event) mids (accepted_at old (take k list) event (drop (k + 1) list) (subst (λ (l : List RoundEvent). AreAccepted image old l) split are)))
 
   -- one event more
   pub one_more : (old mid new : ℕ → RoundState) (list : List RoundEvent) (k : ℕ) (event : RoundEvent) → k < length list → event ≡ get_or list k event → AreAccepted image old (take k list) → ((t : ℕ) → mid t ≡ rounds_after image old (take k list) t)

@@ -54,12 +54,12 @@ AreAccepted image rounds (event ∷ list) = IsAccepted image rounds event × Are
 
 -- ---- in the code
 
--- an event was accepted, and its row was taken
+-- an event was accepted, and its row was taken; or it is not accepted
 abbrev pub TakesAs : (List ℕ → List ℕ) → (old new : ℕ → RoundState) → RoundEvent → Bool → Type 0
 TakesAs image old new event true = IsAccepted image old event × ((t : ℕ) → new t ≡ round_after image old event t)
-TakesAs image old new event false = Unit {0}
+TakesAs image old new event false = IsAccepted image old event → ⊥
 
--- events were accepted, and their rows were taken
+-- events were accepted, and their rows were taken; or they are not all accepted
 abbrev pub TakesAll : (List ℕ → List ℕ) → (old new : ℕ → RoundState) → List RoundEvent → Bool → Type 0
 TakesAll image old new list true = AreAccepted image old list × ((t : ℕ) → new t ≡ rounds_after image old list t)
-TakesAll image old new list false = Unit {0}
+TakesAll image old new list false = AreAccepted image old list → ⊥

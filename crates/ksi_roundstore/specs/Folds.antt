@@ -1,10 +1,11 @@
 -- What opening makes of the records of a file: the aggregator of their facts, one after the other.
-use Rattle.std.specs.Prelude.{ℕ, List, [], ◌∷◌, ◌++◌, true, false, Bool, Result, Ok, Err}
+use Rattle.std.specs.Prelude.{ℕ, List, [], ◌∷◌, ◌++◌, true, false, Bool, Result, Ok, Err, ◌≡◌, ◌+◌, length}
 use Rattle.ksi_schedule.specs.Plans.{PlanState}
 use Rattle.ksi_aggregator.specs.declared.fact.Fact.{Fact}
 use Rattle.ksi_aggregator.specs.Rounds.{AggregatorState}
-use Rattle.ksi_roundfacts.specs.Lawful.{AreLawful}
+use Rattle.ksi_roundfacts.specs.Lawful.{AreLawful, IsLawful, stored_by}
 use Rattle.ksi_roundfacts.specs.Restored.{IsOfFacts}
+use Rattle.ksi_gates.specs.Gates.{records_text}
 use Rattle.ksi_roundstore.specs.declared.refusal.OpenRefusal.{OpenRefusal}
 use Rattle.ksi_roundstore.specs.declared.refusal.OpenRefusal.TheVariants.{Failed, NotFormatted, Foreign, Malformed, NoMemory}
 use Rattle.ksi_roundstore.specs.Written.{AreTexts, IsTextOf}
@@ -14,11 +15,27 @@ pub record AreFactsOf (plan : PlanState) (me : ℕ) (facts : List Fact) (records
   pub texts : AreTexts plan me facts records
   pub lawful : AreLawful facts
 
--- an aggregator of facts goes on with a record: it is the aggregator with the record's fact too
+-- the content is no text of a fact that is lawful after these
+abbrev pub HasNoFact : PlanState → (me : ℕ) → List Fact → List ℕ → Type 0
+HasNoFact plan me facts content = (fact : Fact) → IsTextOf plan me fact content → IsLawful (stored_by facts) fact → ⊥
+
+-- a record at this place is no text of a fact that is lawful after the facts of the records before it
+pub record IsFault (plan : PlanState) (me : ℕ) (records : List (List ℕ)) (place : ℕ) : Type 0 where
+  pub facts : List Fact
+  pub before : List (List ℕ)
+  pub content : List ℕ
+  pub others : List (List ℕ)
+  pub are : AreFactsOf plan me facts before
+  pub split : records ≡ before ++ content ∷ others
+  pub here : place ≡ 20 + length (records_text before)
+  pub none : HasNoFact plan me facts content
+
+-- an aggregator of facts goes on with a record: it is the aggregator with the record's fact too, or the record is no lawful
+-- fact's
 abbrev pub GoesOn : PlanState → (me : ℕ) → List Fact → List ℕ → AggregatorState → Bool → Type 0
 GoesOn plan me facts content aggregator true =
     (fact : Fact) × IsTextOf plan me fact content × AreLawful (facts ++ fact ∷ []) × IsOfFacts me (facts ++ fact ∷ []) aggregator
-GoesOn plan me facts content aggregator false = Unit {0}
+GoesOn plan me facts content aggregator false = HasNoFact plan me facts content
 
 -- the aggregator of the facts whose texts the records are
 abbrev pub IsAggregatorOf : PlanState → (me : ℕ) → List (List ℕ) → AggregatorState → Type 0
@@ -29,5 +46,5 @@ FoldsAs plan me records (Ok aggregator) = IsAggregatorOf plan me records aggrega
 FoldsAs plan me records (Err Failed) = ⊥
 FoldsAs plan me records (Err NotFormatted) = ⊥
 FoldsAs plan me records (Err (Foreign aggregator start)) = ⊥
-FoldsAs plan me records (Err (Malformed place)) = Unit {0}
+FoldsAs plan me records (Err (Malformed place)) = IsFault plan me records place
 FoldsAs plan me records (Err NoMemory) = Unit {0}

@@ -1,5 +1,5 @@
 -- What the opening of an aggregator's file answers.
-use Rattle.std.specs.Prelude.{◌≡◌, ℕ, ◌+◌, ◌<◌, ◌^◌, List, length, take, Some, None, Result, Ok, Err}
+use Rattle.std.specs.Prelude.{◌≡◌, ◌⊎◌, ℕ, ◌+◌, ◌<◌, ◌^◌, List, length, take, Some, None, Result, Ok, Err}
 use Rattle.ksi_ports.specs.Outside.{Raises}
 use Rattle.ksi_schedule.specs.Plans.{PlanState}
 use Rattle.ksi_aggregator.specs.declared.fact.Fact.{Fact}
@@ -10,19 +10,37 @@ use Rattle.ksi_roundstore.specs.declared.refusal.OpenRefusal.{OpenRefusal}
 use Rattle.ksi_roundstore.specs.declared.refusal.OpenRefusal.TheVariants.{Failed, NotFormatted, Foreign, Malformed, NoMemory}
 use Rattle.ksi_roundstore.specs.declared.found.Found.{Found}
 use Rattle.ksi_roundstore.specs.Headers.{header_at}
-use Rattle.ksi_roundstore.specs.Folds.{IsAggregatorOf}
+use Rattle.ksi_roundstore.specs.Folds.{AreFactsOf, IsAggregatorOf, IsFault}
 use Rattle.ksi_roundstore.specs.StoreState.{StoreState, records_in}
 use Rattle.ksi_roundstore.specs.Stores.{IsFileOf, IsStoreOf}
 
--- the header is that of aggregator me of a plan with this start, or none, or another one
-abbrev pub HeadsAs : (me start : ℕ) → List ℕ → Result Unit OpenRefusal → Type 0
-HeadsAs me start file (Ok done) = header_at (take 20 file) ≡ Some (record { aggregator = me; start = start })
-HeadsAs me start file (Err Failed) = Unit {0}
-HeadsAs me start file (Err NotFormatted) = header_at (take 20 file) ≡ None
-HeadsAs me start file (Err (Foreign aggregator first)) =
-    (header_at (take 20 file) ≡ Some (record { aggregator = aggregator; start = first })) × ((aggregator ≡ me) → (first ≡ start) → ⊥)
-HeadsAs me start file (Err (Malformed place)) = ⊥
-HeadsAs me start file (Err NoMemory) = ⊥
+-- a file is broken at this place: a record there is no fact's, or the records, which are facts', do not end at a closed gate
+abbrev pub IsMalformedAt : PlanState → (me : ℕ) → List ℕ → (place : ℕ) → Type 0
+IsMalformedAt plan me file place =
+    IsFault plan me (records_in file) place
+    ⊎ ((facts : List Fact) × AreFactsOf plan me facts (records_in file) × ((reading_of 20 file).ending ≡ ending.Broken place))
+
+-- why a file of bytes is no file of aggregator me of a plan
+abbrev pub IsRefused : (me : ℕ) → PlanState → List ℕ → OpenRefusal → Type 0
+IsRefused me plan file Failed = Unit {0}
+IsRefused me plan file NotFormatted = header_at (take 20 file) ≡ None
+IsRefused me plan file (Foreign aggregator first) =
+    (header_at (take 20 file) ≡ Some (record { aggregator = aggregator; start = first })) × ((aggregator ≡ me) → (first ≡ plan.start) → ⊥)
+IsRefused me plan file (Malformed place) = (header_at (take 20 file) ≡ Some (record { aggregator = me; start = plan.start })) × IsMalformedAt plan me file place
+IsRefused me plan file NoMemory = Unit {0}
+
+-- a refusal that is not of the file
+abbrev pub IsOutside : OpenRefusal → Type 0
+IsOutside Failed = Unit {0}
+IsOutside NotFormatted = ⊥
+IsOutside (Foreign aggregator first) = ⊥
+IsOutside (Malformed place) = ⊥
+IsOutside NoMemory = Unit {0}
+
+-- the header of a file is that of aggregator me of a plan, or why it is not
+abbrev pub HeadsAs : (me : ℕ) → PlanState → List ℕ → Result Unit OpenRefusal → Type 0
+HeadsAs me plan file (Ok done) = header_at (take 20 file) ≡ Some (record { aggregator = me; start = plan.start })
+HeadsAs me plan file (Err refusal) = IsRefused me plan file refusal
 
 -- the count of faults after reads: it rises where the disk failed, and stays else
 abbrev pub CountsReads : {T : Type 0} → ℕ → ℕ → Result T OpenRefusal → Type 0
@@ -53,15 +71,16 @@ pub record IsFoundIn {C : Type 0} (me : ℕ) (plan : PlanState) (file : List ℕ
 
 abbrev pub FindsAs : {C : Type 0} → (me : ℕ) → PlanState → List ℕ → Result (Found C) OpenRefusal → Type 0
 FindsAs me plan file (Ok found) = IsFoundIn me plan file found
-FindsAs me plan file (Err refusal) = Unit {0}
+FindsAs me plan file (Err refusal) = IsRefused me plan file refusal
 
 -- THE STORE
 
--- what is answered of a file: the store of the facts in it, whose aggregator is made of them; and it counts its records
+-- what is answered of a file: the store of the facts in it, whose aggregator is made of them, and which
+-- counts them; or why there is none
 abbrev pub OpensAs : {D : Type 0} → (content : D → List ℕ) (images : D → List ℕ → Type 0) → (me : ℕ) → PlanState → List ℕ → Result (StoreState D) (OpenRefusal × D) → Type 0
 OpensAs content images me plan file (Ok store) =
     (facts : List Fact) × IsFileOf me plan facts file × IsOfFacts me facts store.aggregator × IsStoreOf content images me plan facts store × (store.records ≡ length facts)
-OpensAs content images me plan file (Err refused) = Unit {0}
+OpensAs content images me plan file (Err refused) = IsRefused me plan file refused.0
 
 -- the disk, in the store or handed back
 abbrev pub disk_after : {D : Type 0} → Result (StoreState D) (OpenRefusal × D) → D

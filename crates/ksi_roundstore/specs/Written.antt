@@ -11,39 +11,34 @@ use Rattle.ksi_aggregator.specs.declared.fact.Fact.{Fact}
 use Rattle.ksi_aggregator.specs.declared.fact.RoundFact.{RoundFact}
 use Rattle.ksi_aggregator.specs.declared.fact.RoundFact.TheVariants.{Closed, Answered}
 use Rattle.ksi_schedule.specs.Pieces.{Text}
-use Rattle.ksi_schedule.specs.Plans.{PlanState, InRange}
+use Rattle.ksi_schedule.specs.Plans.{PlanState}
 use Rattle.ksi_schedule.specs.Printed.{line_of}
 use Rattle.ksi_wire.specs.declared.event.AggregatorLine.TheVariants as lines
 use Rattle.ksi_wire.specs.AskedRounds.{aggregator_line_of}
-use Rattle.ksi_wire.specs.Responses.{IsTold}
 use Rattle.ksi_wire.specs.RoundLines.{FitsRound, round_words}
-use Rattle.ksi_roundstore.specs.Texts.{event_of, fact_text}
+use Rattle.ksi_roundstore.specs.Texts.{event_of, fact_text, lines_of}
 
 -- a text without a line feed
 abbrev pub IsLine : Text → Type 0
 IsLine [] = Unit {0}
 IsLine (b ∷ text) = ((b == 10) ≡ false) × IsLine text
 
--- the line of an event asks aggregator me of a plan for it; a response is of a second of the plan, and can be told
-abbrev pub IsAskedBy : PlanState → (me : ℕ) → RoundEvent → Type 0
-IsAskedBy plan me (events.Request number second imprint name) =
-    aggregator_line_of plan me (line_of (round_words (events.Request number second imprint name))) ≡ Ok (lines.Event (events.Request number second imprint name))
-IsAskedBy plan me (events.Submission from second item) =
-    aggregator_line_of plan me (line_of (round_words (events.Submission from second item))) ≡ Ok (lines.Event (events.Submission from second item))
-IsAskedBy plan me (events.Close second) =
-    aggregator_line_of plan me (line_of (round_words (events.Close second))) ≡ Ok (lines.Event (events.Close second))
-IsAskedBy plan me (events.Response second above) = InRange plan second × IsTold second above
-
--- an event to aggregator me of a plan that its line says again
+-- an event to aggregator me of a plan that its line says again: the line has no line feed, and is read as this event
 pub record IsWritten (plan : PlanState) (me : ℕ) (event : RoundEvent) : Type 0 where
   pub line : IsLine (line_of (round_words event))
   pub fits : FitsRound event
-  pub asked : IsAskedBy plan me event
+  pub asked : aggregator_line_of plan me (line_of (round_words event)) ≡ Ok (lines.Event event)
 
 -- a line is read as this event: it is its line, and where it has no line feed, the event is written by it
 pub record IsReadAs (plan : PlanState) (me : ℕ) (line : Text) (event : RoundEvent) : Type 0 where
   pub text : line ≡ line_of (round_words event)
   pub written : IsLine line → IsWritten plan me event
+
+-- the lines of events to aggregator me of a plan that their lines say again make this text
+pub record AreLinesIn (plan : PlanState) (me : ℕ) (text : Text) : Type 0 where
+  pub list : List RoundEvent
+  pub text_is : text ≡ lines_of list
+  pub written : AllByRecursion (IsWritten plan me) list
 
 -- the events that make a fact: those of a round's items and its closing, or that of its response
 abbrev pub what_events : (second : ℕ) → RoundFact → List RoundEvent

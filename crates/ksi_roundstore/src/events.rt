@@ -1,8 +1,11 @@
 // The events whose lines a text is.
-ghost use Rattle.std.specs.Prelude.{◌≡◌, ◌∷◌, ◌++◌, IfOk, IfSome};
+ghost use Rattle.std.specs.Prelude.{◌≡◌, ◌∷◌, ◌++◌, IfNone, IfOk, IfSome};
 ghost use Rattle.std.specs.List.{AllByRecursion};
+ghost use Rattle.ksi_schedule.specs.Printed.{line_of};
+ghost use Rattle.ksi_aggregator.specs.declared.event.RoundEvent.{RoundEvent};
+ghost use Rattle.ksi_wire.specs.RoundLines.{round_words};
 ghost use Rattle.ksi_roundstore.specs.Texts.{lines_of};
-ghost use Rattle.ksi_roundstore.specs.Written.{IsLine, IsReadAs, IsWritten};
+ghost use Rattle.ksi_roundstore.specs.Written.{AreLinesIn, IsLine, IsReadAs, IsWritten};
 
 use ksi_aggregator::RoundEvent;
 use ksi_imprint::{NoMemory, Refused};
@@ -20,6 +23,7 @@ pub(crate) fn read_events(
 ) -> Result<Option<Vec<RoundEvent>>, NoMemory>
     ensures lines { IfOk result (λ found. IfSome found (λ events. text.now ≡ lines_of events.items)) }
     ensures written { IfOk result (λ found. IfSome found (λ events. AllByRecursion (IsWritten plan.now me) events.items)) }
+    ensures none { IfOk result (λ found. IfNone found (AreLinesIn plan.now me text.now → ⊥)) }
 {
     let mut events = Vec::new(alloc);
     let mut rest = text;
@@ -44,7 +48,8 @@ fn read_line(
     me: u32,
     line: &[u8],
 ) -> Result<Option<RoundEvent>, NoMemory>
-    ensures { IfOk result (λ found. IfSome found (IsReadAs plan.now me line.now)) }
+    ensures read { IfOk result (λ found. IfSome found (IsReadAs plan.now me line.now)) }
+    ensures none { IfOk result (λ found. IfNone found ((event : RoundEvent) → IsWritten plan.now me event → line.now ≡ line_of (round_words event) → ⊥)) }
 {
     match aggregator_line(alloc, plan, me, line) {
         Ok(AggregatorLine::Event(event)) => Ok(Some(event)),
@@ -58,13 +63,10 @@ fn read_line(
 fn next_line(text: &[u8]) -> Option<(&[u8], &[u8])>
     ensures text { IfSome result (λ parts. text.now ≡ parts.0.now ++ 10 ∷ parts.1.now) }
     ensures line { IfSome result (λ parts. IsLine parts.0.now) }
+    ensures none { IfNone result (IsLine text.now) }
 {
     let place = memchr(b'\n', text)?;
     let (line, others) = text.split_at(place);
-    let (feed, behind) = others.split_at(1);
-    if feed == b"\n".as_slice() {
-        Some((line, behind))
-    } else {
-        None
-    }
+    let (_, behind) = others.split_at(1);
+    Some((line, behind))
 }

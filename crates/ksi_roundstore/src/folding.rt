@@ -1,5 +1,5 @@
 // The aggregator of the facts that records spell.
-ghost use Rattle.std.specs.Prelude.{◌≡◌, ◌+◌, ℕ, List, length, IfOk, IsTrue, OnOk};
+ghost use Rattle.std.specs.Prelude.{◌≡◌, ◌+◌, ◌↔◌, ℕ, List, length, IfOk, IsTrue, OnOk};
 ghost use Rattle.std.specs.List.{AllByRecursion};
 ghost use Rattle.ksi_gates.specs.Gates.{records_text};
 ghost use Rattle.ksi_aggregator.specs.Events.{event_second, MayTake, round_row};
@@ -103,7 +103,7 @@ fn take_event<C: Compress>(
 /// Whether an event may come: the number of a request is new.
 fn may_come<C: Compress>(aggregator: &Aggregator<C>, event: &RoundEvent) -> bool
     requires { FitsRound event.now }
-    ensures { IsTrue result → MayTake (rounds_of aggregator.now) event.now }
+    ensures { IsTrue result ↔ MayTake (rounds_of aggregator.now) event.now }
 {
     match event {
         RoundEvent::Request(number, _, _, _) => aggregator.is_new(*number),

@@ -18,7 +18,7 @@ pub(crate) fn read_header<D: Disk>(
     len: u64,
 ) -> Result<(), OpenRefusal>
     requires len { len ≡ length (D.content disk.old) }
-    ensures head { HeadsAs me plan.now.start (D.content disk.old) result }
+    ensures head { HeadsAs me plan.now (D.content disk.old) result }
     ensures stays { StaysRead (D.content disk.old) (D.content disk.new) result }
     ensures nothing { WroteNothing D.images D.moment D.images_since D.meter disk.old disk.new }
     ensures counted { CountsReads (D.faults disk.old) (D.faults disk.new) result }
@@ -34,7 +34,7 @@ pub(crate) fn read_header<D: Disk>(
 
 /// Looks whether these bytes are the header of aggregator `me` of a plan.
 fn look_at(me: u32, plan: &Plan, front: &[u8]) -> Result<(), OpenRefusal>
-    ensures head { (file : List ℕ) → take 20 file ≡ front.now → HeadsAs me plan.now.start file result }
+    ensures head { (file : List ℕ) → take 20 file ≡ front.now → HeadsAs me plan.now file result }
     ensures calm { (faults : ℕ) → CountsReads faults faults result }
     ensures sure { IsErrOf result Failed → ⊥ }
 {

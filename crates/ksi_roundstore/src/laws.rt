@@ -11,7 +11,8 @@ ghost use Rattle.ksi_roundfacts.specs.Lawful.{with_new};
 ghost use Rattle.ksi_roundfacts.specs.Restored.{HasFacts, IsOfFacts};
 ghost use Rattle.ksi_roundstore.specs.Crashes.{IsRestarted, IsRestartedEither};
 ghost use Rattle.ksi_roundstore.specs.Headers.{empty_file};
-ghost use Rattle.ksi_roundstore.specs.Opens.{OpensAs};
+ghost use Rattle.ksi_roundstore.specs.Opens.{IsOutside, IsRefused, OpensAs};
+ghost use Rattle.ksi_roundstore.specs.declared.refusal.OpenRefusal.{OpenRefusal};
 ghost use Rattle.ksi_roundstore.specs.StoreState.{StoreState};
 ghost use Rattle.ksi_roundstore.specs.Stores.{IsFileBeforeOrAfter, IsFileOf, IsStoreOf};
 ghost use Rattle.ksi_roundstore.specs.Takes.{fact_added, HasEither, HasStored, TookTurn};
@@ -21,14 +22,11 @@ use ksi_disk::Disk;
 use ksi_gates::laws::records_are_read_again;
 use ksi_imprint::Compress;
 use ksi_roundfacts::laws::{facts_one_by_one, one_aggregator_of_facts, steps_are_lawful};
-use ksi_signature::laws::signature_or_fault;
 
 /// A file is of one list of facts.
 pub fn a_file_is_of_one_list_of_facts()
     ensures { (me : ℕ) (plan : PlanState) (facts others : List Fact) (file : List ℕ) → IsFileOf me plan facts file → IsFileOf me plan others file → facts ≡ others }
-{
-    signature_or_fault();
-}
+{}
 
 /// A store of facts that takes an event is the store of these and of the event's, if any. A crash at any moment of the event
 /// leaves a file of the facts before, with the event's or without. Each clause takes what clauses of `take` say: `turn`,
@@ -74,7 +72,6 @@ pub fn crashes_are_restarts<C: Compress, D: Disk, E: Disk>()
 {
     steps_are_lawful();
     one_aggregator_of_facts();
-    signature_or_fault();
 }
 
 /// After `format` the file is one of no facts.
@@ -84,3 +81,13 @@ pub fn a_new_file_has_no_facts()
     facts_one_by_one();
     records_are_read_again();
 }
+
+/// A file of facts is opened, unless the disk fails or memory is wanting.
+pub fn files_of_facts_are_opened()
+    ensures { (me : ℕ) (plan : PlanState) (facts : List Fact) (file : List ℕ) (refusal : OpenRefusal) → IsFileOf me plan facts file → IsRefused me plan file refusal → IsOutside refusal }
+{}
+
+/// A file is refused for one reason, but for a disk that failed or want of memory.
+pub fn files_are_refused_for_one_reason()
+    ensures { (me : ℕ) (plan : PlanState) (file : List ℕ) (one other : OpenRefusal) → IsRefused me plan file one → IsRefused me plan file other → (IsOutside one → ⊥) → (IsOutside other → ⊥) → one ≡ other }
+{}

@@ -1,5 +1,4 @@
 mod Lines
 mod Pieces
-mod RoundLemmas
 mod SayLemmas
 mod ServeLemmas

@@ -1,5 +1,5 @@
 -- One line more came.
-use Rattle.std.proofs.Common.{◌≡◌, ℕ, List, [], ◌∷◌, ◌++◌, Bool, true, false, Option, Some, None, refl, subst}
+use Rattle.std.proofs.Common.{◌≡◌, ℕ, List, [], ◌∷◌, ◌++◌, true, false, Option, Some, None, refl, subst}
 use Rattle.ksi_service.specs.declared.inlet.Came.{Came}
 use Rattle.ksi_service.specs.declared.inlet.Came.TheVariants as cames
 use Rattle.ksi_service.specs.Inlet.{came_line, is_end, is_long, AreLinesOf, HasCome, HaveCome, LinesCame, OneCame}

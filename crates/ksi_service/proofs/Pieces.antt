@@ -1,5 +1,5 @@
 -- What a piece takes of known bytes.
-use Rattle.std.proofs.Common.{◌≡◌, ◌≢◌, ℕ, ◌≤◌, List, [], ◌∷◌, ◌++◌, ◌∙◌, ap, append_assoc, inl, inr, length, take, Bool, true, false, Option, Some, None, refl, sym, subst, IfSome, All, arith}
+use Rattle.std.proofs.Common.{◌≡◌, ◌≢◌, ℕ, ◌≤◌, List, [], ◌∷◌, ◌++◌, ◌∙◌, ap, append_assoc, inl, inr, length, take, Bool, true, false, Option, Some, None, refl, sym, subst, IfSome, arith}
 use Rattle.std.specs.Io.{StartsWith}
 use Rattle.std.specs.Io.KnownBytes.{Consumes, IsAtEnd, Keeps}
 use Rattle.std.specs.Io.BufRead.{DropsConsumable}

@@ -1,9 +1,9 @@
 -- What comes of a line to an aggregator.
-use Rattle.std.specs.Prelude.{◌≡◌, ◌⊎◌, ℕ, List, [], ◌∷◌, codes, false, Option, Some, None, Result, Ok, Err, is_some}
+use Rattle.std.specs.Prelude.{◌≡◌, ◌⊎◌, ℕ, List, [], ◌∷◌, codes, Option, Some, None, Result, Ok, Err, is_some}
 use Rattle.hex.specs.Hex.{encode_lower}
-use Rattle.ksi_schedule.specs.Pieces.{Text, words}
+use Rattle.ksi_schedule.specs.Pieces.{Text}
 use Rattle.ksi_schedule.specs.Plans.{PlanState}
-use Rattle.ksi_schedule.specs.Printed.{line_of, text_of_lines}
+use Rattle.ksi_schedule.specs.Printed.{text_of_lines}
 use Rattle.ksi_aggregator.specs.declared.event.RoundEvent.{RoundEvent}
 use Rattle.ksi_aggregator.specs.declared.event.RoundEvent.TheVariants as events
 use Rattle.ksi_aggregator.specs.declared.step.Step.{Step}
@@ -17,21 +17,14 @@ use Rattle.ksi_wire.specs.declared.event.AggregatorLine.{AggregatorLine}
 use Rattle.ksi_wire.specs.declared.event.AggregatorLine.TheVariants as lines
 use Rattle.ksi_wire.specs.declared.fault.WireFault.{WireFault}
 use Rattle.ksi_wire.specs.declared.fault.WireFault.TheVariants.{Long, Taken}
-use Rattle.ksi_wire.specs.AskedRounds.{aggregator_line_of, is_response}
-use Rattle.ksi_wire.specs.RoundLines.{asked_words}
+use Rattle.ksi_wire.specs.AskedRounds.{aggregator_line_of}
 use Rattle.ksi_wire.specs.Steps.{round_step_text}
 use Rattle.ksi_wire.specs.Refused.{refusal_text}
 
--- a line asks this: it is its text; and where it is no response it is read so
-pub record Asks (plan : PlanState) (me : ℕ) (line : Text) (asked : AggregatorLine) : Type 0 where
-  pub text : line ≡ line_of (asked_words asked)
-  pub read : is_response (words line) ≡ false → aggregator_line_of plan me line ≡ Ok asked
-
--- what a line asks, or its first fault, which is not said here of a response's
-abbrev pub IsAsked : PlanState → (me : ℕ) → Option Text → Result AggregatorLine WireFault → Type 0
-IsAsked plan me None asked = asked ≡ Err Long
-IsAsked plan me (Some line) (Ok asked) = Asks plan me line asked
-IsAsked plan me (Some line) (Err fault) = is_response (words line) ≡ false → aggregator_line_of plan me line ≡ Err fault
+-- what a line asks
+abbrev pub round_asked : PlanState → (me : ℕ) → Option Text → Result AggregatorLine WireFault
+round_asked plan me None = Err Long
+round_asked plan me (Some line) = aggregator_line_of plan me line
 
 -- the text of the step of an event
 abbrev pub round_said : PlanState → (me : ℕ) → RoundEvent → Step → Text
@@ -73,7 +66,5 @@ AskedRound image plan me (Ok (lines.Event event)) before after said = EventOutco
 AskedRound image plan me (Ok (lines.Sign number)) before after said = (after ≡ before) × SignTold image (rounds_of before.aggregator) number said
 AskedRound image plan me (Err fault) before after said = (after ≡ before) × (said ≡ refusal_text fault)
 
-pub record RoundOutcome {D : Type 0} (image : List ℕ → List ℕ) (plan : PlanState) (me : ℕ) (line : Option Text) (before after : StoreState D) (said : Text) : Type 0 where
-  pub asked : Result AggregatorLine WireFault
-  pub is : IsAsked plan me line asked
-  pub outcome : AskedRound image plan me asked before after said
+abbrev pub RoundOutcome : {D : Type 0} → (List ℕ → List ℕ) → PlanState → (me : ℕ) → Option Text → (before after : StoreState D) → (said : Text) → Type 0
+RoundOutcome image plan me line before after said = AskedRound image plan me (round_asked plan me line) before after said

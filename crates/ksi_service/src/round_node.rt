@@ -1,7 +1,8 @@
 //! An aggregator as a process.
-ghost use Rattle.std.specs.Prelude.{◌≡◌, ◌<◌, ◌^◌, length, true, false, IfOk, OnOk, Some, None, Ok, Err};
+ghost use Rattle.std.specs.Prelude.{◌≡◌, ◌<◌, ◌^◌, length, true, false, IfOk, OnOk, Some, None, Ok};
 ghost use Rattle.ksi_aggregator.specs.Events.{event_second, MayTake};
 ghost use Rattle.ksi_aggregator.specs.Rounds.{rounds_of};
+ghost use Rattle.ksi_wire.specs.Refused.{refusal_text};
 ghost use Rattle.ksi_wire.specs.RoundLines.{FitsRound, MayBeTaken};
 ghost use Rattle.ksi_service.specs.Inlet.{came_line};
 ghost use Rattle.ksi_service.specs.RoundOutcomes.{AskedRound, EventOutcome, IsTaken, RoundOutcome, SignTold};
@@ -64,8 +65,7 @@ fn take_what_came<C: Compress, D: Disk, O: Outlet>(
     ensures me { OnOk result (store.new.aggregator.me ≡ store.old.aggregator.me) }
 {
     if is_long {
-        out.say_refusal(WireFault::Long)?;
-        Ok(())
+        refuse(WireFault::Long, store, out)
     } else {
         take_line(alloc, plan, me, store, line, out)
     }
@@ -87,12 +87,21 @@ fn take_line<C: Compress, D: Disk, O: Outlet>(
 {
     match aggregator_line(alloc, plan, me, line) {
         Ok(asked) => take_asked(alloc, plan, me, store, asked, out),
-        Err(Refused::Fault(fault)) => {
-            out.say_refusal(fault)?;
-            Ok(())
-        }
+        Err(Refused::Fault(fault)) => refuse(fault, store, out),
         Err(Refused::NoMemory) => Err(Failure::Memory),
     }
+}
+
+/// Refuses a line.
+fn refuse<C: Compress, D: Disk, O: Outlet>(
+    fault: WireFault,
+    _store: &RoundStore<C, D>,
+    out: &mut O,
+) -> Result<(), Failure>
+    ensures { OnOk result (Answered (λ _ before after text. (after ≡ before) × (text ≡ refusal_text fault)) None _store.now _store.now (O.said out.old) (O.said out.new)) }
+{
+    out.say_refusal(fault)?;
+    Ok(())
 }
 
 /// Takes what a line asks.

@@ -1,38 +1,35 @@
 -- Printed lines are taken.
-use Rattle.std.proofs.Common.{◌≡◌, ℕ, ◌-◌, ◌^◌, ◌<◌, ◌≤◌, true, false, Bool, eqb, List, [], ◌∷◌, ◌++◌, length, codes, ◌&&◌, Option, Some, None, Result, Ok, Err, refl, ap, sym, ◌∙◌, subst, arith, ltb}
+use Rattle.std.proofs.Common.{◌≡◌, ℕ, ◌^◌, ◌<◌, true, false, Bool, eqb, List, [], ◌∷◌, length, codes, ◌&&◌, Option, Some, None, Ok, refl, ap, sym, ◌∙◌, subst, arith, ltb}
 use Rattle.std.specs.Fmt.{decimal}
 use Rattle.std.specs.List.{list_all}
 use Rattle.std.specs.Prelude.{IfSome}
 use Rattle.std.specs.Str.{bytes_eq}
 use Rattle.std.proofs.lemmas.Bool.{lt-ltb, le-leb}
 use Rattle.std.proofs.lemmas.Slice.Eq.{bytes_eq-Decides}
-use Rattle.ksi_imprint.specs.Reading.{hex_at}
 use Rattle.ksi_aggtree.specs.Names.{IsName, is_name_byte, are_name_bytes}
 use Rattle.ksi_aggtree.specs.declared.item.Item.{Item}
 use Rattle.ksi_schedule.specs.Pieces.{Text, words}
-use Rattle.ksi_schedule.specs.Plans.{PlanState, IsPlan, InRange, parent_of, name_of}
+use Rattle.ksi_schedule.specs.Plans.{PlanState, IsPlan, InRange, parent_of}
 use Rattle.ksi_schedule.specs.Printed.{hex_of, name_words, line_of}
 use Rattle.ksi_schedule.specs.declared.actor.Actor.{Actor}
 use Rattle.ksi_schedule.specs.declared.actor.Actor.TheVariants as actors
 use Rattle.ksi_schedule.proofs.Digests.{hex_digits, hex_lacks}
 use Rattle.ksi_schedule.proofs.Again.{IsClean, IsCleanWord, number_again, number-clean, plain, more, two, three, words-line_of}
-use Rattle.ksi_synod.specs.Ballots.{IsBallot}
 use Rattle.ksi_synod.specs.declared.messages.Vote.{Vote}
-use Rattle.ksi_synod.specs.declared.messages.LastVote.{LastVote}
 use Rattle.ksi_synod.specs.declared.messages.SynodMessage.{SynodMessage}
 use Rattle.ksi_synod.specs.declared.messages.SynodMessage.TheVariants as votes
 use Rattle.ksi_corenode.specs.declared.event.CoreEvent.{CoreEvent}
 use Rattle.ksi_corenode.specs.declared.event.CoreEvent.TheVariants as events
-use Rattle.ksi_wire.specs.declared.fault.WireFault.{WireFault}
-use Rattle.ksi_wire.specs.declared.event.ShortEvent.TheVariants as shorts
 use Rattle.ksi_aggregator.specs.declared.event.RoundEvent.TheVariants as rounds
 use Rattle.ksi_wire.specs.declared.event.AggregatorLine.{AggregatorLine}
 use Rattle.ksi_wire.specs.declared.event.AggregatorLine.TheVariants as lines
 use Rattle.ksi_wire.specs.Lines.{item_words, cast_words, vote_words, core_words}
-use Rattle.ksi_wire.specs.RoundLines.{asked_words, short}
-use Rattle.ksi_wire.specs.Asked.{Got, number_in, imprint_in, second_in, core_in, lower_in, is_same, ballot_in, name_in, is_same_name, item_in, cast_in, vote_in, submission_in, receive_in, core_event_in, core_event_of, short_in, if_spelled}
-use Rattle.ksi_wire.specs.AskedRounds.{sign_in, event_in, asked_in, aggregator_line_of}
+use Rattle.ksi_wire.specs.RoundLines.{asked_words}
+use Rattle.ksi_wire.specs.Asked.{Got, number_in, imprint_in, second_in, core_in, lower_in, is_same, ballot_in, name_in, is_same_name, item_in, cast_in, vote_in, core_event_in, core_event_of, if_spelled}
+use Rattle.ksi_wire.specs.AskedRounds.{asked_in, aggregator_line_of}
+use Rattle.ksi_wire.specs.Responses.{above_text}
 use Rattle.ksi_wire.specs.Taken.{IsDigest, IsSubmitted, IsBallotOf, IsCast, IsVote, ComesToCore, ComesToAggregator}
+use Rattle.ksi_wire.proofs.AboveSaid.{above_again, above_clean, AreRead}
 
 -- ---- words
 
@@ -197,14 +194,15 @@ core_line_taken plan me event h is =
 
 -- ---- the lines to an aggregator
 
-asked_taken : (plan : PlanState) (me : ℕ) (asked : AggregatorLine) → IsPlan plan → ComesToAggregator plan me asked → asked_in plan me (asked_words asked) ≡ Ok (asked, [])
-asked_taken plan me (lines.Sign number) h is = rw (number_taken number [] is) refl
-asked_taken plan me (lines.Event (rounds.Request number second imprint name)) h is =
+asked_taken : AreRead → (plan : PlanState) (me : ℕ) (asked : AggregatorLine) → IsPlan plan → ComesToAggregator plan me asked → asked_in plan me (asked_words asked) ≡ Ok (asked, [])
+asked_taken read plan me (lines.Sign number) h is = rw (number_taken number [] is) refl
+asked_taken read plan me (lines.Event (rounds.Request number second imprint name)) h is =
     rw (number_taken number (decimal second ∷ hex_of imprint ∷ name_words name) is.0, second_taken plan second (hex_of imprint ∷ name_words name) h is.1, imprint_taken imprint (name_words name) is.2, name_taken name is.3) refl
-asked_taken plan me (lines.Event (rounds.Submission from second item)) h is =
+asked_taken read plan me (lines.Event (rounds.Submission from second item)) h is =
     rw (lower_taken plan (actors.Aggregator me) from (decimal second ∷ item_words item) h is.there is.below, second_taken plan second (item_words item) h is.in_range, item_taken plan (actors.Aggregator me) from second item h is) refl
-asked_taken plan me (lines.Event (rounds.Close t)) h is = rw (second_taken plan t [] h is) refl
-asked_taken plan me (lines.Event (rounds.Response second above)) h is = absurd is
+asked_taken read plan me (lines.Event (rounds.Close t)) h is = rw (second_taken plan t [] h is) refl
+asked_taken read plan me (lines.Event (rounds.Response second above)) h is =
+    rw (second_taken plan second (above_text second above ∷ []) h is.0, above_again read second above is.1) refl
 
 asked_clean : (plan : PlanState) (me : ℕ) (asked : AggregatorLine) → IsPlan plan → ComesToAggregator plan me asked → IsClean (asked_words asked)
 asked_clean plan me (lines.Sign number) h is = two (codes "sign") (decimal number) (plain (codes "sign") refl) (number-clean number is)
@@ -215,7 +213,8 @@ asked_clean plan me (lines.Event (rounds.Request number second imprint name)) h 
     (more (hex_of imprint) (name_words name) (digest_clean imprint is.2) (name_clean name is.3))))
 asked_clean plan me (lines.Event (rounds.Submission from second item)) h is = submission_clean plan (actors.Aggregator me) from second item h is
 asked_clean plan me (lines.Event (rounds.Close t)) h is = of_second_clean plan (codes "close") t h refl is
-asked_clean plan me (lines.Event (rounds.Response second above)) h is = absurd is
+asked_clean plan me (lines.Event (rounds.Response second above)) h is =
+    three (codes "response") (decimal second) (above_text second above) (plain (codes "response") refl) (second_clean plan second h is.0) (above_clean second above is.1)
 
 asked_first : (asked : AggregatorLine) → (word : Text) × (rest : List Text) × (asked_words asked ≡ word ∷ rest)
 asked_first (lines.Sign number) = (_, _, refl)
@@ -224,9 +223,9 @@ asked_first (lines.Event (rounds.Submission from second item)) = (_, _, refl)
 asked_first (lines.Event (rounds.Close t)) = (_, _, refl)
 asked_first (lines.Event (rounds.Response second above)) = (_, _, refl)
 
-pub aggregator_line_taken : (plan : PlanState) (me : ℕ) (asked : AggregatorLine) → IsPlan plan → ComesToAggregator plan me asked → aggregator_line_of plan me (line_of (asked_words asked)) ≡ Ok asked
+pub aggregator_line_taken : AreRead → (plan : PlanState) (me : ℕ) (asked : AggregatorLine) → IsPlan plan → ComesToAggregator plan me asked → aggregator_line_of plan me (line_of (asked_words asked)) ≡ Ok asked
 unfolding aggregator_line_of
-aggregator_line_taken plan me asked h is =
+aggregator_line_taken read plan me asked h is =
     let first = asked_first asked in
     let cut : words (line_of (asked_words asked)) ≡ asked_words asked = line_words (asked_words asked) first.0 first.1 first.2 (asked_clean plan me asked h is) in
-    spelled_taken asked_words asked (asked_in plan me (words (line_of (asked_words asked)))) (ap (asked_in plan me) cut ∙ asked_taken plan me asked h is)
+    spelled_taken asked_words asked (asked_in plan me (words (line_of (asked_words asked)))) (ap (asked_in plan me) cut ∙ asked_taken read plan me asked h is)

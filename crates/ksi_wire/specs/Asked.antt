@@ -147,7 +147,7 @@ if_spelled printed line (Err fault) = Err fault
 unfoldable pub core_event_of : PlanState → (me : ℕ) → (line : Text) → Result CoreEvent WireFault
 core_event_of plan me line = if_spelled core_words line (core_event_in plan me (words line))
 
--- ---- what comes to an aggregator, but for responses
+-- ---- what comes to an aggregator and is no response
 
 abbrev pub short_in : PlanState → (me : ℕ) → (kind : Text) → List Text → Got ShortEvent
 short_in plan me kind ws =

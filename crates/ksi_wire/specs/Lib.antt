@@ -1,4 +1,5 @@
 pub mod Asked
+pub mod AskedAbove
 pub mod AskedRounds
 pub mod Lines
 pub mod Questions

@@ -1,5 +1,5 @@
 -- How a refused line is answered.
-use Rattle.std.specs.Prelude.{List, [], ◌∷◌, codes}
+use Rattle.std.specs.Prelude.{[], ◌∷◌, codes}
 use Rattle.ksi_schedule.specs.Pieces.{Text}
 use Rattle.ksi_schedule.specs.Printed.{text_of_lines}
 use Rattle.ksi_wire.specs.declared.fault.WireFault.{WireFault}

@@ -1,5 +1,5 @@
 -- Which events come to a node of a plan.
-use Rattle.std.specs.Prelude.{◌≡◌, ℕ, ◌<◌, ◌^◌, List, length, Option, Some, None, IfSome, Ok}
+use Rattle.std.specs.Prelude.{◌≡◌, ℕ, ◌<◌, ◌^◌, List, length, IfSome, Ok}
 use Rattle.ksi_imprint.specs.Reading.{hex_at}
 use Rattle.ksi_aggtree.specs.Names.{IsName}
 use Rattle.ksi_aggtree.specs.declared.item.Item.{Item}
@@ -14,10 +14,10 @@ use Rattle.ksi_synod.specs.declared.messages.SynodMessage.{SynodMessage}
 use Rattle.ksi_synod.specs.declared.messages.SynodMessage.TheVariants as votes
 use Rattle.ksi_corenode.specs.declared.event.CoreEvent.{CoreEvent}
 use Rattle.ksi_corenode.specs.declared.event.CoreEvent.TheVariants as events
-use Rattle.ksi_aggregator.specs.declared.event.RoundEvent.{RoundEvent}
 use Rattle.ksi_aggregator.specs.declared.event.RoundEvent.TheVariants as rounds
 use Rattle.ksi_wire.specs.declared.event.AggregatorLine.{AggregatorLine}
 use Rattle.ksi_wire.specs.declared.event.AggregatorLine.TheVariants as lines
+use Rattle.ksi_wire.specs.Responses.{IsTold}
 
 -- its digest is read again from its hex digits, as the type of imprints keeps it
 abbrev pub IsDigest : List ℕ → Type 0
@@ -55,10 +55,10 @@ ComesToCore plan me (events.Tell second) = InRange plan second
 ComesToCore plan me (events.Respond second) = InRange plan second
 ComesToCore plan me (events.Publish second) = InRange plan second
 
--- what comes to an aggregator, but for responses
+-- a response is of a second of the plan, and can be told
 abbrev pub ComesToAggregator : PlanState → (me : ℕ) → AggregatorLine → Type 0
 ComesToAggregator plan me (lines.Sign number) = number < 2 ^ 64
 ComesToAggregator plan me (lines.Event (rounds.Request number second imprint name)) = (number < 2 ^ 64) × InRange plan second × IsDigest imprint × IfSome name IsName
 ComesToAggregator plan me (lines.Event (rounds.Submission from second item)) = IsSubmitted plan (actors.Aggregator me) from second item
 ComesToAggregator plan me (lines.Event (rounds.Close second)) = InRange plan second
-ComesToAggregator plan me (lines.Event (rounds.Response second above)) = ⊥
+ComesToAggregator plan me (lines.Event (rounds.Response second above)) = InRange plan second × IsTold second above

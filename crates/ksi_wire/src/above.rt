@@ -1,17 +1,20 @@
 // What stands above a round, as a signature in hex. The signature's lowest chain has no link, and the others are those above.
-ghost use Rattle.std.specs.Prelude.{◌≡◌, ◌⊎◌, ◌<◌, ◌≤◌, ◌^◌, ◌∷◌, [], length, IsTrue, IfOk, IfSome};
-ghost use Rattle.std.specs.List.{AllByRecursion};
-ghost use Rattle.ksi_signature.specs.Above.{AreRoundLinks, IsNode, IsNameLink};
+ghost use Rattle.std.specs.Prelude.{◌≡◌, ◌<◌, ◌≤◌, ◌^◌, [], ◌||◌, length, map, drop, true, IfOk};
+ghost use Rattle.std.specs.List.{list_all};
 ghost use Rattle.ksi_signature.specs.File.{IsSignature};
+ghost use Rattle.ksi_signature.specs.Reading.{signature_at};
 ghost use Rattle.ksi_signature.specs.Issued.{issued};
 ghost use Rattle.ksi_signature.specs.Written.{signature_text};
 ghost use Rattle.ksi_tlv.specs.Spelling.{AreBytes};
-ghost use Rattle.ksi_wire.specs.Responses.{above_text, input_of, IsTold};
+ghost use Rattle.ksi_wire.specs.Asked.{Answers};
+ghost use Rattle.ksi_wire.specs.AskedAbove.{above_from, above_said, are_round_links, as_above, by_signature, has_round_links, is_left, is_name_link, is_node, is_short_metadata, may_stand};
+ghost use Rattle.ksi_wire.specs.Responses.{above_text, input_of};
 
 use crate::fault::WireFault;
 use hex::FromHexError;
 use ksi_aggchain::{Link, Sibling};
 use ksi_imprint::{Bytes, Imprint, NoMemory, Refused};
+use ksi_signature::laws::signature_is_read;
 use ksi_signature::{
     Above, AboveChain, AboveChains, AboveLinks, AggregationChain, Signature, issue, read,
 };
@@ -47,50 +50,42 @@ fn are_bytes(bytes: &[u8])
     ensures { AreBytes bytes.now }
 {}
 
-/// The chains above a round of a second, read from their word.
+/// The chains above a round, that a word in hex says.
 ///
 /// # Errors
-/// `Above`: the word is not the hex of such a signature. `Spelling`: it is not spelled as `above_text` spells it. `NoMemory`.
-pub fn read_above(alloc: Global, second: u64, text: &[u8]) -> Result<Above, Refused<WireFault>>
-    requires { second < 2 ^ 63 }
-    ensures text { IfOk result (λ above. text.now ≡ above_text second above) }
-    ensures chains { IfOk result (λ above. length above.chains ≤ 7) }
-    ensures told { IfOk result (IsTold second) }
+/// `Above`: the word is not the hex of such a signature. `NoMemory`.
+#[tactic(auto, unfolding(crate::specs::AskedAbove::above_said))]
+pub(crate) fn above_said(alloc: Global, word: &[u8]) -> Result<Above, Refused<WireFault>>
+    ensures { Answers (above_said word.now) result }
 {
-    let bytes = decoded(alloc, text)?;
-    let signature = signature_of(alloc, &bytes)?;
-    let Some(above) = above_of(alloc, signature)? else {
-        return Err(Refused::Fault(WireFault::Above));
+    let bytes = match hex::decode(alloc, word) {
+        Ok(bytes) => bytes,
+        Err(FromHexError::OutOfMemory) => return Err(Refused::NoMemory),
+        Err(_) => return Err(Refused::Fault(WireFault::Above)),
     };
-    let again = above_text(alloc, second, &above)?;
-    if again.as_slice() == text {
-        Ok(above)
-    } else {
-        Err(Refused::Fault(WireFault::Spelling))
+    above_in(alloc, bytes.as_slice())
+}
+
+/// What the signature that bytes are says of the chains above its item.
+fn above_in(alloc: Global, bytes: &[u8]) -> Result<Above, Refused<WireFault>>
+    ensures { Answers (by_signature (signature_at bytes.now)) result }
+{
+    signature_is_read();
+    are_bytes(bytes);
+    let signature = match read(alloc, bytes) {
+        Ok(signature) => signature,
+        Err(Refused::NoMemory) => return Err(Refused::NoMemory),
+        Err(Refused::Fault(_)) => return Err(Refused::Fault(WireFault::Above)),
+    };
+    match above_from(alloc, signature)? {
+        Some(above) => Ok(above),
+        None => Err(Refused::Fault(WireFault::Above)),
     }
 }
 
-/// The bytes of a word in hex.
-fn decoded(alloc: Global, text: &[u8]) -> Result<Vec<u8>, Refused<WireFault>> {
-    match hex::decode(alloc, text) {
-        Ok(bytes) => Ok(bytes),
-        Err(FromHexError::OutOfMemory) => Err(Refused::NoMemory),
-        Err(_) => Err(Refused::Fault(WireFault::Above)),
-    }
-}
-
-/// The signature that bytes are.
-fn signature_of(alloc: Global, bytes: &[u8]) -> Result<Signature, Refused<WireFault>> {
-    match read(alloc, bytes) {
-        Ok(signature) => Ok(signature),
-        Err(Refused::NoMemory) => Err(Refused::NoMemory),
-        Err(Refused::Fault(_)) => Err(Refused::Fault(WireFault::Above)),
-    }
-}
-
-/// What stands above the item of a signature. The chains are all but the lowest, which is the item's own.
-fn above_of(alloc: Global, signature: Signature) -> Result<Option<Above>, NoMemory>
-    ensures { IfOk result (λ found. IfSome found (λ above. length above.chains ≤ 7)) }
+/// What a signature says of the chains above its item. They are all but the lowest, which is the item's own.
+fn above_from(alloc: Global, signature: Signature) -> Result<Option<Above>, NoMemory>
+    ensures { IfOk result (λ found. found ≡ above_from signature) }
 {
     let Signature {
         chains,
@@ -103,9 +98,11 @@ fn above_of(alloc: Global, signature: Signature) -> Result<Option<Above>, NoMemo
     if publication.is_some() {
         return Ok(None);
     }
-    let Some(chains) = chains_of(alloc, chains.into_vec())? else {
+    let chains = chains.into_vec();
+    if !may_stand(&chains) {
         return Ok(None);
-    };
+    }
+    let chains = chains_above(alloc, chains)?;
     Ok(Some(Above {
         root: calendar.input,
         chains,
@@ -113,30 +110,52 @@ fn above_of(alloc: Global, signature: Signature) -> Result<Option<Above>, NoMemo
     }))
 }
 
-/// All chains but the first, if they may stand above a round.
-fn chains_of(alloc: Global, chains: Vec<AggregationChain>) -> Result<Option<AboveChains>, NoMemory>
-    ensures { IfOk result (λ found. IfSome found (λ chains. length chains ≤ 7)) }
+/// Whether all but the lowest may stand above a round.
+fn may_stand(chains: &[AggregationChain]) -> bool
+    ensures { result ≡ may_stand chains.now }
 {
-    let mut above = Vec::new(alloc);
-    let mut is_first = true;
-    'taking: for chain in chains {
-        let Some(chain) = chain_of(chain) else {
-            return Ok(None);
-        };
-        if is_first {
-            is_first = false;
-        } else {
-            above.push(chain)?;
-        }
-    }
-    if above.len() > 7 {
-        return Ok(None);
-    }
-    Ok(Some(AboveChains::from_vec(above)))
+    chains.len() <= 8 && have_round_links(chains)
 }
 
-/// The chain as one above a round, if it may be one.
-fn chain_of(chain: AggregationChain) -> Option<AboveChain> {
+fn have_round_links(chains: &[AggregationChain]) -> bool
+    ensures { result ≡ list_all has_round_links chains.now }
+{
+    chains.iter().all(|chain| has_round_links(chain))
+}
+
+fn has_round_links(chain: &AggregationChain) -> bool
+    ensures { result ≡ has_round_links chain.now }
+{
+    are_round_links(chain.links.as_slice())
+}
+
+/// All chains but the lowest.
+fn chains_above(alloc: Global, chains: Vec<AggregationChain>) -> Result<AboveChains, NoMemory>
+    requires some { 0 < length chains.items }
+    requires may { may_stand chains.items ≡ true }
+    ensures { IfOk result (λ above. above ≡ map as_above (drop 1 chains.items)) }
+{
+    let mut chains = chains;
+    let _own = chains.remove(0);
+    all_above(alloc, chains)
+}
+
+fn all_above(alloc: Global, chains: Vec<AggregationChain>) -> Result<AboveChains, NoMemory>
+    requires few { length chains.items ≤ 7 }
+    requires links { list_all has_round_links chains.items ≡ true }
+    ensures { IfOk result (λ above. above ≡ map as_above chains.items) }
+{
+    let mut above = Vec::new(alloc);
+    'taking: for chain in chains {
+        above.push(as_above(chain))?;
+    }
+    Ok(AboveChains::from_vec(above))
+}
+
+fn as_above(chain: AggregationChain) -> AboveChain
+    requires { has_round_links chain ≡ true }
+    ensures { result ≡ as_above chain }
+{
     let AggregationChain {
         time: _,
         index: _,
@@ -144,53 +163,59 @@ fn chain_of(chain: AggregationChain) -> Option<AboveChain> {
         input,
         links,
     } = chain;
-    let links = links.into_vec();
-    if !are_round_links(&links) {
-        return None;
-    }
-    Some(AboveChain {
+    AboveChain {
         input,
-        links: AboveLinks::from_vec(links),
-    })
+        links: AboveLinks::from_vec(links.into_vec()),
+    }
 }
 
 fn are_round_links(links: &[Link]) -> bool
-    ensures { IsTrue result → AreRoundLinks links.now }
+    ensures { result ≡ are_round_links links.now }
 {
-    if links.is_empty() {
-        return true;
+    match links {
+        [] => true,
+        [lowest, others @ ..] => { links.len() <= 17 && may_be_lowest(lowest) && are_nodes(others) }
     }
-    if links.len() > 17 {
-        return false;
-    }
-    let (lowest, others) = links.split_at(1);
-    may_be_lowest(&lowest[0]) && are_nodes(others)
 }
 
 fn are_nodes(links: &[Link]) -> bool
-    ensures { IsTrue result → AllByRecursion (λ link. IsNode link.sibling) links.now }
+    ensures { result ≡ list_all (λ link. is_node link.sibling) links.now }
 {
     links.iter().all(|link| is_node(&link.sibling))
 }
 
 fn may_be_lowest(link: &Link) -> bool
-    ensures { IsTrue result → IsNode link.now.sibling ⊎ IsNameLink link.now }
+    ensures { result ≡ (is_node link.now.sibling || is_name_link link.now) }
 {
     is_node(&link.sibling) || is_name_link(link)
 }
 
 fn is_node(sibling: &Sibling) -> bool
-    ensures { IsTrue result → IsNode sibling.now }
+    ensures { result ≡ is_node sibling.now }
 {
     matches!(sibling, Sibling::Imprint(_))
 }
 
 fn is_name_link(link: &Link) -> bool
-    ensures { IsTrue result → IsNameLink link.now }
+    ensures { result ≡ is_name_link link.now }
 {
-    let short = match &link.sibling {
+    is_short_metadata(&link.sibling) && link.correction == 0 && is_left(link.side)
+}
+
+fn is_short_metadata(sibling: &Sibling) -> bool
+    ensures { result ≡ is_short_metadata sibling.now }
+{
+    match sibling {
         Sibling::Metadata(bytes) => 1 <= bytes.as_slice().len() && bytes.as_slice().len() <= 70,
         Sibling::Imprint(_) | Sibling::Legacy(_) => false,
-    };
-    short && link.correction == 0 && matches!(link.side, Side::Left)
+    }
+}
+
+fn is_left(side: Side) -> bool
+    ensures { result ≡ is_left side }
+{
+    match side {
+        Side::Left => true,
+        Side::Right => false,
+    }
 }

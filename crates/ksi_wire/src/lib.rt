@@ -6,8 +6,8 @@
 //! The layers above may rely on this. A line is taken only where it is exactly the text of the event that it is read as, so
 //! each event has one line ([`core_line`], [`aggregator_line`]). A line that is not taken has one fault, the first from the
 //! left. The printed line of each event that may come to a node is taken again, by the law
-//! [`printed_lines_are_taken`](laws::printed_lines_are_taken); a response's is left out. And the text of a step is its answer,
-//! whether a fact was stored, and the lines of its messages ([`core_step_text`], [`round_step_text`]).
+//! [`printed_lines_are_taken`](laws::printed_lines_are_taken). And the text of a step is its answer, whether a fact was stored,
+//! and the lines of its messages ([`core_step_text`], [`round_step_text`]).
 //!
 //! ```text
 //! let event = core_event(alloc, &plan, 0, b"seal 1700000000")?;
@@ -32,7 +32,7 @@ mod sending;
 mod telling;
 mod votes;
 
-pub use above::{above_text, read_above};
+pub use above::above_text;
 pub use answers::put_answer;
 pub use core_lines::core_event;
 pub use event::AggregatorLine;

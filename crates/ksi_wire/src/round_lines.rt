@@ -1,14 +1,18 @@
 // The lines to an aggregator.
-ghost use Rattle.std.specs.Prelude.{◌≡◌, false, Ok, IfOk};
-ghost use Rattle.ksi_schedule.specs.Pieces.{words};
-ghost use Rattle.ksi_schedule.specs.Plans.{PlanState};
+ghost use Rattle.std.specs.Prelude.{◌≡◌, ◌≤◌, ◌<◌, ◌^◌, List, length, Ok, IfOk};
+ghost use Rattle.std.specs.List.{AllByRecursion};
+ghost use Rattle.ksi_schedule.specs.Pieces.{Text};
+ghost use Rattle.ksi_schedule.specs.Plans.{PlanState, InRange};
 ghost use Rattle.ksi_schedule.specs.Printed.{line_of};
 ghost use Rattle.ksi_schedule.specs.Reading.{words_left};
-ghost use Rattle.ksi_wire.specs.RoundLines.{round_words, asked_words, short, FitsRound, IsToldIn, MayBeTaken};
+ghost use Rattle.ksi_signature.specs.Above.{AreRoundLinks};
+ghost use Rattle.ksi_aggregator.specs.declared.event.RoundEvent.TheVariants.{Response};
+ghost use Rattle.ksi_wire.specs.declared.event.AggregatorLine.TheVariants.{Event};
+ghost use Rattle.ksi_wire.specs.RoundLines.{asked_words, short, FitsRound, IsToldIn, MayBeTaken};
 ghost use Rattle.ksi_wire.specs.Asked.{short_in, if_spelled, Answers, Reads};
-ghost use Rattle.ksi_wire.specs.AskedRounds.{aggregator_line_of, event_in, is_response, sign_in};
+ghost use Rattle.ksi_wire.specs.AskedRounds.{aggregator_line_of, event_in, response_in, sign_in};
 
-use crate::above::read_above;
+use crate::above::{above_said, above_text};
 use crate::cursor::{Words, is};
 use crate::event::{AggregatorLine, ShortEvent};
 use crate::fault::WireFault;
@@ -17,10 +21,11 @@ use crate::printing::{put_of_second, put_short, put_sign, put_word};
 use ksi_aggregator::RoundEvent;
 use ksi_imprint::Refused;
 use ksi_schedule::{Actor, Plan};
+use ksi_signature::Above;
 use std::alloc::Global;
 
 /// What a line asks of an aggregator of the plan. Each printed line of an event that may come to it is taken
-/// ([`printed_lines_are_taken`](crate::laws::printed_lines_are_taken)); of a response that is neither proved nor tested.
+/// ([`printed_lines_are_taken`](crate::laws::printed_lines_are_taken)).
 ///
 /// # Errors
 /// The first fault of the words from the left, or `Spelling` where the line is not just as what it asks is printed.
@@ -32,7 +37,7 @@ pub fn aggregator_line(
     me: u32,
     line: &[u8],
 ) -> Result<AggregatorLine, Refused<WireFault>>
-    ensures exact { is_response (words line.now) ≡ false → Answers (aggregator_line_of plan.now me line.now) result }
+    ensures exact { Answers (aggregator_line_of plan.now me line.now) result }
     ensures text { IfOk result (λ told. line.now ≡ line_of (asked_words told)) }
     ensures may { IfOk result MayBeTaken }
     ensures told { IfOk result (IsToldIn plan.now) }
@@ -140,37 +145,56 @@ fn short(event: ShortEvent) -> RoundEvent
     }
 }
 
-/// What stands above the round of a second.
+/// What stands above the round of a second, behind the first word.
 fn response(
     alloc: Global,
     plan: &Plan,
     line: &[u8],
     words: Words<'_>,
 ) -> Result<AggregatorLine, Refused<WireFault>>
+    ensures exact { Answers (if_spelled asked_words line.now (response_in plan.now (words_left words.entry.left))) result }
     ensures text { IfOk result (λ told. line.now ≡ line_of (asked_words told)) }
     ensures may { IfOk result MayBeTaken }
     ensures told { IfOk result (IsToldIn plan.now) }
 {
     let mut words = words;
-    let second = or_refused(second(plan, &mut words))?;
-    let text = or_refused(words.next_word())?;
-    let above = read_above(alloc, second, text)?;
+    let second = match second(plan, &mut words) {
+        Ok(second) => second,
+        Err(fault) => return Err(Refused::Fault(fault)),
+    };
+    let word = match words.next_word() {
+        Ok(word) => word,
+        Err(fault) => return Err(Refused::Fault(fault)),
+    };
+    let above = match above_said(alloc, word) {
+        Ok(above) => above,
+        Err(refused) => return Err(refused),
+    };
+    spelled(alloc, line, second, above)
+}
+
+/// The response, where the line is just as it is printed.
+fn spelled(
+    alloc: Global,
+    line: &[u8],
+    second: u64,
+    above: Above,
+) -> Result<AggregatorLine, Refused<WireFault>>
+    requires early { second < 2 ^ 63 }
+    requires few { length above.chains ≤ 7 }
+    requires links { AllByRecursion (λ chain. AreRoundLinks chain.links) above.chains }
+    ensures exact { (rest : List Text) → Answers (if_spelled asked_words line.now (Ok (Event (Response second above), rest))) result }
+    ensures text { IfOk result (λ told. line.now ≡ line_of (asked_words told)) }
+    ensures may { IfOk result MayBeTaken }
+    ensures told { (plan : PlanState) → InRange plan second → IfOk result (IsToldIn plan) }
+{
+    let word = above_text(alloc, second, &above)?;
     let mut again = Vec::new(alloc);
     put_of_second(&mut again, b"response", second)?;
-    put_word(&mut again, text)?;
+    put_word(&mut again, word.as_slice())?;
     if is(again.as_slice(), line) {
         Ok(AggregatorLine::Event(RoundEvent::Response(second, above)))
     } else {
         Err(Refused::Fault(WireFault::Spelling))
-    }
-}
-
-/// A fault as a refusal.
-fn or_refused<T>(outcome: Result<T, WireFault>) -> Result<T, Refused<WireFault>>
-    ensures { IfOk result (λ value. outcome ≡ Ok value) }
-{
-    match outcome {
-        Ok(value) => Ok(value),
-        Err(fault) => Err(Refused::Fault(fault)),
     }
 }

@@ -1,7 +1,7 @@
 use Rattle.std.proofs.Common.{◌≡◌, ◌+◌, ℕ, List, [], Bool, sym, subst, arith, get_or, refl}
 use Rattle.ksi_roundstore.specs.Folds.{GoesOn}
 use Rattle.ksi_roundstore.proofs.Along.{place_more, place_within}
-use Rattle.ksi_roundstore.proofs.Folded.{aggregator_more}
+use Rattle.ksi_roundstore.proofs.Folded.{aggregator_more, fault_here}
 use Rattle.ksi_roundstore.proofs.folding.fold_records.Goals as goal
 
 pub folding-init : goal.folding-init
@@ -9,6 +9,16 @@ folding-init g c = record {
   so_far = ([], record { texts = tt; lawful = c.facts_one_by_one.ensures.none }, c.one_aggregator_of_facts.ensures.none c.args.me c.new-aggregator.result c.new-aggregator.ensures.me c.new-aggregator.ensures.fresh);
   here = refl;
 }
+
+pub returns-then-not-branch : goal.returns-then-not-branch
+returns-then-not-branch g c =
+    let records = c.args.records.now in
+    let k = c.folding.k in
+    let content = c.as_slice-content.result.now in
+    let is : content ≡ get_or records k content = subst (λ (x : List ℕ). x ≡ get_or records k x) (sym c.as_slice-content.ensures) c.index-records-k.is in
+    let of = c.folding.invariant.so_far in
+    let none = subst (λ (b : Bool). GoesOn c.args.plan.now c.args.me of.0 content c.fold_record.new.aggregator b) c.if-not-branch.true (c.in_ok-fold_record.ensures c.args.me of.0 of.1.lawful of.2) in
+    fault_here c.args.plan.now c.args.me of.0 records k c.folding.place content (omega arith) is c.folding.invariant.here of.1 none
 
 pub overflow_add-place-in-folding : goal.overflow_add-place-in-folding
 overflow_add-place-in-folding g c =

@@ -8,13 +8,12 @@ returns g c =
     let content = g.D.Disk.content in
     let images = g.D.Disk.images in
     let laws : Laws = record { facts = c.steps_are_lawful.ensures.facts; restarted = c.one_aggregator_of_facts.ensures.restarted } in
-    let one = c.signature_or_fault.ensures.one_signature in
     record {
       taking = λ me plan facts old new event file opened is may written leaves left opens.
-          store_left laws one image content images me plan facts opens.0 old event file opened is may written (leaves.each file left) opens.1 opens.2;
+          store_left laws image content images me plan facts opens.0 old event file opened is may written (leaves.each file left) opens.1 opens.2;
       failed = λ me plan facts old new event file opened is may written leaves left opens.
-          store_left laws one image content images me plan facts opens.0 old event file opened is may written
+          store_left laws image content images me plan facts opens.0 old event file opened is may written
           (leaves.each file (g.met.D.Disk.counts_now new.log.disk (g.D.Disk.moment old.log.disk) file leaves.later left)) opens.1 opens.2;
-      idle = λ me plan facts old file opened is left opens. store_idle laws one image content images me plan facts opens.0 old file opened is left opens.1 opens.2;
+      idle = λ me plan facts old file opened is left opens. store_idle laws image content images me plan facts opens.0 old file opened is left opens.1 opens.2;
       opening = λ old new file leaves left. leaves.each file left;
     }

@@ -1,4 +1,4 @@
-use Rattle.std.proofs.Common.{◌≡◌, ap, sym, subst, rules}
+use Rattle.std.proofs.Common.{sym, subst, rules}
 use Rattle.ksi_service.specs.declared.inlet.Piece.TheVariants as pieces
 use Rattle.ksi_service.specs.Inlet.{HasCome, PieceTaken}
 use Rattle.ksi_service.proofs.Pieces.{has_come, more_so_far}

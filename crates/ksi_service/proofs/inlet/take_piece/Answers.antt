@@ -1,5 +1,5 @@
-use Rattle.std.proofs.Common.{◌≡◌, ◌++◌, take, subst}
-use Rattle.std.specs.Io.BufRead.{FillKeeps, DropsConsumable}
+use Rattle.std.proofs.Common.{◌++◌, take, subst}
+use Rattle.std.specs.Io.BufRead.{FillKeeps}
 use Rattle.ksi_service.specs.Inlet.{Holds}
 use Rattle.ksi_service.proofs.Pieces.{piece_taken}
 use Rattle.ksi_service.proofs.inlet.take_piece.Goals as goal

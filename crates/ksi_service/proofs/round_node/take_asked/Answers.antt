@@ -1,4 +1,4 @@
-use Rattle.std.proofs.Common.{◌≡◌, refl, sym, subst, Ok}
+use Rattle.std.proofs.Common.{refl, sym, subst, Ok}
 use Rattle.ksi_aggregator.specs.Rounds.{AggregatorState, rounds_of}
 use Rattle.ksi_schedule.specs.Pieces.{Text}
 use Rattle.ksi_wire.specs.declared.event.AggregatorLine.{AggregatorLine}

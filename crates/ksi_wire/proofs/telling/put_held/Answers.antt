@@ -1,4 +1,3 @@
-use Rattle.std.proofs.Common.{◌≡◌, ◌≤◌, ◌∙◌, append-nil, arith, sym}
 use Rattle.ksi_wire.proofs.ToldLines.{told_all, told_more}
 use Rattle.ksi_wire.proofs.telling.put_held.Goals as goal
 
