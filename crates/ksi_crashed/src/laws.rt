@@ -1,5 +1,5 @@
 //! The laws. None of these functions does anything.
-ghost use Rattle.std.specs.Prelude.{◌≡◌, ◌<◌, ◌^◌, ◌++◌, ◌∷◌, [], length, map, ℕ, Bool, List, Some, Ok};
+ghost use Rattle.std.specs.Prelude.{◌≡◌, ◌<◌, ◌++◌, ◌∷◌, [], length, map, ℕ, Bool, List, Some, Ok};
 ghost use Rattle.ksi_aggregator.specs.declared.event.RoundEvent.{RoundEvent};
 ghost use Rattle.ksi_aggregator.specs.declared.fact.Fact.{Fact};
 ghost use Rattle.ksi_aggregator.specs.declared.step.Step.{Step};
@@ -45,11 +45,11 @@ use ksi_world::laws::rounds_are_turns;
 /// of cores.
 pub fn round_calls_are_deeds<C: Compress, D: Disk, E: Disk>()
     ensures took { (me : ℕ) (plan : PlanState) (facts : List Fact) (old new : StoreState D) (asked live : RoundEvent) (step : Step) → IsStoreOf D.content D.images me plan facts old → MayTake (rounds_of old.aggregator) live →
-        event_second live < 2 ^ 63 → IsWritten plan me live → IsTakenAs (rounds_of old.aggregator) asked live → TookTurn C.image old.aggregator new.aggregator live step →
+        IsWritten plan me live → IsTakenAs (rounds_of old.aggregator) asked live → TookTurn C.image old.aggregator new.aggregator live step →
         HasStored D.content D.images step.fact old.log new.log → TookStep C.image me plan asked (running_in D.content old) (running_in D.content new) }
     ensures opened { (me : ℕ) (plan : PlanState) (file : List ℕ) (store : StoreState E) → OpensAs E.content E.images me plan file (Ok store) → WasOpened me plan (running_in E.content store) }
     ensures cut_off { (me : ℕ) (plan : PlanState) (facts : List Fact) (old new : StoreState D) (asked live : RoundEvent) (file : List ℕ) (store : StoreState E) → IsStoreOf D.content D.images me plan facts old → MayTake (rounds_of old.aggregator) live →
-        event_second live < 2 ^ 63 → IsWritten plan me live → IsTakenAs (rounds_of old.aggregator) asked live →
+        IsWritten plan me live → IsTakenAs (rounds_of old.aggregator) asked live →
         LeavesOnly D.moment D.images_since old.log.disk new.log.disk (HasEither (D.content old.log.disk) (fact_added C.image old.aggregator live)) → D.images_since new.log.disk (D.moment old.log.disk) file →
         OpensAs E.content E.images me plan file (Ok store) → StaysOpened E.content file (Ok store) →
         (stored : Bool) × WasCutOff C.image me plan asked stored (running_in D.content old) (running_in E.content store) }
