@@ -1,7 +1,9 @@
 -- The calls of a store of an aggregator are deeds.
-use Rattle.std.proofs.Common.{◌≡◌, ℕ, Bool, true, false, List, sym, subst, inl, inr, Option}
+use Rattle.std.proofs.Common.{◌≡◌, ◌<◌, ◌^◌, ℕ, Bool, true, false, List, sym, subst, inl, inr, Option}
 use Rattle.ksi_aggregator.specs.Rounds.{rounds_of}
+use Rattle.ksi_aggregator.specs.Events.{event_second}
 use Rattle.ksi_aggregator.specs.declared.event.RoundEvent.{RoundEvent}
+use Rattle.ksi_aggregator.specs.declared.event.RoundEvent.TheVariants as events
 use Rattle.ksi_aggregator.specs.declared.fact.Fact.{Fact}
 use Rattle.ksi_aggregator.specs.declared.step.Step.{Step}
 use Rattle.ksi_roundfacts.specs.Lawful.{with_new}
@@ -9,7 +11,15 @@ use Rattle.ksi_roundstore.specs.Stores.{IsFileOf, IsFileBeforeOrAfter}
 use Rattle.ksi_roundstore.specs.StoreState.{StoreState}
 use Rattle.ksi_roundstore.specs.Takes.{TookTurn, fact_added}
 use Rattle.ksi_schedule.specs.Plans.{PlanState}
+use Rattle.ksi_wire.specs.RoundLines.{FitsRound}
 use Rattle.ksi_crashed.specs.Aggregators.{Running, running_in, IsTakenAs, WasOpened, FileGrew, TookStep, WasCutOff}
+
+-- an event that is written is of a second before 2^63
+pub early : (event : RoundEvent) → FitsRound event → event_second event < 2 ^ 63
+early (events.Request number second imprint name) fits = fits
+early (events.Submission from second item) fits = fits.0
+early (events.Close second) fits = fits
+early (events.Response second above) fits = fits.0
 
 -- a file is of one list of facts
 abbrev pub OneFile : Type 0

@@ -30,7 +30,7 @@ use Rattle.ksi_facts.specs.Steps.{IsStepByFacts, by_delivery, by_message, new_ro
 use Rattle.ksi_facts.specs.Stored.{RoundAddsStored, round_act, round_acts}
 use Rattle.ksi_crashed.specs.RoundFacts.{in_order, round_facts}
 
-asked_here : (k i : ℕ) (asked e : RoundEvent) → where_this k i asked ≡ Some e → (eqb k i ≡ true) × (asked ≡ e)
+pub asked_here : (k i : ℕ) (asked e : RoundEvent) → where_this k i asked ≡ Some e → (eqb k i ≡ true) × (asked ≡ e)
 asked_here k i asked e is = by (eqb k i) refl is
   where
     by : (b : Bool) → eqb k i ≡ b → (if b then Some asked else None) ≡ Some e → (eqb k i ≡ true) × (asked ≡ e)

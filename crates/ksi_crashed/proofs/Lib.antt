@@ -1,8 +1,10 @@
 pub mod Naming
 pub mod Closing
 pub mod FactsMore
+pub mod Answering
 pub mod Renumbering
 pub mod Stepping
 pub mod Deeds
 pub mod Issuing
 pub mod Calls
+pub mod OneNode

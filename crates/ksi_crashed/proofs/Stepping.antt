@@ -12,7 +12,7 @@ use Rattle.ksi_aggregator.specs.declared.fact.RoundFact.{RoundFact}
 use Rattle.ksi_aggregator.specs.declared.step.Send.{Send}
 use Rattle.ksi_aggregator.specs.declared.step.Step.{Step}
 use Rattle.ksi_roundfacts.specs.Lawful.{AreLawful, with_new}
-use Rattle.ksi_roundfacts.specs.Renamed.{IsOneToOne, event_renamed, fact_renamed, round_renamed, turn_renamed}
+use Rattle.ksi_roundfacts.specs.Renamed.{IsOneToOne, answer_renamed, event_renamed, fact_renamed, round_renamed, turn_renamed}
 use Rattle.ksi_roundfacts.specs.Restored.{HasFacts, IsOfFacts}
 use Rattle.ksi_roundstore.specs.Stores.{IsFileOf}
 use Rattle.ksi_roundstore.specs.Takes.{fact_added}
@@ -27,6 +27,8 @@ use Rattle.ksi_facts.specs.State.{world_seen}
 use Rattle.ksi_facts.specs.Steps.{IsStepByFacts}
 use Rattle.ksi_crashed.specs.RoundFacts.{fact_named, facts_named, round_facts}
 use Rattle.ksi_crashed.specs.Aggregators.{Running, IsTakenAs, WasOpened, TookStep, TakesPart, WasCutOff, IsNamed, IsAggregatorAfter}
+use Rattle.ksi_signature.specs.declared.answer.Answer.{Answer}
+use Rattle.ksi_crashed.proofs.Answering.{event_answers}
 use Rattle.ksi_crashed.proofs.Closing.{OneByOne}
 use Rattle.ksi_crashed.proofs.FactsMore.{RowsStore, facts_asked, facts_first, facts_unasked}
 use Rattle.ksi_crashed.proofs.Naming.{changed, changed_first}
@@ -181,20 +183,20 @@ module _ (image : List ℕ → List ℕ) (plan : PlanState) (laws : Laws image p
     early = subst (λ (n : ℕ). n < 2 ^ 63) (sym second_is) (laws.may before are k event asked event_is here).1
 
     -- it took what it was asked
-    took_so : (new : Running) → old.aggregator.me ≡ k → (step : Step) → new.aggregator.me ≡ old.aggregator.me → IsTurn (rounds_of old.aggregator) (rounds_of new.aggregator) (event_second live) Row step
-        → IsFileOf k plan (with_new (facts_named is.name (Facts before k)) step.fact) new.file → IsAggregatorAfter image plan Next k new
-    took_so new mine step me turn file =
+    took_named : (new : Running) (step : Step) → IsTurn (rounds_of old.aggregator) (rounds_of new.aggregator) (event_second live) Row step → IsFileOf k plan (with_new (facts_named is.name (Facts before k)) step.fact) new.file
+        → IsNamed image plan Next k new is.name
+    took_named new step turn file =
         let same : with_new (facts_named is.name (Facts before k)) step.fact ≡ facts_named is.name (Facts Next k) = ap (λ (fact : Option Fact). with_new (facts_named is.name (Facts before k)) fact) turn.fact ∙ next_facts in
         record {
-          mine = me ∙ mine;
-          name = is.name;
-          named = record {
-            one = is.named.one;
-            rounds = λ t. turn.after t ∙ next_round t;
-            has = subst (λ (fs : List Fact). HasFacts fs (rounds_of new.aggregator)) same (laws.grows (facts_named is.name (Facts before k)) (rounds_of old.aggregator) (rounds_of new.aggregator) live step is.named.has may_live early turn);
-            file = subst (λ (fs : List Fact). IsFileOf k plan fs new.file) same file;
-          };
+          one = is.named.one;
+          rounds = λ t. turn.after t ∙ next_round t;
+          has = subst (λ (fs : List Fact). HasFacts fs (rounds_of new.aggregator)) same (laws.grows (facts_named is.name (Facts before k)) (rounds_of old.aggregator) (rounds_of new.aggregator) live step is.named.has may_live early turn);
+          file = subst (λ (fs : List Fact). IsFileOf k plan fs new.file) same file;
         }
+
+    -- what it answers is what the history answers, under the name
+    answered_so : (answer : Answer) → answer ≡ Row.answer → answer ≡ answer_renamed is.name (happens image plan (World before) event).outcome.answer
+    answered_so answer so = so ∙ ap (λ (turn : RoundTurn). turn.answer) row_is ∙ ap (answer_renamed is.name) (sym (event_answers image plan (World before) k event asked here))
 
     -- what is sent is what the history sends
     sent_so : (sends : List Send) → sends ≡ Row.sends → (World Next).wire ≡ (World before).wire ++ map (round_message plan k (event_second asked)) sends
@@ -256,6 +258,18 @@ module _ (image : List ℕ → List ℕ) (plan : PlanState) (laws : Laws image p
         ∙ laws.restart is.name ((World before).rounds k t)
         ∙ ap (round_renamed is.name) (sym (laws.restarted (World before) k event mine t) ∙ ap (λ (w : WorldState). w.rounds k t) (sym (after_more image plan before event))))
 
+  -- IT TOOK WHAT IT WAS ASKED
+
+  pub took_after : (before : List Event) (event : Event) (k : ℕ) (old new : Running) (asked : RoundEvent) → AreEvents plan before → IsEvent plan event → IsAggregatorAfter image plan before k old
+      → round_asked_of k (World before) event ≡ Some asked → (took : TookStep image k plan asked old new)
+      → (next : IsAggregatorAfter image plan (before ++ event ∷ []) k new) × (took.step.answer ≡ answer_renamed next.name (happens image plan (World before) event).outcome.answer)
+  took_after before event k old new asked are event_is is here took =
+      let so = asked_so before event k old asked took.live are event_is is here took.taken_as in
+      let file = took.file (facts_named so.name (Facts before k)) so.named.file in (
+        record { mine = took.turn.me ∙ is.mine; name = so.name; named = took_named before event k old asked took.live are event_is here so new took.step took.turn.turn file },
+        answered_so before event k old asked took.live are event_is here so took.step.answer took.turn.turn.answer,
+      )
+
   -- A PART IN AN EVENT
 
   pub takes_part : (before : List Event) (event : Event) (k : ℕ) (old new : Running) → AreEvents plan before → IsEvent plan event → IsAggregatorAfter image plan before k old
@@ -264,9 +278,7 @@ module _ (image : List ℕ → List ℕ) (plan : PlanState) (laws : Laws image p
     where
       by : (asked : Option RoundEvent) (restarts : Bool) → round_asked_of k (World before) event ≡ asked → is_restart_of_aggregator k event ≡ restarts → TakesPart image k plan asked restarts old new
           → IsAggregatorAfter image plan (before ++ event ∷ []) k new
-      by (Some asked) restarts here restart part =
-          let so = asked_so before event k old asked part.live are event_is is here part.taken_as in
-          took_so before event k old asked part.live are event_is here so new is.mine part.step part.turn.me part.turn.turn (part.file (facts_named so.name (Facts before k)) so.named.file)
+      by (Some asked) restarts here restart part = (took_after before event k old new asked are event_is is here part).0
       by None true here restart part =
           restarted_after before event k old is here restart new (subst (λ (l : List ℕ). IsFileOf k plan (facts_named is.name (Facts before k)) l) (sym part.0) is.named.file) part.1
       by None false here restart part = subst (λ (r : Running). IsAggregatorAfter image plan (before ++ event ∷ []) k r) (sym part) (still_after before event k old is here restart)

@@ -1,3 +1,4 @@
 pub mod RoundFacts
 pub mod Aggregators
 pub mod Crashed
+pub mod AsNode

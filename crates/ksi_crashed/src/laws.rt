@@ -1,5 +1,5 @@
 //! The laws. None of these functions does anything.
-ghost use Rattle.std.specs.Prelude.{◌≡◌, ◌<◌, ◌^◌, ◌++◌, ◌∷◌, [], length, map, ℕ, Bool, List, Some, Ok};
+ghost use Rattle.std.specs.Prelude.{◌≡◌, ◌<◌, ◌++◌, ◌∷◌, [], length, map, ℕ, Bool, List, Some, Ok};
 ghost use Rattle.ksi_aggregator.specs.declared.event.RoundEvent.{RoundEvent};
 ghost use Rattle.ksi_aggregator.specs.declared.fact.Fact.{Fact};
 ghost use Rattle.ksi_aggregator.specs.declared.step.Step.{Step};
@@ -12,6 +12,7 @@ ghost use Rattle.ksi_corenode.specs.declared.event.CoreEvent.{CoreEvent};
 ghost use Rattle.ksi_disk.specs.Images.{LeavesOnly};
 ghost use Rattle.ksi_node_file.specs.Crashed as core_node;
 ghost use Rattle.ksi_nodestore.specs.Stores as core_stores;
+ghost use Rattle.ksi_roundfacts.specs.Renamed.{answer_renamed};
 ghost use Rattle.ksi_roundstore.specs.Opens.{OpensAs, StaysOpened};
 ghost use Rattle.ksi_roundstore.specs.Stores.{IsFileOf, IsStoreOf};
 ghost use Rattle.ksi_roundstore.specs.StoreState.{StoreState};
@@ -21,10 +22,11 @@ ghost use Rattle.ksi_schedule.specs.Events.{AreEvents, IsEvent};
 ghost use Rattle.ksi_schedule.specs.Plans.{core_plan_of, IsPlan, PlanState};
 ghost use Rattle.ksi_schedule.specs.declared.event.Event.{Event};
 ghost use Rattle.ksi_world.specs.CoreEvents.{asked_of};
-ghost use Rattle.ksi_world.specs.Histories.{after, core_message, round_message};
+ghost use Rattle.ksi_world.specs.Histories.{after, core_message, happens, round_message};
 ghost use Rattle.ksi_world.specs.Records.{issued_of};
 ghost use Rattle.ksi_world.specs.RoundEvents.{round_asked_of};
 ghost use Rattle.ksi_crashed.specs.Aggregators.{IsAggregatorAfter, IsTakenAs, Running, running_in, TookStep, WasCutOff, WasOpened};
+ghost use Rattle.ksi_crashed.specs.AsNode.{IsAggregatorNode};
 ghost use Rattle.ksi_crashed.specs.Crashed.{all_events, AreNodesAfter, Deed, Nodes, Runs};
 
 use ksi_disk::Disk;
@@ -43,11 +45,11 @@ use ksi_world::laws::rounds_are_turns;
 /// of cores.
 pub fn round_calls_are_deeds<C: Compress, D: Disk, E: Disk>()
     ensures took { (me : ℕ) (plan : PlanState) (facts : List Fact) (old new : StoreState D) (asked live : RoundEvent) (step : Step) → IsStoreOf D.content D.images me plan facts old → MayTake (rounds_of old.aggregator) live →
-        event_second live < 2 ^ 63 → IsWritten plan me live → IsTakenAs (rounds_of old.aggregator) asked live → TookTurn C.image old.aggregator new.aggregator live step →
+        IsWritten plan me live → IsTakenAs (rounds_of old.aggregator) asked live → TookTurn C.image old.aggregator new.aggregator live step →
         HasStored D.content D.images step.fact old.log new.log → TookStep C.image me plan asked (running_in D.content old) (running_in D.content new) }
     ensures opened { (me : ℕ) (plan : PlanState) (file : List ℕ) (store : StoreState E) → OpensAs E.content E.images me plan file (Ok store) → WasOpened me plan (running_in E.content store) }
     ensures cut_off { (me : ℕ) (plan : PlanState) (facts : List Fact) (old new : StoreState D) (asked live : RoundEvent) (file : List ℕ) (store : StoreState E) → IsStoreOf D.content D.images me plan facts old → MayTake (rounds_of old.aggregator) live →
-        event_second live < 2 ^ 63 → IsWritten plan me live → IsTakenAs (rounds_of old.aggregator) asked live →
+        IsWritten plan me live → IsTakenAs (rounds_of old.aggregator) asked live →
         LeavesOnly D.moment D.images_since old.log.disk new.log.disk (HasEither (D.content old.log.disk) (fact_added C.image old.aggregator live)) → D.images_since new.log.disk (D.moment old.log.disk) file →
         OpensAs E.content E.images me plan file (Ok store) → StaysOpened E.content file (Ok store) →
         (stored : Bool) × WasCutOff C.image me plan asked stored (running_in D.content old) (running_in E.content store) }
@@ -63,7 +65,8 @@ pub fn round_calls_are_deeds<C: Compress, D: Disk, E: Disk>()
 /// are one.
 ///
 /// The messages that a node hands out are those of the history's wire, at their place. Those of an event that was cut off were
-/// never handed out: if they stand in the wire, they are lost ones. And so what holds after every history holds of nodes that
+/// never handed out: if they stand in the wire, they are lost ones. What an aggregator answers is what the history answers, with
+/// its own numbers. And so what holds after every history holds of nodes that
 /// crash: two cores that hold a root for a second hold the same, and what a live aggregator issues is issued of a request of the
 /// history, the one that has its number there.
 pub fn crashed_nodes_have_a_history()
@@ -78,6 +81,9 @@ pub fn crashed_nodes_have_a_history()
     ensures aggregator_messages { (image : List ℕ → List ℕ) (plan : PlanState) → IsPlan plan → (before : List Event) (event : Event) (k : ℕ) (old new : Running) (asked : RoundEvent) → AreEvents plan before → IsEvent plan event →
         IsAggregatorAfter image plan before k old → round_asked_of k (after image plan before) event ≡ Some asked → (took : TookStep image k plan asked old new) →
         (after image plan (before ++ event ∷ [])).wire ≡ (after image plan before).wire ++ map (round_message plan k (event_second asked)) took.step.sends }
+    ensures answers { (image : List ℕ → List ℕ) (plan : PlanState) → IsPlan plan → (before : List Event) (event : Event) (k : ℕ) (old new : Running) (asked : RoundEvent) → AreEvents plan before → IsEvent plan event →
+        IsAggregatorAfter image plan before k old → round_asked_of k (after image plan before) event ≡ Some asked → (took : TookStep image k plan asked old new) →
+        (next : IsAggregatorAfter image plan (before ++ event ∷ []) k new) × (took.step.answer ≡ answer_renamed next.name (happens image plan (after image plan before) event).outcome.answer) }
     ensures agree { (image : List ℕ → List ℕ) (plan : PlanState) → IsPlan plan → (events : List Event) (one other second : ℕ) (running others : core_node.Running) (root found : List ℕ) → AreEvents plan events →
         core_node.IsCoreAfter image plan events one running → core_node.IsCoreAfter image plan events other others → held_by running.core second ≡ Some root → held_by others.core second ≡ Some found → root ≡ found }
     ensures issued { (image : List ℕ → List ℕ) (plan : PlanState) (events : List Event) (k : ℕ) (running : Running) (number : ℕ) (text : List ℕ) → (is : IsAggregatorAfter image plan events k running) →
@@ -93,4 +99,13 @@ pub fn crashed_nodes_have_a_history()
     step_is_by_facts();
     steps_are_lawful();
     world_is_seen();
+}
+
+/// An aggregator is a node in general, whose state is its rounds. So the laws of `ksi_gates` hold of it: a crash is a restart
+/// (`crash_is_a_restart`), and any run of one aggregator has a history (`crashes_are_restarts`).
+pub fn an_aggregator_is_a_node()
+    ensures { (image : List ℕ → List ℕ) (me : ℕ) → IsAggregatorNode image me }
+{
+    one_aggregator_of_facts();
+    steps_are_lawful();
 }

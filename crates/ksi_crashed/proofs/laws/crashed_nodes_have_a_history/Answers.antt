@@ -2,7 +2,7 @@ use Rattle.std.proofs.Common.{List, ℕ}
 use Rattle.ksi_schedule.specs.Plans.{PlanState, IsPlan}
 use Rattle.ksi_crashed.proofs.Deeds.{BothLaws, runs_after}
 use Rattle.ksi_crashed.proofs.Issuing.{live_issues}
-use Rattle.ksi_crashed.proofs.Stepping.{Laws, first_aggregator, sent_after}
+use Rattle.ksi_crashed.proofs.Stepping.{Laws, first_aggregator, sent_after, took_after}
 use Rattle.ksi_crashed.proofs.laws.crashed_nodes_have_a_history.Goals as goal
 
 pub returns : goal.returns
@@ -49,6 +49,8 @@ returns c =
       core_messages = λ image plan is before event j old new asked core here took. cores.messages image plan is before event j old new asked core here took;
       aggregator_messages = λ image plan is before event k old new asked are event_is aggregator here took.
           sent_after image plan (rounds image plan is) before event k old new asked are event_is aggregator here took;
+      answers = λ image plan is before event k old new asked are event_is aggregator here took.
+          took_after image plan (rounds image plan is) before event k old new asked are event_is aggregator here took;
       agree = λ image plan is events one other second running others root found are core another holds held.
           cores.agree image plan is events one other second running others root found are core another holds held;
       issued = λ image plan events k running number text is issues.

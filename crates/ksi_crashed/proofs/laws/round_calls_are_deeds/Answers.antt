@@ -1,5 +1,5 @@
 use Rattle.ksi_crashed.specs.Aggregators.{running_in}
-use Rattle.ksi_crashed.proofs.Calls.{OneFile, took, cut_off}
+use Rattle.ksi_crashed.proofs.Calls.{OneFile, early, took, cut_off}
 use Rattle.ksi_crashed.proofs.laws.round_calls_are_deeds.Goals as goal
 
 pub returns : goal.returns
@@ -10,9 +10,9 @@ returns g c =
     let goes = c.stores_go_on.ensures in
     let one : OneFile = λ me plan facts others file is found. c.a_file_is_of_one_list_of_facts.ensures me plan facts others file is found in
     record {
-      took = λ me plan facts old new asked live step is may early written so turn stored.
-          took one me plan image content facts old new asked live step is.file so turn (goes.stored me plan facts old new live step is may early written turn stored).file;
+      took = λ me plan facts old new asked live step is may written so turn stored.
+          took one me plan image content facts old new asked live step is.file so turn (goes.stored me plan facts old new live step is may (early live written.fits) written turn stored).file;
       opened = λ me plan file store opens. (opens.0, opens.3.file, opens.2);
-      cut_off = λ me plan facts old new asked live file store is may early written so leaves left opens stays.
-          cut_off one me plan image content facts old asked live file (running_in others store) is.file so (goes.left me plan facts old live file is may early written (leaves.each file left)) stays (opens.0, opens.3.file, opens.2);
+      cut_off = λ me plan facts old new asked live file store is may written so leaves left opens stays.
+          cut_off one me plan image content facts old asked live file (running_in others store) is.file so (goes.left me plan facts old live file is may (early live written.fits) written (leaves.each file left)) stays (opens.0, opens.3.file, opens.2);
     }
