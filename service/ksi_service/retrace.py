@@ -3,6 +3,8 @@
 `ksi_retrace` steps the proved world through the record and compares each block that a node wrote with the world's, and each
 signature that was handed out. It trusts nothing of the host: where the record is wrong, its blocks are others."""
 import subprocess
+import tempfile
+from collections import deque
 from typing import Iterator
 
 from .programs import program
@@ -35,15 +37,19 @@ def entries(folder) -> Iterator[str]:
 
 
 def retrace(plan, folder):
-    """The counts of steps, of steps that were never said, and of signatures, where all agree; else raises Differs with the line."""
-    with subprocess.Popen([program("ksi_retrace"), plan], stdin=subprocess.PIPE, stdout=subprocess.PIPE, stderr=subprocess.DEVNULL) as run:
-        try:
-            for entry in entries(folder):
-                run.stdin.write(entry.encode())
-            run.stdin.close()
-        except BrokenPipeError:
-            pass
-        said = run.stdout.read().decode().strip()
+    """The counts of steps, of steps that were never said, and of signatures, where all agree; else raises Differs with the last line.
+
+    Its output goes to a file: a pipe that nobody empties while the record is given would stop both."""
+    with tempfile.TemporaryFile() as out:
+        with subprocess.Popen([program("ksi_retrace"), plan], stdin=subprocess.PIPE, stdout=out, stderr=subprocess.DEVNULL) as run:
+            try:
+                for entry in entries(folder):
+                    run.stdin.write(entry.encode())
+                run.stdin.close()
+            except BrokenPipeError:
+                pass
+        out.seek(0)
+        said = b"".join(deque(out, maxlen=1)).decode().strip()
     words = said.split(" ")
     if run.returncode or words[::2] != ["agrees", "unsaid", "signatures"]:
         raise Differs(f"ksi_retrace: {said or run.returncode}")

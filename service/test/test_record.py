@@ -189,7 +189,7 @@ restart c0
     def test_what_ksi_retrace_says_is_taken(self):
         self.run_of_two()
         path = os.path.join(self.room.name, "ksi_retrace")
-        for text, told_of in (("cat > entries; echo agrees 5 unsaid 1 signatures 1", (5, 1, 1)), ("echo differs 2 9; exit 1", None), ("exit 7", None)):
+        for text, told_of in (("cat > entries; echo unsaid 4 11; echo answer done; echo .; echo agrees 5 unsaid 1 signatures 1", (5, 1, 1)), ("echo differs 2 9; exit 1", None), ("exit 7", None)):
             with open(path, "w", encoding="ascii") as file:
                 file.write(f"#!/bin/sh\ncd {self.room.name}\n{text}\n")
             os.chmod(path, stat.S_IRWXU)

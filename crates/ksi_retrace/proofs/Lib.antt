@@ -1,4 +1,11 @@
+pub mod EntryLemmas
+pub mod HeadLemmas
+pub mod LineLemmas
 pub mod MarkLemmas
 pub mod RecordLemmas
-pub mod LineLemmas
 pub mod SaidLemmas
+pub mod StandingLemmas
+pub mod SumLemmas
+pub mod TextLemmas
+pub mod VerdictLemmas
+pub mod WireLemmas

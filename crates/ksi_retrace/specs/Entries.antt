@@ -1,5 +1,6 @@
 -- The record of a run: entries, each a line, and the block that the node wrote for it.
-use Rattle.std.specs.Prelude.{◌<◌, ◌^◌, ℕ, List, [], ◌∷◌, ◌++◌, codes}
+use Rattle.std.specs.Prelude.{◌≡◌, ◌≢◌, ◌<◌, ◌^◌, ℕ, List, [], ◌∷◌, ◌++◌, codes, All}
+use Rattle.std.specs.List.{AllByRecursion}
 use Rattle.std.specs.Fmt.{decimal}
 use Rattle.ksi_schedule.specs.Pieces.{Text}
 use Rattle.ksi_schedule.specs.Printed.{actor_word, line_of}
@@ -17,6 +18,8 @@ use Rattle.ksi_retrace.specs.declared.head.Given.{Given}
 use Rattle.ksi_retrace.specs.declared.head.Given.TheVariants as given
 use Rattle.ksi_retrace.specs.declared.head.Head.{Head}
 use Rattle.ksi_retrace.specs.declared.head.Head.TheVariants as heads
+
+-- ---- lines
 
 -- the node, and the line that it took: that of a request has the number that the request had in the run. One empty
 -- word of what is no line
@@ -40,6 +43,31 @@ head_words (heads.Unsaid it) = codes "unsaid" ∷ given_words it
 head_words (heads.Restarted actor) = codes "restart" ∷ actor_word actor ∷ []
 head_words (heads.Sign step) = codes "sign" ∷ decimal step ∷ []
 
+-- ---- blocks
+
+-- it has no line feed
+abbrev pub IsLine : Text → Type 0
+IsLine line = All (λ b. b ≢ 10) line
+
+-- a line other than a full stop
+abbrev pub IsInner : Text → Type 0
+IsInner line = IsLine line × (line ≢ codes ".")
+
+-- a line feed behind each line
+abbrev pub lines_text : List Text → Text
+lines_text [] = []
+lines_text (line ∷ lines) = line ++ 10 ∷ lines_text lines
+
+-- lines, of which the last alone is a full stop
+abbrev pub IsBlock : Text → Type 0
+IsBlock block = (lines : List Text) × AllByRecursion IsInner lines × (block ≡ lines_text lines ++ codes ".\n")
+
+-- the same that is cut off: no line is a full stop, and the last has no line feed
+abbrev pub IsCutBlock : Text → Type 0
+IsCutBlock text = (lines : List Text) × (last : Text) × AllByRecursion IsInner lines × IsLine last × (text ≡ lines_text lines ++ last)
+
+-- ---- entries
+
 pub record Entry : Type 0 where
   pub head : Head
   pub block : Text
@@ -51,6 +79,20 @@ entry_text entry = line_of (head_words entry.head) ++ 10 ∷ entry.block
 abbrev pub record_text : List Entry → Text
 record_text [] = []
 record_text (entry ∷ entries) = entry_text entry ++ record_text entries
+
+-- what a step says, and the answer to whoever asks for a signature, is a block; none is of what was not said
+abbrev pub HasBlock : Head → Text → Type 0
+HasBlock (heads.Said it) block = IsBlock block
+HasBlock (heads.Unsaid it) block = block ≡ []
+HasBlock (heads.Restarted actor) block = block ≡ []
+HasBlock (heads.Sign step) block = IsBlock block
+
+-- a block stands behind it
+abbrev pub WantsBlock : Head → Type 0
+WantsBlock (heads.Said it) = Unit {0}
+WantsBlock (heads.Unsaid it) = ⊥
+WantsBlock (heads.Restarted actor) = ⊥
+WantsBlock (heads.Sign step) = Unit {0}
 
 -- ---- what a head may name
 

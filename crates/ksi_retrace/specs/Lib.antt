@@ -1,4 +1,7 @@
-pub mod Agreeing
 pub mod Entries
+pub mod Heads
 pub mod Marks
+pub mod Steps
+pub mod Sums
 pub mod Told
+pub mod Verdicts

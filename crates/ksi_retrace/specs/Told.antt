@@ -1,5 +1,5 @@
 -- What a world says to the entries of a record, each at its place.
-use Rattle.std.specs.Prelude.{◌≡◌, ◌<◌, ℕ, ◌+◌, Bool, List, [], ◌∷◌, ◌++◌, codes, drop, take, length, map, Option, Some, None}
+use Rattle.std.specs.Prelude.{◌≡◌, ◌<◌, ◌^◌, ℕ, ◌+◌, All, Bool, false, List, [], ◌∷◌, ◌++◌, codes, drop, take, length, map, Option, Some, None}
 use Rattle.std.specs.Fmt.{decimal}
 use Rattle.hex.specs.Hex.{encode_lower}
 use Rattle.ksi_schedule.specs.Pieces.{Text}
@@ -24,6 +24,8 @@ use Rattle.ksi_retrace.specs.declared.head.Given.{Given}
 use Rattle.ksi_retrace.specs.declared.head.Given.TheVariants as given
 use Rattle.ksi_retrace.specs.declared.head.Head.{Head}
 use Rattle.ksi_retrace.specs.declared.head.Head.TheVariants as heads
+use Rattle.ksi_retrace.specs.declared.fault.RecordFault.{RecordFault}
+use Rattle.ksi_retrace.specs.declared.fault.RecordFault.TheVariants as faults
 use Rattle.ksi_retrace.specs.Entries.{Entry, restart_of}
 
 -- ---- blocks
@@ -102,3 +104,41 @@ module _ (image : List ℕ → List ℕ) (plan : PlanState) where
   abbrev pub AreTold : List Event → List Entry → List Event → Type 0
   AreTold es [] all = es ≡ all
   AreTold es (entry ∷ entries) all = IsTold es entry.head entry.block × AreTold (with_head es entry.head) entries all
+
+  -- ---- what is not as the world says
+
+  -- what the head names is there
+  abbrev pub MayCome : List Event → Head → Type 0
+  MayCome es (heads.Said it) = IsNamed es it
+  MayCome es (heads.Unsaid it) = IsNamed es it
+  MayCome es (heads.Restarted actor) = Unit {0}
+  MayCome es (heads.Sign step) = IsAccepted es step
+
+  -- no step sent such a message
+  abbrev pub IsUnnamed : List Event → Given → RecordFault → Type 0
+  IsUnnamed es it faults.Message = ¬ IsNamed es it
+  IsUnnamed es it _ = ⊥
+
+  -- the step accepted no request
+  abbrev pub IsUnaccepted : List Event → (step : ℕ) → RecordFault → Type 0
+  IsUnaccepted es step faults.Request = ¬ IsAccepted es step
+  IsUnaccepted es step _ = ⊥
+
+  -- what the head names is not there
+  abbrev pub IsMissing : List Event → Head → RecordFault → Type 0
+  IsMissing es (heads.Said it) fault = IsUnnamed es it fault
+  IsMissing es (heads.Unsaid it) fault = IsUnnamed es it fault
+  IsMissing es (heads.Restarted actor) fault = ⊥
+  IsMissing es (heads.Sign step) fault = IsUnaccepted es step fault
+
+  -- ---- what is shown of what was never said
+
+  -- the block of a step, but for the line of whether a fact was stored
+  abbrev pub unsaid_block : List Event → Given → Text
+  unsaid_block es it = block_text it (after image plan es).wire false (happens image plan (after image plan es) (event_of es it))
+
+-- ---- in the code
+
+-- messages about seconds before 2^63, as each of a plan's is
+abbrev pub AreEarly : List Message → Type 0
+AreEarly messages = All (λ message. message.second < 2 ^ 63) messages

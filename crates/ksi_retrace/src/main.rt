@@ -1,18 +1,22 @@
 //! `ksi_retrace PLAN [RECORD]` holds the record of a live run against the world of its plan.
 //!
 //! PLAN is a schedule file without events. The record comes from the file RECORD, or from standard input, entry by entry
-//! (docs/FORMATS.md, "Records of runs"). The program prints one line: `agrees` with counts, `differs` with the first entry
-//! whose block is not what the world says at its place, `refused` with what is no entry, or `failed`.
+//! (docs/FORMATS.md, "Records of runs"). Of each step that was never said the program prints the place and the world's block.
+//! Its last line is `agrees` with counts, `differs` with the first entry whose block is not what the world says at its place,
+//! `refused` with what is no entry, or `failed`.
 #![tactic(auto)]
 
+mod entry;
 mod fault;
 mod head;
 mod mark;
 mod printing;
 mod reading;
 mod stream;
+mod sum;
 mod telling;
 mod tracer;
+mod verdict;
 
 use ksi_imprint::{Refused, Sha};
 use ksi_schedule::read_schedule;
@@ -20,7 +24,8 @@ use std::fs::File;
 use std::io::{self, BufRead, BufReader, ErrorKind, Write};
 use std::process::ExitCode;
 use std::{env, fs};
-use stream::{Counts, Retraced, retrace};
+use stream::retrace;
+use verdict::{Counts, Retraced};
 
 fn main(rt: HostRuntime) -> ExitCode {
     match run(&rt) {
@@ -61,7 +66,8 @@ fn hold<S: BufRead>(rt: &HostRuntime, plan: &str, record: &mut S) -> io::Result<
     if !schedule.events().is_empty() {
         return fail(rt, "plan", 3);
     }
-    match retrace::<Sha, S>(rt.alloc(), schedule.plan(), record) {
+    let mut out = io::writer(rt);
+    match retrace::<Sha, S, _>(rt.alloc(), schedule.plan(), record, &mut out) {
         Ok(found) => tell(rt, found),
         Err(error) if error.kind() == ErrorKind::OutOfMemory => fail(rt, "memory", 5),
         Err(_) => fail(rt, "stream", 4),
@@ -81,16 +87,14 @@ fn tell(rt: &HostRuntime, found: Retraced) -> io::Result<u8> {
             Ok(0)
         }
         Retraced::Differs(place) => {
-            let line = place.lines.saturating_add(1);
-            println!(rt; "differs {} {line}", place.entries)?;
+            println!(rt; "differs {} {}", place.entry, place.line)?;
             Ok(1)
         }
         Retraced::Refused(fault, place) => {
-            let line = place.lines.saturating_add(1);
             let mut out = io::writer(rt);
             out.write_all(b"refused ")?;
             out.write_all(fault.word())?;
-            println!(rt; " {} {line}", place.entries)?;
+            println!(rt; " {} {}", place.entry, place.line)?;
             Ok(3)
         }
     }

@@ -109,7 +109,8 @@ fn put_node(text: &mut Vec<u8>, actor: Actor) -> Result<(), NoMemory>
     put_number(text, number)
 }
 
-fn put_number(text: &mut Vec<u8>, n: u64) -> Result<(), NoMemory>
+/// A number in decimal.
+pub(crate) fn put_number(text: &mut Vec<u8>, n: u64) -> Result<(), NoMemory>
     ensures { OnOk result (text.new.items ≡ text.old.items ++ decimal n) }
 {
     let mut digits = Buffer::new();

@@ -1,213 +1,136 @@
-//! A record, entry by entry, held against the world.
-ghost use Rattle.std.specs.Prelude.{◌≡◌, [], length, IfOk, IfSome, OnOk};
-ghost use Rattle.std.specs.Io.KnownBytes.{Consumes, IsAtEnd};
-ghost use Rattle.ksi_retrace.specs.Entries.{IsHead};
-ghost use Rattle.ksi_retrace.specs.Agreeing.{IsLine, IsNext, Agrees, IsAgreed};
+//! A record, held against the world.
+ghost use Rattle.std.specs.Prelude.{◌≡◌, [], IfOk, IfSome, OnOk, List};
+ghost use Rattle.std.specs.Io.KnownBytes.{Appends};
+ghost use Rattle.ksi_retrace.specs.Entries.{Entry, IsHead};
+ghost use Rattle.ksi_retrace.specs.Told.{with_head};
+ghost use Rattle.ksi_retrace.specs.Steps.{IsHeld};
+ghost use Rattle.ksi_retrace.specs.Verdicts.{shown, shown_block, IsVerdict};
 
-use crate::fault::RecordFault;
+use crate::entry::{Next, next_entry};
 use crate::head::Head;
-use crate::reading::read_head;
-use crate::tracer::Tracer;
+use crate::printing::put_number;
+use crate::sum::Sum;
+use crate::tracer::{Told, Tracer};
+use crate::verdict::{Place, Retraced};
 use ksi_imprint::{Compress, NoMemory, Refused};
 use ksi_schedule::Plan;
 use std::alloc::Global;
-use std::io::{self, BufRead};
+use std::io::{self, BufRead, Write};
 
-/// Where an entry stands: how many entries and lines there are before it.
-#[derive(Clone, Copy, PartialEq, Eq)]
-pub struct Place {
-    pub entries: u64,
-    pub lines: u64,
-}
-
-/// How many entries there were of a record that agrees.
-#[derive(Clone, Copy, PartialEq, Eq)]
-pub struct Counts {
-    /// Steps, whether or not they were said.
-    pub steps: usize,
-    /// Steps that were stored and never said.
-    pub unsaid: u64,
-    /// Signatures that were handed out.
-    pub signatures: u64,
-}
-
-/// What came of the comparison.
-#[derive(Clone, Copy, PartialEq, Eq)]
-pub enum Retraced {
-    /// Each block is what the world says at its place.
-    Agrees(Counts),
-    /// The block of this entry is another, the first that is.
-    Differs(Place),
-    /// This entry is none.
-    Refused(RecordFault, Place),
-}
-
-/// What comes next in a record.
-#[derive(Clone, Copy)]
-pub(crate) enum Next {
-    /// An entry, by its first line.
-    Entry(Head),
-    /// What is no entry.
-    Refused(RecordFault),
-    /// Nothing.
-    End,
-}
-
-/// What came of a line.
-#[derive(Clone, Copy)]
-pub(crate) enum Came {
-    /// A whole line.
-    Line,
-    /// A line without its line feed.
-    Cut,
-    /// The end.
-    End,
-}
-
-/// What the last line of a block is, so far.
-#[derive(Clone, Copy)]
-enum LastLine {
-    /// A full stop.
-    Stop,
-    /// Another line.
-    Other,
-    /// Nothing.
-    None,
-}
-
-/// Holds a record against the world of a plan. It takes the memory of the world and of one entry.
+/// Holds a record against the world of a plan: the verdict is what stands behind the entries that agree, and there is no
+/// other. Of each step that was never said it writes the place and the block that the world has there. It takes the memory of
+/// the world and of one entry.
 ///
 /// # Errors
-/// The reader's. `OutOfMemory`.
-pub fn retrace<C: Compress, S: BufRead>(
+/// The reader's, and the writer's. `OutOfMemory`.
+pub fn retrace<C: Compress, S: BufRead, W: Write>(
     alloc: Global,
     plan: &Plan,
     log: &mut S,
+    out: &mut W,
 ) -> io::Result<Retraced>
-    ensures { IfOk result (IsAgreed (λ counts. IfSome (S.remaining log.old) (Agrees C.image plan.now counts.steps))) }
+    ensures verdict { IfOk result (λ verdict. IfSome (S.remaining log.old) (λ text.
+        (entries : List Entry) × IsVerdict C.image plan.now text entries verdict × Appends (W.contents out.old) (W.contents out.new) (shown C.image plan.now entries))) }
+    ensures only { IfOk result (λ verdict. IfSome (S.remaining log.old) (λ text.
+        (entries : List Entry) (other : Retraced) → IsVerdict C.image plan.now text entries other → other ≡ verdict)) }
+{
+    verdict_on::<C, S, W>(alloc, plan, log, out)
+}
+
+/// The verdict, with what it takes.
+fn verdict_on<C: Compress, S: BufRead, W: Write>(
+    alloc: Global,
+    plan: &Plan,
+    log: &mut S,
+    out: &mut W,
+) -> io::Result<Retraced>
+    ensures { IfOk result (λ verdict. IfSome (S.remaining log.old) (λ text.
+        (entries : List Entry) × IsVerdict C.image plan.now text entries verdict × Appends (W.contents out.old) (W.contents out.new) (shown C.image plan.now entries))) }
 {
     let mut tracer = Tracer::<C>::new(alloc, plan)?;
     let mut line = Vec::new(alloc);
     let mut block = Vec::new(alloc);
-    let mut place = Place {
-        entries: 0,
-        lines: 0,
-    };
-    let mut unsaid: u64 = 0;
-    let mut signatures: u64 = 0;
-    'entries: for _ in 0..u64::MAX {
-        let head = match next_entry(alloc, plan, log, &mut line, &mut block)? {
-            Next::Entry(head) => head,
-            Next::Refused(fault) => return Ok(Retraced::Refused(fault, place)),
-            Next::End => {
-                return Ok(Retraced::Agrees(Counts {
-                    steps: tracer.steps(),
-                    unsaid,
-                    signatures,
-                }));
-            }
-        };
-        match tracer.take(&head, &block) {
-            Ok(true) => {}
-            Ok(false) => return Ok(Retraced::Differs(place)),
-            Err(Refused::Fault(fault)) => return Ok(Retraced::Refused(fault, place)),
-            Err(Refused::NoMemory) => return Err(io::ErrorKind::OutOfMemory.into()),
-        }
-        place = behind(place, &block);
-        unsaid = unsaid.saturating_add(u64::from(matches!(head, Head::Unsaid(_))));
-        signatures = signatures.saturating_add(u64::from(is_signature(&head, &block)));
-    }
-    Err(io::ErrorKind::Other.into())
+    entry_by_entry(alloc, plan, &mut tracer, log, out, &mut line, &mut block)
 }
 
-/// Where the entry behind this one stands.
-fn behind(place: Place, block: &[u8]) -> Place {
-    let lines = block.iter().filter(|byte| **byte == b'\n').count();
-    Place {
-        entries: place.entries.saturating_add(1),
-        lines: place.lines.saturating_add(1).saturating_add(lines as u64),
-    }
-}
-
-/// Whether an entry's block has a signature.
-fn is_signature(head: &Head, block: &[u8]) -> bool {
-    matches!(head, Head::Sign(_)) && block.starts_with(b"signature ")
-}
-
-/// The next entry, by its first line: its block, if it has one, stands in `block`.
-fn next_entry<S: BufRead>(
+/// The verdict, by a tracer before anything happened. `line` and `block` are room for an entry.
+fn entry_by_entry<C: Compress, S: BufRead, W: Write>(
     alloc: Global,
     plan: &Plan,
+    tracer: &mut Tracer<C>,
     log: &mut S,
+    out: &mut W,
     line: &mut Vec<u8>,
     block: &mut Vec<u8>,
-) -> io::Result<Next>
-    ensures { IfOk result (IsNext plan.now (S.remaining log.old) (S.remaining log.new) block.new.items) }
+) -> io::Result<Retraced>
+    requires { tracer.old ≡ record { plan = plan.now; events = [] } }
+    ensures { IfOk result (λ verdict. IfSome (S.remaining log.old) (λ text.
+        (entries : List Entry) × IsVerdict C.image plan.now text entries verdict × Appends (W.contents out.old) (W.contents out.new) (shown C.image plan.now entries))) }
 {
-    match next_line(log, line)? {
-        Came::Line => {}
-        Came::Cut => return Ok(Next::Refused(RecordFault::Cut)),
-        Came::End => return Ok(Next::End),
-    }
-    let head = match read_head(alloc, plan, line) {
-        Ok(head) => head,
-        Err(Refused::Fault(fault)) => return Ok(Next::Refused(RecordFault::Line(fault))),
-        Err(Refused::NoMemory) => return Err(io::ErrorKind::OutOfMemory.into()),
-    };
-    if next_block(log, &head, block)? {
-        Ok(Next::Entry(head))
-    } else {
-        Ok(Next::Refused(RecordFault::Cut))
-    }
-}
-
-/// The next line, without its line feed.
-fn next_line<S: BufRead>(log: &mut S, line: &mut Vec<u8>) -> io::Result<Came>
-    ensures { IfOk result (IsLine (S.remaining log.old) (S.remaining log.new) line.new.items) }
-{
-    line.clear();
-    if log.read_until(b'\n', line)? == 0 {
-        return Ok(Came::End);
-    }
-    match line.pop() {
-        Some(b'\n') => Ok(Came::Line),
-        _ => Ok(Came::Cut),
-    }
-}
-
-/// The block behind a first line, if it has one. The answer is whether it is whole.
-fn next_block<S: BufRead>(log: &mut S, head: &Head, block: &mut Vec<u8>) -> io::Result<bool>
-    ensures { OnOk result (Consumes (S.remaining log.old) (S.remaining log.new) block.new.items) }
-{
-    block.clear();
-    match head {
-        Head::Said(_) | Head::Sign(_) => read_block(log, block),
-        Head::Unsaid(_) | Head::Restarted(_) => Ok(true),
-    }
-}
-
-/// The lines to the next full stop. The answer is whether there is one.
-fn read_block<S: BufRead>(log: &mut S, block: &mut Vec<u8>) -> io::Result<bool>
-    requires { block.old.items ≡ [] }
-    ensures { OnOk result (Consumes (S.remaining log.old) (S.remaining log.new) block.new.items) }
-{
-    'lines: for _ in 0..u64::MAX {
-        let before = block.len();
-        log.read_until(b'\n', block)?;
-        match last_line(block, before) {
-            LastLine::Stop => return Ok(true),
-            LastLine::Other => {}
-            LastLine::None => return Ok(false),
+    let mut sum = Sum::new();
+    'entries: for _ in 0..u64::MAX {
+        let steps = tracer.steps();
+        let next = next_entry(alloc, plan, log, line, block)?;
+        let head = match next {
+            Next::Entry(head) => head,
+            Next::Refused(fault) => return Ok(Retraced::Refused(fault, sum.place)),
+            Next::End => {
+                let counts = sum.counts(steps);
+                return Ok(Retraced::Agrees(counts));
+            }
+        };
+        let verdict = held(alloc, tracer, out, sum.place, &head, block)?;
+        match verdict {
+            Some(verdict) => return Ok(verdict),
+            None => {}
         }
+        sum = sum.with(&head, block);
     }
     Err(io::ErrorKind::Other.into())
 }
 
-/// What was read of a block behind so many bytes.
-fn last_line(block: &[u8], before: usize) -> LastLine {
-    match block.get(before..) {
-        None | Some([]) => LastLine::None,
-        Some([b'.', b'\n']) => LastLine::Stop,
-        Some(_) => LastLine::Other,
+/// Holds an entry against the world. The answer is nothing where it agrees, else the verdict.
+fn held<C: Compress, W: Write>(
+    alloc: Global,
+    tracer: &mut Tracer<C>,
+    out: &mut W,
+    place: Place,
+    head: &Head,
+    block: &[u8],
+) -> io::Result<Option<Retraced>>
+    requires { IsHead tracer.old.plan head.now }
+    ensures held { IfOk result (IsHeld C.image tracer.old.plan tracer.old.events place head.now block.now (W.contents out.old) (W.contents out.new)) }
+    ensures events { IfOk result (λ verdict. verdict ≡ None → tracer.new ≡ record { plan = tracer.old.plan; events = with_head C.image tracer.old.plan tracer.old.events head.now }) }
+{
+    match tracer.take(head, block) {
+        Ok(Told::Agrees) => Ok(None),
+        Ok(Told::Unsaid(text)) => {
+            show(alloc, out, place, text.as_slice())?;
+            Ok(None)
+        }
+        Ok(Told::Differs) => Ok(Some(Retraced::Differs(place))),
+        Err(Refused::Fault(fault)) => Ok(Some(Retraced::Refused(fault, place))),
+        Err(Refused::NoMemory) => Err(io::ErrorKind::OutOfMemory.into()),
     }
+}
+
+/// Writes the place of a step that was never said, and its block.
+fn show<W: Write>(alloc: Global, out: &mut W, place: Place, block: &[u8]) -> io::Result<()>
+    ensures { OnOk result (Appends (W.contents out.old) (W.contents out.new) (shown_block place block.now)) }
+{
+    let text = shown_block(alloc, place, block)?;
+    out.write_all(&text)
+}
+
+fn shown_block(alloc: Global, place: Place, block: &[u8]) -> Result<Vec<u8>, NoMemory>
+    ensures { IfOk result (λ text. text.items ≡ shown_block place block.now) }
+{
+    let mut text = Vec::new(alloc);
+    text.extend_from_slice(b"unsaid ")?;
+    put_number(&mut text, place.entry)?;
+    text.push(b' ')?;
+    put_number(&mut text, place.line)?;
+    text.push(b'\n')?;
+    text.extend_from_slice(block)?;
+    Ok(text)
 }

@@ -1,9 +1,8 @@
 //! What a world says to an event, and to whoever asks for a signature.
-ghost use Rattle.std.specs.Prelude.{◌≡◌, ◌++◌, ◌∷◌, [], ◌<◌, ◌^◌, true, Bool, map, OnOk, IfOk, IfSome};
-ghost use Rattle.std.specs.Bool.{OnTrue};
+ghost use Rattle.std.specs.Prelude.{◌≡◌, ◌++◌, ◌∷◌, [], ◌<◌, ◌^◌, true, Bool, map, OnOk, IfOk, IsTrue, ◌↔◌};
 ghost use Rattle.ksi_schedule.specs.Printed.{line_of, text_of_lines};
 ghost use Rattle.ksi_wire.specs.Steps.{step_text, stored_lines};
-ghost use Rattle.ksi_retrace.specs.Told.{message_words, answer_as, signature_block};
+ghost use Rattle.ksi_retrace.specs.Told.{message_words, answer_as, signature_block, AreEarly};
 
 use crate::head::Given;
 use ksi_corenode::CoreEvent;
@@ -32,39 +31,39 @@ pub(crate) fn is_block(
     messages: &[Message],
     said: &[u8],
 ) -> Result<bool, NoMemory>
-    ensures { IfOk result (λ is_told. is_told ≡ true → (stored : Bool) × (said.now ≡ step_text answer.now stored (map message_words messages.now))) }
+    requires { AreEarly messages.now }
+    ensures { IfOk result (λ is_told. IsTrue is_told ↔ ((stored : Bool) × (said.now ≡ step_text answer.now stored (map message_words messages.now)))) }
 {
     let stored = is_stored(said);
-    match block(alloc, answer, stored, messages)? {
-        Some(text) => Ok(is(said, &text)),
-        None => Ok(false),
+    if is(said, &block(alloc, answer, stored, messages)?) {
+        return Ok(true);
     }
+    Ok(is(said, &block(alloc, answer, !stored, messages)?))
 }
 
 /// Whether two texts are one.
 pub(crate) fn is(one: &[u8], other: &[u8]) -> bool
-    ensures { result ≡ true → one.now ≡ other.now }
+    ensures { IsTrue result ↔ (one.now ≡ other.now) }
 {
     one == other
 }
 
-/// The block of an answer, of whether a fact was stored, and of messages, where each is about a second before 2^63.
-fn block(
+/// The block of an answer, of whether a fact was stored, and of messages.
+pub(crate) fn block(
     alloc: Global,
     answer: &Answer,
     is_stored: bool,
     messages: &[Message],
-) -> Result<Option<Vec<u8>>, NoMemory>
-    ensures { IfOk result (λ found. IfSome found (λ text. text.items ≡ step_text answer.now is_stored (map message_words messages.now))) }
+) -> Result<Vec<u8>, NoMemory>
+    requires { AreEarly messages.now }
+    ensures { IfOk result (λ text. text.items ≡ step_text answer.now is_stored (map message_words messages.now)) }
 {
     let mut text = Vec::new(alloc);
     put_answer(&mut text, answer)?;
     put_stored(&mut text, is_stored)?;
-    if !put_messages(alloc, &mut text, messages)? {
-        return Ok(None);
-    }
+    put_messages(alloc, &mut text, messages)?;
     text.extend_from_slice(b".\n")?;
-    Ok(Some(text))
+    Ok(text)
 }
 
 /// The line that says that a fact was stored, where one was.
@@ -77,17 +76,15 @@ fn put_stored(text: &mut Vec<u8>, is_stored: bool) -> Result<(), NoMemory>
     Ok(())
 }
 
-/// The lines of messages, where each is about a second before 2^63.
-fn put_messages(alloc: Global, text: &mut Vec<u8>, messages: &[Message]) -> Result<bool, NoMemory>
-    ensures { IfOk result (λ done. OnTrue done (text.new.items ≡ text.old.items ++ text_of_lines (map message_words messages.now))) }
+/// The lines of messages.
+fn put_messages(alloc: Global, text: &mut Vec<u8>, messages: &[Message]) -> Result<(), NoMemory>
+    requires { AreEarly messages.now }
+    ensures { OnOk result (text.new.items ≡ text.old.items ++ text_of_lines (map message_words messages.now)) }
 {
     'telling: for message in messages {
-        if message.second >= 1 << 63 {
-            return Ok(false);
-        }
         put_message(alloc, text, message)?;
     }
-    Ok(true)
+    Ok(())
 }
 
 /// The line of a message.

@@ -1,20 +1,33 @@
-ghost use Rattle.std.specs.Prelude.{◌≡◌, ◌<◌, ◌+◌, ◌++◌, ◌∷◌, [], ℕ, length, take, vec_len, vec_capacity, IfOk, IfSome, true, OnOk};
+ghost use Rattle.std.specs.Prelude.{◌≡◌, ◌<◌, ◌+◌, ◌++◌, ◌∷◌, [], ◌↔◌, ℕ, drop, length, take, vec_len, vec_capacity, IfErr, IfOk, IfSome, IsSome, OnOk};
 ghost use Rattle.ksi_schedule.specs.Events.{with_event, AreEvents, IsEvent};
 ghost use Rattle.ksi_world.specs.Histories.{after, happens, world_of};
 ghost use Rattle.ksi_retrace.specs.Entries.{restart_of, IsGiven, IsHead};
 ghost use Rattle.ksi_retrace.specs.declared.head.Head.TheVariants as heads;
 ghost use Rattle.ksi_retrace.specs.Marks.{mark_of};
-ghost use Rattle.ksi_retrace.specs.Told.{block_text, event_of, with_head, sent_before, accepted_before, IsSent, IsAccepted, IsNamed, IsTold};
+ghost use Rattle.ksi_retrace.specs.Steps.{IsAnswer, IsRefusal};
+ghost use Rattle.ksi_retrace.specs.Told.{answer_as, event_of, with_head, sent_before, accepted_before, AreEarly, IsSent, IsAccepted, IsMissing, IsNamed, IsUnaccepted, IsUnnamed};
 
 use crate::fault::RecordFault;
 use crate::head::{Given, Head};
 use crate::mark::Mark;
-use crate::telling::{answer_as, is, is_block, signature_block};
-use ksi_imprint::{Compress, NoMemory, Refused};
+use crate::telling::{answer_as, block, is, is_block, signature_block};
+use ksi_imprint::{Bytes, Compress, NoMemory, Refused};
 use ksi_schedule::{Actor, Event, Plan};
-use ksi_world::{Outcome, World};
+use ksi_signature::Answer;
+use ksi_world::{Message, Outcome, World};
 use std::alloc::Global;
 use std::marker::Model;
+
+/// What came of an entry.
+#[derive(Drop)]
+pub enum Told {
+    /// Its block is what the world says.
+    Agrees,
+    /// Its block is another.
+    Differs,
+    /// A step that was never said agrees with any world. The world's block of it is here.
+    Unsaid(Bytes),
+}
 
 /// The world after the entries of a record so far. A contract sees its history.
 #[derive(Drop)]
@@ -67,103 +80,144 @@ impl<C: Compress> Tracer<C> {
     ///
     /// # Errors
     /// `Message`, `Request`: the line names no message and no request. `NoMemory`.
-    pub fn take(&mut self, head: &Head, block: &[u8]) -> Result<bool, Refused<RecordFault>>
+    pub fn take(&mut self, head: &Head, block: &[u8]) -> Result<Told, Refused<RecordFault>>
         requires { IsHead self.old.plan head.now }
-        ensures told { IfOk result (λ is_told. is_told ≡ true → IsTold C.image self.old.plan self.old.events head.now block.now) }
+        ensures answer { IfOk result (IsAnswer C.image self.old.plan self.old.events head.now block.now) }
+        ensures refused { IfErr result (IsRefusal (IsMissing C.image self.old.plan self.old.events head.now)) }
         ensures events { OnOk result (self.new ≡ record { plan = self.old.plan; events = with_head C.image self.old.plan self.old.events head.now }) }
     {
         match head {
             Head::Said(given) => self.said(given, block),
-            Head::Unsaid(given) => {
-                let event = self.event_of(given)?;
-                self.happen(event)?;
-                Ok(block.is_empty())
-            }
-            Head::Restarted(actor) => {
-                self.happen(restart_of(*actor))?;
-                Ok(block.is_empty())
-            }
+            Head::Unsaid(given) => self.unsaid(given, block),
+            Head::Restarted(actor) => self.restarted(*actor, block),
             Head::Sign(step) => self.signed(*step, block),
         }
     }
 
     /// A step, whose block is here.
-    fn said(&mut self, given: &Given, said: &[u8]) -> Result<bool, Refused<RecordFault>>
+    fn said(&mut self, given: &Given, said: &[u8]) -> Result<Told, Refused<RecordFault>>
         requires { IsGiven self.old.plan given.now }
-        ensures told { IfOk result (λ is_told. is_told ≡ true → IsTold C.image self.old.plan self.old.events (heads.Said given.now) said.now) }
+        ensures answer { IfOk result (IsAnswer C.image self.old.plan self.old.events (heads.Said given.now) said.now) }
+        ensures refused { IfErr result (IsRefusal (IsUnnamed C.image self.old.plan self.old.events given.now)) }
         ensures events { OnOk result (self.new ≡ record { plan = self.old.plan; events = with_head C.image self.old.plan self.old.events (heads.Said given.now) }) }
     {
-        let event = self.event_of(given)?;
-        let (before, outcome) = self.happen(event)?;
-        let answer = answer_as(given, outcome.answer);
-        let wire = self.world.wire();
-        if before > wire.len() {
-            return Ok(false);
+        let (before, answer) = self.step(given)?;
+        if is_block(self.alloc, &answer, self.sent_from(before), said)? {
+            Ok(Told::Agrees)
+        } else {
+            Ok(Told::Differs)
         }
-        let (_, sent) = wire.split_at(before);
-        Ok(is_block(self.alloc, &answer, sent, said)?)
+    }
+
+    /// A step that was never said.
+    fn unsaid(&mut self, given: &Given, said: &[u8]) -> Result<Told, Refused<RecordFault>>
+        requires { IsGiven self.old.plan given.now }
+        ensures answer { IfOk result (IsAnswer C.image self.old.plan self.old.events (heads.Unsaid given.now) said.now) }
+        ensures refused { IfErr result (IsRefusal (IsUnnamed C.image self.old.plan self.old.events given.now)) }
+        ensures events { OnOk result (self.new ≡ record { plan = self.old.plan; events = with_head C.image self.old.plan self.old.events (heads.Unsaid given.now) }) }
+    {
+        let (before, answer) = self.step(given)?;
+        if !said.is_empty() {
+            return Ok(Told::Differs);
+        }
+        let text = block(self.alloc, &answer, false, self.sent_from(before))?;
+        Ok(Told::Unsaid(Bytes::from_vec(text)))
+    }
+
+    /// A node was started again.
+    fn restarted(&mut self, actor: Actor, said: &[u8]) -> Result<Told, Refused<RecordFault>>
+        requires { IsEvent self.old.plan (restart_of actor) }
+        ensures answer { IfOk result (IsAnswer C.image self.old.plan self.old.events (heads.Restarted actor) said.now) }
+        ensures refused { IfErr result (IsRefusal (λ fault. ⊥)) }
+        ensures events { OnOk result (self.new ≡ record { plan = self.old.plan; events = with_head C.image self.old.plan self.old.events (heads.Restarted actor) }) }
+    {
+        self.happen(restart_of(actor))?;
+        if said.is_empty() {
+            Ok(Told::Agrees)
+        } else {
+            Ok(Told::Differs)
+        }
     }
 
     /// The answer to whoever asked for the signature of the request that a step accepted.
-    fn signed(&self, step: u64, said: &[u8]) -> Result<bool, Refused<RecordFault>>
-        ensures { IfOk result (λ is_told. is_told ≡ true → IsTold C.image self.now.plan self.now.events (heads.Sign step) said.now) }
+    fn signed(&self, step: u64, said: &[u8]) -> Result<Told, Refused<RecordFault>>
+        ensures answer { IfOk result (IsAnswer C.image self.now.plan self.now.events (heads.Sign step) said.now) }
+        ensures refused { IfErr result (IsRefusal (IsUnaccepted C.image self.now.plan self.now.events step)) }
     {
-        let number = self.request_number(step)?;
+        let Some(number) = self.request_number(step) else {
+            return Err(Refused::Fault(RecordFault::Request));
+        };
         let found = self.world.issued(number)?;
         let text = signature_block(self.alloc, &found)?;
-        Ok(is(said, &text))
+        if is(said, &text) {
+            Ok(Told::Agrees)
+        } else {
+            Ok(Told::Differs)
+        }
+    }
+
+    /// The step of what was given: how many messages there were before it, and its answer.
+    fn step(&mut self, given: &Given) -> Result<(usize, Answer), Refused<RecordFault>>
+        requires { IsGiven self.old.plan given.now }
+        ensures named { OnOk result (IsNamed C.image self.old.plan self.old.events given.now) }
+        ensures event { OnOk result (self.new ≡ with_event self.old (event_of C.image self.old.plan self.old.events given.now)) }
+        ensures before { IfOk result (λ came. came.0 ≡ length (world_of C.image self.old).wire) }
+        ensures answer { IfOk result (λ came. came.1 ≡ answer_as given.now (happens C.image self.old.plan (world_of C.image self.old) (event_of C.image self.old.plan self.old.events given.now)).outcome.answer) }
+        ensures refused { IfErr result (IsRefusal (IsUnnamed C.image self.old.plan self.old.events given.now)) }
+    {
+        let Some(event) = self.event_of(given) else {
+            return Err(Refused::Fault(RecordFault::Message));
+        };
+        let (before, outcome) = self.happen(event)?;
+        Ok((before, answer_as(given, outcome.answer)))
     }
 
     /// The event that a line or a message is.
-    fn event_of(&self, given: &Given) -> Result<Event, Refused<RecordFault>>
+    fn event_of(&self, given: &Given) -> Option<Event>
         requires { IsGiven self.now.plan given.now }
-        ensures named { OnOk result (IsNamed C.image self.now.plan self.now.events given.now) }
-        ensures event { IfOk result (λ event. event ≡ event_of C.image self.now.plan self.now.events given.now) }
-        ensures there { IfOk result (IsEvent self.now.plan) }
+        ensures event { IfSome result (λ event. event ≡ event_of C.image self.now.plan self.now.events given.now) }
+        ensures there { IfSome result (IsEvent self.now.plan) }
+        ensures named { IsSome result ↔ IsNamed C.image self.now.plan self.now.events given.now }
     {
         match given {
-            Given::Line(_, event) => Ok(*event),
+            Given::Line(_, event) => Some(*event),
             Given::Message(step, place) => {
                 let number = self.message_number(*step, *place)?;
-                Ok(Event::Deliver(number))
+                Some(Event::Deliver(number))
             }
         }
     }
 
     /// The number of a message that a step sent.
-    fn message_number(&self, step: u64, place: u64) -> Result<u64, Refused<RecordFault>>
-        ensures sent { OnOk result (IsSent C.image self.now.plan self.now.events step place) }
-        ensures number { IfOk result (λ number. number ≡ sent_before C.image self.now.plan self.now.events step + place) }
+    fn message_number(&self, step: u64, place: u64) -> Option<u64>
+        ensures number { IfSome result (λ number. number ≡ sent_before C.image self.now.plan self.now.events step + place) }
+        ensures sent { IsSome result ↔ IsSent C.image self.now.plan self.now.events step place }
     {
-        let Some((begin, end)) = self.around(step) else {
-            return Err(Refused::Fault(RecordFault::Message));
-        };
+        let (begin, end) = self.around(step)?;
         let first = begin.messages as u64;
         if place < (end.messages as u64).saturating_sub(first) {
-            Ok(first + place)
+            Some(first + place)
         } else {
-            Err(Refused::Fault(RecordFault::Message))
+            None
         }
     }
 
     /// The number of the request that a step accepted.
-    fn request_number(&self, step: u64) -> Result<u64, Refused<RecordFault>>
-        ensures accepted { OnOk result (IsAccepted C.image self.now.plan self.now.events step) }
-        ensures number { IfOk result (λ number. number ≡ accepted_before C.image self.now.plan self.now.events step) }
+    fn request_number(&self, step: u64) -> Option<u64>
+        ensures number { IfSome result (λ number. number ≡ accepted_before C.image self.now.plan self.now.events step) }
+        ensures accepted { IsSome result ↔ IsAccepted C.image self.now.plan self.now.events step }
     {
-        let Some((begin, end)) = self.around(step) else {
-            return Err(Refused::Fault(RecordFault::Request));
-        };
+        let (begin, end) = self.around(step)?;
         if begin.requests < end.requests {
-            Ok(begin.requests as u64)
+            Some(begin.requests as u64)
         } else {
-            Err(Refused::Fault(RecordFault::Request))
+            None
         }
     }
 
     /// How many messages and requests there were before a step and after it, if it is one of those so far.
     fn around(&self, step: u64) -> Option<(Mark, Mark)>
-        ensures there { IfSome result (λ marks. step < length self.now.events) }
+        ensures there { IsSome result ↔ (step < length self.now.events) }
         ensures before { IfSome result (λ marks. marks.0 ≡ mark_of (after C.image self.now.plan (take step self.now.events))) }
         ensures after { IfSome result (λ marks. marks.1 ≡ mark_of (after C.image self.now.plan (take (step + 1) self.now.events))) }
     {
@@ -173,6 +227,19 @@ impl<C: Compress> Tracer<C> {
             return None;
         }
         Some((marks[place], marks[place + 1]))
+    }
+
+    /// The messages that were sent behind so many.
+    fn sent_from(&self, before: usize) -> &[Message]
+        ensures sent { result.now ≡ drop before (world_of C.image self.now).wire }
+        ensures early { AreEarly result.now }
+    {
+        // what is told of a world: its plan is one, and its events are the plan's
+        self.world.plan();
+        self.world.events();
+        let wire = self.world.wire();
+        let (_, sent) = wire.split_at(before.min(wire.len()));
+        sent
     }
 
     /// One event: how many messages there were before it, and what came of it.

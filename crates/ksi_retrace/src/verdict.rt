@@ -1,0 +1,31 @@
+//! What comes of a comparison.
+use crate::fault::RecordFault;
+
+/// Where an entry stands: its number, counted from 0, and its first line, counted from 1. Neither is beyond 2^64 - 1.
+#[derive(Clone, Copy, PartialEq, Eq)]
+pub struct Place {
+    pub entry: u64,
+    pub line: u64,
+}
+
+/// How many entries there were of a record that agrees.
+#[derive(Clone, Copy, PartialEq, Eq)]
+pub struct Counts {
+    /// Steps, whether or not they were said.
+    pub steps: usize,
+    /// Steps that were stored and never said.
+    pub unsaid: u64,
+    /// Signatures that were handed out.
+    pub signatures: u64,
+}
+
+/// What came of the comparison.
+#[derive(Clone, Copy, PartialEq, Eq)]
+pub enum Retraced {
+    /// Each block is what the world says at its place.
+    Agrees(Counts),
+    /// The block of this entry is another, the first that is.
+    Differs(Place),
+    /// This entry is none.
+    Refused(RecordFault, Place),
+}
