@@ -3,6 +3,7 @@ ghost use Rattle.std.specs.Prelude.{◌≡◌, OnOk, Ok, Err, Some, None};
 ghost use Rattle.ksi_corenode.specs.Events.{event_second, IsAsked, MayTake};
 ghost use Rattle.ksi_corenode.specs.Owners.{BringsOwned};
 ghost use Rattle.ksi_nodestore.specs.StoreState.{IsStore};
+ghost use Rattle.ksi_schedule.specs.Plans.{core_plan_of};
 ghost use Rattle.ksi_wire.specs.Questions.{IsSpan};
 ghost use Rattle.ksi_wire.specs.declared.questions.CoreLine.TheVariants.{Event, Held};
 ghost use Rattle.ksi_service.specs.Inlet.{came_line};
@@ -21,8 +22,8 @@ use ksi_wire::{CoreLine, Span, WireFault, core_line, core_step_text, held_text};
 use std::alloc::Global;
 use std::io::BufRead;
 
-/// Takes each line until the input ends, and says a block for each. The store is that of core `me` of the plan, as
-/// `NodeStore::open` makes it.
+/// Takes each line until the input ends, and says a block for each. The store is that of core `me` of the plan, with the plan's
+/// voters, as `NodeStore::open` makes it.
 ///
 /// # Errors
 /// `Disk`, `Memory` or `Stream`. The process is to end: its file is to be opened again.
@@ -35,7 +36,7 @@ pub fn serve_core<C: Compress, D: Disk, R: BufRead, O: Outlet>(
     out: &mut O,
 ) -> Result<(), Failure>
     requires start { store.old.core.start ≡ plan.now.start }
-    requires cores { store.old.core.plan.cores ≡ plan.now.cores }
+    requires plan { store.old.core.plan ≡ core_plan_of plan.now }
     requires me { store.old.core.me ≡ me }
     requires stored { IsStore C.image D.content D.images store.old }
     ensures served { OnOk result (IsServed (CoreOutcome C.image plan.now me) store.old.records (R.remaining reader.old) store.old store.new (O.said out.old) (O.said out.new)) }
@@ -63,12 +64,12 @@ fn take_what_came<C: Compress, D: Disk, O: Outlet>(
     out: &mut O,
 ) -> Result<(), Failure>
     requires start { store.old.core.start ≡ plan.now.start }
-    requires cores { store.old.core.plan.cores ≡ plan.now.cores }
+    requires plan { store.old.core.plan ≡ core_plan_of plan.now }
     requires me { store.old.core.me ≡ me }
     requires stored { IsStore C.image D.content D.images store.old }
     ensures answered { OnOk result (Answered (CoreOutcome C.image plan.now me) (came_line is_long line.now) store.old store.new (O.said out.old) (O.said out.new)) }
     ensures start { OnOk result (store.new.core.start ≡ store.old.core.start) }
-    ensures cores { OnOk result (store.new.core.plan.cores ≡ store.old.core.plan.cores) }
+    ensures plan { OnOk result (store.new.core.plan ≡ store.old.core.plan) }
     ensures me { OnOk result (store.new.core.me ≡ store.old.core.me) }
     ensures stored { OnOk result (IsStore C.image D.content D.images store.new) }
 {
@@ -89,12 +90,12 @@ fn take_line<C: Compress, D: Disk, O: Outlet>(
     out: &mut O,
 ) -> Result<(), Failure>
     requires start { store.old.core.start ≡ plan.now.start }
-    requires cores { store.old.core.plan.cores ≡ plan.now.cores }
+    requires plan { store.old.core.plan ≡ core_plan_of plan.now }
     requires me { store.old.core.me ≡ me }
     requires stored { IsStore C.image D.content D.images store.old }
     ensures answered { OnOk result (Answered (CoreOutcome C.image plan.now me) (Some line.now) store.old store.new (O.said out.old) (O.said out.new)) }
     ensures start { OnOk result (store.new.core.start ≡ store.old.core.start) }
-    ensures cores { OnOk result (store.new.core.plan.cores ≡ store.old.core.plan.cores) }
+    ensures plan { OnOk result (store.new.core.plan ≡ store.old.core.plan) }
     ensures me { OnOk result (store.new.core.me ≡ store.old.core.me) }
     ensures stored { OnOk result (IsStore C.image D.content D.images store.new) }
 {
@@ -148,7 +149,7 @@ fn take_event<C: Compress, D: Disk, O: Outlet>(
     requires stored { IsStore C.image D.content D.images store.old }
     ensures answered { OnOk result (Answered (λ _. AskedOutcome C.image me (Ok (Event event))) None store.old store.new (O.said out.old) (O.said out.new)) }
     ensures start { OnOk result (store.new.core.start ≡ store.old.core.start) }
-    ensures cores { OnOk result (store.new.core.plan.cores ≡ store.old.core.plan.cores) }
+    ensures plan { OnOk result (store.new.core.plan ≡ store.old.core.plan) }
     ensures me { OnOk result (store.new.core.me ≡ store.old.core.me) }
     ensures stored { OnOk result (IsStore C.image D.content D.images store.new) }
 {

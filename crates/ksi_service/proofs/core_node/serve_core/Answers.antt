@@ -14,7 +14,7 @@ serving-init g c =
     let ready : Appends told now (ready_text c.args.store.now.records) = subst (λ n. Appends told now (ready_text n)) c.counts.ensures.records c.in_ok-say_ready.ensures in
     record {
       start = c.requires.start;
-      cores = c.requires.cores;
+      plan = c.requires.plan;
       me = c.requires.me;
       stored = c.requires.stored;
       served = record {
@@ -47,7 +47,7 @@ serving-preserved g c =
     let same : came_line (is_long came) text ≡ line = (λ i. came_line (sym c.is_long.ensures i) (sym c.deref.ensures.value i)) in
     record {
       start = c.in_ok-take_what_came.ensures.start ∙ c.serving.invariant.start;
-      cores = c.in_ok-take_what_came.ensures.cores ∙ c.serving.invariant.cores;
+      plan = c.in_ok-take_what_came.ensures.plan ∙ c.serving.invariant.plan;
       me = c.in_ok-take_what_came.ensures.me ∙ c.serving.invariant.me;
       stored = c.in_ok-take_what_came.ensures.stored;
       served = record {

@@ -1,5 +1,6 @@
 use Rattle.std.proofs.Common.{◌≡◌}
 use Rattle.ksi_nodestore.specs.StoreState.{IsStore}
+use Rattle.ksi_schedule.specs.Plans.{core_plan_of}
 use Rattle.ksi_service.specs.CoreOutcomes.{CoreOutcome}
 use Rattle.ksi_service.proofs.ServeLemmas.{Serving}
 use Rattle.ksi_service.proofs.core_node.serve_core.Given as goal
@@ -8,7 +9,7 @@ use Rattle.ksi_service.proofs.core_node.serve_core.Given as goal
 abbrev pub invariant-serving : goal.invariant-serving
 invariant-serving g l = record {
   start : l.store.core.start ≡ l.plan.start;
-  cores : l.store.core.plan.cores ≡ l.plan.cores;
+  plan : l.store.core.plan ≡ core_plan_of l.plan;
   me : l.store.core.me ≡ l.me;
   stored : IsStore g.C.Compress.image g.D.Disk.content g.D.Disk.images l.store;
   served : Serving (CoreOutcome g.C.Compress.image l.plan l.me) l.fn.store.records (g.R.Read.remaining l.fn.reader) (g.R.Read.remaining l.reader) l.fn.store l.store (g.O.Outlet.said l.fn.out) (g.O.Outlet.said l.out);
