@@ -152,12 +152,17 @@ def extend(words):
     """By the service, or if it does not run, by a core's file: a folder whose plan is over still extends."""
     with open(words.signature, "rb") as file:
         signature = file.read()
-    if os.path.exists(os.path.join(words.folder, "plan")) and not files.is_held(words.folder):
+    if rests(words.folder):
         content = extended_by_file(words.folder, signature)
     else:
         content = ask(words.folder, "/extend", signature, "application/octet-stream")
     files.write(words.out or words.signature, content)
     print(f"extended {words.out or words.signature}")
+
+
+def rests(folder):
+    """Whether a folder has been a service's, and none runs over it."""
+    return os.path.exists(os.path.join(folder, "plan")) and not files.is_held(folder)
 
 
 def extended_by_file(folder, signature):
@@ -172,7 +177,10 @@ def extended_by_file(folder, signature):
 
 
 def publications(words):
-    files.write(words.out, ask(words.folder, "/publications"))
+    content = Publications(words.folder).content if rests(words.folder) else ask(words.folder, "/publications")
+    if content is None:
+        raise Failed(f"nothing was published yet over {words.folder}")
+    files.write(words.out, content)
     print(f"saved {words.out}")
 
 

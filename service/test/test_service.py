@@ -110,6 +110,7 @@ class ServiceTest(unittest.TestCase):
         self.assertIn("no service runs", self.command("status", status=1))
         if REAL:
             self.assertIn("extended", self.command("extend", f"{name}.ksig"))
+            self.command("publications")
             self.assertIn("accepted", self.command("verify", name, f"{name}.ksig"))
         self.checked()
         self.assertIn("00000001.gz", os.listdir(os.path.join(self.folder, "record")))
