@@ -1,5 +1,5 @@
 //! The laws. None of these functions does anything.
-ghost use Rattle.std.specs.Prelude.{◌≡◌, ◌<◌, ◌++◌, ◌∷◌, [], length, map, ℕ, Bool, List, Some, Ok};
+ghost use Rattle.std.specs.Prelude.{◌≡◌, ◌<◌, ◌++◌, ◌∷◌, [], length, map, ℕ, Bool, List, None, Some, Ok, true};
 ghost use Rattle.ksi_aggregator.specs.declared.event.RoundEvent.{RoundEvent};
 ghost use Rattle.ksi_aggregator.specs.declared.fact.Fact.{Fact};
 ghost use Rattle.ksi_aggregator.specs.declared.step.Step.{Step};
@@ -11,7 +11,11 @@ ghost use Rattle.ksi_corenode.specs.Events as core_events;
 ghost use Rattle.ksi_corenode.specs.declared.event.CoreEvent.{CoreEvent};
 ghost use Rattle.ksi_disk.specs.Images.{LeavesOnly};
 ghost use Rattle.ksi_node_file.specs.Crashed as core_node;
+ghost use Rattle.ksi_corenode.specs.declared.fact.Fact as core_facts;
+ghost use Rattle.ksi_nodestore.specs.Opens as core_opens;
 ghost use Rattle.ksi_nodestore.specs.Stores as core_stores;
+ghost use Rattle.ksi_nodestore.specs.StoreState as core_states;
+ghost use Rattle.ksi_synod.specs.CorePlans.{CorePlanState};
 ghost use Rattle.ksi_roundfacts.specs.Renamed.{answer_renamed};
 ghost use Rattle.ksi_roundstore.specs.Opens.{OpensAs, StaysOpened};
 ghost use Rattle.ksi_roundstore.specs.Stores.{IsFileOf, IsStoreOf};
@@ -25,7 +29,7 @@ ghost use Rattle.ksi_world.specs.CoreEvents.{asked_of};
 ghost use Rattle.ksi_world.specs.Histories.{after, core_message, happens, round_message};
 ghost use Rattle.ksi_world.specs.Records.{issued_of};
 ghost use Rattle.ksi_world.specs.RoundEvents.{round_asked_of};
-ghost use Rattle.ksi_crashed.specs.Aggregators.{IsAggregatorAfter, IsTakenAs, Running, running_in, TookStep, WasCutOff, WasOpened};
+ghost use Rattle.ksi_crashed.specs.Aggregators.{IsAggregatorAfter, IsTakenAs, Running, running_in, TakesPart, TookStep, WasCutOff, WasOpened};
 ghost use Rattle.ksi_crashed.specs.AsNode.{IsAggregatorNode};
 ghost use Rattle.ksi_crashed.specs.Crashed.{all_events, AreNodesAfter, Deed, Nodes, Runs};
 
@@ -57,6 +61,15 @@ pub fn round_calls_are_deeds<C: Compress, D: Disk, E: Disk>()
     a_file_is_of_one_list_of_facts();
     stores_go_on::<C, D>();
 }
+
+/// An opening between two events, behind a crash or none, is a restart: the file is as it was.
+pub fn openings_are_restarts<C: Compress, D: Disk, E: Disk>()
+    ensures core { (me : ℕ) (plan : CorePlanState) (facts : List core_facts.Fact) (old : core_states.StoreState D) (file : List ℕ) (store : core_states.StoreState E) → core_states.IsStoreOf C.image D.content D.images me plan facts old →
+        D.images old.log.disk file → core_opens.OpensAs C.image E.content E.images me plan file (Ok store) → core_opens.StaysOpened E.content file (Ok store) →
+        core_node.TakesPart C.image me plan None true (core_node.running_in D.content old) (core_node.running_in E.content store) }
+    ensures aggregator { (me : ℕ) (plan : PlanState) (facts : List Fact) (old : StoreState D) (file : List ℕ) (store : StoreState E) → IsStoreOf D.content D.images me plan facts old → D.images old.log.disk file →
+        OpensAs E.content E.images me plan file (Ok store) → StaysOpened E.content file (Ok store) → TakesPart C.image me plan None true (running_in D.content old) (running_in E.content store) }
+{}
 
 /// Nodes that crash have a history. Over any run of events, failures, crashes and openings, each core and each aggregator keeps
 /// what it keeps after the history of the run's events, and its file has the facts that it stored there. An event that was cut
