@@ -21,7 +21,12 @@ ghost use Rattle.ksi_roundstore.specs.Opens.{OpensAs, StaysOpened};
 ghost use Rattle.ksi_roundstore.specs.Stores.{IsFileOf, IsStoreOf};
 ghost use Rattle.ksi_roundstore.specs.StoreState.{StoreState};
 ghost use Rattle.ksi_roundstore.specs.Takes.{fact_added, HasEither, HasStored, TookTurn};
-ghost use Rattle.ksi_roundstore.specs.Written.{IsWritten};
+ghost use Rattle.ksi_roundstore.specs.Written.{IsLine, IsWritten};
+ghost use Rattle.ksi_schedule.specs.Pieces.{Text};
+ghost use Rattle.ksi_schedule.specs.Printed.{line_of};
+ghost use Rattle.ksi_wire.specs.AskedRounds.{aggregator_line_of};
+ghost use Rattle.ksi_wire.specs.RoundLines.{FitsRound, round_words};
+ghost use Rattle.ksi_wire.specs.declared.event.AggregatorLine.TheVariants as lines;
 ghost use Rattle.ksi_schedule.specs.Events.{AreEvents, IsEvent};
 ghost use Rattle.ksi_schedule.specs.Plans.{core_plan_of, IsPlan, PlanState};
 ghost use Rattle.ksi_schedule.specs.declared.event.Event.{Event};
@@ -61,6 +66,13 @@ pub fn round_calls_are_deeds<C: Compress, D: Disk, E: Disk>()
     a_file_is_of_one_list_of_facts();
     stores_go_on::<C, D>();
 }
+
+/// An event that came by a line is written, as a store wants it. Each condition is a clause of `aggregator_line` of `ksi_wire`
+/// (`text`, `exact`, `may`), of a line without a line feed.
+pub fn read_events_are_written()
+    ensures { (plan : PlanState) (me : ℕ) (line : Text) (event : RoundEvent) → IsLine line → line ≡ line_of (round_words event) → aggregator_line_of plan me line ≡ Ok (lines.Event event) → FitsRound event →
+        IsWritten plan me event }
+{}
 
 /// An opening between two events, behind a crash or none, is a restart: the file is as it was.
 pub fn openings_are_restarts<C: Compress, D: Disk, E: Disk>()
