@@ -1,5 +1,5 @@
 //! The laws. None of these functions does anything.
-ghost use Rattle.std.specs.Prelude.{◌≡◌, ◌<◌, ◌++◌, ◌∷◌, [], length, map, ℕ, Bool, List, Some, Ok};
+ghost use Rattle.std.specs.Prelude.{◌≡◌, ◌<◌, ◌++◌, ◌∷◌, [], length, map, ℕ, Bool, List, None, Some, Ok, true};
 ghost use Rattle.ksi_aggregator.specs.declared.event.RoundEvent.{RoundEvent};
 ghost use Rattle.ksi_aggregator.specs.declared.fact.Fact.{Fact};
 ghost use Rattle.ksi_aggregator.specs.declared.step.Step.{Step};
@@ -11,13 +11,22 @@ ghost use Rattle.ksi_corenode.specs.Events as core_events;
 ghost use Rattle.ksi_corenode.specs.declared.event.CoreEvent.{CoreEvent};
 ghost use Rattle.ksi_disk.specs.Images.{LeavesOnly};
 ghost use Rattle.ksi_node_file.specs.Crashed as core_node;
+ghost use Rattle.ksi_corenode.specs.declared.fact.Fact as core_facts;
+ghost use Rattle.ksi_nodestore.specs.Opens as core_opens;
 ghost use Rattle.ksi_nodestore.specs.Stores as core_stores;
+ghost use Rattle.ksi_nodestore.specs.StoreState as core_states;
+ghost use Rattle.ksi_synod.specs.CorePlans.{CorePlanState};
 ghost use Rattle.ksi_roundfacts.specs.Renamed.{answer_renamed};
 ghost use Rattle.ksi_roundstore.specs.Opens.{OpensAs, StaysOpened};
 ghost use Rattle.ksi_roundstore.specs.Stores.{IsFileOf, IsStoreOf};
 ghost use Rattle.ksi_roundstore.specs.StoreState.{StoreState};
 ghost use Rattle.ksi_roundstore.specs.Takes.{fact_added, HasEither, HasStored, TookTurn};
-ghost use Rattle.ksi_roundstore.specs.Written.{IsWritten};
+ghost use Rattle.ksi_roundstore.specs.Written.{IsLine, IsWritten};
+ghost use Rattle.ksi_schedule.specs.Pieces.{Text};
+ghost use Rattle.ksi_schedule.specs.Printed.{line_of};
+ghost use Rattle.ksi_wire.specs.AskedRounds.{aggregator_line_of};
+ghost use Rattle.ksi_wire.specs.RoundLines.{FitsRound, round_words};
+ghost use Rattle.ksi_wire.specs.declared.event.AggregatorLine.TheVariants as lines;
 ghost use Rattle.ksi_schedule.specs.Events.{AreEvents, IsEvent};
 ghost use Rattle.ksi_schedule.specs.Plans.{core_plan_of, IsPlan, PlanState};
 ghost use Rattle.ksi_schedule.specs.declared.event.Event.{Event};
@@ -25,7 +34,7 @@ ghost use Rattle.ksi_world.specs.CoreEvents.{asked_of};
 ghost use Rattle.ksi_world.specs.Histories.{after, core_message, happens, round_message};
 ghost use Rattle.ksi_world.specs.Records.{issued_of};
 ghost use Rattle.ksi_world.specs.RoundEvents.{round_asked_of};
-ghost use Rattle.ksi_crashed.specs.Aggregators.{IsAggregatorAfter, IsTakenAs, Running, running_in, TookStep, WasCutOff, WasOpened};
+ghost use Rattle.ksi_crashed.specs.Aggregators.{IsAggregatorAfter, IsTakenAs, Running, running_in, TakesPart, TookStep, WasCutOff, WasOpened};
 ghost use Rattle.ksi_crashed.specs.AsNode.{IsAggregatorNode};
 ghost use Rattle.ksi_crashed.specs.Crashed.{all_events, AreNodesAfter, Deed, Nodes, Runs};
 
@@ -57,6 +66,22 @@ pub fn round_calls_are_deeds<C: Compress, D: Disk, E: Disk>()
     a_file_is_of_one_list_of_facts();
     stores_go_on::<C, D>();
 }
+
+/// An event that came by a line is written, as a store wants it. Each condition is a clause of `aggregator_line` of `ksi_wire`
+/// (`text`, `exact`, `may`), of a line without a line feed.
+pub fn read_events_are_written()
+    ensures { (plan : PlanState) (me : ℕ) (line : Text) (event : RoundEvent) → IsLine line → line ≡ line_of (round_words event) → aggregator_line_of plan me line ≡ Ok (lines.Event event) → FitsRound event →
+        IsWritten plan me event }
+{}
+
+/// An opening between two events, behind a crash or none, is a restart: the file is as it was.
+pub fn openings_are_restarts<C: Compress, D: Disk, E: Disk>()
+    ensures core { (me : ℕ) (plan : CorePlanState) (facts : List core_facts.Fact) (old : core_states.StoreState D) (file : List ℕ) (store : core_states.StoreState E) → core_states.IsStoreOf C.image D.content D.images me plan facts old →
+        D.images old.log.disk file → core_opens.OpensAs C.image E.content E.images me plan file (Ok store) → core_opens.StaysOpened E.content file (Ok store) →
+        core_node.TakesPart C.image me plan None true (core_node.running_in D.content old) (core_node.running_in E.content store) }
+    ensures aggregator { (me : ℕ) (plan : PlanState) (facts : List Fact) (old : StoreState D) (file : List ℕ) (store : StoreState E) → IsStoreOf D.content D.images me plan facts old → D.images old.log.disk file →
+        OpensAs E.content E.images me plan file (Ok store) → StaysOpened E.content file (Ok store) → TakesPart C.image me plan None true (running_in D.content old) (running_in E.content store) }
+{}
 
 /// Nodes that crash have a history. Over any run of events, failures, crashes and openings, each core and each aggregator keeps
 /// what it keeps after the history of the run's events, and its file has the facts that it stored there. An event that was cut
