@@ -1,5 +1,5 @@
 -- The ballot that an event makes a core store is of one of its plan's cores.
-use Rattle.std.proofs.Common.{◌≡◌, refl, ℕ, ◌+◌, ◌*◌, ◌%◌, ◌<◌, Bool, true, false, eqb, List, Option, Some, None, arith}
+use Rattle.std.proofs.Common.{◌≡◌, refl, ℕ, ◌+◌, ◌*◌, ◌<◌, Bool, true, false, eqb, List, Option, Some, None, arith}
 use Rattle.std.specs.Prelude.{is_some, IfSome}
 use Rattle.std.proofs.lemmas.Bool.{cond_both}
 use Rattle.ksi_aggtree.specs.declared.item.Item.{Item}
