@@ -14,3 +14,4 @@ pub mod Owning
 pub mod Lasting
 pub mod Coming
 pub mod Fitting
+pub mod HeldChains

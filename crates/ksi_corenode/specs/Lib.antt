@@ -7,6 +7,7 @@ pub mod Facts
 pub mod Owners
 pub mod Rows
 pub mod CoreState
+pub mod Chains
 pub mod Events
 pub mod Next
 pub mod Lawful

@@ -26,6 +26,7 @@
 //! ```
 #![tactic(auto)]
 
+mod chaining;
 mod counted;
 mod event;
 mod fact;
@@ -48,6 +49,7 @@ mod step;
 mod volatile;
 mod volatile_parts;
 
+pub use chaining::HeldChain;
 pub use counted::SecondCounts;
 pub use event::CoreEvent;
 pub use fact::{Fact, SealedItems, What};

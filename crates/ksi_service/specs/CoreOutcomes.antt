@@ -8,6 +8,7 @@ use Rattle.ksi_corenode.specs.Events.{core_row, event_second}
 use Rattle.ksi_nodestore.specs.StoreState.{StoreState}
 use Rattle.ksi_wire.specs.declared.fault.WireFault.{WireFault}
 use Rattle.ksi_wire.specs.declared.fault.WireFault.TheVariants.{Long}
+use Rattle.ksi_wire.specs.Chains.{chain_text}
 use Rattle.ksi_wire.specs.Questions.{core_line_of}
 use Rattle.ksi_wire.specs.Refused.{refusal_text}
 use Rattle.ksi_wire.specs.Steps.{core_step_text}
@@ -20,11 +21,13 @@ abbrev pub core_asked : PlanState → (me : ℕ) → Option Text → Result Core
 core_asked plan me None = Err Long
 core_asked plan me (Some line) = core_line_of plan me line
 
--- The one step of an event is taken, and its text said. What the core has is told, and a line refused: both change nothing.
+-- The one step of an event is taken, and its text said. What the core has is told, or a chain, or a line is refused: these
+-- change nothing.
 abbrev pub AskedOutcome : {D : Type 0} → (List ℕ → List ℕ) → (me : ℕ) → Result CoreLine WireFault → (before after : StoreState D) → (said : Text) → Type 0
 AskedOutcome image me (Ok (lines.Event event)) before after said =
     (step : Step) × IsTurn before.core after.core (event_second event) (core_row image before.core event) step × (said ≡ core_step_text me (event_second event) step)
 AskedOutcome image me (Ok (lines.Held span)) before after said = (after ≡ before) × (said ≡ held_text before.core span)
+AskedOutcome image me (Ok (lines.Chain ends)) before after said = (after ≡ before) × (said ≡ chain_text image before.core ends)
 AskedOutcome image me (Err fault) before after said = (after ≡ before) × (said ≡ refusal_text fault)
 
 abbrev pub CoreOutcome : {D : Type 0} → (List ℕ → List ℕ) → PlanState → (me : ℕ) → Option Text → (before after : StoreState D) → (said : Text) → Type 0

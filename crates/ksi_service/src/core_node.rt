@@ -1,11 +1,11 @@
 //! A core as a process.
-ghost use Rattle.std.specs.Prelude.{◌≡◌, OnOk, Ok, Err, Some, None};
+ghost use Rattle.std.specs.Prelude.{◌≡◌, ◌<◌, ◌≤◌, ◌^◌, OnOk, Ok, Err, Some, None};
 ghost use Rattle.ksi_corenode.specs.Events.{event_second, IsAsked, MayTake};
 ghost use Rattle.ksi_corenode.specs.Owners.{BringsOwned};
 ghost use Rattle.ksi_nodestore.specs.StoreState.{IsStore};
 ghost use Rattle.ksi_schedule.specs.Plans.{core_plan_of};
 ghost use Rattle.ksi_wire.specs.Questions.{IsSpan};
-ghost use Rattle.ksi_wire.specs.declared.questions.CoreLine.TheVariants.{Event, Held};
+ghost use Rattle.ksi_wire.specs.declared.questions.CoreLine.TheVariants.{Chain, Event, Held};
 ghost use Rattle.ksi_service.specs.Inlet.{came_line};
 ghost use Rattle.ksi_service.specs.Serving.{Answered, IsServed};
 ghost use Rattle.ksi_service.specs.CoreOutcomes.{AskedOutcome, CoreOutcome};
@@ -18,7 +18,9 @@ use ksi_disk::Disk;
 use ksi_imprint::{Compress, Refused};
 use ksi_nodestore::NodeStore;
 use ksi_schedule::Plan;
-use ksi_wire::{CoreLine, Span, WireFault, core_line, core_step_text, held_text};
+use ksi_wire::{
+    ChainEnds, CoreLine, Span, WireFault, chain_text, core_line, core_step_text, held_text,
+};
 use std::alloc::Global;
 use std::io::BufRead;
 
@@ -102,6 +104,7 @@ fn take_line<C: Compress, D: Disk, O: Outlet>(
     match core_line(alloc, plan, me, line) {
         Ok(CoreLine::Event(event)) => take_event(alloc, me, store, event, out),
         Ok(CoreLine::Held(span)) => tell(alloc, store, span, out),
+        Ok(CoreLine::Chain(ends)) => tell_chain(alloc, store, ends, out),
         Err(Refused::Fault(fault)) => refuse(fault, store, out),
         Err(Refused::NoMemory) => Err(Failure::Memory),
     }
@@ -131,6 +134,22 @@ fn tell<C: Compress, D: Disk, O: Outlet>(
 {
     let text = held_text(alloc, store.core(), span)?;
     out.say_held(store, span, &text)?;
+    Ok(())
+}
+
+/// Tells the chain from a second to the root of a calendar, in what the core holds.
+fn tell_chain<C: Compress, D: Disk, O: Outlet>(
+    alloc: Global,
+    store: &NodeStore<C, D>,
+    ends: ChainEnds,
+    out: &mut O,
+) -> Result<(), Failure>
+    requires from { store.now.core.start ≤ ends.to }
+    requires below { ends.to < 2 ^ 63 }
+    ensures { OnOk result (Answered (λ _. AskedOutcome C.image 0 (Ok (Chain ends))) None store.now store.now (O.said out.old) (O.said out.new)) }
+{
+    let text = chain_text(alloc, store.core(), ends)?;
+    out.say_chain(store, ends, &text)?;
     Ok(())
 }
 

@@ -6,6 +6,7 @@ ghost use Rattle.ksi_service.specs.RoundOutcomes.{SignTold};
 ghost use Rattle.ksi_service.specs.RoundSaying.{MaySayRound};
 ghost use Rattle.ksi_service.specs.Saying.{MaySay};
 ghost use Rattle.ksi_service.specs.Serving.{block_text, ready_text};
+ghost use Rattle.ksi_wire.specs.Chains.{chain_text};
 ghost use Rattle.ksi_wire.specs.Refused.{refusal_text};
 ghost use Rattle.ksi_wire.specs.Told.{held_text};
 
@@ -14,7 +15,7 @@ use ksi_imprint::Compress;
 use ksi_nodestore::NodeStore;
 use ksi_roundstore::RoundStore;
 use ksi_schedule::Plan;
-use ksi_wire::{Span, WireFault};
+use ksi_wire::{ChainEnds, Span, WireFault};
 use std::io::{self, Write};
 
 /// Takes what a node says. The guard is owed at the call itself, so it holds of each text of a step that ever goes out,
@@ -40,6 +41,16 @@ pub trait Outlet {
         text: &[u8],
     ) -> io::Result<()>
         requires { text.now ≡ held_text store.now.core span }
+        ensures { OnOk result (Appends (said self.old) (said self.new) text.now) };
+
+    /// The chain from a second to the root of a calendar, in what the core of this store holds.
+    fn say_chain<C: Compress, D: Disk>(
+        &mut self,
+        store: &NodeStore<C, D>,
+        ends: ChainEnds,
+        text: &[u8],
+    ) -> io::Result<()>
+        requires { text.now ≡ chain_text C.image store.now.core ends }
         ensures { OnOk result (Appends (said self.old) (said self.new) text.now) };
 
     /// A line that was no event, and changed nothing.
@@ -100,6 +111,15 @@ impl<W: Write> Outlet for HostOutlet<W> {
         &mut self,
         _store: &NodeStore<C, D>,
         _span: Span,
+        text: &[u8],
+    ) -> io::Result<()> {
+        self.writer.write_all(text)
+    }
+
+    fn say_chain<C: Compress, D: Disk>(
+        &mut self,
+        _store: &NodeStore<C, D>,
+        _ends: ChainEnds,
         text: &[u8],
     ) -> io::Result<()> {
         self.writer.write_all(text)

@@ -1,8 +1,8 @@
 -- Printed lines are taken.
-use Rattle.std.proofs.Common.{◌≡◌, ℕ, ◌^◌, ◌<◌, true, false, Bool, eqb, List, [], ◌∷◌, length, codes, ◌&&◌, Option, Some, None, Ok, refl, ap, sym, ◌∙◌, subst, arith, ltb}
+use Rattle.std.proofs.Common.{◌≡◌, ℕ, ◌^◌, ◌<◌, ◌≤◌, true, false, Bool, eqb, List, [], ◌∷◌, length, codes, ◌&&◌, Option, Some, None, Ok, refl, ap, sym, ◌∙◌, subst, arith, ltb}
 use Rattle.std.specs.Fmt.{decimal}
 use Rattle.std.specs.List.{list_all}
-use Rattle.std.specs.Prelude.{IfSome}
+use Rattle.std.specs.Prelude.{IfSome, if◌then◌else◌}
 use Rattle.std.specs.Str.{bytes_eq}
 use Rattle.std.proofs.lemmas.Bool.{lt-ltb, le-leb}
 use Rattle.std.proofs.lemmas.Slice.Eq.{bytes_eq-Decides}
@@ -28,7 +28,12 @@ use Rattle.ksi_wire.specs.RoundLines.{asked_words}
 use Rattle.ksi_wire.specs.Asked.{Got, number_in, imprint_in, second_in, core_in, lower_in, is_same, ballot_in, name_in, is_same_name, item_in, cast_in, vote_in, core_event_in, core_event_of, if_spelled}
 use Rattle.ksi_wire.specs.AskedRounds.{asked_in, aggregator_line_of}
 use Rattle.ksi_wire.specs.Responses.{above_text}
-use Rattle.ksi_wire.specs.Taken.{IsDigest, IsSubmitted, IsBallotOf, IsCast, IsVote, ComesToCore, ComesToAggregator}
+use Rattle.ksi_wire.specs.declared.questions.ChainEnds.{ChainEnds}
+use Rattle.ksi_wire.specs.declared.questions.CoreLine.{CoreLine}
+use Rattle.ksi_wire.specs.declared.questions.CoreLine.TheVariants as questions
+use Rattle.ksi_wire.specs.declared.questions.Span.{Span}
+use Rattle.ksi_wire.specs.Questions.{as_chain, as_event, as_question, asks, chain_of, chain_words, core_line_of, core_line_words, ends_in, held_of, held_words, span_in}
+use Rattle.ksi_wire.specs.Taken.{IsDigest, IsSubmitted, IsBallotOf, IsCast, IsVote, ComesToCore, ComesToAggregator, IsAskedOfCore}
 use Rattle.ksi_wire.proofs.AboveSaid.{above_again, above_clean, AreRead}
 
 -- ---- words
@@ -191,6 +196,77 @@ core_line_taken plan me event h is =
     let first = core_first event in
     let cut : words (line_of (core_words event)) ≡ core_words event = line_words (core_words event) first.0 first.1 first.2 (core_clean plan me event h is) in
     spelled_taken core_words event (core_event_in plan me (words (line_of (core_words event)))) (ap (core_event_in plan me) cut ∙ core_event_taken plan me event h is)
+
+-- ---- questions to a core
+
+is_no_question : (event : CoreEvent) → (asks (codes "held") (core_words event) ≡ false) × (asks (codes "chain") (core_words event) ≡ false)
+is_no_question (events.Submission from second item) = (refl, refl)
+is_no_question (events.Seal t) = (refl, refl)
+is_no_question (events.Ballot t) = (refl, refl)
+is_no_question (events.Receive from second m) = (refl, refl)
+is_no_question (events.Tell t) = (refl, refl)
+is_no_question (events.Respond t) = (refl, refl)
+is_no_question (events.Publish t) = (refl, refl)
+
+held_clean : (plan : PlanState) (span : Span) → IsPlan plan → InRange plan span.from → span.count < 2 ^ 64 → IsClean (held_words span)
+held_clean plan span h is small = three (codes "held") (decimal span.from) (decimal span.count) (plain (codes "held") refl) (second_clean plan span.from h is) (number-clean span.count small)
+
+held_taken : (plan : PlanState) (span : Span) → IsPlan plan → InRange plan span.from → 1 ≤ span.count → span.count ≤ 1024 → held_of plan (line_of (held_words span)) ≡ Ok span
+unfolding held_of
+held_taken plan span h is some few =
+    let small : span.count < 2 ^ 64 = omega (arith, few) in
+    let cut : words (line_of (held_words span)) ≡ held_words span = line_words (held_words span) (codes "held") (decimal span.from ∷ decimal span.count ∷ []) refl (held_clean plan span h is small) in
+    let read : span_in plan (held_words span) ≡ Ok (span, []) = rw (second_taken plan span.from (decimal span.count ∷ []) h is, number_taken span.count [] small, le-leb _ _ some, le-leb _ _ few) refl in
+    spelled_taken held_words span (span_in plan (words (line_of (held_words span)))) (ap (span_in plan) cut ∙ read)
+
+chain_clean : (plan : PlanState) (ends : ChainEnds) → IsPlan plan → InRange plan ends.from → InRange plan ends.to → IsClean (chain_words ends)
+chain_clean plan ends h from to = three (codes "chain") (decimal ends.from) (decimal ends.to) (plain (codes "chain") refl) (second_clean plan ends.from h from) (second_clean plan ends.to h to)
+
+chain_taken : (plan : PlanState) (ends : ChainEnds) → IsPlan plan → InRange plan ends.from → InRange plan ends.to → chain_of plan (line_of (chain_words ends)) ≡ Ok ends
+unfolding chain_of
+chain_taken plan ends h from to =
+    let cut : words (line_of (chain_words ends)) ≡ chain_words ends = line_words (chain_words ends) (codes "chain") (decimal ends.from ∷ decimal ends.to ∷ []) refl (chain_clean plan ends h from to) in
+    let read : ends_in plan (chain_words ends) ≡ Ok (ends, []) = rw (second_taken plan ends.from (decimal ends.to ∷ []) h from, second_taken plan ends.to [] h to) refl in
+    spelled_taken chain_words ends (ends_in plan (words (line_of (chain_words ends)))) (ap (ends_in plan) cut ∙ read)
+
+first_asked : {A : Type 0} (b c : Bool) (x y z : A) → b ≡ true → (if b then x else if c then y else z) ≡ x
+first_asked b c x y z one = rw one refl
+
+second_asked : {A : Type 0} (b c : Bool) (x y z : A) → b ≡ false → c ≡ true → (if b then x else if c then y else z) ≡ y
+second_asked b c x y z one other = rw (one, other) refl
+
+third_asked : {A : Type 0} (b c : Bool) (x y z : A) → b ≡ false → c ≡ false → (if b then x else if c then y else z) ≡ z
+third_asked b c x y z one other = rw (one, other) refl
+
+module _ (plan : PlanState) (me : ℕ) (line : Text) where
+  -- what a line of these words asks
+  as_held : (span : Span) → words line ≡ held_words span → held_of plan line ≡ Ok span → core_line_of plan me line ≡ Ok (questions.Held span)
+  as_held span cut is =
+      first_asked (asks (codes "held") (words line)) (asks (codes "chain") (words line)) (as_question (held_of plan line)) (as_chain (chain_of plan line)) (as_event (core_event_of plan me line))
+      (ap (asks (codes "held")) cut)
+      ∙ ap as_question is
+
+  as_ends : (ends : ChainEnds) → words line ≡ chain_words ends → chain_of plan line ≡ Ok ends → core_line_of plan me line ≡ Ok (questions.Chain ends)
+  as_ends ends cut is =
+      second_asked (asks (codes "held") (words line)) (asks (codes "chain") (words line)) (as_question (held_of plan line)) (as_chain (chain_of plan line)) (as_event (core_event_of plan me line))
+      (ap (asks (codes "held")) cut) (ap (asks (codes "chain")) cut)
+      ∙ ap as_chain is
+
+  as_core_event : (event : CoreEvent) → words line ≡ core_words event → core_event_of plan me line ≡ Ok event → core_line_of plan me line ≡ Ok (questions.Event event)
+  as_core_event event cut is =
+      third_asked (asks (codes "held") (words line)) (asks (codes "chain") (words line)) (as_question (held_of plan line)) (as_chain (chain_of plan line)) (as_event (core_event_of plan me line))
+      (ap (asks (codes "held")) cut ∙ (is_no_question event).0) (ap (asks (codes "chain")) cut ∙ (is_no_question event).1)
+      ∙ ap as_event is
+
+pub core_asked_taken : (plan : PlanState) (me : ℕ) (asked : CoreLine) → IsPlan plan → IsAskedOfCore plan me asked → core_line_of plan me (line_of (core_line_words asked)) ≡ Ok asked
+core_asked_taken plan me (questions.Event event) h is =
+    let first = core_first event in
+    as_core_event plan me (line_of (core_words event)) event (line_words (core_words event) first.0 first.1 first.2 (core_clean plan me event h is)) (core_line_taken plan me event h is)
+core_asked_taken plan me (questions.Held span) h is =
+    let small : span.count < 2 ^ 64 = omega (arith, is.2) in
+    as_held plan me (line_of (held_words span)) span (line_words (held_words span) (codes "held") (decimal span.from ∷ decimal span.count ∷ []) refl (held_clean plan span h is.0 small)) (held_taken plan span h is.0 is.1 is.2)
+core_asked_taken plan me (questions.Chain ends) h is =
+    as_ends plan me (line_of (chain_words ends)) ends (line_words (chain_words ends) (codes "chain") (decimal ends.from ∷ decimal ends.to ∷ []) refl (chain_clean plan ends h is.0 is.1)) (chain_taken plan ends h is.0 is.1)
 
 -- ---- the lines to an aggregator
 

@@ -1,6 +1,7 @@
 pub mod Asked
 pub mod AskedAbove
 pub mod AskedRounds
+pub mod Chains
 pub mod Lines
 pub mod Questions
 pub mod Refused

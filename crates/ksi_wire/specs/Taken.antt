@@ -1,5 +1,5 @@
 -- Which events come to a node of a plan.
-use Rattle.std.specs.Prelude.{◌≡◌, ℕ, ◌<◌, ◌^◌, List, length, IfSome, Ok}
+use Rattle.std.specs.Prelude.{◌≡◌, ℕ, ◌<◌, ◌≤◌, ◌^◌, List, length, IfSome, Ok}
 use Rattle.ksi_imprint.specs.Reading.{hex_at}
 use Rattle.ksi_aggtree.specs.Names.{IsName}
 use Rattle.ksi_aggtree.specs.declared.item.Item.{Item}
@@ -17,6 +17,8 @@ use Rattle.ksi_corenode.specs.declared.event.CoreEvent.TheVariants as events
 use Rattle.ksi_aggregator.specs.declared.event.RoundEvent.TheVariants as rounds
 use Rattle.ksi_wire.specs.declared.event.AggregatorLine.{AggregatorLine}
 use Rattle.ksi_wire.specs.declared.event.AggregatorLine.TheVariants as lines
+use Rattle.ksi_wire.specs.declared.questions.CoreLine.{CoreLine}
+use Rattle.ksi_wire.specs.declared.questions.CoreLine.TheVariants as questions
 use Rattle.ksi_wire.specs.Responses.{IsTold}
 
 -- its digest is read again from its hex digits, as the type of imprints keeps it
@@ -54,6 +56,12 @@ ComesToCore plan me (events.Receive from second m) = (from < plan.cores) × InRa
 ComesToCore plan me (events.Tell second) = InRange plan second
 ComesToCore plan me (events.Respond second) = InRange plan second
 ComesToCore plan me (events.Publish second) = InRange plan second
+
+-- what is asked of a core: an event, what it has of 1 to 1,024 seconds, or a chain
+abbrev pub IsAskedOfCore : PlanState → (me : ℕ) → CoreLine → Type 0
+IsAskedOfCore plan me (questions.Event event) = ComesToCore plan me event
+IsAskedOfCore plan me (questions.Held span) = InRange plan span.from × (1 ≤ span.count) × (span.count ≤ 1024)
+IsAskedOfCore plan me (questions.Chain ends) = InRange plan ends.from × InRange plan ends.to
 
 -- a response is of a second of the plan, and can be told
 abbrev pub ComesToAggregator : PlanState → (me : ℕ) → AggregatorLine → Type 0

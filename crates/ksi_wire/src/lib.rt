@@ -18,6 +18,7 @@
 
 mod above;
 mod answers;
+mod chains;
 mod core_lines;
 mod cursor;
 mod event;
@@ -34,12 +35,13 @@ mod votes;
 
 pub use above::above_text;
 pub use answers::put_answer;
+pub use chains::chain_text;
 pub use core_lines::core_event;
 pub use event::AggregatorLine;
 pub use fault::WireFault;
 pub use limits::MOST_LINE;
 pub use printing::{put_core_event, put_response, put_round_event};
-pub use questions::{CoreLine, Span, core_line};
+pub use questions::{ChainEnds, CoreLine, Span, core_line};
 pub use round_lines::aggregator_line;
 pub use sending::{core_step_text, put_to, round_step_text};
 pub use telling::held_text;

@@ -1,10 +1,10 @@
 // A question to a core, which changes nothing.
-ghost use Rattle.std.specs.Prelude.{◌≡◌, ◌++◌, IfOk, OnOk};
+ghost use Rattle.std.specs.Prelude.{◌≡◌, ◌<◌, ◌≤◌, ◌^◌, ◌++◌, IfOk, OnOk};
 ghost use Rattle.ksi_schedule.specs.Pieces.{words};
 ghost use Rattle.ksi_schedule.specs.Printed.{line_of};
 ghost use Rattle.ksi_schedule.specs.Reading.{words_left};
 ghost use Rattle.ksi_wire.specs.Asked.{Answers, Reads};
-ghost use Rattle.ksi_wire.specs.Questions.{asks_held, core_line_of, held_of, held_words, span_in, AsksOwned, IsSpan, MayBeAsked};
+ghost use Rattle.ksi_wire.specs.Questions.{asks, chain_of, chain_words, core_line_of, ends_in, held_of, held_words, span_in, AsksOwned, IsSpan, MayBeAsked};
 
 use crate::core_lines::core_event;
 use crate::cursor::{Words, is};
@@ -26,18 +26,27 @@ pub struct Span {
     pub count: u64,
 }
 
+/// A second, and the last one of a calendar.
+#[derive(Clone, Copy, PartialEq, Eq, Debug)]
+pub struct ChainEnds {
+    pub from: u64,
+    pub to: u64,
+}
+
 /// A line to a core.
 #[derive(Clone, Copy, PartialEq, Eq, Debug)]
 pub enum CoreLine {
     Event(CoreEvent),
     /// The roots that are held and the items that were sealed for these seconds are asked for.
     Held(Span),
+    /// The chain from a second to the root of a calendar is asked for.
+    Chain(ChainEnds),
 }
 
-/// What a line asks of a core of the plan: an event, or what it has.
+/// What a line asks of a core of the plan: an event, what it has, or a chain.
 ///
 /// # Errors
-/// As [`core_event`], and of the question the first fault of its words, or `Spelling`.
+/// As [`core_event`], and of a question the first fault of its words, or `Spelling`.
 pub fn core_line(
     alloc: Global,
     plan: &Plan,
@@ -48,9 +57,14 @@ pub fn core_line(
     ensures may { IfOk result (MayBeAsked plan.now) }
     ensures owned { IfOk result (AsksOwned plan.now.cores) }
 {
-    if asks_held(line) {
+    if asks(b"held", line) {
         match held(alloc, plan, line) {
             Ok(span) => Ok(CoreLine::Held(span)),
+            Err(refused) => Err(refused),
+        }
+    } else if asks(b"chain", line) {
+        match chain(alloc, plan, line) {
+            Ok(ends) => Ok(CoreLine::Chain(ends)),
             Err(refused) => Err(refused),
         }
     } else {
@@ -61,11 +75,12 @@ pub fn core_line(
     }
 }
 
-fn asks_held(line: &[u8]) -> bool
-    ensures { result ≡ asks_held (words line.now) }
+/// Whether the first word of a line is this one.
+fn asks(kind: &[u8], line: &[u8]) -> bool
+    ensures { result ≡ asks kind.now (words line.now) }
 {
     match Words::new(line).next_if_any() {
-        Some(kind) => is(kind, b"held"),
+        Some(word) => is(word, kind),
         None => false,
     }
 }
@@ -110,4 +125,44 @@ fn put_held(text: &mut Vec<u8>, span: &Span) -> Result<(), NoMemory>
     ensures { OnOk result (text.new.items ≡ text.old.items ++ line_of (held_words span.now)) }
 {
     put_front(text, b"held", span.from, span.count)
+}
+
+/// The chain that a line asks for.
+#[tactic(auto, unfolding(crate::specs::Questions::chain_of))]
+fn chain(alloc: Global, plan: &Plan, line: &[u8]) -> Result<ChainEnds, Refused<WireFault>>
+    ensures exact { Answers (chain_of plan.now line.now) result }
+    ensures from { IfOk result (λ ends. plan.now.start ≤ ends.to) }
+    ensures below { IfOk result (λ ends. ends.to < 2 ^ 63) }
+{
+    let mut words = Words::new(line);
+    let ends = match any_ends(plan, &mut words) {
+        Ok(ends) => ends,
+        Err(fault) => return Err(Refused::Fault(fault)),
+    };
+    let mut again = Vec::new(alloc);
+    put_chain(&mut again, &ends)?;
+    if is(again.as_slice(), line) {
+        Ok(ends)
+    } else {
+        Err(Refused::Fault(WireFault::Spelling))
+    }
+}
+
+/// The ends of the chain of a line whose words may be followed by others.
+fn any_ends(plan: &Plan, words: &mut Words<'_>) -> Result<ChainEnds, WireFault>
+    ensures read { Reads (ends_in plan.now (words_left words.old.left)) result (words_left words.new.left) }
+    ensures from { IfOk result (λ ends. plan.now.start ≤ ends.to) }
+    ensures below { IfOk result (λ ends. ends.to < 2 ^ 63) }
+{
+    let _kind = words.next_word()?;
+    let from = second(plan, words)?;
+    let to = second(plan, words)?;
+    Ok(ChainEnds { from, to })
+}
+
+/// The line of the question, with no line feed.
+fn put_chain(text: &mut Vec<u8>, ends: &ChainEnds) -> Result<(), NoMemory>
+    ensures { OnOk result (text.new.items ≡ text.old.items ++ line_of (chain_words ends.now)) }
+{
+    put_front(text, b"chain", ends.from, ends.to)
 }
