@@ -4,10 +4,12 @@ ghost use Rattle.ksi_grammar.specs.Reading.{inner_verdict};
 ghost use Rattle.ksi_signature.specs.Tables.{calendar_table};
 ghost use Rattle.ksi_signature.specs.Contents.{calendar_in};
 
+use crate::calendar_climbing::{climb_calendar_in, second_in};
 use crate::calendar_link_views::CalendarLinkViews;
 use crate::calendar_walking::{calendar_head_in, calendar_links_in};
 use crate::within::{calendar_is_limited, imprint_in_calendar};
-use ksi_imprint::Imprint;
+use ksi_imprint::{Compress, Imprint};
+use ksi_split::ShapeFault;
 use ksi_tlv::Placed;
 
 /// A calendar chain, lent from the bytes of its signature.
@@ -25,6 +27,10 @@ pub struct CalendarView<'a> {
 
 impl<'a> CalendarView<'a> {
     ghost use Rattle.std.specs.Prelude.{◌≡◌, ◌<◌, ◌≤◌, ◌^◌, Ok, length};
+    ghost use Rattle.ksi_split.specs.Parts.{second_at};
+    ghost use Rattle.ksi_split.specs.Trees.{climb_links};
+    ghost use Rattle.ksi_calchain.specs.Climbing.{calendar_join};
+    ghost use Rattle.ksi_calchain.specs.Sides.{sides_from_top};
     ghost use Rattle.ksi_tlv.specs.Views.{view_placed};
     ghost use Rattle.ksi_grammar.specs.Reading.{inner_verdict};
     ghost use Rattle.ksi_signature.specs.Tables.{calendar_table};
@@ -74,7 +80,8 @@ impl<'a> CalendarView<'a> {
         imprint_in_calendar(&self.at, self.input)
     }
 
-    /// The links, the lowest first, copied into an array.
+    /// The links, the lowest first, copied into an array. It stays a call, so that what it copies through leaves the stack.
+    #[inline(never)]
     #[tactic(auto, unfolding(crate::specs::Contents::calendar_in))]
     pub fn links(&self) -> CalendarLinkViews
         ensures links { result ≡ (calendar_seen self.now).links }
@@ -82,5 +89,24 @@ impl<'a> CalendarView<'a> {
     {
         calendar_is_limited(&self.at);
         calendar_links_in(&self.at)
+    }
+
+    /// The second that the links' sides name among those from 0 to the publication time.
+    ///
+    /// # Errors
+    /// As [`ksi_calchain::second`] has them.
+    #[tactic(auto, unfolding(crate::specs::Contents::calendar_in))]
+    pub fn second(&self) -> Result<u64, ShapeFault>
+        ensures { result ≡ second_at (calendar_seen self.now).publication (sides_from_top (calendar_seen self.now).links) }
+    {
+        second_in(&self.at, self.publication)
+    }
+
+    /// The imprint that the links lead to from the input hash. None of them is copied into an array.
+    #[tactic(auto, unfolding(crate::specs::Contents::calendar_in))]
+    pub fn climb<C: Compress>(&self) -> Imprint
+        ensures { result ≡ climb_links (calendar_join C.image) (calendar_seen self.now).input (calendar_seen self.now).links }
+    {
+        climb_calendar_in::<C>(&self.at, self.input())
     }
 }

@@ -31,6 +31,7 @@ mod answer;
 mod arrays;
 mod bodies;
 mod body_views;
+mod calendar_climbing;
 mod calendar_link_views;
 mod calendar_view;
 mod calendar_walking;

@@ -1,34 +1,33 @@
 // The checks of a calendar chain.
 ghost use Rattle.std.specs.Prelude.{◌≡◌};
-ghost use Rattle.ksi_verifier.specs.Lent.{calendar_of};
 ghost use Rattle.ksi_verifier.specs.Verdict.{calendar_second, same_second, second_named};
 
-use crate::lent::CalendarPart;
+use crate::any_calendar::AnyCalendar;
 use crate::refusal::Refusal;
 use ksi_aggchain::Node;
-use ksi_calchain::second;
 use ksi_imprint::Imprint;
 
 /// V8, V9 and V10: the second that the sides name.
-pub(crate) fn check_calendar(item: &Node, calendar: &CalendarPart<'_>) -> Result<u64, Refusal>
-    ensures { result ≡ calendar_second item.now (calendar_of calendar.now) }
+pub(crate) fn check_calendar<K: AnyCalendar>(item: &Node, calendar: &K) -> Result<u64, Refusal>
+    ensures { result ≡ calendar_second item.now (K.plain calendar.now) }
 {
-    if calendar.input != item.imprint {
+    let input = calendar.input();
+    if input != item.imprint {
         return Err(Refusal::CalendarInput {
             computed: item.imprint,
-            stated: calendar.input,
+            stated: input,
         });
     }
-    if calendar.input == Imprint::ZERO {
+    if input == Imprint::ZERO {
         return Err(Refusal::MissedSecond);
     }
     second_named(calendar)
 }
 
-fn second_named(calendar: &CalendarPart<'_>) -> Result<u64, Refusal>
-    ensures { result ≡ second_named (calendar_of calendar.now) }
+fn second_named<K: AnyCalendar>(calendar: &K) -> Result<u64, Refusal>
+    ensures { result ≡ second_named (K.plain calendar.now) }
 {
-    match second(calendar.publication, calendar.links) {
+    match calendar.second() {
         Ok(second) => Ok(second),
         Err(fault) => Err(Refusal::CalendarShape(fault)),
     }

@@ -1,10 +1,10 @@
 ghost use Rattle.std.specs.Prelude.{◌≡◌, ◌↔◌, ◌<◌, ℕ, length, map, option_map};
 ghost use Rattle.ksi_verifier.specs.declared.verdict.Verdict.TheVariants as verdicts;
 ghost use Rattle.ksi_verifier.specs.Accepted.{IsAccepted};
-ghost use Rattle.ksi_verifier.specs.Lent.{calendar_of};
 ghost use Rattle.ksi_verifier.specs.Verdict.{calendar_checked, checked, or_refused, verdict};
 
 use crate::aggregated::Aggregated;
+use crate::any_calendar::AnyCalendar;
 use crate::any_chain::AnyChain;
 use crate::calendar::{check_calendar, check_second};
 use crate::chains::check_chains;
@@ -14,7 +14,6 @@ use crate::owned::{calendar_part, record_part};
 use crate::publication::check_published;
 use crate::refusal::Refusal;
 use crate::verdict::Verdict;
-use ksi_calchain::climb_calendar;
 use ksi_imprint::{Compress, Imprint};
 use ksi_publications::{Publications, Published};
 use ksi_signature::{AggregationChain, Signature};
@@ -44,7 +43,7 @@ fn verdict<C: Compress>(
     let chains = signature.chains.as_slice();
     let calendar = calendar_part(&signature.calendar);
     let record = record_part(&signature.publication);
-    verdict_of(check::<C, AggregationChain, Publications>(
+    verdict_of(check::<C, AggregationChain, CalendarPart<'_>, Publications>(
         chains,
         &calendar,
         &record,
@@ -63,15 +62,15 @@ pub(crate) fn verdict_of(checked: Result<u64, Refusal>) -> Verdict
 }
 
 /// The checks V1 to V15, V15 behind V6, whoever owns the parts.
-pub(crate) fn check<C: Compress, T: AnyChain, P: Published>(
+pub(crate) fn check<C: Compress, T: AnyChain, K: AnyCalendar, P: Published>(
     chains: &[T],
-    calendar: &Option<CalendarPart<'_>>,
+    calendar: &Option<K>,
     published: &Option<RecordPart>,
     hash: &Imprint,
     publications: &P,
 ) -> Result<u64, Refusal>
     requires { 0 < length chains.now }
-    ensures { result ≡ checked C.image (map T.plain chains.now) (option_map calendar_of calendar.now) published.now hash.now (P.pairs publications.now) }
+    ensures { result ≡ checked C.image (map T.plain chains.now) (option_map K.plain calendar.now) published.now hash.now (P.pairs publications.now) }
 {
     let input = chains[0].input();
     if input != *hash {
@@ -85,29 +84,29 @@ pub(crate) fn check<C: Compress, T: AnyChain, P: Published>(
         Err(refusal) => return Err(refusal),
     };
     match calendar {
-        Some(calendar) => check_above::<C, P>(&aggregated, calendar, published, publications),
+        Some(calendar) => check_above::<C, K, P>(&aggregated, calendar, published, publications),
         None => Err(Refusal::NoCalendar),
     }
 }
 
 /// The checks V8 to V14, where the chains come to a node.
-fn check_above<C: Compress, P: Published>(
+fn check_above<C: Compress, K: AnyCalendar, P: Published>(
     aggregated: &Aggregated,
-    calendar: &CalendarPart<'_>,
+    calendar: &K,
     published: &Option<RecordPart>,
     publications: &P,
 ) -> Result<u64, Refusal>
-    ensures { result ≡ calendar_checked C.image aggregated.now (calendar_of calendar.now) published.now (P.pairs publications.now) }
+    ensures { result ≡ calendar_checked C.image aggregated.now (K.plain calendar.now) published.now (P.pairs publications.now) }
 {
     let second = match check_calendar(&aggregated.item, calendar) {
         Ok(second) => second,
         Err(refusal) => return Err(refusal),
     };
-    if let Err(refusal) = check_second(calendar.time, aggregated.time, second) {
+    if let Err(refusal) = check_second(calendar.time(), aggregated.time, second) {
         return Err(refusal);
     }
-    let root = climb_calendar::<C>(calendar.input, calendar.links);
-    match check_published(published, publications, calendar.publication, root) {
+    let root = calendar.climb::<C>();
+    match check_published(published, publications, calendar.publication(), root) {
         Ok(()) => Ok(second),
         Err(refusal) => Err(refusal),
     }

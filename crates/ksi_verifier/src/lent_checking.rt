@@ -76,15 +76,9 @@ fn check_lent<C: Compress, P: Published>(
         (option_map record_of (seen signature.now).publication) hash.now (P.pairs publications.now) }
 {
     let chains = signature.chains();
+    let calendar = signature.calendar();
     let record = lent_record(&signature.publication());
-    match signature.calendar() {
-        None => check::<C, ChainView<'_>, P>(chains, &None, &record, hash, publications),
-        Some(calendar) => {
-            let links = calendar.links();
-            let part = lent_calendar(&calendar, &links);
-            check::<C, ChainView<'_>, P>(chains, &Some(part), &record, hash, publications)
-        }
-    }
+    check::<C, ChainView<'_>, CalendarView<'_>, P>(chains, &calendar, &record, hash, publications)
 }
 
 /// The parts of a lent calendar chain, with its links.

@@ -25,6 +25,7 @@
 #![tactic(auto)]
 
 mod aggregated;
+mod any_calendar;
 mod any_chain;
 mod bytes_checking;
 mod bytes_verdict;
