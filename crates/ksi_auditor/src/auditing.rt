@@ -27,11 +27,11 @@ use ksi_calendar::laws::one_first_missing;
 use ksi_imprint::{Compress, Imprint, NoMemory};
 use ksi_journal::Journal;
 use ksi_journal::laws::calendar_is_covered;
-use ksi_publications::Publications;
+use ksi_publications::{Publications, Published};
 use ksi_signature::{AggregationChain, ChainView, Signature, SignatureView};
 use ksi_split::{ShapeFault, Side, second_of};
 use ksi_verifier::{
-    CalendarPart, Refusal, Verdict, calendar_part, lent_calendar, verify, verify_view,
+    CalendarPart, Refusal, Verdict, calendar_part, lent_calendar, verify, verify_lent,
 };
 use std::alloc::Global;
 use std::marker::PhantomData;
@@ -88,12 +88,33 @@ pub fn audit_view<C: Compress>(
     ensures memory { OnErr result (HasClash (audit C.image journal.now (seen signature.now) hash.now publications.now)) }
     ensures short { IfOk result IsShort }
 {
+    audit_lent::<C, Publications>(alloc, journal, signature, hash, publications)
+}
+
+/// The same, whoever owns the published roots.
+///
+/// # Errors
+/// `NoMemory` only where the answer would be a clash.
+pub fn audit_lent<C: Compress, P: Published>(
+    alloc: Global,
+    journal: &Journal<C>,
+    signature: &SignatureView<'_>,
+    hash: &Imprint,
+    publications: &P,
+) -> Result<Audit, NoMemory>
+    ensures answer { IfOk result (λ answer. answer ≡
+        audit C.image journal.now (seen signature.now) hash.now (P.pairs publications.now)) }
+    ensures shown { IfOk result (Shows C.image journal.now (seen signature.now) hash.now) }
+    ensures missed { IfOk result (MissedIsClash C.image journal.now (seen signature.now) hash.now (P.pairs publications.now)) }
+    ensures memory { OnErr result (HasClash (audit C.image journal.now (seen signature.now) hash.now (P.pairs publications.now))) }
+    ensures short { IfOk result IsShort }
+{
     audit_shows();
     missed_seconds();
     are_links(signature.chains());
     let _start = journal.start();
     let _bytes = hash.bytes();
-    lent::<C>(alloc, journal, signature, hash, publications)
+    lent::<C, P>(alloc, journal, signature, hash, publications)
 }
 
 #[tactic(auto, unfolding(crate::specs::Audit::audit))]
@@ -118,20 +139,20 @@ fn owned<C: Compress>(
 }
 
 #[tactic(auto, unfolding(crate::specs::Audit::audit))]
-fn lent<C: Compress>(
+fn lent<C: Compress, P: Published>(
     alloc: Global,
     journal: &Journal<C>,
     signature: &SignatureView<'_>,
     hash: &Imprint,
-    publications: &Publications,
+    publications: &P,
 ) -> Result<Audit, NoMemory>
     ensures answer { IfOk result (λ answer. answer ≡
-        audit C.image journal.now (seen signature.now) hash.now publications.now) }
-    ensures memory { OnErr result (HasClash (audit C.image journal.now (seen signature.now) hash.now publications.now)) }
+        audit C.image journal.now (seen signature.now) hash.now (P.pairs publications.now)) }
+    ensures memory { OnErr result (HasClash (audit C.image journal.now (seen signature.now) hash.now (P.pairs publications.now))) }
     ensures short { IfOk result IsShort }
 {
     low_levels();
-    let verdict = verify_view::<C>(signature, hash, publications);
+    let verdict = verify_lent::<C, P>(signature, hash, publications);
     let chains = signature.chains();
     match signature.calendar() {
         None => of_verdict::<C, ChainView<'_>>(alloc, journal, chains, &None, hash, verdict),

@@ -35,5 +35,5 @@ mod links;
 mod reached;
 
 pub use answer::Audit;
-pub use auditing::{audit, audit_view};
+pub use auditing::{audit, audit_lent, audit_view};
 pub use ksi_imprint::{Clash, NoMemory};
