@@ -1,6 +1,9 @@
 -- What is reported of a file that is not in its grammar.
 use Rattle.std.proofs.Common.{◌≡◌, ℕ, List, Ok, Err, refl}
 use Rattle.std.specs.Prelude.{◌↔◌}
+use Rattle.ksi_publications.specs.declared.fault.PublicationsFault.{PublicationsFault}
+use Rattle.ksi_publications.specs.File.{IsPublicationsFault}
+use Rattle.ksi_publications.specs.Reading.{publications_at}
 use Rattle.ksi_signature.specs.declared.fault.SignatureFault.{SignatureFault}
 use Rattle.ksi_signature.specs.File.{IsSignatureFault}
 use Rattle.ksi_signature.specs.Reading.{signature_at}
@@ -20,13 +23,17 @@ use Rattle.ksi_schedule.specs.Reading.{schedule_at}
 use Rattle.ksi_top.specs.declared.report.Report.{Report}
 use Rattle.ksi_top.specs.declared.status.Status.TheVariants.{Malformed}
 use Rattle.ksi_top.specs.Reports.{report}
-use Rattle.ksi_lines.specs.FaultWords.{signature_fault, journal_fault, IsLineOf}
+use Rattle.ksi_lines.specs.FaultWords.{signature_fault, publications_fault, journal_fault, IsLineOf}
 use Rattle.ksi_lines.specs.Lines.{malformed_line}
-use Rattle.ksi_top.specs.Loading.{signature_or_malformed, journal_or_malformed, schedule_or_malformed, mirror_or_malformed}
+use Rattle.ksi_top.specs.Loading.{signature_or_malformed, publications_or_malformed, journal_or_malformed, schedule_or_malformed, mirror_or_malformed}
 
 pub signature_malformed : (n : ℕ) (bytes : List ℕ) (fault : SignatureFault) (answer : Report) → ((signature_at bytes ≡ Err fault) ↔ IsSignatureFault bytes fault) → IsSignatureFault bytes fault
     → answer ≡ report Malformed (malformed_line n (signature_fault fault)) → signature_or_malformed n bytes ≡ Err answer
 signature_malformed n bytes fault answer law is e = rw (law.1 is, e) refl
+
+pub publications_malformed : (n : ℕ) (bytes : List ℕ) (fault : PublicationsFault) (answer : Report) → ((publications_at bytes ≡ Err fault) ↔ IsPublicationsFault bytes fault) → IsPublicationsFault bytes fault
+    → answer ≡ report Malformed (malformed_line n (publications_fault fault)) → publications_or_malformed n bytes ≡ Err answer
+publications_malformed n bytes fault answer law is e = rw (law.1 is, e) refl
 
 pub journal_malformed : (n : ℕ) (bytes : List ℕ) (fault : JournalFault) (answer : Report) → ((journal_at imprint_of bytes ≡ Err fault) ↔ IsJournalFault imprint_of bytes fault) → IsJournalFault imprint_of bytes fault
     → answer ≡ report Malformed (malformed_line n (journal_fault fault)) → journal_or_malformed n bytes ≡ Err answer

@@ -6,6 +6,8 @@ use Rattle.ksi_signature.specs.declared.signature.Signature.{Signature}
 use Rattle.ksi_signature.specs.declared.signature_view.SignatureView.{SignatureView}
 use Rattle.ksi_signature.specs.Reading.{signature_at}
 use Rattle.ksi_signature.specs.Seen.{seen}
+use Rattle.ksi_publications.specs.declared.publications_view.PublicationsView.{PublicationsView}
+use Rattle.ksi_publications.specs.Lent.{lent_pairs}
 use Rattle.ksi_publications.specs.Reading.{publications_at}
 use Rattle.ksi_imprint.specs.Imprints.{imprint_of}
 use Rattle.ksi_journal.specs.Journal.{Contents}
@@ -61,6 +63,11 @@ signature_or_malformed n bytes = or_malformed signature_fault n (signature_at by
 abbrev pub seen_or_halt : Result SignatureView Halt → Result Signature Halt
 seen_or_halt (Ok view) = Ok (seen view)
 seen_or_halt (Err halt) = Err halt
+
+-- what a lent publications file shows, or the halt in its place
+abbrev pub pairs_or_halt : Result PublicationsView Halt → Result (List (ℕ × List ℕ)) Halt
+pairs_or_halt (Ok view) = Ok (lent_pairs view)
+pairs_or_halt (Err halt) = Err halt
 
 abbrev pub publications_or_malformed : ℕ → List ℕ → Result (List (ℕ × List ℕ)) Report
 publications_or_malformed n bytes = or_malformed publications_fault n (publications_at bytes)

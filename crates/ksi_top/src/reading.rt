@@ -7,11 +7,12 @@ ghost use Rattle.ksi_logblock.specs.File.{IsProofFile};
 ghost use Rattle.ksi_mirror.specs.File.{IsMirrorFile};
 ghost use Rattle.ksi_nodestore.specs.Inspecting.{IsInspected};
 ghost use Rattle.ksi_publications.specs.File.{IsPublications};
+ghost use Rattle.ksi_publications.specs.Lent.{lent_pairs};
 ghost use Rattle.ksi_schedule.specs.Spelled.{IsScheduleText};
 ghost use Rattle.ksi_signature.specs.File.{IsSignature};
 ghost use Rattle.ksi_signature.specs.Seen.{seen, bytes_seen};
 ghost use Rattle.ksi_top.specs.Reports.{Gives, HaltsMalformed};
-ghost use Rattle.ksi_top.specs.Loading.{seen_or_halt, signature_or_malformed, publications_or_malformed, journal_or_malformed, front_or_malformed, schedule_or_malformed, proof_or_malformed, mirror_or_malformed, node_or_malformed};
+ghost use Rattle.ksi_top.specs.Loading.{seen_or_halt, pairs_or_halt, signature_or_malformed, publications_or_malformed, journal_or_malformed, front_or_malformed, schedule_or_malformed, proof_or_malformed, mirror_or_malformed, node_or_malformed};
 
 use crate::report::{Halt, Report};
 use crate::status::Status;
@@ -29,8 +30,8 @@ use ksi_logblock::laws::proof_is_read;
 use ksi_mirror::Mirror;
 use ksi_mirror::laws::mirror_is_read;
 use ksi_nodestore::Inspected;
-use ksi_publications::Publications;
 use ksi_publications::laws::publications_are_read;
+use ksi_publications::{Publications, PublicationsView};
 use ksi_schedule::Schedule;
 use ksi_schedule::laws::schedule_is_read;
 use ksi_signature::laws::signature_is_read;
@@ -49,6 +50,22 @@ pub(crate) fn view_signature(n: usize, bytes: &[u8]) -> Result<SignatureView<'_>
         Ok(signature) => Ok(signature),
         Err(fault) => {
             let line = signature_fault_line(n, fault);
+            Err(Halt::Reported(Report::new(Status::Malformed, line)))
+        }
+    }
+}
+
+/// The publications file that file word `n` is, lent from its bytes, or that it is none. No memory is taken.
+pub(crate) fn view_publications(n: usize, bytes: &[u8]) -> Result<PublicationsView<'_>, Halt>
+    ensures told { Gives (publications_or_malformed n bytes.now) (pairs_or_halt result) }
+    ensures is { IfOk result (λ view. IsPublications bytes.now (lent_pairs view)) }
+    ensures halts { HaltsMalformed (pairs_or_halt result) }
+{
+    publications_are_read();
+    match PublicationsView::of(bytes) {
+        Ok(publications) => Ok(publications),
+        Err(fault) => {
+            let line = publications_fault_line(n, fault);
             Err(Halt::Reported(Report::new(Status::Malformed, line)))
         }
     }

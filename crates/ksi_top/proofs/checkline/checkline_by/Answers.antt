@@ -2,6 +2,7 @@ use Rattle.std.proofs.Common.{◌≡◌, List, ℕ, Result, Ok, Err, refl, arith
 use Rattle.ksi_imprint.specs.Imprints.{imprint_of}
 use Rattle.ksi_aggchain.specs.declared.climbing.LevelFault.{LevelFault}
 use Rattle.ksi_signature.specs.declared.signature.Signature.{Signature}
+use Rattle.ksi_publications.specs.Lent.{lent_pairs}
 use Rattle.ksi_signature.specs.Seen.{seen}
 use Rattle.ksi_logblock.specs.declared.line_proof.LineProof.{LineProof}
 use Rattle.ksi_logblock.specs.Proofs.{root_by}
@@ -35,12 +36,12 @@ module _ (signature : Signature) (pairs : List (ℕ × List ℕ)) (line : List �
 
 pub returns-in_err-proof : goal.returns-in_err-proof
 returns-in_err-proof g c =
-    halted_last g.F.Files _ _ _ _ (λ p held. line_checked (seen c.args.signature.now) c.args.publications.now c.args.line.now p) _ _ _ _ _ (λ p. root_ends _ _ _) c.in_err-proof.ensures.loaded (search rules)
+    halted_last g.F.Files _ _ _ _ (λ p held. line_checked (seen c.args.signature.now) (lent_pairs c.args.publications.now) c.args.line.now p) _ _ _ _ _ (λ p. root_ends _ _ _) c.in_err-proof.ensures.loaded (search rules)
 
 pub returns : goal.returns
 returns g c =
     let proof = c.in_ok-proof.proof in
-    let ends = root_ends (seen c.args.signature.now) c.args.publications.now (root_by imprint_of c.args.line.now proof) in
-    performed_last g.F.Files _ _ _ _ (λ p held. line_checked (seen c.args.signature.now) c.args.publications.now c.args.line.now p) _ _ _ _ (Ok c.line_checked.result) _
+    let ends = root_ends (seen c.args.signature.now) (lent_pairs c.args.publications.now) (root_by imprint_of c.args.line.now proof) in
+    performed_last g.F.Files _ _ _ _ (λ p held. line_checked (seen c.args.signature.now) (lent_pairs c.args.publications.now) c.args.line.now p) _ _ _ _ (Ok c.line_checked.result) _
     ends c.in_ok-proof.ensures.loaded refl (ends_as 0 _ (Ok c.line_checked.result) c.line_checked.ensures ends) (λ tells. c.line_checked.ensures)
-    (λ tells. record { read = _; proof_is = c.in_ok-proof.ensures.is tells; reported = c.line_checked.ensures; accepted = λ done. by_root (seen c.args.signature.now) c.args.publications.now c.args.line.now proof c.line_checked.result (root_by imprint_of c.args.line.now proof) refl c.line_checked.ensures done })
+    (λ tells. record { read = _; proof_is = c.in_ok-proof.ensures.is tells; reported = c.line_checked.ensures; accepted = λ done. by_root (seen c.args.signature.now) (lent_pairs c.args.publications.now) c.args.line.now proof c.line_checked.result (root_by imprint_of c.args.line.now proof) refl c.line_checked.ensures done })
