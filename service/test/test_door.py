@@ -167,6 +167,8 @@ class DoorTest(unittest.TestCase):
 
     def test_slow_clients_are_ended(self):
         with mock.patch.object(own, "SECONDS_FOR_HEAD", 0.2), mock.patch.object(own, "SECONDS_FOR_BODY", 0.2):
+            self.assertEqual(self.raw(), b"")
+            self.assertTrue(self.raw(b"GET / HTTP/1.1\r\nHost: x\r\n\r\n").endswith(b"\r\n\r\n<html>"))
             for piece in (b"GET / HT", b"POST /sign HTTP/1.1\r\nHost: x\r\nContent-Length: 64\r\n\r\n0"):
                 self.assertTrue(self.raw(piece).startswith(b"HTTP/1.1 408"), piece)
 
