@@ -110,7 +110,7 @@ class House:
 
     async def extend(self, content):
         if self.service.publications.last() is None:
-            raise Answer(HTTPStatus.CONFLICT, f"nothing was published yet: a core publishes every {self.service.publish_every} seconds")
+            raise Answer(HTTPStatus.CONFLICT, f"nothing was published yet: a core publishes {self.service.next_publication()}")
         if self.to_extend >= MOST_TO_EXTEND:
             raise Answer(HTTPStatus.SERVICE_UNAVAILABLE, "too many signatures wait to be extended", Retry_After="2")
         self.to_extend += 1
@@ -142,6 +142,12 @@ class Service:
         await self.network.ready()
         self.own = [asyncio.create_task(self.clock.run(first, self.publish_every))]
         self.tasks += self.own
+
+    def next_publication(self):
+        """When a core publishes next."""
+        every = self.publish_every
+        due = time.strftime("%H:%M:%S", time.gmtime(int(time.time()) // every * every + every))
+        return f"every {every} seconds, next at {due} UTC"
 
     async def publish(self, second, root):
         """Puts a root that a core has published into the publications file, one after the other."""
