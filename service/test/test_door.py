@@ -130,6 +130,12 @@ class DoorTest(unittest.TestCase):
         for method, path, body, headers, status in rows:
             self.assertEqual(self.ask(method, path, body, **headers)[0], status, (method, path, body))
 
+    def test_a_path_is_taken_as_it_is_written(self):
+        for path in ("//", "//sign", "/sign/", "/sign?", "/sign#", "/SIGN", "/%73ign", "/./sign", "/x/../sign", "/sign;a", "/signature/" + ONES + "/", "/signature/" + ONES + "0",
+                     "/signature/..%2f..%2fetc%2fpasswd", "/page.html", "/door", "/record"):
+            told = self.raw(f"GET {path} HTTP/1.1\r\nHost: x\r\nConnection: close\r\n\r\n".encode())
+            self.assertTrue(told.startswith(b"HTTP/1.1 404"), (path, told))
+
     def test_a_reason_is_told_to_hostile_input(self):
         host, sign = b"Host: x\r\n", b"POST /sign HTTP/1.1\r\nHost: x\r\n"
         rows = [(b"\r\n\r\n", b"400", b"first line"), (b"GET\r\n\r\n", b"400", b"first line"), (b"GET / HTTP/2.0\r\n\r\n", b"400", b"first line"),
