@@ -32,7 +32,7 @@ class Run:
             for _ in range(300):
                 if self.process.poll() is not None:
                     break
-                if self.door() and self.door()[1] == self.process.pid:
+                if self.door()[1] == self.process.pid:
                     return
                 time.sleep(0.1)
             self.process.kill()
@@ -40,15 +40,16 @@ class Run:
         raise OSError(f"the host does not start: see {self.log.name}")
 
     def door(self):
+        """The address of the door and the host's number, or of none."""
         try:
             with open(os.path.join(self.folder, "door"), encoding="ascii") as file:
                 address, number = file.read().split()
                 return address, int(number)
         except (FileNotFoundError, ValueError):
-            return None
+            return "127.0.0.1:1", 0
 
     def ask(self, path, body=None):
-        connection = http.client.HTTPConnection((self.door() or ("127.0.0.1:1", 0))[0], timeout=70)
+        connection = http.client.HTTPConnection(self.door()[0], timeout=70)
         try:
             connection.request("GET" if body is None else "POST", path, body)
             answer = connection.getresponse()

@@ -32,6 +32,10 @@ class Counts(NamedTuple):
     """How many signatures were extended, verified and, in a run that is short enough, audited."""
 
 
+def many(count, word):
+    return f"{count} {word}" + ("" if count == 1 else "s")
+
+
 def look(record, samples):
     """What the record tells beside its blocks: all published answers, the last second sealed, and some of the signatures."""
     published, chosen, count, last, dice = set(), [], 0, 0, random.Random(1)
@@ -54,19 +58,19 @@ def look(record, samples):
 def check(folder, samples=50, say=print):
     """Raises Differs where the run is not that of its record; says and returns what was compared."""
     steps, unsaid, signatures = retrace(os.path.join(folder, "plan"), os.path.join(folder, "record"))
-    say(f"ksi_retrace agrees: the blocks of {steps} steps ({unsaid} of them never came) and {signatures} signatures are the proved world's")
+    say(f"ksi_retrace agrees: the blocks of {many(steps, 'step')} ({unsaid} of them never came) and {many(signatures, 'signature')} are the proved world's")
     facts = facts_there(folder)
-    say(f"{facts} facts that nodes acknowledged are in their files")
+    say(f"all of {many(facts, 'fact')} that nodes acknowledged are in their files")
     published, chosen, last = look(os.path.join(folder, "record"), samples)
     publications = Publications(folder)
     for it in publications.published:
         if it not in published:
             raise Differs(f"the publication of second {it[0]} is no answer of a core")
-    say(f"{len(publications.published)} publications are answers of cores")
+    say(f"all of {many(len(publications.published), 'publication')} are answers of cores")
     used = 0
     if publications.last() is not None:
         used = use(folder, chosen, publications, last)
-        say(f"{used} signatures, extended to second {publications.last()}, are accepted, and found in the cores' mirrors")
+        say(f"{many(used, 'signature')}, extended to second {publications.last()}, accepted, and found in the cores' mirrors")
     return Counts(steps, unsaid, signatures, facts, len(publications.published), used)
 
 

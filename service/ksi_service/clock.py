@@ -50,7 +50,7 @@ class Clock:
         self.network, self.plan, self.now, self.most_waiting = network, network.plan, now, most_waiting
         self.asked = {}
         self.number = int(now() * 1000) << 20
-        self.turn = self.waiting = self.signed = self.again = self.busy = 0
+        self.turn = self.waiting = self.signed = self.again = self.busy = self.last_signed = 0
         self.published, self.on_published = None, None
 
     async def sign(self, imprint, second=None):
@@ -69,7 +69,7 @@ class Clock:
             second, aggregator = await self.place(second)
             text = await self.ask(imprint, second, aggregator)
             if text is not None:
-                self.signed += 1
+                self.signed, self.last_signed = self.signed + 1, max(self.last_signed, second)
                 return text, second
             self.again += 1
             second = max(second + 1, int(self.now()))
@@ -219,13 +219,17 @@ class Clock:
             await self.on_published(second, words[2])
         return words[2]
 
+    async def publish_by_any(self, second):
+        """Lets a core publish a second, the first one that can."""
+        for core in range(self.plan.cores):
+            if await self.publish(core, second) is not None:
+                return
+
     async def end(self, tasks):
         """The end of the plan: what is under way is waited for, and the last second is published."""
         await asyncio.gather(*tasks)
         last = self.plan.start + SECONDS - 1
-        for core in range(self.plan.cores):
-            if await self.publish(core, last) is not None:
-                break
+        await self.publish_by_any(last)
         raise PlanEnded(f"the plan's last second was {last}, and is published: begin a new folder, and keep this one")
 
     async def run(self, first, publish_every):

@@ -186,6 +186,10 @@ def publications(words):
 
 def verify(words):
     """By the proved `ksi verify`: its own line and status."""
+    if not os.path.exists(words.publications):
+        raise Failed(f"{words.publications}: no such file; `ksi-service publications` saves it")
+    if not os.path.exists(words.signature):
+        raise Failed(f"{words.signature}: no such file; `ksi-service sign {words.file}` makes one")
     try:
         print(ksi("verify", words.signature, digest_of(words.file), words.publications))
     except Refused as refused:

@@ -19,6 +19,7 @@ BYTES_A_SECOND = 128 << 10
 PIECE = 16 << 10
 """How many bytes of an answer wait for a client at most."""
 FIRST = re.compile(r"([A-Z]{1,16}) (/[!-~]*) HTTP/1\.([01])")
+NO_FIRST = "the first line is not METHOD /PATH HTTP/1.1"
 HEADER = re.compile(r"([!#$%&'*+.^_`|~0-9A-Za-z-]+):[ \t]*([ -~\t]*)")
 ONCE = {"content-length", "content-type", "host", "transfer-encoding", "expect", "connection"}
 """Headers that stand at most once."""
@@ -74,7 +75,7 @@ class Request:
         first, *rows = head.split("\r\n")
         words = FIRST.fullmatch(first)
         if not words:
-            raise Answer(HTTPStatus.BAD_REQUEST, "the first line is not METHOD /PATH HTTP/1.1")
+            raise Answer(HTTPStatus.BAD_REQUEST, NO_FIRST)
         self.method, self.path, minor = words[1], words[2], words[3]
         self.headers, self.connection = headers_of(rows), connection
         if minor == "1" and "host" not in self.headers:
@@ -132,13 +133,22 @@ def headers_of(rows):
 
 
 async def read_head(connection):
-    """The text of a request's head, or None where the client sends no more."""
+    """The text of a request's head, or None where the client sends no more. One that begins no request in time is ended without a word:
+    it might take an answer for that to its next request."""
     connection.limit(SECONDS_FOR_HEAD)
     connection.idle[connection] = None
+    begun = b""
     try:
-        head = await connection.reader.readuntil(b"\r\n\r\n")
+        begun = await connection.reader.read(1)
+        if begun == b"\r":
+            raise Answer(HTTPStatus.BAD_REQUEST, NO_FIRST)
+        head = begun + await connection.reader.readuntil(b"\r\n\r\n")
+    except TimeoutError:
+        if begun:
+            raise
+        return None
     except asyncio.IncompleteReadError as rest:
-        if not rest.partial.strip():
+        if not (begun + rest.partial).strip():
             return None
         raise Answer(HTTPStatus.BAD_REQUEST, "the head ended early, or its lines do not end in CR LF") from None
     except asyncio.LimitOverrunError:

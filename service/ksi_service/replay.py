@@ -123,7 +123,7 @@ def replay(folder: str, out: str, samples: int, say=print) -> Counts:
         compare({number: handed[number]}, {number: files.content_of(at("signature"))})
     files.remove(at("signature"))
     counts_of = Counts(len(schedule.events), len(handed), min(samples, len(handed)), compare_publications(folder, at("journal"), at("publications")))
-    say("ksi replay of the run's %d events makes each of its %d signatures, byte for byte (%d seen by ksi sign), and its %d publications" % counts_of)
+    say("ksi replay of the run, %d events, makes all of its signatures (%d, of which ksi sign gave %d) and publications (%d), byte for byte" % counts_of)
     return counts_of
 
 

@@ -28,7 +28,7 @@ MOST_REMEMBERED = 100_000
 ANSWER_SECONDS = 60
 """How long a request waits for its signature before it is refused."""
 LAST_SECONDS = 5
-"""How long a service that is told to stop still waits for requests that it has taken."""
+"""How long a service that is told to stop still waits for requests that it has taken, and then for its last publication."""
 OTHER_FILES = MOST_ACCEPTED + 1024
 """How many files may be open beside the connections that are served."""
 MOST_EXTENDING, MOST_TO_EXTEND = 4, 64
@@ -110,7 +110,7 @@ class House:
 
     async def extend(self, content):
         if self.service.publications.last() is None:
-            raise Answer(HTTPStatus.CONFLICT, f"nothing was published yet: a core publishes every {self.service.publish_every} seconds")
+            raise Answer(HTTPStatus.CONFLICT, f"nothing was published yet: a core publishes {self.service.next_publication()}")
         if self.to_extend >= MOST_TO_EXTEND:
             raise Answer(HTTPStatus.SERVICE_UNAVAILABLE, "too many signatures wait to be extended", Retry_After="2")
         self.to_extend += 1
@@ -142,6 +142,12 @@ class Service:
         await self.network.ready()
         self.own = [asyncio.create_task(self.clock.run(first, self.publish_every))]
         self.tasks += self.own
+
+    def next_publication(self):
+        """When a core publishes next."""
+        every = self.publish_every
+        due = time.strftime("%H:%M:%S", time.gmtime(int(time.time()) // every * every + every))
+        return f"every {every} seconds, next at {due} UTC"
 
     async def publish(self, second, root):
         """Puts a root that a core has published into the publications file, one after the other."""
@@ -201,6 +207,15 @@ class Service:
                 return
             await asyncio.sleep(0.05)
 
+    async def publish_last(self):
+        """Publishes up to the last second that was driven, so that each signature that was handed out can be extended."""
+        second = max(self.clock.last_signed, int(time.time()) - 2)
+        try:
+            if second >= self.plan.start:
+                await in_time(self.clock.publish_by_any(second), LAST_SECONDS)
+        except TooLate:
+            say("the last seconds are not published: no core holds all of them")
+
     async def stop(self):
         for task in self.own:
             task.cancel()
@@ -255,8 +270,9 @@ async def run(folder, cores=None, aggregators=None, address=("127.0.0.1", 8080),
             files.write(os.path.join(folder, "door"), f"{where}\n{os.getpid()}\n".encode())
             say(f"the door is open at {where}")
             await first_of(end, asyncio.create_task(service.watch()))
-        house.closing = True
-        await service.idle(LAST_SECONDS)
+            house.closing = True
+            await service.idle(LAST_SECONDS)
+            await service.publish_last()
     finally:
         files.remove(os.path.join(folder, "door"))
         for task in [end, *extra]:

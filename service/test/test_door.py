@@ -130,6 +130,12 @@ class DoorTest(unittest.TestCase):
         for method, path, body, headers, status in rows:
             self.assertEqual(self.ask(method, path, body, **headers)[0], status, (method, path, body))
 
+    def test_a_path_is_taken_as_it_is_written(self):
+        for path in ("//", "//sign", "/sign/", "/sign?", "/sign#", "/SIGN", "/%73ign", "/./sign", "/x/../sign", "/sign;a", "/signature/" + ONES + "/", "/signature/" + ONES + "0",
+                     "/signature/..%2f..%2fetc%2fpasswd", "/page.html", "/door", "/record"):
+            told = self.raw(f"GET {path} HTTP/1.1\r\nHost: x\r\nConnection: close\r\n\r\n".encode())
+            self.assertTrue(told.startswith(b"HTTP/1.1 404"), (path, told))
+
     def test_a_reason_is_told_to_hostile_input(self):
         host, sign = b"Host: x\r\n", b"POST /sign HTTP/1.1\r\nHost: x\r\n"
         rows = [(b"\r\n\r\n", b"400", b"first line"), (b"GET\r\n\r\n", b"400", b"first line"), (b"GET / HTTP/2.0\r\n\r\n", b"400", b"first line"),
@@ -167,6 +173,8 @@ class DoorTest(unittest.TestCase):
 
     def test_slow_clients_are_ended(self):
         with mock.patch.object(own, "SECONDS_FOR_HEAD", 0.2), mock.patch.object(own, "SECONDS_FOR_BODY", 0.2):
+            self.assertEqual(self.raw(), b"")
+            self.assertTrue(self.raw(b"GET / HTTP/1.1\r\nHost: x\r\n\r\n").endswith(b"\r\n\r\n<html>"))
             for piece in (b"GET / HT", b"POST /sign HTTP/1.1\r\nHost: x\r\nContent-Length: 64\r\n\r\n0"):
                 self.assertTrue(self.raw(piece).startswith(b"HTTP/1.1 408"), piece)
 

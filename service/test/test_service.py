@@ -138,7 +138,7 @@ class ServiceTest(unittest.TestCase):
         self.assertEqual(self.ask("/sign", imprint(1))[0], 200)
 
     def test_who_is_told_to_stop_answers_all_that_it_took(self):
-        self.start()
+        self.start("--publish-every", "3600")
         told = []
 
         def sign(number):
@@ -151,6 +151,7 @@ class ServiceTest(unittest.TestCase):
             asks = [pool.submit(sign, number) for number in range(1, 41)]
             while self.status()["waiting"] < 40:
                 time.sleep(0.02)
+            began = int(time.time()) - 2
             self.assertIn("stopped", self.command("stop"))
             for it in asks:
                 it.result()
@@ -158,7 +159,12 @@ class ServiceTest(unittest.TestCase):
         handed = {bytes.fromhex(it.text) for it in record.told(os.path.join(self.folder, "record")) if isinstance(it, record.Signed)}
         self.assertEqual({content for _, content in told} - handed, set())
         self.assertIn("no service runs", self.command("stop", status=1))
-        self.checked()
+        found = self.checked()
+        if found:
+            # the last publication covers all of them
+            self.assertEqual((found.signatures, found.used), (41, 10))
+        with open(os.path.join(self.folder, "publications"), "rb") as file:
+            self.assertGreater(published_in(file.read())[-1][0], began)
 
     def test_a_host_that_was_killed_leaves_no_service_to_be_stopped(self):
         self.start()
