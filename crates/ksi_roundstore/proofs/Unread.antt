@@ -1,7 +1,8 @@
 -- Which texts are no lines of events.
-use Rattle.std.proofs.Common.{◌≡◌, ◌∙◌, ℕ, zero, suc, ◌<◌, List, [], ◌∷◌, ◌++◌, length, take, drop, get_or, sym, ap, subst, append_assoc, length-append, arith, eqb, Bool, true, false, Option, Some, None, IfNone, refl}
-use Rattle.std.specs.List.{AllByRecursion}
-use Rattle.std.proofs.lemmas.Bool.{false≢true}
+use Rattle.std.proofs.Common.{◌≢◌, ◌≡◌, ◌∙◌, ℕ, zero, suc, ◌<◌, List, [], ◌∷◌, ◌++◌, length, take, drop, get_or, sym, ap, subst, append_assoc, length-append, arith, eqb, Bool, true, false, Option, Some, None, IfNone, refl}
+use Rattle.std.specs.List.{All, AllByRecursion}
+use Rattle.std.proofs.lemmas.List.Elements.{All-get_or}
+use Rattle.std.proofs.lemmas.Bool.{eqb-true, false≢true}
 use Rattle.ksi_aggregator.specs.declared.event.RoundEvent.{RoundEvent}
 use Rattle.ksi_schedule.specs.Pieces.{Text}
 use Rattle.ksi_schedule.specs.Plans.{PlanState}
@@ -64,3 +65,7 @@ free_line (b ∷ text) none = (not_true (eqb b 10) (none 0 (omega arith)), free_
 pub on_none : {A P : Type 0} (found : Option A) → IfNone found P → ((x : A) → found ≡ Some x → ⊥) → P
 on_none None is not = is
 on_none (Some x) is not = absurd (not x refl)
+
+-- the same in other words
+pub feedless : (text : Text) → All (λ b. b ≢ 10) text → IsLine text
+feedless text free = free_line text (λ k within is. All-get_or (λ b. b ≢ 10) text k 0 within free (eqb-true (get_or text k 0) 10 is))

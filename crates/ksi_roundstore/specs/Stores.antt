@@ -36,3 +36,7 @@ pub record IsStoreOf {D : Type 0} (content : D → List ℕ) (images : D → Lis
   pub settled : IsSettled content images store.log
   pub from : store.log.from ≡ 20
   pub file : IsFileOf me plan facts (content store.log.disk)
+
+-- it is the store of some facts, which are in its file
+abbrev pub IsStore : {D : Type 0} → (content : D → List ℕ) (images : D → List ℕ → Type 0) → (me : ℕ) → PlanState → StoreState D → Type 0
+IsStore content images me plan store = (facts : List Fact) × IsStoreOf content images me plan facts store

@@ -1,7 +1,12 @@
 //! What holds of the files of aggregators, for the layers above to cite. These functions do nothing.
-ghost use Rattle.std.specs.Prelude.{◌≡◌, ◌<◌, ◌^◌, ℕ, List, [], length, Ok};
+ghost use Rattle.std.specs.Prelude.{◌≡◌, ◌≢◌, All, ◌<◌, ◌^◌, ℕ, List, [], length, Ok};
 ghost use Rattle.ksi_disk.specs.Images.{LeavesOnly};
+ghost use Rattle.ksi_schedule.specs.Pieces.{Text};
 ghost use Rattle.ksi_schedule.specs.Plans.{IsPlan, PlanState};
+ghost use Rattle.ksi_schedule.specs.Printed.{line_of};
+ghost use Rattle.ksi_wire.specs.AskedRounds.{aggregator_line_of};
+ghost use Rattle.ksi_wire.specs.RoundLines.{FitsRound, round_words};
+ghost use Rattle.ksi_wire.specs.declared.event.AggregatorLine.TheVariants.{Event};
 ghost use Rattle.ksi_aggregator.specs.declared.event.RoundEvent.{RoundEvent};
 ghost use Rattle.ksi_aggregator.specs.declared.fact.Fact.{Fact};
 ghost use Rattle.ksi_aggregator.specs.declared.step.Step.{Step};
@@ -26,6 +31,12 @@ use ksi_roundfacts::laws::{facts_one_by_one, one_aggregator_of_facts, steps_are_
 /// A file is of one list of facts.
 pub fn a_file_is_of_one_list_of_facts()
     ensures { (me : ℕ) (plan : PlanState) (facts others : List Fact) (file : List ℕ) → IsFileOf me plan facts file → IsFileOf me plan others file → facts ≡ others }
+{}
+
+/// An event that a line asks for is written by it, and may be taken by a store of facts, where the line has no line feed. The
+/// premises are what `aggregator_line` says of a line.
+pub fn lines_are_written()
+    ensures { (plan : PlanState) (me : ℕ) (line : Text) (event : RoundEvent) → aggregator_line_of plan me line ≡ Ok (Event event) → line ≡ line_of (round_words event) → FitsRound event → All (λ b. b ≢ 10) line → IsWritten plan me event }
 {}
 
 /// A store of facts that takes an event is the store of these and of the event's, if any. A crash at any moment of the event

@@ -2,3 +2,4 @@ mod Lines
 mod Pieces
 mod SayLemmas
 mod ServeLemmas
+mod RoundWritten

@@ -2,7 +2,7 @@
 use Rattle.std.proofs.Common.{◌≡◌, ℕ, List, [], ◌∷◌, ◌++◌, true, false, Option, Some, None, refl, subst}
 use Rattle.ksi_service.specs.declared.inlet.Came.{Came}
 use Rattle.ksi_service.specs.declared.inlet.Came.TheVariants as cames
-use Rattle.ksi_service.specs.Inlet.{came_line, is_end, is_long, AreLinesOf, HasCome, HaveCome, LinesCame, OneCame}
+use Rattle.ksi_service.specs.Inlet.{came_line, is_end, is_long, AreLinesOf, HasCome, HaveCome, LinesCame, NoFeed, OneCame}
 
 abbrev Text : Type 0
 Text = List ℕ
@@ -20,6 +20,14 @@ none_came : (came : Came) (line input left : Text) (lines : List (Option Text)) 
 none_came cames.Line line input left lines all end is was = absurd cc
 none_came cames.Long line input left lines all end is was = absurd cc
 none_came cames.End line input left lines all end is was = (input, was, is.0, is.1)
+
+-- a line that came has no line feed
+pub line_free : (came : Came) (line : Text) (input left : Option Text) → is_end came ≡ false → HasCome came line input left → is_long came ≡ false → NoFeed line
+line_free cames.Line line None left not is short = is
+line_free cames.Line line (Some i) None not is short = absurd is
+line_free cames.Line line (Some i) (Some l) not is short = is.0
+line_free cames.Long line input left not is short = absurd cc
+line_free cames.End line input left not is short = absurd cc
 
 pub none_yet : (input : Option Text) → HaveCome [] input input
 none_yet None = tt

@@ -8,7 +8,7 @@ use Rattle.std.proofs.lemmas.List.Elements.{All-append, All-nil}
 use Rattle.std.proofs.BufReadLemmas.{Consumes_shown}
 use Rattle.ksi_service.specs.declared.inlet.Piece.{Piece}
 use Rattle.ksi_service.specs.declared.inlet.Piece.TheVariants as pieces
-use Rattle.ksi_service.specs.Inlet.{came_of, Comes, HasCome, Holds, IsPiece, IsTaken, NoFeed, PieceTaken}
+use Rattle.ksi_service.specs.Inlet.{came_of, Comes, HasCome, Holds, IsFree, IsPiece, IsTaken, NoFeed, PieceTaken}
 
 at_end : (a : Option (List ℕ)) (shown : List ℕ) → IfSome a (λ xs. length shown ≡ 0 → xs ≡ []) → length shown ≡ 0 → IsAtEnd a
 at_end None shown end none = tt
@@ -59,17 +59,25 @@ stopped : (line : List ℕ) (is_long : Bool) (input rest bytes : List ℕ) → N
 stopped line true input rest bytes free holds is none = record { line = bytes; free = free; more = holds; cut = inr (is, none) }
 stopped line false input rest bytes free holds is none = (subst NoFeed (sym is) free, subst (λ t. length t ≤ 32000) (sym is) holds.1, none)
 
+free_line : (piece : Piece) (line : List ℕ) (is_long : Bool) (bytes : List ℕ) → NoFeed bytes → Holds bytes line is_long → IsFree (came_of piece is_long) line
+free_line piece line true bytes free holds = tt
+free_line pieces.More line false bytes free holds = tt
+free_line pieces.Whole line false bytes free holds = subst NoFeed (sym holds.0) free
+free_line pieces.Stopped line false bytes free holds = tt
+
 pub has_come : (piece : Piece) (old_line line : List ℕ) (old_long is_long : Bool) (input mid left : Option (List ℕ)) → SoFar old_line old_long input mid
     → PieceTaken piece old_line old_long line is_long mid left → (piece ≡ pieces.More → ⊥) → HasCome (came_of piece is_long) line input left
 has_come pieces.More old_line line old_long is_long input mid left so_far taken not = absurd (not refl)
-has_come pieces.Whole old_line line old_long is_long None mid left so_far taken not = tt
+has_come pieces.Whole old_line line old_long is_long None mid left so_far taken not =
+    free_line pieces.Whole line is_long (so_far.bytes ++ taken.0) (both_free so_far.bytes taken.0 so_far.free taken.1) (taken.3 so_far.bytes so_far.holds)
 has_come pieces.Whole old_line line old_long is_long (Some i) None left so_far taken not = absurd so_far.taken
 has_come pieces.Whole old_line line old_long is_long (Some i) (Some m) None so_far taken not = taken.2
 has_come pieces.Whole old_line line old_long is_long (Some i) (Some m) (Some r) so_far taken not =
     let before = so_far.bytes in
     whole line is_long i r (before ++ taken.0) (both_free before taken.0 so_far.free taken.1) (taken.3 before so_far.holds)
     (so_far.taken ∙ ap (λ t. before ++ t) (taken.2 ∙ append_assoc taken.0 (10 ∷ []) r) ∙ sym (append_assoc before taken.0 (10 ∷ r)))
-has_come pieces.Stopped old_line line old_long is_long None mid left so_far taken not = tt
+has_come pieces.Stopped old_line line old_long is_long None mid left so_far taken not =
+    free_line pieces.Stopped line is_long (so_far.bytes ++ taken.0) (both_free so_far.bytes taken.0 so_far.free taken.1) (taken.3 so_far.bytes so_far.holds)
 has_come pieces.Stopped old_line line old_long is_long (Some i) None left so_far taken not = absurd so_far.taken
 has_come pieces.Stopped old_line line old_long is_long (Some i) (Some m) None so_far taken not = taken.2.2
 has_come pieces.Stopped old_line line old_long is_long (Some i) (Some m) (Some r) so_far taken not =

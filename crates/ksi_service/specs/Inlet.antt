@@ -33,9 +33,15 @@ Comes cames.Line line input rest = IsLine input line rest
 Comes cames.Long line input rest = IsLong input rest
 Comes cames.End line input rest = IsEnd input rest
 
--- the same where the input is known
+-- a line has no line feed
+abbrev pub IsFree : Came → (line : List ℕ) → Type 0
+IsFree cames.Line line = NoFeed line
+IsFree cames.Long line = Unit {0}
+IsFree cames.End line = Unit {0}
+
+-- what comes where the input is known; else that a line has no line feed
 abbrev pub HasCome : Came → (line : List ℕ) → (input rest : Option (List ℕ)) → Type 0
-HasCome came line None rest = Unit {0}
+HasCome came line None rest = IsFree came line
 HasCome came line (Some input) None = ⊥
 HasCome came line (Some input) (Some rest) = Comes came line input rest
 

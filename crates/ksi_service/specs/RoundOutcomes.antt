@@ -13,6 +13,7 @@ use Rattle.ksi_aggregator.specs.Rows.{RoundState}
 use Rattle.ksi_aggregator.specs.Rounds.{rounds_of, IsNew}
 use Rattle.ksi_roundstore.specs.StoreState.{StoreState}
 use Rattle.ksi_roundstore.specs.Takes.{TookTurn}
+use Rattle.ksi_roundstore.specs.Written.{IsWritten}
 use Rattle.ksi_wire.specs.declared.event.AggregatorLine.{AggregatorLine}
 use Rattle.ksi_wire.specs.declared.event.AggregatorLine.TheVariants as lines
 use Rattle.ksi_wire.specs.declared.fault.WireFault.{WireFault}
@@ -68,3 +69,10 @@ AskedRound image plan me (Err fault) before after said = (after ≡ before) × (
 
 abbrev pub RoundOutcome : {D : Type 0} → (List ℕ → List ℕ) → PlanState → (me : ℕ) → Option Text → (before after : StoreState D) → (said : Text) → Type 0
 RoundOutcome image plan me line before after said = AskedRound image plan me (round_asked plan me line) before after said
+
+-- ---- in the code
+
+-- an event that is asked for is written by its line
+abbrev pub AsksWritten : PlanState → (me : ℕ) → AggregatorLine → Type 0
+AsksWritten plan me (lines.Event event) = IsWritten plan me event
+AsksWritten plan me (lines.Sign number) = Unit {0}

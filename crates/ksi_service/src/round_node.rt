@@ -4,8 +4,10 @@ ghost use Rattle.ksi_aggregator.specs.Events.{event_second, MayTake};
 ghost use Rattle.ksi_aggregator.specs.Rounds.{rounds_of};
 ghost use Rattle.ksi_wire.specs.Refused.{refusal_text};
 ghost use Rattle.ksi_wire.specs.RoundLines.{FitsRound, MayBeTaken};
-ghost use Rattle.ksi_service.specs.Inlet.{came_line};
-ghost use Rattle.ksi_service.specs.RoundOutcomes.{AskedRound, EventOutcome, IsTaken, RoundOutcome, SignTold};
+ghost use Rattle.ksi_roundstore.specs.Stores.{IsStore};
+ghost use Rattle.ksi_roundstore.specs.Written.{IsWritten};
+ghost use Rattle.ksi_service.specs.Inlet.{came_line, NoFeed};
+ghost use Rattle.ksi_service.specs.RoundOutcomes.{AskedRound, AsksWritten, EventOutcome, IsTaken, RoundOutcome, SignTold};
 ghost use Rattle.ksi_service.specs.Serving.{Answered, IsServed};
 
 use crate::failure::Failure;
@@ -15,6 +17,7 @@ use ksi_aggregator::{Aggregator, RoundEvent};
 use ksi_disk::Disk;
 use ksi_imprint::{Compress, NoMemory, Refused};
 use ksi_roundstore::RoundStore;
+use ksi_roundstore::laws::{lines_are_written, stores_go_on};
 use ksi_schedule::Plan;
 use ksi_wire::{AggregatorLine, WireFault, aggregator_line, round_step_text};
 use std::alloc::Global;
@@ -35,6 +38,7 @@ pub fn serve_aggregator<C: Compress, D: Disk, R: BufRead, O: Outlet>(
 ) -> Result<(), Failure>
     requires there { me < length plan.now.parents }
     requires me { store.old.aggregator.me ≡ me }
+    requires kept { IsStore D.content D.images me plan.now store.old }
     ensures served { OnOk result (IsServed (RoundOutcome C.image plan.now me) store.old.records (R.remaining reader.old) store.old store.new (O.said out.old) (O.said out.new)) }
 {
     out.say_ready(store.records())?;
@@ -61,8 +65,11 @@ fn take_what_came<C: Compress, D: Disk, O: Outlet>(
 ) -> Result<(), Failure>
     requires there { me < length plan.now.parents }
     requires me { store.old.aggregator.me ≡ me }
+    requires kept { IsStore D.content D.images me plan.now store.old }
+    requires free { is_long ≡ false → NoFeed line.now }
     ensures answered { OnOk result (Answered (RoundOutcome C.image plan.now me) (came_line is_long line.now) store.old store.new (O.said out.old) (O.said out.new)) }
     ensures me { OnOk result (store.new.aggregator.me ≡ store.old.aggregator.me) }
+    ensures kept { OnOk result (IsStore D.content D.images me plan.now store.new) }
 {
     if is_long {
         refuse(WireFault::Long, store, out)
@@ -82,9 +89,13 @@ fn take_line<C: Compress, D: Disk, O: Outlet>(
 ) -> Result<(), Failure>
     requires there { me < length plan.now.parents }
     requires me { store.old.aggregator.me ≡ me }
+    requires kept { IsStore D.content D.images me plan.now store.old }
+    requires free { NoFeed line.now }
     ensures answered { OnOk result (Answered (RoundOutcome C.image plan.now me) (Some line.now) store.old store.new (O.said out.old) (O.said out.new)) }
     ensures me { OnOk result (store.new.aggregator.me ≡ store.old.aggregator.me) }
+    ensures kept { OnOk result (IsStore D.content D.images me plan.now store.new) }
 {
+    lines_are_written();
     match aggregator_line(alloc, plan, me, line) {
         Ok(asked) => take_asked(alloc, plan, me, store, asked, out),
         Err(Refused::Fault(fault)) => refuse(fault, store, out),
@@ -115,9 +126,12 @@ fn take_asked<C: Compress, D: Disk, O: Outlet>(
 ) -> Result<(), Failure>
     requires there { me < length plan.now.parents }
     requires me { store.old.aggregator.me ≡ me }
+    requires kept { IsStore D.content D.images me plan.now store.old }
+    requires written { AsksWritten plan.now me asked }
     requires fits { MayBeTaken asked }
     ensures answered { OnOk result (Answered (λ _. AskedRound C.image plan.now me (Ok asked)) None store.old store.new (O.said out.old) (O.said out.new)) }
     ensures me { OnOk result (store.new.aggregator.me ≡ store.old.aggregator.me) }
+    ensures kept { OnOk result (IsStore D.content D.images me plan.now store.new) }
 {
     match asked {
         AggregatorLine::Event(event) => {
@@ -147,11 +161,15 @@ fn take_event<C: Compress, D: Disk, O: Outlet>(
 ) -> Result<(), Failure>
     requires there { me < length plan.now.parents }
     requires me { store.old.aggregator.me ≡ me }
+    requires kept { IsStore D.content D.images me plan.now store.old }
+    requires written { IsWritten plan.now me event }
     requires due { MayTake (rounds_of store.old.aggregator) event }
     requires fits { FitsRound event }
     ensures answered { OnOk result (Answered (λ _. EventOutcome C.image plan.now me event) None store.old store.new (O.said out.old) (O.said out.new)) }
     ensures me { OnOk result (store.new.aggregator.me ≡ store.old.aggregator.me) }
+    ensures kept { OnOk result (IsStore D.content D.images me plan.now store.new) }
 {
+    stores_go_on::<C, D>();
     let second = second_of(&event);
     let step = store.take(event)?;
     let sends = step.sends.as_slice();

@@ -1,9 +1,9 @@
 use Rattle.std.proofs.Common.{◌≡◌, [], ◌∷◌, ◌++◌, ◌∙◌, sym, subst}
 use Rattle.std.specs.Io.KnownBytes.{Appends}
 use Rattle.ksi_service.specs.RoundOutcomes.{RoundOutcome}
-use Rattle.ksi_service.specs.Inlet.{came_line, is_long, HaveCome}
+use Rattle.ksi_service.specs.Inlet.{came_line, is_long, HaveCome, NoFeed}
 use Rattle.ksi_service.specs.Serving.{ready_text}
-use Rattle.ksi_service.proofs.Lines.{all_came, have_come, none_yet}
+use Rattle.ksi_service.proofs.Lines.{all_came, have_come, line_free, none_yet}
 use Rattle.ksi_service.proofs.ServeLemmas.{served_first, served_more}
 use Rattle.ksi_service.proofs.round_node.serve_aggregator.Goals as goal
 
@@ -15,6 +15,7 @@ serving-init g c =
     record {
       there = c.requires.there;
       me = c.requires.me;
+      kept = c.requires.kept;
       served = record {
         lines = [];
         came = none_yet (g.R.Read.remaining c.args.reader.now);
@@ -46,6 +47,7 @@ serving-preserved g c =
     record {
       there = c.serving.invariant.there;
       me = c.in_ok-take_what_came.ensures.me ∙ c.serving.invariant.me;
+      kept = c.in_ok-take_what_came.ensures.kept;
       served = record {
         lines = served.lines ++ line ∷ [];
         came = subst (λ one. HaveCome (served.lines ++ one ∷ []) input left) same (have_come served.lines came text input (g.R.Read.remaining c.serving.reader) left (sym c.is_end.ensures ∙ c.if-is_end.false) served.came c.in_ok-came.ensures);
@@ -53,3 +55,8 @@ serving-preserved g c =
             (g.O.Outlet.said c.args.out.now) (g.O.Outlet.said c.serving.out) (g.O.Outlet.said c.take_what_came.new.out) served.served c.in_ok-take_what_came.ensures.answered;
       };
     }
+
+pub take_what_came-requires-clause-free : goal.take_what_came-requires-clause-free
+take_what_came-requires-clause-free g c = λ short.
+    subst NoFeed (sym c.deref.ensures.value)
+    (line_free c.in_ok-came.came c.next_line.new.line.items (g.R.Read.remaining c.serving.reader) (g.R.Read.remaining c.next_line.new.reader) (sym c.is_end.ensures ∙ c.if-is_end.false) c.in_ok-came.ensures (sym c.is_long.ensures ∙ short))

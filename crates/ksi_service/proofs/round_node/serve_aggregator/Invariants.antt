@@ -1,4 +1,5 @@
 use Rattle.std.proofs.Common.{◌≡◌, ◌<◌, length}
+use Rattle.ksi_roundstore.specs.Stores.{IsStore}
 use Rattle.ksi_service.specs.RoundOutcomes.{RoundOutcome}
 use Rattle.ksi_service.proofs.ServeLemmas.{Serving}
 use Rattle.ksi_service.proofs.round_node.serve_aggregator.Given as goal
@@ -8,5 +9,6 @@ abbrev pub invariant-serving : goal.invariant-serving
 invariant-serving g l = record {
   there : l.me < length l.plan.parents;
   me : l.store.aggregator.me ≡ l.me;
+  kept : IsStore g.D.Disk.content g.D.Disk.images l.me l.plan l.store;
   served : Serving (RoundOutcome g.C.Compress.image l.plan l.me) l.fn.store.records (g.R.Read.remaining l.fn.reader) (g.R.Read.remaining l.reader) l.fn.store l.store (g.O.Outlet.said l.fn.out) (g.O.Outlet.said l.out);
 }

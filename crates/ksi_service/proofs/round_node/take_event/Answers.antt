@@ -1,4 +1,7 @@
-use Rattle.std.proofs.Common.{◌∙◌, sym}
+use Rattle.std.proofs.Common.{◌∙◌, ℕ, subst, sym}
+use Rattle.ksi_roundfacts.specs.Lawful.{with_new}
+use Rattle.ksi_roundstore.specs.Stores.{IsStoreOf}
+use Rattle.ksi_roundstore.proofs.Made.{early}
 use Rattle.ksi_wire.specs.Steps.{round_step_text}
 use Rattle.ksi_service.proofs.round_node.take_event.Goals as goal
 
@@ -10,5 +13,14 @@ say_round_step-requires g c = record {
   due = c.requires.due;
   turn = c.in_ok-step.ensures.turn;
   stored = c.in_ok-step.ensures.stored;
+  facts = c.requires.kept.0;
+  kept = subst (λ (n : ℕ). IsStoreOf g.D.Disk.content g.D.Disk.images n c.args.plan.now (with_new c.requires.kept.0 c.in_ok-step.step.fact) c.take.new.self) (sym c.requires.me)
+      (c.stores_go_on.ensures.stored c.args.me c.args.plan.now c.requires.kept.0 c.args.store.now c.take.new.self c.args.event c.in_ok-step.step c.requires.kept.1 c.requires.due (early c.args.event c.requires.fits) c.requires.written c.in_ok-step.ensures.turn c.in_ok-step.ensures.stored);
   text = c.deref.ensures.value ∙ c.in_ok-text.ensures ∙ (λ i. round_step_text c.args.plan.now (sym c.requires.me i) (c.second_of-second.ensures.second i) c.in_ok-step.step.answer (c.is_some.ensures i) (c.as_slice-sends.ensures i));
 }
+
+pub returns-clause-kept : goal.returns-clause-kept
+returns-clause-kept g c = (
+  with_new c.requires.kept.0 c.in_ok-step.step.fact,
+  c.stores_go_on.ensures.stored c.args.me c.args.plan.now c.requires.kept.0 c.args.store.now c.take.new.self c.args.event c.in_ok-step.step c.requires.kept.1 c.requires.due (early c.args.event c.requires.fits) c.requires.written c.in_ok-step.ensures.turn c.in_ok-step.ensures.stored,
+)
