@@ -28,10 +28,13 @@ all: programs library pages
 
 .PHONY: all programs pages page library static check install install-service uninstall deb sums
 
-# rt proves again only what changed
+# rt proves again only what changed, and then runs each program: on words at which it ends with status 0
 programs:
-	cd crates/ksi && $(RT) run > /dev/null
-	for it in $(NODES); do ! test -d crates/$$it || (cd crates/$$it && $(RT) run < /dev/null > /dev/null) || exit; done
+	cd crates/ksi && $(RT) run -- drill 7 > /dev/null
+	cd crates/ksi_retrace && $(RT) run -- data/plan data/record > /dev/null
+	room=$$(mktemp -d) && trap 'rm -rf "$$room"' EXIT && for it in ksi_serve_core ksi_serve_aggregator; do \
+	    (cd crates/$$it && $(RT) run -- data/plan 0 "$$room" $$it < /dev/null > /dev/null) || exit; \
+	done
 
 library:
 	cd crates/ksi_c && $(RT) lib
@@ -59,7 +62,10 @@ install-service:
 	install -Dm755 service/ksi-service $(ROOT)/lib/ksi/ksi-service
 	install -d $(ROOT)/lib/ksi/ksi_service $(ROOT)/lib/systemd/system $(ROOT)/lib/sysusers.d
 	install -m644 service/ksi_service/*.py $(ROOT)/lib/ksi/ksi_service
-	for it in $(NODES); do ! test -e crates/$$it/out/$$it || install -m755 crates/$$it/out/$$it $(ROOT)/lib/ksi/$$it || exit; done
+	for it in $(NODES); do \
+	    if test -e crates/$$it/out/$$it; then install -m755 crates/$$it/out/$$it $(ROOT)/lib/ksi/$$it || exit; \
+	    else echo "$$it is not built, so ksi-service lacks it: make programs"; fi; \
+	done
 	ln -sf ../../bin/ksi $(ROOT)/lib/ksi/ksi
 	ln -sf ../lib/ksi/ksi-service $(ROOT)/bin/ksi-service
 	for it in $(UNITS); do sed -e 's,@PREFIX@,$(PREFIX),' service/deploy/$$it > $(ROOT)/lib/systemd/system/$$it && chmod 644 $(ROOT)/lib/systemd/system/$$it || exit; done

@@ -248,6 +248,15 @@ async def first_of(end, work):
         work.cancel()
 
 
+async def opened(door, host, port):
+    """Opens the door, or says why it cannot be."""
+    try:
+        await door.begin(host, port)
+    except OSError as error:
+        reason = os.strerror(error.errno) if error.errno and error.errno > 0 else error.strerror
+        raise OSError(f"the door cannot listen at {host}:{port}: {reason}") from None
+
+
 async def run(folder, cores=None, aggregators=None, address=("127.0.0.1", 8080), trouble_with=None, **options):
     """Runs the service until it is told to stop. A test makes trouble with it."""
     # futures and lines come and go by thousands a second, and nothing of them is in a cycle
@@ -265,7 +274,7 @@ async def run(folder, cores=None, aggregators=None, address=("127.0.0.1", 8080),
     try:
         await first_of(end, asyncio.create_task(service.begin()))
         if not end.done():
-            await door.begin(*address)
+            await opened(door, *address)
             where = "%s:%d" % door.address()
             files.write(os.path.join(folder, "door"), f"{where}\n{os.getpid()}\n".encode())
             say(f"the door is open at {where}")

@@ -1,5 +1,5 @@
-"""The service over Redis Streams: a host for each node, a head, and a server that is killed and started. Skipped where there is no
-redis-server, or no python3 with its package."""
+"""The service over Redis Streams: a host for each node, one of them an aggregator below another, a head, and a server that is killed and
+started. Skipped where there is no redis-server, or no python3 with its package."""
 import concurrent.futures
 import http.client
 import os
@@ -13,11 +13,11 @@ import time
 import unittest
 
 import stands
-from ksi_service import check
+from ksi_service import check, replay
 from ksi_service.record import Signed, told
 
 REAL = not stands.missing("ksi", "ksi_retrace", *stands.NODES)
-NODES = ["c0", "c1", "c2", "a0", "a1"]
+NODES = ["c0", "c1", "c2", "a0", "a1", "a2"]
 
 
 def python():
@@ -83,7 +83,7 @@ class StreamsTest(unittest.TestCase):
         path = os.path.join(self.room.name, "head", "door")
         if os.path.exists(path):
             os.remove(path)
-        self.begin("head", [PYTHON, stands.COMMAND, "run", "head", "--door", "127.0.0.1:0", "--publish-every", "2"])
+        self.begin("head", [PYTHON, stands.COMMAND, "run", "head", "--aggregators", "c0,c1,a0", "--door", "127.0.0.1:0", "--publish-every", "2"])
         for _ in range(200):
             if os.path.exists(path):
                 break
@@ -143,7 +143,10 @@ class StreamsTest(unittest.TestCase):
         if REAL:
             for name in NODES:
                 shutil.copy(os.path.join(self.room.name, name, f"{name}.facts"), os.path.join(self.room.name, "head"))
-            self.assertGreaterEqual(check.check(os.path.join(self.room.name, "head"), samples=10, say=lambda text: None).signatures, 100)
+            head, quietly = os.path.join(self.room.name, "head"), lambda text: None
+            found = check.check(head, samples=10, say=quietly)
+            self.assertGreaterEqual(found.signatures, 100)
+            self.assertEqual(replay.replay(head, os.path.join(self.room.name, "replay"), samples=50, say=quietly).signatures, found.signatures)
 
 
 if __name__ == "__main__":
