@@ -1,4 +1,4 @@
-# Installs ksi, ksi-service, the library for C, their pages and the page for browsers:
+# Installs ksi, ksi-show, ksi-service, the library for C, their pages and the page for browsers:
 #
 #   rt ci  (or `make`)          proves and builds the programs
 #   make install PREFIX=/usr/local
@@ -11,10 +11,12 @@ RT = rt
 CC = cc
 OUT = out
 PROGRAM = crates/ksi/out/ksi
+# shows files in words: installed where it is built
+VIEWER = crates/ksi_show/out/ksi_show
 # of the nodes of ksi-service: installed where they are built
 NODES = ksi_serve_core ksi_serve_aggregator ksi_retrace
 # what has a page and completions
-NAMES = ksi ksi-service
+NAMES = ksi ksi-show ksi-service
 # what a static program is linked with
 KIT = $(dir $(realpath $(shell command -v $(RT))))..
 ARCHIVE = crates/ksi_c/out/libksi_c.a
@@ -29,6 +31,7 @@ all: programs library pages
 # rt proves again only what changed
 programs:
 	cd crates/ksi && $(RT) run > /dev/null
+	cd crates/ksi_show && $(RT) run > /dev/null
 	for it in $(NODES); do ! test -d crates/$$it || (cd crates/$$it && $(RT) run < /dev/null > /dev/null) || exit; done
 
 library:
@@ -54,6 +57,7 @@ check:
 
 install:
 	install -Dm755 $(PROGRAM) $(ROOT)/bin/ksi
+	! test -e $(VIEWER) || install -Dm755 $(VIEWER) $(ROOT)/bin/ksi-show
 	install -Dm755 package/ksi-why $(ROOT)/bin/ksi-why
 	install -Dm755 service/ksi-service $(ROOT)/lib/ksi/ksi-service
 	install -d $(ROOT)/lib/ksi/ksi_service
