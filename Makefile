@@ -1,4 +1,4 @@
-# Installs ksi, ksi-service, the library for C, their pages and the page for browsers:
+# Installs ksi, ksi-show, ksi-service, the library for C, their pages and the page for browsers:
 #
 #   rt ci  (or `make`)          proves and builds the programs
 #   make install PREFIX=/usr/local
@@ -12,10 +12,12 @@ RT = rt
 CC = cc
 OUT = out
 PROGRAM = crates/ksi/out/ksi
+# shows files in words: installed where it is built
+VIEWER = crates/ksi_show/out/ksi_show
 # of the nodes of ksi-service: installed where they are built
 NODES = ksi_serve_core ksi_serve_aggregator ksi_retrace
 # what has a page and completions
-NAMES = ksi ksi-service
+NAMES = ksi ksi-show ksi-service
 # what a static program is linked with
 KIT = $(dir $(realpath $(shell command -v $(RT))))..
 ARCHIVE = crates/ksi_c/out/libksi_c.a
@@ -31,6 +33,7 @@ all: programs library pages
 # rt proves again only what changed, and then runs each program: on words at which it ends with status 0
 programs:
 	cd crates/ksi && $(RT) run -- drill 7 > /dev/null
+	cd crates/ksi_show && $(RT) run > /dev/null
 	cd crates/ksi_retrace && $(RT) run -- data/plan data/record > /dev/null
 	room=$$(mktemp -d) && trap 'rm -rf "$$room"' EXIT && for it in ksi_serve_core ksi_serve_aggregator; do \
 	    (cd crates/$$it && $(RT) run -- data/plan 0 "$$room" $$it < /dev/null > /dev/null) || exit; \
@@ -59,6 +62,7 @@ check:
 
 install-service:
 	install -Dm755 $(PROGRAM) $(ROOT)/bin/ksi
+	! test -e $(VIEWER) || install -Dm755 $(VIEWER) $(ROOT)/bin/ksi-show
 	install -Dm755 service/ksi-service $(ROOT)/lib/ksi/ksi-service
 	install -d $(ROOT)/lib/ksi/ksi_service $(ROOT)/lib/systemd/system $(ROOT)/lib/sysusers.d
 	install -m644 service/ksi_service/*.py $(ROOT)/lib/ksi/ksi_service

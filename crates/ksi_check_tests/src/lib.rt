@@ -1,5 +1,5 @@
-//! Tests of what is computed over signatures and journals: `ksi_verifier`, `ksi_check`, `ksi_extender` and
-//! `ksi_auditor`.
+//! Tests of what is computed over signatures and journals: `ksi_verifier`, `ksi_check`, `ksi_extender`,
+//! `ksi_auditor` and `ksi_texts`.
 //!
 //! They stand in a crate of their own, since a crate with tests is proved twice. Nothing is here for the layers above.
 #![tactic(auto)]
@@ -14,6 +14,8 @@ mod over_files;
 mod rows;
 #[cfg(test)]
 mod same;
+#[cfg(test)]
+mod showing;
 #[cfg(test)]
 mod text;
 #[cfg(test)]

@@ -1,6 +1,6 @@
 // Rows of text: what is done over files, and behind an equals sign what comes of it.
 use crate::same::same;
-use crate::{auditing, extending, over_files, verifying};
+use crate::{auditing, extending, over_files, showing, verifying};
 use ksi_imprint::{Sha, Tiny};
 use std::alloc::Global;
 use std::process::Abort;
@@ -26,6 +26,9 @@ fn told(alloc: Global, done: &str) -> Result<String, Fail> {
         "step" => over_files::stepped(alloc, files),
         "audit" => auditing::audited::<Tiny>(alloc, files),
         "sha-audit" => auditing::audited::<Sha>(alloc, files),
+        "date" => showing::dated(alloc, files),
+        "quoted" => showing::quoted(alloc, files),
+        "named" => showing::named(alloc, files),
         verb => extending::extended(alloc, verb, files),
     }
 }

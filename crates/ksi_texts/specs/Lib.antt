@@ -1,0 +1,6 @@
+pub mod Dates
+pub mod Words
+pub mod Names
+pub mod Chains
+pub mod Calendar
+pub mod Text
