@@ -33,7 +33,7 @@ all: programs library pages
 # rt proves again only what changed, and then runs each program: on words at which it ends with status 0
 programs:
 	cd crates/ksi && $(RT) run -- drill 7 > /dev/null
-	cd crates/ksi_show && $(RT) run > /dev/null
+	cd crates/ksi_show && $(RT) run -- ../../lang/samples/deed.ksig > /dev/null
 	cd crates/ksi_retrace && $(RT) run -- data/plan data/record > /dev/null
 	room=$$(mktemp -d) && trap 'rm -rf "$$room"' EXIT && for it in ksi_serve_core ksi_serve_aggregator; do \
 	    (cd crates/$$it && $(RT) run -- data/plan 0 "$$room" $$it < /dev/null > /dev/null) || exit; \
@@ -62,7 +62,6 @@ check:
 
 install-service:
 	install -Dm755 $(PROGRAM) $(ROOT)/bin/ksi
-	! test -e $(VIEWER) || install -Dm755 $(VIEWER) $(ROOT)/bin/ksi-show
 	install -Dm755 service/ksi-service $(ROOT)/lib/ksi/ksi-service
 	install -d $(ROOT)/lib/ksi/ksi_service $(ROOT)/lib/systemd/system $(ROOT)/lib/sysusers.d
 	install -m644 service/ksi_service/*.py $(ROOT)/lib/ksi/ksi_service
@@ -76,6 +75,7 @@ install-service:
 	install -m644 service/deploy/ksi.sysusers $(ROOT)/lib/sysusers.d/ksi.conf
 
 install: install-service
+	! test -e $(VIEWER) || install -Dm755 $(VIEWER) $(ROOT)/bin/ksi-show
 	install -Dm755 package/ksi-why $(ROOT)/bin/ksi-why
 	install -Dm644 $(ARCHIVE) $(ROOT)/lib/libksi.a
 	install -Dm644 $(OUT)/$(SONAME) $(ROOT)/lib/$(SONAME)
