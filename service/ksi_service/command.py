@@ -228,56 +228,54 @@ def node_name(text):
     return text
 
 
+def add(commands, name, does, told, *words):
+    """Adds a command with these words, of which `folder` may be left out."""
+    one = commands.add_parser(name, help=told)
+    for word in words:
+        one.add_argument(word, **({"nargs": "?", "default": DEFAULT} if word == "folder" else {}))
+    one.set_defaults(does=does)
+    return one
+
+
+def add_running(commands, name, does, told):
+    """Adds a command that runs the service."""
+    one = add(commands, name, does, told, "folder")
+    one.add_argument("--cores", type=int, choices=range(1, 10), metavar="1..9", help="how many cores a new folder has: 3")
+    one.add_argument("--aggregators", metavar="NUMBER|PARENTS", help="how many aggregators a new folder has, 2; or to whom each submits, as c0,c1,a0,a0")
+    one.add_argument("--door", default="127.0.0.1:8080", metavar="HOST:PORT", help="where to listen; port 0 takes a free one")
+    one.add_argument("--over", default=OVER, metavar="pipes|redis://HOST", help="how lines go: pipes on this machine, or Redis Streams to the hosts of nodes")
+    one.add_argument("--publish-every", type=positive, default=3600, metavar="SECONDS", help="how often a core publishes: 3600")
+    one.add_argument("--most-waiting", type=positive, default=service.MOST_WAITING, metavar="REQUESTS", help="how many requests may wait before the door answers 503")
+    one.add_argument("--cut-every", type=positive, default=3600, metavar="SECONDS", help="how often the record begins a new file, and the one before is compressed")
+
+
+def add_asking(commands, name, does, told, *words, out=None):
+    """Adds a command that asks a service, and saves what it gets."""
+    one = add(commands, name, does, told, *words)
+    one.add_argument("-o", dest="out", default=out)
+    one.add_argument("--folder", default=DEFAULT)
+
+
 def parser_of():
     parser = argparse.ArgumentParser(prog="ksi-service", description="A timestamping service of proved nodes, on one machine or several.")
     commands = parser.add_subparsers(dest="command", required=True)
-    for name, does, told in (("start", start, "start it in the background"), ("run", run, "run it until it is interrupted")):
-        one = commands.add_parser(name, help=told)
-        one.add_argument("folder", nargs="?", default=DEFAULT)
-        one.add_argument("--cores", type=int, choices=range(1, 10), metavar="1..9", help="how many cores a new folder has: 3")
-        one.add_argument("--aggregators", metavar="NUMBER|PARENTS", help="how many aggregators a new folder has, 2; or to whom each submits, as c0,c1,a0,a0")
-        one.add_argument("--door", default="127.0.0.1:8080", metavar="HOST:PORT", help="where to listen; port 0 takes a free one")
-        one.add_argument("--over", default=OVER, metavar="pipes|redis://HOST", help="how lines go: pipes on this machine, or Redis Streams to the hosts of nodes")
-        one.add_argument("--publish-every", type=positive, default=3600, metavar="SECONDS", help="how often a core publishes: 3600")
-        one.add_argument("--most-waiting", type=positive, default=service.MOST_WAITING, metavar="REQUESTS", help="how many requests may wait before the door answers 503")
-        one.add_argument("--cut-every", type=positive, default=3600, metavar="SECONDS", help="how often the record begins a new file, and the one before is compressed")
-        one.set_defaults(does=does)
-    one = commands.add_parser("node", help="run one node of a service whose lines go over Redis")
+    add_running(commands, "start", start, "start it in the background")
+    add_running(commands, "run", run, "run it until it is interrupted")
+    one = add(commands, "node", node, "run one node of a service whose lines go over Redis")
     one.add_argument("name", type=node_name, metavar="c0|a0|..", help="which core or aggregator")
     one.add_argument("folder", nargs="?", default=DEFAULT)
     one.add_argument("--over", default=OVER, metavar="redis://HOST", help="the server; rediss:// for TLS")
-    one.set_defaults(does=node)
-    for name, does, told in (("stop", stop, "stop it"), ("status", status, "its counters")):
-        one = commands.add_parser(name, help=told)
-        one.add_argument("folder", nargs="?", default=DEFAULT)
-        one.set_defaults(does=does)
-    one = commands.add_parser("sign", help="sign a file: FILE.ksig")
-    one.add_argument("file")
-    one.add_argument("-o", dest="out")
-    one.set_defaults(does=sign)
-    one = commands.add_parser("extend", help="extend a signature to the last publication")
-    one.add_argument("signature")
-    one.add_argument("-o", dest="out")
-    one.set_defaults(does=extend)
-    one = commands.add_parser("publications", help="save the publications file")
-    one.add_argument("-o", dest="out", default="publications")
-    one.set_defaults(does=publications)
-    one = commands.add_parser("verify", help="verify a file and its signature by the proved ksi")
-    one.add_argument("file")
-    one.add_argument("signature")
+    add(commands, "stop", stop, "stop it", "folder")
+    add(commands, "status", status, "its counters", "folder")
+    add_asking(commands, "sign", sign, "sign a file: FILE.ksig", "file")
+    add_asking(commands, "extend", extend, "extend a signature to the last publication", "signature")
+    add_asking(commands, "publications", publications, "save the publications file", out="publications")
+    one = add(commands, "verify", verify, "verify a file and its signature by the proved ksi", "file", "signature")
     one.add_argument("publications", nargs="?", default="publications")
-    one.set_defaults(does=verify)
-    one = commands.add_parser("check", help="hold the record of a stopped service against the proved world")
-    one.add_argument("folder", nargs="?", default=DEFAULT)
+    one = add(commands, "check", check, "hold the record of a stopped service against the proved world", "folder")
     one.add_argument("--samples", type=int, default=50, metavar="NUMBER", help="how many signatures are extended, verified and audited: 50")
     one.add_argument("--replay", metavar="OUT", help="replay the run by ksi too, whose schedule and journal are saved in the folder OUT")
-    one.set_defaults(does=check)
-    one = commands.add_parser("backup", help="save what the cores of a stopped service hold")
-    one.add_argument("folder", nargs="?", default=DEFAULT)
-    one.add_argument("out")
-    one.set_defaults(does=backup)
-    for name in ("sign", "extend", "publications"):
-        commands.choices[name].add_argument("--folder", default=DEFAULT)
+    add(commands, "backup", backup, "save what the cores of a stopped service hold", "folder", "out")
     return parser
 
 
