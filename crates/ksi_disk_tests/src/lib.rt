@@ -1,4 +1,5 @@
-//! Tests of the disk and of what stands on it: `ksi_disk`, `ksi_gates` and `ksi_nodestore`.
+//! Tests of the disk and of what stands on it: `ksi_disk`, `ksi_gates`, `ksi_nodestore` and
+//! `ksi_roundstore`.
 //!
 //! They stand in a crate of their own, since a crate with tests is proved twice. Nothing is here for the layers above.
 #![tactic(auto)]
@@ -17,5 +18,7 @@ mod images;
 mod logs;
 #[cfg(test)]
 mod node_files;
+#[cfg(test)]
+mod stopped_aggregators;
 #[cfg(test)]
 mod stopped_cores;
