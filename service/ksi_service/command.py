@@ -81,12 +81,13 @@ def start(words):
     """Starts the service in the background, and waits until its door is open."""
     os.makedirs(words.folder, exist_ok=True)
     again = [sys.executable, os.path.abspath(sys.argv[0]), "run", *sys.argv[2:]]
-    with open(os.path.join(words.folder, "log"), "ab") as log:
+    path = os.path.join(words.folder, "log")
+    with open(path, "ab") as log:
+        before = log.tell()
         child = subprocess.Popen(again, stdin=subprocess.DEVNULL, stdout=log, stderr=log, start_new_session=True)
     for _ in range(300):
         if child.poll() is not None:
-            with open(os.path.join(words.folder, "log"), encoding="utf-8", errors="replace") as log:
-                raise Failed("it did not start: " + log.read().strip().splitlines()[-1].removeprefix("ksi-service: "))
+            raise Failed(f"it did not start: {reason_in(path, before)}")
         try:
             address, number = door(words.folder)
             if number == child.pid:
@@ -96,7 +97,15 @@ def start(words):
             pass
         time.sleep(0.1)
     child.terminate()
-    raise Failed(f"it did not open its door within 30 seconds, and is stopped: see {os.path.join(words.folder, 'log')}")
+    raise Failed(f"it did not open its door within 30 seconds, and is stopped: see {path}")
+
+
+def reason_in(path, before):
+    """Why a service ended, by what its log has behind a place. Another service over the folder may write to it too."""
+    with open(path, "rb") as log:
+        log.seek(before)
+        rows = log.read().decode(errors="replace").splitlines()
+    return next((row[len("ksi-service: "):] for row in reversed(rows) if row.startswith("ksi-service: ")), f"see {path}")
 
 
 def run(words):

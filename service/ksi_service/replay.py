@@ -118,11 +118,12 @@ def replay(folder: str, out: str, samples: int, say=print) -> Counts:
     if (int(said["events"]), int(said["messages"])) != (len(schedule.events), schedule.sent):
         raise Differs(f"the run has {len(schedule.events)} events and {schedule.sent} messages, its replay {said['events']} and {said['messages']}")
     compare(handed, issued_in(files.content_of(at("journal"))))
-    for number in sorted(handed)[:samples]:
+    chosen = sorted(handed)[::max(1, -(-len(handed) // samples))]
+    for number in chosen:
         ksi("sign", at("journal"), str(number), at("signature"))
         compare({number: handed[number]}, {number: files.content_of(at("signature"))})
     files.remove(at("signature"))
-    counts_of = Counts(len(schedule.events), len(handed), min(samples, len(handed)), compare_publications(folder, at("journal"), at("publications")))
+    counts_of = Counts(len(schedule.events), len(handed), len(chosen), compare_publications(folder, at("journal"), at("publications")))
     say("ksi replay of the run, %d events, makes all of its signatures (%d, of which ksi sign gave %d) and publications (%d), byte for byte" % counts_of)
     return counts_of
 

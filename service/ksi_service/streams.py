@@ -236,20 +236,22 @@ class NodeHost:
             self.patiently(lambda: self.transact(fill, serial, look=True))
 
     def transact(self, fill, serial, look):
-        """A transaction that fails if another one of this host comes between: one whose connection was lost may still be on its way."""
+        """A transaction that fails if another one of this host comes between: one whose connection was lost may still be on its way. The
+        client calls a connection that is lost meanwhile a change of what is watched, too."""
         import redis
         done = f"ksi:done:{self.name}"
         with self.client.pipeline(transaction=True) as commit:
             while True:
-                commit.watch(done)
-                if look and commit.get(done) == serial:
-                    return
-                commit.multi()
-                fill(commit)
-                commit.set(f"ksi:facts:{self.name}", self.facts)
-                commit.set(done, serial)
                 try:
+                    commit.watch(done)
+                    if look and commit.get(done) == serial:
+                        return
+                    commit.multi()
+                    fill(commit)
+                    commit.set(f"ksi:facts:{self.name}", self.facts)
+                    commit.set(done, serial)
                     commit.execute()
                     return
                 except redis.WatchError:
+                    commit.reset()
                     look = True

@@ -1,6 +1,7 @@
 """What tests share: a folder of stand-ins for the programs of the nodes, and which real programs are there."""
 import os
 import stat
+import subprocess
 import sys
 
 from ksi_service import programs
@@ -13,6 +14,15 @@ NODES = ("ksi_serve_core", "ksi_serve_aggregator")
 def missing(*names):
     """Why a test of these programs is skipped, or None."""
     return programs.missing(names)
+
+
+def run_script(test, *words):
+    """What a script of service/ prints, which has to end well. At status 2 something that it wants is not here."""
+    told = subprocess.run([sys.executable, os.path.join(os.path.dirname(HERE), words[0]), *words[1:]], capture_output=True, text=True, check=False, timeout=110)
+    if told.returncode == 2:
+        test.skipTest(told.stdout.strip())
+    test.assertEqual(told.returncode, 0, told.stdout + told.stderr)
+    return told.stdout
 
 
 def make(folder):

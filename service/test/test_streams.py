@@ -8,12 +8,14 @@ import shutil
 import signal
 import socket
 import subprocess
+import sys
 import tempfile
 import time
 import unittest
+from unittest import mock
 
 import stands
-from ksi_service import check, replay
+from ksi_service import check, replay, streams
 from ksi_service.record import Signed, told
 
 REAL = not stands.missing("ksi", "ksi_retrace", *stands.NODES)
@@ -147,6 +149,67 @@ class StreamsTest(unittest.TestCase):
             found = check.check(head, samples=10, say=quietly)
             self.assertGreaterEqual(found.signatures, 100)
             self.assertEqual(replay.replay(head, os.path.join(self.room.name, "replay"), samples=50, say=quietly).signatures, found.signatures)
+
+
+class Client:
+    """A client of a server and its pipeline, whose calls fail as they are told, one after the other; None lets one pass."""
+
+    class WatchError(Exception):
+        pass
+
+    class ConnectionError(Exception):
+        pass
+
+    TimeoutError = BusyLoadingError = ReadOnlyError = ConnectionError
+
+    def __init__(self, failures):
+        self.failures, self.done, self.filled, self.resets = list(failures), None, 0, 0
+
+    def call(self, *_):
+        failure = self.failures.pop(0) if self.failures else None
+        if failure:
+            raise failure
+        return self.done
+
+    watch = get = execute = call
+
+    def pipeline(self, transaction):
+        return self
+
+    def multi(self):
+        self.filled += 1
+
+    def set(self, name, value):
+        pass
+
+    def reset(self):
+        self.resets += 1
+
+    def __enter__(self):
+        return self
+
+    def __exit__(self, *_):
+        pass
+
+
+class TransactionTest(unittest.TestCase):
+    def committed(self, *failures):
+        """How often a transaction was filled, and its pipeline reset, with these failures of the client's calls."""
+        client = Client(failures)
+        with mock.patch.dict(sys.modules, redis=client), mock.patch.object(streams, "connect", lambda url: client):
+            streams.NodeHost("", "", "c0").commit(lambda commit: None)
+        self.assertEqual(client.failures, [])
+        return client.filled, client.resets
+
+    def test_a_transaction_is_tried_until_it_is_done(self):
+        lost, changed = Client.ConnectionError(), Client.WatchError()
+        self.assertEqual(self.committed(), (1, 0))
+        self.assertEqual(self.committed(lost), (1, 0))
+        self.assertEqual(self.committed(None, lost, None, None, None), (2, 0))
+        self.assertEqual(self.committed(None, changed, None, None, None), (2, 1))
+        # the connection is lost while it is watched, and while it is asked what was done
+        self.assertEqual(self.committed(None, lost, None, changed, None, None, None), (2, 1))
+        self.assertEqual(self.committed(changed, lost, changed), (1, 2))
 
 
 if __name__ == "__main__":

@@ -1,0 +1,85 @@
+"""The service while its processes and its host are killed, and on a full disk."""
+import concurrent.futures
+import http.client
+import os
+import random
+import signal
+import subprocess
+import time
+import unittest
+
+from ksi_service.elements import published_in
+from served import Served, imprint
+
+
+class KillsTest(Served):
+    def test_kills_of_processes_and_host(self):
+        """Sixty kills, with signing going on: each request that was answered has a signature that the record knows."""
+        dice, answered, kills = random.Random(11), [], 0
+
+        def sign(number):
+            reasons = []
+            for _ in range(200):
+                try:
+                    status, content = self.ask("/sign", imprint(number))
+                    if status == 200:
+                        answered.append(content)
+                        return None
+                    reasons.append(content)
+                except (OSError, http.client.HTTPException) as error:
+                    reasons.append(error)
+                time.sleep(0.2)
+            return reasons
+        self.start()
+        with concurrent.futures.ThreadPoolExecutor(16) as pool:
+            asks = [pool.submit(sign, number) for number in range(120)]
+            while kills < 60:
+                if kills % 20 == 19:
+                    self.kill()
+                    self.start()
+                else:
+                    try:
+                        os.kill(dice.choice(list(self.status()["processes"].values())), signal.SIGKILL)
+                    except (OSError, http.client.HTTPException, ValueError):
+                        pass
+                kills += 1
+                time.sleep(dice.uniform(0.02, 0.25))
+            self.assertEqual([it.result() for it in asks if it.result()], [])
+        self.wait_for_publication(int(time.time()))
+        with open(os.path.join(self.folder, "publications"), "rb") as file:
+            self.assertEqual(published_in(file.read())[-1][0], self.status()["last_publication"])
+        self.command("stop")
+        self.assertEqual(len(answered), 120)
+        told = self.checked()
+        if told:
+            self.assertGreaterEqual(told.signatures, 120)
+
+    @unittest.skipIf(os.geteuid() != 0, "a file system of 2 MiB is mounted by root alone")
+    def test_a_full_disk(self):
+        os.mkdir(self.folder)
+        if subprocess.run(["mount", "-t", "tmpfs", "-o", "size=2m", "tmpfs", self.folder], capture_output=True, check=False).returncode:
+            self.skipTest("no file system of 2 MiB can be mounted here")
+        self.addCleanup(subprocess.run, ["umount", "-l", self.folder], check=True)
+        self.start()
+        self.assertEqual(self.ask("/sign", imprint(1))[0], 200)
+        with open(os.path.join(self.folder, "filler"), "wb", buffering=0) as file:
+            try:
+                while True:
+                    file.write(b"\0" * 4096)
+            except OSError:
+                pass
+        for _ in range(300):
+            if not os.path.exists(f"/proc/{self.process}"):
+                break
+            time.sleep(0.1)
+        self.assertFalse(os.path.exists(f"/proc/{self.process}"), "a host goes on without a record")
+        os.remove(os.path.join(self.folder, "filler"))
+        self.start()
+        self.assertEqual(self.ask("/sign", imprint(2))[0], 200)
+        self.wait_for_publication(int(time.time()))
+        self.command("stop")
+        self.checked()
+
+
+if __name__ == "__main__":
+    unittest.main()
