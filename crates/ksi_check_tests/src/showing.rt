@@ -50,15 +50,16 @@ fn seconds_have_dates(rt: HostRuntime) -> Result<(), Fail> {
 }
 
 // Plain bytes; an escape code, a byte past ASCII and a zero; marks of quotes, of SVG and of escapes; 65 bytes. Then the metadata
-// of a name, in both paddings, and what has no name.
+// of a name, in both paddings; and with a wrong length, a wrong end, no letter, and none.
 const QUOTES: &str = "quoted 6e616d65 = \"name\"
 quoted 1b5b33316dff00 = \"\\x1b[31m\\xff\\x00\"
 quoted 2226273c3e5c7e20 = \"\\x22\\x26\\x27\\x3c\\x3e\\x5c~ \"
 quoted 6161616161616161616161616161616161616161616161616161616161616161616161616161616161616161616161616161616161616161616161616161616162 = \"aaaaaaaaaaaaaaaaaaaaaaaaaaaaaaaaaaaaaaaaaaaaaaaaaaaaaaaaaaaaaaaa\"..
 named 7e020101 0104 626f62 00 = \"bob\"
-named 7e0101 0106 616c696365 00 = -
-named 7e010101 0105 616e6e61 00 = \"anna\"
-named 7e010101 0105 616e6e61 01 = -
+named 7e0101 0105 616e6e61 00 = \"anna\"
+named 7e0101 0106 616e6e61 00 = -
+named 7e0101 0105 616e6e61 01 = -
+named 7e0101 0101 00 = -
 named 030004 = -";
 
 #[test]

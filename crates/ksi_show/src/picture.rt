@@ -146,10 +146,10 @@ fn draw_link(
     }
     let note = match name_in(link.sibling) {
         Some(name) => [Text("name "), Quoted(name)],
-        None => [Text("raw "), Quoted(link.sibling)],
+        None => [Text("bytes "), Quoted(link.sibling)],
     };
     draw_beside(text, link.side, at.up, &note)?;
-    draw_row(text, at, link.side, bytes, Text("metadata"))
+    draw_row(text, at, link.side, bytes, Text("raw bytes"))
 }
 
 /// The field of a calendar chain, and the root above it.

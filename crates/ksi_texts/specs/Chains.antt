@@ -20,10 +20,10 @@ side_word Right = codes "right of"
 
 -- ---- links
 
--- raw bytes beside a link: the name of an item, or others
+-- raw bytes beside a link: the metadata of a name, or others
 abbrev pub raw_words : Option (List ℕ) → (bytes : List ℕ) → List (List ℕ)
 raw_words (Some name) bytes = codes "name" ∷ quoted_text name ∷ []
-raw_words None bytes = codes "metadata" ∷ quoted_text bytes ∷ []
+raw_words None bytes = codes "bytes" ∷ quoted_text bytes ∷ []
 
 -- what stands beside a link
 abbrev pub beside_words : PlainLink → List (List ℕ)

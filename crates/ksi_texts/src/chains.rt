@@ -113,14 +113,7 @@ fn put_link(
     }
     match name_in(link.sibling) {
         Some(name) => put_beside(text, place, link.side, "name", Quoted(name), above),
-        None => put_beside(
-            text,
-            place,
-            link.side,
-            "metadata",
-            Quoted(link.sibling),
-            above,
-        ),
+        None => put_beside(text, place, link.side, "bytes", Quoted(link.sibling), above),
     }
 }
 
