@@ -1,4 +1,4 @@
-//! Tests of the disk and of what stands on it: `ksi_disk`, `ksi_gates`, `ksi_nodestore` and
+//! Tests of the disks and of what stands on them: `ksi_disk`, `ksi_host_disk`, `ksi_gates`, `ksi_nodestore` and
 //! `ksi_roundstore`.
 //!
 //! They stand in a crate of their own, since a crate with tests is proved twice. Nothing is here for the layers above.
@@ -12,6 +12,8 @@ mod crashes;
 mod disks;
 #[cfg(test)]
 mod headers;
+#[cfg(test)]
+mod host_disks;
 #[cfg(test)]
 mod images;
 #[cfg(test)]
