@@ -4,7 +4,7 @@ ghost use Rattle.ksi_corenode.specs.Events.{event_second, IsAsked, MayTake};
 ghost use Rattle.ksi_corenode.specs.Owners.{BringsOwned};
 ghost use Rattle.ksi_nodestore.specs.StoreState.{IsStore};
 ghost use Rattle.ksi_schedule.specs.Plans.{core_plan_of};
-ghost use Rattle.ksi_wire.specs.Questions.{IsSpan};
+ghost use Rattle.ksi_wire.specs.Questions.{AsksOwned, IsSpan, MayBeAsked};
 ghost use Rattle.ksi_wire.specs.declared.questions.CoreLine.TheVariants.{Chain, Event, Held};
 ghost use Rattle.ksi_service.specs.Inlet.{came_line};
 ghost use Rattle.ksi_service.specs.Serving.{Answered, IsServed};
@@ -102,11 +102,37 @@ fn take_line<C: Compress, D: Disk, O: Outlet>(
     ensures stored { OnOk result (IsStore C.image D.content D.images store.new) }
 {
     match core_line(alloc, plan, me, line) {
-        Ok(CoreLine::Event(event)) => take_event(alloc, me, store, event, out),
-        Ok(CoreLine::Held(span)) => tell(alloc, store, span, out),
-        Ok(CoreLine::Chain(ends)) => tell_chain(alloc, store, ends, out),
+        Ok(asked) => take_asked(alloc, plan, me, store, asked, out),
         Err(Refused::Fault(fault)) => refuse(fault, store, out),
         Err(Refused::NoMemory) => Err(Failure::Memory),
+    }
+}
+
+/// Takes what a line asks.
+fn take_asked<C: Compress, D: Disk, O: Outlet>(
+    alloc: Global,
+    plan: &Plan,
+    me: u8,
+    store: &mut NodeStore<C, D>,
+    asked: CoreLine,
+    out: &mut O,
+) -> Result<(), Failure>
+    requires may { MayBeAsked plan.now asked }
+    requires owned { AsksOwned plan.now.cores asked }
+    requires start { store.old.core.start ≡ plan.now.start }
+    requires plan { store.old.core.plan ≡ core_plan_of plan.now }
+    requires me { store.old.core.me ≡ me }
+    requires stored { IsStore C.image D.content D.images store.old }
+    ensures answered { OnOk result (Answered (λ _. AskedOutcome C.image me (Ok asked)) None store.old store.new (O.said out.old) (O.said out.new)) }
+    ensures start { OnOk result (store.new.core.start ≡ store.old.core.start) }
+    ensures plan { OnOk result (store.new.core.plan ≡ store.old.core.plan) }
+    ensures me { OnOk result (store.new.core.me ≡ store.old.core.me) }
+    ensures stored { OnOk result (IsStore C.image D.content D.images store.new) }
+{
+    match asked {
+        CoreLine::Event(event) => take_event(alloc, me, store, event, out),
+        CoreLine::Held(span) => tell(alloc, store, span, out),
+        CoreLine::Chain(ends) => tell_chain(alloc, store, ends, out),
     }
 }
 

@@ -1,13 +1,13 @@
 -- What stands above a round is read again from the word that says it.
 use Rattle.std.proofs.Common.{◌≡◌, ℕ, zero, suc, ◌≤◌, ◌<◌, Bool, true, false, cond, leb, List, [], ◌∷◌, length, map, drop, Option, Some, None, Result, Ok, Err, refl, ap, subst, ◌∙◌, arith}
-use Rattle.std.specs.Prelude.{◌↔◌}
+use Rattle.std.specs.Prelude.{◌↔◌, IfOk}
 use Rattle.std.specs.List.{AllByRecursion, list_all}
 use Rattle.std.proofs.lemmas.Bool.{and_parts, le-leb, leb-true}
 use Rattle.std.proofs.lemmas.List.Elements.{recursion_from_All}
 use Rattle.std.proofs.lemmas.List.Sums.{list_all-from_AllPass}
 use Rattle.hex.specs.Hex.{IsBytes, decode_of, encode_lower, is_hex_digit}
-use Rattle.hex.specs.declared.error.FromHexError.{FromHexError}
 use Rattle.hex.proofs.HexLemmas.{decode_of-encode_lower, decode_of-ok}
+use Rattle.ksi_imprint.specs.declared.refused.Refused.{Refused}
 use Rattle.ksi_schedule.specs.Pieces.{Text}
 use Rattle.ksi_schedule.proofs.Again.{IsCleanWord}
 use Rattle.ksi_schedule.proofs.Digests.{hex_lacks}
@@ -25,10 +25,8 @@ use Rattle.ksi_signature.specs.Written.{signature_text}
 use Rattle.ksi_wire.specs.declared.fault.WireFault.{WireFault}
 use Rattle.ksi_wire.specs.AskedAbove.{above_by, above_from, above_said, as_above, by_bytes, by_signature, has_round_links, may_stand, or_above}
 use Rattle.ksi_schedule.specs.Plans.{PlanState}
-use Rattle.ksi_aggregator.specs.declared.event.RoundEvent.TheVariants as rounds
-use Rattle.ksi_wire.specs.declared.event.AggregatorLine.TheVariants as lines
-use Rattle.ksi_wire.specs.Asked.{second_in}
-use Rattle.ksi_wire.specs.AskedRounds.{response_in}
+use Rattle.ksi_wire.specs.Asked.{Answers, second_in}
+use Rattle.ksi_wire.specs.AskedRounds.{response_in, response_of}
 use Rattle.ksi_wire.specs.Responses.{above_text, input_of, IsTold}
 use Rattle.ksi_wire.proofs.RoundLinks.{are_round_links_of, round_links_of}
 
@@ -123,16 +121,17 @@ by_reading : (read : Result Signature SignatureFault) (above : Above) → by_sig
 by_reading (Ok signature) above is = by_parts signature.chains signature.calendar signature.publication above is
 by_reading (Err fault) above is = absurd cc
 
-by_decoding : (bytes : Result (List ℕ) FromHexError) (above : Above) → by_bytes bytes ≡ Ok above → Stands above
-by_decoding (Ok bytes) above is = by_reading (signature_at bytes) above is
-by_decoding (Err error) above is = absurd cc
+-- what is read of the bytes of a word
+pub decoded_few : (bytes : Text) (r : Result Above (Refused WireFault)) → Answers (by_signature (signature_at bytes)) r → IfOk r (λ above. length above.chains ≤ 7)
+decoded_few bytes (Ok above) said = (by_reading (signature_at bytes) above said).0
+decoded_few bytes (Err refusal) said = tt
 
-pub said_stands : (word : Text) (above : Above) → above_said word ≡ Ok above → (length above.chains ≤ 7) × AllByRecursion (λ chain. AreRoundLinks chain.links) above.chains
-unfolding above_said
-said_stands word above is = by_decoding (decode_of word) above is
+pub decoded_links : (bytes : Text) (r : Result Above (Refused WireFault)) → Answers (by_signature (signature_at bytes)) r
+    → IfOk r (λ above. AllByRecursion (λ chain. AreRoundLinks chain.links) above.chains)
+decoded_links bytes (Ok above) said = (by_reading (signature_at bytes) above said).1
+decoded_links bytes (Err refusal) said = tt
 
 -- ---- a line of a response
 
-pub response_read : (plan : PlanState) (ws mid rest : List Text) (second : ℕ) (word : Text) (above : Above) → second_in plan ws ≡ Ok (second, mid) → mid ≡ word ∷ rest → above_said word ≡ Ok above
-    → response_in plan ws ≡ Ok (lines.Event (rounds.Response second above), rest)
-response_read plan ws mid rest second word above first next said = rw (first, next, said) refl
+pub response_read : (plan : PlanState) (ws mid rest : List Text) (second : ℕ) (word : Text) → second_in plan ws ≡ Ok (second, mid) → mid ≡ word ∷ rest → response_in plan ws ≡ response_of second word rest
+response_read plan ws mid rest second word first next = rw (first, next) refl

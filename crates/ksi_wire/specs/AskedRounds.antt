@@ -22,10 +22,12 @@ abbrev pub or_fault : Result Above WireFault → List Text → Got Above
 or_fault (Ok above) rest = Ok (above, rest)
 or_fault (Err fault) rest = Err fault
 
--- a second, and what stands above its round
+-- a second, and what a word says to stand above its round
+abbrev pub response_of : (second : ℕ) → (word : Text) → List Text → Got AggregatorLine
+response_of second word rest = or_fault (above_said word) rest >>= λ above rest. Ok (lines.Event (events.Response second above), rest)
+
 abbrev pub response_in : PlanState → List Text → Got AggregatorLine
-response_in plan ws =
-    second_in plan ws >>= λ second ws. word_in ws >>= λ word ws. or_fault (above_said word) ws >>= λ above rest. Ok (lines.Event (events.Response second above), rest)
+response_in plan ws = second_in plan ws >>= λ second ws. word_in ws >>= λ word rest. response_of second word rest
 
 abbrev pub asked_in : PlanState → (me : ℕ) → List Text → Got AggregatorLine
 asked_in plan me ws =

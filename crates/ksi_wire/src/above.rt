@@ -1,6 +1,7 @@
 // What stands above a round, as a signature in hex. The signature's lowest chain has no link, and the others are those above.
 ghost use Rattle.std.specs.Prelude.{◌≡◌, ◌<◌, ◌≤◌, ◌^◌, [], ◌||◌, length, map, drop, true, IfOk};
-ghost use Rattle.std.specs.List.{list_all};
+ghost use Rattle.std.specs.List.{AllByRecursion, list_all};
+ghost use Rattle.ksi_signature.specs.Above.{AreRoundLinks};
 ghost use Rattle.ksi_signature.specs.File.{IsSignature};
 ghost use Rattle.ksi_signature.specs.Reading.{signature_at};
 ghost use Rattle.ksi_signature.specs.Issued.{issued};
@@ -56,7 +57,9 @@ fn are_bytes(bytes: &[u8])
 /// `Above`: the word is not the hex of such a signature. `NoMemory`.
 #[tactic(auto, unfolding(crate::specs::AskedAbove::above_said))]
 pub(crate) fn above_said(alloc: Global, word: &[u8]) -> Result<Above, Refused<WireFault>>
-    ensures { Answers (above_said word.now) result }
+    ensures said { Answers (above_said word.now) result }
+    ensures few { IfOk result (λ above. length above.chains ≤ 7) }
+    ensures links { IfOk result (λ above. AllByRecursion (λ chain. AreRoundLinks chain.links) above.chains) }
 {
     let bytes = match hex::decode(alloc, word) {
         Ok(bytes) => bytes,

@@ -1,16 +1,12 @@
 // The lines to an aggregator.
-ghost use Rattle.std.specs.Prelude.{◌≡◌, ◌≤◌, ◌<◌, ◌^◌, List, length, Ok, IfOk};
-ghost use Rattle.std.specs.List.{AllByRecursion};
+ghost use Rattle.std.specs.Prelude.{◌≡◌, ◌<◌, ◌^◌, List, Ok, IfOk};
 ghost use Rattle.ksi_schedule.specs.Pieces.{Text};
 ghost use Rattle.ksi_schedule.specs.Plans.{PlanState, InRange};
 ghost use Rattle.ksi_schedule.specs.Printed.{line_of};
 ghost use Rattle.ksi_schedule.specs.Reading.{words_left};
-ghost use Rattle.ksi_signature.specs.Above.{AreRoundLinks};
-ghost use Rattle.ksi_aggregator.specs.declared.event.RoundEvent.TheVariants.{Response};
-ghost use Rattle.ksi_wire.specs.declared.event.AggregatorLine.TheVariants.{Event};
 ghost use Rattle.ksi_wire.specs.RoundLines.{asked_words, short, FitsRound, IsToldIn, MayBeTaken};
 ghost use Rattle.ksi_wire.specs.Asked.{short_in, if_spelled, Answers, Reads};
-ghost use Rattle.ksi_wire.specs.AskedRounds.{aggregator_line_of, event_in, response_in, sign_in};
+ghost use Rattle.ksi_wire.specs.AskedRounds.{aggregator_line_of, event_in, response_in, response_of, sign_in};
 
 use crate::above::{above_said, above_text};
 use crate::cursor::{Words, is};
@@ -21,7 +17,6 @@ use crate::printing::{put_of_second, put_short, put_sign, put_word};
 use ksi_aggregator::RoundEvent;
 use ksi_imprint::Refused;
 use ksi_schedule::{Actor, Plan};
-use ksi_signature::Above;
 use std::alloc::Global;
 
 /// What a line asks of an aggregator of the plan. Each printed line of an event that may come to it is taken
@@ -166,32 +161,30 @@ fn response(
         Ok(word) => word,
         Err(fault) => return Err(Refused::Fault(fault)),
     };
-    let above = match above_said(alloc, word) {
-        Ok(above) => above,
-        Err(refused) => return Err(refused),
-    };
-    spelled(alloc, line, second, above)
+    spelled(alloc, line, second, word)
 }
 
-/// The response, where the line is just as it is printed.
+/// The response that a word makes, where the line is just as it is printed.
 fn spelled(
     alloc: Global,
     line: &[u8],
     second: u64,
-    above: Above,
+    word: &[u8],
 ) -> Result<AggregatorLine, Refused<WireFault>>
-    requires early { second < 2 ^ 63 }
-    requires few { length above.chains ≤ 7 }
-    requires links { AllByRecursion (λ chain. AreRoundLinks chain.links) above.chains }
-    ensures exact { (rest : List Text) → Answers (if_spelled asked_words line.now (Ok (Event (Response second above), rest))) result }
+    requires { second < 2 ^ 63 }
+    ensures exact { (rest : List Text) → Answers (if_spelled asked_words line.now (response_of second word.now rest)) result }
     ensures text { IfOk result (λ told. line.now ≡ line_of (asked_words told)) }
     ensures may { IfOk result MayBeTaken }
     ensures told { (plan : PlanState) → InRange plan second → IfOk result (IsToldIn plan) }
 {
-    let word = above_text(alloc, second, &above)?;
+    let above = match above_said(alloc, word) {
+        Ok(above) => above,
+        Err(refused) => return Err(refused),
+    };
+    let text = above_text(alloc, second, &above)?;
     let mut again = Vec::new(alloc);
     put_of_second(&mut again, b"response", second)?;
-    put_word(&mut again, word.as_slice())?;
+    put_word(&mut again, text.as_slice())?;
     if is(again.as_slice(), line) {
         Ok(AggregatorLine::Event(RoundEvent::Response(second, above)))
     } else {

@@ -3,18 +3,11 @@ use Rattle.ksi_schedule.specs.Reading.{words_left}
 use Rattle.ksi_wire.specs.declared.event.AggregatorLine.{AggregatorLine}
 use Rattle.ksi_wire.specs.Asked.{Answers, Got, if_spelled}
 use Rattle.ksi_wire.specs.RoundLines.{asked_words}
-use Rattle.ksi_wire.proofs.AboveSaid.{response_read, said_stands}
+use Rattle.ksi_wire.proofs.AboveSaid.{response_read}
 use Rattle.ksi_wire.proofs.round_lines.response.Goals as goal
-
-pub spelled-requires-clause-few : goal.spelled-requires-clause-few
-spelled-requires-clause-few c = (said_stands c.in-Ok-next_word.word.now c.in-Ok-above_said.above c.in-Ok-above_said.ensures).0
-
-pub spelled-requires-clause-links : goal.spelled-requires-clause-links
-spelled-requires-clause-links c = (said_stands c.in-Ok-next_word.word.now c.in-Ok-above_said.above c.in-Ok-above_said.ensures).1
 
 pub returns-clause-exact : goal.returns-clause-exact
 returns-clause-exact c =
-    let mid = words_left c.second.new.words.left in
     let rest = words_left c.next_word.new.self.left in
-    let read = response_read c.args.plan.now (words_left c.args.words.left) mid rest c.in-Ok.second c.in-Ok-next_word.word.now c.in-Ok-above_said.above c.in-Ok.ensures.read c.in-Ok-next_word.ensures c.in-Ok-above_said.ensures in
+    let read = response_read c.args.plan.now (words_left c.args.words.left) (words_left c.second.new.words.left) rest c.in-Ok.second c.in-Ok-next_word.word.now c.in-Ok.ensures.read c.in-Ok-next_word.ensures in
     subst (λ (got : Got AggregatorLine). Answers (if_spelled asked_words c.args.line.now got) c.spelled.result) (sym read) (c.spelled.ensures.exact rest)
