@@ -28,8 +28,10 @@ class Counts(NamedTuple):
     facts: int
     """How many facts nodes acknowledged; all are in their files."""
     publications: int
-    used: int
-    """How many signatures were extended, verified and, in a run that is short enough, audited."""
+    extended: int
+    """How many signatures were extended, and accepted by `ksi verify`."""
+    audited: int
+    """How many of these were found in the cores' mirrors by `ksi audit`."""
 
 
 def many(count, word):
@@ -37,7 +39,7 @@ def many(count, word):
 
 
 def look(record, samples):
-    """What the record tells beside its blocks: all published answers, the last second sealed, and some of the signatures."""
+    """What the record tells beside its blocks: all published answers, the last second sealed, and some of the signatures, mixed."""
     published, chosen, count, last, dice = set(), [], 0, 0, random.Random(1)
     for it in told(record):
         if isinstance(it, Signed):
@@ -52,11 +54,13 @@ def look(record, samples):
                 published.add((int(words[1]), it.block[0].split(" ")[2]))
             if words[0] == "seal":
                 last = max(last, int(words[1]))
+    dice.shuffle(chosen)
     return published, [bytes.fromhex(text) for text in chosen], last
 
 
-def check(folder, samples=50, say=print):
-    """Raises Differs where the run is not that of its record; says and returns what was compared."""
+def check(folder, samples=50, say=print, audits=None):
+    """Raises Differs where the run is not that of its record; says and returns what was compared. So many signatures are extended, and
+    of these so many audited, or all."""
     steps, unsaid, signatures = retrace(os.path.join(folder, "plan"), os.path.join(folder, "record"))
     say(f"ksi_retrace agrees: the blocks of {many(steps, 'step')} ({unsaid} of them never came) and {many(signatures, 'signature')} are the proved world's")
     facts = facts_there(folder)
@@ -67,11 +71,11 @@ def check(folder, samples=50, say=print):
         if it not in published:
             raise Differs(f"the publication of second {it[0]} is no answer of a core")
     say(f"all of {many(len(publications.published), 'publication')} are answers of cores")
-    used = 0
+    extended = audited = 0
     if publications.last() is not None:
-        used = use(folder, chosen, publications, last)
-        say(f"{many(used, 'signature')}, extended to second {publications.last()}, accepted, and found in the cores' mirrors")
-    return Counts(steps, unsaid, signatures, facts, len(publications.published), used)
+        extended, audited = use(folder, chosen, publications, last, samples if audits is None else audits)
+        say(f"{many(extended, 'signature')}, extended to second {publications.last()}, accepted by ksi verify; {audited} found in the cores' mirrors by ksi audit")
+    return Counts(steps, unsaid, signatures, facts, len(publications.published), extended, audited)
 
 
 def facts_there(folder):
@@ -87,12 +91,14 @@ def facts_there(folder):
     return acknowledged
 
 
-def use(folder, signatures, publications, last):
-    """Extends signatures that the last publication covers by a core, and audits them against the mirrors of all. Returns how many."""
-    plan, used = Plan.read(os.path.join(folder, "plan")), 0
+def use(folder, signatures, publications, last, audits):
+    """Extends signatures that the last publication covers by a core, and audits the first of them against the mirrors of all, if the run
+    is short enough. Returns how many were extended and audited."""
+    plan, extended, audited = Plan.read(os.path.join(folder, "plan")), 0, 0
     with tempfile.TemporaryDirectory(prefix="ksi-check-") as room:
-        audited = last - plan.start < MOST_AUDITED
-        if audited:
+        if last - plan.start >= MOST_AUDITED:
+            audits = 0
+        if audits:
             backup.make(folder, room, last, say=lambda text: None)
         calendar = Calendar(plan.start)
         with Stopped(folder, "c0") as core:
@@ -103,10 +109,11 @@ def use(folder, signatures, publications, last):
                     parts, content = extension.extend_by(core, calendar, signature, publications)
                 except extension.NotExtended as reason:
                     raise Differs(f"a signature is not extended: {reason}") from None
-                if audited:
+                extended += 1
+                if audited < audits:
                     audit(room, parts, content, publications)
-                used += 1
-    return used
+                    audited += 1
+    return extended, audited
 
 
 def audit(room, parts, content, publications):

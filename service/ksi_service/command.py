@@ -282,7 +282,7 @@ def parser_of():
     one = add(commands, "verify", verify, "verify a file and its signature by the proved ksi", "file", "signature")
     one.add_argument("publications", nargs="?", default="publications")
     one = add(commands, "check", check, "hold the record of a stopped service against the proved world", "folder")
-    one.add_argument("--samples", type=int, default=50, metavar="NUMBER", help="how many signatures are extended, verified and audited: 50")
+    one.add_argument("--samples", type=positive, default=50, metavar="NUMBER", help="how many signatures are extended, verified and audited: 50")
     one.add_argument("--replay", metavar="OUT", help="replay the run by ksi too, whose schedule and journal are saved in the folder OUT")
     add(commands, "backup", backup, "save what the cores of a stopped service hold", "folder", "out")
     return parser

@@ -9,11 +9,11 @@ MISSING = stands.missing("ksi", "ksi_retrace", *stands.NODES)
 @unittest.skipIf(MISSING, MISSING)
 class ChaosTest(unittest.TestCase):
     def test_a_short_chaos(self):
-        said = stands.run_script(self, "chaos", "--seconds", "20", "--rate", "10", "--samples", "50", "--seed", "5")
+        said = stands.run_script(self, "chaos", "--seconds", "20", "--rate", "10", "--audits", "50", "--seed", "5")
         self.assertIn("ksi_retrace agrees", said)
         rows = dict(row[2:-2].split(" | ") for row in said.splitlines() if row.startswith("| "))
         for name, least in (("signatures that clients got, all on the record", 10), ("messages lost", 5), ("processes killed by SIGKILL", 3),
-                            ("signatures extended, accepted by `ksi verify`, found by `ksi audit`", 5)):
+                            ("signatures extended, and accepted by `ksi verify`", 10), ("of these found in the cores' mirrors by `ksi audit`", 10)):
             self.assertGreaterEqual(int(rows[name]), least, said)
 
 

@@ -48,7 +48,7 @@ class ServiceTest(Served):
         self.assertGreater(len(below), 4)
         found = self.checked()
         if found:
-            self.assertEqual((found.signatures, found.used), (90, 10))
+            self.assertEqual((found.signatures, found.extended), (90, 10))
 
     def test_two_services_over_one_folder(self):
         self.start()
@@ -81,7 +81,7 @@ class ServiceTest(Served):
         found = self.checked()
         if found:
             # the last publication covers all of them
-            self.assertEqual((found.signatures, found.used), (41, 10))
+            self.assertEqual((found.signatures, found.extended), (41, 10))
         with open(os.path.join(self.folder, "publications"), "rb") as file:
             self.assertGreater(published_in(file.read())[-1][0], began)
 
