@@ -1,12 +1,8 @@
-use Rattle.std.proofs.Common.{◌≡◌, ℕ, suc, ◌+◌, List, [], ◌∷◌, ◌++◌, drop, map, sym, ap, ◌∙◌, refl, arith}
+use Rattle.std.proofs.Common.{◌≡◌, ℕ, suc, ◌+◌, List, ◌∷◌, ◌++◌, drop, map, sym, ap, ◌∙◌, arith}
 use Rattle.std.proofs.Math.Seq.{drop-cons}
-use Rattle.ksi_schedule.specs.Printed.{text_of_lines}
-use Rattle.ksi_imprint.specs.Imprints.{imprint_of}
-use Rattle.ksi_aggchain.specs.Climbing.{climbed}
 use Rattle.ksi_signature.specs.declared.chain_view.ChainView.{ChainView}
-use Rattle.ksi_verifier.specs.Chains.{PlainChain}
 use Rattle.ksi_verifier.specs.Lent.{lent_chain}
-use Rattle.ksi_texts.specs.Chains.{chain_rows, chains_rows, input_at, top_level}
+use Rattle.ksi_texts.specs.Chains.{chain_rows, chains_rows}
 use Rattle.ksi_texts.proofs.RowLemmas.{left_rows}
 use Rattle.ksi_texts.proofs.chains.put_chains.Goals as goal
 

@@ -1,4 +1,4 @@
-use Rattle.std.proofs.Common.{◌≡◌, ℕ, List, ◌++◌, Some, ap, ◌∙◌}
+use Rattle.std.proofs.Common.{ℕ, List, ◌++◌, Some, ap, ◌∙◌}
 use Rattle.ksi_schedule.specs.Printed.{text_of_lines}
 use Rattle.ksi_publications.specs.declared.fault.PublicationsFault.{PublicationsFault}
 use Rattle.ksi_texts.specs.Text.{publications_rows}

@@ -1,12 +1,11 @@
-use Rattle.std.proofs.Common.{◌≡◌, ℕ, List, [], ◌∷◌, ◌++◌, codes, map, ◌∙◌, ap, sym}
+use Rattle.std.proofs.Common.{◌≡◌, [], ◌∷◌, ◌++◌, codes, map, ◌∙◌, ap, sym}
 use Rattle.std.proofs.lemmas.Simd.{map-map}
 use Rattle.std.specs.Fmt.{decimal}
 use Rattle.std.proofs.lemmas.Result.{on_ok_weaker}
 use Rattle.ksi_schedule.specs.Printed.{text_of_lines}
 use Rattle.ksi_signature.specs.PartsSeen.{chain_seen}
 use Rattle.ksi_signature.specs.Seen.{seen}
-use Rattle.ksi_signature.specs.Values.{Aggregation}
-use Rattle.ksi_verifier.specs.Chains.{PlainChain, first_chain, plain_chain, plain_chains}
+use Rattle.ksi_verifier.specs.Chains.{first_chain, plain_chain, plain_chains}
 use Rattle.ksi_verifier.specs.Lent.{lent_chain}
 use Rattle.ksi_texts.specs.Calendar.{calendar_rows, record_rows}
 use Rattle.ksi_texts.specs.Chains.{chains_rows}

@@ -1,5 +1,4 @@
-use Rattle.std.proofs.Common.{◌≡◌, ℕ, List, ◌++◌, length, Result, Ok, Err, Some, ap, ◌∙◌}
-use Rattle.ksi_signature.specs.declared.fault.SignatureFault.{SignatureFault}
+use Rattle.std.proofs.Common.{◌≡◌, ◌++◌, length, Result, Ok, Err, Some, ap, ◌∙◌}
 use Rattle.ksi_signature.specs.declared.signature.Signature.{Signature}
 use Rattle.ksi_texts.specs.Text.{signature_text}
 use Rattle.ksi_texts.proofs.signature.put_signature_of.Goals as goal
