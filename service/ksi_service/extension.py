@@ -41,7 +41,7 @@ def asking(calendar, parts, last):
         if not (yield from learning(calendar, last)):
             return None
         return lambda: put_together(parts, last, roots[0][1], *calendar.chain(parts.second, last))
-    if not chain[0].startswith("chain "):
+    if not chain[0].startswith("published "):
         return None
     links = [tuple(row.split(" ")) for row in chain[1:]]
     return lambda: put_together(parts, last, roots[0][1], chain[0].split(" ")[1], links)

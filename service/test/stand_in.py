@@ -169,11 +169,10 @@ class Core(Stand):
 
 
     def on_chain(self, second, last):
-        missing = self.missing(last)
-        if missing is not None:
-            return f"undecided {missing}"
+        if self.missing(last) is not None:
+            return "not held"
         self.rows += [f"left {digest([second])}", f"right {digest([last])}"]
-        return "chain " + digest([last, self.held[last]])
+        return "published " + digest([last, self.held[last]])
 
     def on_held(self, first, count):
         rows = [f"root {it} {self.held[str(it)]}" for it in range(int(first), int(first) + int(count)) if str(it) in self.held]

@@ -101,7 +101,7 @@ class ExtensionTest(unittest.TestCase):
             return extension.extend_by(self.core, self.calendar, self.signature, self.publications)[1]
 
     def test_a_chain_that_a_core_tells(self):
-        content = self.extend({5: self.parts.root}, [f"chain {TWOS}", f"left {ONES}", f"right {TWOS}"])
+        content = self.extend({5: self.parts.root}, [f"published {TWOS}", f"left {ONES}", f"right {TWOS}"])
         self.assertEqual(elements.parts_of(content), self.parts)
         self.assertEqual(self.core.asked, ["held 5 1", "chain 5 9"])
 
@@ -115,7 +115,7 @@ class ExtensionTest(unittest.TestCase):
     def test_what_is_not_extended(self):
         whole = {it: ONES for it in range(3, 10)} | {5: self.parts.root}
         for roots, chain, says, reason in (
-                ({}, [], "", "lacks a second"), ({5: ONES}, [], "", "another root"), ({5: self.parts.root}, ["undecided 4"], "", "lacks a second"),
+                ({}, [], "", "lacks a second"), ({5: ONES}, [], "", "another root"), ({5: self.parts.root}, ["not held"], "", "lacks a second"),
                 ({5: self.parts.root, 3: ONES}, ["refused word"], "", "lacks a second"),
                 (whole, ["refused word"], Refused(1, "refused V14 9"), "V14"), (whole, ["refused word"], "accepted 6", "accepted 6")):
             with self.assertRaisesRegex(extension.NotExtended, reason):

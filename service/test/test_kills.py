@@ -39,8 +39,10 @@ class KillsTest(Served):
                     self.start()
                 else:
                     try:
-                        os.kill(dice.choice(list(self.status()["processes"].values())), signal.SIGKILL)
+                        for number in dice.sample(sorted(self.status()["processes"].values()), 1):
+                            os.kill(number, signal.SIGKILL)
                     except (OSError, http.client.HTTPException, ValueError):
+                        # the host is down, or no process of a node runs
                         pass
                 kills += 1
                 time.sleep(dice.uniform(0.02, 0.25))
