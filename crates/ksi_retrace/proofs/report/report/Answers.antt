@@ -1,5 +1,4 @@
-use Rattle.std.proofs.Common.{◌≡◌, ◌∙◌}
-use Rattle.ksi_retrace.specs.Reports.{verdict_text}
+use Rattle.std.proofs.Common.{◌∙◌}
 use Rattle.ksi_retrace.proofs.ReportLemmas.{reported}
 use Rattle.ksi_retrace.proofs.report.report.Goals as goal
 
