@@ -3,6 +3,7 @@ pub mod HeadLemmas
 pub mod LineLemmas
 pub mod MarkLemmas
 pub mod RecordLemmas
+pub mod ReportLemmas
 pub mod SaidLemmas
 pub mod StandingLemmas
 pub mod SumLemmas

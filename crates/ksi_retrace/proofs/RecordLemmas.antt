@@ -32,7 +32,7 @@ are_more : (plan : PlanState) (entries : List Entry) (entry : Entry) → AllByRe
 are_more plan [] entry are is = (is, tt)
 are_more plan (x ∷ entries) entry are is = (are.0, are_more plan entries entry are.1 is)
 
-appends_more : (old mid new : Option Text) (one two : Text) → Appends old mid one → Appends mid new two → Appends old new (one ++ two)
+pub appends_more : (old mid new : Option Text) (one two : Text) → Appends old mid one → Appends mid new two → Appends old new (one ++ two)
 appends_more None mid new one two is are = tt
 appends_more (Some text) None new one two is are = absurd is
 appends_more (Some text) (Some more) None one two is are = absurd are

@@ -1,7 +1,10 @@
+ghost use Rattle.std.specs.Prelude.{◌≡◌};
+ghost use Rattle.ksi_retrace.specs.Reports.{record_word};
+
 use ksi_wire::WireFault;
 
 /// Why an entry is refused.
-#[derive(Clone, Copy, Debug, PartialEq, Eq)]
+#[derive(Clone, Copy)]
 pub enum RecordFault {
     /// The first line is none of the forms, or is not what a node would take.
     Line(WireFault),
@@ -15,7 +18,9 @@ pub enum RecordFault {
 
 impl RecordFault {
     /// The word of the fault.
-    pub fn word(&self) -> &'static [u8] {
+    pub fn word(&self) -> &'static [u8]
+        ensures { result.now ≡ record_word self.now }
+    {
         match self {
             RecordFault::Line(fault) => fault.word(),
             RecordFault::Message => b"message",

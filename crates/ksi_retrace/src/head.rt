@@ -1,7 +1,7 @@
 use ksi_schedule::{Actor, Event};
 
 /// What a step was given.
-#[derive(Clone, Copy, PartialEq, Eq)]
+#[derive(Clone, Copy)]
 pub enum Given {
     /// A line that no node sent, as the event that it asks for. Where it is a request, its number in the run.
     Line(u64, Event),
@@ -10,7 +10,7 @@ pub enum Given {
 }
 
 /// The first line of an entry.
-#[derive(Clone, Copy, PartialEq, Eq)]
+#[derive(Clone, Copy)]
 pub enum Head {
     /// A step, whose block follows.
     Said(Given),

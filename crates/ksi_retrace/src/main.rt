@@ -12,6 +12,7 @@ mod head;
 mod mark;
 mod printing;
 mod reading;
+mod report;
 mod stream;
 mod sum;
 mod telling;
@@ -20,12 +21,11 @@ mod verdict;
 
 use ksi_imprint::{Refused, Sha};
 use ksi_schedule::read_schedule;
+use report::report;
 use std::fs::File;
-use std::io::{self, BufRead, BufReader, ErrorKind, Write};
+use std::io::{self, BufRead, BufReader, ErrorKind};
 use std::process::ExitCode;
 use std::{env, fs};
-use stream::retrace;
-use verdict::{Counts, Retraced};
 
 fn main(rt: HostRuntime) -> ExitCode {
     match run(&rt) {
@@ -67,36 +67,10 @@ fn hold<S: BufRead>(rt: &HostRuntime, plan: &str, record: &mut S) -> io::Result<
         return fail(rt, "plan", 3);
     }
     let mut out = io::writer(rt);
-    match retrace::<Sha, S, _>(rt.alloc(), schedule.plan(), record, &mut out) {
-        Ok(found) => tell(rt, found),
+    match report::<Sha, S, _>(rt.alloc(), schedule.plan(), record, &mut out) {
+        Ok(status) => Ok(status),
         Err(error) if error.kind() == ErrorKind::OutOfMemory => fail(rt, "memory", 5),
         Err(_) => fail(rt, "stream", 4),
-    }
-}
-
-/// Prints what was found. The result is the exit status.
-fn tell(rt: &HostRuntime, found: Retraced) -> io::Result<u8> {
-    match found {
-        Retraced::Agrees(counts) => {
-            let Counts {
-                steps,
-                unsaid,
-                signatures,
-            } = counts;
-            println!(rt; "agrees {steps} unsaid {unsaid} signatures {signatures}")?;
-            Ok(0)
-        }
-        Retraced::Differs(place) => {
-            println!(rt; "differs {} {}", place.entry, place.line)?;
-            Ok(1)
-        }
-        Retraced::Refused(fault, place) => {
-            let mut out = io::writer(rt);
-            out.write_all(b"refused ")?;
-            out.write_all(fault.word())?;
-            println!(rt; " {} {}", place.entry, place.line)?;
-            Ok(3)
-        }
     }
 }
 

@@ -2,14 +2,14 @@
 use crate::fault::RecordFault;
 
 /// Where an entry stands: its number, counted from 0, and its first line, counted from 1. Neither is beyond 2^64 - 1.
-#[derive(Clone, Copy, PartialEq, Eq)]
+#[derive(Clone, Copy)]
 pub struct Place {
     pub entry: u64,
     pub line: u64,
 }
 
 /// How many entries there were of a record that agrees.
-#[derive(Clone, Copy, PartialEq, Eq)]
+#[derive(Clone, Copy)]
 pub struct Counts {
     /// Steps, whether or not they were said.
     pub steps: usize,
@@ -20,7 +20,7 @@ pub struct Counts {
 }
 
 /// What came of the comparison.
-#[derive(Clone, Copy, PartialEq, Eq)]
+#[derive(Clone, Copy)]
 pub enum Retraced {
     /// Each block is what the world says at its place.
     Agrees(Counts),
