@@ -51,7 +51,7 @@ take_front [] rest = refl
 take_front (x ∷ front) rest = ap (λ (l : List Fact). x ∷ l) (take_front front rest)
 
 module _ (forgotten : ℕ → Bool) where
-  left_then : (front : List Fact) (fact : Fact) → left_of forgotten (front ++ fact ∷ []) ≡ left_of forgotten front ++ left_of_one forgotten fact
+  pub left_then : (front : List Fact) (fact : Fact) → left_of forgotten (front ++ fact ∷ []) ≡ left_of forgotten front ++ left_of_one forgotten fact
   left_then [] fact = append-nil (left_of_one forgotten fact)
   left_then (x ∷ front) fact =
       ap (λ (l : List Fact). left_of_one forgotten x ++ l) (left_then front fact)
