@@ -1,14 +1,12 @@
 -- What is left of records, put behind a text.
-use Rattle.std.proofs.Common.{◌≡◌, ◌∙◌, ℕ, zero, suc, ◌+◌, ◌<◌, ◌≤◌, ◌^◌, Bool, true, false, List, [], ◌∷◌, ◌++◌, map, length, take, get_or, Result, Ok, Err, IfOk, refl, sym, ap, subst, arith, append_assoc, length-append}
+use Rattle.std.proofs.Common.{◌≡◌, ◌∙◌, ℕ, suc, ◌+◌, ◌<◌, ◌^◌, Bool, true, false, List, [], ◌∷◌, ◌++◌, length, take, get_or, Result, Ok, Err, IfOk, refl, sym, ap, subst, arith, append_assoc, length-append}
 use Rattle.std.specs.Prelude.{if◌then◌else◌}
-use Rattle.std.specs.List.{All, AllByRecursion}
 use Rattle.std.proofs.lemmas.List.{append-nil}
 use Rattle.std.proofs.lemmas.List.Elements.{All-nil, All-cons, All-append}
 use Rattle.ksi_aggtree.specs.declared.entries.Entry.{Entry}
 use Rattle.ksi_signature.specs.declared.above.Above.{Above}
 use Rattle.ksi_schedule.specs.Plans.{PlanState}
 use Rattle.ksi_schedule.specs.Printed.{line_of}
-use Rattle.ksi_aggregator.specs.declared.event.RoundEvent.TheVariants as events
 use Rattle.ksi_aggregator.specs.declared.fact.RoundFact.{RoundFact}
 use Rattle.ksi_aggregator.specs.declared.fact.RoundFact.TheVariants.{Closed, Answered}
 use Rattle.ksi_aggregator.specs.declared.fact.Fact.{Fact}
@@ -22,7 +20,7 @@ use Rattle.ksi_forgetting.specs.declared.stays.Stays.TheVariants as stay
 use Rattle.ksi_forgetting.specs.Left.{left_of, left_of_one, what_is_left}
 use Rattle.ksi_forgetting.specs.Kinds.{IsEnded, IsPut, IsPutAll, IsPutOf, kind_of, records_stay, stays}
 use Rattle.ksi_forgetting.proofs.Leaving.{left_then}
-use Rattle.ksi_forgetting.proofs.Telling.{FactAt, as_many, fact_at, fact_ends, last_event}
+use Rattle.ksi_forgetting.proofs.Telling.{fact_at, fact_ends, last_event}
 
 module _ (plan : PlanState) (me : ℕ) where
   -- CUT BY CUT: a closing, or a response, of a round that is forgotten or not

@@ -2,9 +2,7 @@
 use Rattle.std.specs.Prelude.{◌≡◌, ℕ, List, length, Result, Ok, Err}
 use Rattle.ksi_schedule.specs.Plans.{PlanState}
 use Rattle.ksi_aggregator.specs.declared.fact.Fact.{Fact}
-use Rattle.ksi_gates.specs.declared.refusal.ReadRefusal.{ReadRefusal}
 use Rattle.ksi_roundstore.specs.Opens.{IsRefused}
-use Rattle.ksi_roundstore.specs.Refusals.{as_refusal}
 use Rattle.ksi_roundstore.specs.Stores.{IsFileOf}
 use Rattle.ksi_forgetting.specs.declared.refusal.ForgetRefusal.{ForgetRefusal}
 use Rattle.ksi_forgetting.specs.declared.refusal.ForgetRefusal.TheVariants.{Old, New}

@@ -1,5 +1,5 @@
 -- ---- in the code: what is told of a record by its last line
-use Rattle.std.specs.Prelude.{◌≡◌, ◌⊎◌, ◌<◌, ◌^◌, ◌≤◌, ◌&&◌, ◌==◌, ℕ, Bool, false, if◌then◌else◌, List, [], ◌∷◌, ◌++◌, length, take, All}
+use Rattle.std.specs.Prelude.{◌≡◌, ◌⊎◌, ◌<◌, ◌^◌, ◌≤◌, ◌==◌, ℕ, Bool, false, if◌then◌else◌, List, [], ◌∷◌, ◌++◌, length, take, All}
 use Rattle.ksi_schedule.specs.Plans.{PlanState}
 use Rattle.ksi_aggregator.specs.declared.event.RoundEvent.{RoundEvent}
 use Rattle.ksi_aggregator.specs.declared.event.RoundEvent.TheVariants as events

@@ -15,12 +15,7 @@ use ksi_wire::{AggregatorLine, aggregator_line};
 use std::alloc::Global;
 
 /// Which fact the record of this content has.
-pub(crate) fn kind_of(
-    alloc: Global,
-    plan: &Plan,
-    me: u32,
-    content: &[u8],
-) -> Result<Kind, NoMemory>
+pub(crate) fn kind_of(alloc: Global, plan: &Plan, me: u32, content: &[u8]) -> Result<Kind, NoMemory>
     ensures { IfOk result (λ kind. (fact : Fact) → IsTextOf plan.now me fact content.now → kind ≡ kind_of fact) }
 {
     let tail = last_line(content);

@@ -31,7 +31,15 @@ pub(crate) fn put_all(
 {
     let mut count = 0;
     'putting: for k in 0..records.len() {
-        let more = put_left(alloc, plan, me, before, answered, records[k].as_slice(), text)?;
+        let more = put_left(
+            alloc,
+            plan,
+            me,
+            before,
+            answered,
+            records[k].as_slice(),
+            text,
+        )?;
         count += more;
     }
     Ok(count)

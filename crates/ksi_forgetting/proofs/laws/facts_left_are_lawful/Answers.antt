@@ -1,4 +1,3 @@
-use Rattle.ksi_aggregator.specs.Rounds.{rounds_of}
 use Rattle.ksi_roundfacts.specs.Lawful.{stored_by}
 use Rattle.ksi_forgetting.specs.Left.{is_forgotten}
 use Rattle.ksi_forgetting.proofs.Leaving.{left_facts}
