@@ -1,0 +1,4 @@
+pub mod Left
+pub mod Forgotten
+pub mod Kinds
+pub mod Forgets
