@@ -1,7 +1,7 @@
 ghost use Rattle.std.specs.Prelude.{◌≡◌, ◌<◌, List, length, OnOk};
 ghost use Rattle.ksi_disk.specs.Images.{AddsNone, LeavesOnly, Only};
-ghost use Rattle.ksi_disk.specs.Costs.{DiskCounts};
 ghost use Rattle.ksi_aggregator.specs.declared.fact.Fact.{Fact};
+ghost use Rattle.ksi_gates.specs.Reads.{WroteNothing};
 ghost use Rattle.ksi_roundstore.specs.Stores.{IsFileOf};
 ghost use Rattle.ksi_forgetting.specs.Forgets.{ForgetsAs, disk_after};
 
@@ -57,8 +57,7 @@ fn rewrite<D: Disk, E: Disk>(
     ensures forgets { ForgetsAs me plan.now before (D.content disk) (E.content fresh.new) result }
     ensures durable { OnOk result (Only (E.content fresh.new) (E.images fresh.new)) }
     ensures stays { OnOk result (D.content (disk_after result) ≡ D.content disk) }
-    ensures no_image { AddsNone (D.images disk) (D.images (disk_after result)) }
-    ensures any_moment { LeavesOnly D.moment D.images_since disk (disk_after result) (D.images disk) }
+    ensures nothing { WroteNothing D.images D.moment D.images_since D.meter disk (disk_after result) }
 {
     let mut disk = disk;
     match read_left(alloc, me, plan, before, &mut disk) {
