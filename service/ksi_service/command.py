@@ -14,6 +14,7 @@ import urllib.request
 
 from . import check as checking
 from . import backup as backing
+from . import forget as forgetting
 from . import replay as replaying
 from . import extension, files, service, streams
 from .calendar import Calendar
@@ -224,6 +225,21 @@ def backup(words):
     held.close()
 
 
+def forget(words):
+    """Lets the aggregators of a service that is stopped forget rounds whose signatures were handed out."""
+    if not os.path.exists(os.path.join(words.folder, "plan")):
+        raise Failed(f"{words.folder} has no plan: it was no service's")
+    with files.lock(words.folder):
+        forgetting.forget(words.folder, words.before)
+
+
+def natural(text):
+    number = int(text)
+    if number < 0:
+        raise ValueError(text)
+    return number
+
+
 def positive(text):
     number = int(text)
     if number < 1:
@@ -284,6 +300,8 @@ def parser_of():
     one = add(commands, "check", check, "hold the record of a stopped service against the proved world", "folder")
     one.add_argument("--samples", type=positive, default=50, metavar="NUMBER", help="how many signatures are extended, verified and audited: 50")
     one.add_argument("--replay", metavar="OUT", help="replay the run by ksi too, whose schedule and journal are saved in the folder OUT")
+    one = add(commands, "forget", forget, "let the aggregators of a stopped service forget rounds whose signatures were handed out", "folder")
+    one.add_argument("--before", type=natural, default=3600, metavar="SECONDS", help="how many seconds ago a round has to be: 3600")
     add(commands, "backup", backup, "save what the cores of a stopped service hold", "folder", "out")
     return parser
 

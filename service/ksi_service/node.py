@@ -129,7 +129,7 @@ class Node:
             raise LostFacts(f"{self.name} began with {block}")
         found, state = int(block[0].split(" ")[1]), self.record.node(self.name)
         known, unsaid = state.facts or 0, 0
-        if found != known:
+        if not state.may_have(found):
             storing = [at for at, (line, _) in enumerate(state.unanswered) if word(line) in MAY_STORE]
             if found != known + 1 or not storing:
                 raise LostFacts(f"{self.name} acknowledged {known} facts and found {found}")

@@ -8,6 +8,7 @@ It is a folder of files, cut from time to time, each but the last compressed. On
     ["ready", NODE, RECORDS, UNSAID]   the node's process was started and found so many facts; of the lines that it had not
                                        answered the first UNSAID happened before it ended, and the others did not
     ["signed", STEP, TEXT]             the signature, in hex, that was handed out for the request of this step
+    ["forgot", NODE, FOUND, LEFT]      the stopped node's file of so many facts is to be the one of those that are left (forget.py)
     ["begins", STATE]                  the first line of a file: what `State` has at this place
 
 Where the nodes are on other machines, their own logs are put together to a record of these entries (remote.py):
@@ -60,6 +61,12 @@ class NodeState:
     facts: Optional[int] = None
     """How many facts it acknowledged; none before its first start."""
     unanswered: Deque[Tuple[str, Optional[list]]] = field(default_factory=deque)
+    before: Optional[int] = None
+    """How many facts its file has if it is still the one from before a forgetting; none once the node was started behind it."""
+
+    def may_have(self, found):
+        """Whether its file may have so many facts, if no line happened whose answer never came."""
+        return found in (self.facts or 0, self.before)
 
 
 @dataclass
@@ -119,8 +126,15 @@ class State:
         node.unanswered.clear()
         if node.facts is not None:
             told.append(Step(name, None, None, None))
-        node.facts = facts
+        node.facts, node.before = facts, None
         return told
+
+    def take_forgot(self, name, found, left):
+        """The file had what was acknowledged: so none of the lines happened whose answers never came."""
+        node = self.node(name)
+        node.facts, node.before = left, found
+        node.unanswered.clear()
+        return []
 
     def take_signed(self, step, text):
         return [Signed(step, text)]
@@ -152,12 +166,12 @@ class State:
 
     def take_begins(self, state):
         self.steps, self.second, self.seen, self.sent = state["steps"], state["second"], state["seen"], state["sent"]
-        self.nodes = {name: NodeState(facts, deque((line, message) for line, message in lines)) for name, facts, lines in state["nodes"]}
+        self.nodes = {name: NodeState(facts, deque((line, message) for line, message in lines), *before) for name, facts, lines, *before in state["nodes"]}
         return []
 
     def begins(self):
         """The entry from which `take` makes this state."""
-        nodes = [[name, node.facts, list(node.unanswered)] for name, node in self.nodes.items()]
+        nodes = [[name, node.facts, list(node.unanswered), node.before] for name, node in self.nodes.items()]
         return ["begins", {"steps": self.steps, "second": self.second, "nodes": nodes, "seen": self.seen, "sent": self.sent}]
 
 

@@ -264,6 +264,8 @@ async def run(folder, cores=None, aggregators=None, address=("127.0.0.1", 8080),
     os.makedirs(folder, exist_ok=True)
     held = files.lock(folder)
     files.remove(os.path.join(folder, "door"))
+    # the name that a killed `forget` gave a file, before a node adds to that
+    files.sync_folder(folder)
     service = Service(folder, plan_of(folder, cores, aggregators), **options)
     told = asyncio.Event()
     for number in (signal.SIGINT, signal.SIGTERM):
