@@ -50,6 +50,9 @@ def door(folder):
 def ask(folder, path, content=None, kind="text/plain"):
     """What the door answers."""
     address, _ = door(folder)
+    if not files.is_held(folder):
+        # whoever listens at that address now is another one
+        raise Failed(f"no service runs over {folder}, and the last one was not stopped: ksi-service start {folder}")
     request = urllib.request.Request(f"http://{address}{path}", data=content, headers={"Content-Type": kind})
     try:
         with urllib.request.urlopen(request, timeout=90) as answer:
