@@ -1,23 +1,24 @@
 // The command `audit`.
 ghost use Rattle.std.specs.Prelude.{◌≡◌, IfOk};
 ghost use Rattle.ksi_imprint.specs.Imprints.{imprint_of};
+ghost use Rattle.ksi_publications.specs.Lent.{lent_pairs};
 ghost use Rattle.ksi_signature.specs.Seen.{seen};
 ghost use Rattle.ksi_auditor.specs.Audit as audits;
 ghost use Rattle.ksi_auditor.specs.Shown.{IsShort};
 ghost use Rattle.ksi_top.specs.Promised.{Performed};
 ghost use Rattle.ksi_top.specs.Audit.{IsAnswered, audit_beside, audit_command, audit_over, audit_status, audited};
 
-use crate::loading::{SIGNATURE_LIMIT, load_file, load_journal, load_publications};
-use crate::reading::view_signature;
+use crate::loading::{FILE_LIMIT, SIGNATURE_LIMIT, load_file, load_journal};
+use crate::reading::{view_publications, view_signature};
 use crate::report::{Halt, Report, ended};
 use crate::status::Status;
 use ksi_auditor::laws::decided_tells;
-use ksi_auditor::{Audit, audit_view};
+use ksi_auditor::{Audit, audit_lent};
 use ksi_imprint::{Imprint, NoMemory, Sha};
 use ksi_journal::Journal;
 use ksi_lines::audit_line;
 use ksi_ports::Files;
-use ksi_publications::Publications;
+use ksi_publications::PublicationsView;
 use ksi_signature::SignatureView;
 use std::alloc::Global;
 
@@ -52,7 +53,7 @@ fn audit_beside<F: Files>(
     audit_over(alloc, files, journal, &signature, hash, publications)
 }
 
-/// Loads the publications, and audits.
+/// Loads the publications, and audits. They are read where their bytes lie.
 fn audit_over<F: Files>(
     alloc: Global,
     files: &mut F,
@@ -63,7 +64,8 @@ fn audit_over<F: Files>(
 ) -> Result<Report, Halt>
     ensures { Performed F.Files (audit_over journal.now (seen signature.now) hash.now publications.now) files.old files.new result }
 {
-    let publications = load_publications(alloc, files, 4, publications)?;
+    let bytes = load_file(alloc, files, FILE_LIMIT, 4, publications)?;
+    let publications = view_publications(4, bytes.as_slice())?;
     ended(answer(alloc, journal, signature, hash, &publications))
 }
 
@@ -72,14 +74,20 @@ fn answer(
     journal: &Journal<Sha>,
     signature: &SignatureView<'_>,
     hash: &Imprint,
-    publications: &Publications,
+    publications: &PublicationsView<'_>,
 ) -> Result<Report, NoMemory>
-    ensures answer { IfOk result (λ report. report ≡ audited (audits.audit imprint_of journal.now (seen signature.now) hash.now publications.now)) }
-    ensures answered { IfOk result (IsAnswered journal.now (seen signature.now) hash.now publications.now) }
+    ensures answer { IfOk result (λ report. report ≡ audited (audits.audit imprint_of journal.now (seen signature.now) hash.now (lent_pairs publications.now))) }
+    ensures answered { IfOk result (IsAnswered journal.now (seen signature.now) hash.now (lent_pairs publications.now)) }
 {
     decided_tells();
     let _start = journal.start();
-    let audit = audit_view::<Sha>(alloc, journal, signature, hash, publications)?;
+    let audit = audit_lent::<Sha, PublicationsView<'_>>(
+        alloc,
+        journal,
+        signature,
+        hash,
+        publications,
+    )?;
     audited(alloc, &audit)
 }
 

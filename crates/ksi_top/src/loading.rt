@@ -6,15 +6,12 @@ ghost use Rattle.ksi_journal.specs.File.{IsJournalFile};
 ghost use Rattle.ksi_logblock.specs.File.{IsProofFile};
 ghost use Rattle.ksi_mirror.specs.File.{IsMirrorFile};
 ghost use Rattle.ksi_nodestore.specs.Inspecting.{IsInspected};
-ghost use Rattle.ksi_publications.specs.File.{IsPublications};
 ghost use Rattle.ksi_schedule.specs.Spelled.{IsScheduleText};
 ghost use Rattle.ksi_tlv.specs.Spelling.{AreBytes};
-ghost use Rattle.ksi_top.specs.Loading.{content, loaded, loaded_front, loaded_journal, loaded_proof, loaded_publications, loaded_schedule, loaded_mirror, loaded_node, file_limit};
+ghost use Rattle.ksi_top.specs.Loading.{content, loaded, loaded_front, loaded_journal, loaded_proof, loaded_schedule, loaded_mirror, loaded_node, file_limit};
 ghost use Rattle.ksi_top.specs.Promised.{IsLoaded};
 
-use crate::reading::{
-    read_front, read_journal, read_mirror, read_node, read_proof, read_publications, read_schedule,
-};
+use crate::reading::{read_front, read_journal, read_mirror, read_node, read_proof, read_schedule};
 use crate::report::{Halt, Report};
 use crate::status::Status;
 use ksi_consistency::Front;
@@ -27,7 +24,6 @@ use ksi_logblock::LineProof;
 use ksi_mirror::Mirror;
 use ksi_nodestore::Inspected;
 use ksi_ports::{Files, LoadRefusal};
-use ksi_publications::Publications;
 use ksi_schedule::Schedule;
 use std::alloc::Global;
 
@@ -36,20 +32,6 @@ pub(crate) const SIGNATURE_LIMIT: usize = 65_539;
 
 /// The most bytes that any other file may have, but that of a line.
 pub(crate) const FILE_LIMIT: usize = 67_108_864;
-
-/// The publications file that file word `n` is.
-pub(crate) fn load_publications<F: Files>(
-    alloc: Global,
-    files: &mut F,
-    n: usize,
-    name: &str,
-) -> Result<Publications, Halt>
-    ensures loaded { IsLoaded F.Files n file_limit (loaded_publications n (F.held files.old) name.now) files.old files.new result }
-    ensures is { IsTrue F.tells → IfOk result (IsPublications (content (F.held files.old) name.now)) }
-{
-    let bytes = load_file(alloc, files, FILE_LIMIT, n, name)?;
-    read_publications(alloc, n, bytes.as_slice())
-}
 
 /// The journal that file word `n` is.
 pub(crate) fn load_journal<F: Files>(

@@ -30,8 +30,8 @@ use ksi_logblock::laws::proof_is_read;
 use ksi_mirror::Mirror;
 use ksi_mirror::laws::mirror_is_read;
 use ksi_nodestore::Inspected;
+use ksi_publications::PublicationsView;
 use ksi_publications::laws::publications_are_read;
-use ksi_publications::{Publications, PublicationsView};
 use ksi_schedule::Schedule;
 use ksi_schedule::laws::schedule_is_read;
 use ksi_signature::laws::signature_is_read;
@@ -68,23 +68,6 @@ pub(crate) fn view_publications(n: usize, bytes: &[u8]) -> Result<PublicationsVi
             let line = publications_fault_line(n, fault);
             Err(Halt::Reported(Report::new(Status::Malformed, line)))
         }
-    }
-}
-
-/// The publications file that file word `n` is, or that it is none.
-pub(crate) fn read_publications(alloc: Global, n: usize, bytes: &[u8]) -> Result<Publications, Halt>
-    ensures told { Gives (publications_or_malformed n bytes.now) result }
-    ensures is { IfOk result (IsPublications bytes.now) }
-    ensures halts { HaltsMalformed result }
-{
-    publications_are_read();
-    match ksi_publications::read(alloc, bytes) {
-        Ok(publications) => Ok(publications),
-        Err(Refused::Fault(fault)) => {
-            let line = publications_fault_line(n, fault);
-            Err(Halt::Reported(Report::new(Status::Malformed, line)))
-        }
-        Err(Refused::NoMemory) => Err(Halt::NoMemory),
     }
 }
 
