@@ -87,4 +87,4 @@ module _ (image : List ℕ → List ℕ) (plan : PlanState) where
           let stored : is_some step.fact ≡ is_some (of_round.round_row image event (it.rounds t)).fact =
           ap (λ (fact : Option _). is_some fact) of_rounds.fact ∙ some_mapped _ (of_round.round_row image event (it.rounds t)).fact in
           λ k. step_text (of_rounds.answer k) (stored k)
-              ((ap (λ (sends : List round_send.Send). map (round_send_words plan i t) sends) of_rounds.sends ∙ round_sent plan i t (of_round.round_row image event (it.rounds t)).sends) k)
+          ((ap (λ (sends : List round_send.Send). map (round_send_words plan i t) sends) of_rounds.sends ∙ round_sent plan i t (of_round.round_row image event (it.rounds t)).sends) k)

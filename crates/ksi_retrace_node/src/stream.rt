@@ -7,9 +7,9 @@ ghost use Rattle.ksi_retrace_node.specs.Steps.{IsAt, IsThere};
 ghost use Rattle.ksi_retrace_node.specs.Verdicts.{DoesAgree, HasVerdict, IsLog};
 
 use crate::entry::{Next, next_entry};
+use crate::fault::LogFault;
 use crate::node::{Held, Node};
 use crate::verdict::Verdict;
-use crate::fault::LogFault;
 use ksi_blocks::{Place, put_node};
 use ksi_imprint::Compress;
 use ksi_schedule::{Actor, Plan};
@@ -53,7 +53,9 @@ fn verdict_on<C: Compress, S: BufRead>(
     put_node(&mut word, me)?;
     let mut line = Vec::new(alloc);
     let mut block = Vec::new(alloc);
-    entry_by_entry(alloc, plan, me, &word, &mut node, log, &mut line, &mut block)
+    entry_by_entry(
+        alloc, plan, me, &word, &mut node, log, &mut line, &mut block,
+    )
 }
 
 /// The verdict, by a node before anything came, whose word is `word`. `line` and `block` are room for an entry.
