@@ -5,7 +5,7 @@ import random
 import tempfile
 from typing import NamedTuple
 
-from . import backup, extension
+from . import apart, backup, extension
 from .calendar import Calendar
 from .elements import parts_of
 from .plan import Plan
@@ -24,7 +24,7 @@ class Counts(NamedTuple):
     unsaid: int
     """How many of the steps were stored and never said."""
     signatures: int
-    """How many signatures that were handed out are byte for byte the world's."""
+    """How many signatures that were handed out are byte for byte the world's; none is compared where logs are held one by one."""
     facts: int
     """How many facts nodes acknowledged and did not forget; all are in their files."""
     publications: int
@@ -58,11 +58,22 @@ def look(record, samples):
     return published, [bytes.fromhex(text) for text in chosen], last
 
 
-def check(folder, samples=50, say=print, audits=None):
+def compare(folder, say, by_node):
+    """Compares the blocks: with the world's, or each node's with that node's own."""
+    plan, record = os.path.join(folder, "plan"), os.path.join(folder, "record")
+    if by_node:
+        steps, unsaid, lines = apart.hold_all(plan, record)
+        say(f"ksi_retrace_node agrees: the blocks of {many(steps, 'step')} ({unsaid} of them never came) are the proved nodes'; {many(lines, 'line')} from nodes had been said before")
+        return steps, unsaid, 0
+    steps, unsaid, signatures = retrace(plan, record)
+    say(f"ksi_retrace agrees: the blocks of {many(steps, 'step')} ({unsaid} of them never came) and {many(signatures, 'signature')} are the proved world's")
+    return steps, unsaid, signatures
+
+
+def check(folder, samples=50, say=print, audits=None, by_node=False):
     """Raises Differs where the run is not that of its record; says and returns what was compared. So many signatures are extended, and
     of these so many audited, or all."""
-    steps, unsaid, signatures = retrace(os.path.join(folder, "plan"), os.path.join(folder, "record"))
-    say(f"ksi_retrace agrees: the blocks of {many(steps, 'step')} ({unsaid} of them never came) and {many(signatures, 'signature')} are the proved world's")
+    steps, unsaid, signatures = compare(folder, say, by_node)
     facts = facts_there(folder)
     say(f"all of {many(facts, 'fact')} that nodes acknowledged and did not forget are in their files")
     published, chosen, last = look(os.path.join(folder, "record"), samples)

@@ -215,7 +215,7 @@ def verify(words):
 def check(words):
     """Holds the record of a service that is stopped against the proved world."""
     held = files.lock(words.folder)
-    checking.check(words.folder, words.samples)
+    checking.check(words.folder, words.samples, by_node=words.by_node)
     if words.replay:
         replaying.replay(words.folder, words.replay, words.samples)
     held.close()
@@ -302,6 +302,7 @@ def parser_of():
     one.add_argument("publications", nargs="?", default="publications")
     one = add(commands, "check", check, "hold the record of a stopped service against the proved world", "folder")
     one.add_argument("--samples", type=positive, default=50, metavar="NUMBER", help="how many signatures are extended, verified and audited: 50")
+    one.add_argument("--by-node", action="store_true", help="hold the log of each node against that node alone, in the memory of one node")
     one.add_argument("--replay", metavar="OUT", help="replay the run by ksi too, whose schedule and journal are saved in the folder OUT")
     one = add(commands, "forget", forget, "let the aggregators of a stopped service forget rounds whose signatures were handed out", "folder")
     one.add_argument("--before", type=natural, default=3600, metavar="SECONDS", help="how many seconds ago a round has to be: 3600")

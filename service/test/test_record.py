@@ -8,7 +8,7 @@ import tempfile
 import unittest
 from unittest import mock
 
-from ksi_service import replay, retrace
+from ksi_service import apart, replay, retrace
 from ksi_service.plan import Plan
 from ksi_service.record import Broken, Record, Signed, State, Step, names, told
 from ksi_service.replay import schedule_of
@@ -135,11 +135,12 @@ class RecordTest(unittest.TestCase):
                          [("request 9 5 " + "0" * 64, None), ("close 5", None), (None, None)])
 
     def run_of_two(self):
-        self.write(["ready", "a0", 0, 0], ["ready", "c0", 0, 0], ["given", "a0", f"request 77 5 {ONES}", None],
+        self.entries = [["ready", "a0", 0, 0], ["ready", "c0", 0, 0], ["given", "a0", f"request 77 5 {ONES}", None],
                    ["said", "a0", ["answer number 77"]], ["given", "a0", "close 5", None],
                    ["said", "a0", ["answer done", "stored", f"send c0 submission 0 5 {ONES} 0"]],
                    ["given", "c0", f"submission 0 5 {ONES} 0", [1, 0]], ["given", "c0", "seal 4", None], ["said", "c0", ["answer done"]],
-                   ["said", "c0", ["refused second"]], ["signed", 0, "abcd"], ["given", "c0", "seal 5", None], ["ready", "c0", 1, 1])
+                   ["said", "c0", ["refused second"]], ["signed", 0, "abcd"], ["given", "c0", "seal 5", None], ["ready", "c0", 1, 1]]
+        self.write(*self.entries)
         with open(os.path.join(self.room.name, "plan"), "w", encoding="ascii") as file:
             file.write(Plan(1, 5, ("c0",)).text())
 
@@ -200,6 +201,52 @@ restart c0
                     self.assertRaises(retrace.Differs, retrace.retrace, "plan", self.folder)
         with open(os.path.join(self.room.name, "entries"), encoding="ascii") as file:
             self.assertEqual(file.read(), "".join(retrace.entries(self.folder)))
+
+    def test_the_log_of_each_node(self):
+        self.run_of_two()
+        logs = {name: "".join(apart.entry_of(it) for it in apart.steps_of(self.folder) if it.node == name) for name in ("c0", "a0")}
+        self.assertEqual(logs, {"c0": f"""\
+c0 submission 0 5 {ONES} 0
+answer done
+.
+unsaid c0 seal 5
+restart c0
+""", "a0": f"""\
+a0 request 77 5 {ONES}
+answer number 77
+.
+a0 close 5
+answer done
+stored
+send c0 submission 0 5 {ONES} 0
+.
+"""})
+
+    def test_logs_are_joined(self):
+        self.run_of_two()
+        self.assertEqual(apart.join(self.folder), (5, 1, 1))
+        line = f"submission 0 5 {ONES} 0"
+        for more in (["given", "c0", line, [0, 0]], ["given", "c0", line, [1, 1]], ["given", "c0", line, [5, 0]], ["given", "c1", line, [1, 0]],
+                     ["given", "c0", line + " x", [1, 0]], ["given", "c0", line, None], ["given", "a0", f"request 77 6 {ONES}", None]):
+            self.write(*self.entries, more, ["said", more[1], ["answer done"]])
+            self.assertRaises(retrace.Differs, apart.join, self.folder)
+        again = ["given", "c0", line, [1, 0]]
+        self.write(*self.entries, again, ["said", "c0", ["answer known"]])
+        self.assertEqual(apart.join(self.folder), (6, 1, 2))
+
+    def test_what_ksi_retrace_node_says_is_taken(self):
+        self.run_of_two()
+        plan, path = os.path.join(self.room.name, "plan"), os.path.join(self.room.name, "ksi_retrace_node")
+        counted = 'n=$(grep -cE "^(unsaid |restart )?$2( |$)"); echo agrees $n'
+        for text, counts in ((counted, (5, 1, 1)), (counted.replace("$n", "${n}1"), None), ("cat > /dev/null; echo agrees", None), ("cat > /dev/null; echo differs 2 9; exit 1", None), ("exit 7", None)):
+            with open(path, "w", encoding="ascii") as file:
+                file.write(f"#!/bin/sh\n{text}\n")
+            os.chmod(path, stat.S_IRWXU)
+            with mock.patch.dict(os.environ, KSI_BIN=self.room.name):
+                if counts:
+                    self.assertEqual(apart.hold_all(plan, self.folder), counts)
+                else:
+                    self.assertRaises(retrace.Differs, apart.hold_all, plan, self.folder)
 
     def test_a_state_is_made_again_of_its_entry(self):
         state = State()

@@ -97,6 +97,22 @@ module _ (image : List ℕ → List ℕ) (plan : PlanState) where
   abbrev pub AggregatorsAgree : (ℕ → ℕ → RoundState) → List Deed → Type 0
   AggregatorsAgree rounds deeds = (k : ℕ) → AggregatorAgrees k (rounds k) deeds
 
+-- ---- the log of one node among those of all
+
+abbrev pub log_of_core : (j : ℕ) → List Deed → List Deed
+log_of_core j [] = []
+log_of_core j (AtCore i event said ∷ deeds) = if j == i then AtCore i event said ∷ log_of_core j deeds else log_of_core j deeds
+log_of_core j (AtAggregator k event said ∷ deeds) = log_of_core j deeds
+log_of_core j (CoreStarts i ∷ deeds) = if j == i then CoreStarts i ∷ log_of_core j deeds else log_of_core j deeds
+log_of_core j (AggregatorStarts k ∷ deeds) = log_of_core j deeds
+
+abbrev pub log_of_aggregator : (k : ℕ) → List Deed → List Deed
+log_of_aggregator k [] = []
+log_of_aggregator k (AtCore j event said ∷ deeds) = log_of_aggregator k deeds
+log_of_aggregator k (AtAggregator i event said ∷ deeds) = if k == i then AtAggregator i event said ∷ log_of_aggregator k deeds else log_of_aggregator k deeds
+log_of_aggregator k (CoreStarts j ∷ deeds) = log_of_aggregator k deeds
+log_of_aggregator k (AggregatorStarts i ∷ deeds) = if k == i then AggregatorStarts i ∷ log_of_aggregator k deeds else log_of_aggregator k deeds
+
 -- ---- what was given to a node: a message that was said before, or what a host of the plan may ask
 
 abbrev pub WasSaid : List Message → Message → Type 0

@@ -1,4 +1,4 @@
-//! What logs of nodes show together. This function does nothing.
+//! What logs of nodes show together. These functions do nothing.
 ghost use Rattle.std.specs.Prelude.{◌≡◌, ℕ, List, length};
 ghost use Rattle.ksi_corenode.specs.declared.event.CoreEvent.{CoreEvent};
 ghost use Rattle.ksi_corenode.specs.CoreState.{CoreState, state_of};
@@ -9,7 +9,8 @@ ghost use Rattle.ksi_schedule.specs.declared.event.Event.{Event};
 ghost use Rattle.ksi_schedule.specs.Plans.{PlanState, core_plan_of};
 ghost use Rattle.ksi_schedule.specs.Events.{AreEvents};
 ghost use Rattle.ksi_world.specs.Histories.{WorldState};
-ghost use Rattle.ksi_apart.specs.Logs.{Deed, AreGiven, AggregatorsAgree, AreOutcomes, CoresAgree, core_turn, renamed};
+ghost use Rattle.ksi_corenode.specs.SecondState.{SecondState};
+ghost use Rattle.ksi_apart.specs.Logs.{Deed, AggregatorAgrees, AggregatorsAgree, AreGiven, AreOutcomes, CoreAgrees, CoresAgree, core_turn, log_of_aggregator, log_of_core, renamed};
 
 use ksi_roundfacts::laws::numbers_are_names;
 
@@ -32,4 +33,14 @@ pub fn logs_are_one_history()
         core_row image it event ≡ core_turn image plan it.me (state_of it) event }
 {
     numbers_are_names();
+}
+
+/// Entries of all nodes in one order agree with the rows of each node alone, where the log of each node does by itself. So logs
+/// that were held one by one may be put together in any order of theirs.
+pub fn logs_are_put_together()
+    ensures cores { (image : List ℕ → List ℕ) (plan : PlanState) (seconds : ℕ → ℕ → SecondState) (deeds : List Deed) →
+        ((j : ℕ) → CoreAgrees image plan j (seconds j) (log_of_core j deeds)) → CoresAgree image plan seconds deeds }
+    ensures aggregators { (image : List ℕ → List ℕ) (plan : PlanState) (rounds : ℕ → ℕ → RoundState) (deeds : List Deed) →
+        ((k : ℕ) → AggregatorAgrees image plan k (rounds k) (log_of_aggregator k deeds)) → AggregatorsAgree image plan rounds deeds }
+{
 }

@@ -7,6 +7,5 @@ pub mod ReportLemmas
 pub mod SaidLemmas
 pub mod StandingLemmas
 pub mod SumLemmas
-pub mod TextLemmas
 pub mod VerdictLemmas
 pub mod WireLemmas

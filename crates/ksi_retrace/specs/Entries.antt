@@ -1,8 +1,8 @@
 -- The record of a run: entries, each a line, and the block that the node wrote for it.
-use Rattle.std.specs.Prelude.{◌≡◌, ◌≢◌, ◌<◌, ◌^◌, ℕ, List, [], ◌∷◌, ◌++◌, codes, All}
-use Rattle.std.specs.List.{AllByRecursion}
+use Rattle.std.specs.Prelude.{◌≡◌, ◌<◌, ◌^◌, ℕ, List, [], ◌∷◌, ◌++◌, codes}
 use Rattle.std.specs.Fmt.{decimal}
 use Rattle.ksi_schedule.specs.Pieces.{Text}
+use Rattle.ksi_blocks.specs.Blocks.{IsBlock}
 use Rattle.ksi_schedule.specs.Printed.{actor_word, line_of}
 use Rattle.ksi_schedule.specs.Plans.{PlanState}
 use Rattle.ksi_schedule.specs.Events.{IsEvent}
@@ -42,29 +42,6 @@ head_words (heads.Said it) = given_words it
 head_words (heads.Unsaid it) = codes "unsaid" ∷ given_words it
 head_words (heads.Restarted actor) = codes "restart" ∷ actor_word actor ∷ []
 head_words (heads.Sign step) = codes "sign" ∷ decimal step ∷ []
-
--- ---- blocks
-
--- it has no line feed
-abbrev pub IsLine : Text → Type 0
-IsLine line = All (λ b. b ≢ 10) line
-
--- a line other than a full stop
-abbrev pub IsInner : Text → Type 0
-IsInner line = IsLine line × (line ≢ codes ".")
-
--- a line feed behind each line
-abbrev pub lines_text : List Text → Text
-lines_text [] = []
-lines_text (line ∷ lines) = line ++ 10 ∷ lines_text lines
-
--- lines, of which the last alone is a full stop
-abbrev pub IsBlock : Text → Type 0
-IsBlock block = (lines : List Text) × AllByRecursion IsInner lines × (block ≡ lines_text lines ++ codes ".\n")
-
--- the same that is cut off: no line is a full stop, and the last has no line feed
-abbrev pub IsCutBlock : Text → Type 0
-IsCutBlock text = (lines : List Text) × (last : Text) × AllByRecursion IsInner lines × IsLine last × (text ≡ lines_text lines ++ last)
 
 -- ---- entries
 

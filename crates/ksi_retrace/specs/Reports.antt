@@ -7,7 +7,7 @@ use Rattle.ksi_wire.specs.Refused.{fault_word}
 use Rattle.ksi_retrace.specs.declared.fault.RecordFault.{RecordFault}
 use Rattle.ksi_retrace.specs.declared.fault.RecordFault.TheVariants as faults
 use Rattle.ksi_retrace.specs.declared.verdict.Counts.{Counts}
-use Rattle.ksi_retrace.specs.declared.verdict.Place.{Place}
+use Rattle.ksi_blocks.specs.Blocks.{place_words}
 use Rattle.ksi_retrace.specs.declared.verdict.Retraced.{Retraced}
 use Rattle.ksi_retrace.specs.declared.verdict.Retraced.TheVariants as retraced
 
@@ -17,9 +17,6 @@ record_word (faults.Line fault) = fault_word fault
 record_word faults.Message = codes "message"
 record_word faults.Request = codes "request"
 record_word faults.Cut = codes "cut"
-
-abbrev pub place_words : Place → List Text
-place_words place = decimal place.entry ∷ decimal place.line ∷ []
 
 abbrev pub counts_words : Counts → List Text
 counts_words counts = codes "agrees" ∷ decimal counts.steps ∷ codes "unsaid" ∷ decimal counts.unsaid ∷ codes "signatures" ∷ decimal counts.signatures ∷ []

@@ -1,5 +1,5 @@
 -- What the code says of its steps: of what it reads, and of what it holds against the world.
-use Rattle.std.specs.Prelude.{◌≡◌, ◌≢◌, ◌<◌, ℕ, ◌-◌, List, [], ◌∷◌, ◌++◌, Bool, true, false, codes, length, slice_index, Option, Some, None, IfSome}
+use Rattle.std.specs.Prelude.{◌≡◌, ℕ, List, [], Bool, true, false, Option, Some, None, IfSome}
 use Rattle.std.specs.Io.KnownBytes.{Appends, Consumes}
 use Rattle.ksi_imprint.specs.declared.refused.Refused.{Refused}
 use Rattle.ksi_imprint.specs.declared.refused.Refused.TheVariants as refusals
@@ -9,37 +9,20 @@ use Rattle.ksi_schedule.specs.declared.event.Event.{Event}
 use Rattle.ksi_retrace.specs.declared.fault.RecordFault.{RecordFault}
 use Rattle.ksi_retrace.specs.declared.head.Head.{Head}
 use Rattle.ksi_retrace.specs.declared.head.Head.TheVariants as heads
-use Rattle.ksi_retrace.specs.declared.entry.Came.{Came}
-use Rattle.ksi_retrace.specs.declared.entry.Came.TheVariants as comes
-use Rattle.ksi_retrace.specs.declared.entry.LastLine.{LastLine}
-use Rattle.ksi_retrace.specs.declared.entry.LastLine.TheVariants as lasts
 use Rattle.ksi_retrace.specs.declared.entry.Next.{Next}
 use Rattle.ksi_retrace.specs.declared.entry.Next.TheVariants as nexts
 use Rattle.ksi_retrace.specs.declared.tracer.Told.{Told}
 use Rattle.ksi_retrace.specs.declared.tracer.Told.TheVariants as tolds
-use Rattle.ksi_retrace.specs.declared.verdict.Place.{Place}
+use Rattle.ksi_blocks.specs.declared.place.Place.{Place}
 use Rattle.ksi_retrace.specs.declared.verdict.Retraced.{Retraced}
 use Rattle.ksi_retrace.specs.declared.verdict.Retraced.TheVariants as retraced
-use Rattle.ksi_retrace.specs.Entries.{IsLine, IsBlock, IsCutBlock, IsHead, HasBlock, WantsBlock}
+use Rattle.ksi_blocks.specs.Blocks.{IsCutBlock}
+use Rattle.ksi_retrace.specs.Entries.{IsHead, HasBlock, WantsBlock}
 use Rattle.ksi_retrace.specs.Told.{unsaid_block, IsTold, IsMissing, MayCome}
 use Rattle.ksi_retrace.specs.Verdicts.{shown_block, is_unsaid, StandsIn, Whole}
 use Rattle.ksi_retrace.specs.Verdicts as verdicts
 
 -- ---- reading
-
-abbrev pub IsLineOf : (old new : Option Text) → (line : Text) → Came → Type 0
-IsLineOf old new line comes.Line = Consumes old new (line ++ 10 ∷ []) × IsLine line
-IsLineOf old new line comes.Cut = IfSome old (λ bytes. (bytes ≢ []) × IsLine bytes)
-IsLineOf old new line comes.End = IfSome old (λ bytes. bytes ≡ [])
-
-abbrev pub IsLastLine : Text → LastLine → Type 0
-IsLastLine line lasts.Stop = line ≡ codes ".\n"
-IsLastLine line lasts.Other = (0 < length line) × (slice_index line (length line - 1) ≡ 10) × (line ≢ codes ".\n")
-IsLastLine line lasts.Cut = 0 < length line → slice_index line (length line - 1) ≢ 10
-
-abbrev pub IsBlockOf : (old new : Option Text) → (block : Text) → Bool → Type 0
-IsBlockOf old new block true = Consumes old new block × IsBlock block
-IsBlockOf old new block false = IfSome old IsCutBlock
 
 abbrev pub IsBlockBehind : Head → (old new : Option Text) → (block : Text) → Bool → Type 0
 IsBlockBehind head old new block true = Consumes old new block × HasBlock head block

@@ -4,7 +4,8 @@ use Rattle.std.specs.Io.Iter.{u64_saturate}
 use Rattle.ksi_retrace.specs.declared.verdict.Counts.{Counts}
 use Rattle.ksi_retrace.specs.declared.sum.Sum.{Sum}
 use Rattle.ksi_retrace.specs.Entries.{Entry}
-use Rattle.ksi_retrace.specs.Verdicts.{place_behind, lines_in, how_many, is_unsaid, is_signature}
+use Rattle.ksi_retrace.specs.Verdicts.{place_behind, how_many, is_unsaid, is_signature}
+use Rattle.ksi_blocks.specs.Blocks.{lines_in}
 
 -- of these entries
 abbrev pub sum_of : List Entry → Sum

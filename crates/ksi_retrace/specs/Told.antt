@@ -1,25 +1,18 @@
 -- What a world says to the entries of a record, each at its place.
 use Rattle.std.specs.Prelude.{◌≡◌, ◌<◌, ◌^◌, ℕ, ◌+◌, All, Bool, false, List, [], ◌∷◌, ◌++◌, codes, drop, take, length, map, Option, Some, None}
-use Rattle.std.specs.Fmt.{decimal}
 use Rattle.hex.specs.Hex.{encode_lower}
 use Rattle.ksi_schedule.specs.Pieces.{Text}
-use Rattle.ksi_schedule.specs.Printed.{actor_word, text_of_lines}
+use Rattle.ksi_schedule.specs.Printed.{text_of_lines}
 use Rattle.ksi_schedule.specs.Plans.{PlanState}
-use Rattle.ksi_schedule.specs.declared.actor.Actor.{Actor}
-use Rattle.ksi_schedule.specs.declared.actor.Actor.TheVariants as actors
 use Rattle.ksi_schedule.specs.declared.event.Event.{Event}
 use Rattle.ksi_schedule.specs.declared.event.Event.TheVariants as events
-use Rattle.ksi_corenode.specs.declared.event.CoreEvent.TheVariants as core_events
 use Rattle.ksi_signature.specs.declared.answer.Answer.{Answer}
 use Rattle.ksi_signature.specs.declared.answer.Answer.TheVariants as answers
-use Rattle.ksi_world.specs.declared.message.Content.{Content}
-use Rattle.ksi_world.specs.declared.message.Content.TheVariants as contents
 use Rattle.ksi_world.specs.declared.message.Message.{Message}
 use Rattle.ksi_world.specs.Histories.{Happening, happens, after}
 use Rattle.ksi_world.specs.Records.{issued_of}
-use Rattle.ksi_wire.specs.Lines.{core_words}
-use Rattle.ksi_wire.specs.Responses.{above_text}
 use Rattle.ksi_wire.specs.Steps.{step_text}
+use Rattle.ksi_apart.specs.Texts.{message_words}
 use Rattle.ksi_retrace.specs.declared.head.Given.{Given}
 use Rattle.ksi_retrace.specs.declared.head.Given.TheVariants as given
 use Rattle.ksi_retrace.specs.declared.head.Head.{Head}
@@ -29,16 +22,6 @@ use Rattle.ksi_retrace.specs.declared.fault.RecordFault.TheVariants as faults
 use Rattle.ksi_retrace.specs.Entries.{Entry, restart_of}
 
 -- ---- blocks
-
--- the line that the addressee takes; one empty word of what nobody sends
-abbrev pub content_words : (sender : Actor) (second : ℕ) → Content → List Text
-content_words (actors.Core j) second (contents.Synod m) = core_words (core_events.Receive j second m)
-content_words (actors.Aggregator k) second (contents.Submission item) = core_words (core_events.Submission k second item)
-content_words sender second (contents.Response above) = codes "response" ∷ decimal second ∷ above_text second above ∷ []
-content_words _ second _ = [] ∷ []
-
-abbrev pub message_words : Message → List Text
-message_words m = codes "send" ∷ actor_word m.addressee ∷ content_words m.sender m.second m.content
 
 -- a request's number is that which it had in the run: the world numbers requests in their order
 abbrev pub answer_as : Given → Answer → Answer

@@ -1,5 +1,5 @@
 -- The verdict on a record: what stands behind the entries that agree with the world of a plan.
-use Rattle.std.specs.Prelude.{◌≡◌, ◌≢◌, ℕ, ◌+◌, ◌==◌, ◌&&◌, List, [], ◌∷◌, ◌++◌, codes, length, Bool, true, false, Err, Ok, count_by, if◌then◌else◌, ◌⊎◌, nat_eq}
+use Rattle.std.specs.Prelude.{◌≡◌, ◌≢◌, ℕ, ◌+◌, ◌&&◌, List, [], ◌∷◌, ◌++◌, codes, length, Bool, true, false, Err, Ok, if◌then◌else◌, ◌⊎◌, nat_eq}
 use Rattle.std.specs.Io.Iter.{u64_saturate}
 use Rattle.std.specs.List.{AllByRecursion, starts_with}
 use Rattle.std.specs.Fmt.{decimal}
@@ -12,12 +12,13 @@ use Rattle.ksi_retrace.specs.declared.fault.RecordFault.{RecordFault}
 use Rattle.ksi_retrace.specs.declared.fault.RecordFault.TheVariants as faults
 use Rattle.ksi_retrace.specs.declared.head.Head.{Head}
 use Rattle.ksi_retrace.specs.declared.head.Head.TheVariants as heads
-use Rattle.ksi_retrace.specs.declared.verdict.Place.{Place}
+use Rattle.ksi_blocks.specs.declared.place.Place.{Place}
 use Rattle.ksi_retrace.specs.declared.verdict.Counts.{Counts}
 use Rattle.ksi_retrace.specs.declared.verdict.Retraced.{Retraced}
 use Rattle.ksi_retrace.specs.declared.verdict.Retraced.TheVariants as retraced
 use Rattle.ksi_retrace.specs.Heads.{head_at}
-use Rattle.ksi_retrace.specs.Entries.{Entry, entry_text, record_text, head_words, IsLine, IsCutBlock, HasBlock, WantsBlock}
+use Rattle.ksi_blocks.specs.Blocks.{lines_in, IsLine, IsCutBlock}
+use Rattle.ksi_retrace.specs.Entries.{Entry, entry_text, record_text, head_words, HasBlock, WantsBlock}
 use Rattle.ksi_retrace.specs.Told.{with_head, unsaid_block, AreTold, IsTold, IsMissing, MayCome}
 
 -- ---- what stands next in a text
@@ -48,9 +49,6 @@ StandsIn plan text (Refused faults.Cut) = IsCut plan text
 StandsIn plan text (Refused _) = ⊥
 
 -- ---- counts, none beyond 2^64 - 1
-
-abbrev pub lines_in : Text → ℕ
-lines_in block = count_by (λ b. b == 10) block
 
 -- lines of entries: the first of each, and its block's
 abbrev pub lines_of : List Entry → ℕ

@@ -1,6 +1,5 @@
 // The first lines of entries.
 ghost use Rattle.std.specs.Prelude.{◌≡◌, ◌<◌, ◌^◌, ◌++◌, ◌∷◌, [], OnOk};
-ghost use Rattle.std.specs.Fmt.{decimal};
 ghost use Rattle.ksi_schedule.specs.Printed.{actor_word, line_of};
 ghost use Rattle.ksi_schedule.specs.declared.actor.Actor.TheVariants as actors;
 ghost use Rattle.ksi_wire.specs.Lines.{core_words};
@@ -9,8 +8,8 @@ ghost use Rattle.ksi_wire.specs.RoundLines.{round_words};
 ghost use Rattle.ksi_retrace.specs.Entries.{line_words, given_words, head_words, IsEarly, IsEarlyGiven, IsEarlyHead};
 
 use crate::head::{Given, Head};
-use itoa::Buffer;
 use ksi_aggregator::RoundEvent;
+use ksi_blocks::{put_node, put_number};
 use ksi_corenode::CoreEvent;
 use ksi_imprint::NoMemory;
 use ksi_schedule::{Actor, Event};
@@ -95,24 +94,4 @@ fn put_to_aggregator(
     put_node(text, Actor::Aggregator(aggregator))?;
     text.push(b' ')?;
     put_round_event(alloc, text, event)
-}
-
-/// The word of a node.
-fn put_node(text: &mut Vec<u8>, actor: Actor) -> Result<(), NoMemory>
-    ensures { OnOk result (text.new.items ≡ text.old.items ++ actor_word actor) }
-{
-    let (letter, number) = match actor {
-        Actor::Core(j) => (b'c', u64::from(j)),
-        Actor::Aggregator(k) => (b'a', u64::from(k)),
-    };
-    text.push(letter)?;
-    put_number(text, number)
-}
-
-/// A number in decimal.
-pub(crate) fn put_number(text: &mut Vec<u8>, n: u64) -> Result<(), NoMemory>
-    ensures { OnOk result (text.new.items ≡ text.old.items ++ decimal n) }
-{
-    let mut digits = Buffer::new();
-    text.extend_from_slice(digits.format(n).as_bytes())
 }

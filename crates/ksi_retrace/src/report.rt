@@ -3,12 +3,12 @@ ghost use Rattle.std.specs.Prelude.{◌≡◌, ◌++◌, List, IfOk, IfSome, OnO
 ghost use Rattle.std.specs.Io.KnownBytes.{Appends};
 ghost use Rattle.ksi_retrace.specs.Entries.{Entry};
 ghost use Rattle.ksi_retrace.specs.Verdicts.{shown, IsVerdict};
-ghost use Rattle.ksi_schedule.specs.Printed.{line_of, spaced};
-ghost use Rattle.ksi_retrace.specs.Reports.{counts_words, place_words, status_of, verdict_text, verdict_words};
+ghost use Rattle.ksi_schedule.specs.Printed.{line_of};
+ghost use Rattle.ksi_retrace.specs.Reports.{counts_words, status_of, verdict_text, verdict_words};
 
-use crate::printing::put_number;
 use crate::stream::retrace;
-use crate::verdict::{Counts, Place, Retraced};
+use crate::verdict::{Counts, Retraced};
+use ksi_blocks::{put_number, put_place};
 use ksi_imprint::{Compress, NoMemory};
 use ksi_schedule::Plan;
 use std::alloc::Global;
@@ -72,16 +72,6 @@ fn put_counts(text: &mut Vec<u8>, counts: Counts) -> Result<(), NoMemory>
     put_number(text, counts.unsaid)?;
     text.extend_from_slice(b" signatures ")?;
     put_number(text, counts.signatures)
-}
-
-/// The words of a place, each behind a space.
-fn put_place(text: &mut Vec<u8>, place: Place) -> Result<(), NoMemory>
-    ensures { OnOk result (text.new.items ≡ text.old.items ++ spaced (place_words place)) }
-{
-    text.push(b' ')?;
-    put_number(text, place.entry)?;
-    text.push(b' ')?;
-    put_number(text, place.line)
 }
 
 /// The exit status.

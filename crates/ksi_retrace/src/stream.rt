@@ -8,10 +8,10 @@ ghost use Rattle.ksi_retrace.specs.Verdicts.{shown, shown_block, IsVerdict};
 
 use crate::entry::{Next, next_entry};
 use crate::head::Head;
-use crate::printing::put_number;
 use crate::sum::Sum;
 use crate::tracer::{Told, Tracer};
-use crate::verdict::{Place, Retraced};
+use crate::verdict::Retraced;
+use ksi_blocks::{Place, put_number};
 use ksi_imprint::{Compress, NoMemory, Refused};
 use ksi_schedule::Plan;
 use std::alloc::Global;

@@ -1,11 +1,11 @@
 //! Counts of the entries so far.
-ghost use Rattle.std.specs.Prelude.{◌≡◌, ◌+◌, []};
-ghost use Rattle.std.specs.Io.Iter.{u64_saturate};
+ghost use Rattle.std.specs.Prelude.{◌≡◌, []};
 ghost use Rattle.ksi_retrace.specs.Sums.{sum_of, sum_with, counts_in};
-ghost use Rattle.ksi_retrace.specs.Verdicts.{is_unsaid, is_sign, lines_in};
+ghost use Rattle.ksi_retrace.specs.Verdicts.{is_unsaid, is_sign};
 
 use crate::head::Head;
-use crate::verdict::{Counts, Place};
+use crate::verdict::Counts;
+use ksi_blocks::Place;
 
 /// How many entries there were, none of the counts beyond 2^64 - 1.
 #[derive(Clone, Copy)]
@@ -34,7 +34,7 @@ impl Sum {
     {
         let signed = is_sign(head) && block.starts_with(b"signature ");
         Sum {
-            place: behind(self.place, block),
+            place: self.place.behind(block),
             unsaid: self.unsaid.saturating_add(u64::from(is_unsaid(head))),
             signatures: self.signatures.saturating_add(u64::from(signed)),
         }
@@ -48,18 +48,6 @@ impl Sum {
             unsaid: self.unsaid,
             signatures: self.signatures,
         }
-    }
-}
-
-/// Where what follows an entry stands.
-fn behind(place: Place, block: &[u8]) -> Place
-    ensures entry { result.entry ≡ u64_saturate (place.entry + 1) }
-    ensures line { result.line ≡ u64_saturate (u64_saturate (place.line + 1) + lines_in block.now) }
-{
-    let lines = block.iter().filter(|byte| **byte == b'\n').count();
-    Place {
-        entry: place.entry.saturating_add(1),
-        line: place.line.saturating_add(1).saturating_add(lines as u64),
     }
 }
 

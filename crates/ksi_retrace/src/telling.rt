@@ -2,7 +2,8 @@
 ghost use Rattle.std.specs.Prelude.{◌≡◌, ◌++◌, ◌∷◌, [], ◌<◌, ◌^◌, true, Bool, map, OnOk, IfOk, IsTrue, ◌↔◌};
 ghost use Rattle.ksi_schedule.specs.Printed.{line_of, text_of_lines};
 ghost use Rattle.ksi_wire.specs.Steps.{step_text, stored_lines};
-ghost use Rattle.ksi_retrace.specs.Told.{message_words, answer_as, signature_block, AreEarly};
+ghost use Rattle.ksi_retrace.specs.Told.{answer_as, signature_block, AreEarly};
+ghost use Rattle.ksi_apart.specs.Texts.{message_words};
 
 use crate::head::Given;
 use ksi_corenode::CoreEvent;

@@ -1,12 +1,6 @@
 //! What comes of a comparison.
 use crate::fault::RecordFault;
-
-/// Where an entry stands: its number, counted from 0, and its first line, counted from 1. Neither is beyond 2^64 - 1.
-#[derive(Clone, Copy)]
-pub struct Place {
-    pub entry: u64,
-    pub line: u64,
-}
+use ksi_blocks::Place;
 
 /// How many entries there were of a record that agrees.
 #[derive(Clone, Copy)]

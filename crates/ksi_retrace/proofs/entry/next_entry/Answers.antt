@@ -1,8 +1,9 @@
 use Rattle.std.proofs.Common.{◌≡◌, ◌∙◌, Bool, Ok, ap, sym, subst}
-use Rattle.ksi_retrace.specs.declared.entry.Came.{Came}
-use Rattle.ksi_retrace.specs.declared.entry.Came.TheVariants as comes
+use Rattle.ksi_blocks.specs.declared.lines.Came.{Came}
+use Rattle.ksi_blocks.specs.declared.lines.Came.TheVariants as comes
+use Rattle.ksi_blocks.specs.Steps.{IsLineOf}
 use Rattle.ksi_retrace.specs.Heads.{head_at}
-use Rattle.ksi_retrace.specs.Steps.{IsLineOf, IsBlockBehind}
+use Rattle.ksi_retrace.specs.Steps.{IsBlockBehind}
 use Rattle.ksi_retrace.proofs.EntryLemmas.{cut_entry}
 use Rattle.ksi_retrace.proofs.entry.next_entry.Goals as goal
 

@@ -1,6 +1,6 @@
 use Rattle.std.proofs.Common.{◌≡◌, length, drop, ◌∙◌, arith}
-use Rattle.ksi_retrace.proofs.TextLemmas.{appended, block_is_cut, block_goes_on, reads_more}
-use Rattle.ksi_retrace.proofs.entry.read_block.Goals as goal
+use Rattle.ksi_blocks.proofs.TextLemmas.{appended, block_is_cut, block_goes_on, reads_more}
+use Rattle.ksi_blocks.proofs.lines.read_block.Goals as goal
 
 pub returns-in-Cut : goal.returns-in-Cut
 returns-in-Cut g c =

@@ -2,8 +2,8 @@ use Rattle.std.proofs.Common.{◌≡◌, List}
 use Rattle.std.specs.List.{AllByRecursion}
 use Rattle.std.specs.Io.KnownBytes.{Consumes}
 use Rattle.ksi_schedule.specs.Pieces.{Text}
-use Rattle.ksi_retrace.specs.Entries.{IsInner, lines_text}
-use Rattle.ksi_retrace.proofs.entry.read_block.Given as goal
+use Rattle.ksi_blocks.specs.Blocks.{IsInner, lines_text}
+use Rattle.ksi_blocks.proofs.lines.read_block.Given as goal
 
 -- the block is what was taken, and lines without a full stop
 abbrev pub invariant-lines : goal.invariant-lines

@@ -1,5 +1,5 @@
-use Rattle.ksi_retrace.proofs.TextLemmas.{line_is_cut}
-use Rattle.ksi_retrace.proofs.entry.next_line.Goals as goal
+use Rattle.ksi_blocks.proofs.TextLemmas.{line_is_cut}
+use Rattle.ksi_blocks.proofs.lines.next_line.Goals as goal
 
 pub returns-else-last-eq10 : goal.returns-else-last-eq10
 returns-else-last-eq10 g c =

@@ -9,7 +9,7 @@ use Rattle.std.specs.Io.{StartsWith, StopsAt}
 use Rattle.std.specs.Io.KnownBytes.{Consumes}
 use Rattle.std.specs.Io.BufRead.{take_through}
 use Rattle.ksi_schedule.specs.Pieces.{Text}
-use Rattle.ksi_retrace.specs.Entries.{IsLine, IsInner, IsBlock, IsCutBlock, lines_text}
+use Rattle.ksi_blocks.specs.Blocks.{IsLine, IsInner, IsBlock, IsCutBlock, lines_text}
 
 abbrev IsNoFeed : ℕ → Type 0
 IsNoFeed b = b ≢ 10

@@ -1,0 +1,90 @@
+-- A step of the code's node is that of the node in a log.
+use Rattle.std.proofs.Common.{◌≡◌, ◌==◌, ℕ, Bool, true, false, List, [], ◌∷◌, length, map, cond, Option, Some, None, option_map, is_some, refl, sym, ap, subst, ◌∙◌}
+use Rattle.ksi_schedule.specs.Pieces.{Text}
+use Rattle.ksi_schedule.specs.Plans.{PlanState, core_plan_of}
+use Rattle.ksi_schedule.specs.declared.actor.Actor.TheVariants as actors
+use Rattle.ksi_corenode.specs.SecondState.{SecondState}
+use Rattle.ksi_corenode.specs.CoreState.{CoreState, IsTurn, state_of}
+use Rattle.ksi_corenode.specs.Events.{core_row, event_second}
+use Rattle.ksi_corenode.specs.Turns.{Turn}
+use Rattle.ksi_corenode.specs.declared.event.CoreEvent.{CoreEvent}
+use Rattle.ksi_corenode.specs.declared.step.Send as core_send
+use Rattle.ksi_corenode.specs.declared.step.Send.TheVariants as core_sends
+use Rattle.ksi_corenode.specs.declared.step.Step as core_step
+use Rattle.ksi_aggregator.specs.Rows.{RoundState}
+use Rattle.ksi_aggregator.specs.Rounds as rounds
+use Rattle.ksi_aggregator.specs.Events as of_round
+use Rattle.ksi_aggregator.specs.declared.event.RoundEvent.{RoundEvent}
+use Rattle.ksi_aggregator.specs.declared.step.Send as round_send
+use Rattle.ksi_aggregator.specs.declared.step.Send.TheVariants as round_sends
+use Rattle.ksi_aggregator.specs.declared.step.Step as round_step
+use Rattle.ksi_world.specs.Histories.{core_message, round_message}
+use Rattle.ksi_wire.specs.Steps.{core_send_words, core_step_text, round_send_words, round_step_text, step_text}
+use Rattle.ksi_apart.specs.Logs.{changed, core_after, core_turn, round_after}
+use Rattle.ksi_apart.specs.Texts.{message_words}
+use Rattle.ksi_apart.proofs.Renaming.{row_of_seconds}
+use Rattle.ksi_retrace_node.specs.declared.head.Given.TheVariants as given
+use Rattle.ksi_retrace_node.specs.Nodes.{NodeState, block_to, state_after}
+use Rattle.ksi_retrace_node.specs.Steps.{IsCoreAt}
+
+some_mapped : {A B : Type 0} (f : A → B) (x : Option A) → is_some (option_map f x) ≡ is_some x
+some_mapped f None = refl
+some_mapped f (Some a) = refl
+
+core_sent : (j t : ℕ) (sends : List core_send.Send) → map (core_send_words j t) sends ≡ map message_words (map (core_message j t) sends)
+core_sent j t [] = refl
+core_sent j t (core_sends.Synod to m ∷ sends) = ap (λ (rest : List (List Text)). core_send_words j t (core_sends.Synod to m) ∷ rest) (core_sent j t sends)
+core_sent j t (core_sends.Response to above ∷ sends) = ap (λ (rest : List (List Text)). core_send_words j t (core_sends.Response to above) ∷ rest) (core_sent j t sends)
+
+round_sent : (plan : PlanState) (k t : ℕ) (sends : List round_send.Send) → map (round_send_words plan k t) sends ≡ map message_words (map (round_message plan k t) sends)
+round_sent plan k t [] = refl
+round_sent plan k t (round_sends.Submission item ∷ sends) = ap (λ (rest : List (List Text)). round_send_words plan k t (round_sends.Submission item) ∷ rest) (round_sent plan k t sends)
+round_sent plan k t (round_sends.Response to above ∷ sends) = ap (λ (rest : List (List Text)). round_send_words plan k t (round_sends.Response to above) ∷ rest) (round_sent plan k t sends)
+
+module _ (image : List ℕ → List ℕ) (plan : PlanState) where
+  -- a step of a core
+  pub core_goes_on : (j i : ℕ) (old new : CoreState) (it : NodeState) (event : CoreEvent) (step : core_step.Step) (text : Text) → i ≡ j → IsCoreAt plan j old it
+      → IsTurn old new (event_second event) (core_row image old event) step → text ≡ core_step_text i (event_second event) step
+      → (text ≡ block_to image plan it (given.ToCore i event)) × IsCoreAt plan j new (state_after image plan it (given.ToCore i event))
+  core_goes_on j i old new it event step text own at turn is = (is ∙ said, record { me = turn.me ∙ at.me; plan = turn.plan ∙ at.plan; start = turn.start ∙ at.start; seconds = seconds })
+    where
+      t : ℕ
+      t = event_second event
+
+      row : core_row image old event ≡ core_turn image plan i it.seconds event
+      row = row_of_seconds image plan old event at.plan at.start ∙ (λ k. core_turn image plan ((at.me ∙ sym own) k) (at.seconds k) event)
+
+      of_row : IsTurn old new t (core_turn image plan i it.seconds event) step
+      of_row = subst (λ (turn : Turn). IsTurn old new t turn step) row turn
+
+      seconds : state_of new ≡ core_after image plan i it.seconds event
+      seconds = λ k u. (of_row.seconds u ∙ ap (λ (was : ℕ → SecondState). changed was t (core_turn image plan i it.seconds event).after u) at.seconds) k
+
+      said : core_step_text i t step ≡ block_to image plan it (given.ToCore i event)
+      said =
+          let stored : is_some step.fact ≡ is_some (core_turn image plan i it.seconds event).fact =
+          ap (λ (fact : Option _). is_some fact) of_row.fact ∙ some_mapped _ (core_turn image plan i it.seconds event).fact in
+          λ k. step_text (of_row.answer k) (stored k) ((ap (λ (sends : List core_send.Send). map (core_send_words i t) sends) of_row.sends ∙ core_sent i t (core_turn image plan i it.seconds event).sends) k)
+
+  -- a step of an aggregator
+  pub round_goes_on : (i : ℕ) (old new : ℕ → RoundState) (it : NodeState) (event : RoundEvent) (step : round_step.Step) (text : Text) → old ≡ it.rounds
+      → rounds.IsTurn old new (of_round.event_second event) (of_round.round_row image event (old (of_round.event_second event))) step
+      → text ≡ round_step_text plan i (of_round.event_second event) step.answer (is_some step.fact) step.sends
+      → (text ≡ block_to image plan it (given.ToAggregator i event)) × (new ≡ round_after image plan it.rounds event)
+  round_goes_on i old new it event step text at turn is = (is ∙ said, after)
+    where
+      t : ℕ
+      t = of_round.event_second event
+
+      of_rounds : rounds.IsTurn it.rounds new t (of_round.round_row image event (it.rounds t)) step
+      of_rounds = subst (λ (old : ℕ → RoundState). rounds.IsTurn old new t (of_round.round_row image event (old t)) step) at turn
+
+      after : new ≡ round_after image plan it.rounds event
+      after = λ k u. of_rounds.after u k
+
+      said : round_step_text plan i t step.answer (is_some step.fact) step.sends ≡ block_to image plan it (given.ToAggregator i event)
+      said =
+          let stored : is_some step.fact ≡ is_some (of_round.round_row image event (it.rounds t)).fact =
+          ap (λ (fact : Option _). is_some fact) of_rounds.fact ∙ some_mapped _ (of_round.round_row image event (it.rounds t)).fact in
+          λ k. step_text (of_rounds.answer k) (stored k)
+          ((ap (λ (sends : List round_send.Send). map (round_send_words plan i t) sends) of_rounds.sends ∙ round_sent plan i t (of_round.round_row image event (it.rounds t)).sends) k)
