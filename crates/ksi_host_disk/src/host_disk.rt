@@ -1,11 +1,11 @@
-ghost use Rattle.std.specs.Prelude.{◌≡◌, ◌≤◌, ◌<◌, ◌+◌, ◌^◌, ◌==◌, ◌∷◌, [], true, None, length, take, drop, IfOk, OnErr, OnOk, is_err, is_ok};
+ghost use Rattle.std.specs.Prelude.{◌≡◌, ◌≤◌, ◌<◌, ◌+◌, ◌^◌, ◌==◌, [], None, length, take, drop, IfOk, OnOk, is_err};
 ghost use Rattle.std.specs.Bool.{OnTrue};
 ghost use Rattle.ksi_ports.specs.Outside.{Raises};
 ghost use Rattle.ksi_disk.specs.Images.{Only};
 ghost use Rattle.ksi_disk.specs.Costs.{DiskCounts};
-ghost use Rattle.ksi_disk.specs.Deeds.{StoredDisk, content_of, after_call, with_deed, wrote, synced, IsImage, IsImageSince};
+ghost use Rattle.ksi_disk.specs.Deeds.{wrote, synced};
 ghost use Rattle.ksi_disk.specs.DeedLaws.{content_is_image, counts_now, only_now};
-ghost use Rattle.ksi_host_disk.specs.Host.{host_state, synced_unless};
+ghost use Rattle.ksi_host_disk.specs.Host.{HostState, content_of, images_of, images_since, found_disk, after_call, with_deed, after_write, after_sync};
 
 use crate::record::Record;
 use ksi_disk::{Disk, DiskFailed};
@@ -30,19 +30,17 @@ pub struct HostDisk {
     file: fs::File,
     found: Option<Bytes>,
     len: u64,
-    calls: u64,
     faults: u64,
     is_usable: bool,
     log: Record,
 }
 
 impl Model for HostDisk {
-    ghost use Rattle.ksi_disk.specs.Deeds.{StoredDisk};
-    ghost use Rattle.ksi_host_disk.specs.Host.{host_state, IsHostKept};
+    ghost use Rattle.ksi_host_disk.specs.Host.{HostState, IsHostKept};
 
-    ghost Value = { StoredDisk };
+    ghost Value = { HostState };
 
-    ghost view = { λ disk. host_state disk.log.events disk.calls disk.faults };
+    ghost view = { λ disk. record { deeds = disk.log.events; faults = disk.faults } };
 
     ghost invariant = { λ disk. IsHostKept disk.log.events disk.len disk.found };
 }
@@ -56,7 +54,7 @@ impl HostDisk {
     /// A call of the system failed, another process has the lock, or memory was wanting.
     pub fn open(rt: &HostRuntime, folder: &str, name: &str) -> io::Result<HostDisk>
         ensures fresh { IfOk result (λ disk. disk.faults ≡ 0) }
-        ensures durable { IfOk result (λ disk. Only (content_of disk) (IsImage disk.start disk.deeds)) }
+        ensures durable { IfOk result (λ disk. Only (content_of disk) (images_of disk)) }
     {
         let path = format!(in rt.alloc(); "{folder}/{name}")?;
         let mut file = fs::File::options()
@@ -76,7 +74,7 @@ impl HostDisk {
 
     /// The disk of a file that has these bytes, which are synced.
     fn holding(file: fs::File, bytes: Vec<u8>) -> HostDisk
-        ensures { result ≡ host_state (synced ∷ wrote 0 bytes.items true ∷ []) 0 0 }
+        ensures { result ≡ found_disk bytes.items }
     {
         let mut log = Record::new();
         log.note(&[WROTE, 0, 1], &bytes);
@@ -86,7 +84,6 @@ impl HostDisk {
             file,
             found: Some(Bytes::from_vec(bytes)),
             len,
-            calls: 0,
             faults: 0,
             is_usable: true,
             log,
@@ -111,7 +108,6 @@ impl HostDisk {
         ensures after { self.new ≡ after_call self.old failed }
         ensures rises { OnTrue failed (Raises self.old.faults self.new.faults) }
     {
-        self.calls = self.calls.saturating_add(1);
         if failed {
             self.faults = self.faults.saturating_add(1);
         }
@@ -120,7 +116,7 @@ impl HostDisk {
     fn note_write(&mut self, at: u64, piece: &[u8], succeeded: bool)
         requires at { at ≤ length (content_of self.old) }
         requires within { OnTrue succeeded (at + length piece.now < 2 ^ 64) }
-        ensures { self.new ≡ with_deed self.old (wrote at piece.now succeeded) (length piece.now) }
+        ensures { self.new ≡ with_deed self.old (wrote at piece.now succeeded) }
     {
         self.found = None;
         if succeeded {
@@ -130,7 +126,7 @@ impl HostDisk {
     }
 
     fn note_sync(&mut self)
-        ensures { self.new ≡ with_deed self.old synced 0 }
+        ensures { self.new ≡ with_deed self.old synced }
     {
         self.log.note(&[SYNCED, 0, 1], &[]);
     }
@@ -160,21 +156,21 @@ impl HostDisk {
 impl Disk for HostDisk {
     ghost content = { content_of };
 
-    ghost images = { λ disk image. IsImage disk.start disk.deeds image };
+    ghost images = { images_of };
 
     ghost moment = { λ disk. length disk.deeds };
 
-    ghost images_since = { λ disk since image. IsImageSince disk.start disk.deeds since image };
+    ghost images_since = { images_since };
 
     ghost faults = { λ disk. disk.faults };
 
     ghost meter = { λ _. None };
 
-    ghost content_is_image = { λ disk. content_is_image disk.start disk.deeds };
+    ghost content_is_image = { λ disk. content_is_image [] disk.deeds };
 
-    ghost counts_now = { λ disk since image within left. counts_now disk.start disk.deeds since image within left };
+    ghost counts_now = { λ disk since image within left. counts_now [] disk.deeds since image within left };
 
-    ghost only_now = { λ disk image left. only_now disk.start disk.deeds image left };
+    ghost only_now = { λ disk image left. only_now [] disk.deeds image left };
 
     fn len(&mut self) -> Result<u64, DiskFailed>
         ensures told { IfOk result (λ count. count ≡ length (content_of self.old)) }
@@ -212,7 +208,7 @@ impl Disk for HostDisk {
         requires { at ≤ length (content_of self.old) }
         ensures within { OnOk result (at + length bytes.now < 2 ^ 64) }
         ensures counted { DiskCounts self.old.faults self.new.faults result }
-        ensures after { self.new ≡ with_deed (after_call self.old (is_err result)) (wrote at bytes.now (is_ok result)) (length bytes.now) }
+        ensures after { self.new ≡ after_write self.old at bytes.now (is_err result) }
     {
         let done = self.write_on(at, bytes);
         self.count(!done);
@@ -222,7 +218,7 @@ impl Disk for HostDisk {
 
     fn sync(&mut self) -> Result<(), DiskFailed>
         ensures counted { DiskCounts self.old.faults self.new.faults result }
-        ensures after { self.new ≡ synced_unless (is_err result) self.old }
+        ensures after { self.new ≡ after_sync self.old (is_err result) }
     {
         let done = self.sync_on();
         self.count(!done);
