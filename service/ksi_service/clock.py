@@ -3,6 +3,7 @@
 A second's root is one core's candidate, so the items below other cores are not in it. Each second has a leader in turn, and its
 requests go below that core. What was lost, or came late, is asked again for a later second under a new number."""
 import asyncio
+import collections
 import time
 
 from .node import Down, Line
@@ -49,6 +50,10 @@ class Clock:
     def __init__(self, network, most_waiting=MOST_WAITING, now=time.time):
         self.network, self.plan, self.now, self.most_waiting = network, network.plan, now, most_waiting
         self.asked = {}
+        self.resting = set()
+        """Aggregators that take no requests for now."""
+        self.handed = collections.Counter()
+        """How many signatures each aggregator had a part in."""
         self.number = int(now() * 1000) << 20
         self.turn = self.waiting = self.signed = self.again = self.busy = self.last_signed = 0
         self.published, self.on_published = None, None
@@ -80,13 +85,30 @@ class Clock:
         for _ in range(200):
             for later in range(self.plan.cores + 1):
                 leader = self.plan.leader(second + later)
-                up = [it for it in self.plan.below[leader] if all(self.network.aggregator(above).alive for above in self.plan.ways[it])]
+                up = [it for it in self.plan.below[leader] if all(map(self.takes, self.plan.ways[it]))]
                 if up and self.network.core(leader).alive:
                     self.turn += 1
                     return second + later, up[self.turn % len(up)]
             await asyncio.sleep(0.1)
             second = max(second, int(self.now()))
         raise NotSigned()
+
+    def takes(self, aggregator):
+        """Whether an aggregator takes requests, and what is submitted to it."""
+        return aggregator not in self.resting and self.network.aggregator(aggregator).alive
+
+    async def drained(self, aggregator, seconds):
+        """Waits until no request waits for an aggregator, or for one below it. Returns whether none does after so many seconds."""
+        end = time.monotonic() + seconds
+        while any(aggregator in self.plan.ways[it] for requests in self.asked.values() for it in requests):
+            if time.monotonic() > end:
+                return False
+            await asyncio.sleep(0.02)
+        return True
+
+    def settled(self):
+        """The second before which each request was answered, by its signature or by none."""
+        return min([self.network.record.state.second, *self.asked])
 
     async def ask(self, imprint, second, aggregator):
         """The signature that a second gives, or None where it gives none."""
@@ -194,6 +216,7 @@ class Clock:
                     block = ["not issued"]
                 if block[0].startswith("signature "):
                     self.hand_out(request, block[0].split(" ")[1])
+                    self.handed.update(self.plan.ways[number])
                 else:
                     whole = False
         await self.recorded()

@@ -114,7 +114,7 @@ def reason_in(path, before):
 
 def run(words):
     asyncio.run(service.run(words.folder, words.cores, words.aggregators, address_of(words.door), publish_every=words.publish_every,
-                            most_waiting=words.most_waiting, cut_every=words.cut_every, over=words.over))
+                            most_waiting=words.most_waiting, cut_every=words.cut_every, forget_every=words.forget_every, over=words.over))
 
 
 def node(words):
@@ -274,7 +274,8 @@ def add_running(commands, name, does, told):
     one.add_argument("--over", default=OVER, metavar="pipes|redis://HOST", help="how lines go: pipes on this machine, or Redis Streams to the hosts of nodes")
     one.add_argument("--publish-every", type=positive, default=3600, metavar="SECONDS", help="how often a core publishes: 3600")
     one.add_argument("--most-waiting", type=positive, default=service.MOST_WAITING, metavar="REQUESTS", help="how many requests may wait before the door answers 503")
-    one.add_argument("--cut-every", type=positive, default=3600, metavar="SECONDS", help="how often the record begins a new file, and the one before is compressed")
+    one.add_argument("--cut-every", type=positive, default=3600, metavar="SECONDS", help="how often the record begins a new file, and the one before is compressed: 3600")
+    one.add_argument("--forget-every", type=natural, default=3600, metavar="SECONDS", help="how often aggregators forget rounds whose signatures were handed out: 3600; 0 is never")
 
 
 def add_asking(commands, name, does, told, *words, out=None):

@@ -32,6 +32,14 @@ def lock_of(path, reason):
     return file
 
 
+def drop_cache(path):
+    """Drops the system's cache of a file, which may differ from the disk behind a sync that failed."""
+    if os.path.exists(path):
+        file = os.open(path, os.O_RDONLY)
+        os.posix_fadvise(file, 0, 0, os.POSIX_FADV_DONTNEED)
+        os.close(file)
+
+
 def sync_folder(folder):
     """Has the names in a folder on the disk."""
     number = os.open(folder or ".", os.O_RDONLY | os.O_DIRECTORY)

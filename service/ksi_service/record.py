@@ -8,14 +8,14 @@ It is a folder of files, cut from time to time, each but the last compressed. On
     ["ready", NODE, RECORDS, UNSAID]   the node's process was started and found so many facts; of the lines that it had not
                                        answered the first UNSAID happened before it ended, and the others did not
     ["signed", STEP, TEXT]             the signature, in hex, that was handed out for the request of this step
-    ["forgot", NODE, FOUND, LEFT]      the stopped node's file of so many facts is to be the one of those that are left (forget.py)
+    ["forgot", NODE, FOUND, LEFT]      the file of so many facts, whose node's process has ended, is to be the one of those that are left
     ["begins", STATE]                  the first line of a file: what `State` has at this place
 
 Where the nodes are on other machines, their own logs are put together to a record of these entries (remote.py):
 
     ["did", NODE, NUMBER, ID, LINE, FROM, BLOCK]   the node took the line with this ID; FROM is null, or NODE ID PLACE of the line
                                                    that it was sent for; NUMBER is the entry's in the node's log
-    ["restarted", NODE, NUMBER, AGAIN]             the node's process was started; AGAIN is 0 at its first start
+    ["restarted", NODE, NUMBER, AGAIN, FOUND]      the node's process was started and found so many facts; AGAIN is 0 at its first start
 
 Steps are numbered from 0 in the order of the record: a block that is no refusal, a line that happened and was never answered, and
 a restart, which is each start of a node but its first. Questions, which change nothing, are not recorded."""
@@ -162,8 +162,10 @@ class State:
             del self.sent[key]
         return [sent[0], int(place)]
 
-    def take_restarted(self, name, number, again):
+    def take_restarted(self, name, number, again, found=None):
         self.seen[name] = number
+        if found is not None:
+            self.node(name).facts = found
         return [Step(name, None, None, None)] if again else []
 
     def take_begins(self, state):

@@ -9,6 +9,7 @@ import queue
 import threading
 import time
 
+from .forget import NotForgotten
 from .network import MOST_DECIDED, decree_of, second_of
 from .node import Down, Line
 from .record import Record
@@ -26,7 +27,7 @@ class RemoteNode:
 
     def __init__(self, name, network):
         self.name, self.network = name, network
-        self.alive, self.starts, self.refused, self.process = False, 0, 0, None
+        self.alive, self.restarts, self.refused, self.process = False, 0, 0, None
 
     def send(self, line):
         if self.alive:
@@ -187,6 +188,13 @@ class RemoteNetwork:
         self.moved.set()
         self.moved = asyncio.Event()
 
+    async def forget(self, aggregator, before):
+        """Lets an aggregator's host forget rounds of seconds before this one. Returns how many facts are left, and how many there were."""
+        words = (await self.aggregator(aggregator).ask(f"forget {before}"))[0].split(" ")
+        if words[0] != "forgot":
+            raise NotForgotten("its host says " + " ".join(words))
+        return int(words[1]), int(words[3])
+
     def give_up(self, node):
         """Waits no more for what a node was asked. It may still come to do it."""
         for ask in [ask for ask, (name, _) in self.asked.items() if name == node.name]:
@@ -204,8 +212,8 @@ class RemoteNetwork:
         """Puts an entry of a log onto the record."""
         on_disk = lambda: self.on_disk.update({name: number})
         if "ready" in fields:
-            self.record.add(["restarted", name, number, int("restart" in fields)], on_disk)
-            self.nodes[name].starts += 1
+            self.record.add(["restarted", name, number, int("restart" in fields), int(fields["ready"])], on_disk)
+            self.nodes[name].restarts += "restart" in fields
             return
         sender, block = fields.get("from"), fields["said"].split("\n") if "said" in fields else None
         line = self.asked.pop(fields["ask"], (None, None))[1] if "ask" in fields else None

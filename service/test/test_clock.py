@@ -2,56 +2,20 @@
 import asyncio
 import os
 import random
-import tempfile
 import time
 import unittest
 from unittest import mock
 
-import stands
+from clocked import Clocked, imprint
 from ksi_service import clock as clocks
-from ksi_service.clock import Busy, Clock
-from ksi_service.network import Network, Trouble
-from ksi_service.plan import Odd, Plan, parents_of
+from ksi_service.clock import Busy
+from ksi_service.network import Trouble
+from ksi_service.plan import Odd, parents_of
 from ksi_service.record import Signed, told
 from ksi_service.service import plan_of
 
 
-def imprint(number):
-    return f"{number:064x}"
-
-
-class ClockTest(unittest.TestCase):
-    def setUp(self):
-        self.room = tempfile.TemporaryDirectory(prefix="ksi-test-")
-        self.addCleanup(self.room.cleanup)
-        self.folder = self.room.name
-        named = mock.patch.dict(os.environ, KSI_BIN=stands.make(os.path.join(self.folder, "bin")))
-        named.start()
-        self.addCleanup(named.stop)
-
-    def play(self, work, trouble=None, cores=3, aggregators="2", start=None, **options):
-        """Runs a network and its clock, and a play with them."""
-        async def go():
-            plan = plan_of(self.folder, cores, aggregators) if start is None else Plan(cores, start, parents_of(aggregators, cores))
-            with open(os.path.join(self.folder, "plan"), "w", encoding="ascii") as file:
-                file.write(plan.text())
-            network = Network(self.folder, plan, trouble)
-            network.begin()
-            await network.ready()
-            clock = Clock(network, **options)
-            first = max(plan.start, network.record.state.second)
-            running = asyncio.create_task(clock.run(first, 2))
-            try:
-                return await asyncio.wait_for(work(network, clock), 60)
-            finally:
-                running.cancel()
-                await asyncio.gather(running, return_exceptions=True)
-                await network.stop()
-        return asyncio.run(go())
-
-    def handed_out(self):
-        return [it for it in told(os.path.join(self.folder, "record")) if isinstance(it, Signed)]
-
+class ClockTest(Clocked):
     def test_each_request_is_signed_for_its_hash_and_second(self):
         async def work(_, clock):
             return await asyncio.gather(*[clock.sign(imprint(number)) for number in range(200)])
