@@ -3,7 +3,6 @@
 A second's root is one core's candidate, so the items below other cores are not in it. Each second has a leader in turn, and its
 requests go below that core. What was lost, or came late, is asked again for a later second under a new number."""
 import asyncio
-import collections
 import time
 
 from .node import Down, Line
@@ -52,10 +51,11 @@ class Clock:
         self.asked = {}
         self.resting = set()
         """Aggregators that take no requests for now."""
-        self.handed = collections.Counter()
-        """How many signatures each aggregator had a part in."""
+        self.handed = {}
+        """The last second of which each aggregator had a part in a signature."""
         self.number = int(now() * 1000) << 20
-        self.turn = self.waiting = self.signed = self.again = self.busy = self.last_signed = 0
+        self.turn = self.waiting = self.signed = self.again = self.busy = self.last_signed = self.next = 0
+        """Among them `next`, the first second that is not driven yet: none before it takes a request, whatever the machine's clock says."""
         self.published, self.on_published = None, None
 
     async def sign(self, imprint, second=None):
@@ -83,6 +83,7 @@ class Clock:
     async def place(self, second):
         """The first second from this one on whose leader is up, and an aggregator below it with all that stand between."""
         for _ in range(200):
+            second = max(second, self.next)
             for later in range(self.plan.cores + 1):
                 leader = self.plan.leader(second + later)
                 up = [it for it in self.plan.below[leader] if all(map(self.takes, self.plan.ways[it]))]
@@ -137,10 +138,14 @@ class Clock:
                     request.answer(None)
 
     async def close(self, second, leader):
-        """Closes the rounds below the leader, level by level, so that what one submits comes before the one above it closes."""
+        """Closes the rounds below the leader that have items, level by level, so that what one submits comes before the one above it
+        closes. A round without items would be a fact for nothing."""
+        wanted = {above for it in self.asked.get(second, ()) for above in self.plan.ways[it]}
         for level in self.plan.levels[leader]:
-            await asyncio.gather(*(self.close_one(number, second) for number in level))
-            await self.network.quiet(second)
+            closing = wanted.intersection(level)
+            if closing:
+                await asyncio.gather(*(self.close_one(number, second) for number in sorted(closing)))
+                await self.network.quiet(second)
 
     async def close_one(self, number, second):
         try:
@@ -216,7 +221,7 @@ class Clock:
                     block = ["not issued"]
                 if block[0].startswith("signature "):
                     self.hand_out(request, block[0].split(" ")[1])
-                    self.handed.update(self.plan.ways[number])
+                    self.handed.update({it: max(second, self.handed.get(it, 0)) for it in self.plan.ways[number]})
                 else:
                     whole = False
         await self.recorded()
@@ -242,10 +247,10 @@ class Clock:
             await self.on_published(second, words[2])
         return words[2]
 
-    async def publish_by_any(self, second):
-        """Lets a core publish a second, the first one that can."""
-        for core in range(self.plan.cores):
-            if await self.publish(core, second) is not None:
+    async def publish_by_any(self, second, first=0):
+        """Lets a core publish a second, from the first one on the one that can."""
+        for turn in range(self.plan.cores):
+            if await self.publish((first + turn) % self.plan.cores, second) is not None:
                 return
 
     async def end(self, tasks):
@@ -260,6 +265,7 @@ class Clock:
         tasks, second = set(), first
         try:
             while True:
+                self.next = second
                 await asyncio.sleep(max(0.0, second + AFTER - self.now()))
                 if second >= self.plan.start + SECONDS:
                     await self.end(tasks)
@@ -272,7 +278,7 @@ class Clock:
                     task.result()
                 tasks.add(asyncio.create_task(self.drive(second)))
                 if second % publish_every == publish_every - 1 and second - 2 >= self.plan.start:
-                    tasks.add(asyncio.create_task(self.publish(second % self.plan.cores, second - 2)))
+                    tasks.add(asyncio.create_task(self.publish_by_any(second - 2, second % self.plan.cores)))
                 second += 1
         finally:
             for task in tasks:

@@ -16,7 +16,7 @@ from . import check as checking
 from . import backup as backing
 from . import forget as forgetting
 from . import replay as replaying
-from . import extension, files, service, streams
+from . import extension, files, hours, service, streams
 from .calendar import Calendar
 from .clock import PlanEnded
 from .elements import Malformed, parts_of
@@ -214,18 +214,25 @@ def verify(words):
 
 def check(words):
     """Holds the record of a service that is stopped against the proved world."""
-    held = files.lock(words.folder)
-    checking.check(words.folder, words.samples)
-    if words.replay:
-        replaying.replay(words.folder, words.replay, words.samples)
-    held.close()
+    with files.lock(words.folder):
+        compress(words.folder)
+        checking.check(words.folder, words.samples)
+        if words.replay:
+            replaying.replay(words.folder, words.replay, words.samples)
+
+
+def compress(folder):
+    """Compresses the files of a record that is cut which a service had no time for. Not the last one: the next start goes on with it."""
+    count = hours.pack_all(os.path.join(folder, "record"))
+    if count:
+        print(f"compressed {checking.many(count, 'file')} of the record")
 
 
 def backup(words):
     """The mirrors of all cores, merged, and the journal of what they hold, by the proved `ksi`."""
-    held = files.lock(words.folder)
-    backing.make(words.folder, words.out, last_state(os.path.join(words.folder, "record"))[0].second)
-    held.close()
+    with files.lock(words.folder):
+        compress(words.folder)
+        backing.make(words.folder, words.out, last_state(os.path.join(words.folder, "record"))[0].second)
 
 
 def forget(words):

@@ -97,8 +97,6 @@ class RemoteNetwork:
 
     def begin(self, cut_every=3600.0):
         loop = asyncio.get_running_loop()
-        client = connect(self.url)
-        patiently(lambda: self.begin_plan(client), self.say)
         self.tasks = [asyncio.create_task(self.record.run(cut_every)),
                       *(asyncio.create_task(self.thread(it)) for it in (lambda: self.read(loop), self.send_all))]
         return self.tasks
@@ -122,8 +120,9 @@ class RemoteNetwork:
         await done
 
     def read(self, loop):
-        """Reads what the nodes did, and who is there, in a thread."""
+        """Reads what the nodes did, and who is there, in a thread. Nothing is sent to a node before the plan is the server's."""
         client = connect(self.url)
+        patiently(lambda: self.begin_plan(client), self.say)
         seen = {f"ksi:log:{name}": self.record.state.seen.get(name, "0") for name in self.nodes}
         seen.update(patiently(lambda: {it: last_of(client, it) for it in (f"ksi:said:{name}" for name in self.nodes)}, self.say))
         looked = trimmed = 0.0

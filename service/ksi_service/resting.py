@@ -22,7 +22,8 @@ class Resting:
         self.clock, self.network, self.plan, self.say = clock, clock.network, clock.network.plan, say
         self.rounds, self.times = 0, 0
         """How many rounds were forgotten, and how often an aggregator forgot some."""
-        self.seen = {}
+        self.before = {}
+        """Before which second each aggregator forgot."""
 
     async def run(self, every):
         """Lets each aggregator forget so often, for ever."""
@@ -33,16 +34,14 @@ class Resting:
             await asyncio.sleep(every)
 
     async def forget(self, number):
-        """Lets an aggregator forget what is settled, if it handed out a signature since the last time."""
-        handed = self.clock.handed[number]
-        if self.seen.get(number) == handed or not self.network.aggregator(number).alive:
+        """Lets an aggregator forget what is settled, if it had a part in a signature that it did not forget."""
+        if self.clock.handed.get(number, 0) < self.before.get(number, 0) or not self.network.aggregator(number).alive:
             return
         try:
             left, found = await self.rested(number)
         except (NotForgotten, Refused, Missing, Down, OSError) as reason:
-            self.say(f"a{number} forgets nothing now: {reason}")
+            self.say(f"a{number} forgets nothing now: {'it is down' if isinstance(reason, Down) else reason}")
             return
-        self.seen[number] = handed
         if left < found:
             # of a forgotten round the closing stays, and its response goes
             self.rounds, self.times = self.rounds + found - left, self.times + 1
@@ -53,7 +52,9 @@ class Resting:
         try:
             if not await self.clock.drained(number, MOST_SECONDS):
                 raise NotForgotten("requests wait for it")
-            counts = await self.network.forget(number, self.clock.settled())
+            before = self.clock.settled()
+            counts = await self.network.forget(number, before)
+            self.before[number] = before
             while not self.network.aggregator(number).alive:
                 await asyncio.sleep(0.01)
             return counts

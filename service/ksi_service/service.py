@@ -135,7 +135,7 @@ class Service:
         self.resting = Resting(self.clock, say)
         self.publications, self.calendar = Publications(folder), Calendar(plan.start)
         self.publishing, self.clock.on_published = asyncio.Lock(), self.publish
-        self.began, self.door = time.time(), None
+        self.began, self.door = time.monotonic(), None
         self.tasks, self.own = [], []
 
     async def begin(self):
@@ -188,7 +188,7 @@ class Service:
     def counters(self):
         nodes, clock, record = self.network.nodes, self.clock, self.network.record
         return {
-            "up_seconds": int(time.time() - self.began),
+            "up_seconds": int(time.monotonic() - self.began),
             "nodes": len(nodes), "nodes_up": sum(node.alive for node in nodes.values()),
             "node_restarts": sum(node.restarts for node in nodes.values()),
             "door_connections": len(self.door.open) if self.door else 0, "door_refused": self.door.refused if self.door else 0,

@@ -6,6 +6,7 @@ import unittest
 from unittest import mock
 
 from clocked import Clocked, imprint
+from ksi_service import files, programs
 from ksi_service import resting as restings
 from ksi_service.record import last_state
 from ksi_service.resting import Resting
@@ -57,6 +58,8 @@ class RestingTest(Clocked):
             clock.resting.add(1)
             await clock.sign(imprint(1))
             clock.resting.clear()
+            while clock.settled() <= clock.last_signed:
+                await asyncio.sleep(0.05)
             starts = []
             for _ in range(2):
                 for number in range(2):
@@ -65,6 +68,32 @@ class RestingTest(Clocked):
             return starts
         # the first time it may have more than this host knows
         self.assertEqual(self.play(work), [[2, 2], [2, 2]])
+
+    def test_without_its_program_nothing_is_forgotten_and_all_goes_on(self):
+        said = []
+
+        async def work(network, clock):
+            await clock.sign(imprint(1))
+            with mock.patch.dict(os.environ, KSI_BIN=os.path.join(self.folder, "none"), PATH="/nowhere"), mock.patch.object(programs, "TOP", self.folder):
+                await Resting(clock, said.append).forget(0)
+            return (await clock.sign(imprint(2)))[0][:64], clock.resting
+        self.assertEqual(self.play(work), (imprint(2), set()))
+        self.assertRegex(said[0], "^a0 forgets nothing now: ksi_forget is not built")
+
+    def test_a_full_disk_leaves_the_file_as_it_was(self):
+        said = []
+
+        async def work(network, clock):
+            await clock.sign(imprint(1))
+            while clock.settled() <= clock.last_signed:
+                await asyncio.sleep(0.05)
+            with mock.patch.object(files, "keep", side_effect=OSError(28, "No space left on device")):
+                for number in range(2):
+                    await Resting(clock, said.append).forget(number)
+            return (await clock.sign(imprint(2)))[0][:64], [it for it in os.listdir(self.folder) if it.endswith(".forgetting")]
+        self.assertEqual(self.play(work), (imprint(2), []))
+        self.assertEqual(len(said), 1)
+        self.assertRegex(said[0], "^a[01] forgets nothing now: .*No space left")
 
     def test_an_aggregator_whose_requests_are_not_answered_in_time_goes_on(self):
         said = []
