@@ -156,7 +156,7 @@ class Clock:
     async def decide(self, second, first):
         """Ballots, until the second is decided: by the leader at first, then by the others in turn."""
         for turn in range(TRIES):
-            if second in self.network.decided:
+            if self.network.decided.get(second):
                 return
             core = self.network.core((first + turn // 3) % self.plan.cores)
             try:
@@ -176,7 +176,9 @@ class Clock:
             if block[0] == "answer done":
                 await self.network.quiet(second)
                 return
-        self.network.decided.pop(second, None)
+        if second in self.network.decided:
+            # no core that answers holds what was decided: it has to be told again
+            self.network.decided[second] = None
         await self.decide(second, core)
 
     async def held(self, core, text):

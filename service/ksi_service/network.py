@@ -70,7 +70,7 @@ class Network:
 
     def carry(self, to, text, message, delay):
         second, decree = second_of(text), decree_of(text)
-        if decree and second not in self.decided:
+        if decree and not self.decided.get(second):
             self.note_decided(second, decree)
         line = Line(text, message)
         self.flights[second] += 1
@@ -81,8 +81,8 @@ class Network:
             self.nodes[to].send(line)
 
     def note_decided(self, second, decree):
+        self.seconds_decided += second not in self.decided
         self.decided[second] = decree
-        self.seconds_decided += 1
         while len(self.decided) > MOST_DECIDED:
             self.decided.popitem(last=False)
 

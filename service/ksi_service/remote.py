@@ -233,9 +233,9 @@ class RemoteNetwork:
     def note_sent(self, to, text):
         second, decree = second_of(text), decree_of(text)
         self.flights[second][to] += 1
-        if decree and second not in self.decided:
+        if decree and not self.decided.get(second):
+            self.seconds_decided += second not in self.decided
             self.decided[second] = decree
-            self.seconds_decided += 1
         while len(self.decided) > MOST_DECIDED:
             self.flights.pop(self.decided.popitem(last=False)[0], None)
 
