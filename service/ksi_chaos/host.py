@@ -13,6 +13,8 @@ from .torn import tear, torn_write
 LOST = TWICE = LATE = 0.1
 TORN = 0.5
 """How often a node's file is torn before the node starts."""
+FORGET_EVERY = 5
+"""How often aggregators forget."""
 SECONDS_TO_CUT, SECONDS_TO_POWER_CUT = 3, 20
 """How long it takes on average until a line is cut, and until the power fails."""
 
@@ -47,6 +49,7 @@ class Saboteur:
         self.service, self.notes, self.dice, self.power_fails = it, notes, random.Random(seed), False
         self.write = it.network.record.write
         it.network.record.write = self.write_or_fail
+        self.forget, it.network.forget = it.network.forget, self.noted_forgetting
         for node in it.network.nodes.values():
             node.drop_cache = self.tearing(node, node.drop_cache)
 
@@ -55,11 +58,19 @@ class Saboteur:
         path = os.path.join(*node.words[-2:])
 
         def work():
-            facts = self.service.network.record.node(node.name).facts
-            if facts is not None and os.path.exists(path) and self.dice.random() < TORN and tear(path, facts, self.dice):
+            state = self.service.network.record.node(node.name)
+            # of a file of which rounds are being forgotten it is not known yet which of two it is
+            known = state.facts is not None and state.before is None
+            if known and os.path.exists(path) and self.dice.random() < TORN and tear(path, state.facts, self.dice):
                 self.notes.add("node files torn")
             drop_cache()
         return work
+
+    async def noted_forgetting(self, aggregator, before):
+        left, found = await self.forget(aggregator, before)
+        if left < found:
+            self.notes.add("times that an aggregator forgot rounds")
+        return left, found
 
     def write_or_fail(self, content):
         """Writes to the record; if the power fails, all processes end, and what was written is torn."""
@@ -92,5 +103,5 @@ def serve(folder, notes, plan, seed):
     """Runs the service over a folder until it is ended."""
     noted = Notes(notes)
     noted.add("starts of the host")
-    asyncio.run(service.run(folder, *plan, address=("127.0.0.1", 0), publish_every=5, cut_every=60, trouble=NotedTrouble(noted, seed),
+    asyncio.run(service.run(folder, *plan, address=("127.0.0.1", 0), publish_every=5, cut_every=60, forget_every=FORGET_EVERY, trouble=NotedTrouble(noted, seed),
                             trouble_with=lambda it: Saboteur(it, noted, seed).work()))

@@ -21,7 +21,7 @@ def judge(run, room, extensions, audits):
             ("from a request to its signature: median, 99 in 100, longest", ", ".join(picked(run.spans, share) for share in (0.5, 0.99, 1))),
             ("steps, each with the proved world's block (`ksi_retrace`); of them never said", f"{found.steps}; {found.unsaid}"),
             ("signatures handed out, each byte for byte the world's", found.signatures),
-            ("facts that nodes acknowledged, all in their files", found.facts),
+            ("facts that nodes acknowledged and did not forget, all in their files", found.facts),
             ("publications, all answers of cores", found.publications),
             ("signatures extended, and accepted by `ksi verify`", found.extended),
             ("of these found in the cores' mirrors by `ksi audit`", found.audited)]

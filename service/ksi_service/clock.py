@@ -49,8 +49,13 @@ class Clock:
     def __init__(self, network, most_waiting=MOST_WAITING, now=time.time):
         self.network, self.plan, self.now, self.most_waiting = network, network.plan, now, most_waiting
         self.asked = {}
+        self.resting = set()
+        """Aggregators that take no requests for now."""
+        self.handed = {}
+        """The last second of which each aggregator had a part in a signature."""
         self.number = int(now() * 1000) << 20
-        self.turn = self.waiting = self.signed = self.again = self.busy = self.last_signed = 0
+        self.turn = self.waiting = self.signed = self.again = self.busy = self.last_signed = self.next = 0
+        """Among them `next`, the first second that is not driven yet: none before it takes a request, whatever the machine's clock says."""
         self.published, self.on_published = None, None
 
     async def sign(self, imprint, second=None):
@@ -78,15 +83,33 @@ class Clock:
     async def place(self, second):
         """The first second from this one on whose leader is up, and an aggregator below it with all that stand between."""
         for _ in range(200):
+            second = max(second, self.next)
             for later in range(self.plan.cores + 1):
                 leader = self.plan.leader(second + later)
-                up = [it for it in self.plan.below[leader] if all(self.network.aggregator(above).alive for above in self.plan.ways[it])]
+                up = [it for it in self.plan.below[leader] if all(map(self.takes, self.plan.ways[it]))]
                 if up and self.network.core(leader).alive:
                     self.turn += 1
                     return second + later, up[self.turn % len(up)]
             await asyncio.sleep(0.1)
             second = max(second, int(self.now()))
         raise NotSigned()
+
+    def takes(self, aggregator):
+        """Whether an aggregator takes requests, and what is submitted to it."""
+        return aggregator not in self.resting and self.network.aggregator(aggregator).alive
+
+    async def drained(self, aggregator, seconds):
+        """Waits until no request waits for an aggregator, or for one below it. Returns whether none does after so many seconds."""
+        end = time.monotonic() + seconds
+        while any(aggregator in self.plan.ways[it] for requests in self.asked.values() for it in requests):
+            if time.monotonic() > end:
+                return False
+            await asyncio.sleep(0.02)
+        return True
+
+    def settled(self):
+        """The second before which each request was answered, by its signature or by none."""
+        return min([self.network.record.state.second, *self.asked])
 
     async def ask(self, imprint, second, aggregator):
         """The signature that a second gives, or None where it gives none."""
@@ -115,10 +138,14 @@ class Clock:
                     request.answer(None)
 
     async def close(self, second, leader):
-        """Closes the rounds below the leader, level by level, so that what one submits comes before the one above it closes."""
+        """Closes the rounds below the leader that have items, level by level, so that what one submits comes before the one above it
+        closes. A round without items would be a fact for nothing."""
+        wanted = {above for it in self.asked.get(second, ()) for above in self.plan.ways[it]}
         for level in self.plan.levels[leader]:
-            await asyncio.gather(*(self.close_one(number, second) for number in level))
-            await self.network.quiet(second)
+            closing = wanted.intersection(level)
+            if closing:
+                await asyncio.gather(*(self.close_one(number, second) for number in sorted(closing)))
+                await self.network.quiet(second)
 
     async def close_one(self, number, second):
         try:
@@ -129,7 +156,7 @@ class Clock:
     async def decide(self, second, first):
         """Ballots, until the second is decided: by the leader at first, then by the others in turn."""
         for turn in range(TRIES):
-            if second in self.network.decided:
+            if self.network.decided.get(second):
                 return
             core = self.network.core((first + turn // 3) % self.plan.cores)
             try:
@@ -149,7 +176,9 @@ class Clock:
             if block[0] == "answer done":
                 await self.network.quiet(second)
                 return
-        self.network.decided.pop(second, None)
+        if second in self.network.decided:
+            # no core that answers holds what was decided: it has to be told again
+            self.network.decided[second] = None
         await self.decide(second, core)
 
     async def held(self, core, text):
@@ -194,6 +223,7 @@ class Clock:
                     block = ["not issued"]
                 if block[0].startswith("signature "):
                     self.hand_out(request, block[0].split(" ")[1])
+                    self.handed.update({it: max(second, self.handed.get(it, 0)) for it in self.plan.ways[number]})
                 else:
                     whole = False
         await self.recorded()
@@ -219,10 +249,10 @@ class Clock:
             await self.on_published(second, words[2])
         return words[2]
 
-    async def publish_by_any(self, second):
-        """Lets a core publish a second, the first one that can."""
-        for core in range(self.plan.cores):
-            if await self.publish(core, second) is not None:
+    async def publish_by_any(self, second, first=0):
+        """Lets a core publish a second, from the first one on the one that can."""
+        for turn in range(self.plan.cores):
+            if await self.publish((first + turn) % self.plan.cores, second) is not None:
                 return
 
     async def end(self, tasks):
@@ -237,6 +267,7 @@ class Clock:
         tasks, second = set(), first
         try:
             while True:
+                self.next = second
                 await asyncio.sleep(max(0.0, second + AFTER - self.now()))
                 if second >= self.plan.start + SECONDS:
                     await self.end(tasks)
@@ -249,7 +280,7 @@ class Clock:
                     task.result()
                 tasks.add(asyncio.create_task(self.drive(second)))
                 if second % publish_every == publish_every - 1 and second - 2 >= self.plan.start:
-                    tasks.add(asyncio.create_task(self.publish(second % self.plan.cores, second - 2)))
+                    tasks.add(asyncio.create_task(self.publish_by_any(second - 2, second % self.plan.cores)))
                 second += 1
         finally:
             for task in tasks:

@@ -16,7 +16,7 @@ from . import check as checking
 from . import backup as backing
 from . import forget as forgetting
 from . import replay as replaying
-from . import extension, files, service, streams
+from . import extension, files, hours, service, streams
 from .calendar import Calendar
 from .clock import PlanEnded
 from .elements import Malformed, parts_of
@@ -114,7 +114,7 @@ def reason_in(path, before):
 
 def run(words):
     asyncio.run(service.run(words.folder, words.cores, words.aggregators, address_of(words.door), publish_every=words.publish_every,
-                            most_waiting=words.most_waiting, cut_every=words.cut_every, over=words.over))
+                            most_waiting=words.most_waiting, cut_every=words.cut_every, forget_every=words.forget_every, over=words.over))
 
 
 def node(words):
@@ -214,18 +214,25 @@ def verify(words):
 
 def check(words):
     """Holds the record of a service that is stopped against the proved world."""
-    held = files.lock(words.folder)
-    checking.check(words.folder, words.samples, by_node=words.by_node)
-    if words.replay:
-        replaying.replay(words.folder, words.replay, words.samples)
-    held.close()
+    with files.lock(words.folder):
+        compress(words.folder)
+        checking.check(words.folder, words.samples, by_node=words.by_node)
+        if words.replay:
+            replaying.replay(words.folder, words.replay, words.samples)
+
+
+def compress(folder):
+    """Compresses the files of a record that is cut which a service had no time for. Not the last one: the next start goes on with it."""
+    count = hours.pack_all(os.path.join(folder, "record"))
+    if count:
+        print(f"compressed {checking.many(count, 'file')} of the record")
 
 
 def backup(words):
     """The mirrors of all cores, merged, and the journal of what they hold, by the proved `ksi`."""
-    held = files.lock(words.folder)
-    backing.make(words.folder, words.out, last_state(os.path.join(words.folder, "record"))[0].second)
-    held.close()
+    with files.lock(words.folder):
+        compress(words.folder)
+        backing.make(words.folder, words.out, last_state(os.path.join(words.folder, "record"))[0].second)
 
 
 def forget(words):
@@ -274,7 +281,8 @@ def add_running(commands, name, does, told):
     one.add_argument("--over", default=OVER, metavar="pipes|redis://HOST", help="how lines go: pipes on this machine, or Redis Streams to the hosts of nodes")
     one.add_argument("--publish-every", type=positive, default=3600, metavar="SECONDS", help="how often a core publishes: 3600")
     one.add_argument("--most-waiting", type=positive, default=service.MOST_WAITING, metavar="REQUESTS", help="how many requests may wait before the door answers 503")
-    one.add_argument("--cut-every", type=positive, default=3600, metavar="SECONDS", help="how often the record begins a new file, and the one before is compressed")
+    one.add_argument("--cut-every", type=positive, default=3600, metavar="SECONDS", help="how often the record begins a new file, and the one before is compressed: 3600")
+    one.add_argument("--forget-every", type=natural, default=3600, metavar="SECONDS", help="how often aggregators forget rounds whose signatures were handed out: 3600; 0 is never")
 
 
 def add_asking(commands, name, does, told, *words, out=None):

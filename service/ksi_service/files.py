@@ -1,6 +1,10 @@
 """Files that are whole or not there: each is written beside its place, synced and renamed. And the lock on a folder."""
 import fcntl
 import os
+import time
+
+LOOKS, LOOK_SECONDS = 10, 0.02
+"""How often is looked for a lock, and how many seconds lie between."""
 
 
 class Held(Exception):
@@ -9,27 +13,42 @@ class Held(Exception):
 
 def lock(folder):
     """Locks a folder until the process ends, or the file that is returned is closed."""
-    return lock_of(os.path.join(folder, "lock"), f"another service runs over {folder}")
+    path, reason = os.path.join(folder, "lock"), f"another service runs over {folder}"
+    for _ in range(LOOKS):
+        try:
+            return lock_of(path, reason)
+        except Held:
+            # it may be who just looks whether it is held
+            time.sleep(LOOK_SECONDS)
+    return lock_of(path, reason)
 
 
 def is_held(folder):
     """Whether a service runs over a folder."""
     try:
-        lock(folder).close()
+        lock_of(os.path.join(folder, "lock"), "", fcntl.LOCK_SH).close()
         return False
     except Held:
         return True
 
 
-def lock_of(path, reason):
+def lock_of(path, reason, how=fcntl.LOCK_EX):
     """Locks a file, or raises Held with the reason."""
     file = open(path, "a", encoding="ascii")
     try:
-        fcntl.flock(file, fcntl.LOCK_EX | fcntl.LOCK_NB)
+        fcntl.flock(file, how | fcntl.LOCK_NB)
     except OSError:
         file.close()
         raise Held(reason) from None
     return file
+
+
+def drop_cache(path):
+    """Drops the system's cache of a file, which may differ from the disk behind a sync that failed."""
+    if os.path.exists(path):
+        file = os.open(path, os.O_RDONLY)
+        os.posix_fadvise(file, 0, 0, os.POSIX_FADV_DONTNEED)
+        os.close(file)
 
 
 def sync_folder(folder):

@@ -18,6 +18,7 @@ TELLS = {
     "last_second": ("gauge", "The last second that a core was told to seal."),
     "steps": ("counter", "Steps on the record."),
     "record_bytes": ("counter", "Bytes written to the record since the start."),
+    "rounds_forgotten": ("counter", "Rounds that aggregators have forgotten since the start."),
     "publications": ("gauge", "Publications so far."),
     "last_publication": ("gauge", "The last second that was published."),
 }

@@ -4,6 +4,7 @@ import collections
 import os
 import random
 
+from .forget import forget_between
 from .node import Line, Node
 from .programs import program
 from .record import Record
@@ -41,7 +42,7 @@ def decree_of(text):
 
 class Network:
     def __init__(self, folder, plan, trouble=None, say=lambda text: None):
-        self.plan, self.trouble, self.lost = plan, trouble, 0
+        self.folder, self.plan, self.trouble, self.lost = folder, plan, trouble, 0
         self.record = Record(os.path.join(folder, "record"))
         programs = {"c": program("ksi_serve_core"), "a": program("ksi_serve_aggregator")}
         file = os.path.join(folder, "plan")
@@ -69,7 +70,7 @@ class Network:
 
     def carry(self, to, text, message, delay):
         second, decree = second_of(text), decree_of(text)
-        if decree and second not in self.decided:
+        if decree and not self.decided.get(second):
             self.note_decided(second, decree)
         line = Line(text, message)
         self.flights[second] += 1
@@ -80,8 +81,8 @@ class Network:
             self.nodes[to].send(line)
 
     def note_decided(self, second, decree):
+        self.seconds_decided += second not in self.decided
         self.decided[second] = decree
-        self.seconds_decided += 1
         while len(self.decided) > MOST_DECIDED:
             self.decided.popitem(last=False)
 
@@ -108,6 +109,11 @@ class Network:
                 if task.done():
                     task.result()
             await asyncio.sleep(0.01)
+
+    async def forget(self, aggregator, before):
+        """Lets an aggregator forget rounds of seconds before this one. Returns how many facts are left, and how many there were."""
+        node = self.aggregator(aggregator)
+        return await node.rest(lambda: forget_between(self.folder, node, before))
 
     async def stop(self):
         """Ends the nodes by the end of their input, and writes what is left of the record."""

@@ -7,6 +7,7 @@ import os
 import signal
 from collections import deque
 
+from . import files
 from .record import MAY_STORE, QUESTIONS, is_refusal, word
 
 MOST_VAIN_STARTS = 8
@@ -57,7 +58,12 @@ class Node:
         self.waiting, self.flying, self.storing = deque(), deque(), 0
         self.alive, self.stopping, self.starts, self.unsaid, self.refused = False, False, 0, 0, 0
         self.process, self.vain_starts, self.reason = None, 0, ""
-        self.ready_lines = []
+        self.ready_lines, self.between = [], None
+
+    @property
+    def restarts(self):
+        """How often it was started behind the first time."""
+        return max(0, self.starts - 1)
 
     async def run(self):
         """Starts the process, again and again, and takes its blocks."""
@@ -65,22 +71,43 @@ class Node:
             await self.live()
             if self.stopping:
                 return
-            # a process that was killed may be started again at any time
-            self.vain_starts += self.process.returncode >= 0
-            if self.vain_starts == MOST_VAIN_STARTS:
-                raise GivenUp(f"{self.name} ends whenever it is started {self.reason}".rstrip())
-            status = self.process.returncode
-            how = f"was killed by signal {-status}" if status < 0 else f"ended with status {status} {self.reason}".rstrip()
-            self.say(f"{self.name} {how}, and is started again")
-            await asyncio.sleep(FIRST_PAUSE * 2 ** self.vain_starts)
+            if self.between:
+                between, self.between = self.between, None
+                await between()
+            else:
+                await self.pause()
+
+    async def pause(self):
+        """Says how the process ended, and waits for a moment, or longer if it did so before."""
+        # a process that was killed may be started again at any time
+        self.vain_starts += self.process.returncode >= 0
+        if self.vain_starts == MOST_VAIN_STARTS:
+            raise GivenUp(f"{self.name} ends whenever it is started {self.reason}".rstrip())
+        status = self.process.returncode
+        how = f"was killed by signal {-status}" if status < 0 else f"ended with status {status} {self.reason}".rstrip()
+        self.say(f"{self.name} {how}, and is started again")
+        await asyncio.sleep(FIRST_PAUSE * 2 ** self.vain_starts)
+
+    async def rest(self, work):
+        """Lets the process answer what it was given, and end; does work over its file; and starts it again. Returns what the work does."""
+        if not self.alive or self.between:
+            raise Down(self.name)
+        done = asyncio.get_running_loop().create_future()
+
+        async def between():
+            try:
+                result = await work()
+                done.done() or done.set_result(result)
+            except Exception as reason:
+                done.done() or done.set_exception(reason)
+        self.alive, self.between = False, between
+        while self.flying and self.process.returncode is None:
+            await asyncio.sleep(0.002)
+        self.process.stdin.close()
+        return await done
 
     def drop_cache(self):
-        """Drops the system's cache of the file of facts, which may differ from the disk behind a sync that failed."""
-        path = os.path.join(*self.words[-2:])
-        if os.path.exists(path):
-            file = os.open(path, os.O_RDONLY)
-            os.posix_fadvise(file, 0, 0, os.POSIX_FADV_DONTNEED)
-            os.close(file)
+        files.drop_cache(os.path.join(*self.words[-2:]))
 
     async def live(self):
         """One life of the process."""

@@ -8,30 +8,27 @@ It is a folder of files, cut from time to time, each but the last compressed. On
     ["ready", NODE, RECORDS, UNSAID]   the node's process was started and found so many facts; of the lines that it had not
                                        answered the first UNSAID happened before it ended, and the others did not
     ["signed", STEP, TEXT]             the signature, in hex, that was handed out for the request of this step
-    ["forgot", NODE, FOUND, LEFT]      the stopped node's file of so many facts is to be the one of those that are left (forget.py)
+    ["forgot", NODE, FOUND, LEFT]      the file of so many facts, whose node's process has ended, is to be the one of those that are left
     ["begins", STATE]                  the first line of a file: what `State` has at this place
 
 Where the nodes are on other machines, their own logs are put together to a record of these entries (remote.py):
 
     ["did", NODE, NUMBER, ID, LINE, FROM, BLOCK]   the node took the line with this ID; FROM is null, or NODE ID PLACE of the line
                                                    that it was sent for; NUMBER is the entry's in the node's log
-    ["restarted", NODE, NUMBER, AGAIN]             the node's process was started; AGAIN is 0 at its first start
+    ["restarted", NODE, NUMBER, AGAIN, FOUND]      the node's process was started and found so many facts; AGAIN is 0 at its first start
 
 Steps are numbered from 0 in the order of the record: a block that is no refusal, a line that happened and was never answered, and
 a restart, which is each start of a node but its first. Questions, which change nothing, are not recorded."""
 import asyncio
 import concurrent.futures
-import gzip
 import json
 import os
-import re
-import shutil
-import zlib
 from collections import deque
 from dataclasses import dataclass, field
 from typing import Deque, Dict, Iterator, List, Optional, Tuple
 
 from . import files
+from .hours import Broken, entries_of, names, pack
 
 MAY_STORE = {"close", "response", "seal", "ballot", "synod"}
 """The first words of lines whose step may store a fact."""
@@ -41,6 +38,8 @@ QUESTIONS = {"sign", "chain", "mirror", "held"}
 
 SOON = 0.008
 """How many seconds an entry that is not urgent waits for others at most."""
+LAST_SECONDS = 5
+"""How long a record that is closed waits for files to be compressed."""
 
 
 def word(line):
@@ -102,8 +101,11 @@ class State:
 
     def take(self, entry) -> List[object]:
         """Takes an entry on, and gives the steps and signatures that it tells of."""
-        kind, *rest = entry
-        told = list(getattr(self, "take_" + kind)(*rest))
+        try:
+            kind, *rest = entry
+            told = list(getattr(self, "take_" + kind)(*rest))
+        except (AttributeError, IndexError, KeyError, TypeError, ValueError):
+            raise Broken(f"the record has an entry that cannot stand there: {text_of(entry)[:200].strip()}") from None
         self.steps += sum(isinstance(it, Step) for it in told)
         return told
 
@@ -160,8 +162,10 @@ class State:
             del self.sent[key]
         return [sent[0], int(place)]
 
-    def take_restarted(self, name, number, again):
+    def take_restarted(self, name, number, again, found=None):
         self.seen[name] = number
+        if found is not None:
+            self.node(name).facts = found
         return [Step(name, None, None, None)] if again else []
 
     def take_begins(self, state):
@@ -173,43 +177,6 @@ class State:
         """The entry from which `take` makes this state."""
         nodes = [[name, node.facts, list(node.unanswered), node.before] for name, node in self.nodes.items()]
         return ["begins", {"steps": self.steps, "second": self.second, "nodes": nodes, "seen": self.seen, "sent": self.sent}]
-
-
-def names(folder) -> List[str]:
-    """The files of a record in order. Of one that is there in both forms the whole one, which is not compressed, counts."""
-    try:
-        found = {it[:8]: it for it in sorted(os.listdir(folder), reverse=True) if re.fullmatch(r"[0-9]{8}(\.gz)?", it)}
-        return [os.path.join(folder, found[it]) for it in sorted(found)]
-    except FileNotFoundError:
-        return []
-
-
-class Broken(Exception):
-    """A record's file is not what was written."""
-
-
-def lines_of(path) -> Iterator[bytes]:
-    """The lines of a file, compressed or not."""
-    with (gzip.open if path.endswith(".gz") else open)(path, "rb") as lines:
-        try:
-            yield from lines
-        except (EOFError, zlib.error, gzip.BadGzipFile) as fault:
-            raise Broken(f"{path} is not what was compressed: {fault}") from None
-
-
-def entries_of(path, is_last) -> Iterator[Tuple[list, int]]:
-    """The entries of a file, each with how many bytes its line has. A crash may have left of the last file's end, which was not synced
-    and had no effect, a line that is cut off or has holes: there the entries end."""
-    for line in lines_of(path):
-        try:
-            entry = json.loads(line) if line.endswith(b"\n") else None
-        except ValueError:
-            entry = None
-        if entry is None:
-            if not is_last:
-                raise Broken(f"{path} has a line that is no entry")
-            return
-        yield entry, len(line)
 
 
 def told(folder) -> Iterator[object]:
@@ -239,9 +206,12 @@ class Record:
     """A record that is added to. What is added is written and synced in groups; then the effects that wait for it happen."""
 
     def __init__(self, folder):
-        self.folder, self.bytes, self.failed, self.soon = folder, 0, False, False
+        self.folder, self.bytes, self.failed, self.soon, self.closing = folder, 0, False, False, False
         self.waiting, self.wanted = [], asyncio.Event()
+        self.flushing: Optional[asyncio.Task] = None
+        """The last group on its way to the disk."""
         self.writer, self.packer = concurrent.futures.ThreadPoolExecutor(1), concurrent.futures.ThreadPoolExecutor(1)
+        self.packing: List[concurrent.futures.Future] = []
         os.makedirs(folder, exist_ok=True)
         self.recall()
 
@@ -257,14 +227,13 @@ class Record:
             self.file = open(found[-1], "ab", buffering=0)
         for path in found[:-1]:
             if not path.endswith(".gz"):
-                self.packer.submit(self.pack, path)
+                self.pack(path)
 
     def open_next(self, number):
         """Begins the file behind this one."""
-        self.number = number + 1
-        path = os.path.join(self.folder, f"{self.number:08}")
+        path = os.path.join(self.folder, f"{number + 1:08}")
         files.write(path, text_of(self.state.begins()).encode())
-        self.file = open(path, "ab", buffering=0)
+        self.number, self.file = number + 1, open(path, "ab", buffering=0)
 
     def node(self, name):
         return self.state.node(name)
@@ -295,7 +264,13 @@ class Record:
         os.fdatasync(self.file.fileno())
 
     async def flush(self):
-        """Writes and syncs what waits, and then lets its effects happen. After a failure nothing has an effect any more."""
+        """Writes and syncs what waits, and then lets its effects happen. If who waits for that is cancelled, it goes on all the same: of
+        two groups the second may not be on the disk without the first."""
+        self.flushing = asyncio.create_task(self.flush_now())
+        await asyncio.shield(self.flushing)
+
+    async def flush_now(self):
+        """After a failure nothing has an effect any more."""
         waiting, self.waiting, self.soon = self.waiting, [], False
         content = "".join(line for line, _ in waiting).encode()
         if self.failed:
@@ -303,7 +278,7 @@ class Record:
         if content:
             try:
                 await asyncio.get_running_loop().run_in_executor(self.writer, self.write, content)
-            except OSError:
+            except BaseException:
                 self.failed = True
                 raise
         for _, effect in waiting:
@@ -326,23 +301,27 @@ class Record:
         """Begins a new file; the one before is compressed in its own time."""
         while self.waiting:
             await self.flush()
-        self.file.close()
-        before = self.file.name
+        before = self.file
         self.open_next(self.number)
-        self.packer.submit(self.pack, before)
+        before.close()
+        self.pack(before.name)
 
-    @staticmethod
-    def pack(path):
-        """Compresses a file, and removes it once the other is on the disk."""
-        made = f"{path}.gz.new"
-        with open(path, "rb") as whole, gzip.open(made, "wb", compresslevel=4) as packed:
-            shutil.copyfileobj(whole, packed, 1 << 20)
-        files.keep(made, f"{path}.gz")
-        files.remove(path)
+    def pack(self, path):
+        self.packing = [it for it in self.packing if not it.done()]
+        self.packing.append(self.packer.submit(pack, path, lambda: self.closing))
 
     async def close(self):
-        while self.waiting:
-            await self.flush()
-        self.file.close()
-        self.writer.shutdown()
-        self.packer.shutdown()
+        """Writes what waits, behind what is on its way to the disk, and closes the file once its writer has ended. What takes too long to
+        compress is left to the next start."""
+        if self.flushing is not None:
+            # whoever waited for it was told of a failure, or was cancelled
+            await asyncio.gather(self.flushing, return_exceptions=True)
+        try:
+            while self.waiting:
+                await self.flush()
+        finally:
+            self.writer.shutdown()
+            self.file.close()
+            concurrent.futures.wait(self.packing, LAST_SECONDS)
+            self.closing = True
+            self.packer.shutdown(cancel_futures=True)

@@ -9,6 +9,7 @@ import queue
 import threading
 import time
 
+from .forget import NotForgotten
 from .network import MOST_DECIDED, decree_of, second_of
 from .node import Down, Line
 from .record import Record
@@ -26,7 +27,7 @@ class RemoteNode:
 
     def __init__(self, name, network):
         self.name, self.network = name, network
-        self.alive, self.starts, self.refused, self.process = False, 0, 0, None
+        self.alive, self.restarts, self.refused, self.process = False, 0, 0, None
 
     def send(self, line):
         if self.alive:
@@ -96,8 +97,6 @@ class RemoteNetwork:
 
     def begin(self, cut_every=3600.0):
         loop = asyncio.get_running_loop()
-        client = connect(self.url)
-        patiently(lambda: self.begin_plan(client), self.say)
         self.tasks = [asyncio.create_task(self.record.run(cut_every)),
                       *(asyncio.create_task(self.thread(it)) for it in (lambda: self.read(loop), self.send_all))]
         return self.tasks
@@ -121,8 +120,9 @@ class RemoteNetwork:
         await done
 
     def read(self, loop):
-        """Reads what the nodes did, and who is there, in a thread."""
+        """Reads what the nodes did, and who is there, in a thread. Nothing is sent to a node before the plan is the server's."""
         client = connect(self.url)
+        patiently(lambda: self.begin_plan(client), self.say)
         seen = {f"ksi:log:{name}": self.record.state.seen.get(name, "0") for name in self.nodes}
         seen.update(patiently(lambda: {it: last_of(client, it) for it in (f"ksi:said:{name}" for name in self.nodes)}, self.say))
         looked = trimmed = 0.0
@@ -187,6 +187,13 @@ class RemoteNetwork:
         self.moved.set()
         self.moved = asyncio.Event()
 
+    async def forget(self, aggregator, before):
+        """Lets an aggregator's host forget rounds of seconds before this one. Returns how many facts are left, and how many there were."""
+        words = (await self.aggregator(aggregator).ask(f"forget {before}"))[0].split(" ")
+        if words[0] != "forgot":
+            raise NotForgotten("its host says " + " ".join(words))
+        return int(words[1]), int(words[3])
+
     def give_up(self, node):
         """Waits no more for what a node was asked. It may still come to do it."""
         for ask in [ask for ask, (name, _) in self.asked.items() if name == node.name]:
@@ -204,8 +211,8 @@ class RemoteNetwork:
         """Puts an entry of a log onto the record."""
         on_disk = lambda: self.on_disk.update({name: number})
         if "ready" in fields:
-            self.record.add(["restarted", name, number, int("restart" in fields)], on_disk)
-            self.nodes[name].starts += 1
+            self.record.add(["restarted", name, number, int("restart" in fields), int(fields["ready"])], on_disk)
+            self.nodes[name].restarts += "restart" in fields
             return
         sender, block = fields.get("from"), fields["said"].split("\n") if "said" in fields else None
         line = self.asked.pop(fields["ask"], (None, None))[1] if "ask" in fields else None
@@ -226,9 +233,9 @@ class RemoteNetwork:
     def note_sent(self, to, text):
         second, decree = second_of(text), decree_of(text)
         self.flights[second][to] += 1
-        if decree and second not in self.decided:
+        if decree and not self.decided.get(second):
+            self.seconds_decided += second not in self.decided
             self.decided[second] = decree
-            self.seconds_decided += 1
         while len(self.decided) > MOST_DECIDED:
             self.flights.pop(self.decided.popitem(last=False)[0], None)
 

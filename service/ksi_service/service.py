@@ -20,6 +20,7 @@ from .plan import Odd, Plan, parents_of
 from .programs import page
 from .publications import Publications
 from .remote import RemoteNetwork
+from .resting import Resting
 
 CORES, AGGREGATORS = 3, "2"
 """What a new folder has."""
@@ -127,13 +128,14 @@ class House:
 
 
 class Service:
-    def __init__(self, folder, plan, publish_every=3600, most_waiting=MOST_WAITING, cut_every=3600, over="pipes", trouble=None):
-        self.folder, self.plan, self.publish_every, self.cut_every = folder, plan, publish_every, cut_every
+    def __init__(self, folder, plan, publish_every=3600, most_waiting=MOST_WAITING, cut_every=3600, forget_every=3600, over="pipes", trouble=None):
+        self.folder, self.plan, self.publish_every, self.cut_every, self.forget_every = folder, plan, publish_every, cut_every, forget_every
         self.network = Network(folder, plan, trouble, say) if over == "pipes" else RemoteNetwork(folder, plan, over, say)
         self.clock = Clock(self.network, most_waiting)
+        self.resting = Resting(self.clock, say)
         self.publications, self.calendar = Publications(folder), Calendar(plan.start)
         self.publishing, self.clock.on_published = asyncio.Lock(), self.publish
-        self.began, self.door = time.time(), None
+        self.began, self.door = time.monotonic(), None
         self.tasks, self.own = [], []
 
     async def begin(self):
@@ -141,6 +143,8 @@ class Service:
         self.tasks = list(self.network.begin(self.cut_every))
         await self.network.ready()
         self.own = [asyncio.create_task(self.clock.run(first, self.publish_every))]
+        if self.forget_every:
+            self.own.append(asyncio.create_task(self.resting.run(self.forget_every)))
         self.tasks += self.own
 
     def next_publication(self):
@@ -184,14 +188,15 @@ class Service:
     def counters(self):
         nodes, clock, record = self.network.nodes, self.clock, self.network.record
         return {
-            "up_seconds": int(time.time() - self.began),
+            "up_seconds": int(time.monotonic() - self.began),
             "nodes": len(nodes), "nodes_up": sum(node.alive for node in nodes.values()),
-            "node_restarts": sum(max(0, node.starts - 1) for node in nodes.values()),
+            "node_restarts": sum(node.restarts for node in nodes.values()),
             "door_connections": len(self.door.open) if self.door else 0, "door_refused": self.door.refused if self.door else 0,
             "lines_refused": sum(node.refused for node in nodes.values()),
             "signed": clock.signed, "asked_again": clock.again, "waiting": clock.waiting, "busy": clock.busy,
             "seconds_decided": self.network.seconds_decided, "last_second": record.state.second,
             "steps": record.state.steps, "record_bytes": record.bytes,
+            "rounds_forgotten": self.resting.rounds,
             "publications": len(self.publications.published), "last_publication": self.publications.last() or 0,
             "processes": self.processes(), "memory_bytes": memory({"host": os.getpid(), **self.processes()}),
         }

@@ -3,8 +3,8 @@
     ksi:plan          the plan, a string
     ksi:to:NODE       lines for a node: line, and from (NODE ID PLACE, of the line that made it and which of its messages it is) or ask
     ksi:log:NODE      what the node did: id, line, from, ask, said (its block), or unsaid; or ready and, but for the first start, restart
-    ksi:said:NODE     what changed nothing: ask, said. Refusals and answers to questions, of which the last few thousand are kept
-    ksi:facts:NODE    how many facts the node has acknowledged
+    ksi:said:NODE     what changed nothing: ask, said. Refusals, answers to questions and what was forgotten; the last few thousand are kept
+    ksi:facts:NODE    how many facts the node has acknowledged; between two starts that it forgets, how many are left, and how many were
     ksi:done:NODE     the last transaction of the node's host
     ksi:alive:NODE    there while the node runs
 
@@ -12,14 +12,18 @@ What a node does with a line is one transaction: its entry in the log, a line fo
 of facts. So a host that ends, or a server that is killed, loses nothing and repeats nothing that was done. It has to keep what it
 was told: `appendonly yes`, `appendfsync always`. Needs Debian's python3-redis."""
 import os
+import re
 import secrets
 import subprocess
 import sys
 import time
 
 from . import files
+from .forget import Left
 from .node import FIRST_PAUSE, MOST_VAIN_STARTS, GivenUp, LostFacts
+from .programs import Missing as MissingProgram
 from .programs import program
+from .proved import Refused
 from .record import MAY_STORE, QUESTIONS, is_refusal, is_stored, word
 
 GROUP, READER = "host", "one"
@@ -28,6 +32,8 @@ MOST_AT_ONCE = 256
 MOST_SAID = 20_000
 ALIVE_MILLISECONDS = 1500
 BLOCK_MILLISECONDS = 500
+FORGET = re.compile(r"forget (0|[1-9][0-9]{0,18})")
+"""A line that an aggregator's host takes in its node's place: to forget rounds of seconds before this one."""
 
 
 class Missing(Exception):
@@ -103,8 +109,10 @@ class NodeHost:
     def __init__(self, url, folder, name, say=lambda text: None):
         self.client, self.folder, self.name, self.say = connect(url), folder, name, say
         self.to, self.log, self.said = (f"ksi:{it}:{name}" for it in ("to", "log", "said"))
-        self.process, self.facts, self.vain, self.serial = None, 0, 0, 0
+        self.process, self.facts, self.before, self.vain, self.serial = None, 0, None, 0, 0
         self.run_id, self.pending, self.told_alive = secrets.token_hex(8), [], 0.0
+        self.forgotten = None
+        """A line that was to forget, and what is said to it with the next start."""
 
     def run(self):
         """Serves until the process of this host is ended."""
@@ -139,11 +147,16 @@ class NodeHost:
         """One life of the process."""
         node = program("ksi_serve_core" if self.name[0] == "c" else "ksi_serve_aggregator")
         words = [node, os.path.join(self.folder, "plan"), self.name[1:], self.folder, f"{self.name}.facts"]
+        # the name of a file of which rounds were forgotten, before a node adds to it
+        files.sync_folder(self.folder)
+        files.drop_cache(os.path.join(*words[-2:]))
         self.process = Process(words)
         try:
             self.begin(self.process.block())
-            while True:
-                self.take(self.lines())
+            while not self.is_to_forget(lines := self.lines()):
+                self.take(lines)
+            self.process.end()
+            return self.forget(*lines[0])
         except Ended as ended:
             self.say(f"{self.name} ended {ended}".rstrip())
         finally:
@@ -156,16 +169,19 @@ class NodeHost:
     def begin(self, block):
         """Sees which of the lines that were given and not acknowledged happened, by the count of facts."""
         known = self.patiently(lambda: self.client.get(f"ksi:facts:{self.name}"))
-        self.pending = self.patiently(self.unacknowledged)
-        found, happened = int(block[0].split(" ")[1]), []
-        if found != int(known or 0):
+        told, self.forgotten = self.forgotten, None
+        self.pending = [it for it in self.patiently(self.unacknowledged) if told is None or it[0] != told[0]]
+        found, counts, happened = int(block[0].split(" ")[1]), list(map(int, (known or "0").split(" "))), []
+        if found not in counts:
             storing = [at for at, (_, fields) in enumerate(self.pending) if word(fields["line"]) in MAY_STORE]
-            if found != int(known or 0) + 1 or not storing:
+            if found != counts[0] + 1 or not storing:
                 raise LostFacts(f"{self.name} acknowledged {known or 0} facts and found {found}")
             happened, self.pending = self.pending[:storing[0] + 1], self.pending[storing[0] + 1:]
-        self.facts = found
+        self.facts, self.before = found, None
 
         def fill(commit):
+            if told is not None:
+                self.answer(commit, *told)
             for number, fields in happened:
                 if word(fields["line"]) not in QUESTIONS:
                     commit.xadd(self.log, {"id": number, **fields, "unsaid": 1})
@@ -187,9 +203,35 @@ class NodeHost:
             except errors():
                 # lines that were on their way to this host are not new any more
                 self.pending = self.patiently(self.unacknowledged)
-        storing = next((at + 1 for at, (_, fields) in enumerate(self.pending) if word(fields["line"]) in MAY_STORE), MOST_AT_ONCE)
-        lines, self.pending = self.pending[:storing], self.pending[storing:]
+        ends = next((at + 1 for at, (_, fields) in enumerate(self.pending) if word(fields["line"]) in MAY_STORE), MOST_AT_ONCE)
+        ends = next((max(1, at) for at, it in enumerate(self.pending[:ends]) if self.is_to_forget([it])), ends)
+        lines, self.pending = self.pending[:ends], self.pending[ends:]
         return lines
+
+    def is_to_forget(self, lines):
+        """Whether lines are the one that an aggregator is to forget by. It is taken alone."""
+        return self.name[0] == "a" and FORGET.fullmatch(lines[0][1]["line"]) is not None
+
+    def forget(self, number, fields):
+        """Forgets rounds while the process has ended. From the first transaction on both counts of facts are right; which it is, and
+        what is said to who asked, goes with the next start."""
+        before = int(FORGET.fullmatch(fields["line"])[1])
+        try:
+            new = Left(self.folder, self.name, before, self.tell_alive)
+        except (MissingProgram, Refused) as reason:
+            self.say(f"{self.name} forgets nothing now: {reason}")
+            self.forgotten = number, fields, ["refused forget"]
+            return
+        try:
+            if new.found != self.facts:
+                raise LostFacts(f"{self.name} acknowledged {self.facts} facts and has {new.found}")
+            if new.is_less():
+                self.facts, self.before = new.left, new.found
+                self.commit(lambda commit: None)
+                new.keep()
+            self.forgotten = number, fields, [f"forgot {new.left} of {new.found}"]
+        finally:
+            new.drop()
 
     def tell_alive(self):
         now = time.monotonic()
@@ -213,13 +255,18 @@ class NodeHost:
     def put(self, commit, number, fields, block):
         """What came of one line."""
         if word(fields["line"]) in QUESTIONS or is_refusal(block):
-            if "ask" in fields:
-                commit.xadd(self.said, {"ask": fields["ask"], "said": "\n".join(block)}, maxlen=MOST_SAID)
-        else:
-            commit.xadd(self.log, {"id": number, **fields, "said": "\n".join(block)})
-            for place, row in enumerate(it for it in block if it.startswith("send ")):
-                _, to, text = row.split(" ", 2)
-                commit.xadd(f"ksi:to:{to}", {"line": text, "from": f"{self.name} {number} {place}"})
+            self.answer(commit, number, fields, block)
+            return
+        commit.xadd(self.log, {"id": number, **fields, "said": "\n".join(block)})
+        for place, row in enumerate(it for it in block if it.startswith("send ")):
+            _, to, text = row.split(" ", 2)
+            commit.xadd(f"ksi:to:{to}", {"line": text, "from": f"{self.name} {number} {place}"})
+        self.settle(commit, number)
+
+    def answer(self, commit, number, fields, block):
+        """Says what changed nothing to who asked, if somebody did."""
+        if "ask" in fields:
+            commit.xadd(self.said, {"ask": fields["ask"], "said": "\n".join(block)}, maxlen=MOST_SAID)
         self.settle(commit, number)
 
     def settle(self, commit, number):
@@ -248,7 +295,7 @@ class NodeHost:
                         return
                     commit.multi()
                     fill(commit)
-                    commit.set(f"ksi:facts:{self.name}", self.facts)
+                    commit.set(f"ksi:facts:{self.name}", self.facts if self.before is None else f"{self.facts} {self.before}")
                     commit.set(done, serial)
                     commit.execute()
                     return

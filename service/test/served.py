@@ -82,11 +82,11 @@ class Served(unittest.TestCase):
             file.write(text)
         return path
 
-    def checked(self):
+    def checked(self, samples=10):
         """The record is held against the proved world, and replayed to each signature, where the programs for it are here."""
         if not REAL:
             return None
-        found = check.check(self.folder, samples=10, say=lambda text: None)
+        found = check.check(self.folder, samples, say=lambda text: None, audits=10)
         again = replay.replay(self.folder, os.path.join(self.room.name, "replay"), samples=1000, say=lambda text: None)
         self.assertEqual((again.events, again.signatures, again.signed, again.publications), (found.steps, found.signatures, found.signatures, found.publications))
         return found

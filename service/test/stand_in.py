@@ -1,4 +1,5 @@
-"""stand_in.py core|aggregator PLAN NUMBER FOLDER NAME: a node for tests of the host where the proved programs are not built.
+"""stand_in.py core|aggregator PLAN NUMBER FOLDER NAME: a node for tests of the host where the proved programs are not built. And
+stand_in.py forget PLAN NUMBER FOLDER NAME BEFORE FRESH, which forgets rounds of such an aggregator.
 
 It takes the lines of a node and answers by the blocks of one (docs/FORMATS.md, "Lines of nodes"), and keeps its facts in a file, a
 line each. Its trees are one hash and its signatures are no signatures, but for a round of one request above which a proved core
@@ -237,6 +238,26 @@ class Aggregator(Stand):
         return f"signature {item.split(':')[1]}{int(second):016x}{self.answered[second]}"
 
 
+def locked(path):
+    file = open(path, "a+", encoding="ascii")
+    fcntl.flock(file, fcntl.LOCK_EX | fcntl.LOCK_NB)
+    file.seek(0)
+    return file
+
+
+def forget(folder, name, before, fresh):
+    """Writes what is left: the closing of a round that is forgotten without its items, and not its response."""
+    old, new = (locked(os.path.join(folder, it)) for it in (name, fresh))
+    facts = [line.split() for line in old]
+    gone = {fact[1] for fact in facts if fact[0] == "answered" and int(fact[1]) < int(before)}
+    left = [fact[:2] if fact[1] in gone else fact for fact in facts if (fact[0], fact[1] in gone) != ("answered", True)]
+    new.writelines(" ".join(fact) + "\n" for fact in left)
+    print(f"left {len(left)} of {len(facts)}")
+
+
 if __name__ == "__main__":
-    kind, plan, number, folder, name = sys.argv[1:]
-    {"core": Core, "aggregator": Aggregator}[kind](plan, int(number), os.path.join(folder, name)).serve()
+    kind, plan, number, folder, name, *rest = sys.argv[1:]
+    if kind == "forget":
+        forget(folder, name, *rest)
+    else:
+        {"core": Core, "aggregator": Aggregator}[kind](plan, int(number), os.path.join(folder, name)).serve()

@@ -26,9 +26,9 @@ def run_script(test, *words):
 
 
 def make(folder):
-    """Makes the stand-ins for the nodes' programs in a folder."""
+    """Makes the stand-ins for the nodes' programs, and for ksi_forget, in a folder."""
     os.makedirs(folder, exist_ok=True)
-    for name in NODES:
+    for name in (*NODES, "ksi_forget"):
         path = os.path.join(folder, name)
         with open(path, "w", encoding="utf-8") as file:
             file.write(f'#!/bin/sh\nexec {sys.executable} {os.path.join(HERE, "stand_in.py")} {name.rsplit("_", 1)[1]} "$@"\n')

@@ -3,7 +3,7 @@ import unittest
 
 import stands
 
-MISSING = stands.missing("ksi", "ksi_retrace", *stands.NODES)
+MISSING = stands.missing("ksi", "ksi_retrace", "ksi_forget", *stands.NODES)
 
 
 @unittest.skipIf(MISSING, MISSING)
@@ -13,7 +13,7 @@ class ChaosTest(unittest.TestCase):
         self.assertIn("ksi_retrace agrees", said)
         rows = dict(row[2:-2].split(" | ") for row in said.splitlines() if row.startswith("| "))
         for name, least in (("signatures that clients got, all on the record", 10), ("messages lost", 5), ("processes killed by SIGKILL", 3),
-                            ("signatures extended, and accepted by `ksi verify`", 10), ("of these found in the cores' mirrors by `ksi audit`", 10)):
+                            ("times that an aggregator forgot rounds", 1), ("signatures extended, and accepted by `ksi verify`", 10), ("of these found in the cores' mirrors by `ksi audit`", 10)):
             self.assertGreaterEqual(int(rows[name]), least, said)
 
 

@@ -2,56 +2,20 @@
 import asyncio
 import os
 import random
-import tempfile
 import time
 import unittest
 from unittest import mock
 
-import stands
+from clocked import Clocked, imprint
 from ksi_service import clock as clocks
-from ksi_service.clock import Busy, Clock
-from ksi_service.network import Network, Trouble
-from ksi_service.plan import Odd, Plan, parents_of
-from ksi_service.record import Signed, told
+from ksi_service.clock import Busy
+from ksi_service.network import Trouble
+from ksi_service.plan import Odd, parents_of
+from ksi_service.record import Signed, Step, told
 from ksi_service.service import plan_of
 
 
-def imprint(number):
-    return f"{number:064x}"
-
-
-class ClockTest(unittest.TestCase):
-    def setUp(self):
-        self.room = tempfile.TemporaryDirectory(prefix="ksi-test-")
-        self.addCleanup(self.room.cleanup)
-        self.folder = self.room.name
-        named = mock.patch.dict(os.environ, KSI_BIN=stands.make(os.path.join(self.folder, "bin")))
-        named.start()
-        self.addCleanup(named.stop)
-
-    def play(self, work, trouble=None, cores=3, aggregators="2", start=None, **options):
-        """Runs a network and its clock, and a play with them."""
-        async def go():
-            plan = plan_of(self.folder, cores, aggregators) if start is None else Plan(cores, start, parents_of(aggregators, cores))
-            with open(os.path.join(self.folder, "plan"), "w", encoding="ascii") as file:
-                file.write(plan.text())
-            network = Network(self.folder, plan, trouble)
-            network.begin()
-            await network.ready()
-            clock = Clock(network, **options)
-            first = max(plan.start, network.record.state.second)
-            running = asyncio.create_task(clock.run(first, 2))
-            try:
-                return await asyncio.wait_for(work(network, clock), 60)
-            finally:
-                running.cancel()
-                await asyncio.gather(running, return_exceptions=True)
-                await network.stop()
-        return asyncio.run(go())
-
-    def handed_out(self):
-        return [it for it in told(os.path.join(self.folder, "record")) if isinstance(it, Signed)]
-
+class ClockTest(Clocked):
     def test_each_request_is_signed_for_its_hash_and_second(self):
         async def work(_, clock):
             return await asyncio.gather(*[clock.sign(imprint(number)) for number in range(200)])
@@ -150,6 +114,39 @@ class ClockTest(unittest.TestCase):
             return [isinstance(it, Busy) for it in told], clock.busy, clock.waiting
         refused, busy, waiting = self.play(work, most_waiting=20)
         self.assertEqual((refused, busy, waiting), ([False] * 20 + [True] * 10, 10, 0))
+
+    def test_a_second_is_published_by_another_core_if_the_one_in_turn_is_down(self):
+        async def work(network, clock):
+            network.core(1).words = ["/bin/sleep", "1000"]
+            network.core(1).kill()
+            await clock.sign(imprint(1))
+            with mock.patch.object(clocks, "TRIES", 2):
+                await clock.publish_by_any(clock.last_signed, 1)
+            return clock.published, clock.last_signed
+        published, signed = self.play(work)
+        self.assertGreaterEqual(published, signed)
+
+    def test_a_clock_that_is_set_back_a_little_loses_no_request(self):
+        async def work(network, clock):
+            first = await clock.sign(imprint(1))
+            real = clock.now
+            clock.now = lambda: real() - 3
+            second = await clock.sign(imprint(2))
+            return first[1], second[1], clock.again, clock.asked
+        first, second, again, asked = self.play(work)
+        self.assertGreater(second, first)
+        self.assertEqual((again, asked), (0, {}))
+
+    def test_a_round_without_items_is_not_closed(self):
+        async def work(_, clock):
+            for _ in range(2):
+                await clock.sign(imprint(1))
+                await asyncio.sleep(2)
+        self.play(work, aggregators="c0,c1,a0")
+        lines = [it.line.split(" ") for it in told(os.path.join(self.folder, "record")) if isinstance(it, Step) and it.line]
+        closed = [words[1] for words in lines if words[0] == "close"]
+        self.assertEqual(set(closed), {words[2] for words in lines if words[0] == "request"})
+        self.assertLessEqual(len(closed), 4)
 
     def test_a_plan_ends_with_its_last_second_published(self):
         seen = []

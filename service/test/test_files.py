@@ -1,6 +1,8 @@
 """The files that the host makes: publications, mirrors, extensions; and what is whole or not there."""
+import fcntl
 import os
 import tempfile
+import threading
 import unittest
 from unittest import mock
 
@@ -168,7 +170,15 @@ class FilesTest(unittest.TestCase):
     def test_a_folder_is_locked_once(self):
         held = files.lock(self.room.name)
         self.assertRaises(files.Held, files.lock, self.room.name)
+        self.assertTrue(files.is_held(self.room.name))
         held.close()
+        self.assertFalse(files.is_held(self.room.name))
+        files.lock(self.room.name).close()
+
+    def test_who_looks_whether_a_folder_is_held_keeps_nobody_out(self):
+        looking = files.lock_of(os.path.join(self.room.name, "lock"), "", fcntl.LOCK_SH)
+        self.assertFalse(files.is_held(self.room.name))
+        threading.Timer(0.05, looking.close).start()
         files.lock(self.room.name).close()
 
     def test_publications_rise_and_are_found_again(self):

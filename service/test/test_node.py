@@ -116,6 +116,71 @@ class NodeTest(unittest.TestCase):
         self.assertEqual(self.play(work)[0], ["answer done"])
         self.assertEqual([line for line, _ in self.told()], ["seal 5", None, "tell 7"])
 
+    def test_a_node_rests_behind_what_it_was_given(self):
+        async def work(node):
+            asks = [asyncio.create_task(node.ask(f"seal {second}")) for second in range(5)]
+            await asyncio.sleep(0)
+            seen, process = [], node.process
+
+            async def between():
+                seen.append((process.returncode, node.alive, len(node.flying)))
+                return os.path.getsize(self.facts)
+            resting = asyncio.create_task(node.rest(between))
+            await asyncio.sleep(0)
+            with self.assertRaises(Down):
+                await node.rest(between)
+            with self.assertRaises(Down):
+                await node.ask("tell 6")
+            result = await resting
+            while not node.alive:
+                await asyncio.sleep(0.002)
+            said = await asyncio.gather(*asks, return_exceptions=True)
+            return seen, result, [isinstance(it, Down) for it in said], await node.ask("tell 7"), node.restarts
+        (seen, result, down, after, restarts), _ = self.play(work)
+        self.assertEqual((seen, after, restarts), ([(0, False, 0)], ["answer done"], 1))
+        # what was on its way to the process came to its end, and what waited behind it was told so
+        self.assertEqual((down.count(False), down), (result, sorted(down)))
+        self.assertEqual([line for line, _ in self.told()], [*(f"seal {second}" for second in range(result)), None, "tell 7"])
+        self.assertEqual(self.log, [])
+
+    def test_a_node_goes_on_behind_work_that_fails(self):
+        async def work(node):
+            async def between():
+                raise OSError(28, "No space left on device")
+            with self.assertRaises(OSError):
+                await node.rest(between)
+            node.kill()
+            while not node.alive:
+                await asyncio.sleep(0.002)
+            return await node.ask("seal 5")
+        self.assertEqual(self.play(work)[0][0], "answer done")
+
+    def test_a_node_that_is_killed_while_it_is_to_rest_rests(self):
+        async def work(node):
+            asked = asyncio.create_task(node.ask("ballot 5"))
+            await asyncio.sleep(0)
+
+            async def between():
+                return node.record.node("c0").may_have(os.path.getsize(self.facts))
+            result = await node.rest(between)
+            self.assertEqual([type(it) for it in await asyncio.gather(asked, return_exceptions=True)], [Down])
+            while not node.alive:
+                await asyncio.sleep(0.002)
+            return result, await node.ask("tell 7")
+        # it stored a fact and did not tell: who counts facts is to leave the file alone
+        self.assertEqual(self.play(work)[0], (False, ["answer done"]))
+        self.assertEqual(self.told(), [("ballot 5", None), (None, None), ("tell 7", ["answer done"])])
+
+    def test_a_node_that_is_to_rest_ends(self):
+        async def work(node):
+            async def between():
+                await asyncio.sleep(100)
+            resting = asyncio.create_task(node.rest(between))
+            await asyncio.sleep(0)
+            resting.cancel()
+        self.play(work)
+        self.assertEqual(self.told(), [])
+
     def test_a_lost_fact_stops_the_host(self):
         self.recorded('["ready","c0",0,0]\n["given","c0","seal 5",null]\n["said","c0",["answer done","stored"]]\n')
 

@@ -5,10 +5,13 @@ import json
 import os
 import stat
 import tempfile
+import threading
+import time
 import unittest
 from unittest import mock
 
-from ksi_service import apart, replay, retrace
+from ksi_service import apart, files, hours, replay, retrace
+from ksi_service import record as records
 from ksi_service.plan import Plan
 from ksi_service.record import Broken, Record, Signed, State, Step, names, told
 from ksi_service.replay import schedule_of
@@ -47,7 +50,7 @@ class RecordTest(unittest.TestCase):
 
     def test_what_a_crash_left_of_the_end_is_left_out(self):
         said = json.dumps(["said", "c0", ["answer done"]]).encode()
-        for torn in (b"\0" * 40, b"\0" * 40 + b"\n" + said + b"\n", said[:9] + b"\0" * 20 + said[29:] + b"\n" + said + b"\n", b"\xff\n", b"\n"):
+        for torn in (b"5\n", b"[]\n", b"\0" * 40, b"\0" * 40 + b"\n" + said + b"\n", said[:9] + b"\0" * 20 + said[29:] + b"\n" + said + b"\n", b"\xff\n", b"\n"):
             self.write(*SEALED)
             with open(names(self.folder)[0], "ab") as file:
                 file.write(torn)
@@ -106,6 +109,86 @@ class RecordTest(unittest.TestCase):
         self.opened(work)
         self.assertEqual(seen, [])
         self.assertEqual(self.opened().state.nodes, {})
+
+    def closed_while(self, work):
+        """What had an effect where a record is closed while its first group is on its way to the disk, and who waits for that is
+        cancelled, as when a service stops. Work is done with the record just before the group is given on."""
+        seen = []
+
+        async def go():
+            record, begun = Record(self.folder), threading.Event()
+            write = record.write
+
+            def slowly(content):
+                begun.set()
+                time.sleep(0.2)
+                write(content)
+            record.write = slowly
+            running = asyncio.create_task(record.run())
+            work(record)
+            record.add(["ready", "c0", 0, 0], lambda: seen.append("c0"))
+            await asyncio.sleep(0.05)
+            running.cancel()
+            record.add(["ready", "c1", 0, 0], lambda: seen.append("c1"))
+            await record.close()
+            self.assertTrue(begun.is_set())
+            await asyncio.gather(running, return_exceptions=True)
+        asyncio.run(go())
+        return seen, list(self.opened().state.nodes)
+
+    def test_a_write_under_way_ends_before_the_file_is_closed(self):
+        self.assertEqual(self.closed_while(lambda record: None), (["c0", "c1"], ["c0", "c1"]))
+
+    def test_a_group_that_is_not_begun_yet_is_not_left_out(self):
+        self.assertEqual(self.closed_while(lambda record: record.writer.submit(time.sleep, 0.2)), (["c0", "c1"], ["c0", "c1"]))
+
+    def test_a_failed_write_under_way_is_told_to_nobody_and_ends_all(self):
+        async def work(record):
+            record.write = mock.Mock(side_effect=OSError(28, "No space left on device"))
+            running = asyncio.create_task(record.run())
+            record.add(["ready", "c0", 0, 0])
+            await asyncio.sleep(0)
+            running.cancel()
+            await asyncio.gather(running, return_exceptions=True)
+            record.add(["ready", "c1", 0, 0])
+        self.opened(work)
+        self.assertEqual(self.opened().state.nodes, {})
+
+    def test_what_takes_too_long_to_compress_is_left_whole(self):
+        async def work(record):
+            record.add(["given", "c0", "x" * (3 << 20), None])
+            record.add(["said", "c0", ["answer done"]])
+            record.packer.submit(time.sleep, 0.3)
+            await record.cut()
+        with mock.patch.object(records, "LAST_SECONDS", 0.1):
+            self.opened(work)
+        self.assertEqual(sorted(os.listdir(self.folder)), ["00000001", "00000002"])
+        self.assertEqual((hours.pack_all(self.folder), hours.pack_all(self.folder)), (1, 0))
+        self.assertEqual(sorted(os.listdir(self.folder)), ["00000001.gz", "00000002"])
+        self.assertEqual([it.block for it in told(self.folder)], [["answer done"]])
+
+    def test_a_full_disk_leaves_no_half_of_a_compressed_file(self):
+        self.write(*SEALED)
+        path = names(self.folder)[0]
+        with mock.patch.object(files, "keep", side_effect=OSError(28, "No space left on device")):
+            self.assertFalse(hours.pack(path))
+        self.assertEqual(os.listdir(self.folder), ["00000001"])
+
+    def test_a_cut_that_fails_leaves_the_record_as_it_was(self):
+        async def work(record):
+            record.add(["ready", "c0", 0, 0])
+            with mock.patch.object(files, "write", side_effect=OSError(28, "No space left on device")), self.assertRaises(OSError):
+                await record.cut()
+            record.add(["ready", "c1", 0, 0])
+        self.opened(work)
+        self.assertEqual(list(self.opened().state.nodes), ["c0", "c1"])
+
+    def test_an_entry_that_cannot_stand_there_is_told(self):
+        for entry in (["said", "c0", ["answer done"]], ["given", "c0"], ["gone", "c0"], ["ready", "c0", 0, 1],
+                      ["did", "c0", "1-1", "1-1", "synod 0 5 next 16", "c1 9-9 0", ["answer done"]]):
+            self.write(entry)
+            with self.assertRaises(Broken, msg=entry):
+                list(told(self.folder))
 
     def test_a_record_is_cut_and_goes_on(self):
         async def work(record):

@@ -1,11 +1,12 @@
 """The service as people use it."""
 import concurrent.futures
+import gzip
 import http.client
 import os
 import time
 import unittest
 
-from ksi_service import record
+from ksi_service import hours, record
 from ksi_service.elements import published_in
 from served import REAL, Served, imprint
 
@@ -33,8 +34,15 @@ class ServiceTest(Served):
             self.assertIn("accepted", self.command("verify", name, f"{name}.ksig"))
         self.checked()
         self.assertIn("00000001.gz", os.listdir(os.path.join(self.folder, "record")))
+        self.assertEqual(hours.pack_all(os.path.join(self.folder, "record")), 0)
         if REAL:
-            self.assertIn("whole", self.command("backup", self.folder, os.path.join(self.room.name, "backup")))
+            first = os.path.join(self.folder, "record", "00000001")
+            with gzip.open(f"{first}.gz") as packed, open(first, "wb") as whole:
+                whole.write(packed.read())
+            told = self.command("backup", self.folder, os.path.join(self.room.name, "backup"))
+            self.assertIn("compressed 1 file of the record", told)
+            self.assertIn("whole", told)
+            self.assertNotIn("compressed", self.command("check", self.folder))
 
     def test_aggregators_below_aggregators(self):
         """Two cores; below the one aggregators in a row, as many as may be, below the other a tree of them."""

@@ -1,0 +1,62 @@
+"""Lets the aggregators of a running service forget rounds, one after the other.
+
+An aggregator that is to forget takes no more requests; they go to others, or wait. Once all that it took are answered, its process ends
+and its file is put in order, and it starts again. So no request is lost, and none is made again."""
+import asyncio
+
+from .forget import NotForgotten
+from .node import Down
+from .programs import Missing
+from .proved import Refused
+
+FIRST_SECONDS = 60
+"""How many seconds behind the start aggregators forget for the first time, if that is not to be sooner."""
+MOST_SECONDS = 12
+"""How many seconds an aggregator may have for the requests that it took; else it forgets the next time. Requests wait longer for it."""
+
+
+class Resting:
+    """Which aggregators take no requests, and what was forgotten."""
+
+    def __init__(self, clock, say):
+        self.clock, self.network, self.plan, self.say = clock, clock.network, clock.network.plan, say
+        self.rounds, self.times = 0, 0
+        """How many rounds were forgotten, and how often an aggregator forgot some."""
+        self.before = {}
+        """Before which second each aggregator forgot."""
+
+    async def run(self, every):
+        """Lets each aggregator forget so often, for ever."""
+        await asyncio.sleep(min(every, FIRST_SECONDS))
+        while True:
+            for number in range(len(self.plan.parents)):
+                await self.forget(number)
+            await asyncio.sleep(every)
+
+    async def forget(self, number):
+        """Lets an aggregator forget what is settled, if it had a part in a signature that it did not forget."""
+        if self.clock.handed.get(number, 0) < self.before.get(number, 0) or not self.network.aggregator(number).alive:
+            return
+        try:
+            left, found = await self.rested(number)
+        except (NotForgotten, Refused, Missing, Down, OSError) as reason:
+            self.say(f"a{number} forgets nothing now: {'it is down' if isinstance(reason, Down) else reason}")
+            return
+        if left < found:
+            # of a forgotten round the closing stays, and its response goes
+            self.rounds, self.times = self.rounds + found - left, self.times + 1
+
+    async def rested(self, number):
+        """Has an aggregator forget while it takes no requests, and waits until it is there again."""
+        self.clock.resting.add(number)
+        try:
+            if not await self.clock.drained(number, MOST_SECONDS):
+                raise NotForgotten("requests wait for it")
+            before = self.clock.settled()
+            counts = await self.network.forget(number, before)
+            self.before[number] = before
+            while not self.network.aggregator(number).alive:
+                await asyncio.sleep(0.01)
+            return counts
+        finally:
+            self.clock.resting.discard(number)
