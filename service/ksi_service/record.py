@@ -35,7 +35,7 @@ from . import files
 
 MAY_STORE = {"close", "response", "seal", "ballot", "synod"}
 """The first words of lines whose step may store a fact."""
-QUESTIONS = {"sign", "chain", "mirror", "held"}
+QUESTIONS = {"sign", "chain", "held"}
 """The first words of lines that ask for what a node has, and change nothing."""
 
 
