@@ -76,8 +76,8 @@ struct ksi_answer {
     uint32_t detail;     /* tells cases of one code apart */
     uint64_t second;     /* of Unix time, where accepted; else 0 */
     uint64_t numbers[4]; /* of the check; of a fault its values in their order
-                            in docs/FORMATS.md: a place in bytes, or a kind
-                            and a place */
+                            in docs/FORMATS.md: a place in bytes, a kind, a
+                            kind and a place, or of S10 the algorithm */
     uint8_t one[32];     /* SHA-256 digests, as the code says */
     uint8_t other[32];
 };

@@ -22,7 +22,7 @@ class Counts(NamedTuple):
     """What was compared and found right."""
     steps: int
     unsaid: int
-    """How many of the steps were stored and never said."""
+    """How many of the steps happened and were never said."""
     signatures: int
     """How many signatures that were handed out are byte for byte the world's; none is compared where logs are held one by one."""
     facts: int

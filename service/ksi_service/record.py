@@ -32,7 +32,7 @@ from .hours import Broken, entries_of, names, pack
 
 MAY_STORE = {"close", "response", "seal", "ballot", "synod"}
 """The first words of lines whose step may store a fact."""
-QUESTIONS = {"sign", "chain", "mirror", "held"}
+QUESTIONS = {"sign", "chain", "held"}
 """The first words of lines that ask for what a node has, and change nothing."""
 
 
