@@ -7,7 +7,5 @@ pub mod Strings
 pub mod Meeting
 pub mod Leafing
 pub mod Finding
-pub mod Files
 pub mod Again
-pub mod Read
 pub mod Ordered

@@ -7,6 +7,7 @@ use Rattle.ksi_order.specs.declared.fault.OrderFault.{OrderFault}
 use Rattle.ksi_order.specs.declared.fault.OrderFault.TheVariants as orders
 use Rattle.ksi_order.specs.Order.{Order, ◌>>=◌}
 use Rattle.ksi_order.specs.Values.{time_at, imprint_at}
+use Rattle.ksi_format.specs.Format.{or_named}
 use Rattle.ksi_consistency.specs.declared.fault.FrontFault.{FrontFault}
 use Rattle.ksi_consistency.specs.declared.fault.FrontFault.TheVariants as faults
 use Rattle.ksi_consistency.specs.declared.stage.Stage.{Stage}
@@ -53,16 +54,12 @@ named (orders.Ends place) = faults.Order place
 named (orders.Bound place) = faults.Number place
 named (orders.Imprint place) = faults.Imprint place
 
-abbrev pub or_named : {A : Type 0} → Result A OrderFault → Result A FrontFault
-or_named (Ok value) = Ok value
-or_named (Err fault) = Err (named fault)
-
 -- 1: the older second, a time
 abbrev pub with_old : Said → ℕ → Said
 with_old s p = record { stage = New; contents = record s.contents { p1 = p; p2 = p } }
 
 unfoldable pub old_at : Said → PlacedTlv → Result Said FrontFault
-old_at s at = or_named (time_at at) >>= λ p. Ok (with_old s p)
+old_at s at = or_named named (time_at at) >>= λ p. Ok (with_old s p)
 
 -- 2: the newer second, a time that is not before the older
 abbrev pub with_new : Said → ℕ → Said
@@ -72,14 +69,14 @@ abbrev pub not_before : Said → ℕ → ℕ → Result Said FrontFault
 not_before s place p = if nat_lt p s.contents.p1 then Err (faults.Number place) else Ok (with_new s p)
 
 unfoldable pub new_at : Said → PlacedTlv → Result Said FrontFault
-new_at s at = or_named (time_at at) >>= not_before s at.place
+new_at s at = or_named named (time_at at) >>= not_before s at.place
 
 -- 3: an imprint
 abbrev pub with_imprint : Said → List ℕ → Said
 with_imprint s x = record s { contents = record s.contents { list = s.contents.list ++ x ∷ [] } }
 
 unfoldable pub next_at : Said → PlacedTlv → Result Said FrontFault
-next_at s at = or_named (imprint_at at) >>= λ x. Ok (with_imprint s x)
+next_at s at = or_named named (imprint_at at) >>= λ x. Ok (with_imprint s x)
 
 unfoldable pub element_read : Said → PlacedTlv → Result Said FrontFault
 element_read s at =

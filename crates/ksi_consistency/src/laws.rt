@@ -14,8 +14,10 @@ ghost use Rattle.ksi_consistency.specs.Written.{front_text};
 
 use crate::fault::FrontFault;
 use crate::loading::Loading;
+use crate::value::Front;
 use ksi_calendar::laws::one_calendar;
-use ksi_order::laws::{values_are_bounded, walked_says, whole_or_fault};
+use ksi_format::laws::{file_is_read, file_or_fault};
+use ksi_order::laws::values_are_bounded;
 use ksi_split::laws::one_split;
 use ksi_tlv::laws::{numeral_is_read, written_is_read};
 
@@ -59,7 +61,7 @@ pub fn front_or_fault()
     ensures one_fault { (bytes : List ℕ) (fault other : FrontFault) →
         IsFrontFault bytes fault → IsFrontFault bytes other → fault ≡ other }
 {
-    whole_or_fault::<Loading, FrontFault>();
+    file_or_fault::<Loading, FrontFault, Front>();
 }
 
 /// What the file of a front says is a front. The elements of the file are those of the front, one for one: their kinds are the
@@ -84,5 +86,5 @@ pub fn front_is_read()
     ensures front { (bytes : List ℕ) (front : Contents) → (front_at bytes ≡ Ok front) ↔ IsFrontFile bytes front }
     ensures fault { (bytes : List ℕ) (fault : FrontFault) → (front_at bytes ≡ Err fault) ↔ IsFrontFault bytes fault }
 {
-    walked_says::<Loading, FrontFault>();
+    file_is_read::<Loading, FrontFault, Front>();
 }

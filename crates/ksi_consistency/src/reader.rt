@@ -1,6 +1,6 @@
-ghost use Rattle.std.specs.Prelude.{◌≡◌, ◌++◌, IfOk};
+ghost use Rattle.std.specs.Prelude.{IfOk};
 ghost use Rattle.ksi_imprint.specs.Refused.{IfRefused};
-ghost use Rattle.ksi_consistency.specs.File.{magic, IsFrontFile, IsFrontFault};
+ghost use Rattle.ksi_consistency.specs.File.{IsFrontFile, IsFrontFault};
 ghost use Rattle.ksi_consistency.specs.Wanting.{IsWantingInside};
 
 use crate::fault::FrontFault;
@@ -18,6 +18,7 @@ pub(crate) const MAGIC: &[u8] = b"KSIFRNT1";
 ///
 /// # Errors
 /// The first fault in order of bytes, or `NoMemory`: only for an imprint behind both seconds, up to which there is no fault.
+#[tactic(auto, unfolding(crate::specs::File::front_format))]
 pub fn read_front(alloc: Global, bytes: &[u8]) -> Result<Front, Refused<FrontFault>>
     ensures front { IfOk result (λ front. IsFrontFile bytes.now front) }
     ensures fault { IfRefused result (IsFrontFault bytes.now) (IsWantingInside bytes.now) }

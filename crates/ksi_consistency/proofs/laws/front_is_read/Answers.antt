@@ -1,8 +1,11 @@
-use Rattle.ksi_consistency.proofs.Read.{front_read, fault_read}
+use Rattle.ksi_consistency.specs.File.{front_format}
+use Rattle.ksi_consistency.specs.Reading.{front_at}
 use Rattle.ksi_consistency.proofs.laws.front_is_read.Goals as goal
 
 pub returns-clause-front : goal.returns-clause-front
-returns-clause-front c = front_read (record { whole = c.walked_says.ensures.whole; fault = c.walked_says.ensures.fault })
+unfolding front_at
+returns-clause-front c = c.file_is_read.ensures.value front_format
 
 pub returns-clause-fault : goal.returns-clause-fault
-returns-clause-fault c = fault_read (record { whole = c.walked_says.ensures.whole; fault = c.walked_says.ensures.fault })
+unfolding front_at
+returns-clause-fault c = c.file_is_read.ensures.fault front_format

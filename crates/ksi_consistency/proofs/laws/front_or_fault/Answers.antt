@@ -1,14 +1,14 @@
-use Rattle.ksi_consistency.proofs.Files.{one_of, not_both, one_front, one_fault}
+use Rattle.ksi_consistency.specs.File.{front_format}
 use Rattle.ksi_consistency.proofs.laws.front_or_fault.Goals as goal
 
 pub returns-clause-one : goal.returns-clause-one
-returns-clause-one c bytes = let l = c.whole_or_fault.ensures in one_of (record { one = l.one; not_both = l.not_both; one_state = l.one_state; one_fault = l.one_fault }) bytes
+returns-clause-one c = c.file_or_fault.ensures.one front_format
 
 pub returns-clause-not_both : goal.returns-clause-not_both
-returns-clause-not_both c bytes front fault = let l = c.whole_or_fault.ensures in not_both (record { one = l.one; not_both = l.not_both; one_state = l.one_state; one_fault = l.one_fault }) bytes front fault
+returns-clause-not_both c = c.file_or_fault.ensures.not_both front_format
 
 pub returns-clause-one_front : goal.returns-clause-one_front
-returns-clause-one_front c bytes some other = let l = c.whole_or_fault.ensures in one_front (record { one = l.one; not_both = l.not_both; one_state = l.one_state; one_fault = l.one_fault }) bytes some other
+returns-clause-one_front c = c.file_or_fault.ensures.one_value front_format
 
 pub returns-clause-one_fault : goal.returns-clause-one_fault
-returns-clause-one_fault c bytes fault other = let l = c.whole_or_fault.ensures in one_fault (record { one = l.one; not_both = l.not_both; one_state = l.one_state; one_fault = l.one_fault }) bytes fault other
+returns-clause-one_fault c = c.file_or_fault.ensures.one_fault front_format

@@ -1,0 +1,4 @@
+pub mod Files
+pub mod Refusing
+pub mod Steps
+pub mod Again
