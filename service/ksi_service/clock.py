@@ -90,7 +90,8 @@ class Clock:
                 if up and self.network.core(leader).alive:
                     self.turn += 1
                     return second + later, up[self.turn % len(up)]
-            await asyncio.sleep(0.1)
+            # all that wait look again and again, and leave time for the others
+            await asyncio.sleep(0.1 + self.waiting / 20_000)
             second = max(second, int(self.now()))
         raise NotSigned()
 

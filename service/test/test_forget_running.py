@@ -35,7 +35,7 @@ class RunningTest(Served):
             asks = [pool.submit(sign, client) for client in range(24)]
             # no kill comes before some rounds were forgotten, so that some are
             self.wait_for_forgetting(3)
-            for turn in range(12):
+            for turn in range(8):
                 time.sleep(dice.uniform(0.2, 1))
                 if turn % 4 == 3:
                     self.kill()
@@ -67,7 +67,7 @@ class RunningTest(Served):
 
     def test_who_forgot_is_small(self):
         self.start("--forget-every", "1")
-        with concurrent.futures.ThreadPoolExecutor(50) as pool:
+        with concurrent.futures.ThreadPoolExecutor(150) as pool:
             self.assertEqual({status for status, _ in pool.map(lambda number: self.ask("/sign", imprint(number)), range(1500))}, {200})
         before, told_of = self.status(), -1
         while told_of < self.status()["rounds_forgotten"]:
