@@ -1,6 +1,6 @@
 /// Why bytes are no front. A malformed file is reported by the codes C1 to C5 with the place of the variant: the offset of
 /// an element's first byte in the file.
-#[derive(Clone, Copy, Debug, PartialEq, Eq)]
+#[derive(Clone, Copy, PartialEq, Eq)]
 pub enum FrontFault {
     /// C1: the first eight bytes are others, or fewer.
     Magic,

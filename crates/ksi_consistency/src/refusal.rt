@@ -1,7 +1,7 @@
 use ksi_imprint::Imprint;
 
 /// Why a list of imprints is no front of the calendar of one root in that of another.
-#[derive(Clone, Copy, PartialEq, Eq, Debug)]
+#[derive(Clone, Copy, PartialEq, Eq)]
 pub enum FrontRefusal {
     /// F1: so many imprints are needed, and so many are given.
     Length { needed: usize, given: usize },

@@ -1,34 +1,28 @@
 -- What is written of a line's proof is read again.
-use Rattle.std.proofs.Common.{◌≡◌, ℕ, ◌+◌, ◌^◌, ◌<◌, ◌≤◌, true, false, ◌&&◌, ltb, eqb, List, [], ◌∷◌, ◌++◌, length, map, Result, Ok, Err, inl, inr, refl, sym, ap, subst, ◌∙◌, arith, append_assoc, append-nil, length-append}
+use Rattle.std.proofs.Common.{◌≡◌, ℕ, ◌+◌, ◌<◌, ◌≤◌, true, List, [], ◌∷◌, ◌++◌, length, map, Result, Ok, Err, inl, inr, refl, sym, ap, subst, ◌∙◌, arith, append_assoc, append-nil, length-append}
 use Rattle.std.specs.List.{AllByRecursion}
-use Rattle.std.proofs.lemmas.Bool.{lt-ltb, le-ltb, eq-eqb, cond_both}
+use Rattle.std.proofs.lemmas.Bool.{lt-ltb}
 use Rattle.ksi_imprint.specs.Imprints.{IsImprint}
-use Rattle.ksi_imprint.specs.Reading as imprints
 use Rattle.ksi_split.specs.declared.side.Side.{Side}
 use Rattle.ksi_split.specs.declared.side.Side.TheVariants.{Left, Right}
-use Rattle.ksi_tlv.specs.Spelling.{Tlv, FitsLong, plain, canonical, short_form, long_form}
-use Rattle.ksi_tlv.specs.Walking.{Items, PlacedTlv, placed_at, elements, items_of}
-use Rattle.ksi_tlv.specs.Numerals.{number_of, numeral}
+use Rattle.ksi_tlv.specs.Spelling.{Tlv, FitsLong, plain, canonical}
+use Rattle.ksi_tlv.specs.Walking.{Items, PlacedTlv, placed_at, elements}
+use Rattle.ksi_tlv.specs.Numerals.{numeral}
 use Rattle.ksi_tlv.specs.Writing.{texts, placed}
-use Rattle.ksi_grammar.specs.Contents.{level_in, imprint_in}
+use Rattle.ksi_grammar.specs.Contents.{level_in}
 use Rattle.ksi_order.specs.Order.{may_stand, ◌>>=◌}
 use Rattle.ksi_order.specs.Sequence.{Leads}
 use Rattle.ksi_order.specs.Fields.{Inside, field, done}
 use Rattle.ksi_order.specs.Values.{imprint_at}
 use Rattle.ksi_order.specs.declared.fault.OrderFault.{OrderFault}
 use Rattle.ksi_order.specs.declared.fault.OrderFault.TheVariants as orders
+use Rattle.ksi_format.proofs.Again.{Written, numeral_again, imprint_again, fits_number, fits_imprint, length-canonical, file_again}
 use Rattle.ksi_logblock.specs.declared.line_proof.LineLink.{LineLink}
 use Rattle.ksi_logblock.specs.declared.line_proof.LineProof.{LineProof}
 use Rattle.ksi_logblock.specs.Elements.{Said, correction_at, element_read, link_at, link_in, mask_at, nothing_yet, proof_order, side_of, with_correction, with_sibling}
-use Rattle.ksi_logblock.specs.File.{IsProofFile, kind_of, link_element, link_elements, proof_elements, proof_text}
+use Rattle.ksi_logblock.specs.File.{IsProofFile, kind_of, link_element, link_elements, proof_elements, proof_format, proof_text}
 use Rattle.ksi_logblock.specs.Kept.{IsLineLink}
 use Rattle.ksi_logblock.proofs.Cases.{eq_cases}
-
--- the laws of what is written
-pub record Written : Type 0 where
-  pub texts : (place : ℕ) (es : List Tlv) → AllByRecursion FitsLong es → elements place (texts es) ≡ items_of (placed place es)
-  pub value : (n : ℕ) → n < 2 ^ 64 → number_of (numeral n) ≡ n
-  pub size : (n : ℕ) → length (numeral n) ≤ 8
 
 abbrev made : LineLink → Side → ℕ → Result LineLink OrderFault
 made link side correction = Ok (record { side = side; correction = correction; sibling = link.sibling })
@@ -39,27 +33,7 @@ saying mask links = record { started = true; mask = mask; links = links }
 module _ (laws : Written) where
   correction_again : (at : PlacedTlv) (n : ℕ) → at.element.body ≡ numeral n → n < 256 → correction_at at ≡ Ok n
   unfolding correction_at level_in
-  correction_again at n is lt =
-      let short : ltb 8 (length at.element.body) ≡ false = le-ltb _ _ (let e = ap (λ (x : List ℕ). length x) is in let s = laws.size n in omega arith) in
-      let value : number_of at.element.body ≡ n = ap number_of is ∙ laws.value n (omega (arith, lt)) in
-      rw (short, value, lt-ltb n 256 lt) refl
-
-  imprint_is : (bytes : List ℕ) → IsImprint bytes → imprints.imprint_at bytes ≡ Ok bytes
-  imprint_is [] is = absurd (let s = is.size in omega arith)
-  imprint_is (a ∷ digest) is =
-      let one : eqb a 1 ≡ true = eq-eqb a 1 is.algorithm in
-      let size : eqb (length digest) 32 ≡ true = eq-eqb (length digest) 32 (let s = is.size in omega arith) in
-      rw (one, size) refl
-
-  imprint_again : (at : PlacedTlv) → IsImprint at.element.body → imprint_at at ≡ Ok at.element.body
-  unfolding imprint_at imprint_in
-  imprint_again at is = rw (imprint_is at.element.body is) refl
-
-  fits_number : (n : ℕ) → FitsLong (plain 1 (numeral n))
-  fits_number n = record { kind = omega arith; body = (let s = laws.size n in omega arith) }
-
-  fits_imprint : (kind : ℕ) (bytes : List ℕ) → kind < 32 → IsImprint bytes → FitsLong (plain kind bytes)
-  fits_imprint kind bytes lt is = record { kind = omega arith; body = (let s = is.size in omega arith) }
+  correction_again at n is lt = rw (numeral_again laws at n is (omega (arith, lt)), lt-ltb n 256 lt) refl
 
   -- ---- a link
 
@@ -122,7 +96,7 @@ module _ (laws : Written) where
         let at = placed_at place (plain (kind_of link.side) (texts (first ∷ second ∷ []))) n in
         let two : link_in at ≡ Ok (record { side = side_of (kind_of link.side); correction = link.correction; sibling = link.sibling }) =
         link_of_two at (placed_at at.inside first (length (canonical first))) (placed_at (at.inside + length (canonical first)) second (length (canonical second))) link.correction link.sibling
-        (laws.texts at.inside (first ∷ second ∷ []) (fits_number link.correction, (fits_imprint 2 link.sibling (omega arith) is.imprint, tt))) refl refl
+        (laws.texts at.inside (first ∷ second ∷ []) (fits_number laws 1 link.correction (omega arith), (fits_imprint 2 link.sibling (omega arith) is.imprint, tt))) refl refl
         (correction_again (placed_at at.inside first (length (canonical first))) link.correction refl is.correction)
         (imprint_again (placed_at (at.inside + length (canonical first)) second (length (canonical second))) is.imprint) in
         ap (λ (es : List Tlv). link_in (placed_at place (plain (kind_of link.side) (texts es)) n)) es ∙ two
@@ -130,9 +104,6 @@ module _ (laws : Written) where
   ]
 
   -- ---- sizes
-
-  length-canonical : (e : Tlv) → length (canonical e) ≤ 4 + length e.body
-  length-canonical e = cond_both (ltb e.kind 32 && ltb (length e.body) 256) (short_form e) (long_form e) (λ (text : List ℕ). length text ≤ 4 + length e.body) (λ yes. omega arith) (λ no. omega arith)
 
   kind_few : (side : Side) → kind_of side ≤ 8
   kind_few Left = omega arith
@@ -181,15 +152,10 @@ module _ (laws : Written) where
       )
 
   pub proof_again : (proof : LineProof) → IsImprint proof.mask → length proof.links ≤ 63 → AllByRecursion IsLineLink proof.links → IsProofFile (proof_text proof) proof
+  unfolding proof_format
   proof_again proof mask few all =
       let n = length (canonical (plain 1 proof.mask)) in
-      record {
-        rest = texts (proof_elements proof);
-        begins = refl;
-        whole = record {
-          es = placed 8 (proof_elements proof);
-          split = laws.texts 8 (proof_elements proof) (fits_imprint 1 proof.mask (omega arith) mask, links_fit proof.links all);
-          leads = (refl, refl, (saying proof.mask [], mask_read proof.mask 8 n mask, links_again proof.mask [] proof.links (8 + n) (omega (arith, few)) all));
-          ends = refl;
-        };
-      }
+      file_again laws proof_format (proof_elements proof) proof (saying proof.mask proof.links)
+      (fits_imprint 1 proof.mask (omega arith) mask, links_fit proof.links all)
+      (refl, refl, (saying proof.mask [], mask_read proof.mask 8 n mask, links_again proof.mask [] proof.links (8 + n) (omega (arith, few)) all))
+      refl refl

@@ -3,7 +3,6 @@ pub mod Answering
 pub mod BlockTree
 pub mod Cases
 pub mod Climbs
-pub mod Files
 pub mod Leading
 pub mod Leaves
 pub mod LogLines
@@ -12,7 +11,6 @@ pub mod LogRefusals
 pub mod LogTexts
 pub mod Outcomes
 pub mod Own
-pub mod ProofReads
 pub mod Roots
 pub mod Short
 pub mod Showing

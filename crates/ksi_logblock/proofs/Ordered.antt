@@ -1,27 +1,24 @@
 -- The elements of a line's proof stand for what it has, one for one and in its order.
-use Rattle.std.proofs.Common.{◌≡◌, ℕ, Bool, true, false, cond, ◌||◌, eqb, ltb, List, [], ◌∷◌, ◌++◌, length, map, Result, Ok, Err, refl, sym, ap, subst, ◌∙◌, append_assoc, append-nil}
-use Rattle.std.specs.List.{AllByRecursion}
-use Rattle.std.proofs.lemmas.Bool.{eqb-true}
+use Rattle.std.proofs.Common.{◌≡◌, ℕ, Bool, true, false, cond, ltb, List, [], ◌∷◌, ◌++◌, length, map, Result, Ok, Err, refl, sym, ap, subst, ◌∙◌}
 use Rattle.std.proofs.lemmas.List.{map-append}
 use Rattle.ksi_split.specs.declared.side.Side.{Side}
 use Rattle.ksi_tlv.specs.Walking.{PlacedTlv}
 use Rattle.ksi_order.specs.declared.fault.OrderFault.{OrderFault}
 use Rattle.ksi_order.specs.declared.fault.OrderFault.TheVariants as orders
-use Rattle.ksi_order.specs.Order.{may_stand, ◌>>=◌}
-use Rattle.ksi_order.specs.Sequence.{Leads}
+use Rattle.ksi_order.specs.Order.{may_stand}
 use Rattle.ksi_order.specs.Fields.{Inside, inside, field, done}
 use Rattle.ksi_order.specs.Values.{imprint_at}
+use Rattle.ksi_format.specs.Format.{or_named}
+use Rattle.ksi_format.specs.Kinds.{kinds_of}
+use Rattle.ksi_format.proofs.Steps.{bind_ok, or_named_ok, ok_is, if_ok, any_kind, kinds_more, leads_keep, file_kinds}
 use Rattle.ksi_logblock.specs.declared.line_proof.LineLink.{LineLink}
 use Rattle.ksi_logblock.specs.declared.line_proof.LineProof.{LineProof}
 use Rattle.ksi_logblock.specs.declared.proof_fault.ProofFault.{ProofFault}
 use Rattle.ksi_logblock.specs.declared.proof_fault.ProofFault.TheVariants as faults
 use Rattle.ksi_logblock.specs.Links.{most_links}
-use Rattle.ksi_logblock.specs.Elements.{Said, nothing_yet, side_of, correction_at, with_sibling, with_correction, link_in, or_named, started_with, one_link_more, mask_at, link_at, element_read, kinds_next, proof_order}
-use Rattle.ksi_logblock.specs.File.{said_of, kind_of, IsProofFile}
-use Rattle.ksi_logblock.specs.Kinds.{IsInOrder}
-
-abbrev kinds : List PlacedTlv → List ℕ
-kinds es = map (λ at. at.element.kind) es
+use Rattle.ksi_logblock.specs.Elements.{Said, named, nothing_yet, side_of, correction_at, with_sibling, with_correction, link_in, started_with, one_link_more, mask_at, link_at, element_read, kinds_next, proof_order}
+use Rattle.ksi_logblock.specs.File.{kind_of, proof_format, IsProofFile}
+use Rattle.ksi_logblock.specs.Kinds.{IsInOrder, proof_kinds}
 
 abbrev links_kinds : List LineLink → List ℕ
 links_kinds links = map (λ link. kind_of link.side) links
@@ -29,40 +26,7 @@ links_kinds links = map (λ link. kind_of link.side) links
 -- what is told so far, before the mask and behind it
 abbrev Told : Bool → Said → List PlacedTlv → Type 0
 Told false s es = es ≡ []
-Told true s es = kinds es ≡ 1 ∷ links_kinds s.links
-
-bind_ok : {A B F : Type 0} (r : Result A F) (f : A → Result B F) (b : B) → (r >>= f) ≡ Ok b → (a : A) × (r ≡ Ok a) × (f a ≡ Ok b)
-bind_ok (Ok a) f b e = (a, refl, e)
-bind_ok (Err d) f b e = absurd cc
-
-or_named_ok : {A : Type 0} (r : Result A OrderFault) (a : A) → or_named r ≡ Ok a → r ≡ Ok a
-or_named_ok (Ok b) a e = cc
-or_named_ok (Err fault) a e = absurd cc
-
-abbrev fine : Said → Result Said ProofFault
-fine s = Ok s
-
-state_is : (a b : Said) → fine a ≡ Ok b → a ≡ b
-state_is a b e = cc
-
-abbrev fine_link : LineLink → Result LineLink OrderFault
-fine_link link = Ok link
-
-link_is : (a b : LineLink) → fine_link a ≡ Ok b → a ≡ b
-link_is a b e = cc
-
-if_ok : (test : Bool) (r : Result Said ProofFault) (fault : ProofFault) (u : Said) → cond test r (Err fault) ≡ Ok u → r ≡ Ok u
-if_ok true r fault u e = e
-if_ok false r fault u e = absurd cc
-
--- what holds of each kind that may stand holds of one that does
-any_kind : (P : ℕ → Type 0) (ks : List ℕ) (kind : ℕ) → may_stand ks kind ≡ true → AllByRecursion P ks → P kind
-any_kind P [] kind may all = absurd cc
-any_kind P (k ∷ ks) kind may all = by (eqb k kind) refl may (λ may. any_kind P ks kind may all.1)
-  where
-    by : (b : Bool) → eqb k kind ≡ b → (b || may_stand ks kind) ≡ true → (may_stand ks kind ≡ true → P kind) → P kind
-    by true is may rest = subst P (eqb-true k kind is) all.0
-    by false is may rest = rest may
+Told true s es = kinds_of es ≡ 1 ∷ links_kinds s.links
 
 -- ---- a link is on the side of its kind
 
@@ -72,7 +36,7 @@ sibling_side side correction i link e =
     let found = bind_ok (field 2 i) _ link e in
     let sibling = bind_ok (imprint_at found.0.0) _ link found.2 in
     let end = bind_ok (done found.0.1) _ link sibling.2 in
-    ap (λ (l : LineLink). l.side) (sym (link_is (record { side = side; correction = correction; sibling = sibling.0 }) link end.2))
+    ap (λ (l : LineLink). l.side) (sym (ok_is {F = OrderFault} (record { side = side; correction = correction; sibling = sibling.0 }) link end.2))
 
 correction_side : (side : Side) (i : Inside) (r : Result (PlacedTlv × Inside) OrderFault) (link : LineLink) → with_correction side i r ≡ Ok link → link.side ≡ side
 correction_side side i (Ok found) link e =
@@ -90,25 +54,22 @@ link_side at link e = correction_side (side_of at.element.kind) (inside at) (fie
 
 -- ---- one element after the other
 
-kinds_more : (es : List PlacedTlv) (at : PlacedTlv) (ks : List ℕ) → kinds es ≡ ks → kinds (es ++ at ∷ []) ≡ ks ++ at.element.kind ∷ []
-kinds_more es at ks same = map-append (λ (at : PlacedTlv). at.element.kind) es (at ∷ []) ∙ ap (λ (ns : List ℕ). ns ++ at.element.kind ∷ []) same
-
 mask_step : (u : Said) (es : List PlacedTlv) (at : PlacedTlv) → es ≡ [] → at.element.kind ≡ 1 → mask_at at ≡ Ok u → Told u.started u (es ++ at ∷ [])
 unfolding mask_at
 mask_step u es at none kind e =
-    let mask = bind_ok (or_named (imprint_at at)) _ u e in
-    subst (λ (u : Said). Told u.started u (es ++ at ∷ [])) (state_is (started_with mask.0) u mask.2) (rw none (ap (λ (k : ℕ). k ∷ []) kind))
+    let mask = bind_ok (or_named named (imprint_at at)) _ u e in
+    subst (λ (u : Said). Told u.started u (es ++ at ∷ [])) (ok_is {F = ProofFault} (started_with mask.0) u mask.2) (rw none (ap (λ (k : ℕ). k ∷ []) kind))
 
 link_step : (s u : Said) (es : List PlacedTlv) (at : PlacedTlv) → s.started ≡ true → Told true s es → kind_of (side_of at.element.kind) ≡ at.element.kind → link_at s at ≡ Ok u → Told u.started u (es ++ at ∷ [])
 unfolding link_at
 link_step s u es at begun told kind e =
-    let read = if_ok (ltb (length s.links) most_links) _ (faults.Links at.place) u e in
-    let link = bind_ok (or_named (link_in at)) _ u read in
-    let side = link_side at link.0 (or_named_ok (link_in at) link.0 link.1) in
+    let read = (if_ok (ltb (length s.links) most_links) _ (faults.Links at.place) u e).1 in
+    let link = bind_ok (or_named named (link_in at)) _ u read in
+    let side = link_side at link.0 (or_named_ok named (link_in at) link.0 link.1) in
     let is : at.element.kind ≡ kind_of link.0.side = sym (ap kind_of side ∙ kind) in
-    subst (λ (u : Said). Told u.started u (es ++ at ∷ [])) (state_is (one_link_more s link.0) u link.2)
+    subst (λ (u : Said). Told u.started u (es ++ at ∷ [])) (ok_is {F = ProofFault} (one_link_more s link.0) u link.2)
     (subst (λ b. Told b (one_link_more s link.0) (es ++ at ∷ [])) (sym begun)
-    (kinds_more es at (1 ∷ links_kinds s.links) told ∙ ap (λ (k : ℕ). (1 ∷ links_kinds s.links) ++ k ∷ []) is
+    (kinds_more es at (kind_of link.0.side) (1 ∷ links_kinds s.links) told is
     ∙ ap (λ (ks : List ℕ). 1 ∷ ks) (sym (map-append (λ link. kind_of link.side) s.links (link.0 ∷ [])))))
 
 read_step : (begun : Bool) (s u : Said) (es : List PlacedTlv) (at : PlacedTlv) → s.started ≡ begun → Told begun s es → may_stand (cond begun (7 ∷ 8 ∷ []) (1 ∷ [])) at.element.kind ≡ true → cond begun (link_at s at) (mask_at at) ≡ Ok u
@@ -120,17 +81,11 @@ one_step : (s u : Said) (es : List PlacedTlv) (at : PlacedTlv) → Told s.starte
 unfolding element_read
 one_step s u es at told may e = read_step s.started s u es at refl told may e
 
-leads_told : (s t : Said) (before es : List PlacedTlv) → Told s.started s before → Leads proof_order s es t → Told t.started t (before ++ es)
-leads_told s t before [] told leads = subst (λ (u : Said). Told u.started u (before ++ [])) leads (subst (Told s.started s) (sym (append-nil before)) told)
-leads_told s t before (at ∷ es) told leads =
-    subst (Told t.started t) (append_assoc before (at ∷ []) es)
-    (leads_told leads.2.0 t (before ++ at ∷ []) es (one_step s leads.2.0 before at told leads.1 leads.2.1) leads.2.2)
+abbrev Holds : Said → List PlacedTlv → Type 0
+Holds s es = Told s.started s es
 
 pub in_order : (bytes : List ℕ) (proof : LineProof) → IsProofFile bytes proof → IsInOrder bytes proof
-in_order bytes proof file = record {
-  rest = file.rest;
-  begins = file.begins;
-  es = file.whole.es;
-  whole = file.whole.split;
-  kinds = leads_told nothing_yet (said_of proof) [] file.whole.es refl file.whole.leads;
-}
+unfolding proof_format
+in_order bytes proof file =
+    let told : Holds file.said file.whole.es = leads_keep proof_order Holds (λ s u es at told more may e. one_step s u es at told may e) nothing_yet file.said [] file.whole.es refl file.whole.leads in
+    file_kinds proof_format proof_kinds bytes proof file (subst (λ begun. Told begun file.said file.whole.es) file.whole.ends told)

@@ -10,6 +10,7 @@ use Rattle.ksi_order.specs.Fields.{Inside, inside, field, done}
 use Rattle.ksi_order.specs.Values.{or_fault, imprint_at}
 use Rattle.ksi_order.specs.declared.fault.OrderFault.{OrderFault}
 use Rattle.ksi_order.specs.declared.fault.OrderFault.TheVariants as orders
+use Rattle.ksi_format.specs.Format.{or_named}
 use Rattle.ksi_logblock.specs.declared.line_proof.LineLink.{LineLink}
 use Rattle.ksi_logblock.specs.declared.proof_fault.ProofFault.{ProofFault}
 use Rattle.ksi_logblock.specs.declared.proof_fault.ProofFault.TheVariants as faults
@@ -59,10 +60,6 @@ named (orders.Ends place) = faults.Order place
 named (orders.Bound place) = faults.Number place
 named (orders.Imprint place) = faults.Imprint place
 
-abbrev pub or_named : {A : Type 0} → Result A OrderFault → Result A ProofFault
-or_named (Ok value) = Ok value
-or_named (Err fault) = Err (named fault)
-
 abbrev pub started_with : List ℕ → Said
 started_with mask = record { started = true; mask = mask; links = [] }
 
@@ -70,10 +67,10 @@ abbrev pub one_link_more : Said → LineLink → Said
 one_link_more s link = record { started = s.started; mask = s.mask; links = s.links ++ link ∷ [] }
 
 unfoldable pub mask_at : PlacedTlv → Result Said ProofFault
-mask_at at = or_named (imprint_at at) >>= λ mask. Ok (started_with mask)
+mask_at at = or_named named (imprint_at at) >>= λ mask. Ok (started_with mask)
 
 unfoldable pub link_at : Said → PlacedTlv → Result Said ProofFault
-link_at s at = if nat_lt (length s.links) most_links then (or_named (link_in at) >>= λ link. Ok (one_link_more s link)) else Err (faults.Links at.place)
+link_at s at = if nat_lt (length s.links) most_links then (or_named named (link_in at) >>= λ link. Ok (one_link_more s link)) else Err (faults.Links at.place)
 
 unfoldable pub element_read : Said → PlacedTlv → Result Said ProofFault
 element_read s at = if s.started then link_at s at else mask_at at

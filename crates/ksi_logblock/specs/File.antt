@@ -1,12 +1,11 @@
 -- Which bytes are which line's proof, and the first fault of bytes that are none; and a proof as it is written.
-use Rattle.std.specs.Prelude.{◌≡◌, ℕ, ◌+◌, ◌==◌, ◌⊎◌, true, List, [], ◌∷◌, ◌++◌, length, map, codes, if◌then◌else◌}
+use Rattle.std.specs.Prelude.{ℕ, ◌==◌, List, [], ◌∷◌, ◌++◌, map, codes, if◌then◌else◌}
 use Rattle.ksi_split.specs.declared.side.Side.{Side}
 use Rattle.ksi_split.specs.declared.side.Side.TheVariants.{Left, Right}
 use Rattle.ksi_tlv.specs.Spelling.{Tlv, plain}
 use Rattle.ksi_tlv.specs.Numerals.{numeral}
-use Rattle.ksi_tlv.specs.Walking.{elements}
 use Rattle.ksi_tlv.specs.Writing.{texts}
-use Rattle.ksi_order.specs.Sequence.{IsWhole, IsFirstFault}
+use Rattle.ksi_format.specs.Format.{Format, IsFile, IsFileFault}
 use Rattle.ksi_logblock.specs.declared.line_proof.LineLink.{LineLink}
 use Rattle.ksi_logblock.specs.declared.line_proof.LineProof.{LineProof}
 use Rattle.ksi_logblock.specs.declared.proof_fault.ProofFault.{ProofFault}
@@ -16,30 +15,18 @@ use Rattle.ksi_logblock.specs.Elements.{Said, nothing_yet, proof_order}
 abbrev pub magic : List ℕ
 magic = codes "KSILINE1"
 
-abbrev pub said_of : LineProof → Said
-said_of proof = record { started = true; mask = proof.mask; links = proof.links }
+abbrev pub proof_of : Said → LineProof
+proof_of said = record { mask = said.mask; links = said.links }
 
--- behind the magic stand whole elements in their order, which say this proof
-pub record IsProofFile (bytes : List ℕ) (proof : LineProof) : Type 0 where
-  pub rest : List ℕ
-  pub begins : bytes ≡ magic ++ rest
-  pub whole : IsWhole proof_order (elements 8 rest) nothing_yet (said_of proof)
+-- behind the magic stand whole elements in their order, which say a proof
+unfoldable pub proof_format : Format Said ProofFault LineProof
+proof_format = record { magic = magic; other = faults.Magic; order = proof_order; start = nothing_yet; value = proof_of }
 
-abbrev pub IsOther : List ℕ → Type 0
-IsOther bytes = (rest : List ℕ) → bytes ≡ magic ++ rest → ⊥
-
-pub record IsOtherFile (bytes : List ℕ) (fault : ProofFault) : Type 0 where
-  pub begins : IsOther bytes
-  pub named : fault ≡ faults.Magic
-
--- the first fault of the elements behind the magic
-pub record IsFaultInside (bytes : List ℕ) (fault : ProofFault) : Type 0 where
-  pub rest : List ℕ
-  pub begins : bytes ≡ magic ++ rest
-  pub first : IsFirstFault proof_order (8 + length rest) (elements 8 rest) nothing_yet fault
+abbrev pub IsProofFile : List ℕ → LineProof → Type 0
+IsProofFile = IsFile proof_format
 
 abbrev pub IsProofFault : List ℕ → ProofFault → Type 0
-IsProofFault bytes fault = IsOtherFile bytes fault ⊎ IsFaultInside bytes fault
+IsProofFault = IsFileFault proof_format
 
 -- ---- as it is written
 

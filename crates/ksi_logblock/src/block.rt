@@ -30,7 +30,7 @@ pub const MOST_LINES: usize = 65536;
 pub const LONGEST_LINE: usize = 8000;
 
 /// Why a line is not added to a block.
-#[derive(Clone, Copy, PartialEq, Eq, Debug)]
+#[derive(Clone, Copy, PartialEq, Eq)]
 pub enum PushRefusal {
     /// The block has 65,536 lines.
     Full,
@@ -93,6 +93,16 @@ impl<'a, C: Compress> Block<'a, C> {
         if line.len() > LONGEST_LINE {
             return Err(Refused::Fault(PushRefusal::LineTooLong(line.len())));
         }
+        self.add(line)?;
+        Ok(())
+    }
+
+    /// Adds a line, for which there is room.
+    fn add(&mut self, line: &'a [u8]) -> Result<(), NoMemory>
+        requires { length self.old.lines < most_lines }
+        ensures added { OnOk result (self.new ≡ with_line line.now self.old) }
+        ensures unchanged { OnErr result (self.new ≡ self.old) }
+    {
         self.lines.reserve(1)?;
         self.leaves.reserve(1)?;
         let mask = mask_of::<C>(&self.seed, &self.leaves, self.leaves.len());

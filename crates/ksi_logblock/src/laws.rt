@@ -24,12 +24,13 @@ ghost use Rattle.ksi_logblock.specs.Shown.{HasImprints, IsLine, LeadsToRoot, Sho
 ghost use Rattle.ksi_logblock.specs.declared.line_proof.LineProof.{LineProof};
 ghost use Rattle.ksi_logblock.specs.declared.locating.Located.TheVariants as answers;
 
+use crate::line_proof::LineProof;
 use crate::proof_fault::ProofFault;
 use crate::said::Reading;
 use ksi_aggchain::laws::one_climb;
 use ksi_aggtree::laws::{one_chain, one_round};
 use ksi_beside::laws::beside_a_tree;
-use ksi_order::laws::{walked_says, whole_or_fault};
+use ksi_format::laws as formats;
 use ksi_split::laws::{one_answer, one_split, one_way};
 use ksi_tlv::laws::{numeral_is_read, written_is_read};
 
@@ -116,7 +117,7 @@ pub fn file_or_fault()
     ensures one_fault { (bytes : List ℕ) (fault other : ProofFault) →
         IsProofFault bytes fault → IsProofFault bytes other → fault ≡ other }
 {
-    whole_or_fault::<Reading, ProofFault>();
+    formats::file_or_fault::<Reading, ProofFault, LineProof>();
 }
 
 /// The elements of a line's proof in a file are those of the proof, one for one: their kinds are the mask, then links.
@@ -129,8 +130,7 @@ pub fn proof_is_read()
     ensures proof { (bytes : List ℕ) (proof : LineProof) → (proof_at bytes ≡ Ok proof) ↔ IsProofFile bytes proof }
     ensures fault { (bytes : List ℕ) (fault : ProofFault) → (proof_at bytes ≡ Err fault) ↔ IsProofFault bytes fault }
 {
-    walked_says::<Reading, ProofFault>();
-    file_or_fault();
+    formats::file_is_read::<Reading, ProofFault, LineProof>();
 }
 
 /// A log is cut into its lines: they have no line feeds, and one stands behind each of them, but perhaps behind the last. Of no

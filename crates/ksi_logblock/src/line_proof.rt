@@ -11,7 +11,7 @@ use std::marker::Model;
 pub const MOST_LINKS: usize = 63;
 
 /// A link of a line's proof.
-#[derive(Clone, Copy, PartialEq, Eq, Debug)]
+#[derive(Clone, Copy, PartialEq, Eq)]
 pub struct LineLink {
     /// Which part of its join a node is that is climbed from: a left link has it on the left.
     pub side: Side,

@@ -24,7 +24,7 @@ use ksi_split::{Side, second_of};
 use std::alloc::Global;
 
 /// Why a line and its proof do not lead to a block's root.
-#[derive(Clone, Copy, PartialEq, Eq, Debug)]
+#[derive(Clone, Copy, PartialEq, Eq)]
 pub enum LineRefusal {
     /// The first link whose level passes 255.
     Level(LevelFault),
@@ -237,7 +237,14 @@ fn compare_lines<C: Compress>(
     if line == kept {
         return Ok(Located::In(k));
     }
-    let one = Bytes::copy_of(alloc, line)?;
-    let two = Bytes::copy_of(alloc, kept)?;
-    Ok(Located::Clash(Clash { one, two }))
+    Ok(Located::Clash(copied(alloc, line, kept)?))
+}
+
+/// Two strings, as a clash has them.
+fn copied(alloc: Global, one: &[u8], two: &[u8]) -> Result<Clash, NoMemory>
+    ensures { IfOk result (λ clash. clash ≡ record { one = one.now; two = two.now }) }
+{
+    let one = Bytes::copy_of(alloc, one)?;
+    let two = Bytes::copy_of(alloc, two)?;
+    Ok(Clash { one, two })
 }

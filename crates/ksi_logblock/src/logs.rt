@@ -11,7 +11,7 @@ use memchr::memchr;
 use std::alloc::Global;
 
 /// Why a log makes no block.
-#[derive(Clone, Copy, PartialEq, Eq, Debug)]
+#[derive(Clone, Copy, PartialEq, Eq)]
 pub enum LogRefusal {
     /// B3: it has no lines.
     NoLines,

@@ -1,5 +1,5 @@
 /// What is wrong with a proof file. A place is the offset of an element's first byte in the file.
-#[derive(Clone, Copy, PartialEq, Eq, Debug)]
+#[derive(Clone, Copy, PartialEq, Eq)]
 pub enum ProofFault {
     /// G1: the first eight bytes are others, or there are fewer.
     Magic,

@@ -1,14 +1,11 @@
 //! A proof file, as it is read.
-ghost use Rattle.std.specs.Prelude.{◌≡◌, ◌+◌, ◌<◌, ◌^◌, IfOk, Err, IsOk, length};
+ghost use Rattle.std.specs.Prelude.{◌≡◌, IfOk};
 ghost use Rattle.ksi_imprint.specs.Refused.{IfRefused};
 ghost use Rattle.ksi_tlv.specs.Views.{view_placed};
-ghost use Rattle.ksi_tlv.specs.Walking.{elements};
-ghost use Rattle.ksi_order.specs.Fields.{Inside};
 ghost use Rattle.ksi_order.specs.Left.{left};
-ghost use Rattle.ksi_order.specs.Sequence.{IsWhole, IsFirstFault, IsWanting};
-ghost use Rattle.ksi_logblock.specs.Elements.{correction_at, link_in, named, nothing_yet, proof_order, side_of, with_sibling};
-ghost use Rattle.ksi_logblock.specs.File.{IsProofFile, IsProofFault, said_of};
-ghost use Rattle.ksi_logblock.specs.Wanting.{IsWantingInside, WantsFor};
+ghost use Rattle.ksi_logblock.specs.Elements.{correction_at, link_in, named, side_of, with_sibling};
+ghost use Rattle.ksi_logblock.specs.File.{IsProofFile, IsProofFault};
+ghost use Rattle.ksi_logblock.specs.Wanting.{IsWantingInside};
 
 use crate::line_proof::{LineLink, LineProof};
 use crate::proof_fault::ProofFault;
@@ -25,24 +22,14 @@ pub(crate) const MAGIC: &[u8; 8] = b"KSILINE1";
 ///
 /// # Errors
 /// The first fault in order of bytes, or `NoMemory`: only for a link, up to which there is no fault.
+#[tactic(auto, unfolding(crate::specs::File::proof_format))]
 pub fn read_proof(alloc: Global, bytes: &[u8]) -> Result<LineProof, Refused<ProofFault>>
     ensures proof { IfOk result (IsProofFile bytes.now) }
     ensures refused { IfRefused result (IsProofFault bytes.now) (IsWantingInside bytes.now) }
 {
-    match after_magic(bytes, MAGIC) {
-        None => Err(Refused::Fault(ProofFault::Magic)),
-        Some(rest) => proof_in(alloc, rest),
-    }
-}
-
-/// The proof that the elements behind the magic say.
-fn proof_in(alloc: Global, rest: &[u8]) -> Result<LineProof, Refused<ProofFault>>
-    requires { 8 + length rest.now < 2 ^ 64 }
-    ensures whole { IfOk result (λ proof. IsWhole proof_order (elements 8 rest.now) nothing_yet (said_of proof)) }
-    ensures refused { IfRefused result
-        (IsFirstFault proof_order (8 + length rest.now) (elements 8 rest.now) nothing_yet)
-        (IsWanting proof_order WantsFor (elements 8 rest.now) nothing_yet) }
-{
+    let Some(rest) = after_magic(bytes, MAGIC) else {
+        return Err(Refused::Fault(ProofFault::Magic));
+    };
     let mut reading = Reading::new(alloc);
     match walk(&mut reading, 8, rest) {
         Ok(()) => Ok(reading.into_proof()),
