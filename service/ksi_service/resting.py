@@ -3,6 +3,7 @@
 An aggregator that is to forget takes no more requests; they go to others, or wait. Once all that it took are answered, its process ends
 and its file is put in order, and it starts again. So no request is lost, and none is made again."""
 import asyncio
+import time
 
 from .forget import NotForgotten
 from .node import Down
@@ -12,7 +13,7 @@ from .proved import Refused
 FIRST_SECONDS = 60
 """How many seconds behind the start aggregators forget for the first time, if that is not to be sooner."""
 MOST_SECONDS = 12
-"""How many seconds an aggregator may have for the requests that it took; else it forgets the next time. Requests wait longer for it."""
+"""How many seconds an aggregator may have for the requests that it took, else it forgets the next time; and for its start behind it."""
 
 
 class Resting:
@@ -47,7 +48,7 @@ class Resting:
             self.rounds, self.times = self.rounds + found - left, self.times + 1
 
     async def rested(self, number):
-        """Has an aggregator forget while it takes no requests, and waits until it is there again."""
+        """Has an aggregator forget while it takes no requests, and waits for a while until it is there again."""
         self.clock.resting.add(number)
         try:
             if not await self.clock.drained(number, MOST_SECONDS):
@@ -55,7 +56,8 @@ class Resting:
             before = self.clock.settled()
             counts = await self.network.forget(number, before)
             self.before[number] = before
-            while not self.network.aggregator(number).alive:
+            end = time.monotonic() + MOST_SECONDS
+            while not self.network.aggregator(number).alive and time.monotonic() < end:
                 await asyncio.sleep(0.01)
             return counts
         finally:

@@ -2,14 +2,19 @@
 import concurrent.futures
 import os
 import random
+import signal
+import socket
+import subprocess
 import sys
+import tempfile
 import time
 import unittest
 from unittest import mock
 
+import stands
 from ksi_service import streams
 from ksi_service.record import Signed, last_state, told
-from streamed import NODES, Streamed
+from streamed import NODES, PYTHON, WHY, Streamed
 
 
 class StreamsTest(Streamed):
@@ -46,6 +51,22 @@ class StreamsTest(Streamed):
         self.assertEqual([name for name, size in sizes.items() if size > 20 + 30 * facts.node(name).facts + self.unanswered(record, name)], [], sizes)
         self.assertGreater(sum(it.line is None for it in told(record) if not isinstance(it, Signed)), 3)
         self.checked(100)
+
+
+@unittest.skipIf(WHY, WHY)
+class HeadTest(unittest.TestCase):
+    def test_a_head_that_waits_for_the_server_can_be_stopped(self):
+        with tempfile.TemporaryDirectory(prefix="ksi-test-") as room, socket.socket() as free:
+            free.bind(("127.0.0.1", 0))
+            words = [PYTHON, stands.COMMAND, "run", "head", "--door", "127.0.0.1:0", "--over", f"redis://127.0.0.1:{free.getsockname()[1]}"]
+            with subprocess.Popen(words, stderr=subprocess.PIPE, cwd=room, text=True) as head:
+                try:
+                    self.assertIn("the server is away", head.stderr.readline())
+                    head.send_signal(signal.SIGTERM)
+                    self.assertIn("stopped", head.communicate(timeout=30)[1])
+                finally:
+                    head.kill()
+                self.assertEqual(head.returncode, 0)
 
 
 class Client:
