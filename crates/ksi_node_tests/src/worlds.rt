@@ -154,7 +154,7 @@ fn state(alloc: Global, world: &World<Sha>) -> Text {
     for core in 0..world.plan().cores() {
         put_core(&mut text, world, core);
     }
-    for (second, root) in world.published() {
+    for (second, root) in world.published().iter() {
         text.number("published ", *second);
         text.imprint(root);
         text.end();

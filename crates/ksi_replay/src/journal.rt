@@ -12,7 +12,7 @@ use ksi_aggtree::{Item, Second};
 use ksi_imprint::{Bytes, Compress, Imprint, NoMemory};
 use ksi_journal::laws::are_bytes;
 use ksi_journal::{Journal, Parts};
-use ksi_world::World;
+use ksi_world::{PublishedRoots, World};
 use std::alloc::Global;
 
 /// The journal of a world: who votes by its plan, the kept seconds, each with its root and items, the issued signatures,
@@ -105,15 +105,16 @@ fn name_of(item: &Item)
 /// A copy of what is published.
 fn publications_of(
     alloc: Global,
-    published: &[(u64, Imprint)],
+    published: &PublishedRoots,
 ) -> Result<Vec<(u64, Imprint)>, NoMemory>
     ensures same { IfOk result (λ copy. copy.items ≡ published.now) }
     ensures imprints { IfOk result (λ copy. AllByRecursion (λ publication. IsImprint publication.1) copy.items) }
 {
-    let mut copy = Vec::with_capacity(alloc, published.len())?;
-    'publications: for publication in published {
-        let _imprint = publication.1.bytes();
-        copy.push(*publication)?;
+    let publications = published.iter();
+    let mut copy = Vec::with_capacity(alloc, publications.len())?;
+    'publications: for (second, root) in publications {
+        let _imprint = root.bytes();
+        copy.push((*second, *root))?;
     }
     Ok(copy)
 }

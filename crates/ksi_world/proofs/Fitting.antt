@@ -170,16 +170,30 @@ module _ (plan : PlanState) (w : WorldState) (cores cores' : List CoreState) (ag
         r.1,
       )
 
-  -- a second that is to be published
-  pub publish_fits : (image : List ℕ → List ℕ) (j p : ℕ) (outcome : Outcome) → CoreStep (λ core. core_row image core (events.Publish p)) j p cores cores' wire wire' outcome → published' ≡ published_with published p outcome.answer →
-      Fits plan (publish_happens w p (publish_answer image (held_in w j) plan.start p)).world (nodes_of cores' aggregators wire' requests published') × (outcome ≡ (publish_happens w p (publish_answer image (held_in w j) plan.start p)).outcome)
-  publish_fits image j p outcome step put =
+  -- a second that is to be published: the cores stay as they were, and nothing is sent
+  pub publish_stands : (image : List ℕ → List ℕ) (j p : ℕ) (outcome : Outcome) → CoreStep (λ core. core_row image core (events.Publish p)) j p cores cores' wire wire' outcome →
+      Fits plan w (nodes_of cores' aggregators wire' requests published) × (outcome ≡ (publish_happens w p (publish_answer image (held_in w j) plan.start p)).outcome)
+  publish_stands image j p outcome step =
       let is = fits.cores.each j step.old step.at in
       let r = core_fits (λ core. core_row image core (events.Publish p)) j p outcome (core_turn image plan w j (events.Publish p)) step (core_turn_is plan w j step.old is image (events.Publish p)) in (
         record {
           cores = record { many = r.0.cores.many; each = λ k core at. let here = r.0.cores.each k core at in record { me = here.me; core_plan = here.core_plan; start = here.start; keeps = λ t. here.keeps t ∙ put_still w.seconds j p k t } };
           aggregators = record { many = r.0.aggregators.many; each = r.0.aggregators.each };
           wire = r.0.wire ∙ append-nil w.wire;
+          requests = r.0.requests;
+          published = r.0.published;
+        },
+        r.1,
+      )
+
+  pub publish_fits : (image : List ℕ → List ℕ) (j p : ℕ) (outcome : Outcome) → CoreStep (λ core. core_row image core (events.Publish p)) j p cores cores' wire wire' outcome → published' ≡ published_with published p outcome.answer →
+      Fits plan (publish_happens w p (publish_answer image (held_in w j) plan.start p)).world (nodes_of cores' aggregators wire' requests published') × (outcome ≡ (publish_happens w p (publish_answer image (held_in w j) plan.start p)).outcome)
+  publish_fits image j p outcome step put =
+      let r = publish_stands image j p outcome step in (
+        record {
+          cores = record { many = r.0.cores.many; each = r.0.cores.each };
+          aggregators = record { many = r.0.aggregators.many; each = r.0.aggregators.each };
+          wire = r.0.wire;
           requests = r.0.requests;
           published = put ∙ ap (λ xs. published_with xs p outcome.answer) fits.published ∙ ap (λ (o : Outcome). published_with w.published p o.answer) r.1;
         },

@@ -1,18 +1,17 @@
--- A second in its place among rising ones.
-use Rattle.std.proofs.Common.{◌≡◌, ℕ, zero, suc, ◌+◌, ◌<◌, ◌≤◌, length, get_or, true, false, eqb, ltb, List, [], ◌∷◌, refl, sym, ap, ◌∙◌, arith, inl, inr}
-use Rattle.std.specs.Prelude.{slice_get}
-use Rattle.std.specs.List.{insert}
-use Rattle.std.proofs.lemmas.Bool.{cases_lt, cond-true, cond-false, lt-ltb, le-ltb, eq-eqb, eqb-true, eqb-false, ne_eqb}
+-- A second in its place among rising ones, which are the entries of a map.
+use Rattle.std.proofs.Common.{◌≡◌, ℕ, suc, ◌<◌, cond, true, false, eqb, ltb, List, [], ◌∷◌, Option, Some, None, is_some, refl, sym, ap, ◌∙◌, arith, inl, inr}
+use Rattle.std.specs.Ordering.{nat_cmp, is_eq, match_ordering}
+use Rattle.std.specs.declared.cmp.Ordering.{Ordering}
+use Rattle.std.specs.declared.cmp.Ordering.TheVariants.{Less, Equal, Greater}
+use Rattle.std.specs.Cmp.{nat_cmp_is}
+use Rattle.std.specs.Map.{lookup}
+use Rattle.std.specs.BTreeMap.{is_at, insert_entry}
+use Rattle.std.proofs.lemmas.Bool.{cases_lt, cases_eq, cond-true, cond-false, lt-ltb, le-ltb, eq-eqb, ne_eqb}
 use Rattle.ksi_world.specs.Histories.{put_rising}
-use Rattle.ksi_world.specs.Places.{place_of, is_second}
 use Rattle.ksi_world.specs.Validity.{AreTimes}
 
 module _ (p : ℕ) (root : List ℕ) where
-  place_after : (x : ℕ × List ℕ) (xs : List (ℕ × List ℕ)) → x.0 < p → place_of p (x ∷ xs) ≡ suc (place_of p xs)
-  place_after x xs lt = cond-true (ltb x.0 p) (suc (place_of p xs)) 0 (lt-ltb x.0 p lt)
-
-  place_here : (x : ℕ × List ℕ) (xs : List (ℕ × List ℕ)) → p ≤ x.0 → place_of p (x ∷ xs) ≡ 0
-  place_here x xs le = cond-false (ltb x.0 p) (suc (place_of p xs)) 0 (le-ltb x.0 p le)
+  -- A PAIR IN ITS PLACE
 
   pub put_after : (x : ℕ × List ℕ) (xs : List (ℕ × List ℕ)) → x.0 < p → put_rising p root (x ∷ xs) ≡ x ∷ put_rising p root xs
   put_after x xs lt = cond-false (ltb p x.0) _ _ (le-ltb p x.0 (omega (arith, lt))) ∙ cond-false (eqb p x.0) _ _ (ne_eqb p x.0 (λ e. omega (arith, e, lt)))
@@ -23,45 +22,50 @@ module _ (p : ℕ) (root : List ℕ) where
   pub put_before : (x : ℕ × List ℕ) (xs : List (ℕ × List ℕ)) → p < x.0 → put_rising p root (x ∷ xs) ≡ (p, root) ∷ x ∷ xs
   put_before x xs lt = cond-true (ltb p x.0) _ _ (lt-ltb p x.0 lt)
 
-  pub put_known : (xs : List (ℕ × List ℕ)) → is_second p (slice_get xs (place_of p xs)) ≡ true → put_rising p root xs ≡ xs
-  put_known [] is = absurd (cc is)
-  put_known (x ∷ xs) is = elim (cases_lt x.0 p) [
-    | inl lt ↦ put_after x xs lt ∙ ap (λ ys. x ∷ ys) (put_known xs (ap (λ n. is_second p (slice_get (x ∷ xs) n)) (sym (place_after x xs lt)) ∙ is))
-    | inr le ↦ put_on x xs (sym (eqb-true x.0 p (ap (λ n. is_second p (slice_get (x ∷ xs) n)) (sym (place_here x xs le)) ∙ is)))
+  -- THE SAME IN A MAP
+
+  abbrev root_at : List (ℕ × List ℕ) → Option (List ℕ)
+  root_at xs = lookup (is_at (nat_cmp p)) xs
+
+  -- what is found of the first pair or of the others, by how the second compares to the first one's
+  found_by : (x : ℕ × List ℕ) (xs : List (ℕ × List ℕ)) (o : Ordering) → o ≡ nat_cmp p x.0 → root_at (x ∷ xs) ≡ cond (is_eq o) (Some x.1) (root_at xs)
+  found_by x xs o is = ap (λ (o : Ordering). cond (is_eq o) (Some x.1) (root_at xs)) (sym is)
+
+  inserted_by : (x : ℕ × List ℕ) (xs : List (ℕ × List ℕ)) (o : Ordering) → o ≡ nat_cmp p x.0
+      → insert_entry nat_cmp (x ∷ xs) p root ≡ match_ordering o ((p, root) ∷ x ∷ xs) ((x.0, root) ∷ xs) (x ∷ insert_entry nat_cmp xs p root)
+  inserted_by x xs o is = ap (λ (o : Ordering). match_ordering o ((p, root) ∷ x ∷ xs) ((x.0, root) ∷ xs) (x ∷ insert_entry nat_cmp xs p root)) (sym is)
+
+  -- a second before rising ones is not among them
+  none_before : (from before : ℕ) (xs : List (ℕ × List ℕ)) → AreTimes from before xs → p < from → root_at xs ≡ None
+  none_before from before [] are lt = refl
+  none_before from before (x ∷ xs) are lt =
+      found_by x xs Less (nat_cmp_is p x.0 Less (omega (arith, lt, are.0))) ∙ none_before (suc x.0) before xs are.2 (omega (arith, lt, are.0))
+
+  -- one that is among them stays where it is
+  pub put_known : (from before : ℕ) (xs : List (ℕ × List ℕ)) → AreTimes from before xs → is_some (root_at xs) ≡ true → put_rising p root xs ≡ xs
+  put_known from before [] are there = absurd (cc there)
+  put_known from before (x ∷ xs) are there = elim (cases_lt p x.0) [
+    | inl here ↦
+        let none = none_before x.0 before (x ∷ xs) (omega arith, are.1, are.2) here in
+        absurd (cc (sym there ∙ ap is_some none))
+    | inr not_before ↦ elim (cases_eq p x.0) [
+      | inl same ↦ put_on x xs same
+      | inr ne ↦
+          let later : x.0 < p = omega (arith, not_before, ne) in
+          put_after x xs later ∙ ap (λ ys. x ∷ ys) (put_known (suc x.0) before xs are.2 (ap is_some (sym (found_by x xs Greater (nat_cmp_is p x.0 Greater later))) ∙ there))
+    ]
   ]
 
-  pub put_new : (xs : List (ℕ × List ℕ)) → is_second p (slice_get xs (place_of p xs)) ≡ false → insert xs (place_of p xs) (p, root) ≡ put_rising p root xs
-  put_new [] is = refl
-  put_new (x ∷ xs) is = elim (cases_lt x.0 p) [
-    | inl lt ↦ ap (λ n. insert (x ∷ xs) n (p, root)) (place_after x xs lt) ∙ ap (λ ys. x ∷ ys) (put_new xs (ap (λ n. is_second p (slice_get (x ∷ xs) n)) (sym (place_after x xs lt)) ∙ is)) ∙ sym (put_after x xs lt)
-    | inr le ↦ let ne = eqb-false x.0 p (ap (λ n. is_second p (slice_get (x ∷ xs) n)) (sym (place_here x xs le)) ∙ is) in
-        ap (λ n. insert (x ∷ xs) n (p, root)) (place_here x xs le) ∙ sym (put_before x xs (omega (arith, le, ne)))
+  -- one that is not is put among them as the map puts it
+  pub put_new : (xs : List (ℕ × List ℕ)) → is_some (root_at xs) ≡ false → insert_entry nat_cmp xs p root ≡ put_rising p root xs
+  put_new [] none = refl
+  put_new (x ∷ xs) none = elim (cases_lt p x.0) [
+    | inl here ↦ inserted_by x xs Less (nat_cmp_is p x.0 Less here) ∙ sym (put_before x xs here)
+    | inr not_before ↦ elim (cases_eq p x.0) [
+      | inl same ↦ absurd (cc (sym (ap is_some (found_by x xs Equal (nat_cmp_is p x.0 Equal same))) ∙ none))
+      | inr ne ↦
+          let later : x.0 < p = omega (arith, not_before, ne) in
+          let is = nat_cmp_is p x.0 Greater later in
+          inserted_by x xs Greater is ∙ ap (λ ys. x ∷ ys) (put_new xs (ap is_some (sym (found_by x xs Greater is)) ∙ none)) ∙ sym (put_after x xs later)
+    ]
   ]
-
-  -- those in front are before the second, and the next one is not
-  pub place_is : (d : ℕ × List ℕ) (xs : List (ℕ × List ℕ)) (n : ℕ) → n ≤ length xs → ((j : ℕ) → j < n → (get_or xs j d).0 < p) → (n < length xs → p ≤ (get_or xs n d).0) → place_of p xs ≡ n
-  place_is d [] n le front next = omega (arith, le)
-  place_is d (x ∷ xs) zero le front next = place_here x xs (next (omega arith))
-  place_is d (x ∷ xs) (suc n) le front next =
-      place_after x xs (front 0 (omega arith)) ∙ ap suc (place_is d xs n (omega (arith, le)) (λ j lt. front (suc j) (omega (arith, lt))) (λ lt. next (omega (arith, lt))))
-
--- rising ones are not before the first bound
-least : (e : ℕ × List ℕ) (from before : ℕ) (xs : List (ℕ × List ℕ)) (j : ℕ) → AreTimes from before xs → j < length xs → from ≤ (get_or xs j e).0
-least e from before [] j are lt = absurd (omega (arith, lt))
-least e from before (x ∷ xs) zero are lt = are.0
-least e from before (x ∷ xs) (suc j) are lt = let more = least e (suc x.0) before xs j are.2 (omega (arith, lt)) in omega (arith, more, are.0)
-
--- of rising ones the later is not before the earlier
-later : (d e : ℕ × List ℕ) (from before : ℕ) (xs : List (ℕ × List ℕ)) (i j : ℕ) → AreTimes from before xs → i ≤ j → j < length xs → (get_or xs i d).0 ≤ (get_or xs j e).0
-later d e from before [] i j are le lt = absurd (omega (arith, lt))
-later d e from before (x ∷ xs) zero zero are le lt = omega arith
-later d e from before (x ∷ xs) zero (suc j) are le lt = let more = least e (suc x.0) before xs j are.2 (omega (arith, lt)) in omega (arith, more)
-later d e from before (x ∷ xs) (suc i) zero are le lt = absurd (omega (arith, le))
-later d e from before (x ∷ xs) (suc i) (suc j) are le lt = later d e (suc x.0) before xs i j are.2 (omega (arith, le)) (omega (arith, lt))
-
-module _ (p from before : ℕ) (xs : List (ℕ × List ℕ)) (middle : ℕ) (here : ℕ × List ℕ) (are : AreTimes from before xs) (within : middle < length xs) where
-  pub before_middle : (get_or xs middle here).0 < p → (j : ℕ) (d : ℕ × List ℕ) → j < middle + 1 → (get_or xs j d).0 < p
-  before_middle less j d le = let l = later d here from before xs j middle are (omega (arith, le)) within in omega (arith, l, less)
-
-  pub behind_middle : p ≤ (get_or xs middle here).0 → (j : ℕ) (d : ℕ × List ℕ) → middle ≤ j → j < length xs → p ≤ (get_or xs j d).0
-  behind_middle more j d le lt = let l = later here d from before xs middle j are le lt in omega (arith, l, more)

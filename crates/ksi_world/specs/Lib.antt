@@ -3,7 +3,6 @@ pub mod Records
 pub mod Sound
 pub mod Nodes
 pub mod Letters
-pub mod Places
 pub mod Deciding
 pub mod Chosen
 pub mod Lasting

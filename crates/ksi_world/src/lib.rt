@@ -42,4 +42,5 @@ pub use ksi_schedule::{Actor, Event, Parents, Plan};
 pub use ksi_signature::Answer;
 pub use message::{Content, Message};
 pub use outcome::{Asked, Outcome};
+pub use published::PublishedRoots;
 pub use world::World;

@@ -14,7 +14,7 @@ use crate::kept::kept_seconds;
 use crate::letter::{Letter, letter_of};
 use crate::message::{Content, Message};
 use crate::outcome::{Asked, Outcome};
-use crate::published::put_answer;
+use crate::published::PublishedRoots;
 use crate::{aggregators, cores};
 use ksi_aggregator::Aggregator;
 use ksi_aggtree::{Item, Name, Second};
@@ -25,26 +25,22 @@ use ksi_signature::{Above, Answer};
 use std::alloc::Global;
 use std::marker::Model;
 
-/// All nodes, all messages ever sent, the accepted requests, and what was published, whose seconds rise.
+/// All nodes, all messages ever sent, the accepted requests, and what was published.
 #[derive(Drop)]
 pub(crate) struct Nodes<C: Compress> {
     cores: Vec<Core<C>>,
     aggregators: Vec<Aggregator<C>>,
     wire: Vec<Message>,
     requests: Vec<Asked>,
-    published: Vec<(u64, Imprint)>,
+    published: PublishedRoots,
 }
 
 impl<C: Compress> Model for Nodes<C> {
-    ghost use Rattle.std.specs.Prelude.{◌^◌};
     ghost use Rattle.ksi_world.specs.Nodes.{NodesState};
-    ghost use Rattle.ksi_world.specs.Validity.{AreTimes};
 
     ghost Value = { NodesState };
 
-    ghost view = { λ n. record { cores = n.cores.items; aggregators = n.aggregators.items; wire = n.wire.items; requests = n.requests.items; published = n.published.items } };
-
-    ghost invariant = { λ n. AreTimes 0 (2 ^ 64) n.published.items };
+    ghost view = { λ n. record { cores = n.cores.items; aggregators = n.aggregators.items; wire = n.wire.items; requests = n.requests.items; published = n.published } };
 }
 
 impl<C: Compress> Nodes<C> {
@@ -137,10 +133,9 @@ impl<C: Compress> Nodes<C> {
         ensures ok { IfOk result (λ outcome. (plan : PlanState) → Happened C.image plan (Event.Publish core second) self.old self.new outcome) }
         ensures err { OnErr result ((plan : PlanState) → StoodStill plan self.old self.new) }
     {
-        self.published.reserve(1)?;
         let event = CoreEvent::Publish(second);
         let outcome = cores::take(&mut self.cores, &mut self.wire, core, second, event)?;
-        put_answer(&mut self.published, second, &outcome.answer);
+        self.published.put_answer(second, &outcome.answer)?;
         Ok(outcome)
     }
 
@@ -255,11 +250,11 @@ impl<C: Compress> Nodes<C> {
         self.requests.as_slice()
     }
 
-    /// The published seconds, rising.
-    pub fn published(&self) -> &[(u64, Imprint)]
+    /// The published seconds.
+    pub fn published(&self) -> &PublishedRoots
         ensures { result.now ≡ self.now.published }
     {
-        self.published.as_slice()
+        &self.published
     }
 
     /// A core that is there.
@@ -301,7 +296,7 @@ impl<C: Compress> Nodes<C> {
         let aggregators = aggregators::new(alloc, plan)?;
         let wire = Vec::new(alloc);
         let requests = Vec::new(alloc);
-        let published = Vec::new(alloc);
+        let published = PublishedRoots::new(alloc);
         Ok(Nodes {
             cores,
             aggregators,

@@ -1,65 +1,71 @@
-//! The published seconds, rising. A second is found among them by halving.
-ghost use Rattle.std.specs.Prelude.{◌≡◌, ◌≤◌, ◌<◌, ◌^◌, vec_len, vec_capacity, length, slice_get};
+//! The published seconds, each with its root.
+ghost use Rattle.std.specs.Prelude.{◌≡◌, [], OnOk, OnErr};
 ghost use Rattle.ksi_world.specs.Histories.{put_rising, published_with};
-ghost use Rattle.ksi_world.specs.Places.{place_of, is_second};
-ghost use Rattle.ksi_world.specs.Validity.{AreTimes};
 
-use ksi_imprint::Imprint;
+use ksi_imprint::{Imprint, NoMemory};
 use ksi_signature::Answer;
+use std::alloc::Global;
+use std::collections::BTreeMap;
+use std::collections::btree_map::Iter;
+use std::marker::Model;
 
-/// Puts what was answered in its place, where there is room: a published root whose second is new.
-pub(crate) fn put_answer(published: &mut Vec<(u64, Imprint)>, second: u64, answer: &Answer)
-    requires room { vec_len published.old < vec_capacity published.old }
-    requires rising { AreTimes 0 (2 ^ 64) published.old.items }
-    ensures put { published.new.items ≡ published_with published.old.items second answer.now }
-    ensures rising { AreTimes 0 (2 ^ 64) published.new.items }
-{
-    if let Answer::Published(root) = answer {
-        put_rising(published, second, *root);
-    }
+/// The published seconds, each with its root. A contract sees their list, rising.
+#[derive(Drop)]
+pub struct PublishedRoots {
+    roots: BTreeMap<u64, Imprint>,
 }
 
-/// Puts a root in its place, where its second is new.
-fn put_rising(published: &mut Vec<(u64, Imprint)>, second: u64, root: Imprint)
-    requires room { vec_len published.old < vec_capacity published.old }
-    requires rising { AreTimes 0 (2 ^ 64) published.old.items }
-    ensures { published.new.items ≡ put_rising second root published.old.items }
-{
-    let place = place_of(published, second);
-    if is_second(published, place, second) {
-        return;
-    }
-    match published.insert(place, (second, root)) {
-        Ok(()) => {}
-        Err(_) => unreachable!(),
-    }
+impl Model for PublishedRoots {
+    ghost use Rattle.std.specs.Prelude.{ℕ, List, ◌^◌};
+    ghost use Rattle.ksi_world.specs.Validity.{AreTimes};
+
+    ghost Value = { List (ℕ × List ℕ) };
+
+    ghost view = { λ published. published.roots.entries };
+
+    ghost invariant = { λ published. AreTimes 0 (2 ^ 64) published.roots.entries };
 }
 
-/// Whether the second stands at this place.
-fn is_second(published: &[(u64, Imprint)], place: usize, second: u64) -> bool
-    ensures { result ≡ is_second second (slice_get published.now place) }
-{
-    match published.get(place) {
-        Some(pair) => pair.0 == second,
-        None => false,
-    }
-}
-
-/// How many seconds stand before this one, by halving.
-fn place_of(published: &[(u64, Imprint)], second: u64) -> usize
-    requires rising { AreTimes 0 (2 ^ 64) published.now }
-    ensures place { result ≡ place_of second published.now }
-    ensures within { result ≤ length published.now }
-{
-    let mut low = 0;
-    let mut high = published.len();
-    'halving: while low < high {
-        let middle = low + (high - low) / 2;
-        if published[middle].0 < second {
-            low = middle + 1;
-        } else {
-            high = middle;
+impl PublishedRoots {
+    /// Nothing is published.
+    pub(crate) fn new(alloc: Global) -> Self
+        ensures { result ≡ [] }
+    {
+        PublishedRoots {
+            roots: BTreeMap::new(alloc),
         }
     }
-    low
+
+    /// The seconds in order, each with its root.
+    pub fn iter(&self) -> Iter<'_, u64, Imprint>
+        ensures { result ≡ self.now }
+    {
+        self.roots.iter()
+    }
+
+    /// Puts what was answered in its place: a published root whose second is new.
+    ///
+    /// # Errors
+    /// `NoMemory`: all is as it was.
+    pub(crate) fn put_answer(&mut self, second: u64, answer: &Answer) -> Result<(), NoMemory>
+        ensures put { OnOk result (self.new ≡ published_with self.old second answer.now) }
+        ensures unchanged { OnErr result (self.new ≡ self.old) }
+    {
+        match answer {
+            Answer::Published(root) => self.put(second, *root),
+            _ => Ok(()),
+        }
+    }
+
+    /// Puts a root in its place, where its second is new.
+    fn put(&mut self, second: u64, root: Imprint) -> Result<(), NoMemory>
+        ensures put { OnOk result (self.new ≡ put_rising second root self.old) }
+        ensures unchanged { OnErr result (self.new ≡ self.old) }
+    {
+        if self.roots.contains_key(&second) {
+            return Ok(());
+        }
+        self.roots.insert(second, root)?;
+        Ok(())
+    }
 }

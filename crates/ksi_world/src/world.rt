@@ -10,6 +10,7 @@ use crate::kept::{Kept, kept_under};
 use crate::message::Message;
 use crate::nodes::Nodes;
 use crate::outcome::{Asked, Outcome};
+use crate::published::PublishedRoots;
 use ksi_aggtree::laws::one_round;
 use ksi_corenode::Core;
 use ksi_imprint::{Bytes, Compress, Imprint, NoMemory};
@@ -97,7 +98,7 @@ impl<C: Compress> World<C> {
     }
 
     /// The published seconds, each with its root. They rise from the start and are below 2^63.
-    pub fn published(&self) -> &[(u64, Imprint)]
+    pub fn published(&self) -> &PublishedRoots
         ensures published { result.now ≡ (world_of C.image self.now).published }
         ensures rising { AreTimes self.now.plan.start (2 ^ 63) (world_of C.image self.now).published }
     {

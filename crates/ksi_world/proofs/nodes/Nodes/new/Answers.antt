@@ -8,5 +8,5 @@ returns g c = record {
   aggregators = let are = c.in_ok-aggregators.ensures in record { many = are.many; each = are.each };
   wire = c.new-wire.ensures.items;
   requests = c.new-requests.ensures.items;
-  published = c.new-published.ensures.items;
+  published = c.new-published.ensures;
 }
