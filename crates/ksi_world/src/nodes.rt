@@ -4,11 +4,12 @@ ghost use Rattle.std.specs.Option.{option_copied};
 ghost use Rattle.ksi_signature.specs.declared.above.Above.{Above};
 ghost use Rattle.ksi_corenode.specs.Events.{event_second};
 ghost use Rattle.ksi_world.specs.declared.message.Message.{Message};
-ghost use Rattle.ksi_schedule.specs.Plans.{PlanState};
+ghost use Rattle.ksi_schedule.specs.Plans.{PlanState, IsPlan};
+ghost use Rattle.ksi_schedule.specs.Events.{AreEvents};
 ghost use Rattle.ksi_world.specs.Histories.{asked_with, outcome_of, first_world};
 ghost use Rattle.ksi_world.specs.Records.{kept_among};
 ghost use Rattle.ksi_world.specs.Keeping.{second_among};
-ghost use Rattle.ksi_world.specs.Nodes.{Fits, IsReady, IsReadyCore, IsTaken, Happened, TookTurn, WasTaken, StoodStill};
+ghost use Rattle.ksi_world.specs.Nodes.{Fits, IsReady, IsReadyCore, IsTaken, IsWorld, Happened, TookTurn, WasTaken, StoodStill};
 
 use crate::kept::kept_seconds;
 use crate::letter::{Letter, letter_of};
@@ -17,6 +18,7 @@ use crate::outcome::{Asked, Outcome};
 use crate::published::PublishedRoots;
 use crate::{aggregators, cores};
 use ksi_aggregator::Aggregator;
+use ksi_aggtree::laws::one_round;
 use ksi_aggtree::{Item, Name, Second};
 use ksi_corenode::{Core, CoreEvent};
 use ksi_imprint::{Compress, Imprint, NoMemory};
@@ -286,6 +288,20 @@ impl<C: Compress> Nodes<C> {
         ensures { IfOk result (λ kept. kept.items ≡ kept_among (second_among C.image self.now.cores) start many) }
     {
         kept_seconds(alloc, &self.cores, start, many)
+    }
+
+    /// The nodes of a plan after these events.
+    pub fn after(alloc: Global, plan: &Plan, events: &[Event]) -> Result<Self, NoMemory>
+        requires plan { IsPlan plan.now }
+        requires events { AreEvents plan.now events.now }
+        ensures { IfOk result (IsWorld C.image plan.now events.now) }
+    {
+        one_round();
+        let mut nodes = Nodes::new(alloc, plan)?;
+        'events: for event in events {
+            nodes.happen(plan, event)?;
+        }
+        Ok(nodes)
     }
 
     /// The nodes of a plan before anything happened.

@@ -14,7 +14,7 @@ use crate::published::PublishedRoots;
 use ksi_aggtree::laws::one_round;
 use ksi_corenode::Core;
 use ksi_imprint::{Bytes, Compress, Imprint, NoMemory};
-use ksi_schedule::{Event, Plan};
+use ksi_schedule::{Event, Plan, Schedule};
 use ksi_synod::laws::steps_agree;
 use std::alloc::Global;
 use std::marker::Model;
@@ -53,6 +53,23 @@ impl<C: Compress> World<C> {
             alloc,
             plan,
             events: Vec::new(alloc),
+            nodes,
+        })
+    }
+
+    /// The nodes of a schedule's plan after its events, which are not copied.
+    ///
+    /// # Errors
+    /// `NoMemory`: nothing is made.
+    pub fn after(alloc: Global, schedule: Schedule) -> Result<World<C>, NoMemory>
+        ensures { IfOk result (λ world. world ≡ schedule) }
+    {
+        let (plan, events) = schedule.into_parts();
+        let nodes = Nodes::after(alloc, &plan, events.as_slice())?;
+        Ok(World {
+            alloc,
+            plan,
+            events: events.into_vec(),
             nodes,
         })
     }
