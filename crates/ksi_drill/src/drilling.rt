@@ -29,7 +29,7 @@ pub fn drill(alloc: Global, number: u64) -> Result<Tally, NoMemory>
     ensures accepted { IfOk result (λ tally. tally.accepted ≡ tally.issued) }
 {
     let schedule = generate(alloc, number)?;
-    let world = replay::<Sha>(alloc, &schedule)?;
+    let world = replay::<Sha>(alloc, schedule)?;
     let journal = journal_of(alloc, &world)?;
     tally(alloc, &world, &journal)
 }

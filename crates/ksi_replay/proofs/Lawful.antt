@@ -23,11 +23,6 @@ use Rattle.ksi_replay.specs.Journals.{journal_in}
 
 -- ALL OF A LIST
 
-pub each_event : (plan : PlanState) (events : List Event) (k : ℕ) (other : Event) → AreEvents plan events → k < length events → IsEvent plan (get_or events k other)
-each_event plan [] k other are lt = absurd (omega (arith, lt))
-each_event plan (event ∷ events) zero other are lt = are.0
-each_event plan (event ∷ events) (suc k) other are lt = each_event plan events k other are.1 (omega (arith, lt))
-
 pub all_more : {A : Type 0} (P : A → Type 0) (xs : List A) (x : A) → AllByRecursion P xs → P x → AllByRecursion P (xs ++ x ∷ [])
 all_more P [] x all more = (more, tt)
 all_more P (y ∷ xs) x all more = (all.0, all_more P xs x all.1 more)

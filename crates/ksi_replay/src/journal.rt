@@ -12,7 +12,7 @@ use ksi_aggtree::{Item, Second};
 use ksi_imprint::{Bytes, Compress, Imprint, NoMemory};
 use ksi_journal::laws::are_bytes;
 use ksi_journal::{Journal, Parts};
-use ksi_world::{Published, World};
+use ksi_world::{PublishedRoots, World};
 use std::alloc::Global;
 
 /// The journal of a world: who votes by its plan, the kept seconds, each with its root and items, the issued signatures,
@@ -103,7 +103,10 @@ fn name_of(item: &Item)
 }
 
 /// A copy of what is published.
-fn publications_of(alloc: Global, published: &Published) -> Result<Vec<(u64, Imprint)>, NoMemory>
+fn publications_of(
+    alloc: Global,
+    published: &PublishedRoots,
+) -> Result<Vec<(u64, Imprint)>, NoMemory>
     ensures same { IfOk result (λ copy. copy.items ≡ published.now) }
     ensures imprints { IfOk result (λ copy. AllByRecursion (λ publication. IsImprint publication.1) copy.items) }
 {

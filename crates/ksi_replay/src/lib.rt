@@ -9,7 +9,7 @@
 //!
 //! ```text
 //! let schedule = read_schedule(alloc, text)?;
-//! let world = replay::<Sha>(alloc, &schedule)?;
+//! let world = replay::<Sha>(alloc, schedule)?;
 //! let bytes = ksi_journal::write(alloc, &journal_of(alloc, &world)?)?;
 //! ```
 #![tactic(auto)]

@@ -5,16 +5,12 @@ use ksi_schedule::Schedule;
 use ksi_world::World;
 use std::alloc::Global;
 
-/// The world after the events of a schedule.
+/// The world after the events of a schedule, which are not copied.
 ///
 /// # Errors
 /// `NoMemory`.
-pub fn replay<C: Compress>(alloc: Global, schedule: &Schedule) -> Result<World<C>, NoMemory>
-    ensures { IfOk result (λ world. world ≡ schedule.now) }
+pub fn replay<C: Compress>(alloc: Global, schedule: Schedule) -> Result<World<C>, NoMemory>
+    ensures { IfOk result (λ world. world ≡ schedule) }
 {
-    let mut world = World::new(alloc, schedule.plan())?;
-    'events: for event in schedule.events() {
-        world.step(*event)?;
-    }
-    Ok(world)
+    World::after(alloc, schedule)
 }

@@ -38,7 +38,7 @@ fn tries(alloc: Global, at: &str) -> Option<String> {
 /// How many messages the events of a text send.
 fn sent(alloc: Global, text: &[u8]) -> Option<u64> {
     let schedule = read_schedule(alloc, text).ok()?;
-    Some(replay::<Sha>(alloc, &schedule).ok()?.wire().len() as u64)
+    Some(replay::<Sha>(alloc, schedule).ok()?.wire().len() as u64)
 }
 
 /// A text with the tries and the ballot behind it.
@@ -54,7 +54,7 @@ fn continued(alloc: Global, text: &[u8], at: &str, pair: [u64; 2]) -> Option<Vec
 /// What cores 0, 1 and 2 hold for a second after the events of a text.
 fn held(alloc: Global, text: &[u8], second: u64) -> Option<[Option<Imprint>; 3]> {
     let schedule = read_schedule(alloc, text).ok()?;
-    let world = replay::<Sha>(alloc, &schedule).ok()?;
+    let world = replay::<Sha>(alloc, schedule).ok()?;
     Some([
         world.held(0, second),
         world.held(1, second),

@@ -25,7 +25,7 @@ pub(crate) fn front(text: &[u8], tenths: usize) -> &[u8] {
 /// The mirror of a core after the events of a text.
 fn mirror_after(alloc: Global, text: &[u8], core: u8) -> Option<Mirror> {
     let schedule = read_schedule(alloc, text).ok()?;
-    let world = replay::<Sha>(alloc, &schedule).ok()?;
+    let world = replay::<Sha>(alloc, schedule).ok()?;
     if core < world.plan().cores() {
         mirror_of(alloc, &world, core).ok()
     } else {

@@ -9,7 +9,7 @@ use std::test::Fail;
 
 fn replayed(alloc: Global, text: &[u8]) -> Option<Journal<Sha>> {
     let schedule = read_schedule(alloc, text).ok()?;
-    let world = replay(alloc, &schedule).ok()?;
+    let world = replay(alloc, schedule).ok()?;
     journal_of(alloc, &world).ok()
 }
 

@@ -35,11 +35,11 @@ pub(crate) fn mirror<F: Files>(
     spelled_is_schedule();
     written_is_mirror();
     let schedule = load_schedule(alloc, files, 1, schedule)?;
-    ended(mirrored(alloc, core, out, &schedule))
+    ended(mirrored(alloc, core, out, schedule))
 }
 
-fn mirrored(alloc: Global, core: u64, out: &str, schedule: &Schedule) -> Result<Report, NoMemory>
-    ensures { IfOk result (λ report. report ≡ mirrored core out.now schedule.now) }
+fn mirrored(alloc: Global, core: u64, out: &str, schedule: Schedule) -> Result<Report, NoMemory>
+    ensures { IfOk result (λ report. report ≡ mirrored core out.now schedule) }
 {
     if core < u64::from(schedule.plan().cores()) {
         copied(alloc, core as u8, out, schedule)
@@ -50,12 +50,13 @@ fn mirrored(alloc: Global, core: u64, out: &str, schedule: &Schedule) -> Result<
 }
 
 /// The mirror of a core of the plan, saved.
-fn copied(alloc: Global, core: u8, out: &str, schedule: &Schedule) -> Result<Report, NoMemory>
-    requires { core < schedule.now.plan.cores }
-    ensures { IfOk result (λ report. report ≡ mirror_saved core out.now (mirror_of imprint_of schedule.now core)) }
+fn copied(alloc: Global, core: u8, out: &str, schedule: Schedule) -> Result<Report, NoMemory>
+    requires { core < schedule.plan.cores }
+    ensures { IfOk result (λ report. report ≡ mirror_saved core out.now (mirror_of imprint_of schedule core)) }
 {
     let world = ksi_replay::replay::<Sha>(alloc, schedule)?;
     let mirror = mirror_of(alloc, &world, core)?;
+    drop(world);
     mirror_saved(alloc, u64::from(core), out, &mirror)
 }
 

@@ -4,7 +4,7 @@ ghost use Rattle.ksi_imprint.specs.Imprints.{imprint_of};
 ghost use Rattle.ksi_journal.specs.Journal.{IsJournal};
 ghost use Rattle.ksi_replay.specs.Journals.{journal_of};
 ghost use Rattle.ksi_top.specs.Promised.{Performed};
-ghost use Rattle.ksi_top.specs.Replay.{counted, replay_command, replayed, replayed_as, replayed_line};
+ghost use Rattle.ksi_top.specs.Replay.{counted, replay_command, replayed, replayed_line};
 
 use crate::histories::histories_hold;
 use crate::loading::load_schedule;
@@ -30,37 +30,27 @@ pub(crate) fn replay<F: Files>(
 {
     histories_hold();
     let schedule = load_schedule(alloc, files, 1, schedule)?;
-    ended(replayed(alloc, journal, &schedule))
+    ended(replayed(alloc, journal, schedule))
 }
 
-fn replayed(alloc: Global, name: &str, schedule: &Schedule) -> Result<Report, NoMemory>
-    ensures replayed { IfOk result (λ report. report ≡ replayed name.now schedule.now) }
-    ensures lawful { IfOk result (λ _. IsJournal imprint_of (journal_of imprint_of schedule.now)) }
+fn replayed(alloc: Global, name: &str, schedule: Schedule) -> Result<Report, NoMemory>
+    ensures replayed { IfOk result (λ report. report ≡ replayed name.now schedule) }
+    ensures lawful { IfOk result (λ _. IsJournal imprint_of (journal_of imprint_of schedule)) }
 {
     let world = ksi_replay::replay::<Sha>(alloc, schedule)?;
-    kept(alloc, name, &world)
+    kept(alloc, name, world)
 }
 
-/// The journal of a world, saved under a name.
-fn kept(alloc: Global, name: &str, world: &World<Sha>) -> Result<Report, NoMemory>
-    ensures replayed { IfOk result (λ report. report ≡ replayed name.now world.now) }
-    ensures lawful { IfOk result (λ _. IsJournal imprint_of (journal_of imprint_of world.now)) }
+/// The journal of a world, saved under a name. The world is dropped before the bytes are made: it is the greatest of all.
+fn kept(alloc: Global, name: &str, world: World<Sha>) -> Result<Report, NoMemory>
+    ensures replayed { IfOk result (λ report. report ≡ replayed name.now world) }
+    ensures lawful { IfOk result (λ _. IsJournal imprint_of (journal_of imprint_of world)) }
 {
-    let journal = journal_of(alloc, world)?;
+    let journal = journal_of(alloc, &world)?;
     let _start = journal.start();
-    saving(alloc, name, world, &journal)
-}
-
-fn saving(
-    alloc: Global,
-    name: &str,
-    world: &World<Sha>,
-    journal: &Journal<Sha>,
-) -> Result<Report, NoMemory>
-    ensures { IfOk result (λ report. report ≡ replayed_as name.now world.now journal.now) }
-{
-    let bytes = ksi_journal::write(alloc, journal)?;
-    let line = counted(world, journal);
+    let line = counted(&world, &journal);
+    drop(world);
+    let bytes = ksi_journal::write(alloc, &journal)?;
     Ok(Report::saving(line, Saved::named(alloc, name, bytes)?))
 }
 

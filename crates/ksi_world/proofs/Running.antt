@@ -1,5 +1,5 @@
 -- One event more.
-use Rattle.std.proofs.Common.{◌≡◌, ℕ, List, [], ◌∷◌, ◌++◌, refl, sym, subst}
+use Rattle.std.proofs.Common.{◌≡◌, ℕ, zero, suc, ◌<◌, List, [], ◌∷◌, ◌++◌, length, get_or, refl, sym, subst, arith}
 use Rattle.ksi_schedule.specs.declared.event.Event.{Event}
 use Rattle.ksi_schedule.specs.Plans.{PlanState, IsPlan}
 use Rattle.ksi_world.specs.Histories.{WorldState, happens, first_world, run, after}
@@ -12,6 +12,12 @@ use Rattle.ksi_world.proofs.Sounding.{happens_sound, first_sound}
 are_more : (plan : PlanState) (es : List Event) (e : Event) → AreEvents plan es → IsEvent plan e → AreEvents plan (es ++ e ∷ [])
 are_more plan [] e are is = (is, tt)
 are_more plan (x ∷ es) e are is = (are.0, are_more plan es e are.1 is)
+
+-- each of the events is one of the plan
+pub each_event : (plan : PlanState) (events : List Event) (k : ℕ) (other : Event) → AreEvents plan events → k < length events → IsEvent plan (get_or events k other)
+each_event plan [] k other are lt = absurd (omega (arith, lt))
+each_event plan (event ∷ events) zero other are lt = are.0
+each_event plan (event ∷ events) (suc k) other are lt = each_event plan events k other are.1 (omega (arith, lt))
 
 module _ (image : List ℕ → List ℕ) (plan : PlanState) where
   run_more : (w : WorldState) (es : List Event) (e : Event) → run image plan w (es ++ e ∷ []) ≡ (happens image plan (run image plan w es) e).world

@@ -1,9 +1,10 @@
 //! A whole infrastructure as one value: all cores and aggregators of a plan, and the wire between them.
 //!
 //! A [`World`] takes one [`Event`] at a time and answers an [`Outcome`]: the addressee's answer, and how many messages were
-//! sent. Every message ever sent stands in the wire under its number. `Event::Deliver` hands one to its addressee, so a
-//! message may be lost, late, repeated or out of order, and any node may restart at any moment. A contract sees the plan
-//! and the list of events, and `specs/Histories` says what every node keeps and what was sent after them.
+//! sent. [`World::after`] takes the events of a schedule, which are not copied. Every message ever sent stands in the wire
+//! under its number. `Event::Deliver` hands one to its addressee, so a message may be lost, late, repeated or out of order,
+//! and any node may restart at any moment. A contract sees the plan and the list of events, and `specs/Histories` says what
+//! every node keeps and what was sent after them.
 //!
 //! The layer above may rely on this: each call's answer is that of `happens`, all readers are those of the events so far,
 //! `issued` is `issued_of`, the signature of an accepted request exactly where its round has a response, and `kept` has each
@@ -42,5 +43,5 @@ pub use ksi_schedule::{Actor, Event, Parents, Plan};
 pub use ksi_signature::Answer;
 pub use message::{Content, Message};
 pub use outcome::{Asked, Outcome};
-pub use published::Published;
+pub use published::PublishedRoots;
 pub use world::World;

@@ -4,19 +4,21 @@ ghost use Rattle.std.specs.Option.{option_copied};
 ghost use Rattle.ksi_signature.specs.declared.above.Above.{Above};
 ghost use Rattle.ksi_corenode.specs.Events.{event_second};
 ghost use Rattle.ksi_world.specs.declared.message.Message.{Message};
-ghost use Rattle.ksi_schedule.specs.Plans.{PlanState};
+ghost use Rattle.ksi_schedule.specs.Plans.{PlanState, IsPlan};
+ghost use Rattle.ksi_schedule.specs.Events.{AreEvents};
 ghost use Rattle.ksi_world.specs.Histories.{asked_with, outcome_of, first_world};
 ghost use Rattle.ksi_world.specs.Records.{kept_among};
 ghost use Rattle.ksi_world.specs.Keeping.{second_among};
-ghost use Rattle.ksi_world.specs.Nodes.{Fits, IsReady, IsReadyCore, IsTaken, Happened, TookTurn, WasTaken, StoodStill};
+ghost use Rattle.ksi_world.specs.Nodes.{Fits, IsReady, IsReadyCore, IsTaken, IsWorld, Happened, TookTurn, WasTaken, StoodStill};
 
 use crate::kept::kept_seconds;
 use crate::letter::{Letter, letter_of};
 use crate::message::{Content, Message};
 use crate::outcome::{Asked, Outcome};
-use crate::published::Published;
+use crate::published::PublishedRoots;
 use crate::{aggregators, cores};
 use ksi_aggregator::Aggregator;
+use ksi_aggtree::laws::one_round;
 use ksi_aggtree::{Item, Name, Second};
 use ksi_corenode::{Core, CoreEvent};
 use ksi_imprint::{Compress, Imprint, NoMemory};
@@ -32,7 +34,7 @@ pub(crate) struct Nodes<C: Compress> {
     aggregators: Vec<Aggregator<C>>,
     wire: Vec<Message>,
     requests: Vec<Asked>,
-    published: Published,
+    published: PublishedRoots,
 }
 
 impl<C: Compress> Model for Nodes<C> {
@@ -251,7 +253,7 @@ impl<C: Compress> Nodes<C> {
     }
 
     /// The published seconds.
-    pub fn published(&self) -> &Published
+    pub fn published(&self) -> &PublishedRoots
         ensures { result.now ≡ self.now.published }
     {
         &self.published
@@ -288,6 +290,20 @@ impl<C: Compress> Nodes<C> {
         kept_seconds(alloc, &self.cores, start, many)
     }
 
+    /// The nodes of a plan after these events.
+    pub fn after(alloc: Global, plan: &Plan, events: &[Event]) -> Result<Self, NoMemory>
+        requires plan { IsPlan plan.now }
+        requires events { AreEvents plan.now events.now }
+        ensures { IfOk result (IsWorld C.image plan.now events.now) }
+    {
+        one_round();
+        let mut nodes = Nodes::new(alloc, plan)?;
+        'events: for event in events {
+            nodes.happen(plan, event)?;
+        }
+        Ok(nodes)
+    }
+
     /// The nodes of a plan before anything happened.
     pub fn new(alloc: Global, plan: &Plan) -> Result<Self, NoMemory>
         ensures { IfOk result (Fits plan.now (first_world plan.now)) }
@@ -296,7 +312,7 @@ impl<C: Compress> Nodes<C> {
         let aggregators = aggregators::new(alloc, plan)?;
         let wire = Vec::new(alloc);
         let requests = Vec::new(alloc);
-        let published = Published::new(alloc);
+        let published = PublishedRoots::new(alloc);
         Ok(Nodes {
             cores,
             aggregators,

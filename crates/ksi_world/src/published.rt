@@ -11,11 +11,11 @@ use std::marker::Model;
 
 /// The published seconds, each with its root. A contract sees their list, rising.
 #[derive(Drop)]
-pub struct Published {
+pub struct PublishedRoots {
     roots: BTreeMap<u64, Imprint>,
 }
 
-impl Model for Published {
+impl Model for PublishedRoots {
     ghost use Rattle.std.specs.Prelude.{ℕ, List, ◌^◌};
     ghost use Rattle.ksi_world.specs.Validity.{AreTimes};
 
@@ -26,12 +26,12 @@ impl Model for Published {
     ghost invariant = { λ published. AreTimes 0 (2 ^ 64) published.roots.entries };
 }
 
-impl Published {
+impl PublishedRoots {
     /// Nothing is published.
     pub(crate) fn new(alloc: Global) -> Self
         ensures { result ≡ [] }
     {
-        Published {
+        PublishedRoots {
             roots: BTreeMap::new(alloc),
         }
     }

@@ -10,11 +10,11 @@ use crate::kept::{Kept, kept_under};
 use crate::message::Message;
 use crate::nodes::Nodes;
 use crate::outcome::{Asked, Outcome};
-use crate::published::Published;
+use crate::published::PublishedRoots;
 use ksi_aggtree::laws::one_round;
 use ksi_corenode::Core;
 use ksi_imprint::{Bytes, Compress, Imprint, NoMemory};
-use ksi_schedule::{Event, Plan};
+use ksi_schedule::{Event, Plan, Schedule};
 use ksi_synod::laws::steps_agree;
 use std::alloc::Global;
 use std::marker::Model;
@@ -53,6 +53,23 @@ impl<C: Compress> World<C> {
             alloc,
             plan,
             events: Vec::new(alloc),
+            nodes,
+        })
+    }
+
+    /// The nodes of a schedule's plan after its events, which are not copied.
+    ///
+    /// # Errors
+    /// `NoMemory`: nothing is made.
+    pub fn after(alloc: Global, schedule: Schedule) -> Result<World<C>, NoMemory>
+        ensures { IfOk result (λ world. world ≡ schedule) }
+    {
+        let (plan, events) = schedule.into_parts();
+        let nodes = Nodes::after(alloc, &plan, events.as_slice())?;
+        Ok(World {
+            alloc,
+            plan,
+            events: events.into_vec(),
             nodes,
         })
     }
@@ -98,7 +115,7 @@ impl<C: Compress> World<C> {
     }
 
     /// The published seconds, each with its root. They rise from the start and are below 2^63.
-    pub fn published(&self) -> &Published
+    pub fn published(&self) -> &PublishedRoots
         ensures published { result.now ≡ (world_of C.image self.now).published }
         ensures rising { AreTimes self.now.plan.start (2 ^ 63) (world_of C.image self.now).published }
     {

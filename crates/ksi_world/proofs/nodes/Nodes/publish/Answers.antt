@@ -24,7 +24,7 @@ take-requires-clause-may g c =
     λ j core at. asked_for c.requires.0 c.args.second ready.plan_is ready.event_is.1 core (fits.cores.each j core at).start
 
 pub returns-in_err-outcome-clause-err : goal.returns-in_err-outcome-clause-err
-returns-in_err-outcome-clause-err g c = at_error c.from_residual-in_err-outcome.result (λ plan w fits.
+returns-in_err-outcome-clause-err g c = at_error c.from_residual.result (λ plan w fits.
     let fits' = subst (λ (n : NodesState). Fits plan w n) (sym c.self.view_is) fits in
     record { cores = c.in_err-outcome.ensures.cores plan w.seconds fits'.cores; aggregators = fits'.aggregators; wire = c.in_err-outcome.ensures.wire ∙ fits'.wire; requests = fits'.requests; published = fits'.published })
 
@@ -37,6 +37,6 @@ returns-in_err-put_answer-clause-err g c = at_error c.from_residual-in_err-put_a
 pub returns-clause-ok : goal.returns-clause-ok
 unfolding happens
 returns-clause-ok g c = λ plan w fits.
-    publish_fits plan w c.self.inside.cores.items c.take.new.cores.items c.self.inside.aggregators.items c.self.inside.aggregators.items c.self.inside.wire.items c.take.new.wire.items c.self.inside.requests.items c.self.inside.requests.items c.self.inside.published c.put_answer.new.published
+    publish_fits plan w c.self.inside.cores.items c.take.new.cores.items c.self.inside.aggregators.items c.self.inside.aggregators.items c.self.inside.wire.items c.take.new.wire.items c.self.inside.requests.items c.self.inside.requests.items c.self.inside.published c.put_answer.new.self
     (subst (λ (n : NodesState). Fits plan w n) (sym c.self.view_is) fits) g.C.Compress.image c.args.core c.args.second c.in_ok-outcome.outcome c.in_ok-outcome.ensures.ok
     c.in_ok-put_answer.ensures.put

@@ -3,7 +3,7 @@ use Rattle.ksi_world.specs.Histories.{put_rising}
 use Rattle.ksi_world.specs.Validity.{AreTimes}
 use Rattle.ksi_world.proofs.Rising.{put_known, put_new}
 use Rattle.ksi_world.proofs.Publishing.{put_times}
-use Rattle.ksi_world.proofs.published.Published.put.Goals as goal
+use Rattle.ksi_world.proofs.published.PublishedRoots.put.Goals as goal
 
 pub returns-then-contains_key-clause-put : goal.returns-then-contains_key-clause-put
 returns-then-contains_key-clause-put c =
