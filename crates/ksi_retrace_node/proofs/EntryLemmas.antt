@@ -1,11 +1,12 @@
 -- An entry that is read.
-use Rattle.std.proofs.Common.{◌≡◌, [], ◌∷◌, ◌++◌, true, false, Option, Some, None, IfSome, Ok, inr, sym, ap, ◌∙◌, append_assoc}
+use Rattle.std.proofs.Common.{◌≡◌, [], ◌∷◌, ◌++◌, true, false, Option, Some, None, IfSome, Ok, Err, inr, sym, ap, ◌∙◌, append_assoc}
 use Rattle.ksi_blocks.specs.Steps.{IsLineOf}
 use Rattle.ksi_blocks.specs.declared.lines.Came.TheVariants as comes
 use Rattle.ksi_schedule.specs.Pieces.{Text}
 use Rattle.ksi_schedule.specs.Plans.{PlanState}
 use Rattle.ksi_schedule.specs.declared.actor.Actor.{Actor}
 use Rattle.ksi_schedule.specs.declared.actor.Actor.TheVariants as actors
+use Rattle.ksi_wire.specs.declared.fault.WireFault.{WireFault}
 use Rattle.ksi_retrace_node.specs.declared.fault.LogFault.TheVariants as faults
 use Rattle.ksi_retrace_node.specs.declared.head.Given.{Given}
 use Rattle.ksi_retrace_node.specs.declared.head.Given.TheVariants as given
@@ -29,6 +30,13 @@ module _ (plan : PlanState) where
   head_own me heads.Restarted fits = tt
 
 module _ (plan : PlanState) (me : Actor) where
+  -- a line that says nothing
+  pub faulty_entry : (old mid : Option Text) (line : Text) (fault : WireFault) → IsLineOf old mid line comes.Line → head_at plan me line ≡ Err fault
+      → IfSome old (λ bytes. StandsIn plan me bytes (Refused (faults.Line fault)))
+  faulty_entry None mid line fault came is = tt
+  faulty_entry (Some text) None line fault came is = absurd came.0
+  faulty_entry (Some text) (Some more) line fault came is = (line, more, came.0 ∙ append_assoc line (10 ∷ []) more, came.1, is)
+
   -- a head without its whole block
   pub cut_entry : (old mid new : Option Text) (line block : Text) (head : Head) → IsLineOf old mid line comes.Line → head_at plan me line ≡ Ok head
       → IsBlockBehind head mid new block false → IfSome old (λ bytes. StandsIn plan me bytes (Refused faults.Cut))

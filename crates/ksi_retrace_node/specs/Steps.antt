@@ -36,7 +36,7 @@ IsThere plan (actors.Aggregator k) = k < length plan.parents
 -- core j of the plan has this
 pub record IsCoreAt (plan : PlanState) (j : ℕ) (core : CoreState) (it : NodeState) : Type 0 where
   pub me : core.me ≡ j
-  pub plan : core.plan ≡ core_plan_of plan
+  pub of_plan : core.plan ≡ core_plan_of plan
   pub start : core.start ≡ plan.start
   pub seconds : state_of core ≡ it.seconds
 
@@ -45,6 +45,10 @@ abbrev pub IsAt : {C : Type 0} → PlanState → (me : Actor) → Node C → Nod
 IsAt plan (actors.Core j) (nodes.Core core) it = IsCoreAt plan j core it
 IsAt plan (actors.Aggregator k) (nodes.Aggregator a) it = (a.me ≡ k) × (rounds_of a ≡ it.rounds)
 IsAt plan _ _ it = ⊥
+
+-- it is the node of the plan, whatever it has
+abbrev pub IsNode : {C : Type 0} → PlanState → (me : Actor) → Node C → Type 0
+IsNode plan me node = (it : NodeState) × IsAt plan me node it
 
 -- it is for this node, which may take it
 abbrev pub Fits : PlanState → (me : Actor) → Given → Type 0

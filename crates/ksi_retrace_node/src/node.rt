@@ -2,7 +2,7 @@
 ghost use Rattle.std.specs.Prelude.{IfOk};
 ghost use Rattle.ksi_schedule.specs.Plans.{PlanState};
 ghost use Rattle.ksi_retrace_node.specs.Nodes.{first_state, restarted, NodeState};
-ghost use Rattle.ksi_retrace_node.specs.Steps.{Fits, FitsHead, IsAt, IsCompared, IsHeld, IsSaid, IsThere};
+ghost use Rattle.ksi_retrace_node.specs.Steps.{Fits, FitsHead, IsAt, IsCompared, IsHeld, IsNode, IsSaid, IsThere};
 ghost use Rattle.ksi_retrace_node.specs.declared.head.Given.TheVariants as given;
 
 use crate::head::{Given, Head};
@@ -56,8 +56,9 @@ impl<C: Compress> Node<C> {
         block: &[u8],
     ) -> Result<Held, NoMemory>
         requires there { IsThere plan.now me }
+        requires node { IsNode plan.now me self.old }
         requires fits { FitsHead plan.now me head }
-        ensures { (it : NodeState) → IsAt plan.now me self.old it → IfOk result (IsHeld C.image plan.now me it head block.now self.new) }
+        ensures { IfOk result (λ held. (it : NodeState) → IsAt plan.now me self.old it → IsHeld C.image plan.now me it head block.now self.new held) }
     {
         match head {
             Head::Said(given) => match self.take(alloc, plan, me, given)? {
@@ -84,8 +85,9 @@ impl<C: Compress> Node<C> {
         given: Given,
     ) -> Result<Option<Bytes>, NoMemory>
         requires there { IsThere plan.now me }
+        requires node { IsNode plan.now me self.old }
         requires fits { Fits plan.now me given }
-        ensures { (it : NodeState) → IsAt plan.now me self.old it → IfOk result (IsSaid C.image plan.now me it given self.new) }
+        ensures { IfOk result (λ said. (it : NodeState) → IsAt plan.now me self.old it → IsSaid C.image plan.now me it given self.new said) }
     {
         match given {
             Given::ToCore(core, event) => self.take_at_core(alloc, plan, me, core, event),
@@ -103,8 +105,9 @@ impl<C: Compress> Node<C> {
         number: u8,
         event: CoreEvent,
     ) -> Result<Option<Bytes>, NoMemory>
+        requires node { IsNode _plan.now _me self.old }
         requires fits { Fits _plan.now _me (given.ToCore number event) }
-        ensures { (it : NodeState) → IsAt _plan.now _me self.old it → IfOk result (IsSaid C.image _plan.now _me it (given.ToCore number event) self.new) }
+        ensures { IfOk result (λ said. (it : NodeState) → IsAt _plan.now _me self.old it → IsSaid C.image _plan.now _me it (given.ToCore number event) self.new said) }
     {
         match self {
             Node::Core(core) => {
@@ -126,7 +129,7 @@ impl<C: Compress> Node<C> {
     ) -> Result<Option<Bytes>, NoMemory>
         requires there { IsThere plan.now _me }
         requires fits { Fits plan.now _me (given.ToAggregator number event) }
-        ensures { (it : NodeState) → IsAt plan.now _me self.old it → IfOk result (IsSaid C.image plan.now _me it (given.ToAggregator number event) self.new) }
+        ensures { IfOk result (λ said. (it : NodeState) → IsAt plan.now _me self.old it → IsSaid C.image plan.now _me it (given.ToAggregator number event) self.new said) }
     {
         match self {
             Node::Aggregator(aggregator) => {

@@ -30,7 +30,8 @@ pub(crate) fn core_block<C: Compress>(
 {
     let second = core_second(&event);
     let step = core.take(event)?;
-    core_step_text(alloc, me, second, &step)
+    let text = core_step_text(alloc, me, second, &step)?;
+    Ok(text)
 }
 
 /// The same at an aggregator of the plan.
@@ -52,7 +53,7 @@ pub(crate) fn round_block<C: Compress>(
     let second = round_second(&event);
     let step = aggregator.take(event)?;
     let sends = step.sends.as_slice();
-    round_step_text(
+    let text = round_step_text(
         alloc,
         plan,
         me,
@@ -60,7 +61,8 @@ pub(crate) fn round_block<C: Compress>(
         &step.answer,
         step.fact.is_some(),
         sends,
-    )
+    )?;
+    Ok(text)
 }
 
 /// Whether an event may be taken: the number of a request is new.

@@ -76,12 +76,14 @@ fn entry_by_entry<C: Compress, S: BufRead>(
 {
     let mut place = Place { entry: 0, line: 1 };
     'entries: for _ in 0..u64::MAX {
-        let head = match next_entry(alloc, plan, me, word, log, line, block)? {
+        let next = next_entry(alloc, plan, me, word, log, line, block)?;
+        let head = match next {
             Next::Entry(head) => head,
             Next::Refused(fault) => return Ok(Verdict::Refused(fault, place)),
             Next::End => return Ok(Verdict::Agrees(place.entry)),
         };
-        match node.hold(alloc, plan, me, head, block)? {
+        let held = node.hold(alloc, plan, me, head, block)?;
+        match held {
             Held::Told => {}
             Held::Differs => return Ok(Verdict::Differs(place)),
             Held::Taken => {

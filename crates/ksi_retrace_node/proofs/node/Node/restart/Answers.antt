@@ -1,0 +1,10 @@
+use Rattle.std.proofs.Common.{◌≡◌, subst}
+use Rattle.ksi_retrace_node.specs.declared.node.Node.{Node}
+use Rattle.ksi_retrace_node.specs.Steps.{IsAt}
+use Rattle.ksi_retrace_node.proofs.NodeLemmas.{round_restarts}
+use Rattle.ksi_retrace_node.proofs.node.Node.restart.Goals as goal
+
+pub returns-in-Aggregator : goal.returns-in-Aggregator
+returns-in-Aggregator g c = λ plan me it at.
+    round_restarts plan me c.in-Aggregator.aggregator c.restart-in-Aggregator.new.self it c.restart-in-Aggregator.ensures.me c.restart-in-Aggregator.ensures.rounds
+    (subst (λ (node : Node g.row.C.Denot). IsAt plan me node it) c.in-Aggregator.is at)
