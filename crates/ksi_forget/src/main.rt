@@ -14,7 +14,7 @@ use ksi_host_disk::HostDisk;
 use ksi_imprint::Sha;
 use ksi_roundstore::OpenRefusal;
 use ksi_schedule::Plan;
-use ksi_service::{Failure, end, plan_of};
+use ksi_service::{Failure, disk_at, end, plan_of};
 use std::io::Write;
 use std::process::ExitCode;
 
@@ -36,8 +36,8 @@ fn forget_in(rt: &HostRuntime, plan: &Plan, me: u32, words: &Command) -> Result<
     requires { me < length plan.now.parents }
 {
     let folder = words.folder.as_str();
-    let disk = opened(rt, folder, words.name.as_str())?;
-    let mut fresh = opened(rt, folder, words.fresh.as_str())?;
+    let disk = disk_at(rt, folder, words.name.as_str())?;
+    let mut fresh = disk_at(rt, folder, words.fresh.as_str())?;
     if !fresh.is_empty() {
         return Err(Failure::File);
     }
@@ -55,11 +55,4 @@ fn say(rt: &HostRuntime, left: u64, records: u64) -> Result<(), Failure> {
     let mut out = rt.stdout();
     out.write_all(line.as_str().as_bytes())?;
     Ok(())
-}
-
-fn opened(rt: &HostRuntime, folder: &str, name: &str) -> Result<HostDisk, Failure> {
-    match HostDisk::open(rt, folder, name) {
-        Ok(disk) => Ok(disk),
-        Err(error) => Err(Failure::of(&error, Failure::File)),
-    }
 }

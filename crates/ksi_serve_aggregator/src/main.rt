@@ -9,7 +9,7 @@ use ksi_host_disk::HostDisk;
 use ksi_imprint::Sha;
 use ksi_roundstore::{OpenRefusal, RoundStore, format};
 use ksi_schedule::Plan;
-use ksi_service::{Failure, HostOutlet, end, plan_of, serve_aggregator, words};
+use ksi_service::{Failure, HostOutlet, end, formatted_disk, plan_of, serve_aggregator, words};
 use std::io::BufReader;
 use std::process::ExitCode;
 
@@ -36,7 +36,7 @@ fn run(rt: &HostRuntime) -> Result<(), Failure> {
 fn serve(rt: &HostRuntime, plan: &Plan, me: u32, folder: &str, name: &str) -> Result<(), Failure>
     requires { me < length plan.now.parents }
 {
-    let disk = disk_of(rt, plan, me, folder, name)?;
+    let disk = formatted_disk(rt, folder, name, |disk| format(me, plan, disk))?;
     match RoundStore::<Sha, HostDisk>::open(rt.alloc(), me, plan, disk) {
         Ok(mut store) => {
             let mut reader = BufReader::new(rt.alloc(), rt.stdin())?;
@@ -45,34 +45,5 @@ fn serve(rt: &HostRuntime, plan: &Plan, me: u32, folder: &str, name: &str) -> Re
         }
         Err((OpenRefusal::NoMemory, _)) => Err(Failure::Memory),
         Err((_, _)) => Err(Failure::File),
-    }
-}
-
-/// The disk of an aggregator, which is formatted if its file is empty. A disk that was written to is opened again, to be read.
-fn disk_of(
-    rt: &HostRuntime,
-    plan: &Plan,
-    me: u32,
-    folder: &str,
-    name: &str,
-) -> Result<HostDisk, Failure>
-    requires { me < length plan.now.parents }
-{
-    {
-        let mut disk = opened(rt, folder, name)?;
-        if !disk.is_empty() {
-            return Ok(disk);
-        }
-        if format(me, plan, &mut disk).is_err() {
-            return Err(Failure::Disk);
-        }
-    }
-    opened(rt, folder, name)
-}
-
-fn opened(rt: &HostRuntime, folder: &str, name: &str) -> Result<HostDisk, Failure> {
-    match HostDisk::open(rt, folder, name) {
-        Ok(disk) => Ok(disk),
-        Err(error) => Err(Failure::of(&error, Failure::File)),
     }
 }

@@ -9,7 +9,7 @@ use ksi_host_disk::HostDisk;
 use ksi_imprint::Sha;
 use ksi_nodestore::{NodeStore, OpenRefusal, format};
 use ksi_schedule::Plan;
-use ksi_service::{Failure, HostOutlet, end, plan_of, serve_core, words};
+use ksi_service::{Failure, HostOutlet, end, formatted_disk, plan_of, serve_core, words};
 use std::io::BufReader;
 use std::process::ExitCode;
 
@@ -36,8 +36,9 @@ fn run(rt: &HostRuntime) -> Result<(), Failure> {
 fn serve(rt: &HostRuntime, plan: &Plan, me: u8, folder: &str, name: &str) -> Result<(), Failure>
     requires { me < plan.now.cores }
 {
-    let disk = disk_of(rt, plan, me, folder, name)?;
-    match NodeStore::<Sha, HostDisk>::open(rt.alloc(), me, plan.core_plan(), disk) {
+    let core_plan = plan.core_plan();
+    let disk = formatted_disk(rt, folder, name, |disk| format(me, core_plan, disk))?;
+    match NodeStore::<Sha, HostDisk>::open(rt.alloc(), me, core_plan, disk) {
         Ok(mut store) => {
             let mut reader = BufReader::new(rt.alloc(), rt.stdin())?;
             let mut out = HostOutlet::new(rt.stdout());
@@ -45,34 +46,5 @@ fn serve(rt: &HostRuntime, plan: &Plan, me: u8, folder: &str, name: &str) -> Res
         }
         Err((OpenRefusal::NoMemory, _)) => Err(Failure::Memory),
         Err((_, _)) => Err(Failure::File),
-    }
-}
-
-/// The disk of a core, which is formatted if its file is empty. A disk that was written to is opened again, to be read.
-fn disk_of(
-    rt: &HostRuntime,
-    plan: &Plan,
-    me: u8,
-    folder: &str,
-    name: &str,
-) -> Result<HostDisk, Failure>
-    requires { me < plan.now.cores }
-{
-    {
-        let mut disk = opened(rt, folder, name)?;
-        if !disk.is_empty() {
-            return Ok(disk);
-        }
-        if format(me, plan.core_plan(), &mut disk).is_err() {
-            return Err(Failure::Disk);
-        }
-    }
-    opened(rt, folder, name)
-}
-
-fn opened(rt: &HostRuntime, folder: &str, name: &str) -> Result<HostDisk, Failure> {
-    match HostDisk::open(rt, folder, name) {
-        Ok(disk) => Ok(disk),
-        Err(error) => Err(Failure::of(&error, Failure::File)),
     }
 }

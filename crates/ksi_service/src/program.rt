@@ -1,5 +1,11 @@
 // What the programs of nodes share.
+ghost use Rattle.std.specs.Prelude.{◌≡◌, length, IfOk};
+ghost use Rattle.ksi_disk.specs.Images.{Only};
+ghost use Rattle.ksi_host_disk.specs.Host.{content_of, images_of};
+
 use crate::failure::Failure;
+use ksi_disk::DiskFailed;
+use ksi_host_disk::HostDisk;
 use ksi_imprint::Refused;
 use ksi_schedule::{Plan, read_number, read_schedule};
 use std::io::Write;
@@ -62,6 +68,45 @@ pub fn plan_of(rt: &HostRuntime, name: &str) -> Result<Plan, Failure> {
         Err(Refused::Fault(_)) => Err(Failure::Plan),
         Err(Refused::NoMemory) => Err(Failure::Memory),
     }
+}
+
+/// The disk over the file of this name in a folder, which is made if it is missing.
+///
+/// # Errors
+/// `File`: it cannot be opened, or another process has it. `Memory`.
+pub fn disk_at(rt: &HostRuntime, folder: &str, name: &str) -> Result<HostDisk, Failure>
+    ensures durable { IfOk result (λ disk. Only (content_of disk) (images_of disk)) }
+{
+    match HostDisk::open(rt, folder, name) {
+        Ok(disk) => Ok(disk),
+        Err(error) => Err(Failure::of(&error, Failure::File)),
+    }
+}
+
+/// The same disk, whose file is first formatted by `format` if it is empty. A disk that was written to is opened again, to be
+/// read.
+///
+/// # Errors
+/// `File`: it cannot be opened, or another process has it. `Disk`: it cannot be formatted. `Memory`.
+pub fn formatted_disk<F: FnOnce(&mut HostDisk) -> Result<(), DiskFailed>>(
+    rt: &HostRuntime,
+    folder: &str,
+    name: &str,
+    format: F,
+) -> Result<HostDisk, Failure>
+    requires { (disk : _) → length (content_of disk.now) ≡ 0 → F.pre format disk }
+    ensures durable { IfOk result (λ disk. Only (content_of disk) (images_of disk)) }
+{
+    {
+        let mut disk = disk_at(rt, folder, name)?;
+        if !disk.is_empty() {
+            return Ok(disk);
+        }
+        if format(&mut disk).is_err() {
+            return Err(Failure::Disk);
+        }
+    }
+    disk_at(rt, folder, name)
 }
 
 /// The status of a run. After a failure its last line is `failed` and the failure's word.
