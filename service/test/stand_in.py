@@ -34,7 +34,12 @@ class Stand:
         except OSError:
             sys.exit("failed file")
         self.file.seek(0)
-        self.facts = [line.split() for line in self.file]
+        rows = self.file.readlines()
+        if rows and not rows[-1].endswith("\n"):
+            # a full disk left half of it
+            self.file.truncate(sum(map(len, rows[:-1])))
+            del rows[-1]
+        self.facts = [line.split() for line in rows]
         for fact in self.facts:
             self.hold(fact)
         print(f"ready {len(self.facts)}\n.", flush=True)
@@ -252,6 +257,7 @@ def forget(folder, name, before, fresh):
     gone = {fact[1] for fact in facts if fact[0] == "answered" and int(fact[1]) < int(before)}
     left = [fact[:2] if fact[1] in gone else fact for fact in facts if (fact[0], fact[1] in gone) != ("answered", True)]
     new.writelines(" ".join(fact) + "\n" for fact in left)
+    new.flush()
     print(f"left {len(left)} of {len(facts)}")
 
 
