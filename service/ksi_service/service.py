@@ -17,7 +17,7 @@ from .metrics import Spans, memory
 from .network import Network
 from .node import Down
 from .plan import Odd, Plan, parents_of
-from .programs import page
+from .programs import page, program
 from .publications import Publications
 from .remote import RemoteNetwork
 from .resting import Resting
@@ -268,6 +268,10 @@ async def run(folder, cores=None, aggregators=None, address=("127.0.0.1", 8080),
     gc.set_threshold(50_000, 20, 50)
     os.makedirs(folder, exist_ok=True)
     held = files.lock(folder)
+    if options.get("over", "pipes") == "pipes":
+        # a plan's seconds count from its making on: none is made for nodes that cannot start
+        for name in ("ksi_serve_core", "ksi_serve_aggregator"):
+            program(name)
     files.remove(os.path.join(folder, "door"))
     # the name that a killed `forget` gave a file, before a node adds to that
     files.sync_folder(folder)
