@@ -1,6 +1,6 @@
 -- What the code says of its steps: of what it reads, and of what it holds against the node.
 use Rattle.std.specs.Borrow.{Bor}
-use Rattle.std.specs.Prelude.{◌≡◌, ◌≢◌, ◌<◌, ℕ, List, [], Bool, true, false, length, Option, Some, None, IfSome}
+use Rattle.std.specs.Prelude.{◌≡◌, ◌<◌, ℕ, List, [], Bool, true, false, length, Option, Some, None, IfSome}
 use Rattle.std.specs.Io.KnownBytes.{Consumes}
 use Rattle.ksi_blocks.specs.Blocks.{IsCutBlock}
 use Rattle.ksi_schedule.specs.Pieces.{Text}
@@ -89,12 +89,6 @@ module _ (plan : PlanState) (me : Actor) where
   FitsNext nexts.End = Unit {0}
 
 -- ---- comparing
-
--- the texts are one
-abbrev pub IsCompared : (text block : Text) → Held → Type 0
-IsCompared text block helds.Told = block ≡ text
-IsCompared text block helds.Differs = block ≢ text
-IsCompared text block helds.Taken = ⊥
 
 module _ (image : List ℕ → List ℕ) (plan : PlanState) (me : Actor) where
   -- what the node said, or nothing where it does not take it

@@ -1,8 +1,8 @@
 //! A node, and what it says to the entries of a log.
-ghost use Rattle.std.specs.Prelude.{IfOk};
+ghost use Rattle.std.specs.Prelude.{◌≡◌, ◌↔◌, IfOk, IsTrue};
 ghost use Rattle.ksi_schedule.specs.Plans.{PlanState};
 ghost use Rattle.ksi_retrace_node.specs.Nodes.{first_state, restarted, NodeState};
-ghost use Rattle.ksi_retrace_node.specs.Steps.{Fits, FitsHead, IsAt, IsCompared, IsHeld, IsNode, IsSaid, IsThere};
+ghost use Rattle.ksi_retrace_node.specs.Steps.{Fits, FitsHead, IsAt, IsHeld, IsNode, IsSaid, IsThere};
 ghost use Rattle.ksi_retrace_node.specs.declared.head.Given.TheVariants as given;
 
 use crate::head::{Given, Head};
@@ -62,7 +62,13 @@ impl<C: Compress> Node<C> {
     {
         match head {
             Head::Said(given) => match self.take(alloc, plan, me, given)? {
-                Some(text) => Ok(compared(text.as_slice(), block)),
+                Some(text) => {
+                    if is(text.as_slice(), block) {
+                        Ok(Held::Told)
+                    } else {
+                        Ok(Held::Differs)
+                    }
+                }
                 None => Ok(Held::Taken),
             },
             Head::Unsaid(given) => match self.take(alloc, plan, me, given)? {
@@ -156,12 +162,8 @@ impl<C: Compress> Node<C> {
 }
 
 /// Whether two texts are one.
-fn compared(text: &[u8], block: &[u8]) -> Held
-    ensures { IsCompared text.now block.now result }
+fn is(one: &[u8], other: &[u8]) -> bool
+    ensures { IsTrue result ↔ (one.now ≡ other.now) }
 {
-    if text == block {
-        Held::Told
-    } else {
-        Held::Differs
-    }
+    one == other
 }

@@ -19,6 +19,9 @@ entries-init g c = record {
   );
 }
 
+pub hold-requires-clause-node : goal.hold-requires-clause-node
+hold-requires-clause-node g c = (c.entries.invariant.so_far.0, c.entries.invariant.so_far.1)
+
 pub returns-in-Refused : goal.returns-in-Refused
 returns-in-Refused g c =
     let now = g.S.Read.remaining c.entries.log in
