@@ -3,6 +3,7 @@
 A second's root is one core's candidate, so the items below other cores are not in it. Each second has a leader in turn, and its
 requests go below that core. What was lost, or came late, is asked again for a later second under a new number."""
 import asyncio
+import collections
 import time
 
 from .node import Down, Line
@@ -54,7 +55,9 @@ class Clock:
         self.handed = {}
         """The last second of which each aggregator had a part in a signature."""
         self.number = int(now() * 1000) << 20
-        self.turn = self.waiting = self.signed = self.again = self.busy = self.last_signed = self.next = 0
+        self.turns = collections.Counter()
+        """How many requests went below each core: the aggregators there take turns."""
+        self.waiting = self.signed = self.again = self.busy = self.last_signed = self.next = 0
         """Among them `next`, the first second that is not driven yet: none before it takes a request, whatever the machine's clock says."""
         self.published, self.on_published = None, None
 
@@ -88,8 +91,8 @@ class Clock:
                 leader = self.plan.leader(second + later)
                 up = [it for it in self.plan.below[leader] if all(map(self.takes, self.plan.ways[it]))]
                 if up and self.network.core(leader).alive:
-                    self.turn += 1
-                    return second + later, up[self.turn % len(up)]
+                    self.turns[leader] += 1
+                    return second + later, up[self.turns[leader] % len(up)]
             # all that wait look again and again, and leave time for the others
             await asyncio.sleep(0.1 + self.waiting / 20_000)
             second = max(second, int(self.now()))

@@ -18,6 +18,8 @@ from .streams import ALIVE_MILLISECONDS, connect, errors, patiently
 MOST_TO_SEND = 2000
 """How many lines go to the server at once."""
 TRIM_SECONDS = 5
+LAST_SECONDS = 5
+"""How long a head that stops waits for what the nodes do."""
 QUIET_SECONDS = 30
 """How long is waited for messages about a second at most. Those to a node that is away are not waited for."""
 
@@ -239,6 +241,10 @@ class RemoteNetwork:
         while len(self.decided) > MOST_DECIDED:
             self.flights.pop(self.decided.popitem(last=False)[0], None)
 
+    def on_the_way(self):
+        """Whether any message is on its way to a node that is up."""
+        return any(count > 0 and self.nodes[to].alive for flights in self.flights.values() for to, count in flights.items())
+
     async def quiet(self, second):
         """Waits until no message about the second is on its way to a node that is up."""
         end = time.monotonic() + QUIET_SECONDS
@@ -262,7 +268,11 @@ class RemoteNetwork:
         return 2 * len(up) > self.plan.cores and bool(below)
 
     async def stop(self):
-        """Lets the threads end, and writes what is left of the record. The nodes go on."""
+        """Lets the threads end, and writes what is left of the record. The nodes go on: so it is waited for what they were asked, as to
+        forget, and for their messages, that the record has as many facts as their files."""
+        end = time.monotonic() + LAST_SECONDS
+        while time.monotonic() < end and (self.asked or self.on_the_way()):
+            await asyncio.sleep(0.02)
         self.ended = True
         writing, *threads = self.tasks
         await asyncio.wait(threads, timeout=3)

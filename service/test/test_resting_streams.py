@@ -46,13 +46,12 @@ class RestingStreamsTest(Streamed):
                 self.assertIsNotNone(self.sign(number))
                 if self.running["a0"].poll() is not None:
                     break
-                time.sleep(0.2)
+                time.sleep(0.05)
             self.assertEqual(self.running["a0"].poll(), -signal.SIGKILL, place + self.log("a0"))
             self.assertEqual(os.path.exists(os.path.join(self.room.name, "a0", "a0.forgetting")), place != "behind the new name")
             self.host("a0")
-            for _ in range(3):
-                number += 1
-                self.assertIsNotNone(self.sign(number))
+            number += 1
+            self.assertIsNotNone(self.sign(number))
         self.assertGreater(self.wait_for_forgetting(), 0)
         self.assertEqual(self.running["a0"].poll(), None, self.log("a0"))
         record = self.stop()
