@@ -42,5 +42,4 @@ pub fn logs_are_put_together()
         ((j : ℕ) → CoreAgrees image plan j (seconds j) (log_of_core j deeds)) → CoresAgree image plan seconds deeds }
     ensures aggregators { (image : List ℕ → List ℕ) (plan : PlanState) (rounds : ℕ → ℕ → RoundState) (deeds : List Deed) →
         ((k : ℕ) → AggregatorAgrees image plan k (rounds k) (log_of_aggregator k deeds)) → AggregatorsAgree image plan rounds deeds }
-{
-}
+{}
