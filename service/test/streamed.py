@@ -131,6 +131,10 @@ class Streamed(unittest.TestCase):
 
     def wait_for_forgetting(self):
         """How many rounds were forgotten, once nothing was signed for a while: by then all aggregators had their turn."""
+        for _ in range(120):
+            if json.loads(self.ask("/status")[1])["rounds_forgotten"]:
+                break
+            time.sleep(0.5)
         told_of = -1
         while True:
             status = json.loads(self.ask("/status")[1])

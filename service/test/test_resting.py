@@ -40,7 +40,8 @@ class RestingTest(Clocked):
             for number in range(len(network.plan.parents)):
                 await resting.forget(number)
             return [text[:64] for text, _ in signed], clock.again, resting.rounds, resting.times, network.plan
-        signed, again, rounds, times, plan = self.play(work, aggregators=aggregators)
+        with mock.patch.object(restings, "MOST_SECONDS", 50):
+            signed, again, rounds, times, plan = self.play(work, aggregators=aggregators)
         self.assertEqual((signed, again), ([imprint(number) for number in range(len(signed))], 0))
         self.assertGreater(times, len(plan.parents))
         left = []
