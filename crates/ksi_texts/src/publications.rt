@@ -21,6 +21,7 @@ pub fn put_publications_of(
     ensures ours { (pairs : List (ℕ × List ℕ)) → IsPublications bytes.now pairs → IfOk result (λ fault. fault ≡ None) }
     ensures told { (pairs : List (ℕ × List ℕ)) → IsPublications bytes.now pairs → OnOk result (text.new.items ≡ text.old.items ++ text_of_lines (publications_rows pairs)) }
     ensures fault { (fault : PublicationsFault) → IsPublicationsFault bytes.now fault → IfOk result (λ found. found ≡ Some fault) }
+    ensures stays { (fault : PublicationsFault) → IsPublicationsFault bytes.now fault → text.new.items ≡ text.old.items }
 {
     file_or_fault();
     match read(alloc, bytes) {

@@ -14,6 +14,12 @@ returns-in_ok-put_publications-in-Ok-clause-told c =
 pub returns-in_ok-put_publications-in-Ok-clause-fault : goal.returns-in_ok-put_publications-in-Ok-clause-fault
 returns-in_ok-put_publications-in-Ok-clause-fault c = λ fault is. absurd (c.file_or_fault.ensures.not_both _ _ fault c.in-Ok.ensures.pairs is)
 
+pub returns-in_ok-put_publications-in-Ok-clause-stays : goal.returns-in_ok-put_publications-in-Ok-clause-stays
+returns-in_ok-put_publications-in-Ok-clause-stays c = λ fault is. absurd (c.file_or_fault.ensures.not_both _ _ fault c.in-Ok.ensures.pairs is)
+
+pub returns-in_err-put_publications-in-Ok-clause-stays : goal.returns-in_err-put_publications-in-Ok-clause-stays
+returns-in_err-put_publications-in-Ok-clause-stays c = λ fault is. absurd (c.file_or_fault.ensures.not_both _ _ fault c.in-Ok.ensures.pairs is)
+
 pub returns-in-Err-Fault-clause-ours : goal.returns-in-Err-Fault-clause-ours
 returns-in-Err-Fault-clause-ours c = λ pairs is. absurd (c.file_or_fault.ensures.not_both _ pairs _ is (rw c.in-Err-Fault.field-0-is at c.in-Err-Fault.ensures.refused))
 
