@@ -1,5 +1,5 @@
 -- Entries that agree are a log of the node that agrees.
-use Rattle.std.proofs.Common.{◌≡◌, ◌==◌, ℕ, Bool, List, [], ◌∷◌, ◌++◌, Option, Some, None, IfSome, Result, Ok, Err, IfOk, refl, sym, ap, subst, ◌∙◌}
+use Rattle.std.proofs.Common.{◌≡◌, ℕ, Bool, List, [], ◌∷◌, ◌++◌, Option, Some, None, IfSome, Result, Ok, Err, IfOk, refl, sym, ap, subst, ◌∙◌}
 use Rattle.std.proofs.lemmas.Bool.{eq-eqb}
 use Rattle.std.specs.List.{AllByRecursion}
 use Rattle.ksi_blocks.specs.declared.place.Place.{Place}
@@ -11,7 +11,7 @@ use Rattle.ksi_corenode.specs.declared.event.CoreEvent.{CoreEvent}
 use Rattle.ksi_corenode.specs.Rows.{restart_row}
 use Rattle.ksi_aggregator.specs.declared.event.RoundEvent.{RoundEvent}
 use Rattle.ksi_aggregator.specs.Rows.{round_restarted}
-use Rattle.ksi_apart.specs.Logs.{AggregatorAgrees, AggregatorStarts, AtAggregator, AtCore, CoreAgrees, CoreStarts, Deed, Which, core_after, core_says, round_after, round_says}
+use Rattle.ksi_apart.specs.Logs.{AggregatorAgrees, AtAggregator, AtCore, CoreAgrees, Deed, Which, core_after, core_says, round_after, round_says}
 use Rattle.ksi_retrace_node.specs.declared.head.Given.TheVariants as given
 use Rattle.ksi_retrace_node.specs.declared.head.Head.{Head}
 use Rattle.ksi_retrace_node.specs.declared.head.Head.TheVariants as heads

@@ -1,7 +1,7 @@
 -- A step of the code's node is that of the node in a log.
-use Rattle.std.proofs.Common.{◌≡◌, ◌==◌, ℕ, Bool, true, false, List, [], ◌∷◌, length, map, cond, Option, Some, None, option_map, is_some, refl, sym, ap, subst, ◌∙◌}
+use Rattle.std.proofs.Common.{◌≡◌, ℕ, List, [], ◌∷◌, map, Option, Some, None, option_map, is_some, refl, sym, ap, subst, ◌∙◌}
 use Rattle.ksi_schedule.specs.Pieces.{Text}
-use Rattle.ksi_schedule.specs.Plans.{PlanState, core_plan_of}
+use Rattle.ksi_schedule.specs.Plans.{PlanState}
 use Rattle.ksi_schedule.specs.declared.actor.Actor.{Actor}
 use Rattle.ksi_schedule.specs.declared.actor.Actor.TheVariants as actors
 use Rattle.ksi_corenode.specs.SecondState.{SecondState}
@@ -94,33 +94,33 @@ module _ (image : List ℕ → List ℕ) (plan : PlanState) where
   -- ---- what is said
 
   -- the event may be taken
-  pub core_may : {C : Type 0} (me : Actor) (core : CoreState) (i : ℕ) (event : CoreEvent) → Fits plan me (given.ToCore i event) → IsNode {C = C} plan me (nodes.Core core)
+  pub core_may : (C : Type 0) (me : Actor) (core : CoreState) (i : ℕ) (event : CoreEvent) → Fits plan me (given.ToCore i event) → IsNode {C = C} plan me (nodes.Core core)
       → MayTake core event × IsAsked core (event_second event)
-  core_may (actors.Core j) core i event fits node = fits.1 core node.1.start
-  core_may (actors.Aggregator k) core i event fits node = absurd fits
+  core_may C (actors.Core j) core i event fits node = fits.1 core node.1.start
+  core_may C (actors.Aggregator k) core i event fits node = absurd fits
 
-  pub said_by_core : {C : Type 0} (me : Actor) (old new : CoreState) (it : NodeState) (i : ℕ) (event : CoreEvent) (said text : Text) → Fits plan me (given.ToCore i event)
+  pub said_by_core : (C : Type 0) (me : Actor) (old new : CoreState) (it : NodeState) (i : ℕ) (event : CoreEvent) (said text : Text) → Fits plan me (given.ToCore i event)
       → IsAt {C = C} plan me (nodes.Core old) it
       → ((step : core_step.Step) × IsTurn old new (event_second event) (core_row image old event) step × (text ≡ core_step_text i (event_second event) step)) → said ≡ text
-      → IsSaid {C = C} image plan me it (given.ToCore i event) (nodes.Core new) (Some said)
-  said_by_core (actors.Core j) old new it i event said text fits at told is =
+      → IsSaid image plan me {C = C} it (given.ToCore i event) (nodes.Core new) (Some said)
+  said_by_core C (actors.Core j) old new it i event said text fits at told is =
       let goes = core_goes_on j i old new it event told.0 text fits.0 at told.1 told.2 in
       (tt, is ∙ goes.0, goes.1)
-  said_by_core (actors.Aggregator k) old new it i event said text fits at told is = absurd fits
+  said_by_core C (actors.Aggregator k) old new it i event said text fits at told is = absurd fits
 
-  pub said_by_round : {C : Type 0} (me : Actor) (old new : rounds.AggregatorState) (it : NodeState) (i : ℕ) (event : RoundEvent) (said text : Text) → Fits plan me (given.ToAggregator i event)
+  pub said_by_round : (C : Type 0) (me : Actor) (old new : rounds.AggregatorState) (it : NodeState) (i : ℕ) (event : RoundEvent) (said text : Text) → Fits plan me (given.ToAggregator i event)
       → IsAt {C = C} plan me (nodes.Aggregator old) it → new.me ≡ old.me → of_round.MayTake (rounds.rounds_of old) event
       → ((step : round_step.Step)
       × rounds.IsTurn (rounds.rounds_of old) (rounds.rounds_of new) (of_round.event_second event) (of_round.round_row image event (rounds.rounds_of old (of_round.event_second event))) step
       × (text ≡ round_step_text plan i (of_round.event_second event) step.answer (is_some step.fact) step.sends)) → said ≡ text
-      → IsSaid {C = C} image plan me it (given.ToAggregator i event) (nodes.Aggregator new) (Some said)
-  said_by_round (actors.Core j) old new it i event said text fits at me_is may told is = absurd fits
-  said_by_round (actors.Aggregator k) old new it i event said text fits at me_is may told is =
+      → IsSaid image plan me {C = C} it (given.ToAggregator i event) (nodes.Aggregator new) (Some said)
+  said_by_round C (actors.Core j) old new it i event said text fits at me_is may told is = absurd fits
+  said_by_round C (actors.Aggregator k) old new it i event said text fits at me_is may told is =
       let goes = round_goes_on i (rounds.rounds_of old) (rounds.rounds_of new) it event told.0 text at.1 told.1 told.2 in
       (subst (λ (held : ℕ → RoundState). of_round.MayTake held event) at.1 may, is ∙ goes.0, (me_is ∙ at.0, goes.1))
 
 -- a process is started again
-pub round_restarts : {C : Type 0} (plan : PlanState) (me : Actor) (old new : rounds.AggregatorState) (it : NodeState) → new.me ≡ old.me
+pub round_restarts : (C : Type 0) (plan : PlanState) (me : Actor) (old new : rounds.AggregatorState) (it : NodeState) → new.me ≡ old.me
     → ((t : ℕ) → rounds.rounds_of new t ≡ round_restarted (rounds.rounds_of old t)) → IsAt {C = C} plan me (nodes.Aggregator old) it → IsAt {C = C} plan me (nodes.Aggregator new) (restarted it)
-round_restarts plan (actors.Core j) old new it me_is are at = absurd at
-round_restarts plan (actors.Aggregator k) old new it me_is are at = (me_is ∙ at.0, λ i t. (are t ∙ ap (λ (held : ℕ → RoundState). round_restarted (held t)) at.1) i)
+round_restarts C plan (actors.Core j) old new it me_is are at = absurd at
+round_restarts C plan (actors.Aggregator k) old new it me_is are at = (me_is ∙ at.0, λ i t. (are t ∙ ap (λ (held : ℕ → RoundState). round_restarted (held t)) at.1) i)

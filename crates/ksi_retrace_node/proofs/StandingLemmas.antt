@@ -10,8 +10,8 @@ use Rattle.ksi_retrace_node.specs.declared.fault.LogFault.TheVariants as faults
 use Rattle.ksi_retrace_node.specs.declared.head.Head.{Head}
 use Rattle.ksi_retrace_node.specs.declared.head.Head.TheVariants as heads
 use Rattle.ksi_retrace_node.specs.Heads.{Read, head_at}
-use Rattle.ksi_retrace_node.specs.Entries.{Entry, entry_text, HasBlock, WantsBlock}
-use Rattle.ksi_retrace_node.specs.Verdicts.{IsEntry, Standing, Nothing, Whole, Refused, StandsIn}
+use Rattle.ksi_retrace_node.specs.Entries.{HasBlock, WantsBlock}
+use Rattle.ksi_retrace_node.specs.Verdicts.{Standing, Nothing, Whole, Refused, StandsIn}
 
 abbrev ok : Head → Read Head
 ok head = Ok head

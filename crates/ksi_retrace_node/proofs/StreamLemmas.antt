@@ -13,7 +13,7 @@ use Rattle.ksi_retrace_node.specs.declared.verdict.Verdict.TheVariants as verdic
 use Rattle.ksi_retrace_node.specs.Entries.{Entry}
 use Rattle.ksi_retrace_node.specs.Nodes.{NodeState, first_state, state_behind, IsTold, MayCome}
 use Rattle.ksi_retrace_node.specs.Steps.{IsWhole}
-use Rattle.ksi_retrace_node.specs.Verdicts.{Refused, StandsIn, EndsIn, HasVerdict, IsVerdict, first_place, place_behind}
+use Rattle.ksi_retrace_node.specs.Verdicts.{Refused, StandsIn, HasVerdict, IsVerdict, first_place, place_behind}
 
 module _ (image : List ℕ → List ℕ) (plan : PlanState) (me : Actor) where
   -- what is left is known, and its verdict from here on is that of the whole

@@ -16,7 +16,8 @@ returns-in-Err-Fault-clause-next g c =
     let old = g.S.Read.remaining c.args.log.now in
     let mid = g.S.Read.remaining c.next_line.new.log in
     let came : IsLineOf old mid line comes.Line = subst (λ (came : Came). IsLineOf old mid line came) c.in-Line.is c.in_ok-next_line.ensures in
-    let is : head_at plan me line ≡ Err fault = ap (head_at plan me) (sym c.deref.ensures.value) ∙ c.in-Err-Fault.ensures.exact in
+    let told : head_at plan me c.deref.result.now ≡ Err fault = rw c.in-Err-Fault.field-0-is at c.in-Err-Fault.ensures.exact in
+    let is : head_at plan me line ≡ Err fault = ap (head_at plan me) (sym c.deref.ensures.value) ∙ told in
     faulty_entry plan me old mid line fault came is
 
 pub returns-then-branch-clause-next : goal.returns-then-branch-clause-next

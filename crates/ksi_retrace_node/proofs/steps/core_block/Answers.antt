@@ -1,4 +1,4 @@
-use Rattle.std.proofs.Common.{◌≡◌, ◌∙◌, ℕ, ap}
+use Rattle.std.proofs.Common.{◌∙◌, ℕ, ap}
 use Rattle.ksi_wire.specs.Steps.{core_step_text}
 use Rattle.ksi_retrace_node.proofs.steps.core_block.Goals as goal
 

@@ -1,4 +1,4 @@
-use Rattle.std.proofs.Common.{◌≡◌, IfSome}
+use Rattle.std.proofs.Common.{IfSome}
 use Rattle.ksi_retrace_node.specs.Nodes.{NodeState}
 use Rattle.ksi_retrace_node.specs.Steps.{IsAt}
 use Rattle.ksi_retrace_node.proofs.StreamLemmas.{IsSoFar}

@@ -1,4 +1,4 @@
-use Rattle.std.proofs.Common.{◌≡◌, subst}
+use Rattle.std.proofs.Common.{subst}
 use Rattle.ksi_retrace_node.specs.declared.node.Node.{Node}
 use Rattle.ksi_retrace_node.specs.Steps.{IsAt}
 use Rattle.ksi_retrace_node.proofs.NodeLemmas.{round_restarts}
@@ -6,5 +6,5 @@ use Rattle.ksi_retrace_node.proofs.node.Node.restart.Goals as goal
 
 pub returns-in-Aggregator : goal.returns-in-Aggregator
 returns-in-Aggregator g c = λ plan me it at.
-    round_restarts plan me c.in-Aggregator.aggregator c.restart-in-Aggregator.new.self it c.restart-in-Aggregator.ensures.me c.restart-in-Aggregator.ensures.rounds
+    round_restarts g.row.C.Denot plan me c.in-Aggregator.aggregator c.restart-in-Aggregator.new.self it c.restart-in-Aggregator.ensures.me c.restart-in-Aggregator.ensures.rounds
     (subst (λ (node : Node g.row.C.Denot). IsAt plan me node it) c.in-Aggregator.is at)
