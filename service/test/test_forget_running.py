@@ -67,9 +67,9 @@ class RunningTest(Served):
 
     def test_who_forgot_is_small(self):
         self.start("--forget-every", "1")
+        new, told_of = self.status(), -1
         with concurrent.futures.ThreadPoolExecutor(150) as pool:
-            self.assertEqual({status for status, _ in pool.map(lambda number: self.ask("/sign", imprint(number)), range(1500))}, {200})
-        before, told_of = self.status(), -1
+            self.assertEqual({status for status, _ in pool.map(lambda number: self.ask("/sign", imprint(number)), range(900))}, {200})
         while told_of < self.status()["rounds_forgotten"]:
             told_of = self.status()["rounds_forgotten"]
             time.sleep(4)
@@ -81,7 +81,8 @@ class RunningTest(Served):
             # each round takes its closing, and an item would take more than its hash in hex
             self.assertLess(os.path.getsize(os.path.join(self.folder, f"{name}.facts")), 40 + 30 * facts.node(name).facts)
             if REAL:
-                self.assertLess(after["memory_bytes"][name], before["memory_bytes"][name])
+                # half of the requests would take some 140,000 bytes
+                self.assertLess(after["memory_bytes"][name], new["memory_bytes"][name] + 100_000)
         self.checked()
 
     def test_who_never_forgets_is_not_told_to(self):
