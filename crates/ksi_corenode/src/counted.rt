@@ -18,7 +18,7 @@ pub struct SecondCounts {
 }
 
 impl<C: Compress> Core<C> {
-    /// How many seconds below 2^63 are sealed, and for how many of them something is held. It takes no memory.
+    /// How many seconds below 2^63 are sealed, and for how many of them something is held.
     pub fn counts(&self) -> SecondCounts
         ensures sealed { result.sealed ≡ count_below (λ t. is_some (state_of self.now t).sealed) (2 ^ 63) }
         ensures held { result.held ≡ count_below (λ t. is_some (held_by self.now t)) (2 ^ 63) }

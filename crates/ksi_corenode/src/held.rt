@@ -15,8 +15,7 @@ use ksi_signature::Answer;
 
 impl<C: Compress> Core<C> {
     /// The root of the calendar from second 0 to `p`, which is at or after the start and below 2^63. The answer is
-    /// Published with it, or Undecided with the first second from the start to `p` that nothing is held for. It takes no
-    /// memory, and fails nowhere.
+    /// Published with it, or Undecided with the first second from the start to `p` that nothing is held for.
     pub fn publish(&self, p: u64) -> Result<Step, NoMemory>
         requires from { self.now.start ≤ p }
         requires below { p < 2 ^ 63 }

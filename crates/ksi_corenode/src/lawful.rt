@@ -24,7 +24,7 @@ const LATE: u64 = 9_223_372_036_854_775_808;
 const GREAT: u64 = 68_719_476_736;
 
 impl<C: Compress> Core<C> {
-    /// Whether a fact is lawful after what this core stored. It takes no memory.
+    /// Whether a fact is lawful after what this core stored.
     pub fn may_store(&self, fact: &Fact) -> bool
         ensures { IsTrue result ↔ IsLawful self.now.plan.cores self.now.start (stable_state (state_of self.now fact.now.second)) fact.now }
     {

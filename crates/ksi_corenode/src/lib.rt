@@ -5,8 +5,7 @@
 //! what is to be sent for the second of the call. Nothing is sent, stored or timed here. A contract sees each second of a
 //! core by `state_of`: its part in the vote, its open items and its sealed ones. The layer above may rely on this: each
 //! call's answer, sends and second are those of its row in `specs/Rows`, all other seconds are as they were, and each
-//! refusal comes exactly where its clause says. After `NoMemory` all is as it was. `publish`, `restart` and the readers
-//! take no memory.
+//! refusal comes exactly where its clause says. After `NoMemory` all is as it was.
 //!
 //! What a second keeps for good is of fixed size but for its sealed items, which stand in one list. Of the seconds from the
 //! start on that are held, up to the first that is not, these parts stand in a list, and the others in a map; the calendar

@@ -22,7 +22,7 @@ impl<C: Compress> Core<C> {
     }
 
     /// The first second from the start to `p` that nothing is held for, none where all are held. It takes one step at most,
-    /// a look at how many seconds are settled, and no memory.
+    /// a look at how many seconds are settled.
     pub fn first_not_held<L: Ledger>(&self, p: u64, steps: &mut Steps<L>) -> Option<u64>
         ensures first { result ≡ first_missing (held_by self.now) self.now.start p }
         ensures none { IsNone result ↔ ((t : ℕ) → self.now.start ≤ t → t ≤ p → IsSome (held_by self.now t)) }
@@ -42,7 +42,7 @@ impl<C: Compress> Core<C> {
         }
     }
 
-    /// The first second from this one on that something is held or sealed for, none where there is none. It takes no memory.
+    /// The first second from this one on that something is held or sealed for, none where there is none.
     pub fn next_second(&self, from: u64) -> Option<u64>
         ensures next { IfSome result (IsNext (λ t. held_or_sealed (state_of self.now t)) from) }
         ensures none { IsNone result ↔ ((t : ℕ) → from ≤ t → held_or_sealed (state_of self.now t) ≡ false) }

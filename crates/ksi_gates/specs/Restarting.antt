@@ -1,4 +1,4 @@
--- That a crash is a restart, for any node that keeps its facts in a file. The laws of the stores above cite it.
+-- That a crash is a restart, for any node that keeps its facts in a file. An aggregator with its file is one.
 use Rattle.std.specs.Prelude.{◌≡◌, ◌⊎◌, List, [], ◌∷◌, ◌++◌, Option, refl}
 use Rattle.std.proofs.Common.{sym, subst, inl, inr}
 use Rattle.ksi_gates.specs.Restarts.{WithOrWithout, Deed, Took, CutOff, Opened, Said, Happened, Restarted, SaysOf, IsNode, IsDeed, Runs, state_after, HasHistory}

@@ -24,7 +24,8 @@ const WROTE: u64 = 1;
 const MOST: u64 = (1 << 63) - 1;
 
 /// A file of the system, which is locked for this process. It is read once, when it is opened. The bytes are dropped at the
-/// first write, and from then on a read fails. After a failed sync each call fails.
+/// first write, and from then on a read fails. After a failed sync each call fails,
+/// but for a read before the first write.
 #[derive(Drop)]
 pub struct HostDisk {
     file: fs::File,

@@ -41,12 +41,13 @@ TakeCounts before now (Err Failed) = Raises before now
 TakeCounts before now (Err Spent) = now ≡ before
 TakeCounts before now (Err NoMemory) = now ≡ before
 
--- what a refusal leaves: after a failure the store is spent and its count of records stays, and any other leaves it as it was
+-- the core, the log and the count of records stay
 pub record IsUnchanged {D : Type 0} (old new : StoreState D) : Type 0 where
   pub core : IsSame old.core new.core
   pub log : new.log ≡ old.log
   pub records : new.records ≡ old.records
 
+-- what a refusal leaves: after a failure the store is spent and its count of records stays, and any other leaves it as it was
 abbrev pub TakeLeaves : {D : Type 0} → (old new : StoreState D) → Result Step TakeRefusal → Type 0
 TakeLeaves old new (Ok step) = new.log.is_spent ≡ false
 TakeLeaves old new (Err Failed) = (new.log.is_spent ≡ true) × (new.records ≡ old.records)

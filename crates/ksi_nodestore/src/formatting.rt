@@ -11,7 +11,7 @@ use ksi_synod::CorePlan;
 ///
 /// # Errors
 ///
-/// `DiskFailed`, and the count of faults rises. Then the disk is no node's.
+/// `DiskFailed`, and the count of faults rises. Then nothing is said of what it has.
 pub fn format<D: Disk>(me: u8, plan: &CorePlan, disk: &mut D) -> Result<(), DiskFailed>
     requires empty { length (D.content disk.old) ≡ 0 }
     requires core { me < plan.now.cores }

@@ -23,7 +23,7 @@ use Rattle.ksi_world.specs.Histories.{WorldState, held_in, after}
 use Rattle.ksi_world.specs.Records.{issued_of}
 use Rattle.ksi_world.specs.Lasting.{IsAskedOf}
 use Rattle.ksi_progress.specs.Deciding.{voters_on, vote_in, own_candidate, ballot_events, tries, ballot_length, HoldAll, HoldSeconds}
-use Rattle.ksi_progress.specs.Issuing.{has_request, HasItemOf, IsJoinedAbove, IsWaiting, IsJoinedTo, HasWon, IsUndecided, IsSettled, CanBeJoined, CanBeIssued}
+use Rattle.ksi_progress.specs.Issuing.{has_request, HasItemOf, IsJoinedAbove, IsWaiting, IsJoinedTo, HasWon, IsUndecided, CanBeIssuedOrMissed, CanBeJoined, CanBeIssued}
 use Rattle.ksi_progress.specs.Numbers.{ballot_numbers}
 use Rattle.ksi_progress.proofs.Lists.{majority_few, many_numbers}
 use Rattle.std.proofs.lemmas.List.{length-map, length-replicate}
@@ -237,13 +237,13 @@ module _ (laws : VoteLaws) (closed_sent : ClosedSubmitted) (of_plan_are : Reques
   all_may : (later4 : List Event) → AreEvents plan later4 → AreEvents plan (later later4)
   all_may later4 may4 = are_both plan up.0 _ up.1 (are_both plan later2 _ wins.may (are_both plan later3 later4 seconds.may may4))
 
-  pub settles : (more : List Event) × IsSettled image plan es more j t number
+  pub settles : (more : List Event) × CanBeIssuedOrMissed image plan es more j t number
   settles = by (bytes_eq (candidate_of image entries) zero_imprint) refl
     where
       unlike : bytes_eq (candidate_of image entries) zero_imprint ≡ false → candidate_of image entries ≢ zero_imprint
       unlike differs same = absurd (cc (sym differs ∙ (bytes_eq-Decides (candidate_of image entries) zero_imprint).1 same))
 
-      by : (b : Bool) → bytes_eq (candidate_of image entries) zero_imprint ≡ b → (more : List Event) × IsSettled image plan es more j t number
+      by : (b : Bool) → bytes_eq (candidate_of image entries) zero_imprint ≡ b → (more : List Event) × CanBeIssuedOrMissed image plan es more j t number
       by true missed = (
         later [],
         record {

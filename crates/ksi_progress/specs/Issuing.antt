@@ -111,7 +111,7 @@ pub record IsUndecided (plan : PlanState) (w : WorldState) (core second : ℕ) (
   pub unvoted : (k : ℕ) → is_voter some k ≡ true → (vote_in w k second).vote ≡ None
 
 -- the later events may follow, and then the request's signature is issued, or the core holds that its second was missed
-pub record IsSettled (image : List ℕ → List ℕ) (plan : PlanState) (before later : List Event) (core second number : ℕ) : Type 0 where
+pub record CanBeIssuedOrMissed (image : List ℕ → List ℕ) (plan : PlanState) (before later : List Event) (core second number : ℕ) : Type 0 where
   pub may : AreEvents plan later
   pub issued_or_missed : ((text : List ℕ) × (issued_of image (after image plan (before ++ later)) number ≡ Some text))
       ⊎ (held_in (after image plan (before ++ later)) core second ≡ Some zero_imprint)

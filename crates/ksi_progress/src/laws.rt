@@ -18,7 +18,7 @@ ghost use Rattle.ksi_world.specs.Histories.{WorldState, held_in, after, world_of
 ghost use Rattle.ksi_progress.specs.Majorities.{IsMajority, IsLeast, greatest_from, root_by};
 ghost use Rattle.ksi_progress.specs.Deciding.{voters_on, vote_in, own_candidate, IsAhead, VotedFor, ballot_events, tries, ballot_length, HoldAll, HoldSeconds};
 ghost use Rattle.ksi_progress.specs.Runs.{three_cores, one_request, asked_once};
-ghost use Rattle.ksi_progress.specs.Issuing.{IsWaiting, IsJoinedTo, HasWon, IsUndecided, CanBeJoined, CanBeIssued, IsSettled};
+ghost use Rattle.ksi_progress.specs.Issuing.{IsWaiting, IsJoinedTo, HasWon, IsUndecided, CanBeJoined, CanBeIssued, CanBeIssuedOrMissed};
 
 use ksi_calendar::laws::one_first_missing;
 use ksi_synod::laws::voters_are_cores;
@@ -164,7 +164,7 @@ pub fn requests_can_be_issued()
     ensures { (image : List ℕ → List ℕ) (history : History) → IsSchedule history → (core steps number : ℕ) (asked : Asked) (some : List ℕ) →
         core < history.plan.cores → steps ≤ 8 → IsWaiting history.plan (world_of image history) core steps number asked →
         IsUndecided history.plan (world_of image history) core asked.second some →
-        (later : List Event) × IsSettled image history.plan history.events later core asked.second number }
+        (later : List Event) × CanBeIssuedOrMissed image history.plan history.events later core asked.second number }
 {
     agreement();
     closed_is_submitted();

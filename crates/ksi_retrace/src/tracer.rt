@@ -25,7 +25,7 @@ pub enum Told {
     Agrees,
     /// Its block is another.
     Differs,
-    /// A step that was never said agrees with any world. The world's block of it is here.
+    /// A step that happened and was never said agrees with any world. The world's block of it is here.
     Unsaid(Bytes),
 }
 

@@ -7,7 +7,7 @@ use ksi_blocks::Place;
 pub struct Counts {
     /// Steps, whether or not they were said.
     pub steps: usize,
-    /// Steps that were stored and never said.
+    /// Steps that happened and were never said.
     pub unsaid: u64,
     /// Signatures that were handed out.
     pub signatures: u64,

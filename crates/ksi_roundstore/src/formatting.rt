@@ -11,7 +11,7 @@ use ksi_schedule::Plan;
 ///
 /// # Errors
 ///
-/// `DiskFailed`, and the count of faults rises. Then the disk is no aggregator's.
+/// `DiskFailed`, and the count of faults rises. Then nothing is said of what it has.
 pub fn format<D: Disk>(me: u32, plan: &Plan, disk: &mut D) -> Result<(), DiskFailed>
     requires empty { length (D.content disk.old) ≡ 0 }
     ensures written { OnOk result (D.content disk.new ≡ empty_file me plan.now.start) }

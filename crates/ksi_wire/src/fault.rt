@@ -6,7 +6,7 @@ ghost use Rattle.ksi_wire.specs.Refused.{fault_word};
 pub enum WireFault {
     /// The line or the message of the vote has another form, or a word is missing.
     Word,
-    /// A number is not 1 to 20 decimal digits below 2^64.
+    /// A number is not 1 to 20 decimal digits below 2^64, or a count of seconds is not 1 to 1,024.
     Number,
     /// A hash is not 64 hex digits.
     Hash,
