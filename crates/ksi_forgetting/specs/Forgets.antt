@@ -1,8 +1,9 @@
 -- What forgetting makes of the file of an aggregator.
 use Rattle.std.specs.Prelude.{◌≡◌, ℕ, List, length, Result, Ok, Err}
+use Rattle.ksi_ports.specs.Outside.{Raises}
 use Rattle.ksi_schedule.specs.Plans.{PlanState}
 use Rattle.ksi_aggregator.specs.declared.fact.Fact.{Fact}
-use Rattle.ksi_roundstore.specs.Opens.{IsRefused}
+use Rattle.ksi_roundstore.specs.Opens.{CountsReads, IsRefused}
 use Rattle.ksi_roundstore.specs.Stores.{IsFileOf}
 use Rattle.ksi_forgetting.specs.declared.refusal.ForgetRefusal.{ForgetRefusal}
 use Rattle.ksi_forgetting.specs.declared.refusal.ForgetRefusal.TheVariants.{Old, New}
@@ -24,6 +25,12 @@ abbrev pub ForgetsAs : {D : Type 0} → (me : ℕ) → PlanState → (before : �
 ForgetsAs me plan before old new (Ok forgotten) = IsFileLeft me plan before old new forgotten.records forgotten.left
 ForgetsAs me plan before old new (Err (Old refusal, disk)) = IsRefused me plan old refusal
 ForgetsAs me plan before old new (Err (New, disk)) = Unit {0}
+
+-- the counts of faults of both disks: that of the disk that failed rises, and the other stays
+abbrev pub ForgetCounts : {D : Type 0} → (faults : D → ℕ) → (old fresh_old fresh_new : ℕ) → Result (Forgotten D) (ForgetRefusal × D) → Type 0
+ForgetCounts faults old fresh_old fresh_new (Ok forgotten) = (faults forgotten.disk ≡ old) × (fresh_new ≡ fresh_old)
+ForgetCounts faults old fresh_old fresh_new (Err (Old refusal, disk)) = CountsReads {T = Unit {0}} old (faults disk) (Err refusal) × (fresh_new ≡ fresh_old)
+ForgetCounts faults old fresh_old fresh_new (Err (New, disk)) = (faults disk ≡ old) × Raises fresh_old fresh_new
 
 -- the old disk, in what came of it or handed back
 abbrev pub disk_after : {D : Type 0} → Result (Forgotten D) (ForgetRefusal × D) → D

@@ -3,7 +3,8 @@ ghost use Rattle.ksi_disk.specs.Images.{AddsNone, LeavesOnly, Only};
 ghost use Rattle.ksi_aggregator.specs.declared.fact.Fact.{Fact};
 ghost use Rattle.ksi_gates.specs.Reads.{WroteNothing};
 ghost use Rattle.ksi_roundstore.specs.Stores.{IsFileOf};
-ghost use Rattle.ksi_forgetting.specs.Forgets.{ForgetsAs, disk_after};
+ghost use Rattle.ksi_disk.specs.Costs.{DiskCounts};
+ghost use Rattle.ksi_forgetting.specs.Forgets.{ForgetCounts, ForgetsAs, disk_after};
 
 use crate::reading::read_left;
 use crate::{ForgetRefusal, Forgotten};
@@ -20,7 +21,8 @@ use std::alloc::Global;
 ///
 /// # Errors
 ///
-/// `Old`, with the refusal of the old file; `New`, and the new disk's count of faults rises.
+/// `Old`, with the refusal of the old file: with `Failed` the old disk's count of faults rises. `New`, and the new disk's count
+/// of faults rises. Each count stays else.
 pub fn forget<C: Compress, D: Disk, E: Disk>(
     alloc: Global,
     me: u32,
@@ -33,6 +35,7 @@ pub fn forget<C: Compress, D: Disk, E: Disk>(
     requires empty { length (E.content fresh.old) ≡ 0 }
     ensures forgets { ForgetsAs me plan.now before (D.content disk) (E.content fresh.new) result }
     ensures durable { OnOk result (Only (E.content fresh.new) (E.images fresh.new)) }
+    ensures counted { ForgetCounts D.faults (D.faults disk) (E.faults fresh.old) (E.faults fresh.new) result }
     ensures stays { OnOk result (D.content (disk_after result) ≡ D.content disk) }
     ensures no_image { AddsNone (D.images disk) (D.images (disk_after result)) }
     ensures any_moment { LeavesOnly D.moment D.images_since disk (disk_after result) (D.images disk) }
@@ -56,6 +59,7 @@ fn rewrite<D: Disk, E: Disk>(
     requires empty { length (E.content fresh.old) ≡ 0 }
     ensures forgets { ForgetsAs me plan.now before (D.content disk) (E.content fresh.new) result }
     ensures durable { OnOk result (Only (E.content fresh.new) (E.images fresh.new)) }
+    ensures counted { ForgetCounts D.faults (D.faults disk) (E.faults fresh.old) (E.faults fresh.new) result }
     ensures stays { OnOk result (D.content (disk_after result) ≡ D.content disk) }
     ensures nothing { WroteNothing D.images D.moment D.images_since D.meter disk (disk_after result) }
 {
@@ -79,6 +83,7 @@ fn write_new<E: Disk>(fresh: &mut E, text: &[u8]) -> Result<(), DiskFailed>
     requires { length (E.content fresh.old) ≡ 0 }
     ensures written { OnOk result (E.content fresh.new ≡ text.now) }
     ensures durable { OnOk result (Only (E.content fresh.new) (E.images fresh.new)) }
+    ensures counted { DiskCounts (E.faults fresh.old) (E.faults fresh.new) result }
 {
     fresh.write_at(0, text)?;
     fresh.sync()

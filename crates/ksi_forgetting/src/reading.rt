@@ -1,7 +1,8 @@
 // What is left of an aggregator's file is read.
 ghost use Rattle.std.specs.Prelude.{◌≡◌, ◌≤◌, ◌∷◌, ◌++◌, [], ℕ, List, length, take, IfOk, OnOk};
 ghost use Rattle.ksi_aggregator.specs.declared.fact.Fact.{Fact};
-ghost use Rattle.ksi_gates.specs.Reads.{WroteNothing};
+ghost use Rattle.ksi_disk.specs.Costs.{DiskCounts};
+ghost use Rattle.ksi_gates.specs.Reads.{ReadCounts, WroteNothing};
 ghost use Rattle.ksi_roundstore.specs.Stores.{IsFileOf};
 ghost use Rattle.ksi_roundstore.specs.StoreState.{records_in};
 ghost use Rattle.ksi_forgetting.specs.Forgets.{LeavesText};
@@ -36,6 +37,7 @@ pub(crate) fn read_left<D: Disk>(
 ) -> Result<Left, ReadRefusal>
     requires file { (facts : List Fact) × IsFileOf me plan.now facts (D.content disk.old) }
     ensures left { IfOk result (LeavesText me plan.now before (D.content disk.old)) }
+    ensures counted { ReadCounts (D.faults disk.old) (D.faults disk.new) result }
     ensures stays { OnOk result (D.content disk.new ≡ D.content disk.old) }
     ensures nothing { WroteNothing D.images D.moment D.images_since D.meter disk.old disk.new }
 {
@@ -50,6 +52,7 @@ pub(crate) fn read_left<D: Disk>(
 fn header_of<D: Disk>(disk: &mut D) -> Result<[u8; 20], DiskFailed>
     requires { 20 ≤ length (D.content disk.old) }
     ensures front { IfOk result (λ header. header ≡ take 20 (D.content disk.old)) }
+    ensures counted { DiskCounts (D.faults disk.old) (D.faults disk.new) result }
     ensures stays { OnOk result (D.content disk.new ≡ D.content disk.old) }
     ensures nothing { WroteNothing D.images D.moment D.images_since D.meter disk.old disk.new }
 {

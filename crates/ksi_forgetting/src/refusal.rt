@@ -5,7 +5,7 @@ use ksi_roundstore::OpenRefusal;
 pub enum ForgetRefusal {
     /// The old file was not opened.
     Old(OpenRefusal),
-    /// The new disk failed, and its count of faults rose. It is no file of an aggregator.
+    /// The new disk failed, and its count of faults rose. Nothing is said of what it has.
     New,
 }
 

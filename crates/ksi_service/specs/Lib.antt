@@ -4,3 +4,4 @@ pub mod Serving
 pub mod CoreOutcomes
 pub mod RoundOutcomes
 pub mod RoundSaying
+pub mod Failures

@@ -1,3 +1,7 @@
+ghost use Rattle.std.specs.Prelude.{◌≡◌};
+ghost use Rattle.ksi_service.specs.Failures.{failure_of, failure_word, taken_failure, taken_round_failure};
+ghost use Rattle.ksi_service.specs.declared.failure.Failure.TheVariants.{Memory, Stream};
+
 use ksi_imprint::NoMemory;
 use ksi_nodestore::TakeRefusal;
 use std::io::{self, ErrorKind};
@@ -23,7 +27,9 @@ pub enum Failure {
 
 impl Failure {
     /// The word behind `failed`.
-    pub fn word(&self) -> &'static [u8] {
+    pub fn word(&self) -> &'static [u8]
+        ensures { result.now ≡ failure_word self.now }
+    {
         match self {
             Failure::Words => b"words",
             Failure::Plan => b"plan",
@@ -36,7 +42,9 @@ impl Failure {
     }
 
     /// Want of memory where the error says so, and else this.
-    pub fn of(error: &io::Error, other: Failure) -> Failure {
+    pub fn of(error: &io::Error, other: Failure) -> Failure
+        ensures { result ≡ failure_of error.now other }
+    {
         if error.kind() == ErrorKind::OutOfMemory {
             Failure::Memory
         } else {
@@ -46,18 +54,24 @@ impl Failure {
 }
 
 impl From<io::Error> for Failure {
+    ghost from_gives = { λ error failure. failure ≡ failure_of error Stream };
+
     fn from(error: io::Error) -> Self {
         Failure::of(&error, Failure::Stream)
     }
 }
 
 impl From<NoMemory> for Failure {
+    ghost from_gives = { λ _ failure. failure ≡ Memory };
+
     fn from(_: NoMemory) -> Self {
         Failure::Memory
     }
 }
 
 impl From<TakeRefusal> for Failure {
+    ghost from_gives = { λ refusal failure. failure ≡ taken_failure refusal };
+
     fn from(refusal: TakeRefusal) -> Self {
         match refusal {
             TakeRefusal::Failed | TakeRefusal::Spent => Failure::Disk,
@@ -67,6 +81,8 @@ impl From<TakeRefusal> for Failure {
 }
 
 impl From<ksi_roundstore::TakeRefusal> for Failure {
+    ghost from_gives = { λ refusal failure. failure ≡ taken_round_failure refusal };
+
     fn from(refusal: ksi_roundstore::TakeRefusal) -> Self {
         match refusal {
             ksi_roundstore::TakeRefusal::Failed | ksi_roundstore::TakeRefusal::Spent => {

@@ -37,13 +37,14 @@ impl Came {
     }
 }
 
-/// The next line, without its line feed. At most as many bytes are taken into memory as a line may have; of what came else the
-/// bytes mean nothing.
+/// The next line, without its line feed. At most as many bytes are kept as a line may have; of what came else the bytes mean
+/// nothing.
 ///
 /// # Errors
 /// The reader's, or want of memory.
 pub fn next_line<R: BufRead>(reader: &mut R, line: &mut Vec<u8>) -> io::Result<Came>
-    ensures { IfOk result (λ came. HasCome came line.new.items (R.remaining reader.old) (R.remaining reader.new)) }
+    ensures came { IfOk result (λ came. HasCome came line.new.items (R.remaining reader.old) (R.remaining reader.new)) }
+    ensures few { length line.new.items ≤ 32000 }
 {
     line.clear();
     let mut is_long = false;
@@ -94,7 +95,8 @@ fn front_len(bytes: &[u8]) -> usize
 
 /// Keeps a piece of a line, unless the line is too long by it.
 fn keep(line: &mut Vec<u8>, is_long: &mut bool, piece: &[u8]) -> io::Result<()>
-    ensures { OnOk result ((so_far : List ℕ) → Holds so_far line.old.items is_long.old → Holds (so_far ++ piece.now) line.new.items is_long.new) }
+    ensures held { OnOk result ((so_far : List ℕ) → Holds so_far line.old.items is_long.old → Holds (so_far ++ piece.now) line.new.items is_long.new) }
+    ensures few { length line.old.items ≤ 32000 → length line.new.items ≤ 32000 }
 {
     if *is_long {
         return Ok(());
@@ -113,7 +115,8 @@ fn take_piece<R: BufRead>(
     line: &mut Vec<u8>,
     is_long: &mut bool,
 ) -> io::Result<Piece>
-    ensures { IfOk result (λ piece. PieceTaken piece line.old.items is_long.old line.new.items is_long.new (R.remaining reader.old) (R.remaining reader.new)) }
+    ensures taken { IfOk result (λ piece. PieceTaken piece line.old.items is_long.old line.new.items is_long.new (R.remaining reader.old) (R.remaining reader.new)) }
+    ensures few { length line.old.items ≤ 32000 → length line.new.items ≤ 32000 }
 {
     let available = match reader.fill_buf() {
         Ok(available) => available,

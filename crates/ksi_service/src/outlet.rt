@@ -2,6 +2,8 @@
 ghost use Rattle.std.specs.Prelude.{◌≡◌, ℕ, List, Option, OnOk};
 ghost use Rattle.std.specs.Io.KnownBytes.{Appends};
 ghost use Rattle.ksi_aggregator.specs.Rounds.{rounds_of};
+ghost use Rattle.ksi_roundstore.specs.Stores.{IsStore};
+ghost use Rattle.ksi_schedule.specs.Plans.{PlanState};
 ghost use Rattle.ksi_service.specs.RoundOutcomes.{SignTold};
 ghost use Rattle.ksi_service.specs.RoundSaying.{MaySayRound};
 ghost use Rattle.ksi_service.specs.Saying.{MaySay};
@@ -71,14 +73,15 @@ pub trait Outlet {
         requires { MaySayRound C.image D.content D.images plan.now store.now text.now }
         ensures { OnOk result (Appends (said self.old) (said self.new) text.now) };
 
-    /// The signature of a request in hex, or that none is issued.
+    /// The signature of a request in hex, or that none is issued, by the rounds of this store, whose facts are in its file.
     fn say_signature<C: Compress, D: Disk>(
         &mut self,
         store: &RoundStore<C, D>,
         number: u64,
         text: &[u8],
     ) -> io::Result<()>
-        requires { SignTold C.image (rounds_of store.now.aggregator) number text.now }
+        requires told { SignTold C.image (rounds_of store.now.aggregator) number text.now }
+        requires kept { (me : ℕ) × (plan : PlanState) × IsStore D.content D.images me plan store.now }
         ensures { OnOk result (Appends (said self.old) (said self.new) text.now) };
 }
 
