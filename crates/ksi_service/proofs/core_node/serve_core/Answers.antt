@@ -31,7 +31,7 @@ returns-then-is_end g c =
       served = (
         served.lines,
         all_came served.lines c.in_ok-came.came c.next_line.new.line.items (g.R.Read.remaining c.args.reader.now) (g.R.Read.remaining c.serving.reader) (g.R.Read.remaining c.next_line.new.reader)
-            (sym c.is_end.ensures ∙ c.if-is_end.true) served.came c.in_ok-came.ensures,
+            (sym c.is_end.ensures ∙ c.if-is_end.true) served.came c.in_ok-came.ensures.came,
         served.served,
       );
     }
@@ -52,7 +52,7 @@ serving-preserved g c =
       stored = c.in_ok-take_what_came.ensures.stored;
       served = record {
         lines = served.lines ++ line ∷ [];
-        came = subst (λ one. HaveCome (served.lines ++ one ∷ []) input left) same (have_come served.lines came text input (g.R.Read.remaining c.serving.reader) left (sym c.is_end.ensures ∙ c.if-is_end.false) served.came c.in_ok-came.ensures);
+        came = subst (λ one. HaveCome (served.lines ++ one ∷ []) input left) same (have_come served.lines came text input (g.R.Read.remaining c.serving.reader) left (sym c.is_end.ensures ∙ c.if-is_end.false) served.came c.in_ok-came.ensures.came);
         served = served_more (CoreOutcome g.C.Compress.image c.args.plan.now c.args.me) c.args.store.now.records served.lines line c.args.store.now c.serving.store c.take_what_came.new.store
             (g.O.Outlet.said c.args.out.now) (g.O.Outlet.said c.serving.out) (g.O.Outlet.said c.take_what_came.new.out) served.served c.in_ok-take_what_came.ensures.answered;
       };

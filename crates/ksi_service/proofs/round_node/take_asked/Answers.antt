@@ -5,8 +5,8 @@ use Rattle.ksi_wire.specs.declared.event.AggregatorLine.{AggregatorLine}
 use Rattle.ksi_service.specs.RoundOutcomes.{AskedRound, SignTold}
 use Rattle.ksi_service.proofs.round_node.take_asked.Goals as goal
 
-pub say_signature-requires : goal.say_signature-requires
-say_signature-requires g c =
+pub say_signature-requires-clause-told : goal.say_signature-requires-clause-told
+say_signature-requires-clause-told g c =
     let image = g.C.Compress.image in
     let aggregator = c.args.store.now.aggregator in
     let number = c.in-Sign.number in
