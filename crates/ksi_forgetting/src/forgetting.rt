@@ -9,7 +9,6 @@ ghost use Rattle.ksi_forgetting.specs.Forgets.{ForgetCounts, ForgetsAs, disk_aft
 use crate::reading::read_left;
 use crate::{ForgetRefusal, Forgotten};
 use ksi_disk::{Disk, DiskFailed};
-use ksi_gates::ReadRefusal;
 use ksi_imprint::Compress;
 use ksi_roundstore::{OpenRefusal, RoundStore};
 use ksi_schedule::Plan;
@@ -73,8 +72,7 @@ fn rewrite<D: Disk, E: Disk>(
             }),
             Err(DiskFailed) => Err((ForgetRefusal::New, disk)),
         },
-        Err(ReadRefusal::Failed) => Err((ForgetRefusal::Old(OpenRefusal::Failed), disk)),
-        Err(ReadRefusal::NoMemory) => Err((ForgetRefusal::Old(OpenRefusal::NoMemory), disk)),
+        Err(refusal) => Err((ForgetRefusal::Old(OpenRefusal::from(refusal)), disk)),
     }
 }
 
