@@ -1,14 +1,14 @@
 -- What is written is loaded again.
-use Rattle.std.proofs.Common.{◌≡◌, ℕ, suc, ◌+◌, ◌-◌, ◌^◌, ◌<◌, ◌≤◌, Bool, true, false, cond, ◌&&◌, ltb, leb, eqb, List, [], ◌∷◌, ◌++◌, length, map, take, drop, get_or, Option, Some, None, Ok, refl, sym, ap, subst, ◌∙◌, arith, append_assoc, append-nil, length-append}
+use Rattle.std.proofs.Common.{◌≡◌, ℕ, suc, ◌+◌, ◌-◌, ◌^◌, ◌<◌, ◌≤◌, Bool, true, false, cond, leb, eqb, List, [], ◌∷◌, ◌++◌, length, map, take, drop, get_or, Option, Some, None, Ok, refl, sym, ap, subst, ◌∙◌, arith, append_assoc, append-nil, length-append}
 use Rattle.std.specs.Prelude.{IfSome}
 use Rattle.std.specs.List.{AllByRecursion}
-use Rattle.std.proofs.lemmas.Bool.{lt-ltb, le-ltb, le-leb, ne_eqb, eq-eqb, eqb-true, cond_both}
+use Rattle.std.proofs.lemmas.Bool.{le-leb, ne_eqb, eq-eqb, eqb-true}
 use Rattle.std.proofs.Math.Seq.{take-append_seam, drop-append_seam, get_or-append_seam}
 use Rattle.ksi_imprint.specs.Imprints.{IsImprint}
 use Rattle.ksi_imprint.specs.Reading as imprints
-use Rattle.ksi_tlv.specs.Spelling.{Tlv, FitsLong, plain, canonical, short_form, long_form}
-use Rattle.ksi_tlv.specs.Walking.{PlacedTlv, placed_at, elements, items_of}
-use Rattle.ksi_tlv.specs.Numerals.{number_of, numeral}
+use Rattle.ksi_tlv.specs.Spelling.{Tlv, FitsLong, plain, canonical}
+use Rattle.ksi_tlv.specs.Walking.{PlacedTlv, placed_at, elements}
+use Rattle.ksi_tlv.specs.Numerals.{numeral}
 use Rattle.ksi_tlv.specs.Writing.{texts, placed}
 use Rattle.ksi_grammar.specs.Contents.{time_in, imprint_in}
 use Rattle.ksi_aggtree.specs.declared.item.Item.{Item}
@@ -18,6 +18,7 @@ use Rattle.ksi_order.specs.Order.{may_stand}
 use Rattle.ksi_order.specs.Sequence.{Leads}
 use Rattle.ksi_order.specs.Fields.{field, done}
 use Rattle.ksi_order.specs.Values.{number_at, time_at, imprint_at}
+use Rattle.ksi_format.proofs.Again.{Written, number_again, time_again, imprint_again, fits_number, fits_imprint, length-canonical, file_again}
 use Rattle.ksi_journal.specs.Journal.{RiseFrom, IsItem}
 use Rattle.ksi_journal.specs.Elements.{head_in, plain_in, is_name, named_in, item_in}
 use Rattle.ksi_journal.specs.Written.{pair_elements, element_with, item_element}
@@ -25,14 +26,8 @@ use Rattle.ksi_mirror.specs.declared.stage.MirrorStage.TheVariants as stages
 use Rattle.ksi_mirror.specs.declared.sealed_list.SealedList.{SealedList}
 use Rattle.ksi_mirror.specs.Mirrors.{MirrorState, rank_at, rank, IsRoot, IsList, IsMirror}
 use Rattle.ksi_mirror.specs.Elements.{MirrorSaid, started, start_at, root_said, with_root, root_at, core_from, list_said, counts, opened, list_at, with_item, closed, added, item_at, end_at, element_read, mirror_order, nothing_yet, is_end, kinds_next}
-use Rattle.ksi_mirror.specs.File.{IsMirrorFile}
+use Rattle.ksi_mirror.specs.File.{mirror_format, IsMirrorFile}
 use Rattle.ksi_mirror.specs.Written.{root_element, head_elements, list_element, list_elements, lists_elements, mirror_elements, mirror_text}
-
--- the laws of what is written
-pub record Written : Type 0 where
-  pub texts : (place : ℕ) (es : List Tlv) → AllByRecursion FitsLong es → elements place (texts es) ≡ items_of (placed place es)
-  pub value : (n : ℕ) → n < 2 ^ 64 → number_of (numeral n) ≡ n
-  pub size : (n : ℕ) → length (numeral n) ≤ 8
 
 -- ---- the states that elements lead to
 
@@ -49,30 +44,18 @@ record IsBehind (s u : MirrorSaid) : Type 0 where
   stage : u.stage ≡ s.stage
   list : u.least_list ≡ s.least_list
   core : u.least_core ≡ s.least_core
-  mirror_start : u.mirror.start ≡ s.mirror.start
-  mirror_lists : u.mirror.lists ≡ s.mirror.lists
 
 behind_roots : (s : MirrorSaid) (roots : List (ℕ × List ℕ)) → IsBehind s (after_roots s roots)
-behind_roots s [] = record { stage = refl; list = refl; core = refl; mirror_start = refl; mirror_lists = refl }
-behind_roots s (one ∷ others) =
-    let on = behind_roots (with_root s one) others in
-    record { stage = on.stage; list = on.list; core = on.core; mirror_start = on.mirror_start; mirror_lists = on.mirror_lists }
+behind_roots s [] = record { stage = refl; list = refl; core = refl }
+behind_roots s (one ∷ others) = let on = behind_roots (with_root s one) others in record { stage = on.stage; list = on.list; core = on.core }
 
-roots_after : (s : MirrorSaid) (roots : List (ℕ × List ℕ)) → (after_roots s roots).mirror.roots ≡ s.mirror.roots ++ roots
-roots_after s [] = sym (append-nil s.mirror.roots)
-roots_after s (one ∷ others) = roots_after (with_root s one) others ∙ append_assoc s.mirror.roots (one ∷ []) others
+roots_after : (s : MirrorSaid) (roots : List (ℕ × List ℕ)) → (after_roots s roots).mirror ≡ record s.mirror { roots = s.mirror.roots ++ roots }
+roots_after s [] = ap (λ (xs : List (ℕ × List ℕ)). record s.mirror { roots = xs }) (sym (append-nil s.mirror.roots))
+roots_after s (one ∷ others) = roots_after (with_root s one) others ∙ ap (λ (xs : List (ℕ × List ℕ)). record s.mirror { roots = xs }) (append_assoc s.mirror.roots (one ∷ []) others)
 
-record IsBehindLists (s u : MirrorSaid) : Type 0 where
-  mirror_start : u.mirror.start ≡ s.mirror.start
-  mirror_roots : u.mirror.roots ≡ s.mirror.roots
-
-behind_lists : (s : MirrorSaid) (lists : List SealedList) → IsBehindLists s (after_lists s lists)
-behind_lists s [] = record { mirror_start = refl; mirror_roots = refl }
-behind_lists s (one ∷ others) = let on = behind_lists (closed s one) others in record { mirror_start = on.mirror_start; mirror_roots = on.mirror_roots }
-
-lists_after : (s : MirrorSaid) (lists : List SealedList) → (after_lists s lists).mirror.lists ≡ s.mirror.lists ++ lists
-lists_after s [] = sym (append-nil s.mirror.lists)
-lists_after s (one ∷ others) = lists_after (closed s one) others ∙ append_assoc s.mirror.lists (one ∷ []) others
+lists_after : (s : MirrorSaid) (lists : List SealedList) → (after_lists s lists).mirror ≡ record s.mirror { lists = s.mirror.lists ++ lists }
+lists_after s [] = ap (λ (xs : List SealedList). record s.mirror { lists = xs }) (sym (append-nil s.mirror.lists))
+lists_after s (one ∷ others) = lists_after (closed s one) others ∙ ap (λ (xs : List SealedList). record s.mirror { lists = xs }) (append_assoc s.mirror.lists (one ∷ []) others)
 
 -- a list or the end may stand
 record MayList (s : MirrorSaid) : Type 0 where
@@ -87,35 +70,14 @@ may_after s (one ∷ others) may = may_after (closed s one) others (record { mor
 may_at_roots : (s : MirrorSaid) → s.stage ≡ stages.Roots → MayList s
 may_at_roots s at = record { more = rw at refl; list = rw at refl; end = rw at refl }
 
+imprint_is : (bytes : List ℕ) → IsImprint bytes → imprints.imprint_at bytes ≡ Ok bytes
+imprint_is [] is = absurd (let s = is.size in omega arith)
+imprint_is (a ∷ digest) is =
+    let one : eqb a 1 ≡ true = eq-eqb a 1 is.algorithm in
+    let size : eqb (length digest) 32 ≡ true = eq-eqb (length digest) 32 (let s = is.size in omega arith) in
+    rw (one, size) refl
+
 module _ (laws : Written) where
-  number_again : (at : PlacedTlv) (n : ℕ) → at.element.body ≡ numeral n → n < 2 ^ 64 → number_at at ≡ Ok n
-  unfolding number_at
-  number_again at n is lt =
-      let short : ltb 8 (length at.element.body) ≡ false = le-ltb _ _ (let e = ap (λ (x : List ℕ). length x) is in let s = laws.size n in omega arith) in
-      let value : number_of at.element.body ≡ n = ap number_of is ∙ laws.value n lt in
-      rw (short, value) refl
-
-  time_again : (at : PlacedTlv) (n : ℕ) → at.element.body ≡ numeral n → n < 2 ^ 63 → time_at at ≡ Ok n
-  unfolding time_at time_in
-  time_again at n is lt =
-      let short : ltb 8 (length at.element.body) ≡ false = le-ltb _ _ (let e = ap (λ (x : List ℕ). length x) is in let s = laws.size n in omega arith) in
-      let value : number_of at.element.body ≡ n = ap number_of is ∙ laws.value n (omega (arith, lt)) in
-      rw (short, value, lt-ltb n (2 ^ 63) lt) refl
-
-  imprint_is : (bytes : List ℕ) → IsImprint bytes → imprints.imprint_at bytes ≡ Ok bytes
-  imprint_is [] is = absurd (let s = is.size in omega arith)
-  imprint_is (a ∷ digest) is =
-      let one : eqb a 1 ≡ true = eq-eqb a 1 is.algorithm in
-      let size : eqb (length digest) 32 ≡ true = eq-eqb (length digest) 32 (let s = is.size in omega arith) in
-      rw (one, size) refl
-
-  imprint_again : (at : PlacedTlv) → IsImprint at.element.body → imprint_at at ≡ Ok at.element.body
-  unfolding imprint_at imprint_in
-  imprint_again at is = rw (imprint_is at.element.body is) refl
-
-  fits_number : (kind n : ℕ) → kind < 32 → FitsLong (plain kind (numeral n))
-  fits_number kind n lt = record { kind = omega arith; body = (let s = laws.size n in omega arith) }
-
   -- ---- what stands inside
 
   root_from : (least : ℕ) (at a b : PlacedTlv) (t : ℕ) (root : List ℕ) → elements at.inside at.element.body ≡ Ok a ∷ Ok b ∷ []
@@ -129,11 +91,10 @@ module _ (laws : Written) where
       let at : PlacedTlv = placed_at place (root_element one) n in
       let first : Tlv = plain 1 (numeral one.0) in
       let second : Tlv = plain 2 one.1 in
-      let size = is.imprint.size in
-      let fits : AllByRecursion FitsLong (pair_elements one) = (fits_number 1 one.0 (omega arith), (record { kind = omega arith; body = omega arith }, tt)) in
+      let fits : AllByRecursion FitsLong (pair_elements one) = (fits_number laws 1 one.0 (omega arith), (fits_imprint 2 one.1 (omega arith) is.imprint, tt)) in
       root_from least (placed_at place (root_element one) n) _ _ one.0 one.1
       (laws.texts at.inside (pair_elements one) fits) refl refl
-      (time_again (placed_at at.inside first (length (canonical first))) one.0 refl is.early) (le-leb least one.0 rises)
+      (time_again laws (placed_at at.inside first (length (canonical first))) one.0 refl is.early) (le-leb least one.0 rises)
       (imprint_again (placed_at (at.inside + length (canonical first)) second (length (canonical second))) is.imprint)
 
   list_from : (least_list least_core : ℕ) (at a b c : PlacedTlv) (t core count : ℕ) → elements at.inside at.element.body ≡ Ok a ∷ Ok b ∷ Ok c ∷ []
@@ -159,13 +120,13 @@ module _ (laws : Written) where
       let low = is.core in
       let few = is.few in
       let up = core_rises least_list least_core one low cores rises in
-      let fits : AllByRecursion FitsLong (head_elements one) = (fits_number 1 one.second (omega arith), (fits_number 2 one.core (omega arith), (fits_number 3 (length one.items) (omega arith), tt))) in
+      let fits : AllByRecursion FitsLong (head_elements one) = (fits_number laws 1 one.second (omega arith), (fits_number laws 2 one.core (omega arith), (fits_number laws 3 (length one.items) (omega arith), tt))) in
       list_from least_list least_core (placed_at place (list_element one) n) _ _ _ one.second one.core (length one.items)
       (laws.texts at.inside (head_elements one) fits) refl refl refl
-      (time_again (placed_at at.inside first (length (canonical first))) one.second refl is.early) (le-leb least_list one.second up.0)
-      (number_again (placed_at (at.inside + length (canonical first)) second (length (canonical second))) one.core refl (omega (arith, low)))
+      (time_again laws (placed_at at.inside first (length (canonical first))) one.second refl is.early) (le-leb least_list one.second up.0)
+      (number_again laws (placed_at (at.inside + length (canonical first)) second (length (canonical second))) one.core refl (omega (arith, low)))
       (le-leb one.core 8 low) (le-leb (core_from least_list least_core one.second) one.core up.1)
-      (number_again (placed_at (at.inside + length (canonical first) + length (canonical second)) third (length (canonical third))) (length one.items) refl (omega (arith, few)))
+      (number_again laws (placed_at (at.inside + length (canonical first) + length (canonical second)) third (length (canonical third))) (length one.items) refl (omega (arith, few)))
 
   -- ---- items
 
@@ -228,7 +189,7 @@ module _ (laws : Written) where
 
     start_step : (start : ℕ) → start < 2 ^ 63 → Step nothing_yet (plain 1 (numeral start)) (started nothing_yet start)
     unfolding element_read start_at
-    start_step start lt = record { more = refl; may = refl; read = λ place n. rw (time_again (placed_at place (plain 1 (numeral start)) n) start refl lt) refl }
+    start_step start lt = record { more = refl; may = refl; read = λ place n. rw (time_again laws (placed_at place (plain 1 (numeral start)) n) start refl lt) refl }
 
     end_step : (s : MirrorSaid) → MayList s → Step s (plain 6 []) (record s { stage = stages.End })
     unfolding element_read end_at
@@ -325,9 +286,6 @@ module _ (laws : Written) where
 
   -- ---- sizes
 
-  length-canonical : (e : Tlv) → length (canonical e) ≤ 4 + length e.body
-  length-canonical e = cond_both (ltb e.kind 32 && ltb (length e.body) 256) (short_form e) (long_form e) (λ (text : List ℕ). length text ≤ 4 + length e.body) (λ yes. omega arith) (λ no. omega arith)
-
   length-two : (e f : Tlv) → length (texts (e ∷ f ∷ [])) ≤ 8 + length e.body + length f.body
   length-two e f = rw (length-append (canonical e) (canonical f ++ []), length-append (canonical f) []) (omega (arith, length-canonical e, length-canonical f))
 
@@ -373,13 +331,8 @@ module _ (laws : Written) where
 
   -- ---- the whole file
 
-  mirror_by : (mirror found : MirrorState) → found.start ≡ mirror.start → found.roots ≡ mirror.roots → found.lists ≡ mirror.lists → mirror ≡ found
-  mirror_by mirror found e f g =
-      sym (ap (λ (n : ℕ). let m : MirrorState = record { start = n; roots = found.roots; lists = found.lists } in m) e
-      ∙ ap (λ (xs : List (ℕ × List ℕ)). let m : MirrorState = record { start = mirror.start; roots = xs; lists = found.lists } in m) f
-      ∙ ap (λ (xs : List SealedList). let m : MirrorState = record { start = mirror.start; roots = mirror.roots; lists = xs } in m) g)
-
   pub mirror_again : (mirror : MirrorState) → IsMirror mirror → IsMirrorFile (mirror_text mirror) mirror
+  unfolding mirror_format
   mirror_again mirror is =
       let none : MirrorSaid = nothing_yet in
       let a : MirrorSaid = started none mirror.start in
@@ -387,7 +340,6 @@ module _ (laws : Written) where
       let c : MirrorSaid = after_lists b mirror.lists in
       let t : MirrorSaid = record c { stage = stages.End } in
       let behind = behind_roots a mirror.roots in
-      let behind_c = behind_lists b mirror.lists in
       let may_b = may_at_roots b behind.stage in
       let last : List Tlv = plain 6 [] ∷ [] in
       let from_lists : List Tlv = lists_elements mirror.lists ++ plain 6 [] ∷ [] in
@@ -399,13 +351,8 @@ module _ (laws : Written) where
       let roots = roots_again t a mirror.roots from_lists refl is.roots is.roots_rise lists in
       let all = goes_on t none a (plain 1 (numeral mirror.start)) (map root_element mirror.roots ++ from_lists) (start_step t mirror.start is.start) roots in
       let fits : AllByRecursion FitsLong (mirror_elements mirror) = (
-        fits_number 1 mirror.start (omega arith),
+        fits_number laws 1 mirror.start (omega arith),
         roots_fit mirror.roots from_lists is.roots (lists_fit mirror.lists last is.lists (record { kind = omega arith; body = omega arith }, tt)),
       ) in
-      record {
-        rest = texts (mirror_elements mirror);
-        begins = refl;
-        said = t;
-        whole = record { es = placed 8 (mirror_elements mirror); split = laws.texts 8 (mirror_elements mirror) fits; leads = all 8; ends = refl };
-        has = mirror_by mirror t.mirror (behind_c.mirror_start ∙ behind.mirror_start) (behind_c.mirror_roots ∙ roots_after a mirror.roots) (lists_after b mirror.lists ∙ ap (λ (xs : List SealedList). xs ++ mirror.lists) behind.mirror_lists);
-      }
+      file_again laws mirror_format (mirror_elements mirror) mirror t fits (all 8) refl
+      (sym (lists_after b mirror.lists ∙ ap (λ (m : MirrorState). record m { lists = m.lists ++ mirror.lists }) (roots_after a mirror.roots)))

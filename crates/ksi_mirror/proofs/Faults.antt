@@ -1,7 +1,6 @@
 -- Which faults the file of a mirror has: none of a second's tree, and none of voters.
-use Rattle.std.proofs.Common.{◌≡◌, ℕ, ◌+◌, ◌-◌, ◌||◌, Bool, true, false, cond, eqb, leb, ◌&&◌, List, [], ◌∷◌, length, drop, Result, Ok, Err, refl, sym, subst, inl, inr}
-use Rattle.ksi_tlv.specs.Walking.{PlacedTlv, Cut, Items, elements}
-use Rattle.ksi_aggtree.specs.declared.item.Item.{Item}
+use Rattle.std.proofs.Common.{◌≡◌, ℕ, ◌+◌, ◌-◌, ◌||◌, Bool, true, false, cond, eqb, leb, List, [], ◌∷◌, length, drop, Result, Ok, Err, refl, sym, subst, inl, inr}
+use Rattle.ksi_tlv.specs.Walking.{PlacedTlv, Cut, Items}
 use Rattle.ksi_order.specs.declared.fault.OrderFault.{OrderFault}
 use Rattle.ksi_order.specs.declared.fault.OrderFault.TheVariants as orders
 use Rattle.ksi_order.specs.Order.{one_more, may_stand, ◌>>=◌}
@@ -10,8 +9,8 @@ use Rattle.ksi_order.specs.Values.{time_at}
 use Rattle.ksi_journal.specs.declared.fault.JournalFault.{JournalFault}
 use Rattle.ksi_journal.specs.declared.fault.JournalFault.TheVariants as faults
 use Rattle.ksi_journal.specs.Elements.{named, or_named, highest_named, head_in, plain_in, is_name, called, named_in, item_in}
-use Rattle.ksi_mirror.specs.Elements.{MirrorSaid, kinds_next, is_end, start_at, started, root_said, root_at, with_root, list_said, list_at, counts, counted, opened, item_at, with_item, added, end_at, element_read, mirror_order, nothing_yet}
-use Rattle.ksi_mirror.specs.File.{IsMirrorFault}
+use Rattle.ksi_mirror.specs.Elements.{MirrorSaid, kinds_next, is_end, start_at, started, root_said, root_at, with_root, list_said, list_at, counts, counted, opened, item_at, with_item, added, end_at, element_read, mirror_order}
+use Rattle.ksi_mirror.specs.File.{mirror_format, IsMirrorFault}
 
 abbrev is_of_mirror : JournalFault → Bool
 is_of_mirror (faults.TreeRoot second root computed) = false
@@ -96,6 +95,7 @@ stands_is end fault s [] stands = subst (λ (f : JournalFault). is_of_mirror f �
 stands_is end fault s (item ∷ items) stands = subst OnFault stands (more_is item s)
 
 fault_is : (bytes : List ℕ) (fault : JournalFault) → IsMirrorFault bytes fault → is_of_mirror fault ≡ true
+unfolding mirror_format
 fault_is bytes fault (inl other) = subst (λ (f : JournalFault). is_of_mirror f ≡ true) (sym other.named) refl
 fault_is bytes fault (inr inside) = stands_is (8 + length inside.rest) fault inside.first.said inside.first.rest inside.first.stands
 

@@ -6,11 +6,9 @@ pub mod JournalOf
 pub mod Joining
 pub mod JoiningMirrors
 pub mod Faults
-pub mod Files
-pub mod Sound
+pub mod Values
 pub mod Ordered
 pub mod Again
 pub mod Texts
-pub mod Read
 pub mod UnionOf
 pub mod MergedOf

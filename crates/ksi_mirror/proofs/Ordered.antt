@@ -1,292 +1,292 @@
--- The elements of a mirror's file stand for what it has, one for one and in its order.
-use Rattle.std.proofs.Common.{◌≡◌, ◌⊎◌, inl, inr, ℕ, zero, suc, ◌-◌, ◌<◌, Bool, true, false, cond, ◌||◌, eqb, List, [], ◌∷◌, ◌++◌, length, map, Result, Ok, refl, sym, ap, subst, ◌∙◌, arith, append_assoc, append-nil}
+-- The elements of a mirror's file stand for what it has, one for one and in its order, and that is a mirror.
+use Rattle.std.proofs.Common.{◌≡◌, ℕ, zero, suc, ◌+◌, ◌-◌, ◌^◌, ◌<◌, ◌≤◌, Bool, true, false, cond, ◌||◌, leb, eqb, List, [], ◌∷◌, ◌++◌, length, map, Result, Ok, inl, inr, ◌⊎◌, refl, sym, ap, subst, ◌∙◌, arith, append_assoc, append-nil, length-append}
 use Rattle.std.specs.List.{AllByRecursion}
-use Rattle.std.proofs.lemmas.Bool.{eqb-true}
+use Rattle.std.proofs.lemmas.Bool.{leb-true}
 use Rattle.std.proofs.lemmas.List.{map-append}
 use Rattle.ksi_tlv.specs.Walking.{PlacedTlv}
 use Rattle.ksi_aggtree.specs.declared.item.Item.{Item}
 use Rattle.ksi_order.specs.Order.{may_stand}
-use Rattle.ksi_order.specs.Sequence.{Leads}
 use Rattle.ksi_order.specs.Values.{time_at}
+use Rattle.ksi_format.specs.Kinds.{kinds_of}
+use Rattle.ksi_format.proofs.Steps.{Bounded, bind_ok, ok_is, any_kind, all_more, kinds_more, leads_keep, file_kinds}
 use Rattle.ksi_journal.specs.declared.fault.JournalFault.{JournalFault}
 use Rattle.ksi_journal.specs.declared.fault.JournalFault.TheVariants as faults
+use Rattle.ksi_journal.specs.Journal.{RiseFrom, IsItem}
 use Rattle.ksi_journal.specs.Elements.{or_named, item_in}
 use Rattle.ksi_journal.specs.Kinds.{item_kind}
-use Rattle.ksi_journal.proofs.Sound.{bind_ok, test_ok}
-use Rattle.ksi_journal.proofs.Told.{any_kind, either_kind, item_match, not_zero}
+use Rattle.ksi_journal.proofs.Sound.{test_ok, or_named_ok, both_true}
+use Rattle.ksi_journal.proofs.Told.{item_match}
 use Rattle.ksi_journal.proofs.Ordered.{item_same}
 use Rattle.ksi_mirror.specs.declared.stage.MirrorStage.{MirrorStage}
 use Rattle.ksi_mirror.specs.declared.stage.MirrorStage.TheVariants as stages
 use Rattle.ksi_mirror.specs.declared.sealed_list.SealedList.{SealedList}
-use Rattle.ksi_mirror.specs.Mirrors.{MirrorState}
-use Rattle.ksi_mirror.specs.Elements.{MirrorSaid, kinds_next, is_end, started, start_at, root_said, with_root, root_at, list_said, counts, opened, list_at, with_item, no_list, closed, added, item_at, end_at, element_read, mirror_order, nothing_yet}
-use Rattle.ksi_mirror.specs.File.{IsMirrorFile}
+use Rattle.ksi_mirror.specs.Mirrors.{MirrorState, rank_at, rank, IsRoot, IsList, IsMirror}
+use Rattle.ksi_mirror.specs.Elements.{MirrorSaid, kinds_next, is_end, started, start_at, root_said, with_root, root_at, list_said, counts, opened, list_at, with_item, closed, added, item_at, end_at, element_read, mirror_order, nothing_yet}
+use Rattle.ksi_mirror.specs.File.{mirror_format, IsMirrorFile}
 use Rattle.ksi_mirror.specs.Kinds.{lists_kinds, mirror_kinds, IsInOrder}
+use Rattle.ksi_mirror.proofs.ByKeys.{least_behind, rise_more}
+use Rattle.ksi_mirror.proofs.Values.{root_ok, list_ok, item_ok}
 
--- ---- what is told so far, behind the start
+-- ---- rising
 
-abbrev open_of : ℕ → SealedList → List ℕ
-open_of zero one = []
-open_of (suc n) one = 9 ∷ map item_kind one.items
+-- one more, at least the least that may stand behind
+record Rises {A : Type 0} (key : A → ℕ) (least : ℕ) (xs : List A) (next : ℕ) : Type 0 where
+  rise : RiseFrom least (map key xs)
+  behind : least_behind least (map key xs) ≤ next
 
-abbrev end_of : Bool → List ℕ
-end_of true = 6 ∷ []
-end_of false = []
+rises_more : {A : Type 0} (key : A → ℕ) (least : ℕ) (xs : List A) (next : ℕ) (x : A) → Rises key least xs next → next ≤ key x → Rises key least (xs ++ x ∷ []) (key x + 1)
+rises_more key least xs next x rises le =
+    let behind = rises.behind in
+    let more = rise_more least (map key xs) (key x) rises.rise (omega (arith, behind)) in
+    let same : map key (xs ++ x ∷ []) ≡ map key xs ++ key x ∷ [] = map-append key xs (x ∷ []) in
+    record { rise = subst (RiseFrom least) (sym same) more.0; behind = (let e = ap (least_behind least) same ∙ more.1 in omega (arith, e)) }
 
-abbrev front : List (ℕ × List ℕ) → List SealedList → List ℕ → List ℕ
-front roots lists rest = map (λ root. 2) roots ++ (lists_kinds lists ++ rest)
+-- ---- what is told so far
 
-abbrev told_of : List (ℕ × List ℕ) → List SealedList → ℕ → SealedList → Bool → List ℕ
-told_of roots lists left current ended = front roots lists (open_of left current ++ end_of ended)
+-- the kinds of a mirror's start, roots and lists, and these behind them
+abbrev front : MirrorState → List ℕ → List ℕ
+front mirror rest = 1 ∷ (map (λ root. 2) mirror.roots ++ (lists_kinds mirror.lists ++ rest))
 
-abbrev told : MirrorSaid → List ℕ
-told s = told_of s.mirror.roots s.mirror.lists s.left s.current (is_end s.stage)
+abbrev second_of_root : ℕ × List ℕ → ℕ
+second_of_root one = one.0
 
--- what is still empty
-abbrev Behind : MirrorStage → MirrorSaid → Type 0
-Behind stages.Start s = ⊥
-Behind stages.Roots s = (s.mirror.lists ≡ []) × (s.left ≡ 0)
-Behind stages.Items s = 0 < s.left
-Behind stages.Lists s = s.left ≡ 0
-Behind stages.End s = s.left ≡ 0
+-- what the mirror keeps, and behind what its next root and its next list stand
+record IsSound (mirror : MirrorState) (least_root least_list least_core : ℕ) : Type 0 where
+  start : mirror.start < 2 ^ 63
+  roots : AllByRecursion IsRoot mirror.roots
+  roots_rise : Rises second_of_root mirror.start mirror.roots least_root
+  lists : AllByRecursion IsList mirror.lists
+  lists_rise : Rises rank (rank_at mirror.start 0) mirror.lists (rank_at least_list least_core)
+  cores : least_core ≤ 9
 
-abbrev kinds : List PlacedTlv → List ℕ
-kinds es = map (λ at. at.element.kind) es
+abbrev Sound : MirrorSaid → Type 0
+Sound s = IsSound s.mirror s.least_root s.least_list s.least_core
 
-record IsTold (s : MirrorSaid) (es : List PlacedTlv) : Type 0 where
-  same : kinds es ≡ told s
-  behind : Behind s.stage s
+-- what is known of a list whose items come
+record IsOpen (s : MirrorSaid) : Type 0 where
+  least : rank_at s.least_list s.least_core ≤ rank s.current
+  early : s.current.second < 2 ^ 63
+  core : s.current.core ≤ 8
+  some : 0 < s.left
+  few : length s.current.items + s.left ≤ 65536
+  items : AllByRecursion IsItem s.current.items
 
--- ---- one more in lists
+abbrev Told : MirrorStage → MirrorSaid → List PlacedTlv → Type 0
+Told stages.Start s es = (es ≡ []) × (s ≡ nothing_yet)
+Told stages.Roots s es = (kinds_of es ≡ front s.mirror []) × Sound s × (s.mirror.lists ≡ [])
+Told stages.Items s es = (kinds_of es ≡ front s.mirror (9 ∷ map item_kind s.current.items)) × Sound s × IsOpen s
+Told stages.Lists s es = (kinds_of es ≡ front s.mirror []) × Sound s
+Told stages.End s es = (kinds_of es ≡ mirror_kinds s.mirror) × Sound s
 
-front_more : (roots : List (ℕ × List ℕ)) (lists : List SealedList) (rest more : List ℕ) → front roots lists (rest ++ more) ≡ front roots lists rest ++ more
-front_more roots lists rest more =
-    ap (λ (ks : List ℕ). map (λ root. 2) roots ++ ks) (sym (append_assoc (lists_kinds lists) rest more))
-    ∙ sym (append_assoc (map (λ root. 2) roots) (lists_kinds lists ++ rest) more)
+abbrev Holds : MirrorSaid → List PlacedTlv → Type 0
+Holds s es = Told s.stage s es
 
-lists_more : (lists : List SealedList) (one : SealedList) (rest : List ℕ) → lists_kinds (lists ++ one ∷ []) ++ rest ≡ lists_kinds lists ++ (9 ∷ (map item_kind one.items ++ rest))
-lists_more [] one rest = ap (λ (ks : List ℕ). 9 ∷ (ks ++ rest)) (append-nil (map item_kind one.items))
-lists_more (l ∷ lists) one rest =
-    ap (λ (ks : List ℕ). 9 ∷ ks) (append_assoc (map item_kind l.items) (lists_kinds (lists ++ one ∷ [])) rest
-    ∙ ap (λ (ks : List ℕ). map item_kind l.items ++ ks) (lists_more lists one rest)
-    ∙ sym (append_assoc (map item_kind l.items) (lists_kinds lists) (9 ∷ (map item_kind one.items ++ rest))))
+-- ---- one kind more
 
-front_closed : (roots : List (ℕ × List ℕ)) (lists : List SealedList) (one : SealedList) (rest : List ℕ) → front roots (lists ++ one ∷ []) rest ≡ front roots lists (9 ∷ (map item_kind one.items ++ rest))
-front_closed roots lists one rest = ap (λ (ks : List ℕ). map (λ root. 2) roots ++ ks) (lists_more lists one rest)
+front_more : (mirror : MirrorState) (rest more : List ℕ) → front mirror rest ++ more ≡ front mirror (rest ++ more)
+front_more mirror rest more =
+    ap (λ (ks : List ℕ). 1 ∷ ks)
+    (append_assoc (map (λ root. 2) mirror.roots) (lists_kinds mirror.lists ++ rest) more
+    ∙ ap (λ (ks : List ℕ). map (λ root. 2) mirror.roots ++ ks) (append_assoc (lists_kinds mirror.lists) rest more))
 
-items_more : (items : List Item) (item : Item) → map item_kind (items ++ item ∷ []) ++ [] ≡ (map item_kind items ++ []) ++ item_kind item ∷ []
-items_more items item = append-nil (map item_kind (items ++ item ∷ [])) ∙ map-append item_kind items (item ∷ []) ∙ ap (λ (ks : List ℕ). ks ++ item_kind item ∷ []) (sym (append-nil (map item_kind items)))
+roots_more : (mirror : MirrorState) (one : ℕ × List ℕ) → mirror.lists ≡ [] → front mirror [] ++ 2 ∷ [] ≡ front (record mirror { roots = mirror.roots ++ one ∷ [] }) []
+roots_more mirror one none =
+    rw none (ap (λ (ks : List ℕ). 1 ∷ ks)
+    (ap (λ (ks : List ℕ). ks ++ 2 ∷ []) (append-nil (map (λ root. 2) mirror.roots))
+    ∙ sym (map-append (λ root. 2) mirror.roots (one ∷ []))
+    ∙ sym (append-nil (map (λ root. 2) (mirror.roots ++ one ∷ [])))))
 
-roots_more : (roots : List (ℕ × List ℕ)) (one : ℕ × List ℕ) (lists : List SealedList) (left : ℕ) (current : SealedList) (ended : Bool) → lists ≡ [] → left ≡ 0 → ended ≡ false
-    → told_of (roots ++ one ∷ []) lists left current ended ≡ told_of roots lists left current ended ++ 2 ∷ []
-roots_more roots one lists left current ended a b c = rw (a, b, c) (
-    append-nil (map (λ root. 2) (roots ++ one ∷ [])) ∙ map-append (λ root. 2) roots (one ∷ []) ∙ ap (λ (ks : List ℕ). ks ++ 2 ∷ []) (sym (append-nil (map (λ root. 2) roots))))
+lists_more : (lists : List SealedList) (one : SealedList) → lists_kinds (lists ++ one ∷ []) ≡ lists_kinds lists ++ 9 ∷ map item_kind one.items
+lists_more [] one = ap (λ (ks : List ℕ). 9 ∷ ks) (append-nil (map item_kind one.items))
+lists_more (l ∷ lists) one =
+    ap (λ (ks : List ℕ). 9 ∷ ks)
+    (ap (λ (ks : List ℕ). map item_kind l.items ++ ks) (lists_more lists one)
+    ∙ sym (append_assoc (map item_kind l.items) (lists_kinds lists) (9 ∷ map item_kind one.items)))
 
-open_more : (roots : List (ℕ × List ℕ)) (lists : List SealedList) (t core n left : ℕ) (current : SealedList) (ended : Bool) → left ≡ 0 → ended ≡ false
-    → told_of roots lists (suc n) (record { second = t; core = core; items = [] }) false ≡ told_of roots lists left current ended ++ 9 ∷ []
-open_more roots lists t core n left current ended a b = rw (a, b) (front_more roots lists [] (9 ∷ []))
+list_closed : (mirror : MirrorState) (one : SealedList) → front mirror (9 ∷ map item_kind one.items) ≡ front (record mirror { lists = mirror.lists ++ one ∷ [] }) []
+list_closed mirror one =
+    ap (λ (ks : List ℕ). 1 ∷ (map (λ root. 2) mirror.roots ++ ks))
+    (sym (lists_more mirror.lists one) ∙ sym (append-nil (lists_kinds (mirror.lists ++ one ∷ []))))
 
-item_more : (roots : List (ℕ × List ℕ)) (lists : List SealedList) (n : ℕ) (current : SealedList) (item : Item) (left : ℕ) (ended : Bool) → left ≡ suc (suc n) → ended ≡ false
-    → told_of roots lists (suc n) (with_item current item) ended ≡ told_of roots lists left current ended ++ item_kind item ∷ []
-item_more roots lists n current item left ended a b = rw (a, b) (
-    ap (λ (ks : List ℕ). front roots lists (9 ∷ ks)) (items_more current.items item)
-    ∙ front_more roots lists (9 ∷ map item_kind current.items ++ []) (item_kind item ∷ []))
+item_more : (mirror : MirrorState) (items : List Item) (item : Item) → front mirror (9 ∷ map item_kind items) ++ item_kind item ∷ [] ≡ front mirror (9 ∷ map item_kind (items ++ item ∷ []))
+item_more mirror items item =
+    front_more mirror (9 ∷ map item_kind items) (item_kind item ∷ [])
+    ∙ ap (λ (ks : List ℕ). front mirror (9 ∷ ks)) (sym (map-append item_kind items (item ∷ [])))
 
-closed_more : (roots : List (ℕ × List ℕ)) (lists : List SealedList) (current : SealedList) (item : Item) (left : ℕ) (ended : Bool) → left ≡ 1 → ended ≡ false
-    → told_of roots (lists ++ with_item current item ∷ []) 0 no_list false ≡ told_of roots lists left current ended ++ item_kind item ∷ []
-closed_more roots lists current item left ended a b = rw (a, b) (
-    front_closed roots lists (with_item current item) []
-    ∙ ap (λ (ks : List ℕ). front roots lists (9 ∷ ks)) (items_more current.items item)
-    ∙ front_more roots lists (9 ∷ map item_kind current.items ++ []) (item_kind item ∷ []))
+-- ---- one element more
 
-end_more : (roots : List (ℕ × List ℕ)) (lists : List SealedList) (left : ℕ) (current : SealedList) (ended : Bool) → left ≡ 0 → ended ≡ false
-    → told_of roots lists left current true ≡ told_of roots lists left current ended ++ 6 ∷ []
-end_more roots lists left current ended a b = rw (a, b) (front_more roots lists [] (6 ∷ []))
-
--- ---- where each may stand
-
-root_place : (stage : MirrorStage) (s : MirrorSaid) → may_stand (kinds_next stage) 2 ≡ true → Behind stage s → Behind stages.Roots s × (stage ≡ stages.Roots)
-root_place stages.Start s may b = absurd b
-root_place stages.Roots s may b = (b, refl)
-root_place stages.Items s may b = absurd cc
-root_place stages.Lists s may b = absurd cc
-root_place stages.End s may b = absurd cc
-
-list_place : (stage : MirrorStage) (s : MirrorSaid) → may_stand (kinds_next stage) 9 ≡ true → Behind stage s → s.left ≡ 0
-list_place stages.Start s may b = absurd b
-list_place stages.Roots s may b = b.1
-list_place stages.Items s may b = absurd cc
-list_place stages.Lists s may b = b
-list_place stages.End s may b = absurd cc
-
-end_place : (stage : MirrorStage) (s : MirrorSaid) → may_stand (kinds_next stage) 6 ≡ true → Behind stage s → s.left ≡ 0
-end_place stages.Start s may b = absurd b
-end_place stages.Roots s may b = b.1
-end_place stages.Items s may b = absurd cc
-end_place stages.Lists s may b = b
-end_place stages.End s may b = absurd cc
-
--- an item may stand among items alone
-abbrev AmongItems : MirrorStage → ℕ → Type 0
-AmongItems stage kind = (kind ≡ 3) ⊎ (kind ≡ 7) → stage ≡ stages.Items
-
-other_kind : {P : Type 0} (k : ℕ) → eqb k 3 ≡ false → eqb k 7 ≡ false → (k ≡ 3) ⊎ (k ≡ 7) → P
-other_kind k three seven which = elim which [
-  | inl e ↦ absurd (let yes : eqb k 3 ≡ true = rw e refl in cc)
-  | inr e ↦ absurd (let yes : eqb k 7 ≡ true = rw e refl in cc)
-]
-
-among_items : (stage : MirrorStage) → AllByRecursion (AmongItems stage) (kinds_next stage)
-among_items stages.Start = ((λ which. other_kind 1 refl refl which), tt)
-among_items stages.Roots = ((λ which. other_kind 2 refl refl which), ((λ which. other_kind 9 refl refl which), ((λ which. other_kind 6 refl refl which), tt)))
-among_items stages.Items = ((λ which. refl), ((λ which. refl), tt))
-among_items stages.Lists = ((λ which. other_kind 9 refl refl which), ((λ which. other_kind 6 refl refl which), tt))
-among_items stages.End = tt
-
--- the end, if nothing else
-abbrev LastKind : ℕ → Type 0
-LastKind kind = eqb kind 1 ≡ false → eqb kind 2 ≡ false → eqb kind 9 ≡ false → (eqb kind 3 || eqb kind 7) ≡ false → kind ≡ 6
-
-last_of : (stage : MirrorStage) → AllByRecursion LastKind (kinds_next stage)
-last_of stages.Start = ((λ a b c d. absurd cc), tt)
-last_of stages.Roots = ((λ a b c d. absurd cc), ((λ a b c d. absurd cc), ((λ a b c d. refl), tt)))
-last_of stages.Items = ((λ a b c d. absurd cc), ((λ a b c d. absurd cc), tt))
-last_of stages.Lists = ((λ a b c d. absurd cc), ((λ a b c d. refl), tt))
-last_of stages.End = tt
-
--- ---- one element after the other
-
-abbrev fine : MirrorSaid → Result MirrorSaid JournalFault
-fine s = Ok s
-
-state_is : (a b : MirrorSaid) → fine a ≡ Ok b → a ≡ b
-state_is a b e = cc
-
-grown : (s u : MirrorSaid) (es : List PlacedTlv) (kind : ℕ) (at : PlacedTlv) → IsTold s es → told u ≡ told s ++ kind ∷ [] → at.element.kind ≡ kind → Behind u.stage u → IsTold u (es ++ at ∷ [])
-grown s u es kind at before more is behind = record {
-  same = map-append (λ (at : PlacedTlv). at.element.kind) es (at ∷ []) ∙ ap (λ (ks : List ℕ). ks ++ at.element.kind ∷ []) before.same ∙ ap (λ (k : ℕ). told s ++ k ∷ []) is ∙ sym more;
-  behind = behind;
-}
-
-opened_step : (s u : MirrorSaid) (es : List PlacedTlv) (at : PlacedTlv) (t core n : ℕ) → IsTold s es → is_end s.stage ≡ false → s.left ≡ 0 → at.element.kind ≡ 9 → 0 < n → opened s t core n ≡ u → IsTold u (es ++ at ∷ [])
-opened_step s u es at t core zero before more left kind some e = absurd (omega (arith, some))
-opened_step s u es at t core (suc n) before more left kind some e =
-    subst (λ (u : MirrorSaid). IsTold u (es ++ at ∷ [])) e
-    (grown s (opened s t core (suc n)) es 9 at before (open_more s.mirror.roots s.mirror.lists t core n s.left s.current (is_end s.stage) left more) kind (omega arith))
-
-added_step : (s u : MirrorSaid) (es : List PlacedTlv) (at : PlacedTlv) (item : Item) (n : ℕ) → IsTold s es → is_end s.stage ≡ false → s.left ≡ suc n → s.stage ≡ stages.Items → at.element.kind ≡ item_kind item
-    → added s (with_item s.current item) n ≡ u → IsTold u (es ++ at ∷ [])
-added_step s u es at item zero before more left stage kind e =
-    subst (λ (u : MirrorSaid). IsTold u (es ++ at ∷ [])) e
-    (grown s (closed s (with_item s.current item)) es (item_kind item) at before (closed_more s.mirror.roots s.mirror.lists s.current item s.left (is_end s.stage) left more) kind refl)
-added_step s u es at item (suc n) before more left stage kind e =
-    let is : cond false (closed s (with_item s.current item)) (record s { current = with_item s.current item; left = suc n }) ≡ u
-    = subst (λ b. cond b (closed s (with_item s.current item)) (record s { current = with_item s.current item; left = suc n }) ≡ u) (not_zero n) e in
-    subst (λ (u : MirrorSaid). IsTold u (es ++ at ∷ [])) is
-    (grown s (record s { current = with_item s.current item; left = suc n }) es (item_kind item) at before (item_more s.mirror.roots s.mirror.lists n s.current item s.left (is_end s.stage) left more) kind
-    (subst (λ (at : MirrorStage). Behind at (record s { current = with_item s.current item; left = suc n })) (sym stage) (omega arith)))
-
-some_counts : (n : ℕ) → counts n ≡ true → 0 < n
-some_counts zero e = absurd cc
-some_counts (suc n) e = omega arith
-
-module _ (s u : MirrorSaid) (es : List PlacedTlv) (at : PlacedTlv) (before : IsTold s es) (more : is_end s.stage ≡ false) where
-  root_step : at.element.kind ≡ 2 → may_stand (kinds_next s.stage) 2 ≡ true → root_at s at ≡ Ok u → IsTold u (es ++ at ∷ [])
-  unfolding root_at
-  root_step kind may e =
-      let one = bind_ok (or_named (root_said s.least_root at)) _ u e in
-      let b = root_place s.stage s may before.behind in
-      subst (λ (u : MirrorSaid). IsTold u (es ++ at ∷ [])) (state_is (with_root s one.0) u one.2)
-      (grown s (with_root s one.0) es 2 at before (roots_more s.mirror.roots one.0 s.mirror.lists s.left s.current (is_end s.stage) b.0.0 b.0.1 more) kind
-      (subst (λ (at : MirrorStage). Behind at (with_root s one.0)) (sym b.1) b.0))
-
-  list_step : at.element.kind ≡ 9 → may_stand (kinds_next s.stage) 9 ≡ true → list_at s at ≡ Ok u → IsTold u (es ++ at ∷ [])
-  unfolding list_at
-  list_step kind may e =
-      let said = bind_ok (or_named (list_said s.least_list s.least_core at)) _ u e in
-      let t = test_ok (counts said.0.2) (opened s said.0.0 said.0.1 said.0.2) (faults.Count said.0.0) u said.2 in
-      opened_step s u es at said.0.0 said.0.1 said.0.2 before more (list_place s.stage s may before.behind) kind (some_counts said.0.2 t.0) t.1
-
-  item_step : (at.element.kind ≡ 3) ⊎ (at.element.kind ≡ 7) → may_stand (kinds_next s.stage) at.element.kind ≡ true → item_at s at ≡ Ok u → IsTold u (es ++ at ∷ [])
-  unfolding item_at
-  item_step kind may e =
-      let item = bind_ok (item_in at) _ u e in
-      let stage = any_kind (AmongItems s.stage) (kinds_next s.stage) at.element.kind may (among_items s.stage) kind in
-      let some : 0 < s.left = subst (λ (at : MirrorStage). Behind at s) stage before.behind in
-      let same = item_match at item.0 item.1 kind in
-      added_step s u es at item.0 (s.left - 1) before more (omega (arith, some)) stage (sym same.kind ∙ item_same item.0 item.0.name refl) (state_is (added s (with_item s.current item.0) (s.left - 1)) u item.2)
-
-  end_step : at.element.kind ≡ 6 → may_stand (kinds_next s.stage) 6 ≡ true → end_at s at ≡ Ok u → IsTold u (es ++ at ∷ [])
-  unfolding end_at
-  end_step kind may e =
-      let t = test_ok (eqb (length at.element.body) 0) (record s { stage = stages.End }) _ u e in
-      let b = end_place s.stage s may before.behind in
-      subst (λ (u : MirrorSaid). IsTold u (es ++ at ∷ [])) t.1
-      (grown s (record s { stage = stages.End }) es 6 at before (end_more s.mirror.roots s.mirror.lists s.left s.current (is_end s.stage) b more) kind b)
-
-no_start : (stage : MirrorStage) (s : MirrorSaid) → may_stand (kinds_next stage) 1 ≡ true → Behind stage s → ⊥
-no_start stages.Start s may b = b
-no_start stages.Roots s may b = absurd cc
-no_start stages.Items s may b = absurd cc
-no_start stages.Lists s may b = absurd cc
-no_start stages.End s may b = absurd cc
-
-choose : (P : Type 0) (test : Bool) (one other : Result MirrorSaid JournalFault) (u : MirrorSaid) → cond test one other ≡ Ok u → (test ≡ true → one ≡ Ok u → P) → (test ≡ false → other ≡ Ok u → P) → P
-choose P true one other u e first rest = first refl e
-choose P false one other u e first rest = rest refl e
-
-read_step : (s u : MirrorSaid) (es : List PlacedTlv) (at : PlacedTlv) → IsTold s es → is_end s.stage ≡ false → may_stand (kinds_next s.stage) at.element.kind ≡ true → element_read s at ≡ Ok u → IsTold u (es ++ at ∷ [])
-unfolding element_read
-read_step s u es at before more may e =
-    let at_kind = λ (kind : ℕ) (is : eqb at.element.kind kind ≡ true). subst (λ (k : ℕ). may_stand (kinds_next s.stage) k ≡ true) (eqb-true at.element.kind kind is) may in
-    choose (IsTold u (es ++ at ∷ [])) (eqb at.element.kind 1) _ _ u e (λ k e. absurd (no_start s.stage s (at_kind 1 k) before.behind)) (λ k1 e.
-    choose (IsTold u (es ++ at ∷ [])) (eqb at.element.kind 2) _ _ u e (λ k e. root_step s u es at before more (eqb-true at.element.kind 2 k) (at_kind 2 k) e) (λ k2 e.
-    choose (IsTold u (es ++ at ∷ [])) (eqb at.element.kind 9) _ _ u e (λ k e. list_step s u es at before more (eqb-true at.element.kind 9 k) (at_kind 9 k) e) (λ k9 e.
-    choose (IsTold u (es ++ at ∷ [])) (eqb at.element.kind 3 || eqb at.element.kind 7) _ _ u e (λ k e. item_step s u es at before more (either_kind at.element.kind k) may e) (λ k3 e.
-    let six = any_kind LastKind (kinds_next s.stage) at.element.kind may (last_of s.stage) k1 k2 k9 k3 in
-    end_step s u es at before more six (subst (λ (k : ℕ). may_stand (kinds_next s.stage) k ≡ true) six may) e))))
-
-leads_told : (s t : MirrorSaid) (before es : List PlacedTlv) → IsTold s before → Leads mirror_order s es t → IsTold t (before ++ es)
-leads_told s t before [] told leads = subst (λ (u : MirrorSaid). IsTold u (before ++ [])) leads (subst (IsTold s) (sym (append-nil before)) told)
-leads_told s t before (at ∷ es) told leads =
-    subst (IsTold t) (append_assoc before (at ∷ []) es)
-    (leads_told leads.2.0 t (before ++ at ∷ []) es (read_step s leads.2.0 before at told leads.0 leads.1 leads.2.1) leads.2.2)
-
-ended : (stage : MirrorStage) → is_end stage ≡ true → stage ≡ stages.End
-ended stages.Start e = absurd cc
-ended stages.Roots e = absurd cc
-ended stages.Items e = absurd cc
-ended stages.Lists e = absurd cc
-ended stages.End e = refl
-
-said_all : (said : MirrorSaid) (at : PlacedTlv) (es : List PlacedTlv) → is_end said.stage ≡ true → IsTold said es → at.element.kind ≡ 1 → kinds (at ∷ es) ≡ mirror_kinds said.mirror
-said_all said at es ends all kind =
-    let none : said.left ≡ 0 = subst (λ (at : MirrorStage). Behind at said) (ended said.stage ends) all.behind in
-    let rest : told said ≡ told_of said.mirror.roots said.mirror.lists 0 said.current true = rw (none, ends) refl in
-    rw kind (ap (λ (ks : List ℕ). 1 ∷ ks) (all.same ∙ rest))
-
-first_read : (s u : MirrorSaid) (at : PlacedTlv) → at.element.kind ≡ 1 → element_read s at ≡ Ok u → start_at s at ≡ Ok u
-unfolding element_read
-first_read s u at kind e = choose (start_at s at ≡ Ok u) (eqb at.element.kind 1) _ _ u e (λ k e. e) (λ k e. absurd (let yes : eqb at.element.kind 1 ≡ true = rw kind refl in cc))
-
-start_told : (s u : MirrorSaid) (at : PlacedTlv) → s ≡ nothing_yet → start_at s at ≡ Ok u → IsTold u []
+start_step : (values : Bounded) (s u : MirrorSaid) (es : List PlacedTlv) (at : PlacedTlv) → Told stages.Start s es → at.element.kind ≡ 1 → start_at s at ≡ Ok u → Holds u (es ++ at ∷ [])
 unfolding start_at
-start_told s u at fresh e =
+start_step values s u es at told kind e =
     let time = bind_ok (or_named (time_at at)) _ u e in
-    subst (λ (u : MirrorSaid). IsTold u []) (ap (λ (s : MirrorSaid). started s time.0) (sym fresh) ∙ state_is (started s time.0) u time.2) (record { same = refl; behind = (refl, refl) })
+    subst (λ (u : MirrorSaid). Holds u (es ++ at ∷ [])) (ap (λ (s : MirrorSaid). started s time.0) (sym told.1) ∙ ok_is {F = JournalFault} (started s time.0) u time.2) (
+      rw told.0 (ap (λ (k : ℕ). k ∷ []) kind),
+      record {
+        start = values.early at time.0 (or_named_ok (time_at at) time.0 time.1);
+        roots = tt;
+        roots_rise = record { rise = tt; behind = omega arith };
+        lists = tt;
+        lists_rise = record { rise = tt; behind = omega arith };
+        cores = omega arith;
+      },
+      refl,
+    )
 
-whole_told : (es : List PlacedTlv) (said : MirrorSaid) → Leads mirror_order nothing_yet es said → is_end said.stage ≡ true → kinds es ≡ mirror_kinds said.mirror
-whole_told [] said leads ends = absurd (let no : false ≡ true = subst (λ (u : MirrorSaid). is_end u.stage ≡ true) (sym leads) ends in cc)
-whole_told (at ∷ es) said leads ends =
-    let kind : at.element.kind ≡ 1 = any_kind (λ k. k ≡ 1) (1 ∷ []) at.element.kind leads.1 (refl, tt) in
-    let begun = start_told nothing_yet leads.2.0 at refl (first_read nothing_yet leads.2.0 at kind leads.2.1) in
-    said_all said at es ends (leads_told leads.2.0 said [] es begun leads.2.2) kind
+root_step : (values : Bounded) (s u : MirrorSaid) (es : List PlacedTlv) (at : PlacedTlv) → s.stage ≡ stages.Roots → Told stages.Roots s es → at.element.kind ≡ 2 → root_at s at ≡ Ok u → Holds u (es ++ at ∷ [])
+unfolding root_at
+root_step values s u es at stage told kind e =
+    let one = bind_ok (or_named (root_said s.least_root at)) _ u e in
+    let is = root_ok values s.least_root at one.0 (or_named_ok (root_said s.least_root at) one.0 one.1) in
+    let sound = told.1 in
+    subst (λ (u : MirrorSaid). Holds u (es ++ at ∷ [])) (ok_is {F = JournalFault} (with_root s one.0) u one.2)
+    (subst (λ (at_stage : MirrorStage). Told at_stage (with_root s one.0) (es ++ at ∷ [])) (sym stage) (
+      kinds_more es at 2 (front s.mirror []) told.0 kind ∙ roots_more s.mirror one.0 told.2,
+      record {
+        start = sound.start;
+        roots = all_more IsRoot s.mirror.roots one.0 sound.roots is.1;
+        roots_rise = rises_more second_of_root s.mirror.start s.mirror.roots s.least_root one.0 sound.roots_rise is.0;
+        lists = sound.lists;
+        lists_rise = sound.lists_rise;
+        cores = sound.cores;
+      },
+      told.2,
+    ))
 
-pub in_order : (bytes : List ℕ) (mirror : MirrorState) → IsMirrorFile bytes mirror → IsInOrder bytes mirror
-in_order bytes mirror file = record {
-  rest = file.rest;
-  begins = file.begins;
-  es = file.whole.es;
-  whole = file.whole.split;
-  kinds = whole_told file.whole.es file.said file.whole.leads file.whole.ends ∙ ap mirror_kinds (sym file.has);
+list_step : (values : Bounded) (s u : MirrorSaid) (es : List PlacedTlv) (at : PlacedTlv) → kinds_of es ≡ front s.mirror [] → Sound s → at.element.kind ≡ 9 → list_at s at ≡ Ok u → Holds u (es ++ at ∷ [])
+unfolding list_at
+list_step values s u es at told sound kind e =
+    let said = bind_ok (or_named (list_said s.least_list s.least_core at)) _ u e in
+    let is = list_ok values s.least_list s.least_core at said.0 sound.cores (or_named_ok (list_said s.least_list s.least_core at) said.0 said.1) in
+    let t = test_ok (counts said.0.2) (opened s said.0.0 said.0.1 said.0.2) (faults.Count said.0.0) u said.2 in
+    let b = both_true (leb 1 said.0.2) (leb said.0.2 65536) t.0 in
+    let some = leb-true 1 said.0.2 b.0 in
+    let few = leb-true said.0.2 65536 b.1 in
+    subst (λ (u : MirrorSaid). Holds u (es ++ at ∷ [])) t.1 (
+      kinds_more es at 9 (front s.mirror []) told kind ∙ front_more s.mirror [] (9 ∷ []),
+      sound,
+      record { least = is.rises; early = is.early; core = is.core; some = omega (arith, some); few = omega (arith, few); items = tt },
+    )
+
+closed_sound : (s : MirrorSaid) (one : SealedList) → Sound s → IsList one → rank_at s.least_list s.least_core ≤ rank one → Sound (closed s one)
+closed_sound s one sound is le = record {
+  start = sound.start;
+  roots = sound.roots;
+  roots_rise = sound.roots_rise;
+  lists = all_more IsList s.mirror.lists one sound.lists is;
+  lists_rise = subst (λ n. Rises rank (rank_at s.mirror.start 0) (s.mirror.lists ++ one ∷ []) n) next (rises_more rank (rank_at s.mirror.start 0) s.mirror.lists (rank_at s.least_list s.least_core) one sound.lists_rise le);
+  cores = (let c = is.core in omega (arith, c));
 }
+  where
+    next : rank one + 1 ≡ rank_at one.second (one.core + 1)
+    next = omega arith
+
+item_told : (s u : MirrorSaid) (es : List PlacedTlv) (item : Item) (none : Bool) → eqb (s.left - 1) 0 ≡ none → s.stage ≡ stages.Items → Sound s → IsOpen s → IsItem item
+    → kinds_of es ≡ front s.mirror (9 ∷ map item_kind (with_item s.current item).items)
+    → cond none (closed s (with_item s.current item)) (record s { current = with_item s.current item; left = s.left - 1 }) ≡ u → Holds u es
+item_told s u es item true none stage sound waits is kinds e =
+    let few = waits.few in
+    let some = waits.some in
+    subst (λ (u : MirrorSaid). Holds u es) e (
+      kinds ∙ list_closed s.mirror (with_item s.current item),
+      closed_sound s (with_item s.current item) sound (record {
+        early = waits.early;
+        core = waits.core;
+        some = omega (arith, length-append s.current.items (item ∷ []));
+        few = omega (arith, few, some, length-append s.current.items (item ∷ []));
+        items = all_more IsItem s.current.items item waits.items is;
+      }) waits.least,
+    )
+item_told s u es item false left stage sound waits is kinds e =
+    let few = waits.few in
+    let some : 0 < s.left - 1 = positive (s.left - 1) left in
+    subst (λ (u : MirrorSaid). Holds u es) e
+    (subst (λ (at_stage : MirrorStage). Told at_stage (record s { current = with_item s.current item; left = s.left - 1 }) es) (sym stage) (
+      kinds,
+      sound,
+      record {
+        least = waits.least;
+        early = waits.early;
+        core = waits.core;
+        some = some;
+        few = omega (arith, few, some, length-append s.current.items (item ∷ []));
+        items = all_more IsItem s.current.items item waits.items is;
+      },
+    ))
+  where
+    positive : (n : ℕ) → eqb n 0 ≡ false → 0 < n
+    positive zero e = absurd cc
+    positive (suc n) e = omega arith
+
+item_step : (s u : MirrorSaid) (es : List PlacedTlv) (at : PlacedTlv) → s.stage ≡ stages.Items → Told stages.Items s es → (at.element.kind ≡ 3) ⊎ (at.element.kind ≡ 7) → item_at s at ≡ Ok u → Holds u (es ++ at ∷ [])
+unfolding item_at
+item_step s u es at stage told kind e =
+    let item = bind_ok (item_in at) _ u e in
+    let same = item_match at item.0 item.1 kind in
+    item_told s u (es ++ at ∷ []) item.0 (eqb (s.left - 1) 0) refl stage told.1 told.2 (item_ok at item.0 item.1)
+    (kinds_more es at (item_kind item.0) (front s.mirror (9 ∷ map item_kind s.current.items)) told.0 (sym same.kind ∙ item_same item.0 item.0.name refl) ∙ item_more s.mirror s.current.items item.0)
+    (ok_is {F = JournalFault} (added s (with_item s.current item.0) (s.left - 1)) u item.2)
+
+end_step : (s u : MirrorSaid) (es : List PlacedTlv) (at : PlacedTlv) → kinds_of es ≡ front s.mirror [] → Sound s → at.element.kind ≡ 6 → end_at s at ≡ Ok u → Holds u (es ++ at ∷ [])
+unfolding end_at
+end_step s u es at told sound kind e =
+    let t = test_ok (eqb (length at.element.body) 0) (record s { stage = stages.End }) (faults.Ends at.place) u e in
+    subst (λ (u : MirrorSaid). Holds u (es ++ at ∷ [])) t.1 (kinds_more es at 6 (front s.mirror []) told kind ∙ front_more s.mirror [] (6 ∷ []), sound)
+
+-- ---- which element stands where
+
+-- an element of a kind is read as that kind is
+abbrev read_as : MirrorSaid → PlacedTlv → ℕ → Result MirrorSaid JournalFault
+read_as s at kind = cond (eqb kind 1) (start_at s at) (cond (eqb kind 2) (root_at s at) (cond (eqb kind 9) (list_at s at) (cond (eqb kind 3 || eqb kind 7) (item_at s at) (end_at s at))))
+
+by_kind : (s u : MirrorSaid) (at : PlacedTlv) (kind : ℕ) → at.element.kind ≡ kind → element_read s at ≡ Ok u → read_as s at kind ≡ Ok u
+unfolding element_read
+by_kind s u at kind is e = subst (λ (k : ℕ). read_as s at k ≡ Ok u) is e
+
+read_step : (values : Bounded) (stage : MirrorStage) (s u : MirrorSaid) (es : List PlacedTlv) (at : PlacedTlv) → s.stage ≡ stage → Told stage s es → may_stand (kinds_next stage) at.element.kind ≡ true → element_read s at ≡ Ok u → Holds u (es ++ at ∷ [])
+read_step values stages.Start s u es at is told may e =
+    any_kind (λ k. at.element.kind ≡ k → Holds u (es ++ at ∷ [])) (1 ∷ []) at.element.kind may ((λ kind. start_step values s u es at told kind (by_kind s u at 1 kind e)), tt) refl
+read_step values stages.Roots s u es at is told may e =
+    any_kind (λ k. at.element.kind ≡ k → Holds u (es ++ at ∷ [])) (2 ∷ 9 ∷ 6 ∷ []) at.element.kind may (
+      (λ kind. root_step values s u es at is told kind (by_kind s u at 2 kind e)),
+      ((λ kind. list_step values s u es at told.0 told.1 kind (by_kind s u at 9 kind e)), ((λ kind. end_step s u es at told.0 told.1 kind (by_kind s u at 6 kind e)), tt)),
+    ) refl
+read_step values stages.Items s u es at is told may e =
+    any_kind (λ k. at.element.kind ≡ k → Holds u (es ++ at ∷ [])) (3 ∷ 7 ∷ []) at.element.kind may (
+      (λ kind. item_step s u es at is told (inl kind) (by_kind s u at 3 kind e)),
+      ((λ kind. item_step s u es at is told (inr kind) (by_kind s u at 7 kind e)), tt),
+    ) refl
+read_step values stages.Lists s u es at is told may e =
+    any_kind (λ k. at.element.kind ≡ k → Holds u (es ++ at ∷ [])) (9 ∷ 6 ∷ []) at.element.kind may (
+      (λ kind. list_step values s u es at told.0 told.1 kind (by_kind s u at 9 kind e)),
+      ((λ kind. end_step s u es at told.0 told.1 kind (by_kind s u at 6 kind e)), tt),
+    ) refl
+read_step values stages.End s u es at is told may e = absurd cc
+
+whole_told : (stage : MirrorStage) (said : MirrorSaid) (es : List PlacedTlv) → is_end stage ≡ true → Told stage said es → (kinds_of es ≡ mirror_kinds said.mirror) × Sound said
+whole_told stages.Start said es ends told = absurd cc
+whole_told stages.Roots said es ends told = absurd cc
+whole_told stages.Items said es ends told = absurd cc
+whole_told stages.Lists said es ends told = absurd cc
+whole_told stages.End said es ends told = told
+
+module _ (values : Bounded) (bytes : List ℕ) (mirror : MirrorState) (file : IsMirrorFile bytes mirror) where
+  all : (kinds_of file.whole.es ≡ mirror_kinds file.said.mirror) × Sound file.said
+  unfolding mirror_format
+  all = whole_told file.said.stage file.said file.whole.es file.whole.ends
+      (leads_keep mirror_order Holds (λ s u es at told more may e. read_step values s.stage s u es at refl told may e) nothing_yet file.said [] file.whole.es (refl, refl) file.whole.leads)
+
+  pub is_mirror : IsMirror mirror
+  unfolding mirror_format
+  is_mirror =
+      let sound = all.1 in
+      subst IsMirror (sym file.has) (record {
+        start = sound.start;
+        roots = sound.roots;
+        roots_rise = sound.roots_rise.rise;
+        lists = sound.lists;
+        lists_rise = sound.lists_rise.rise;
+      })
+
+  pub in_order : IsInOrder bytes mirror
+  unfolding mirror_format
+  in_order = file_kinds mirror_format mirror_kinds bytes mirror file all.0

@@ -1,7 +1,7 @@
 -- Which bytes are which mirror, and the first fault of bytes that are none.
-use Rattle.std.specs.Prelude.{◌≡◌, ℕ, ◌+◌, ◌⊎◌, List, ◌++◌, length, codes}
-use Rattle.ksi_tlv.specs.Walking.{elements}
-use Rattle.ksi_order.specs.Sequence.{IsWhole, IsFirstFault, IsWanting}
+use Rattle.std.specs.Prelude.{ℕ, List, codes}
+use Rattle.ksi_format.specs.Format as files
+use Rattle.ksi_format.specs.Format.{Format, IsFile, IsFileFault}
 use Rattle.ksi_journal.specs.declared.fault.JournalFault.{JournalFault}
 use Rattle.ksi_journal.specs.declared.fault.JournalFault.TheVariants as faults
 use Rattle.ksi_mirror.specs.Mirrors.{MirrorState}
@@ -11,33 +11,20 @@ use Rattle.ksi_mirror.specs.Elements.{MirrorSaid, WantsFor, mirror_order, nothin
 abbrev pub magic : List ℕ
 magic = codes "KSIMIRR1"
 
--- behind the magic stand whole elements in their order, which say that the mirror has this
-pub record IsMirrorFile (bytes : List ℕ) (mirror : MirrorState) : Type 0 where
-  pub rest : List ℕ
-  pub begins : bytes ≡ magic ++ rest
-  pub said : MirrorSaid
-  pub whole : IsWhole mirror_order (elements 8 rest) nothing_yet said
-  pub has : mirror ≡ said.mirror
+-- behind the magic stand whole elements in their order, which say what the mirror has
+unfoldable pub mirror_format : Format MirrorSaid JournalFault MirrorState
+mirror_format = record { magic = magic; other = faults.Magic; order = mirror_order; start = nothing_yet; value = λ s. s.mirror }
+
+abbrev pub IsMirrorFile : List ℕ → MirrorState → Type 0
+IsMirrorFile = IsFile mirror_format
+
+abbrev pub IsMirrorFault : List ℕ → JournalFault → Type 0
+IsMirrorFault = IsFileFault mirror_format
 
 -- the bytes begin with another magic
 abbrev pub IsOther : List ℕ → Type 0
-IsOther bytes = (rest : List ℕ) → bytes ≡ magic ++ rest → ⊥
-
-pub record IsOtherFile (bytes : List ℕ) (fault : JournalFault) : Type 0 where
-  pub begins : IsOther bytes
-  pub named : fault ≡ faults.Magic
-
--- the first fault of the elements behind the magic
-pub record IsFaultInside (bytes : List ℕ) (fault : JournalFault) : Type 0 where
-  pub rest : List ℕ
-  pub begins : bytes ≡ magic ++ rest
-  pub first : IsFirstFault mirror_order (8 + length rest) (elements 8 rest) nothing_yet fault
-
-abbrev pub IsMirrorFault : List ℕ → JournalFault → Type 0
-IsMirrorFault bytes fault = IsOtherFile bytes fault ⊎ IsFaultInside bytes fault
+IsOther = files.IsOther mirror_format
 
 -- memory was wanting for an element behind the start, up to which there is no fault
-pub record IsWantingInside (bytes : List ℕ) : Type 0 where
-  pub rest : List ℕ
-  pub begins : bytes ≡ magic ++ rest
-  pub inside : IsWanting mirror_order WantsFor (elements 8 rest) nothing_yet
+abbrev pub IsWantingInside : List ℕ → Type 0
+IsWantingInside = files.IsWantingInside mirror_format WantsFor

@@ -1,5 +1,3 @@
-pub use Rattle.ksi_order.specs.Order
-pub use Rattle.ksi_order.specs.Sequence
 pub mod Maps
 pub mod Mirrors
 pub mod Merging

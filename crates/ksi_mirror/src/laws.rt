@@ -14,8 +14,9 @@ ghost use Rattle.ksi_mirror.specs.Written.{mirror_text};
 
 use crate::loading::MirrorLoading;
 use crate::mirror::Mirror;
+use ksi_format::laws::{file_is_read, file_or_fault};
 use ksi_journal::JournalFault;
-use ksi_order::laws::{values_are_bounded, walked_says, whole_or_fault};
+use ksi_order::laws::values_are_bounded;
 use ksi_tlv::laws::{numeral_is_read, written_is_read};
 
 /// The union of two finite maps that agree: of one map with itself it is that map; it is the same in either order; and
@@ -107,7 +108,7 @@ pub fn mirror_or_fault()
     ensures one_fault { (bytes : List ℕ) (fault other : JournalFault) →
         IsMirrorFault bytes fault → IsMirrorFault bytes other → fault ≡ other }
 {
-    whole_or_fault::<MirrorLoading, JournalFault>();
+    file_or_fault::<MirrorLoading, JournalFault, Mirror>();
 }
 
 /// No fault of a mirror's file is about the tree of a second, J4, or about voters, J10.
@@ -121,7 +122,7 @@ pub fn mirror_is_read()
     ensures mirror { (bytes : List ℕ) (mirror : MirrorState) → (mirror_at bytes ≡ Ok mirror) ↔ IsMirrorFile bytes mirror }
     ensures fault { (bytes : List ℕ) (fault : JournalFault) → (mirror_at bytes ≡ Err fault) ↔ IsMirrorFault bytes fault }
 {
-    walked_says::<MirrorLoading, JournalFault>();
+    file_is_read::<MirrorLoading, JournalFault, Mirror>();
 }
 
 /// The text of a mirror is a file of that mirror.

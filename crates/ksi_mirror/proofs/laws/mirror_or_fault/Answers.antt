@@ -1,14 +1,14 @@
-use Rattle.ksi_mirror.proofs.Files.{one_of, not_both, one_mirror, one_fault}
+use Rattle.ksi_mirror.specs.File.{mirror_format}
 use Rattle.ksi_mirror.proofs.laws.mirror_or_fault.Goals as goal
 
 pub returns-clause-one : goal.returns-clause-one
-returns-clause-one c bytes = let l = c.whole_or_fault.ensures in one_of (record { one = l.one; not_both = l.not_both; one_state = l.one_state; one_fault = l.one_fault }) bytes
+returns-clause-one c = c.file_or_fault.ensures.one mirror_format
 
 pub returns-clause-not_both : goal.returns-clause-not_both
-returns-clause-not_both c bytes mirror fault = let l = c.whole_or_fault.ensures in not_both (record { one = l.one; not_both = l.not_both; one_state = l.one_state; one_fault = l.one_fault }) bytes mirror fault
+returns-clause-not_both c = c.file_or_fault.ensures.not_both mirror_format
 
 pub returns-clause-one_mirror : goal.returns-clause-one_mirror
-returns-clause-one_mirror c bytes some other = let l = c.whole_or_fault.ensures in one_mirror (record { one = l.one; not_both = l.not_both; one_state = l.one_state; one_fault = l.one_fault }) bytes some other
+returns-clause-one_mirror c = c.file_or_fault.ensures.one_value mirror_format
 
 pub returns-clause-one_fault : goal.returns-clause-one_fault
-returns-clause-one_fault c bytes fault other = let l = c.whole_or_fault.ensures in one_fault (record { one = l.one; not_both = l.not_both; one_state = l.one_state; one_fault = l.one_fault }) bytes fault other
+returns-clause-one_fault c = c.file_or_fault.ensures.one_fault mirror_format
