@@ -21,7 +21,7 @@ use Rattle.ksi_world.specs.declared.outcome.Asked as requests
 use Rattle.ksi_world.specs.Histories.{world_of}
 use Rattle.ksi_world.specs.Records.{issued_of}
 use Rattle.ksi_top.specs.declared.report.Report.{Report}
-use Rattle.ksi_top.specs.Loading.{content, loaded, loaded_publications, loaded_signature, within, signature_limit, file_limit}
+use Rattle.ksi_top.specs.Loading.{content, loaded, loaded_as, within, signature_limit, file_limit}
 use Rattle.ksi_top.specs.Verify.{judged, verify_command}
 use Rattle.ksi_schedule.specs.Events.{History}
 use Rattle.ksi_schedule.specs.Spelled.{IsScheduleText}
@@ -53,7 +53,7 @@ module _ (signature_read : (bytes : List ℕ) (signature : Signature) → AreByt
   verified : (signature hash publications : List ℕ) (held : Held) (read : Signature) (pairs : List (ℕ × List ℕ)) → AreBytes (content held signature) → IsSignature (content held signature) read
       → IsPublications (content held publications) pairs → length (content held publications) ≤ file_limit
       → reported signature hash publications held ≡ judged (verdict imprint_of read hash pairs)
-  unfolding loaded_signature loaded_publications loaded
+  unfolding loaded_as loaded
   verified signature hash publications held read pairs bytes is are few =
       rw (
         within_limit signature_limit 1 (content held signature) (signature_short (content held signature) read is),

@@ -1,9 +1,9 @@
 -- What a migration's report means.
-use Rattle.std.proofs.Common.{◌≡◌, ℕ, ◌+◌, ◌≤◌, Bool, true, false, List, [], length, Option, Some, Result, Ok, Err, arith, refl, sym, ap, ◌∙◌}
-use Rattle.std.specs.Prelude.{IfOk, ◌↔◌, nat_lt, unwrap_or}
+use Rattle.std.proofs.Common.{◌≡◌, ℕ, ◌+◌, ◌≤◌, List, [], length, Option, Some, Result, Ok, Err, arith, refl, sym, ap, ◌∙◌}
+use Rattle.std.specs.Prelude.{IfOk, ◌↔◌, unwrap_or}
 use Rattle.std.specs.Str.{bytes_eq}
 use Rattle.std.specs.declared.alloc.AllocError.{AllocError}
-use Rattle.std.proofs.lemmas.Bool.{le-ltb, ltb-false, cond-true}
+use Rattle.std.proofs.lemmas.Bool.{cond-true}
 use Rattle.std.proofs.lemmas.Slice.Eq.{bytes_eq-Decides}
 use Rattle.ksi_imprint.specs.Imprints.{imprint_of}
 use Rattle.ksi_tlv.specs.Spelling.{AreBytes}
@@ -20,9 +20,8 @@ use Rattle.ksi_journal.specs.Written.{text_in}
 use Rattle.ksi_journal.specs.declared.version.Version.{Version}
 use Rattle.ksi_journal.specs.declared.version.Version.TheVariants.{Two}
 use Rattle.ksi_top.specs.declared.report.Report.{Report}
-use Rattle.ksi_top.specs.declared.status.Status.TheVariants.{TooLong}
-use Rattle.ksi_top.specs.Reports.{Ran, and_then, behind, ends, report}
-use Rattle.ksi_top.specs.Loading.{content, file_limit, front_or_malformed, journal_or_malformed, loaded, loaded_front, loaded_journal, loaded_publications, loaded_signature, publications_or_malformed, signature_limit, signature_or_malformed, too_long_line, within}
+use Rattle.ksi_top.specs.Reports.{Ran, and_then, behind, ends}
+use Rattle.ksi_top.specs.Loading.{content, file_limit, front_file, journal_file, loaded, loaded_as, loaded_journal, loaded_signature, publications_file, read_as, signature_file, signature_limit, within}
 use Rattle.ksi_top.specs.Sign.{signature_of, signed}
 use Rattle.ksi_top.specs.Publish.{published}
 use Rattle.ksi_top.specs.Extend.{extend_over, extended_report}
@@ -30,6 +29,7 @@ use Rattle.ksi_top.specs.Audit.{audit_beside, audit_over, audited}
 use Rattle.ksi_top.specs.Front.{fronted}
 use Rattle.ksi_top.specs.Compare.{compare_beside, compare_over, compared_as}
 use Rattle.ksi_top.specs.Migrate.{GivesTheSame, IsMigrated, migrated}
+use Rattle.ksi_top.proofs.Loads.{few_read, loads_as, loads_the_same}
 
 -- what is held under a name once it is saved there
 saved_here : (held : Held) (name bytes : List ℕ) → content (with_file held name bytes) name ≡ bytes
@@ -44,35 +44,25 @@ behind_same {T = T} (Err report) other next then same steps = ap (λ (it : Resul
 
 over_extended : (journal : Contents) (before after : Held) (signature : List ℕ) (second : ℕ) (out : List ℕ) → content after signature ≡ content before signature
     → (extend_over journal signature second out).ran after ≡ (extend_over journal signature second out).ran before
-unfolding loaded_signature loaded
+unfolding loaded_as loaded
 over_extended journal before after signature second out same =
-    ap (λ (bytes : List ℕ). behind (and_then (within signature_limit 2 bytes) (signature_or_malformed 2)) (λ (s : Signature). ends (extended_report (first_time s) second out (extended imprint_of journal bytes second)))) same
+    ap (λ (bytes : List ℕ). behind (and_then (within signature_limit 2 bytes) (read_as signature_file 2)) (λ (s : Signature). ends (extended_report (first_time s) second out (extended imprint_of journal bytes second)))) same
 
 over_audited : (journal : Contents) (read : Signature) (before after : Held) (hash publications : List ℕ) → content after publications ≡ content before publications
     → (audit_over journal read hash publications).ran after ≡ (audit_over journal read hash publications).ran before
-unfolding loaded_publications loaded
 over_audited journal read before after hash publications same =
-    ap (λ (bytes : List ℕ). behind (and_then (within file_limit 4 bytes) (publications_or_malformed 4)) (λ (p : List (ℕ × List ℕ)). ends (audited (audits.audit imprint_of journal read hash p)))) same
-
-signature_same : (before after : Held) (signature : List ℕ) → content after signature ≡ content before signature → loaded_signature 2 after signature ≡ loaded_signature 2 before signature
-unfolding loaded_signature loaded
-signature_same before after signature same = ap (λ (bytes : List ℕ). and_then (within signature_limit 2 bytes) (signature_or_malformed 2)) same
+    ap (λ (p : Result (List (ℕ × List ℕ)) Report). behind p (λ (p : List (ℕ × List ℕ)). ends (audited (audits.audit imprint_of journal read hash p)))) (loads_the_same publications_file file_limit 4 before after publications same)
 
 beside_audited : (journal : Contents) (before after : Held) (signature hash publications : List ℕ) → content after signature ≡ content before signature → content after publications ≡ content before publications
     → (audit_beside journal signature hash publications).ran after ≡ (audit_beside journal signature hash publications).ran before
 beside_audited journal before after signature hash publications same others =
     behind_same (loaded_signature 2 after signature) (loaded_signature 2 before signature)
     (λ s. (audit_over journal s hash publications).ran after) (λ s. (audit_over journal s hash publications).ran before)
-    (signature_same before after signature same) (λ s. over_audited journal s before after hash publications others)
+    (loads_the_same signature_file signature_limit 2 before after signature same) (λ s. over_audited journal s before after hash publications others)
 
 over_compared : (old new : Contents) (before after : Held) (proof : List ℕ) → content after proof ≡ content before proof → (compare_over old new proof).ran after ≡ (compare_over old new proof).ran before
-unfolding loaded_front loaded
 over_compared old new before after proof same =
-    ap (λ (bytes : List ℕ). behind (and_then (within file_limit 3 bytes) (front_or_malformed 3)) (λ (f : fronts.Contents). ends (compared_as old new f))) same
-
-journal_same : (n : ℕ) (before after : Held) (name : List ℕ) → content after name ≡ content before name → loaded_journal n after name ≡ loaded_journal n before name
-unfolding loaded_journal loaded
-journal_same n before after name same = ap (λ (bytes : List ℕ). and_then (within file_limit n bytes) (journal_or_malformed n)) same
+    ap (λ (f : Result fronts.Contents Report). behind f (λ (f : fronts.Contents). ends (compared_as old new f))) (loads_the_same front_file file_limit 3 before after proof same)
 
 beside_compared : (old : Contents) (before after : Held) (one other proof : List ℕ) → loaded_journal 2 after other ≡ loaded_journal 2 before one → content after proof ≡ content before proof
     → (compare_beside old other proof).ran after ≡ (compare_beside old one proof).ran before
@@ -93,10 +83,10 @@ gives_the_same before after old new is beside = record {
   fronts = λ p1 p2 out. ap (λ (it : Result Contents Report). behind it (λ (j : Contents). ends (fronted out p1 p2 j))) is;
   compares = λ other proof same others.
       behind_same (loaded_journal 1 after new) (loaded_journal 1 before old) (λ j. (compare_beside j other proof).ran after) (λ j. (compare_beside j other proof).ran before)
-      is (λ j. beside_compared j before after other other proof (journal_same 2 before after other same) others);
+      is (λ j. beside_compared j before after other other proof (loads_the_same journal_file file_limit 2 before after other same) others);
   compares_with = λ other proof same others.
       behind_same (loaded_journal 1 after other) (loaded_journal 1 before other) (λ j. (compare_beside j new proof).ran after) (λ j. (compare_beside j old proof).ran before)
-      (journal_same 1 before after other same) (λ j. beside_compared j before after old new proof beside others);
+      (loads_the_same journal_file file_limit 1 before after other same) (λ j. beside_compared j before after old new proof beside others);
   compares_itself = λ proof others.
       behind_same (loaded_journal 1 after new) (loaded_journal 1 before old) (λ j. (compare_beside j new proof).ran after) (λ j. (compare_beside j old proof).ran before)
       is (λ j. beside_compared j before after old new proof beside others);
@@ -107,18 +97,8 @@ gives_the_same before after old new is beside = record {
 module _ (journals_read : (bytes : List ℕ) (journal : Contents) → (journal_at imprint_of bytes ≡ Ok journal) ↔ IsJournalFile imprint_of bytes journal)
     (shortest : (bytes : List ℕ) (journal : Contents) (version : Version) → AreBytes bytes → IsJournalFile imprint_of bytes journal → length (text_in version journal) ≤ length bytes) where
   -- a journal file within the limit is read as its journal
-  read_as : (n : ℕ) (held : Held) (name bytes : List ℕ) (journal : Contents) → content held name ≡ bytes → length bytes ≤ file_limit → IsJournalFile imprint_of bytes journal → loaded_journal n held name ≡ Ok journal
-  unfolding loaded_journal loaded
-  read_as n held name bytes journal same few is = rw (same, le-ltb file_limit (length bytes) few, (journals_read bytes journal).1 is) refl
-
-  -- what is read is within the limit
-  few_read : (held : Held) (name : List ℕ) (journal : Contents) → loaded_journal 1 held name ≡ Ok journal → length (content held name) ≤ file_limit
-  unfolding loaded_journal loaded
-  few_read held name journal is = by (nat_lt file_limit (length (content held name))) refl
-    where
-      by : (long : Bool) → nat_lt file_limit (length (content held name)) ≡ long → length (content held name) ≤ file_limit
-      by true e = absurd (let no : Err (report TooLong (too_long_line 1)) ≡ Ok journal = rw e at is in cc no)
-      by false e = ltb-false _ _ e
+  reads : (n : ℕ) (held : Held) (name bytes : List ℕ) (journal : Contents) → content held name ≡ bytes → length bytes ≤ file_limit → IsJournalFile imprint_of bytes journal → loaded_journal n held name ≡ Ok journal
+  reads n held name bytes journal same few is = loads_as journal_file file_limit n held name journal (rw same few) ((journals_read (content held name) journal).1 (rw same is))
 
   pub migrate_means : (held : Held) (old new : List ℕ) (journal : Contents) (computed : Result Report AllocError) → loaded_journal 1 held old ≡ Ok journal → IsJournalFile imprint_of (content held old) journal → AreBytes (content held old)
       → IfOk computed (λ report. report ≡ migrated new journal) → IfOk computed (λ _. IsJournalFile imprint_of (text_in Two journal) journal) → IfOk computed (IsMigrated held old new)
@@ -129,10 +109,10 @@ module _ (journals_read : (bytes : List ℕ) (journal : Contents) → (journal_a
     again = again;
     short = shortest (content held old) journal Two bytes is;
     same =
-        let few = few_read held old journal loaded in
+        let few = few_read journal_file file_limit 1 held old journal loaded in
         let short = shortest (content held old) journal Two bytes is in
         let after = with_file held new (text_in Two journal) in
-        let read : (n : ℕ) → loaded_journal n after new ≡ Ok journal = λ n. read_as n after new (text_in Two journal) journal (saved_here held new (text_in Two journal)) (omega arith) again in
-        gives_the_same held after old new (read 1 ∙ sym loaded) (read 2 ∙ sym (read_as 2 held old (content held old) journal refl few is));
+        let read : (n : ℕ) → loaded_journal n after new ≡ Ok journal = λ n. reads n after new (text_in Two journal) journal (saved_here held new (text_in Two journal)) (omega arith) again in
+        gives_the_same held after old new (read 1 ∙ sym loaded) (read 2 ∙ sym (reads 2 held old (content held old) journal refl few is));
   }
   migrate_means held old new journal (Err none) loaded is bytes reported again = tt

@@ -1,7 +1,6 @@
 -- What the reports of merged mirrors, and of the journal of one, mean.
-use Rattle.std.proofs.Common.{◌≡◌, ℕ, ◌≤◌, Bool, true, false, List, length, Result, Ok, Err, refl, sym, ap, subst, ◌∙◌, arith}
-use Rattle.std.specs.Prelude.{◌↔◌, nat_lt}
-use Rattle.std.proofs.lemmas.Bool.{le-ltb, ltb-false}
+use Rattle.std.proofs.Common.{◌≡◌, ℕ, ◌≤◌, List, length, Result, Ok, Err, refl, sym, ap, subst, ◌∙◌, arith}
+use Rattle.std.specs.Prelude.{◌↔◌}
 use Rattle.ksi_ports.specs.Stored.{Held}
 use Rattle.ksi_journal.specs.Journal.{Contents}
 use Rattle.ksi_mirror.specs.declared.refusal.MergeRefusal.{MergeRefusal}
@@ -11,12 +10,12 @@ use Rattle.ksi_mirror.specs.Merged.{merged_of, merged_then, SameOrRefused}
 use Rattle.ksi_mirror.specs.Mirrors.{MirrorState, IsMirror}
 use Rattle.ksi_mirror.specs.Reading.{mirror_at}
 use Rattle.ksi_top.specs.declared.report.Report.{Report}
-use Rattle.ksi_top.specs.declared.status.Status.TheVariants.{TooLong}
-use Rattle.ksi_top.specs.Reports.{ends, report, reported_behind}
-use Rattle.ksi_top.specs.Loading.{content, file_limit, loaded, loaded_mirror, too_long_line}
+use Rattle.ksi_top.specs.Reports.{ends, reported_behind}
+use Rattle.ksi_top.specs.Loading.{content, file_limit, loaded_mirror, mirror_file}
 use Rattle.ksi_top.specs.Merge.{AreAlike, IsMerged, IsMergedOver, merge_over, merge_ran, merged, merged_report, merged_saved}
 use Rattle.ksi_top.specs.Whole.{whole_report}
 use Rattle.ksi_top.proofs.Ends.{IsEnd, saving_ends}
+use Rattle.ksi_top.proofs.Loads.{few_read, loads_as}
 
 -- ---- merging
 
@@ -38,20 +37,10 @@ alike out (Ok a) (Err b) same = absurd same
 alike out (Err a) (Ok b) same = absurd same
 alike out (Err a) (Err b) same = record { done = λ e. absurd (cc e); refused = λ e. refl }
 
--- what is read is within the limit
-pub few_read : (n : ℕ) (held : Held) (name : List ℕ) (mirror : MirrorState) → loaded_mirror n held name ≡ Ok mirror → length (content held name) ≤ file_limit
-unfolding loaded_mirror loaded
-few_read n held name mirror is = by (nat_lt file_limit (length (content held name))) refl
-  where
-    by : (long : Bool) → nat_lt file_limit (length (content held name)) ≡ long → length (content held name) ≤ file_limit
-    by true e = absurd (let no : Err (report TooLong (too_long_line n)) ≡ Ok mirror = rw e at is in cc no)
-    by false e = ltb-false _ _ e
-
 module _ (mirrors_read : (bytes : List ℕ) (mirror : MirrorState) → (mirror_at bytes ≡ Ok mirror) ↔ IsMirrorFile bytes mirror) where
   -- a mirror's file within the limit is read as its mirror
   read_as : (n : ℕ) (held : Held) (name : List ℕ) (mirror : MirrorState) → length (content held name) ≤ file_limit → IsMirrorFile (content held name) mirror → loaded_mirror n held name ≡ Ok mirror
-  unfolding loaded_mirror loaded
-  read_as n held name mirror few is = rw (le-ltb file_limit (length (content held name)) few, (mirrors_read (content held name) mirror).1 is) refl
+  read_as n held name mirror few is = loads_as mirror_file file_limit n held name mirror few ((mirrors_read (content held name) mirror).1 is)
 
   -- both are read, in this order
   ran_as : (held : Held) (one two out : List ℕ) (first second : MirrorState) → loaded_mirror 1 held one ≡ Ok first → loaded_mirror 2 held two ≡ Ok second → (merge_ran one two out held).reported ≡ merged out first second
@@ -62,7 +51,7 @@ module _ (mirrors_read : (bytes : List ℕ) (mirror : MirrorState) → (mirror_a
   pub merge_means : (joins : Joins) (held : Held) (one two out : List ℕ) (mirror : MirrorState) (report : Report) → IsMirror mirror → loaded_mirror 1 held one ≡ Ok mirror → IsMirrorFile (content held one) mirror
       → IsMergedOver held mirror two out report → IsMerged held one two out report
   merge_means joins held one two out mirror report is read file over =
-      let few = few_read 1 held one mirror read in
+      let few = few_read mirror_file file_limit 1 held one mirror read in
       let second = over.mirror in
       let by = over.by in
       let exchanged : (merge_ran two one out held).reported ≡ merged_report out (merged_of second mirror) = ran_as held two one out second mirror (read_as 1 held two second over.few over.mirror_is) (read_as 2 held one mirror few file) in

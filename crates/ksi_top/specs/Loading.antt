@@ -3,11 +3,7 @@ use Rattle.std.specs.Prelude.{ℕ, List, [], ◌∷◌, codes, length, unwrap_or
 use Rattle.std.specs.Fmt.{decimal}
 use Rattle.ksi_ports.specs.Stored.{Held}
 use Rattle.ksi_signature.specs.declared.signature.Signature.{Signature}
-use Rattle.ksi_signature.specs.declared.signature_view.SignatureView.{SignatureView}
 use Rattle.ksi_signature.specs.Reading.{signature_at}
-use Rattle.ksi_signature.specs.Seen.{seen}
-use Rattle.ksi_publications.specs.declared.publications_view.PublicationsView.{PublicationsView}
-use Rattle.ksi_publications.specs.Lent.{lent_pairs}
 use Rattle.ksi_publications.specs.Reading.{publications_at}
 use Rattle.ksi_imprint.specs.Imprints.{imprint_of}
 use Rattle.ksi_journal.specs.Journal.{Contents}
@@ -52,67 +48,77 @@ loaded limit n held name = within limit n (content held name)
 
 -- ---- what the bytes of file word n are, where they are in the file's grammar, or the first fault
 
+-- a kind of file: the words that its faults are told by, and what bytes are read as
+pub record FileKind (T : Type 0) : Type 1 where
+  pub Fault : Type 0
+  pub words : Fault → List (List ℕ)
+  pub read : List ℕ → Result T Fault
+
+abbrev pub file_of : {T F : Type 0} → (F → List (List ℕ)) → (List ℕ → Result T F) → FileKind T
+file_of {F = F} words read = record { Fault = F; words = words; read = read }
+
+abbrev pub signature_file : FileKind Signature
+signature_file = file_of signature_fault signature_at
+
+abbrev pub publications_file : FileKind (List (ℕ × List ℕ))
+publications_file = file_of publications_fault publications_at
+
+abbrev pub journal_file : FileKind Contents
+journal_file = file_of journal_fault (journal_at imprint_of)
+
+abbrev pub front_file : FileKind fronts.Contents
+front_file = file_of front_fault front_at
+
+abbrev pub schedule_file : FileKind History
+schedule_file = file_of schedule_fault schedule_at
+
+abbrev pub proof_file : FileKind LineProof
+proof_file = file_of proof_fault proof_at
+
+-- the faults of a mirror are those of a journal
+abbrev pub mirror_file : FileKind MirrorState
+mirror_file = file_of journal_fault mirror_at
+
+abbrev pub node_file : FileKind Inspected
+node_file = file_of node_fault inspected
+
 abbrev pub or_malformed : {T F : Type 0} → (F → List (List ℕ)) → ℕ → Result T F → Result T Report
 or_malformed words_of n (Ok value) = Ok value
 or_malformed words_of n (Err fault) = Err (report Malformed (malformed_line n (words_of fault)))
 
-abbrev pub signature_or_malformed : ℕ → List ℕ → Result Signature Report
-signature_or_malformed n bytes = or_malformed signature_fault n (signature_at bytes)
+abbrev pub read_as : {T : Type 0} → FileKind T → ℕ → List ℕ → Result T Report
+read_as file n bytes = or_malformed file.words n (file.read bytes)
 
--- what a lent signature shows, or the halt in its place
-abbrev pub seen_or_halt : Result SignatureView Halt → Result Signature Halt
-seen_or_halt (Ok view) = Ok (seen view)
-seen_or_halt (Err halt) = Err halt
-
--- what a lent publications file shows, or the halt in its place
-abbrev pub pairs_or_halt : Result PublicationsView Halt → Result (List (ℕ × List ℕ)) Halt
-pairs_or_halt (Ok view) = Ok (lent_pairs view)
-pairs_or_halt (Err halt) = Err halt
-
-abbrev pub publications_or_malformed : ℕ → List ℕ → Result (List (ℕ × List ℕ)) Report
-publications_or_malformed n bytes = or_malformed publications_fault n (publications_at bytes)
-
-abbrev pub journal_or_malformed : ℕ → List ℕ → Result Contents Report
-journal_or_malformed n bytes = or_malformed journal_fault n (journal_at imprint_of bytes)
-
-abbrev pub front_or_malformed : ℕ → List ℕ → Result fronts.Contents Report
-front_or_malformed n bytes = or_malformed front_fault n (front_at bytes)
-
-abbrev pub schedule_or_malformed : ℕ → List ℕ → Result History Report
-schedule_or_malformed n bytes = or_malformed schedule_fault n (schedule_at bytes)
-
-abbrev pub proof_or_malformed : ℕ → List ℕ → Result LineProof Report
-proof_or_malformed n bytes = or_malformed proof_fault n (proof_at bytes)
-
--- the faults of a mirror are those of a journal
-abbrev pub mirror_or_malformed : ℕ → List ℕ → Result MirrorState Report
-mirror_or_malformed n bytes = or_malformed journal_fault n (mirror_at bytes)
-
-abbrev pub node_or_malformed : ℕ → List ℕ → Result Inspected Report
-node_or_malformed n bytes = or_malformed node_fault n (inspected bytes)
+-- what a lent value shows, or the halt in its place
+abbrev pub shown_or_halt : {T U : Type 0} → (T → U) → Result T Halt → Result U Halt
+shown_or_halt shows (Ok view) = Ok (shows view)
+shown_or_halt shows (Err halt) = Err halt
 
 -- ---- what file word n is read as: the report of its fault stands in the place of what passes its limit, or is malformed
 
-unfoldable pub loaded_signature : ℕ → Held → List ℕ → Result Signature Report
-loaded_signature n held name = and_then (loaded signature_limit n held name) (signature_or_malformed n)
+unfoldable pub loaded_as : {T : Type 0} → FileKind T → ℕ → ℕ → Held → List ℕ → Result T Report
+loaded_as file limit n held name = and_then (loaded limit n held name) (read_as file n)
 
-unfoldable pub loaded_publications : ℕ → Held → List ℕ → Result (List (ℕ × List ℕ)) Report
-loaded_publications n held name = and_then (loaded file_limit n held name) (publications_or_malformed n)
+abbrev pub loaded_signature : ℕ → Held → List ℕ → Result Signature Report
+loaded_signature = loaded_as signature_file signature_limit
 
-unfoldable pub loaded_journal : ℕ → Held → List ℕ → Result Contents Report
-loaded_journal n held name = and_then (loaded file_limit n held name) (journal_or_malformed n)
+abbrev pub loaded_publications : ℕ → Held → List ℕ → Result (List (ℕ × List ℕ)) Report
+loaded_publications = loaded_as publications_file file_limit
 
-unfoldable pub loaded_front : ℕ → Held → List ℕ → Result fronts.Contents Report
-loaded_front n held name = and_then (loaded file_limit n held name) (front_or_malformed n)
+abbrev pub loaded_journal : ℕ → Held → List ℕ → Result Contents Report
+loaded_journal = loaded_as journal_file file_limit
 
-unfoldable pub loaded_schedule : ℕ → Held → List ℕ → Result History Report
-loaded_schedule n held name = and_then (loaded file_limit n held name) (schedule_or_malformed n)
+abbrev pub loaded_front : ℕ → Held → List ℕ → Result fronts.Contents Report
+loaded_front = loaded_as front_file file_limit
 
-unfoldable pub loaded_proof : ℕ → Held → List ℕ → Result LineProof Report
-loaded_proof n held name = and_then (loaded file_limit n held name) (proof_or_malformed n)
+abbrev pub loaded_schedule : ℕ → Held → List ℕ → Result History Report
+loaded_schedule = loaded_as schedule_file file_limit
 
-unfoldable pub loaded_mirror : ℕ → Held → List ℕ → Result MirrorState Report
-loaded_mirror n held name = and_then (loaded file_limit n held name) (mirror_or_malformed n)
+abbrev pub loaded_proof : ℕ → Held → List ℕ → Result LineProof Report
+loaded_proof = loaded_as proof_file file_limit
 
-unfoldable pub loaded_node : ℕ → Held → List ℕ → Result Inspected Report
-loaded_node n held name = and_then (loaded file_limit n held name) (node_or_malformed n)
+abbrev pub loaded_mirror : ℕ → Held → List ℕ → Result MirrorState Report
+loaded_mirror = loaded_as mirror_file file_limit
+
+abbrev pub loaded_node : ℕ → Held → List ℕ → Result Inspected Report
+loaded_node = loaded_as node_file file_limit

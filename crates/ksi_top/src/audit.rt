@@ -8,7 +8,7 @@ ghost use Rattle.ksi_auditor.specs.Shown.{IsShort};
 ghost use Rattle.ksi_top.specs.Promised.{Performed};
 ghost use Rattle.ksi_top.specs.Audit.{IsAnswered, audit_beside, audit_command, audit_over, audit_status, audited};
 
-use crate::loading::{FILE_LIMIT, SIGNATURE_LIMIT, load_file, load_journal};
+use crate::loading::{FILE_LIMIT, SIGNATURE_LIMIT, load, load_file};
 use crate::reading::{view_publications, view_signature};
 use crate::report::{Halt, Report, ended};
 use crate::status::Status;
@@ -33,7 +33,7 @@ pub(crate) fn audit<F: Files>(
 ) -> Result<Report, Halt>
     ensures { Performed F.Files (audit_command journal.now signature.now hash.now publications.now) files.old files.new result }
 {
-    let journal = load_journal(alloc, files, 1, journal)?;
+    let journal = load::<Journal<Sha>, F>(alloc, files, 1, journal)?;
     audit_beside(alloc, files, &journal, signature, hash, publications)
 }
 

@@ -7,7 +7,7 @@ ghost use Rattle.ksi_verifier.specs.Verdict.{verdict};
 ghost use Rattle.ksi_top.specs.CheckLine.{checkline_beside, checkline_by, checkline_command, checkline_over, line_checked, line_judged};
 ghost use Rattle.ksi_top.specs.Promised.{Performed};
 
-use crate::loading::{FILE_LIMIT, SIGNATURE_LIMIT, load_file, load_proof};
+use crate::loading::{FILE_LIMIT, SIGNATURE_LIMIT, load, load_file};
 use crate::reading::{view_publications, view_signature};
 use crate::report::{Halt, Report};
 use crate::status::Status;
@@ -87,7 +87,7 @@ fn checkline_by<F: Files>(
 ) -> Result<Report, Halt>
     ensures { Performed F.Files (checkline_by (seen signature.now) (lent_pairs publications.now) line.now proof.now) files.old files.new result }
 {
-    let proof = load_proof(alloc, files, 4, proof)?;
+    let proof = load::<LineProof, F>(alloc, files, 4, proof)?;
     Ok(line_checked(signature, publications, line, &proof))
 }
 

@@ -6,7 +6,7 @@ ghost use Rattle.ksi_top.specs.Promised.{Performed};
 ghost use Rattle.ksi_top.specs.Compare.{IsAnsweredBy, IsComparedBy, compare_beside, compare_command, compare_over, compared_as, compared_by, compared_report, compared_status};
 
 use crate::kept::unkept;
-use crate::loading::{load_front, load_journal};
+use crate::loading::load;
 use crate::report::{Halt, Report, ended};
 use crate::status::Status;
 use ksi_consistency::{Compared, Front};
@@ -27,7 +27,7 @@ pub(crate) fn compare<F: Files>(
 ) -> Result<Report, Halt>
     ensures { Performed F.Files (compare_command old.now new.now proof.now) files.old files.new result }
 {
-    let old = load_journal(alloc, files, 1, old)?;
+    let old = load::<Journal<Sha>, F>(alloc, files, 1, old)?;
     compare_beside(alloc, files, &old, new, proof)
 }
 
@@ -41,7 +41,7 @@ fn compare_beside<F: Files>(
 ) -> Result<Report, Halt>
     ensures { Performed F.Files (compare_beside old.now new.now proof.now) files.old files.new result }
 {
-    let new = load_journal(alloc, files, 2, new)?;
+    let new = load::<Journal<Sha>, F>(alloc, files, 2, new)?;
     compare_over(alloc, files, old, &new, proof)
 }
 
@@ -55,7 +55,7 @@ fn compare_over<F: Files>(
 ) -> Result<Report, Halt>
     ensures { Performed F.Files (compare_over old.now new.now proof.now) files.old files.new result }
 {
-    let front = load_front(alloc, files, 3, proof)?;
+    let front = load::<Front, F>(alloc, files, 3, proof)?;
     ended(compared(alloc, old, new, &front))
 }
 

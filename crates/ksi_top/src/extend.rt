@@ -10,7 +10,7 @@ ghost use Rattle.ksi_top.specs.Promised.{Performed};
 ghost use Rattle.ksi_lines.specs.Answers.{not_extended_line};
 ghost use Rattle.ksi_top.specs.Extend.{SavesExtension, extend_command, extend_over, extended_report, refusal_status};
 
-use crate::loading::{SIGNATURE_LIMIT, load_file, load_journal};
+use crate::loading::{SIGNATURE_LIMIT, load, load_file};
 use crate::reading::view_signature;
 use crate::report::{Halt, Report, Saved, ended};
 use crate::status::Status;
@@ -35,7 +35,7 @@ pub(crate) fn extend<F: Files>(
     requires { second < 2 ^ 63 }
     ensures { Performed F.Files (extend_command journal.now signature.now second out.now) files.old files.new result }
 {
-    let journal = load_journal(alloc, files, 1, journal)?;
+    let journal = load::<Journal<Sha>, F>(alloc, files, 1, journal)?;
     extend_over(alloc, files, &journal, signature, second, out)
 }
 

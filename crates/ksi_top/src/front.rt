@@ -6,7 +6,7 @@ ghost use Rattle.ksi_top.specs.Promised.{Performed};
 ghost use Rattle.ksi_top.specs.Front.{IsFrontOver, SavesFront, front_command, front_saved, front_to, fronted};
 
 use crate::kept::unkept;
-use crate::loading::load_journal;
+use crate::loading::load;
 use crate::report::{Halt, Report, Saved, ended};
 use crate::status::Status;
 use ksi_consistency::{Front, prove, write_front};
@@ -30,7 +30,7 @@ pub(crate) fn front<F: Files>(
     requires { p2 < 2 ^ 63 }
     ensures { Performed F.Files (front_command journal.now p1 p2 out.now) files.old files.new result }
 {
-    let journal = load_journal(alloc, files, 1, journal)?;
+    let journal = load::<Journal<Sha>, F>(alloc, files, 1, journal)?;
     ended(fronted(alloc, &journal, p1, p2, out))
 }
 

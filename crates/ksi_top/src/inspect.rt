@@ -3,7 +3,7 @@ ghost use Rattle.std.specs.Prelude.{◌≡◌};
 ghost use Rattle.ksi_top.specs.Promised.{Performed};
 ghost use Rattle.ksi_top.specs.Inspect.{inspect_command, said_of};
 
-use crate::loading::load_node;
+use crate::loading::load;
 use crate::report::{Halt, Report};
 use crate::status::Status;
 use ksi_lines::Word::{Number, Text};
@@ -16,7 +16,7 @@ use std::alloc::Global;
 pub(crate) fn inspect<F: Files>(alloc: Global, files: &mut F, node: &str) -> Result<Report, Halt>
     ensures { Performed F.Files (inspect_command node.now) files.old files.new result }
 {
-    let said = load_node(alloc, files, 1, node)?;
+    let said = load::<Inspected, F>(alloc, files, 1, node)?;
     Ok(told(&said))
 }
 

@@ -7,7 +7,7 @@ ghost use Rattle.ksi_top.specs.Locate.{IsLocated, TellsWhere, locate_beside, loc
 ghost use Rattle.ksi_top.specs.Log.{IsLogTold};
 ghost use Rattle.ksi_top.specs.Promised.{Performed};
 
-use crate::loading::{FILE_LIMIT, load_file, load_proof};
+use crate::loading::{FILE_LIMIT, load, load_file};
 use crate::log::log_refused;
 use crate::report::{Halt, Report, ended};
 use crate::status::Status;
@@ -60,7 +60,7 @@ fn locate_over<F: Files>(
     requires { length line.now ≤ longest_line }
     ensures { Performed F.Files (locate_over log.now seed.now line.now proof.now) files.old files.new result }
 {
-    let proof = load_proof(alloc, files, 4, proof)?;
+    let proof = load::<LineProof, F>(alloc, files, 4, proof)?;
     ended(located(alloc, log, seed, line, &proof))
 }
 

@@ -5,7 +5,7 @@ ghost use Rattle.ksi_mirror.specs.Written.{mirror_text};
 ghost use Rattle.ksi_top.specs.Promised.{Performed};
 ghost use Rattle.ksi_top.specs.Merge.{IsMergedBy, merge_command, merge_over, merged, merged_saved};
 
-use crate::loading::load_mirror;
+use crate::loading::load;
 use crate::report::{Halt, Report, Saved, ended};
 use crate::status::Status;
 use ksi_imprint::{NoMemory, Refused};
@@ -28,7 +28,7 @@ pub(crate) fn merge<F: Files>(
 {
     mirror_is_read();
     merged_is_a_join();
-    let mirror = load_mirror(alloc, files, 1, one)?;
+    let mirror = load::<Mirror, F>(alloc, files, 1, one)?;
     mirror_is_kept(&mirror);
     merge_over(alloc, files, &mirror, two, out)
 }
@@ -43,7 +43,7 @@ fn merge_over<F: Files>(
 ) -> Result<Report, Halt>
     ensures { Performed F.Files (merge_over one.now two.now out.now) files.old files.new result }
 {
-    let mirror = load_mirror(alloc, files, 2, two)?;
+    let mirror = load::<Mirror, F>(alloc, files, 2, two)?;
     ended(merged(alloc, one, &mirror, out))
 }
 

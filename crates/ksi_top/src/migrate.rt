@@ -8,7 +8,7 @@ ghost use Rattle.ksi_journal.specs.declared.version.Version.TheVariants as versi
 ghost use Rattle.ksi_top.specs.Promised.{Performed};
 ghost use Rattle.ksi_top.specs.Migrate.{migrate_command, migrated};
 
-use crate::loading::load_journal;
+use crate::loading::load;
 use crate::report::{Halt, Report, Saved, ended};
 use ksi_imprint::{Bytes, NoMemory, Refused, Sha};
 use ksi_journal::laws::{file_is_journal, journal_is_read};
@@ -29,7 +29,7 @@ pub(crate) fn migrate<F: Files>(
 {
     journal_is_read();
     file_is_journal();
-    let journal = load_journal(alloc, files, 1, old)?;
+    let journal = load::<Journal<Sha>, F>(alloc, files, 1, old)?;
     ended(migrated(alloc, new, &journal))
 }
 

@@ -5,7 +5,7 @@ ghost use Rattle.ksi_replay.specs.Mirrors.{mirror_of};
 ghost use Rattle.ksi_top.specs.Promised.{Performed};
 ghost use Rattle.ksi_top.specs.Mirror.{mirror_command, mirror_saved, mirrored, mirrored_line, no_core_line};
 
-use crate::loading::load_schedule;
+use crate::loading::load;
 use crate::report::{Halt, Report, Saved, ended};
 use crate::status::Status;
 use ksi_imprint::{NoMemory, Sha};
@@ -34,7 +34,7 @@ pub(crate) fn mirror<F: Files>(
     mirrors_of_a_history_merge();
     spelled_is_schedule();
     written_is_mirror();
-    let schedule = load_schedule(alloc, files, 1, schedule)?;
+    let schedule = load::<Schedule, F>(alloc, files, 1, schedule)?;
     ended(mirrored(alloc, core, out, schedule))
 }
 

@@ -4,7 +4,7 @@ ghost use Rattle.ksi_top.specs.Promised.{Performed};
 ghost use Rattle.ksi_top.specs.Node.{IsNodeOver, SavesNode, node_command, node_line, node_saved, noded};
 ghost use Rattle.ksi_top.specs.Reports.{saving};
 
-use crate::loading::load_schedule;
+use crate::loading::load;
 use crate::report::{Halt, Report, Saved, ended};
 use crate::status::Status;
 use ksi_imprint::{Bytes, NoMemory, Sha};
@@ -25,7 +25,7 @@ pub(crate) fn node<F: Files>(
 ) -> Result<Report, Halt>
     ensures { Performed F.Files (node_command schedule.now core out.now) files.old files.new result }
 {
-    let schedule = load_schedule(alloc, files, 1, schedule)?;
+    let schedule = load::<Schedule, F>(alloc, files, 1, schedule)?;
     ended(noded(alloc, &schedule, core, out))
 }
 

@@ -3,9 +3,10 @@ ghost use Rattle.std.specs.Prelude.{◌≡◌, IfOk};
 ghost use Rattle.ksi_top.specs.Promised.{Performed};
 ghost use Rattle.ksi_top.specs.Publish.{last_time, publish_command, published};
 
-use crate::loading::load_journal;
+use crate::loading::load;
 use crate::report::{Halt, Report, Saved, ended};
-use ksi_imprint::{Imprint, NoMemory};
+use ksi_imprint::{Imprint, NoMemory, Sha};
+use ksi_journal::Journal;
 use ksi_lines::Word::{Number, Text};
 use ksi_lines::print;
 use ksi_ports::Files;
@@ -20,7 +21,7 @@ pub(crate) fn publish<F: Files>(
 ) -> Result<Report, Halt>
     ensures { Performed F.Files (publish_command journal.now out.now) files.old files.new result }
 {
-    let journal = load_journal(alloc, files, 1, journal)?;
+    let journal = load::<Journal<Sha>, F>(alloc, files, 1, journal)?;
     ended(published(alloc, out, journal.publications()))
 }
 

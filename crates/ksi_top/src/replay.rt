@@ -7,7 +7,7 @@ ghost use Rattle.ksi_top.specs.Promised.{Performed};
 ghost use Rattle.ksi_top.specs.Replay.{counted, replay_command, replayed, replayed_line};
 
 use crate::histories::histories_hold;
-use crate::loading::load_schedule;
+use crate::loading::load;
 use crate::report::{Halt, Report, Saved, ended};
 use ksi_imprint::{NoMemory, Sha};
 use ksi_journal::Journal;
@@ -29,7 +29,7 @@ pub(crate) fn replay<F: Files>(
     ensures { Performed F.Files (replay_command schedule.now journal.now) files.old files.new result }
 {
     histories_hold();
-    let schedule = load_schedule(alloc, files, 1, schedule)?;
+    let schedule = load::<Schedule, F>(alloc, files, 1, schedule)?;
     ended(replayed(alloc, journal, schedule))
 }
 

@@ -4,10 +4,11 @@ ghost use Rattle.std.specs.Option.{option_copied};
 ghost use Rattle.ksi_top.specs.Promised.{Performed};
 ghost use Rattle.ksi_top.specs.Sign.{sign_command, signature_of, signed};
 
-use crate::loading::load_journal;
+use crate::loading::load;
 use crate::report::{Halt, Report, Saved, ended};
 use crate::status::Status;
-use ksi_imprint::{Bytes, NoMemory};
+use ksi_imprint::{Bytes, NoMemory, Sha};
+use ksi_journal::Journal;
 use ksi_lines::Word::{Number, Text};
 use ksi_lines::print;
 use ksi_ports::Files;
@@ -23,7 +24,7 @@ pub(crate) fn sign<F: Files>(
 ) -> Result<Report, Halt>
     ensures { Performed F.Files (sign_command journal.now number out.now) files.old files.new result }
 {
-    let journal = load_journal(alloc, files, 1, journal)?;
+    let journal = load::<Journal<Sha>, F>(alloc, files, 1, journal)?;
     let signature = signature_of(journal.issued(), number);
     ended(signed(alloc, number, out, signature))
 }

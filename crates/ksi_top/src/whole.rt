@@ -6,7 +6,7 @@ ghost use Rattle.ksi_journal.specs.Written.{journal_text};
 ghost use Rattle.ksi_top.specs.Promised.{Performed};
 ghost use Rattle.ksi_top.specs.Whole.{IsWholeOf, made_whole, whole_command, whole_saved};
 
-use crate::loading::load_mirror;
+use crate::loading::load;
 use crate::report::{Halt, Report, Saved, ended};
 use crate::status::Status;
 use ksi_imprint::{NoMemory, Refused, Sha};
@@ -26,7 +26,7 @@ pub(crate) fn whole<F: Files>(
 ) -> Result<Report, Halt>
     ensures { Performed F.Files (whole_command mirror.now out.now) files.old files.new result }
 {
-    let mirror = load_mirror(alloc, files, 1, mirror)?;
+    let mirror = load::<Mirror, F>(alloc, files, 1, mirror)?;
     ended(made_whole(alloc, &mirror, out))
 }
 
