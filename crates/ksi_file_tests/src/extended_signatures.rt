@@ -1,10 +1,10 @@
 // Signatures that are given another calendar chain and publication record.
-use crate::text::{bytes, hash, is_refused, is_text, sides};
+use crate::text::{bytes, hash, is_refused, is_told, sides};
 use ksi_imprint::{Bytes, NoMemory, Refused};
 use ksi_signature::laws::shown_is_of_bytes;
 use ksi_signature::{
-    Bodies, CalendarChain, CalendarLinks, PublicationRecord, SignatureView, WithRefusal, view,
-    with_calendar,
+    Bodies, CalendarChain, CalendarLinks, PublicationRecord, SignatureView, WithRefusal,
+    WriteRefusal, view, with_calendar,
 };
 use std::alloc::Global;
 use std::process::Abort;
@@ -40,36 +40,26 @@ fn extended(alloc: Global, bytes: &[u8], size: usize) -> Result<Bytes, Refused<W
     with_calendar(alloc, bytes, &calendar(alloc), &published)
 }
 
-/// The new bytes of a view are the words on the right side of a row.
-fn is_renewed(
-    rt: &impl Abort,
-    alloc: Global,
-    row: &str,
-    lent: &SignatureView<'_>,
-) -> Result<(), Fail> {
+/// The same of a view.
+fn renewed(alloc: Global, lent: &SignatureView<'_>) -> Result<Bytes, Refused<WriteRefusal>> {
     shown_is_of_bytes(lent);
     let published = record(alloc, 0)?;
-    match lent.with_calendar(alloc, &calendar(alloc), &published) {
-        Ok(text) => is_text(rt, alloc, row, text.as_slice()),
-        Err(refused) => is_refused(rt, alloc, row, Some(refused)),
+    lent.with_calendar(alloc, &calendar(alloc), &published)
+}
+
+/// The new bytes of a view are the words on the right side of a row; what is no signature has no view.
+fn is_renewed(rt: &impl Abort, alloc: Global, row: &str, bytes: &[u8]) -> Result<(), Fail> {
+    match view(bytes) {
+        Ok(lent) => is_told(rt, alloc, row, renewed(alloc, &lent)),
+        Err(_) => Ok(()),
     }
 }
 
-/// So are the new bytes of these.
-fn is_extended(rt: &impl Abort, alloc: Global, row: &str, bytes: &[u8]) -> Result<(), Fail> {
-    match extended(alloc, bytes, 0) {
-        Ok(text) => is_text(rt, alloc, row, text.as_slice()),
-        Err(refused) => is_refused(rt, alloc, row, Some(refused)),
-    }
-}
-
-/// Both say what the row says; a view of what is no signature says nothing.
+/// Both say what the row says.
 fn are_extended(rt: &impl Abort, alloc: Global, row: &str) -> Result<(), Fail> {
     let text = bytes(alloc, sides(row).0)?;
-    if let Ok(lent) = view(text.as_slice()) {
-        is_renewed(rt, alloc, row, &lent)?;
-    }
-    is_extended(rt, alloc, row, text.as_slice())
+    is_renewed(rt, alloc, row, text.as_slice())?;
+    is_told(rt, alloc, row, extended(alloc, text.as_slice(), 0))
 }
 
 /// Signatures, and what they are extended to: it retains what is to be passed on, with its header as it is.

@@ -1,6 +1,6 @@
 // Signatures that are issued from the links of a round and what stands above it.
-ghost use Rattle.std.specs.Prelude.{IfOk};
-ghost use Rattle.ksi_signature.specs.Above.{IsNode, IsNameLink};
+ghost use Rattle.std.specs.Prelude.{IfOk, ◌<◌, ◌^◌};
+ghost use Rattle.ksi_signature.specs.Above.{AreRoundLinks, IsNode, IsNameLink};
 
 use crate::text::{hash, is_text};
 use ksi_aggchain::{Link, Sibling};
@@ -9,6 +9,7 @@ use ksi_imprint::{Bytes, Imprint, NoMemory};
 use ksi_signature::{Above, AboveChain, AboveChains, AboveLinks, CalendarLinks, issue};
 use ksi_split::Side;
 use std::alloc::Global;
+use std::process::Abort;
 use std::slice;
 use std::test::Fail;
 
@@ -21,10 +22,28 @@ fn nothing(alloc: Global) -> Above {
     }
 }
 
+/// The signature of the hash of no bytes is the words on the right side of a row.
+fn is_issued(
+    rt: &impl Abort,
+    alloc: Global,
+    row: &str,
+    second: u64,
+    links: &[Link],
+    above: &Above,
+) -> Result<(), Fail>
+    requires second { second < 2 ^ 63 }
+    requires links { AreRoundLinks links.now }
+{
+    let text = issue(alloc, second, &hash(), links, above)?;
+    is_text(rt, alloc, row, text.as_slice())
+}
+
+const ALONE: &str = "issued = 8800005a G K";
+
 #[test]
 fn issues_without_links(rt: HostRuntime) -> Result<(), Fail> {
-    let text = issue(rt.alloc(), 0, &hash(), &[], &nothing(rt.alloc()))?;
-    is_text(&rt, rt.alloc(), "issued = 8800005a G K", text.as_slice())
+    let above = nothing(rt.alloc());
+    is_issued(&rt, rt.alloc(), ALONE, 0, &[], &above)
 }
 
 /// The metadata of the name `al`.
@@ -46,9 +65,8 @@ const NAMED: &str =
 #[test]
 fn issues_an_item_with_a_name(rt: HostRuntime) -> Result<(), Fail> {
     let link = link_of_al(rt.alloc())?;
-    let links = slice::from_ref(&link);
-    let text = issue(rt.alloc(), 0, &hash(), links, &nothing(rt.alloc()))?;
-    is_text(&rt, rt.alloc(), NAMED, text.as_slice())
+    let above = nothing(rt.alloc());
+    is_issued(&rt, rt.alloc(), NAMED, 0, slice::from_ref(&link), &above)
 }
 
 fn link(side: Side, correction: u8) -> Link
@@ -96,6 +114,5 @@ const BELOW_TWO: &str =
 #[test]
 fn issues_below_two_chains(rt: HostRuntime) -> Result<(), Fail> {
     let above = above_both(rt.alloc())?;
-    let text = issue(rt.alloc(), 5, &hash(), &[], &above)?;
-    is_text(&rt, rt.alloc(), BELOW_TWO, text.as_slice())
+    is_issued(&rt, rt.alloc(), BELOW_TWO, 5, &[], &above)
 }

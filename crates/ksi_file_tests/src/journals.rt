@@ -1,5 +1,5 @@
 // Journals that are loaded, asked and written again.
-use crate::text::{bytes, is_so, is_text, same, sides};
+use crate::text::{bytes, is_text, is_told, same, sides};
 use ksi_aggchain::Node;
 use ksi_imprint::{Bytes, Compress, Imprint, NoMemory, Tiny};
 use ksi_journal::{Journal, Parts, Refused, Version, VersionRefusal, load, write, write_version};
@@ -41,10 +41,7 @@ fn is_written(rt: &impl Abort, alloc: Global, row: &str) -> Result<(), Fail> {
     let (words, _) = sides(row);
     let (version, words) = words.split_once(" ").unwrap_or(("", words));
     let journal = journal_of(alloc, words)?;
-    match written(alloc, &journal, version) {
-        Ok(text) => is_text(rt, alloc, row, text.as_slice()),
-        Err(refused) => is_so(rt, alloc, row, refused),
-    }
+    is_told(rt, alloc, row, written(alloc, &journal, version))
 }
 
 /// A version, a journal that is loaded, and what is written of it in that version, or in its own: voters and names want
@@ -56,20 +53,20 @@ own J2 01046553f100 0600 = J1 01046553f100 0600
 2 J2 01046553f100 0600 = J2 01046553f100 0600
 own J1 01046553f100 0600 = J1 01046553f100 0600
 own J2 01046553f100 0809 01046553f100 020102 022b 01046553f100 0221 zero 0300 0600 = J2 01046553f100 0809 01046553f100 020102 022b 01046553f100 0221 zero 0300 0600
-1 J2 01046553f100 0809 01046553f100 020102 022b 01046553f100 0221 zero 0300 0600 = Fault(NeedsTwo)
+1 J2 01046553f100 0809 01046553f100 020102 022b 01046553f100 0221 zero 0300 0600 = NeedsTwo
 2 J2 01046553f100 0809 01046553f100 020102 022b 01046553f100 0221 zero 0300 0600 = J2 01046553f100 0809 01046553f100 020102 022b 01046553f100 0221 zero 0300 0600
 own J2 010105 0806010105020101 0807010107020201ff 0600 = J2 010105 0806010105020101 0807010107020201ff 0600
-1 J2 010105 0806010105020101 0807010107020201ff 0600 = Fault(NeedsTwo)
+1 J2 010105 0806010105020101 0807010107020201ff 0600 = NeedsTwo
 2 J2 010105 0806010105020101 0807010107020201ff 0600 = J2 010105 0806010105020101 0807010107020201ff 0600
 own J2 010105 0229010105 0221 one 030101 0322 one ef 0600 = J1 010105 0229010105 0221 one 030101 0322 one ef 0600
 1 J2 010105 0229010105 0221 one 030101 0322 one ef 0600 = J1 010105 0229010105 0221 one 030101 0322 one ef 0600
 2 J2 010105 0229010105 0221 one 030101 0322 one ef 0600 = J2 010105 0229010105 0221 one 030101 0322 one ef 0600
 own J1 010105 0229010105 0221 one 030101 0322 one ef 0600 = J1 010105 0229010105 0221 one 030101 0322 one ef 0600
 own J2 010105 0229010105 0221 leaf 030101 0723 one ee 61 0600 = J2 010105 0229010105 0221 leaf 030101 0723 one ee 61 0600
-1 J2 010105 0229010105 0221 leaf 030101 0723 one ee 61 0600 = Fault(NeedsTwo)
+1 J2 010105 0229010105 0221 leaf 030101 0723 one ee 61 0600 = NeedsTwo
 2 J2 010105 0229010105 0221 leaf 030101 0723 one ee 61 0600 = J2 010105 0229010105 0221 leaf 030101 0723 one ee 61 0600
 own J2 010105 0229010105 0221 wide 030101 0762 one 00 61616161616161616161616161616161616161616161616161616161616161616161616161616161616161616161616161616161616161616161616161616161 0600 = J2 010105 0229010105 0221 wide 030101 0762 one 00 61616161616161616161616161616161616161616161616161616161616161616161616161616161616161616161616161616161616161616161616161616161 0600
-1 J2 010105 0229010105 0221 wide 030101 0762 one 00 61616161616161616161616161616161616161616161616161616161616161616161616161616161616161616161616161616161616161616161616161616161 0600 = Fault(NeedsTwo)
+1 J2 010105 0229010105 0221 wide 030101 0762 one 00 61616161616161616161616161616161616161616161616161616161616161616161616161616161616161616161616161616161616161616161616161616161 0600 = NeedsTwo
 2 J2 010105 0229010105 0221 wide 030101 0762 one 00 61616161616161616161616161616161616161616161616161616161616161616161616161616161616161616161616161616161616161616161616161616161 0600 = J2 010105 0229010105 0221 wide 030101 0762 one 00 61616161616161616161616161616161616161616161616161616161616161616161616161616161616161616161616161616161616161616161616161616161 0600";
 
 #[test]
@@ -82,34 +79,50 @@ fn what_is_loaded_is_written_again(rt: HostRuntime) -> Result<(), Fail> {
 
 const EMPTY: &str = "J1 01046553f100 0600";
 
+/// The first missing second up to another one.
+fn misses(rt: &impl Abort, journal: &Journal<Tiny>, rows: &[(&str, u64, Option<u64>)]) {
+    for (row, last, want) in rows {
+        same(rt, *row, journal.first_missing(*last), *want);
+    }
+}
+
+fn keeps_no_second(rt: &impl Abort, journal: &Journal<Tiny>) {
+    static MISSING: [(&str, u64, Option<u64>); 2] = [
+        ("missing", 1_700_000_000, Some(1_700_000_000)),
+        ("none before", 1_699_999_999, None),
+    ];
+    same(rt, "start", journal.start(), 1_700_000_000);
+    same(rt, "root", journal.root(1_700_000_000), None);
+    misses(rt, journal, &MISSING);
+}
+
 #[test]
 fn the_empty_journal_keeps_no_second(rt: HostRuntime) -> Result<(), Fail> {
     let journal = journal_of(rt.alloc(), EMPTY)?;
-    same(&rt, "start", journal.start(), 1_700_000_000);
-    same(&rt, "root", journal.root(1_700_000_000), None);
-    same(
-        &rt,
-        "missing",
-        journal.first_missing(1_700_000_000),
-        Some(1_700_000_000),
-    );
-    same(
-        &rt,
-        "none before",
-        journal.first_missing(1_699_999_999),
-        None,
-    );
+    keeps_no_second(&rt, &journal);
     Ok(())
 }
 
 fn keeps_roots(rt: &impl Abort, journal: &Journal<Tiny>) {
-    let (one, pair) = (Some(named(1)), Some(named(8)));
-    same(rt, "5", journal.root(5), one);
-    same(rt, "6", journal.root(6), Some(Imprint::ZERO));
-    same(rt, "7", journal.root(7), None);
-    same(rt, "8", journal.root(8), pair);
-    same(rt, "missing to 6", journal.first_missing(6), None);
-    same(rt, "missing to 9", journal.first_missing(9), Some(7));
+    static ROOTS: [(&str, u64, Option<u8>); 4] = [
+        ("5", 5, Some(1)),
+        ("6", 6, Some(0)),
+        ("7", 7, None),
+        ("8", 8, Some(8)),
+    ];
+    for (row, second, first) in &ROOTS {
+        same(rt, *row, journal.root(*second), first.map(named));
+    }
+}
+
+fn keeps_seconds(rt: &impl Abort, journal: &Journal<Tiny>) {
+    static MISSING: [(&str, u64, Option<u64>); 2] = [
+        ("missing to 6", 6, None),
+        ("missing to 9", 9, Some(7)),
+    ];
+    same(rt, "zero", named(0), Imprint::ZERO);
+    keeps_roots(rt, journal);
+    misses(rt, journal, &MISSING);
 }
 
 fn keeps_one_publication(rt: &impl Abort, journal: &Journal<Tiny>) {
@@ -136,30 +149,24 @@ fn nodes(journal: &Journal<Tiny>, second: u64, way: &[Side]) -> Option<(Short, O
 }
 
 fn keeps_trees(rt: &impl Abort, journal: &Journal<Tiny>) {
-    let leaf = Some(((0, 1), Some((0, 1))));
-    same(rt, "5", nodes(journal, 5, &[]), leaf);
-    same(rt, "6", nodes(journal, 6, &[]), None);
-    same(rt, "7", nodes(journal, 7, &[]), None);
-    let root = (1, 8);
-    same(rt, "8", nodes(journal, 8, &[]), Some((root, Some(root))));
-    same(
-        rt,
-        "8 left",
-        nodes(journal, 8, &[Left]),
-        Some((root, Some((0, 2)))),
-    );
-    same(
-        rt,
-        "8 right",
-        nodes(journal, 8, &[Right]),
-        Some((root, Some((0, 3)))),
-    );
-    same(
-        rt,
-        "8 below",
-        nodes(journal, 8, &[Left, Right]),
-        Some((root, None)),
-    );
+    static NODES: [(&str, u64, &[Side], Option<(Short, Option<Short>)>); 7] = [
+        ("5", 5, &[], Some(((0, 1), Some((0, 1))))),
+        ("6", 6, &[], None),
+        ("7", 7, &[], None),
+        ("8", 8, &[], Some(((1, 8), Some((1, 8))))),
+        ("8 left", 8, &[Left], Some(((1, 8), Some((0, 2))))),
+        ("8 right", 8, &[Right], Some(((1, 8), Some((0, 3))))),
+        ("8 below", 8, &[Left, Right], Some(((1, 8), None))),
+    ];
+    for (row, second, way, want) in &NODES {
+        same(rt, *row, nodes(journal, *second, way), *want);
+    }
+}
+
+fn keeps_whole(rt: &impl Abort, journal: &Journal<Tiny>) {
+    keeps_seconds(rt, journal);
+    keeps_one_publication(rt, journal);
+    keeps_trees(rt, journal);
 }
 
 /// One item, a second that was missed, two items; a signature and a publication.
@@ -169,9 +176,7 @@ const WHOLE: &str =
 #[test]
 fn a_journal_answers_what_was_loaded(rt: HostRuntime) -> Result<(), Fail> {
     let journal = journal_of(rt.alloc(), WHOLE)?;
-    keeps_roots(&rt, &journal);
-    keeps_one_publication(&rt, &journal);
-    keeps_trees(&rt, &journal);
+    keeps_whole(&rt, &journal);
     Ok(())
 }
 
@@ -186,10 +191,16 @@ fn of_nothing(alloc: Global) -> Result<Journal<Tiny>, NoMemory> {
     Journal::new(alloc, parts)
 }
 
+const NOTHING: &str = "written = J1 010105 0600";
+
+fn is_nothing(rt: &impl Abort, alloc: Global, journal: &Journal<Tiny>) -> Result<(), Fail> {
+    same(rt, "start", journal.start(), 5);
+    let text = write(alloc, journal)?;
+    is_text(rt, alloc, NOTHING, text.as_slice())
+}
+
 #[test]
 fn a_journal_of_nothing_is_made(rt: HostRuntime) -> Result<(), Fail> {
     let journal = of_nothing(rt.alloc())?;
-    same(&rt, "start", journal.start(), 5);
-    let text = write(rt.alloc(), &journal)?;
-    is_text(&rt, rt.alloc(), "written = J1 010105 0600", text.as_slice())
+    is_nothing(&rt, rt.alloc(), &journal)
 }

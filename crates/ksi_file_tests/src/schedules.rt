@@ -210,6 +210,11 @@ fn fault_of_voters(alloc: Global, lines: u64) -> Result<Option<Refused<ScheduleF
     Ok(read_schedule(alloc, text.as_slice()).err())
 }
 
+fn may_vote(rt: &impl Abort, alloc: Global, row: &str) -> Result<(), Fail> {
+    let fault = fault_of_voters(alloc, sides(row).0.parse()?)?;
+    is_refused(rt, alloc, row, fault)
+}
+
 /// How many such lines stand behind `start`, and their fault.
 const LINES: &str = "255 = None
 256 = None
@@ -218,8 +223,7 @@ const LINES: &str = "255 = None
 #[test]
 fn two_hundred_and_fifty_six_lines_may_say_who_votes(rt: HostRuntime) -> Result<(), Fail> {
     for row in LINES.lines() {
-        let fault = fault_of_voters(rt.alloc(), sides(row).0.parse()?)?;
-        is_refused(&rt, rt.alloc(), row, fault)?;
+        may_vote(&rt, rt.alloc(), row)?;
     }
     Ok(())
 }
@@ -249,14 +253,20 @@ fn the_event_behind_a_million_is_one_too_many(rt: HostRuntime) -> Result<(), Fai
     )
 }
 
-#[test]
-fn a_schedule_is_made_of_its_parts(rt: HostRuntime) {
+/// The start and the number of events of a schedule that is made and parted again.
+fn parts(alloc: Global) -> (u64, usize) {
     let plan = Plan {
         core_plan: CorePlan::new(1, 5),
-        parents: Parents::from_vec(Vec::new(rt.alloc())),
+        parents: Parents::from_vec(Vec::new(alloc)),
     };
-    let events = Events::from_vec(Vec::new(rt.alloc()));
+    let events = Events::from_vec(Vec::new(alloc));
     let (plan, events) = Schedule::new(plan, events).into_parts();
-    same(&rt, "start", plan.start(), 5);
-    same(&rt, "events", events.as_slice().len(), 0);
+    (plan.start(), events.as_slice().len())
+}
+
+#[test]
+fn a_schedule_is_made_of_its_parts(rt: HostRuntime) {
+    let (start, events) = parts(rt.alloc());
+    same(&rt, "start", start, 5);
+    same(&rt, "events", events, 0);
 }

@@ -1,7 +1,9 @@
 // Signatures: their first faults, and what is written of them.
-use crate::text::{bytes, is_refused, is_so, is_text, same, sides};
-use ksi_imprint::{Bytes, Imprint, NoMemory};
-use ksi_signature::{AggregationChain, Chains, Index, Links, Signature, check, read, view, write};
+use crate::text::{bytes, is_refused, is_so, is_told, same, sides};
+use ksi_imprint::{Bytes, Imprint, NoMemory, Refused};
+use ksi_signature::{
+    AggregationChain, Chains, Index, Links, Signature, WriteRefusal, check, read, view, write,
+};
 use std::alloc::Global;
 use std::process::Abort;
 use std::test::Fail;
@@ -13,10 +15,7 @@ fn is_written(
     row: &str,
     signature: &Signature,
 ) -> Result<(), Fail> {
-    match write(alloc, signature) {
-        Ok(text) => is_text(rt, alloc, row, text.as_slice()),
-        Err(refused) => is_refused(rt, alloc, row, Some(refused)),
-    }
+    is_told(rt, alloc, row, write(alloc, signature))
 }
 
 /// It is what is written of the signature that bytes are, or their fault.
@@ -27,17 +26,21 @@ fn is_read(rt: &impl Abort, alloc: Global, row: &str, text: &[u8]) -> Result<(),
     }
 }
 
-/// A check, a view and a reading of the left sides of rows say what their right sides say.
+/// A view of bytes has the fault that a check has.
+fn is_checked(rt: &impl Abort, row: &str, text: &[u8]) {
+    same(rt, row, check(text).err(), view(text).err());
+}
+
+/// A check, a view and a reading of the left side of a row say what its right side says.
+fn is_signature(rt: &impl Abort, alloc: Global, row: &str) -> Result<(), Fail> {
+    let text = bytes(alloc, sides(row).0)?;
+    is_checked(rt, row, text.as_slice());
+    is_read(rt, alloc, row, text.as_slice())
+}
+
 fn are_read(rt: &impl Abort, alloc: Global, rows: &str) -> Result<(), Fail> {
     for row in rows.lines() {
-        let text = bytes(alloc, sides(row).0)?;
-        same(
-            rt,
-            row,
-            check(text.as_slice()).err(),
-            view(text.as_slice()).err(),
-        );
-        is_read(rt, alloc, row, text.as_slice())?;
+        is_signature(rt, alloc, row)?;
     }
     Ok(())
 }
@@ -114,10 +117,19 @@ const SIZES: &str = "65484 = 65539
 65489 = TooLong(65536)
 70000 = TooLong(70000)";
 
+/// How many bytes are written of a signature.
+fn size_of(alloc: Global, signature: &Signature) -> Result<usize, Refused<WriteRefusal>> {
+    Ok(write(alloc, signature)?.as_slice().len())
+}
+
+fn size_with(alloc: Global, size: usize) -> Result<usize, Refused<WriteRefusal>> {
+    let signature = with_input(alloc, size)?;
+    size_of(alloc, &signature)
+}
+
 fn has_size(rt: &impl Abort, alloc: Global, row: &str) -> Result<(), Fail> {
-    let signature = with_input(alloc, sides(row).0.parse()?)?;
-    match write(alloc, &signature) {
-        Ok(text) => is_so(rt, alloc, row, text.as_slice().len()),
+    match size_with(alloc, sides(row).0.parse()?) {
+        Ok(size) => is_so(rt, alloc, row, size),
         Err(refused) => is_refused(rt, alloc, row, Some(refused)),
     }
 }

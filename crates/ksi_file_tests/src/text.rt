@@ -1,5 +1,5 @@
 // Rows of text: what their words stand for, and what comes of them.
-use ksi_imprint::{Imprint, Refused};
+use ksi_imprint::{Bytes, Imprint, Refused};
 use std::alloc::Global;
 use std::fmt::Debug;
 use std::process::Abort;
@@ -8,67 +8,28 @@ use std::test::Fail;
 /// What a word stands for in hex: the magics of a journal's two versions; imprints of `Tiny`, those of numbers, that of two
 /// and three joined, that of an item of one at level 238 with the name `a`, and at level 0 with 64 letters `a`; the digest of
 /// no bytes and its imprint; the aggregation chain, the publication record and the calendar chain of a signature of that imprint in second 0.
-static NAMES: [(&str, &str); 15] = [
-    ("J1", "4b53494a524e4c31"),
-    ("J2", "4b53494a524e4c32"),
-    (
-        "zero",
-        "010000000000000000000000000000000000000000000000000000000000000000",
-    ),
-    (
-        "one",
-        "010100000000000000000000000000000000000000000000000000000000000000",
-    ),
-    (
-        "two",
-        "010200000000000000000000000000000000000000000000000000000000000000",
-    ),
-    (
-        "three",
-        "010300000000000000000000000000000000000000000000000000000000000000",
-    ),
-    (
-        "four",
-        "010400000000000000000000000000000000000000000000000000000000000000",
-    ),
-    (
-        "pair",
-        "010800000000000000000000000000000000000000000000000000000000000000",
-    ),
-    (
-        "leaf",
-        "01d700000000000000000000000000000000000000000000000000000000000000",
-    ),
-    (
-        "wide",
-        "010500000000000000000000000000000000000000000000000000000000000000",
-    ),
-    (
-        "D",
-        "e3b0c44298fc1c149afbf4c8996fb92427ae41e4649b934ca495991b7852b855",
-    ),
-    (
-        "A",
-        "01e3b0c44298fc1c149afbf4c8996fb92427ae41e4649b934ca495991b7852b855",
-    ),
-    (
-        "G",
-        "8801002b0200030101052101e3b0c44298fc1c149afbf4c8996fb92427ae41e4649b934ca495991b7852b855060101",
-    ),
-    (
-        "R",
-        "8803002710250200042101e3b0c44298fc1c149afbf4c8996fb92427ae41e4649b934ca495991b7852b855",
-    ),
-    (
-        "K",
-        "8802002701000200052101e3b0c44298fc1c149afbf4c8996fb92427ae41e4649b934ca495991b7852b855",
-    ),
-];
+const NAMES: &str = "J1 4b53494a524e4c31
+J2 4b53494a524e4c32
+zero 010000000000000000000000000000000000000000000000000000000000000000
+one 010100000000000000000000000000000000000000000000000000000000000000
+two 010200000000000000000000000000000000000000000000000000000000000000
+three 010300000000000000000000000000000000000000000000000000000000000000
+four 010400000000000000000000000000000000000000000000000000000000000000
+pair 010800000000000000000000000000000000000000000000000000000000000000
+leaf 01d700000000000000000000000000000000000000000000000000000000000000
+wide 010500000000000000000000000000000000000000000000000000000000000000
+D e3b0c44298fc1c149afbf4c8996fb92427ae41e4649b934ca495991b7852b855
+A 01e3b0c44298fc1c149afbf4c8996fb92427ae41e4649b934ca495991b7852b855
+G 8801002b0200030101052101e3b0c44298fc1c149afbf4c8996fb92427ae41e4649b934ca495991b7852b855060101
+R 8803002710250200042101e3b0c44298fc1c149afbf4c8996fb92427ae41e4649b934ca495991b7852b855
+K 8802002701000200052101e3b0c44298fc1c149afbf4c8996fb92427ae41e4649b934ca495991b7852b855";
 
 fn meant(word: &str) -> &str {
-    for (name, hex) in &NAMES {
-        if *name == word {
-            return *hex;
+    for line in NAMES.lines() {
+        if let Some((name, digits)) = line.split_once(" ") {
+            if name == word {
+                return digits;
+            }
         }
     }
     word
@@ -81,11 +42,17 @@ pub(crate) fn hash() -> Imprint {
     )
 }
 
+/// Puts what a word stands for behind bytes.
+fn push_word(alloc: Global, bytes: &mut Vec<u8>, word: &str) -> Result<(), Fail> {
+    bytes.extend_from_slice(&hex::decode(alloc, meant(word))?)?;
+    Ok(())
+}
+
 /// The bytes of words, each in hex or a name.
 pub(crate) fn bytes(alloc: Global, words: &str) -> Result<Vec<u8>, Fail> {
     let mut bytes = Vec::new(alloc);
     for word in words.split_whitespace() {
-        bytes.extend_from_slice(&hex::decode(alloc, meant(word))?)?;
+        push_word(alloc, &mut bytes, word)?;
     }
     Ok(bytes)
 }
@@ -140,4 +107,17 @@ pub(crate) fn is_text(rt: &impl Abort, alloc: Global, row: &str, told: &[u8]) ->
     let want = bytes(alloc, sides(row).1)?;
     same(rt, row, told, want.as_slice());
     Ok(())
+}
+
+/// A call's new bytes are those of the words on the right side of a row, or its refusal is printed there.
+pub(crate) fn is_told<T: Copy + Debug>(
+    rt: &impl Abort,
+    alloc: Global,
+    row: &str,
+    told: Result<Bytes, Refused<T>>,
+) -> Result<(), Fail> {
+    match told {
+        Ok(text) => is_text(rt, alloc, row, text.as_slice()),
+        Err(refused) => is_refused(rt, alloc, row, Some(refused)),
+    }
 }

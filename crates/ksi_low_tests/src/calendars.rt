@@ -26,13 +26,15 @@ fn link(side: Side, first: u8) -> CalendarLink {
     }
 }
 
-fn calendar_of(alloc: Global, start: u64, roots: &[Imprint]) -> Result<Calendar<Tiny>, NoMemory>
-    requires { start + length roots.now ≤ 2 ^ 63 }
-    ensures { IfOk result (λ calendar. calendar ≡ record { start = start; roots = roots.now }) }
+/// The calendar from this second on with these roots.
+fn calendar_of(alloc: Global, start: u64, firsts: &[u8]) -> Result<Calendar<Tiny>, NoMemory>
+    requires { start + length firsts.now ≤ 2 ^ 63 }
+    ensures start { IfOk result (λ calendar. calendar.start ≡ start) }
+    ensures count { IfOk result (λ calendar. length calendar.roots ≡ length firsts.now) }
 {
     let mut calendar = Calendar::new(alloc, start)?;
-    for root in roots {
-        calendar.append(*root)?;
+    for first in firsts {
+        calendar.append(named(*first))?;
     }
     Ok(calendar)
 }
@@ -49,18 +51,25 @@ fn nodes(rt: &impl Abort, calendar: &Calendar<Tiny>, rows: &[(u64, &[Side], Opti
     }
 }
 
+/// These links and no others.
+fn links(rt: &impl Abort, links: &[CalendarLink], want: &[(Side, u8)]) {
+    same(rt, "length", links.len(), want.len());
+    for (at, (side, first)) in want.iter().enumerate() {
+        same(rt, "link", links.get(at), Some(&link(*side, *first)));
+    }
+}
+
 fn chain(
     rt: &impl Abort,
     calendar: &Calendar<Tiny>,
     t: u64,
     p: u64,
-    want: &[CalendarLink],
-) -> Result<(), NoMemory>
+    want: &[(Side, u8)],
+) -> Result<(), Fail>
     requires within { t ≤ p }
     requires covered { p < calendar.now.start + length calendar.now.roots }
 {
-    let links = calendar.chain_to(t, p)?;
-    same(rt, "chain", links.as_slice(), want);
+    links(rt, calendar.chain_to(t, p)?.as_slice(), want);
     Ok(())
 }
 
@@ -83,7 +92,7 @@ fn counted<L: Ledger>(
 fn three_seconds(alloc: Global) -> Result<Calendar<Tiny>, NoMemory>
     ensures { IfOk result (λ calendar. calendar.start + length calendar.roots ≡ 3) }
 {
-    calendar_of(alloc, 0, &[named(0x0a), named(0x14), named(0x1e)])
+    calendar_of(alloc, 0, &[0x0a, 0x14, 0x1e])
 }
 
 #[test]
@@ -107,25 +116,43 @@ fn roots_and_nodes_of_three_seconds_from_zero(rt: HostRuntime) -> Result<(), Fai
     Ok(())
 }
 
-#[test]
-fn chains_of_three_seconds_from_zero(rt: HostRuntime) -> Result<(), Fail> {
-    let calendar = three_seconds(rt.alloc())?;
-    let links = [link(Right, 0x0a), link(Left, 0x1e)];
-    chain(&rt, &calendar, 1, 2, &links)?;
-    chain(&rt, &calendar, 2, 2, &[link(Right, 0x1f)])?;
-    let told = counted::<Brand>(&calendar, 1, 2, Blank::new(1))?;
-    same(&rt, "counted", told.as_slice(), &links);
+static MIDDLE: [(Side, u8); 2] = [(Right, 0x0a), (Left, 0x1e)];
+
+fn chains(rt: &impl Abort, calendar: &Calendar<Tiny>) -> Result<(), Fail>
+    requires { calendar.now.start + length calendar.now.roots ≡ 3 }
+{
+    chain(rt, calendar, 1, 2, &MIDDLE)?;
+    chain(rt, calendar, 2, 2, &[(Right, 0x1f)])?;
+    counted_chain(rt, calendar)
+}
+
+fn counted_chain(rt: &impl Abort, calendar: &Calendar<Tiny>) -> Result<(), Fail>
+    requires { calendar.now.start + length calendar.now.roots ≡ 3 }
+{
+    let told = counted::<Brand>(calendar, 1, 2, Blank::new(1))?;
+    links(rt, told.as_slice(), &MIDDLE);
     Ok(())
 }
 
 #[test]
+fn chains_of_three_seconds_from_zero(rt: HostRuntime) -> Result<(), Fail> {
+    let calendar = three_seconds(rt.alloc())?;
+    chains(&rt, &calendar)
+}
+
+fn begins_at_two(rt: &impl Abort, calendar: &Calendar<Tiny>) -> Result<(), Fail>
+    requires { calendar.now.start + length calendar.now.roots ≡ 3 }
+{
+    same(rt, "start", calendar.start(), 2);
+    roots(rt, calendar, &[(2, Some(0x0c)), (1, None)]);
+    chain(rt, calendar, 2, 2, &[(Right, 0x01)])?;
+    chain(rt, calendar, 0, 2, &[(Left, 0), (Left, 0x0a)])
+}
+
+#[test]
 fn zeros_stand_before_the_start(rt: HostRuntime) -> Result<(), Fail> {
-    let calendar = calendar_of(rt.alloc(), 2, &[named(0x0a)])?;
-    same(&rt, "start", calendar.start(), 2);
-    chain(&rt, &calendar, 2, 2, &[link(Right, 0x01)])?;
-    chain(&rt, &calendar, 0, 2, &[link(Left, 0), link(Left, 0x0a)])?;
-    roots(&rt, &calendar, &[(2, Some(0x0c)), (1, None)]);
-    Ok(())
+    let calendar = calendar_of(rt.alloc(), 2, &[0x0a])?;
+    begins_at_two(&rt, &calendar)
 }
 
 fn zeros_below(rt: &impl Abort, links: &[CalendarLink]) {
@@ -137,10 +164,16 @@ fn zeros_below(rt: &impl Abort, links: &[CalendarLink]) {
     }
 }
 
+fn begins_late(rt: &impl Abort, late: &Calendar<Tiny>) -> Result<(), Fail>
+    requires { late.now.start + length late.now.roots ≡ 1700000001 }
+{
+    let links = late.chain_to(1_700_000_000, 1_700_000_000)?;
+    zeros_below(rt, links.as_slice());
+    Ok(())
+}
+
 #[test]
 fn zeros_stand_before_a_late_start(rt: HostRuntime) -> Result<(), Fail> {
-    let late = calendar_of(rt.alloc(), 1_700_000_000, &[named(0x0a)])?;
-    let links = late.chain_to(1_700_000_000, 1_700_000_000)?;
-    zeros_below(&rt, links.as_slice());
-    Ok(())
+    let late = calendar_of(rt.alloc(), 1_700_000_000, &[0x0a])?;
+    begins_late(&rt, &late)
 }

@@ -1,3 +1,5 @@
+ghost use Rattle.std.specs.Prelude.{◌≤◌, length};
+
 use crate::same::same;
 use ksi_grammar::{
     ElementFault, PublishedContent, RecordContent, algorithm, check, level, put_short, raw,
@@ -5,6 +7,7 @@ use ksi_grammar::{
 };
 use ksi_imprint::{Compress, Imprint, Sha};
 use ksi_tlv::{Elements, Placed, Writer};
+use std::alloc::Global;
 use std::process::Abort;
 use std::test::Fail;
 
@@ -120,19 +123,22 @@ fn writes_the_data_of_a_publication(rt: HostRuntime) -> Result<(), Fail> {
     Ok(())
 }
 
+/// The record of a hash in second 5, where it stands in an element.
+fn is_recorded(rt: &impl Abort, alloc: Global, record: &[u8], hash: Imprint) -> Result<(), Fail>
+    requires { length record.now ≤ 65535 }
+{
+    let mut writer = Writer::new(alloc);
+    put_short(&mut writer, 0x803, record)?;
+    let told = first_recorded(writer.bytes());
+    same(rt, "record", told, Ok(Some((5, hash))));
+    Ok(())
+}
+
 #[test]
 fn writes_a_record_that_is_read_again(rt: HostRuntime) -> Result<(), Fail> {
     static FRONT: [u8; 8] = [0x10, 0x26, 0x02, 0x01, 0x05, 0x04, 0x21, 0x01];
     let hash = Sha::of(b"");
     let record = written_record(rt.alloc(), 5, &hash)?;
     begins(&rt, record.as_slice(), &FRONT, 40);
-    let mut writer = Writer::new(rt.alloc());
-    put_short(&mut writer, 0x803, record.as_slice())?;
-    same(
-        &rt,
-        "record",
-        first_recorded(writer.bytes()),
-        Ok(Some((5, hash))),
-    );
-    Ok(())
+    is_recorded(&rt, rt.alloc(), record.as_slice(), hash)
 }

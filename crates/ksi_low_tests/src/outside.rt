@@ -3,13 +3,14 @@ ghost use Rattle.std.specs.Prelude.{◌≤◌, length};
 use crate::same::same;
 use ksi_imprint::{Bytes, NoMemory};
 use ksi_ports::{
-    Files, HostFiles, HostSink, LoadRefusal, MemFiles, MemSink, SaveRefusal, Sink, SinkFailed,
-    SureFiles, SureSink,
+    Counts, Files, HostFiles, HostSink, LoadRefusal, MemFiles, MemSink, SaveRefusal, Sink,
+    SinkFailed, SureFiles, SureSink,
 };
 use std::alloc::Global;
-use std::fs;
+use std::io::Write;
 use std::process::Abort;
 use std::test::Fail;
+use std::{fs, rt};
 
 fn told(load: &Result<Bytes, LoadRefusal>) -> Result<&[u8], LoadRefusal> {
     match load {
@@ -41,6 +42,17 @@ fn save(
     }
 }
 
+/// The calls, the faults, the saves and the bytes taken.
+fn counted(counts: &Counts) -> [u64; 4] {
+    [counts.calls, counts.faults, counts.saves, counts.taken]
+}
+
+/// What is counted, and what is held of a file.
+fn hold(rt: &impl Abort, files: &MemFiles, counts: [u64; 4], name: &str, bytes: Option<&[u8]>) {
+    same(rt, "counts", counted(&files.counts()), counts);
+    same(rt, name, files.bytes(name), bytes);
+}
+
 fn put<K: Sink>(rt: &impl Abort, out: &mut K, piece: &[u8], want: Result<(), SinkFailed>)
     requires { length piece.now ≤ K.free out.old }
 {
@@ -66,13 +78,7 @@ fn a_load_gives_what_is_held_up_to_its_limit(rt: HostRuntime) -> Result<(), Fail
     ];
     let mut files = held_twice(rt.alloc())?;
     load(&rt, rt.alloc(), &mut files, &LOADS);
-    let counts = [
-        files.counts().faults,
-        files.counts().calls,
-        files.counts().taken,
-    ];
-    same(&rt, "counts", counts, [1, 5, 9]);
-    same(&rt, "c", files.bytes("c"), None);
+    hold(&rt, &files, [5, 1, 0, 9], "c", None);
     Ok(())
 }
 
@@ -98,8 +104,8 @@ fn listed_calls_fail_and_are_counted(rt: HostRuntime) -> Result<(), Fail> {
     let mut files = three_fail(rt.alloc())?;
     load(&rt, rt.alloc(), &mut files, &LOADS);
     save(&rt, rt.alloc(), &mut files, &SAVES);
-    let held = (files.bytes("b"), files.bytes("c"), files.counts().faults);
-    same(&rt, "held", held, (Some(b"two"), None, 3));
+    hold(&rt, &files, [6, 3, 4, 3], "b", Some(b"two"));
+    hold(&rt, &files, [6, 3, 4, 3], "c", None);
     Ok(())
 }
 
@@ -111,9 +117,9 @@ fn two_are_cut(alloc: Global) -> Result<MemSink, NoMemory> {
     Ok(out)
 }
 
-#[test]
-fn puts_append_but_for_those_cut_or_past_the_room(rt: HostRuntime) -> Result<(), Fail> {
-    const PUTS: [(&[u8], Result<(), SinkFailed>); 6] = [
+/// What is put into such a sink.
+fn are_put(rt: &impl Abort, out: &mut MemSink) {
+    static PUTS: [(&[u8], Result<(), SinkFailed>); 6] = [
         (b"ab", Ok(())),
         (b"c", Err(SinkFailed)),
         (b"cdef", Err(SinkFailed)),
@@ -121,38 +127,72 @@ fn puts_append_but_for_those_cut_or_past_the_room(rt: HostRuntime) -> Result<(),
         (b"de", Ok(())),
         (b"", Ok(())),
     ];
-    let mut out = two_are_cut(rt.alloc())?;
-    for (piece, want) in PUTS {
-        put(&rt, &mut out, piece, want);
+    for (piece, want) in &PUTS {
+        put(rt, out, piece, *want);
     }
-    same(&rt, "counts", [out.puts(), out.faults()], [6, 3]);
-    same(&rt, "written", out.written(), b"abcde");
-    Ok(())
+}
+
+fn are_written(rt: &impl Abort, out: &MemSink) {
+    same(rt, "counts", [out.puts(), out.faults()], [6, 3]);
+    same(rt, "written", out.written(), b"abcde");
 }
 
 #[test]
-fn sure_files_read_as_empty_where_nothing_is_held(rt: HostRuntime) -> Result<(), Fail> {
+fn puts_append_but_for_those_cut_or_past_the_room(rt: HostRuntime) -> Result<(), Fail> {
+    let mut out = two_are_cut(rt.alloc())?;
+    are_put(&rt, &mut out);
+    are_written(&rt, &out);
+    Ok(())
+}
+
+fn read_as_empty(rt: &impl Abort, alloc: Global, files: &mut SureFiles) {
     static LOADS: [(&str, usize, Result<&[u8], LoadRefusal>); 3] = [
         ("a", 3, Ok(b"one")),
         ("a", 2, Err(LoadRefusal::TooLong)),
         ("b", 0, Ok(b"")),
     ];
+    static SAVES: [(&str, &[u8], Result<(), SaveRefusal>); 1] = [("a", b"one", Ok(()))];
+    save(rt, alloc, files, &SAVES);
+    load(rt, alloc, files, &LOADS);
+    same(rt, "a", files.bytes("a"), b"one");
+    same(rt, "calls", files.counts().calls, 4);
+}
+
+#[test]
+fn sure_files_read_as_empty_where_nothing_is_held(rt: HostRuntime) -> Result<(), Fail> {
     let mut files = SureFiles::new(rt.alloc());
     files.hold("a", b"old")?;
-    save(&rt, rt.alloc(), &mut files, &[("a", b"one", Ok(()))]);
-    load(&rt, rt.alloc(), &mut files, &LOADS);
-    same(&rt, "a", files.bytes("a"), b"one");
-    same(&rt, "calls", files.counts().calls, 4);
+    read_as_empty(&rt, rt.alloc(), &mut files);
     Ok(())
+}
+
+fn takes_three(rt: &impl Abort, out: &mut SureSink)
+    requires { 3 ≤ out.old.free }
+{
+    put(rt, out, b"abc", Ok(()));
+    same(rt, "free", out.free(), 2);
+    same(rt, "written", out.written(), b"abc");
 }
 
 #[test]
 fn a_sure_sink_takes_what_it_has_room_for(rt: HostRuntime) -> Result<(), Fail> {
     let mut out = SureSink::new(rt.alloc(), 5)?;
-    put(&rt, &mut out, b"abc", Ok(()));
-    same(&rt, "free", out.free(), 2);
-    same(&rt, "written", out.written(), b"abc");
+    takes_three(&rt, &mut out);
     Ok(())
+}
+
+/// What the system's files answer to saves and then to loads, and what they count.
+fn answer(
+    rt: &(impl Abort + rt::Files),
+    alloc: Global,
+    saves: &[(&str, &[u8], Result<(), SaveRefusal>)],
+    loads: &[(&str, usize, Result<&[u8], LoadRefusal>)],
+    counts: [u64; 4],
+) {
+    let mut files = HostFiles::new(rt);
+    save(rt, alloc, &mut files, saves);
+    load(rt, alloc, &mut files, loads);
+    same(rt, "counts", counted(&files.counts()), counts);
 }
 
 #[test]
@@ -169,15 +209,7 @@ fn the_system_saves_and_loads_up_to_the_limit(rt: HostRuntime) {
         ("ksi_ports_limit", 4_999, Err(LoadRefusal::TooLong)),
         ("ksi_ports_saved", 5_000, Ok(b"by")),
     ];
-    let mut files = HostFiles::new(&rt);
-    save(&rt, rt.alloc(), &mut files, &SAVES);
-    load(&rt, rt.alloc(), &mut files, &LOADS);
-    let counts = [
-        files.counts().calls,
-        files.counts().faults,
-        files.counts().taken,
-    ];
-    same(&rt, "counts", counts, [7, 0, 15_002]);
+    answer(&rt, rt.alloc(), &SAVES, &LOADS, [7, 0, 3, 15_002]);
 }
 
 /// A folder is opened, and it is the read that fails.
@@ -188,16 +220,9 @@ fn the_system_loads_no_removed_file_and_no_folder(rt: HostRuntime) -> Result<(),
         ("ksi_ports_gone", 5_000, Err(LoadRefusal::Failed)),
         (".", 5_000, Err(LoadRefusal::Failed)),
     ];
-    let mut files = HostFiles::new(&rt);
-    save(&rt, rt.alloc(), &mut files, &SAVES);
+    answer(&rt, rt.alloc(), &SAVES, &[], [1, 0, 1, 0]);
     fs::remove_file(&rt, "ksi_ports_gone")?;
-    load(&rt, rt.alloc(), &mut files, &LOADS);
-    let counts = [
-        files.counts().calls,
-        files.counts().faults,
-        files.counts().taken,
-    ];
-    same(&rt, "counts", counts, [3, 2, 0]);
+    answer(&rt, rt.alloc(), &[], &LOADS, [2, 2, 0, 0]);
     Ok(())
 }
 
@@ -209,28 +234,25 @@ fn the_system_saves_in_no_missing_folder_and_over_none(rt: HostRuntime) {
         (".", b"by", Err(SaveRefusal::Failed)),
         ("ksi_ports_behind", b"by", Ok(())),
     ];
-    let mut files = HostFiles::new(&rt);
-    save(&rt, rt.alloc(), &mut files, &SAVES);
-    let counts = [
-        files.counts().calls,
-        files.counts().faults,
-        files.counts().saves,
-    ];
-    same(&rt, "counts", counts, [3, 2, 3]);
+    answer(&rt, rt.alloc(), &SAVES, &[], [3, 2, 3, 0]);
 }
 
-#[test]
-fn the_system_writes(rt: HostRuntime) {
-    const PUTS: [(&[u8], Result<(), SinkFailed>); 3] = [
+/// What is put into a sink over a writer.
+fn puts_pass(rt: &impl Abort, out: &mut HostSink<impl Write>) {
+    static PUTS: [(&[u8], Result<(), SinkFailed>); 3] = [
         (b"line ", Ok(())),
         (b"", Ok(())),
         (b"one", Ok(())),
     ];
-    let mut written = Vec::new(rt.alloc());
-    let mut out = HostSink::new(&mut written);
-    for (piece, want) in PUTS {
-        put(&rt, &mut out, piece, want);
+    for (piece, want) in &PUTS {
+        put(rt, out, piece, *want);
     }
-    same(&rt, "counts", [out.puts(), out.faults()], [3, 0]);
+    same(rt, "counts", [out.puts(), out.faults()], [3, 0]);
+}
+
+#[test]
+fn the_system_writes(rt: HostRuntime) {
+    let mut written = Vec::new(rt.alloc());
+    puts_pass(&rt, &mut HostSink::new(&mut written));
     same(&rt, "written", written.as_slice(), b"line one");
 }

@@ -3,6 +3,7 @@ use ksi_imprint::{Bytes, Compress, Imprint, NoMemory, Sha};
 use ksi_publications::{Publications, PublicationsFault, Refused, read, write};
 use std::alloc::Global;
 use std::process::Abort;
+use std::slice;
 use std::test::Fail;
 
 /// The magic and what stands behind it.
@@ -33,10 +34,20 @@ fn lists(
     alloc: Global,
     behind: &[&[u8]],
     want: Result<Option<(u64, Imprint)>, Refused<PublicationsFault>>,
-) -> Result<(), NoMemory> {
+) -> Result<(), Fail> {
     let text = file(alloc, behind)?;
     same(rt, behind.len(), listed(alloc, text.as_slice()), want);
     Ok(())
+}
+
+/// What stands behind the magic has this fault.
+fn has_fault(
+    rt: &impl Abort,
+    alloc: Global,
+    behind: &[&[u8]],
+    fault: PublicationsFault,
+) -> Result<(), Fail> {
+    lists(rt, alloc, behind, Err(Refused::Fault(fault)))
 }
 
 /// A header, and a record of second 0 but for the digest.
@@ -45,14 +56,19 @@ static FRONT: [u8; 19] = [
     0x00, 0x04, 0x21,
 ];
 
+/// The file of a hash in second 0.
+fn is_written(rt: &impl Abort, alloc: Global, hash: Imprint, want: &[u8]) -> Result<(), Fail> {
+    let written = write(alloc, 0, &[(0, hash)])?;
+    same(rt, "written", written.as_slice(), want);
+    Ok(())
+}
+
 #[test]
 fn one_record_is_sixty_bytes(rt: HostRuntime) -> Result<(), Fail> {
     let hash = Sha::of(b"");
     let text = file(rt.alloc(), &[&FRONT, hash.bytes()])?;
-    let written = write(rt.alloc(), 0, &[(0, hash)])?;
     same(&rt, "length", text.as_slice().len(), 60);
-    same(&rt, "written", written.as_slice(), text.as_slice());
-    Ok(())
+    is_written(&rt, rt.alloc(), hash, text.as_slice())
 }
 
 #[test]
@@ -66,8 +82,7 @@ fn reads_one_record_and_nothing_behind_it(rt: HostRuntime) -> Result<(), Fail> {
     )?;
     let fault = PublicationsFault::RefusedElement(1796, 60);
     let behind: [&[u8]; 3] = [&FRONT, hash.bytes(), &[0x87, 0x04, 0x00, 0x00]];
-    lists(&rt, rt.alloc(), &behind, Err(Refused::Fault(fault)))?;
-    Ok(())
+    has_fault(&rt, rt.alloc(), &behind, fault)
 }
 
 #[test]
@@ -134,7 +149,7 @@ fn answers_the_first_fault(rt: HostRuntime) -> Result<(), Fail> {
         ),
     ];
     for (behind, fault) in &ROWS {
-        lists(&rt, rt.alloc(), &[behind], Err(Refused::Fault(*fault)))?;
+        has_fault(&rt, rt.alloc(), slice::from_ref(behind), *fault)?;
     }
     Ok(())
 }
@@ -161,8 +176,7 @@ fn passes_over_what_it_may(rt: HostRuntime) -> Result<(), Fail> {
         rt.alloc(),
         &[front, hash.bytes(), end],
         Ok(Some((5, hash))),
-    )?;
-    Ok(())
+    )
 }
 
 /// The hashes of the seconds 5, 6 and 7 in a file, nothing where it is none.
@@ -175,14 +189,23 @@ fn found(alloc: Global, bytes: &[u8]) -> Option<[Option<Imprint>; 3]> {
     ])
 }
 
+fn are_found(
+    rt: &impl Abort,
+    alloc: Global,
+    pairs: &[(u64, Imprint)],
+    want: [Option<Imprint>; 3],
+) -> Result<(), Fail> {
+    let file = write(alloc, 9, pairs)?;
+    same(rt, "found", found(alloc, file.as_slice()), Some(want));
+    Ok(())
+}
+
 #[test]
 fn finds_the_first_of_a_time(rt: HostRuntime) -> Result<(), Fail> {
     let hash = Sha::of(b"");
     let pairs = [(5, hash), (5, Imprint::ZERO), (7, Imprint::ZERO)];
-    let file = write(rt.alloc(), 9, &pairs)?;
     let want = [Some(hash), None, Some(Imprint::ZERO)];
-    same(&rt, "found", found(rt.alloc(), file.as_slice()), Some(want));
-    Ok(())
+    are_found(&rt, rt.alloc(), &pairs, want)
 }
 
 #[test]

@@ -77,11 +77,17 @@ static LINKS: [TreeLink<u8>; 2] = [
     },
 ];
 
+fn are_two_behind_two(rt: &impl Abort, rows: &Rows<u8, Halved>) -> Result<(), Fail>
+    requires { rows.now.start + length rows.now.items ≡ 4 }
+{
+    leaves(rt, rows);
+    nodes(rt, rows);
+    same(rt, "path", rows.path(2, 3)?.as_slice(), LINKS.as_slice());
+    Ok(())
+}
+
 #[test]
 fn two_leaves_behind_two_that_are_one(rt: HostRuntime) -> Result<(), Fail> {
     let rows = four(rt.alloc())?;
-    leaves(&rt, &rows);
-    nodes(&rt, &rows);
-    same(&rt, "path", rows.path(2, 3)?.as_slice(), LINKS.as_slice());
-    Ok(())
+    are_two_behind_two(&rt, &rows)
 }

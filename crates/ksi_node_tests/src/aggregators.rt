@@ -118,6 +118,15 @@ fn restarts(text: &mut Text, alloc: Global, own: &mut Aggregator<Sha>) {
     put_issued(text, alloc, own, 0);
 }
 
+/// What a new aggregator says to all of these.
+fn put_all(text: &mut Text, alloc: Global) {
+    let mut own = Aggregator::<Sha>::new(alloc, 4);
+    text.number("a", u64::from(own.me()));
+    text.end();
+    goes(text, alloc, &mut own);
+    restarts(text, alloc, &mut own);
+}
+
 const TOLD: &str = "a4
 number 0
 old
@@ -135,11 +144,7 @@ bytes 197 at T 1 3 from A L 0 B at T 1 from AB";
 
 #[test]
 fn a_response_is_taken_once_and_after_the_close(rt: HostRuntime) {
-    let mut own = Aggregator::<Sha>::new(rt.alloc(), 4);
     let mut text = Text::new(rt.alloc());
-    text.number("a", u64::from(own.me()));
-    text.end();
-    goes(&mut text, rt.alloc(), &mut own);
-    restarts(&mut text, rt.alloc(), &mut own);
+    put_all(&mut text, rt.alloc());
     same(&rt, "aggregator 4", text.as_str().trim_end(), TOLD);
 }

@@ -8,6 +8,7 @@ use crate::text::Text;
 use ksi_aggtree::{AddRefusal, Entries, Entry, Item, Origin};
 use ksi_imprint::{Compress, NoMemory, Refused, Sha};
 use std::alloc::Global;
+use std::process::Abort;
 use std::test::Fail;
 
 /// An item that the request 7 made, and one that aggregator 3 submitted.
@@ -43,17 +44,28 @@ fn put_entry(text: &mut Text, entries: &Entries<Sha>, k: usize) -> Result<(), No
 }
 
 /// The candidate and the root, whether there are items of aggregators 3 and 7, and each item with its way.
-fn told(alloc: Global, entries: &Entries<Sha>) -> Result<Text, NoMemory> {
-    let mut text = Text::new(alloc);
+fn put_entries(text: &mut Text, entries: &Entries<Sha>) -> Result<(), NoMemory> {
     text.imprint(&entries.candidate());
-    put_node(&mut text, entries.root());
+    put_node(text, entries.root());
     text.number("a3 ", u64::from(entries.has_from(3)));
     text.number("a7 ", u64::from(entries.has_from(7)));
     text.end();
     for k in 0..entries.count() {
-        put_entry(&mut text, entries, k)?;
+        put_entry(text, entries, k)?;
     }
-    Ok(text)
+    Ok(())
+}
+
+fn are_told(
+    rt: &impl Abort,
+    alloc: Global,
+    entries: &Entries<Sha>,
+    want: &str,
+) -> Result<(), Fail> {
+    let mut text = Text::new(alloc);
+    put_entries(&mut text, entries)?;
+    same(rt, "entries", text.as_str().trim_end(), want);
+    Ok(())
 }
 
 const TWO: &str = "A-B A-B 3 a3 1 a7 0
@@ -62,14 +74,14 @@ a3 B 2 / R 0 A shape 2 A-B 3";
 
 #[test]
 fn items_keep_where_they_came_from(rt: HostRuntime) -> Result<(), Fail> {
-    let told = told(rt.alloc(), &two(rt.alloc())?)?;
-    same(&rt, "two", told.as_str().trim_end(), TWO);
-    Ok(())
+    let entries = two(rt.alloc())?;
+    are_told(&rt, rt.alloc(), &entries, TWO)
 }
+
+const NONE: &str = "Z - a3 0 a7 0";
 
 #[test]
 fn no_items_have_no_root(rt: HostRuntime) -> Result<(), Fail> {
-    let told = told(rt.alloc(), &Entries::new(rt.alloc())?)?;
-    same(&rt, "none", told.as_str().trim_end(), "Z - a3 0 a7 0");
-    Ok(())
+    let entries = Entries::new(rt.alloc())?;
+    are_told(&rt, rt.alloc(), &entries, NONE)
 }

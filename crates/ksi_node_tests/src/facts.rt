@@ -183,10 +183,9 @@ fn are_same(one: &Core<Sha>, other: &Core<Sha>) -> bool {
     same && one.counts() == counts && other.counts() == counts
 }
 
-/// A hundred events of a new core by the numbers that follow this one: the last number, and whether each fact was lawful
-/// and the core came back.
-fn hundred(alloc: Global, first: u64) -> Result<(u64, bool), NoMemory> {
-    let mut node = Node::new(alloc);
+/// A hundred events by the numbers that follow this one: the last number, and whether each fact was lawful and the core
+/// came back.
+fn takes_hundred(alloc: Global, node: &mut Node, first: u64) -> Result<(u64, bool), NoMemory> {
     let mut n = first;
     let mut lawful = true;
     for _ in 0..100usize {
@@ -196,6 +195,12 @@ fn hundred(alloc: Global, first: u64) -> Result<(u64, bool), NoMemory> {
     }
     let back = node.restart(alloc, n)?;
     Ok((n, lawful && back))
+}
+
+/// The same of a new core.
+fn hundred(alloc: Global, first: u64) -> Result<(u64, bool), NoMemory> {
+    let mut node = Node::new(alloc);
+    takes_hundred(alloc, &mut node, first)
 }
 
 #[test]

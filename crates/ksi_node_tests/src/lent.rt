@@ -37,16 +37,22 @@ fn parts_of(items: &[Item; 2], sides: &[Side]) -> Option<NodeParts>
     Tree::<Sha>::over(items)?.parts(sides)
 }
 
+/// The node at these sides, and what it is joined of.
+fn put_at(text: &mut Text, alloc: Global, row: &str) -> Result<(), NoMemory> {
+    let items = two();
+    let sides = sides_of(alloc, row)?;
+    text.word(row);
+    put_node(text, node_over::<Sha>(&items, sides.as_slice()));
+    put_parts(text, &parts_of(&items, sides.as_slice()));
+    text.end();
+    Ok(())
+}
+
 /// The node at each of these sides, and what it is joined of.
 fn nodes(alloc: Global, rows: &str) -> Result<Text, NoMemory> {
     let mut text = Text::new(alloc);
-    let items = two();
     for row in rows.lines() {
-        let sides = sides_of(alloc, row)?;
-        text.word(row);
-        put_node(&mut text, node_over::<Sha>(&items, sides.as_slice()));
-        put_parts(&mut text, &parts_of(&items, sides.as_slice()));
-        text.end();
+        put_at(&mut text, alloc, row)?;
     }
     Ok(text)
 }

@@ -110,29 +110,57 @@ fn put_path(text: &mut Text, round: &Builder<Sha>, k: usize) -> Result<(), NoMem
 
 const SIDES: &str = "L R LL LR RL RR RLL";
 
-/// How many items there are, the root, the way of each item and the nodes at these sides.
-fn tree(alloc: Global, round: &Builder<Sha>) -> Result<Text, NoMemory> {
-    let mut text = Text::new(alloc);
+/// The node at the sides of these letters.
+fn put_node_at(
+    text: &mut Text,
+    alloc: Global,
+    round: &Builder<Sha>,
+    letters: &str,
+) -> Result<(), NoMemory> {
+    let sides = sides_of(alloc, letters)?;
+    text.word(letters);
+    put_node(text, round.node(sides.as_slice()));
+    text.end();
+    Ok(())
+}
+
+/// How many items there are, the root and the way of each item.
+fn put_items(text: &mut Text, round: &Builder<Sha>) -> Result<(), NoMemory> {
     text.number("count ", round.count() as u64);
-    put_node(&mut text, round.root());
+    put_node(text, round.root());
     text.end();
     for k in 0..round.count() {
-        put_path(&mut text, round, k)?;
+        put_path(text, round, k)?;
     }
+    Ok(())
+}
+
+/// The items of a round, and the nodes at these sides.
+fn put_tree(text: &mut Text, alloc: Global, round: &Builder<Sha>) -> Result<(), NoMemory> {
+    put_items(text, round)?;
     for letters in SIDES.split_whitespace() {
-        text.word(letters);
-        put_node(&mut text, round.node(sides_of(alloc, letters)?.as_slice()));
-        text.end();
+        put_node_at(text, alloc, round, letters)?;
     }
-    Ok(text)
+    Ok(())
+}
+
+fn is_tree(
+    rt: &impl Abort,
+    alloc: Global,
+    rows: &str,
+    round: &Builder<Sha>,
+    want: &str,
+) -> Result<(), Fail> {
+    let mut text = Text::new(alloc);
+    put_tree(&mut text, alloc, round)?;
+    same(rt, rows, text.as_str().trim_end(), want);
+    Ok(())
 }
 
 /// The round of the items of rows has this tree.
 fn has_tree(rt: &impl Abort, alloc: Global, rows: &str, want: &str) -> Result<(), Fail> {
     let round = gathered(alloc, rows)?;
-    let told = tree(alloc, &round)?;
-    same(rt, rows, told.as_str().trim_end(), want);
-    Ok(())
+    is_tree(rt, alloc, rows, &round, want)
 }
 
 /// The tree of three items of two levels.

@@ -257,6 +257,12 @@ const POSSIBLE: [(usize, usize); 19] = [
     (8, 1),
 ];
 
+fn all_were_sent(rt: &impl Abort, counts: &Counts) {
+    for message in 4..9 {
+        same(rt, EVENTS[message], counts.sent[message] > 0, true);
+    }
+}
+
 /// Each event had each answer that it may have, and each message was sent.
 fn all_occurred(rt: &impl Abort, counts: &Counts) {
     for (event, answer) in POSSIBLE {
@@ -266,14 +272,26 @@ fn all_occurred(rt: &impl Abort, counts: &Counts) {
         };
         same(rt, EVENTS[event % 10], (answer, occurred), (answer, true));
     }
-    for message in 4..9 {
-        same(rt, EVENTS[message], counts.sent[message] > 0, true);
+    all_were_sent(rt, counts);
+}
+
+fn thousand(
+    rt: &impl Abort,
+    alloc: Global,
+    core: &mut Core<Sha>,
+    plains: &mut [Plain],
+    counts: &mut Counts,
+) {
+    let mut n: u64 = 26;
+    for _ in 0..1000 {
+        n = next(n);
+        step(rt, alloc, core, plains, counts, n / 65_536);
+        settled_alike(rt, core, plains);
     }
 }
 
-#[test]
-fn a_thousand_events_of_a_core_and_a_plain_one(rt: HostRuntime) {
-    let alloc = rt.alloc();
+/// A thousand events in a new core and five plain seconds are counted.
+fn counted_thousand(rt: &impl Abort, alloc: Global, counts: &mut Counts) {
     let mut core = Core::<Sha>::new(alloc, 0, &CorePlan::new(3, T));
     let mut plains = [
         nothing_came(),
@@ -282,15 +300,15 @@ fn a_thousand_events_of_a_core_and_a_plain_one(rt: HostRuntime) {
         nothing_came(),
         nothing_came(),
     ];
+    thousand(rt, alloc, &mut core, &mut plains, counts);
+}
+
+#[test]
+fn a_thousand_events_of_a_core_and_a_plain_one(rt: HostRuntime) {
     let mut counts = Counts {
         answers: [[0; 7]; 10],
         sent: [0; 10],
     };
-    let mut n: u64 = 26;
-    for _ in 0..1000 {
-        n = next(n);
-        step(&rt, alloc, &mut core, &mut plains, &mut counts, n / 65_536);
-        settled_alike(&rt, &core, &plains);
-    }
+    counted_thousand(&rt, rt.alloc(), &mut counts);
     all_occurred(&rt, &counts);
 }

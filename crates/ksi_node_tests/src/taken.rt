@@ -168,15 +168,26 @@ fn step(alloc: Global, two: &mut Two, done: &mut [bool; 7], n: u64) -> [bool; 2]
     [alike, has_next(&two.taking)]
 }
 
-/// A hundred events of new cores, by the numbers that follow this one.
-fn hundred(rt: &impl Abort, alloc: Global, done: &mut [bool; 7], first: u64) -> u64 {
-    let mut two = Two::new(alloc);
+/// A hundred events, by the numbers that follow this one: the last number.
+fn take_hundred(
+    rt: &impl Abort,
+    alloc: Global,
+    two: &mut Two,
+    done: &mut [bool; 7],
+    first: u64,
+) -> u64 {
     let mut n = first;
     for _ in 0..100usize {
         n = next(n);
-        same(rt, n, step(alloc, &mut two, done, n / 65_536), [true; 2]);
+        same(rt, n, step(alloc, two, done, n / 65_536), [true; 2]);
     }
     n
+}
+
+/// The same of new cores.
+fn hundred(rt: &impl Abort, alloc: Global, done: &mut [bool; 7], first: u64) -> u64 {
+    let mut two = Two::new(alloc);
+    take_hundred(rt, alloc, &mut two, done, first)
 }
 
 #[test]

@@ -6,6 +6,7 @@ use crate::text::Text;
 use ksi_corenode::{Core, CorePlan};
 use ksi_imprint::{Compress, Imprint, Sha};
 use ksi_synod::{Begun, Instance, LastVote, SynodMessage, Took, Voters};
+use std::alloc::Global;
 
 const T: u64 = 1_700_000_000;
 
@@ -76,18 +77,21 @@ nothing nothing A nothing A tried 16 promised 0 - A
 promises 16 - votes 1 promises 68719476721 in 16 B tried 16 promised 68719476721 in 16 B A
 last";
 
-#[test]
-fn voters_alone_count(rt: HostRuntime) {
-    let mut text = Text::new(rt.alloc());
-    put_members(&mut text, Voters::all(3));
-    let mut vote = Instance::new(0, Voters::none().with(1));
-    put_begun(&mut text, vote.try_ballot());
+fn put_alone(text: &mut Text, vote: &mut Instance) {
+    put_members(text, Voters::all(3));
+    put_begun(text, vote.try_ballot());
     if vote.sealed().is_none() {
         vote.candidate(Sha::of(b""));
     }
-    put_begun(&mut text, vote.try_ballot());
-    count(&mut text, &mut vote);
-    promise(&mut text, &mut vote, Sha::of(b"abc"));
+    put_begun(text, vote.try_ballot());
+    count(text, vote);
+    promise(text, vote, Sha::of(b"abc"));
+}
+
+#[test]
+fn voters_alone_count(rt: HostRuntime) {
+    let mut text = Text::new(rt.alloc());
+    put_alone(&mut text, &mut Instance::new(0, Voters::none().with(1)));
     same(&rt, "core 1 alone", text.as_str().trim_end(), ALONE);
 }
 
@@ -96,13 +100,18 @@ const LAST: &str = "done stores T
 done / c1 last 68719476721 - stores T promised 68719476721
 last";
 
+/// A core seals, promises the last ballot of another one, and tries a ballot.
+fn put_last_round(text: &mut Text, alloc: Global) {
+    let mut core = Core::<Sha>::new(alloc, 0, &CorePlan::new(3, T));
+    let next = SynodMessage::NextBallot(68_719_476_721);
+    put_step(text, &core.seal(T));
+    put_step(text, &core.receive(1, T, &next));
+    put_step(text, &core.ballot(T));
+}
+
 #[test]
 fn no_ballot_is_behind_the_last_round(rt: HostRuntime) {
-    let mut core = Core::<Sha>::new(rt.alloc(), 0, &CorePlan::new(3, T));
     let mut text = Text::new(rt.alloc());
-    let next = SynodMessage::NextBallot(68_719_476_721);
-    put_step(&mut text, &core.seal(T));
-    put_step(&mut text, &core.receive(1, T, &next));
-    put_step(&mut text, &core.ballot(T));
+    put_last_round(&mut text, rt.alloc());
     same(&rt, "core 0", text.as_str().trim_end(), LAST);
 }

@@ -21,15 +21,20 @@ fn put_line(schedule: &mut Text, line: &str) {
     schedule.end();
 }
 
+/// The lines of a plan and the left sides of rows.
+fn put_schedule(text: &mut Text, plan: &str, rows: &str) {
+    for line in plan.lines() {
+        put_line(text, line);
+    }
+    for row in rows.lines() {
+        put_line(text, side(row, false));
+    }
+}
+
 /// The schedule of a plan and the left sides of rows.
 fn schedule_of(alloc: Global, plan: &str, rows: &str) -> Result<Schedule, Fail> {
     let mut text = Text::new(alloc);
-    for line in plan.lines() {
-        put_line(&mut text, line);
-    }
-    for row in rows.lines() {
-        put_line(&mut text, side(row, false));
-    }
+    put_schedule(&mut text, plan, rows);
     match read_schedule(alloc, text.as_str().as_bytes()) {
         Ok(schedule) => Ok(schedule),
         Err(_) => Err(Fail::from("no schedule")),
@@ -63,6 +68,14 @@ fn put_message(text: &mut Text, message: &Message) {
     }
 }
 
+/// Each message behind so many.
+fn put_sent(text: &mut Text, world: &World<Sha>, before: usize) {
+    for message in world.wire().iter().skip(before) {
+        text.word("/");
+        put_message(text, message);
+    }
+}
+
 /// Takes the event, and tells the answer and each message that is sent.
 fn tell(alloc: Global, world: &mut World<Sha>, event: Event) -> Result<Text, NoMemory>
     requires { IsEvent world.old.plan event }
@@ -72,11 +85,24 @@ fn tell(alloc: Global, world: &mut World<Sha>, event: Event) -> Result<Text, NoM
     let outcome = world.step(event)?;
     let mut text = Text::new(alloc);
     put_answer(&mut text, &outcome.answer);
-    for message in world.wire().iter().skip(before) {
-        text.word("/");
-        put_message(&mut text, message);
-    }
+    put_sent(&mut text, world, before);
     Ok(text)
+}
+
+/// The event tells what stands behind the equals sign of its row.
+fn happens(
+    rt: &impl Abort,
+    alloc: Global,
+    world: &mut World<Sha>,
+    event: Event,
+    row: &str,
+) -> Result<(), Fail>
+    requires { IsEvent world.old.plan event }
+    ensures { world.new.plan ≡ world.old.plan }
+{
+    let told = tell(alloc, world, event)?;
+    same(rt, row, told.as_str(), side(row, true));
+    Ok(())
 }
 
 /// The world after the events of a schedule, each of which tells what stands behind the equals sign of its row.
@@ -90,8 +116,7 @@ fn happened(
     let mut rows = rows.lines();
     'events: for event in schedule.events() {
         let row = rows.next().unwrap_or("");
-        let told = tell(alloc, &mut world, *event)?;
-        same(rt, row, told.as_str(), side(row, true));
+        happens(rt, alloc, &mut world, *event, row)?;
     }
     Ok(world)
 }
@@ -136,6 +161,15 @@ fn put_kept(text: &mut Text, world: &World<Sha>) {
     }
 }
 
+/// The roots that are published.
+fn put_published(text: &mut Text, world: &World<Sha>) {
+    for (second, root) in world.published().iter() {
+        text.number("published ", *second);
+        text.imprint(root);
+        text.end();
+    }
+}
+
 /// The signature of a request.
 fn put_request(text: &mut Text, alloc: Global, world: &World<Sha>, number: u64) {
     text.number("request ", number);
@@ -146,24 +180,38 @@ fn put_request(text: &mut Text, alloc: Global, world: &World<Sha>, number: u64) 
 }
 
 /// How many events, messages and requests there are, what each core has, and what is published, kept and issued.
-fn state(alloc: Global, world: &World<Sha>) -> Text {
-    let mut text = Text::new(alloc);
+fn put_state(text: &mut Text, alloc: Global, world: &World<Sha>) {
     text.number("events ", world.events().len() as u64);
     text.number("messages ", world.wire().len() as u64);
     text.end();
     for core in 0..world.plan().cores() {
-        put_core(&mut text, world, core);
+        put_core(text, world, core);
     }
-    for (second, root) in world.published().iter() {
-        text.number("published ", *second);
-        text.imprint(root);
-        text.end();
-    }
-    put_kept(&mut text, world);
+    put_published(text, world);
+    put_kept(text, world);
     for number in 0..world.requests().len() {
-        put_request(&mut text, alloc, world, number as u64);
+        put_request(text, alloc, world, number as u64);
     }
-    text
+}
+
+/// The world is in this state.
+fn is_so(rt: &impl Abort, alloc: Global, rows: &str, world: &World<Sha>, want: &str) {
+    let mut text = Text::new(alloc);
+    put_state(&mut text, alloc, world);
+    same(rt, rows, text.as_str().trim_end(), want);
+}
+
+/// The world is in this state behind the events of a schedule.
+fn end_so(
+    rt: &impl Abort,
+    alloc: Global,
+    schedule: &Schedule,
+    rows: &str,
+    want: &str,
+) -> Result<(), Fail> {
+    let world = happened(rt, alloc, schedule, rows)?;
+    is_so(rt, alloc, rows, &world, want);
+    Ok(())
 }
 
 /// Each row has an event of the plan and what it tells, and the world is in this state behind them.
@@ -175,8 +223,5 @@ pub(crate) fn are_so(
     want: &str,
 ) -> Result<(), Fail> {
     let schedule = schedule_of(alloc, plan, rows)?;
-    let world = happened(rt, alloc, &schedule, rows)?;
-    let told = state(alloc, &world);
-    same(rt, plan, told.as_str().trim_end(), want);
-    Ok(())
+    end_so(rt, alloc, &schedule, rows, want)
 }

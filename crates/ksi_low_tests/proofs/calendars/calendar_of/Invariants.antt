@@ -1,5 +1,8 @@
-use Rattle.std.proofs.Common.{◌≡◌, take}
+use Rattle.std.proofs.Common.{◌≡◌, length}
 use Rattle.ksi_low_tests.proofs.calendars.calendar_of.Given as goal
 
-abbrev pub invariant-loop-root : goal.invariant-loop-root
-invariant-loop-root l = l.calendar ≡ record { start = l.start; roots = take l.root-index l.roots }
+abbrev pub invariant-loop-first : goal.invariant-loop-first
+invariant-loop-first l = record {
+  start : l.calendar.start ≡ l.start;
+  count : length l.calendar.roots ≡ l.first-index;
+}

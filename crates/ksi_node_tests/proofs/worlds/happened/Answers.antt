@@ -3,8 +3,8 @@ use Rattle.ksi_schedule.specs.Events.{IsEvent, AreEvents}
 use Rattle.ksi_node_tests.proofs.Events.{each_event}
 use Rattle.ksi_node_tests.proofs.worlds.happened.Goals as goal
 
-pub tell-requires : goal.tell-requires
-tell-requires g c =
+pub happens-requires : goal.happens-requires
+happens-requires g c =
     let plan = c.args.schedule.now.plan in
     let events = c.events-event-items in
     let are = subst (AreEvents plan) (sym events.ensures.events) events.ensures.limits.events in
