@@ -18,6 +18,10 @@ MOST_EVENTS = 1_000_000
 """The most events of a schedule."""
 ISSUED = 0x04
 """The kind of a journal's element that has a number and its signature."""
+PUBLISHED = 0x05
+"""The kind of one that has a second and its root."""
+MOST_BYTES = 67_108_864
+"""The most bytes of a journal that `ksi` reads."""
 MAGIC = 8
 """The bytes before a journal's elements."""
 
@@ -94,6 +98,16 @@ def issued_in(journal: bytes) -> Dict[int, bytes]:
     return told_of
 
 
+def published_by(journal: bytes) -> List[Tuple[int, str]]:
+    """The publications of a journal: seconds and their roots in hex."""
+    told_of = []
+    for it in read(journal, MAGIC):
+        if it.kind == PUBLISHED:
+            second, root = read(it.body)
+            told_of.append((number_of(second.body), root.body[1:].hex()))
+    return told_of
+
+
 class Counts(NamedTuple):
     """What was compared and found the same."""
     events: int
@@ -105,7 +119,8 @@ class Counts(NamedTuple):
 
 def replay(folder: str, out: str, samples: int, say=print) -> Counts:
     """Replays the run of a service's folder into OUT/schedule and OUT/journal. Raises Differs where a signature or a publication is
-    another; some of the signatures are taken from the journal by `ksi sign` too. Says and returns what was compared."""
+    another. Where `ksi` reads a journal of that size, some of the signatures are taken from it by `ksi sign` too, and the publications
+    by `ksi publish`. Says and returns what was compared."""
     os.makedirs(out, exist_ok=True)
     at = lambda name: os.path.abspath(os.path.join(out, name))
 
@@ -117,13 +132,16 @@ def replay(folder: str, out: str, samples: int, say=print) -> Counts:
     said = counts(schedule)
     if (int(said["events"]), int(said["messages"])) != (len(schedule.events), schedule.sent):
         raise Differs(f"the run has {len(schedule.events)} events and {schedule.sent} messages, its replay {said['events']} and {said['messages']}")
-    compare(handed, issued_in(files.content_of(at("journal"))))
-    chosen = sorted(handed)[::max(1, -(-len(handed) // samples))]
+    journal = files.content_of(at("journal"))
+    compare(handed, issued_in(journal))
+    is_read = len(journal) <= MOST_BYTES
+    chosen = sorted(handed)[::max(1, -(-len(handed) // samples))] if is_read else []
     for number in chosen:
         ksi("sign", at("journal"), str(number), at("signature"))
         compare({number: handed[number]}, {number: files.content_of(at("signature"))})
     files.remove(at("signature"))
-    counts_of = Counts(len(schedule.events), len(handed), len(chosen), compare_publications(folder, at("journal"), at("publications")))
+    published = published_by_ksi(at("journal"), at("publications")) if is_read else published_by(journal)
+    counts_of = Counts(len(schedule.events), len(handed), len(chosen), compare_publications(folder, published))
     say("ksi replay of the run, %d events, makes all of its signatures (%d, of which ksi sign gave %d) and publications (%d), byte for byte" % counts_of)
     return counts_of
 
@@ -134,12 +152,16 @@ def compare(handed: Dict[int, str], issued: Dict[int, bytes]) -> None:
             raise Differs(f"the signature of request {number} that was handed out is not that of its replay")
 
 
-def compare_publications(folder: str, journal: str, made: str) -> int:
-    """Sees that the service's publications are of the journal. Returns how many there are."""
-    published = Publications(folder).published
-    if published:
-        ksi("publish", journal, made)
-        missing = set(published) - set(published_in(files.content_of(made)))
-        if missing:
-            raise Differs(f"the publication of second {min(missing)[0]} is not that of the run's replay")
-    return len(published)
+def published_by_ksi(journal: str, made: str) -> List[Tuple[int, str]]:
+    """The publications of a journal's file, by `ksi publish`."""
+    ksi("publish", journal, made)
+    return published_in(files.content_of(made))
+
+
+def compare_publications(folder: str, published: List[Tuple[int, str]]) -> int:
+    """Sees that the service's publications are among those of the run's replay. Returns how many there are."""
+    told_of = Publications(folder).published
+    missing = set(told_of) - set(published)
+    if missing:
+        raise Differs(f"the publication of second {min(missing)[0]} is not that of the run's replay")
+    return len(told_of)

@@ -8,7 +8,7 @@ from unittest import mock
 
 import stands
 from ksi_service import calendar as calendars
-from ksi_service import elements, extension, files
+from ksi_service import elements, extension, files, replay
 from ksi_service.calendar import ZERO, Calendar, join
 from ksi_service.proved import Refused, ksi
 from ksi_service.publications import Publications
@@ -70,6 +70,16 @@ class ElementsTest(unittest.TestCase):
             links = [("left" if it.kind == 7 else "right", it.body[1:].hex()) for it in elements.read(calendar.body) if it.kind in (7, 8)]
             parts = elements.parts_of(signature)
             self.assertEqual(elements.extended(parts, last, parts.root, root, links), wanted)
+
+    @unittest.skipIf(stands.missing("ksi"), stands.missing("ksi"))
+    def test_publications_of_a_journal_are_those_of_ksi(self):
+        with tempfile.TemporaryDirectory() as room:
+            ksi("make", "7", "schedule", cwd=room)
+            ksi("replay", "schedule", "journal", cwd=room)
+            journal = os.path.join(room, "journal")
+            published = replay.published_by(files.content_of(journal))
+            self.assertTrue(published)
+            self.assertEqual(published, replay.published_by_ksi(journal, os.path.join(room, "publications")))
 
 
 class Teller:
