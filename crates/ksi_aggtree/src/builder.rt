@@ -13,7 +13,7 @@ use crate::laws::{no_cap, one_chain};
 use crate::over::below;
 use crate::paths::RoundPaths;
 use crate::reached::{Reached, reach};
-use crate::room::{put, reserve_one};
+use crate::room::reserve_one;
 use ksi_aggchain::Node;
 use ksi_imprint::{Compress, Imprint, NoMemory, Refused};
 use ksi_split::{Rows, Side, Steps};
@@ -190,7 +190,7 @@ impl<C: Compress> Builder<C> {
         }
         reserve_one(&mut self.items)?;
         self.rows.append(item.leaf::<C>())?;
-        put(&mut self.items, item);
+        self.items.push_reserved(item);
         Ok(place)
     }
 }

@@ -10,7 +10,7 @@ use crate::builder::{AddRefusal, Builder};
 use crate::item::{Item, MOST_ITEMS};
 use crate::item_path::ItemPath;
 use crate::paths::RoundPaths;
-use crate::room::{put, reserve_one};
+use crate::room::reserve_one;
 use crate::senders::{make_room, note};
 use ksi_aggchain::Node;
 use ksi_imprint::{Compress, Imprint, NoMemory, Refused};
@@ -175,7 +175,7 @@ impl<C: Compress> Entries<C> {
         match self.round.add(entry.item) {
             Ok(_) => {
                 note(&mut self.senders, entry.origin);
-                put(&mut self.origins, entry.origin);
+                self.origins.push_reserved(entry.origin);
                 Ok(place)
             }
             Err(refusal) => Err(refusal),

@@ -1,4 +1,4 @@
-ghost use Rattle.std.specs.Prelude.{◌≡◌, ◌<◌, ◌++◌, ◌∷◌, [], vec_len, vec_capacity, OnOk};
+ghost use Rattle.std.specs.Prelude.{◌≡◌, ◌<◌, vec_len, vec_capacity, OnOk};
 
 use ksi_imprint::NoMemory;
 
@@ -11,16 +11,5 @@ pub(crate) fn reserve_one<T>(vec: &mut Vec<T>) -> Result<(), NoMemory>
         vec.reserve_exact(1)
     } else {
         vec.reserve(1)
-    }
-}
-
-/// Puts one more behind the others, where there is room.
-pub(crate) fn put<T>(vec: &mut Vec<T>, one: T)
-    requires { vec_len vec.old < vec_capacity vec.old }
-    ensures { vec.new.items ≡ vec.old.items ++ one ∷ [] }
-{
-    match vec.push(one) {
-        Ok(()) => {}
-        Err(_) => unreachable!(),
     }
 }

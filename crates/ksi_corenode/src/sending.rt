@@ -63,8 +63,5 @@ fn put(sends: &mut Vec<Send>, core: u8, message: &SynodMessage)
     ensures room { vec_capacity sends.old ≤ vec_capacity sends.new }
     ensures len { vec_len sends.new ≡ vec_len sends.old + 1 }
 {
-    match sends.push(Send::Synod(core, *message)) {
-        Ok(()) => {}
-        Err(_) => unreachable!(),
-    }
+    sends.push_reserved(Send::Synod(core, *message));
 }

@@ -14,18 +14,6 @@ pub(crate) enum Mark {
     Synced,
 }
 
-/// Adds a mark for which there is room.
-fn push(marks: &mut Vec<Mark>, mark: Mark)
-    requires { vec_len marks.old < vec_capacity marks.old }
-    ensures items { marks.new.items ≡ marks.old.items ++ mark ∷ [] }
-    ensures capacity { vec_capacity marks.old ≤ vec_capacity marks.new }
-{
-    match marks.push(mark) {
-        Ok(()) => {}
-        Err(_) => unreachable!(),
-    }
-}
-
 /// Adds a piece for which there is room.
 pub(crate) fn append(bytes: &mut Vec<u8>, piece: &[u8])
     requires { vec_len bytes.old + length piece.now ≤ vec_capacity bytes.old }
@@ -56,14 +44,11 @@ pub(crate) fn note_write(
     ensures marks_capacity { vec_capacity marks.old ≤ vec_capacity marks.new }
     ensures pieces_capacity { vec_capacity pieces.old ≤ vec_capacity pieces.new }
 {
-    push(
-        marks,
-        Mark::Wrote {
-            at,
-            count: piece.len(),
-            succeeded,
-        },
-    );
+    marks.push_reserved(Mark::Wrote {
+        at,
+        count: piece.len(),
+        succeeded,
+    });
     append(pieces, piece);
 }
 
@@ -76,5 +61,5 @@ pub(crate) fn note_sync(marks: &mut Vec<Mark>, _pieces: &Vec<u8>)
     ensures count { vec_len marks.new ≡ vec_len marks.old + 1 }
     ensures capacity { vec_capacity marks.old ≤ vec_capacity marks.new }
 {
-    push(marks, Mark::Synced);
+    marks.push_reserved(Mark::Synced);
 }

@@ -44,14 +44,6 @@ request 0 100 # b/b = Line(Word, 5)
 aggregator 1 parent c0 name al = Line(Word, 5)
 aggregator 1 parent c0 name b/b = Line(Word, 5)";
 
-#[test]
-fn each_line_with_a_name_has_its_fault(rt: HostRuntime) -> Result<(), Fail> {
-    const ONE: &str = "ksi-schedule 1|cores 2|start 100|aggregator 0 parent c0|";
-    const TWO: &str = "ksi-schedule 2|cores 2|start 100|aggregator 0 parent c0|";
-    are_read(&rt, rt.alloc(), TWO, BEHIND_THE_HEADER)?;
-    are_read(&rt, rt.alloc(), ONE, OF_ONE)
-}
-
 /// Whole texts, and what is printed of them.
 const WHOLE: &str =
     "ksi-schedule 2|cores 2|start 100|aggregator 0 parent c0|request 0 100 # = ksi-schedule 1|cores 2|start 100|aggregator 0 parent c0|request 0 100 #|
@@ -61,9 +53,27 @@ ksi-schedule 2|cores 1|start 7|aggregator 0 parent c0|request 0 7 # = ksi-schedu
 ksi-schedule 2|cores 3|start 7|members 7 c1|aggregator 0 parent c1 name *|aggregator 1 parent a0|request 1 8 # * = ksi-schedule 2|cores 3|start 7|members 7 c1|aggregator 0 parent c1 name *|aggregator 1 parent a0|request 1 8 # *|
 ksi-schedule 2|cores 1|start 7|aggregator 0 parent c0 name bob|aggregator 1 parent a0|request 1 7 # al|request 0 8 #| = ksi-schedule 2|cores 1|start 7|aggregator 0 parent c0 name bob|aggregator 1 parent a0|request 1 7 # al|request 0 8 #|";
 
+/// Headers, and behind each rows of lines.
+static TEXTS: [(&str, &str); 3] = [
+    (
+        "ksi-schedule 2|cores 2|start 100|aggregator 0 parent c0|",
+        BEHIND_THE_HEADER,
+    ),
+    (
+        "ksi-schedule 1|cores 2|start 100|aggregator 0 parent c0|",
+        OF_ONE,
+    ),
+    ("", WHOLE),
+];
+
 #[test]
-fn each_text_with_a_name_is_printed_in_one_way(rt: HostRuntime) -> Result<(), Fail> {
-    are_read(&rt, rt.alloc(), "", WHOLE)
+fn each_text_with_a_name_is_printed_in_one_way_or_has_its_fault(
+    rt: HostRuntime,
+) -> Result<(), Fail> {
+    for (header, rows) in &TEXTS {
+        are_read(&rt, rt.alloc(), header, rows)?;
+    }
+    Ok(())
 }
 
 fn has_parents(rt: &impl Abort, parents: &[Parent]) {

@@ -85,12 +85,6 @@ ksi-schedule 1|cores 1|cores 1 = Line(Header, 3)
 ksi-schedule 1|cores 1|start 9223372036837998592 = ksi-schedule 1|cores 1|start 9223372036837998592|
 ksi-schedule 1|cores 1|start 0|aggregator 0 parent c0|request 0 0 ~ = Line(Hash, 5)";
 
-#[test]
-fn each_text_is_printed_in_one_way(rt: HostRuntime) -> Result<(), Fail> {
-    are_read(&rt, rt.alloc(), WHOLE_PATH, " = ")?;
-    are_read(&rt, rt.alloc(), "", WHOLE)
-}
-
 /// Lines behind `ksi-schedule 1`, `cores 2`, `start 100` and two aggregators, of which the first is line 6.
 const BEHIND_THE_HEADER: &str = "seal 0 100 = seal 0 100|
 seal 0 100| = seal 0 100|
@@ -142,13 +136,6 @@ request 1 100 #0 = Line(Hash, 6)
 aggregator 3 parent c0 = Line(Header, 6)
 aggregator 1 parent c0 = Line(Header, 6)";
 
-#[test]
-fn each_line_behind_the_header_has_its_fault(rt: HostRuntime) -> Result<(), Fail> {
-    const HEADER: &str =
-        "ksi-schedule 1|cores 2|start 100|aggregator 0 parent c0|aggregator 1 parent a0|";
-    are_read(&rt, rt.alloc(), HEADER, BEHIND_THE_HEADER)
-}
-
 /// Lines behind `ksi-schedule 2`, `cores 3` and `start 100`, of which the first is line 4.
 const WHO_VOTES: &str = "members 100 c0 = members 100 c0|
 members 100 c0 c1 c2|members 16777315 c1|aggregator 0 parent c0|seal 0 100 = members 100 c0 c1 c2|members 16777315 c1|aggregator 0 parent c0|seal 0 100|
@@ -182,16 +169,36 @@ members 100 c0 c2 c1 = Line(Header, 4)
 members 100 c0|members 100 c1 = Line(Header, 5)
 members 101 c0|members 100 c1 = Line(Header, 5)";
 
+/// A ninth aggregator behind eight that stand above one another.
+const NINTH: &str = " = 
+aggregator 8 parent a7| = Line(Header, 12)
+aggregator 8 parent a6| = aggregator 8 parent a6|";
+
+/// Headers, and behind each rows of lines.
+static TEXTS: [(&str, &str); 6] = [
+    (WHOLE_PATH, " = "),
+    ("", WHOLE),
+    (
+        "ksi-schedule 1|cores 2|start 100|aggregator 0 parent c0|aggregator 1 parent a0|",
+        BEHIND_THE_HEADER,
+    ),
+    ("ksi-schedule 2|cores 3|start 100|", WHO_VOTES),
+    (
+        "ksi-schedule 1|cores 3|start 100|",
+        "members 100 c0 = Line(Word, 4)",
+    ),
+    (
+        "ksi-schedule 1|cores 1|start 0|aggregator 0 parent c0|aggregator 1 parent a0|aggregator 2 parent a1|aggregator 3 parent a2|aggregator 4 parent a3|aggregator 5 parent a4|aggregator 6 parent a5|aggregator 7 parent a6|",
+        NINTH,
+    ),
+];
+
 #[test]
-fn each_line_that_says_who_votes_has_its_fault(rt: HostRuntime) -> Result<(), Fail> {
-    are_read(
-        &rt,
-        rt.alloc(),
-        "ksi-schedule 2|cores 3|start 100|",
-        WHO_VOTES,
-    )?;
-    let first = "members 100 c0 = Line(Word, 4)";
-    are_read(&rt, rt.alloc(), "ksi-schedule 1|cores 3|start 100|", first)
+fn each_text_is_printed_in_one_way_or_has_its_fault(rt: HostRuntime) -> Result<(), Fail> {
+    for (header, rows) in &TEXTS {
+        are_read(&rt, rt.alloc(), header, rows)?;
+    }
+    Ok(())
 }
 
 /// So many lines that say who votes, a second apart.
@@ -226,16 +233,6 @@ fn two_hundred_and_fifty_six_lines_may_say_who_votes(rt: HostRuntime) -> Result<
         may_vote(&rt, rt.alloc(), row)?;
     }
     Ok(())
-}
-
-#[test]
-fn eight_aggregators_may_stand_above_one_another(rt: HostRuntime) -> Result<(), Fail> {
-    const CHAIN: &str =
-        "ksi-schedule 1|cores 1|start 0|aggregator 0 parent c0|aggregator 1 parent a0|aggregator 2 parent a1|aggregator 3 parent a2|aggregator 4 parent a3|aggregator 5 parent a4|aggregator 6 parent a5|aggregator 7 parent a6|";
-    const NINTH: &str = " = 
-aggregator 8 parent a7| = Line(Header, 12)
-aggregator 8 parent a6| = aggregator 8 parent a6|";
-    are_read(&rt, rt.alloc(), CHAIN, NINTH)
 }
 
 #[test]

@@ -65,11 +65,6 @@ const FAULTS: &str = " = Tlv(0)
 88000060 88010031 0200 030101 0521 A 060101 0704 0100 0100 K = Repeated(1, 55)
 88000060 88010031 0200 030101 0521 A 060101 0704 0102 0100 K = Number(53)";
 
-#[test]
-fn answers_the_first_fault(rt: HostRuntime) -> Result<(), Fail> {
-    are_read(&rt, rt.alloc(), FAULTS)
-}
-
 /// Worked out by hand: two chains, of one and of two index parts, a calendar chain without an aggregation time and a
 /// publication record, with unknown elements in each, a long header of a short kind and numbers with zeros before them.
 pub(crate) const TWO_CHAINS: &str =
@@ -85,9 +80,16 @@ const WRITTEN: &str = "8800005a G K = 8800005a G K
 88000061 88010032 0200 030101 0521 A 060101 0705 0100 040105 K = 8800005f 88010030 0200 030101 0521 A 060101 0703 040105 K
 88000063 88010034 0200 030101 0521 A 060101 0707 0301ff 01020007 K = 88000062 88010033 0200 030101 0521 A 060101 0706 010107 0301ff K";
 
+static TABLES: [&str; 2] = [FAULTS, WRITTEN];
+
 #[test]
-fn writes_in_the_order_of_the_format(rt: HostRuntime) -> Result<(), Fail> {
-    are_read(&rt, rt.alloc(), WRITTEN)
+fn answers_the_first_fault_or_writes_in_the_order_of_the_format(
+    rt: HostRuntime,
+) -> Result<(), Fail> {
+    for rows in &TABLES {
+        are_read(&rt, rt.alloc(), rows)?;
+    }
+    Ok(())
 }
 
 /// One chain with so many bytes of input data and nothing else.

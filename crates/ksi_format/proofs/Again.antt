@@ -1,5 +1,5 @@
 -- What is written of a value is read again.
-use Rattle.std.proofs.Common.{◌≡◌, ℕ, ◌+◌, ◌^◌, ◌<◌, ◌≤◌, true, false, ◌&&◌, ltb, eqb, List, [], ◌∷◌, ◌++◌, length, Ok, refl, ap, ◌∙◌, arith}
+use Rattle.std.proofs.Common.{◌≡◌, ℕ, ◌+◌, ◌^◌, ◌<◌, ◌≤◌, true, false, ◌&&◌, ltb, eqb, List, [], ◌∷◌, ◌++◌, length, Ok, refl, ap, ◌∙◌, arith, length-append}
 use Rattle.std.specs.List.{AllByRecursion}
 use Rattle.std.proofs.lemmas.Bool.{lt-ltb, le-ltb, eq-eqb, cond_both}
 use Rattle.ksi_imprint.specs.Imprints.{IsImprint}
@@ -19,7 +19,7 @@ pub record Written : Type 0 where
   pub value : (n : ℕ) → n < 2 ^ 64 → number_of (numeral n) ≡ n
   pub size : (n : ℕ) → length (numeral n) ≤ 8
 
-imprint_is : (bytes : List ℕ) → IsImprint bytes → imprints.imprint_at bytes ≡ Ok bytes
+pub imprint_is : (bytes : List ℕ) → IsImprint bytes → imprints.imprint_at bytes ≡ Ok bytes
 imprint_is [] is = absurd (let s = is.size in omega arith)
 imprint_is (a ∷ digest) is =
     let one : eqb a 1 ≡ true = eq-eqb a 1 is.algorithm in
@@ -35,6 +35,12 @@ fits_imprint kind bytes lt is = record { kind = omega arith; body = (let s = is.
 
 pub length-canonical : (e : Tlv) → length (canonical e) ≤ 4 + length e.body
 length-canonical e = cond_both (ltb e.kind 32 && ltb (length e.body) 256) (short_form e) (long_form e) (λ (text : List ℕ). length text ≤ 4 + length e.body) (λ yes. omega arith) (λ no. omega arith)
+
+pub length-two : (e f : Tlv) → length (texts (e ∷ f ∷ [])) ≤ 8 + length e.body + length f.body
+length-two e f = rw (length-append (canonical e) (canonical f ++ []), length-append (canonical f) []) (omega (arith, length-canonical e, length-canonical f))
+
+pub length-three : (e f g : Tlv) → length (texts (e ∷ f ∷ g ∷ [])) ≤ 12 + length e.body + length f.body + length g.body
+length-three e f g = rw (length-append (canonical e) (canonical f ++ (canonical g ++ [])), length-append (canonical f) (canonical g ++ []), length-append (canonical g) []) (omega (arith, length-canonical e, length-canonical f, length-canonical g))
 
 module _ (laws : Written) where
   pub numeral_again : (at : PlacedTlv) (n : ℕ) → at.element.body ≡ numeral n → n < 2 ^ 64 → number_in at ≡ Ok n

@@ -16,7 +16,7 @@ pub record Laws (S F : Type 0) : Type 0 where
   pub fault : (o : Order S F) (end : ℕ) (items : Items) (s : S) (fault : F) → (walked o end items s ≡ Err fault) ↔ IsFirstFault o end items s fault
 
 -- the bytes begin with the magic, or not
-begins : (magic bytes : List ℕ) → bytes_eq (take (length magic) bytes) magic ≡ true → bytes ≡ magic ++ drop (length magic) bytes
+pub begins : (magic bytes : List ℕ) → bytes_eq (take (length magic) bytes) magic ≡ true → bytes ≡ magic ++ drop (length magic) bytes
 begins magic bytes is = sym (take-append-drop (length magic) bytes) ∙ ap (λ (front : List ℕ). front ++ drop (length magic) bytes) ((bytes_eq-Decides (take (length magic) bytes) magic).0 is)
 
 begun : (magic rest : List ℕ) → bytes_eq (take (length magic) (magic ++ rest)) magic ≡ true

@@ -2,3 +2,4 @@ pub mod Files
 pub mod Refusing
 pub mod Steps
 pub mod Again
+pub mod Texts

@@ -6,7 +6,7 @@ use Rattle.ksi_imprint.specs.declared.refused.Refused.TheVariants.{Fault, NoMemo
 use Rattle.ksi_tlv.specs.Walking.{PlacedTlv, Items}
 use Rattle.ksi_order.specs.Order.{Order}
 use Rattle.ksi_order.specs.Sequence.{IsFirstFault, IsWanting, Tells}
-use Rattle.ksi_format.specs.Format.{Format, behind, end_of, IsFileFault, IsWantingInside}
+use Rattle.ksi_format.specs.Format.{Format, behind, end_of, IsFaultInside, IsFileFault, IsWantingInside}
 
 abbrev refusal : {F : Type 0} → Refused F → Result (Unit {0}) (Refused F)
 refusal refused = Err refused
@@ -17,11 +17,18 @@ pub elements_refused : {S F : Type 0} (A : Type 0) (o : Order S F) (wants : S �
 elements_refused A o wants end items s t (Fault fault) told wanting = told
 elements_refused A o wants end items s t NoMemory told wanting = wanting refl
 
+pub inside_refused : {S F A : Type 0} (f : Format S F A) (wants : S → PlacedTlv → Type 0) (bytes rest : List ℕ) (s t : S) (refused : Refused F)
+    → bytes ≡ f.magic ++ rest → s ≡ f.start → Tells f.order (end_of f rest) (behind f rest) s t (Err refused)
+    → (refusal refused ≡ Err NoMemory → IsWanting f.order wants (behind f rest) s)
+    → IfRefused {T = A} (Err refused) (IsFaultInside f bytes) (IsWantingInside f wants bytes)
+inside_refused {S} f wants bytes rest s t (Fault fault) begins start told wanting =
+    record { rest = rest; begins = begins; first = subst (λ (u : S). IsFirstFault f.order (end_of f rest) (behind f rest) u fault) start told }
+inside_refused {S} f wants bytes rest s t NoMemory begins start told wanting =
+    record { rest = rest; begins = begins; inside = subst (λ (u : S). IsWanting f.order wants (behind f rest) u) start (wanting refl) }
+
 pub file_refused : {S F A : Type 0} (f : Format S F A) (wants : S → PlacedTlv → Type 0) (bytes rest : List ℕ) (s t : S) (refused : Refused F)
     → bytes ≡ f.magic ++ rest → s ≡ f.start → Tells f.order (end_of f rest) (behind f rest) s t (Err refused)
     → (refusal refused ≡ Err NoMemory → IsWanting f.order wants (behind f rest) s)
     → IfRefused {T = A} (Err refused) (IsFileFault f bytes) (IsWantingInside f wants bytes)
-file_refused {S} {F} f wants bytes rest s t (Fault fault) begins start told wanting =
-    inr (record { rest = rest; begins = begins; first = subst (λ (u : S). IsFirstFault f.order (end_of f rest) (behind f rest) u fault) start told })
-file_refused {S} f wants bytes rest s t NoMemory begins start told wanting =
-    record { rest = rest; begins = begins; inside = subst (λ (u : S). IsWanting f.order wants (behind f rest) u) start (wanting refl) }
+file_refused f wants bytes rest s t (Fault fault) begins start told wanting = inr (inside_refused f wants bytes rest s t (Fault fault) begins start told wanting)
+file_refused f wants bytes rest s t NoMemory begins start told wanting = inside_refused f wants bytes rest s t NoMemory begins start told wanting

@@ -23,6 +23,11 @@ pub bind_ok : {A B F : Type 0} (r : Result A F) (f : A → Result B F) (b : B) �
 bind_ok (Ok a) f b e = (a, refl, e)
 bind_ok (Err d) f b e = absurd cc
 
+-- what both readings say, the one after the other
+pub each_of : {A B F P : Type 0} {next : A → Result B F} {b : B} (r : Result A F) → (r >>= next) ≡ Ok b → ((a : A) → r ≡ Ok a → next a ≡ Ok b → P) → P
+each_of (Ok a) e then = then a refl e
+each_of (Err fault) e then = absurd cc
+
 pub or_named_ok : {A F : Type 0} (named : OrderFault → F) (r : Result A OrderFault) (a : A) → or_named named r ≡ Ok a → r ≡ Ok a
 or_named_ok named (Ok b) a e = cc
 or_named_ok named (Err fault) a e = absurd cc
@@ -36,6 +41,10 @@ ok_is a b e = cc
 pub if_ok : {A F : Type 0} (test : Bool) (r : Result A F) (fault : F) (a : A) → cond test r (Err fault) ≡ Ok a → (test ≡ true) × (r ≡ Ok a)
 if_ok true r fault a e = (refl, e)
 if_ok false r fault a e = absurd cc
+
+pub test_ok : {A F : Type 0} (test : Bool) (x : A) (fault : F) (y : A) → cond test (Ok x) (Err fault) ≡ Ok y → (test ≡ true) × (x ≡ y)
+test_ok true x fault y e = (refl, cc)
+test_ok false x fault y e = absurd cc
 
 pub if_not_ok : {A F : Type 0} (test : Bool) (fault : F) (r : Result A F) (a : A) → cond test (Err fault) r ≡ Ok a → (test ≡ false) × (r ≡ Ok a)
 if_not_ok true fault r a e = absurd cc
@@ -55,6 +64,10 @@ any_kind P (k ∷ ks) kind may all = by (eqb k kind) refl may (λ may. any_kind 
 pub all_more : {A : Type 0} (P : A → Type 0) (xs : List A) (x : A) → AllByRecursion P xs → P x → AllByRecursion P (xs ++ x ∷ [])
 all_more P [] x all p = (p, tt)
 all_more P (y ∷ xs) x all p = (all.0, all_more P xs x all.1 p)
+
+pub all_less : {A : Type 0} (P : A → Type 0) (xs : List A) (x : A) → AllByRecursion P (xs ++ x ∷ []) → AllByRecursion P xs × P x
+all_less P [] x all = (tt, all.0)
+all_less P (y ∷ xs) x all = let less = all_less P xs x all.1 in ((all.0, less.0), less.1)
 
 pub kinds_more : (es : List PlacedTlv) (at : PlacedTlv) (kind : ℕ) (ks : List ℕ) → kinds_of es ≡ ks → at.element.kind ≡ kind → kinds_of (es ++ at ∷ []) ≡ ks ++ kind ∷ []
 kinds_more es at kind ks same is = map-append (λ (at : PlacedTlv). at.element.kind) es (at ∷ []) ∙ ap (λ (ns : List ℕ). ns ++ at.element.kind ∷ []) same ∙ ap (λ (k : ℕ). ks ++ k ∷ []) is

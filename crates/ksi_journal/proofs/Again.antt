@@ -1,44 +1,35 @@
 -- What is written is loaded again.
-use Rattle.std.proofs.Common.{◌≡◌, ℕ, suc, ◌+◌, ◌-◌, ◌^◌, ◌<◌, ◌≤◌, Bool, true, false, cond, ◌&&◌, ltb, leb, eqb, List, [], ◌∷◌, ◌++◌, ◌||◌, length, map, take, drop, get_or, Option, Some, None, Ok, ◌⊎◌, inl, inr, refl, sym, ap, subst, ◌∙◌, arith, append_assoc, append-nil, length-append}
-use Rattle.std.specs.Prelude.{IfSome}
+use Rattle.std.proofs.Common.{◌≡◌, ℕ, suc, ◌+◌, ◌-◌, ◌^◌, ◌<◌, ◌≤◌, Bool, true, false, cond, ◌&&◌, leb, eqb, List, [], ◌∷◌, ◌++◌, ◌||◌, length, map, Option, Some, None, Ok, ◌⊎◌, inl, inr, refl, sym, ap, subst, ◌∙◌, arith, append_assoc, append-nil}
 use Rattle.std.specs.List.{AllByRecursion, list_any}
 use Rattle.std.specs.Option.{is_some}
 use Rattle.std.specs.Str.{bytes_eq}
-use Rattle.std.proofs.lemmas.Bool.{lt-ltb, le-ltb, le-leb, ne_eqb, eq-eqb, cond_both}
-use Rattle.std.proofs.Math.Seq.{take-append_seam, drop-append_seam, get_or-append_seam}
+use Rattle.std.proofs.lemmas.Bool.{le-leb, ne_eqb, eq-eqb}
 use Rattle.std.proofs.lemmas.Slice.Eq.{bytes_eq-Decides}
 use Rattle.ksi_imprint.specs.Imprints.{IsImprint, zero_imprint}
-use Rattle.ksi_imprint.specs.Reading as imprints
-use Rattle.ksi_tlv.specs.Spelling.{Tlv, FitsLong, plain, canonical, short_form, long_form}
-use Rattle.ksi_tlv.specs.Walking.{PlacedTlv, placed_at, elements, items_of}
-use Rattle.ksi_tlv.specs.Numerals.{number_of, numeral}
-use Rattle.ksi_tlv.specs.Writing.{texts, placed}
+use Rattle.ksi_tlv.specs.Spelling.{Tlv, FitsLong, plain, canonical}
+use Rattle.ksi_tlv.specs.Walking.{PlacedTlv, placed_at, elements}
+use Rattle.ksi_tlv.specs.Numerals.{numeral}
+use Rattle.ksi_tlv.specs.Writing.{placed}
 use Rattle.ksi_grammar.specs.Contents.{time_in, imprint_in}
 use Rattle.ksi_aggtree.specs.declared.item.Item.{Item}
-use Rattle.ksi_aggtree.specs.Rounds.{named_level, tree_of}
-use Rattle.ksi_aggtree.specs.Names.{IsName}
+use Rattle.ksi_aggtree.specs.Rounds.{tree_of}
 use Rattle.ksi_synod.specs.declared.core_plan.VotersFrom.{VotersFrom}
 use Rattle.ksi_journal.specs.declared.version.Version.{Version}
 use Rattle.ksi_journal.specs.declared.version.Version.TheVariants as versions
 use Rattle.ksi_journal.specs.Voters.{bits_of, cores_in}
 use Rattle.ksi_journal.proofs.Bits.{Listed, cores_again, bits_small}
+use Rattle.ksi_journal.proofs.Items.{item_again, items_fit}
 use Rattle.ksi_order.specs.Order.{may_stand}
 use Rattle.ksi_order.specs.Sequence.{Leads}
 use Rattle.ksi_order.specs.Fields.{field, done}
 use Rattle.ksi_order.specs.Values.{number_at, time_at, imprint_at}
+use Rattle.ksi_format.proofs.Again.{Written, number_again, time_again, imprint_again, fits_number, fits_imprint, length-two, length-three, file_again}
 use Rattle.ksi_aggtree.specs.declared.second.Second.{Second}
 use Rattle.ksi_journal.specs.declared.stage.Stage.TheVariants as stages
 use Rattle.ksi_journal.specs.Journal.{Contents, RiseFrom, IsVoters, IsItem, IsRootOf, IsSecond, IsIssued, IsPublication, IsJournal}
-use Rattle.ksi_journal.specs.Elements.{Loaded, started, start_at, voters_from, with_voters, voters_at, counts, closed, opened, said_at, read_second, head_in, plain_in, is_name, named_in, item_in, with_item, added, item_at, signature_at, with_issued, issued_at, published_at, with_publication, publication_at, end_at, element_read, journal_order, nothing_yet, is_end, kinds_next}
-use Rattle.ksi_journal.specs.File.{IsJournalFile}
+use Rattle.ksi_journal.specs.Elements.{Loaded, rising, dated, started, start_at, voting, voters_from, with_voters, voters_at, counts, closed, opened, said_at, read_second, with_item, added, item_at, numbered, signature_at, with_issued, issued_at, published_at, with_publication, publication_at, end_at, element_read, journal_order, nothing_yet, is_end, kinds_next}
+use Rattle.ksi_journal.specs.File.{magic, journal_format, IsJournalFile}
 use Rattle.ksi_journal.specs.Written.{voter_elements, voters_element, element_with, has_name, has_some, needs_two, Allows, version_of, text_in, head_elements, second_element, item_element, kept_elements, seconds_elements, pair_elements, issued_element, publication_element, journal_elements}
-
--- the laws of what is written
-pub record Written : Type 0 where
-  pub texts : (place : ℕ) (es : List Tlv) → AllByRecursion FitsLong es → elements place (texts es) ≡ items_of (placed place es)
-  pub value : (n : ℕ) → n < 2 ^ 64 → number_of (numeral n) ≡ n
-  pub size : (n : ℕ) → length (numeral n) ≤ 8
-  pub listed : Listed
 
 -- ---- the states that elements lead to
 
@@ -124,40 +115,12 @@ published_contents : (s : Loaded) (xs : List (ℕ × List ℕ)) → (after_publi
 published_contents s [] = ap (λ (xs : List (ℕ × List ℕ)). record s.contents { publications = xs }) (sym (append-nil s.contents.publications))
 published_contents s (x ∷ others) = published_contents (with_publication s x) others ∙ ap (λ (xs : List (ℕ × List ℕ)). record s.contents { publications = xs }) (append_assoc s.contents.publications (x ∷ []) others)
 
-module _ (laws : Written) where
-  number_again : (at : PlacedTlv) (n : ℕ) → at.element.body ≡ numeral n → n < 2 ^ 64 → number_at at ≡ Ok n
-  unfolding number_at
-  number_again at n is lt =
-      let short : ltb 8 (length at.element.body) ≡ false = le-ltb _ _ (let e = ap (λ (x : List ℕ). length x) is in let s = laws.size n in omega arith) in
-      let value : number_of at.element.body ≡ n = ap number_of is ∙ laws.value n lt in
-      rw (short, value) refl
-
-  time_again : (at : PlacedTlv) (n : ℕ) → at.element.body ≡ numeral n → n < 2 ^ 63 → time_at at ≡ Ok n
-  unfolding time_at time_in
-  time_again at n is lt =
-      let short : ltb 8 (length at.element.body) ≡ false = le-ltb _ _ (let e = ap (λ (x : List ℕ). length x) is in let s = laws.size n in omega arith) in
-      let value : number_of at.element.body ≡ n = ap number_of is ∙ laws.value n (omega (arith, lt)) in
-      rw (short, value, lt-ltb n (2 ^ 63) lt) refl
-
-  imprint_is : (bytes : List ℕ) → IsImprint bytes → imprints.imprint_at bytes ≡ Ok bytes
-  imprint_is [] is = absurd (let s = is.size in omega arith)
-  imprint_is (a ∷ digest) is =
-      let one : eqb a 1 ≡ true = eq-eqb a 1 is.algorithm in
-      let size : eqb (length digest) 32 ≡ true = eq-eqb (length digest) 32 (let s = is.size in omega arith) in
-      rw (one, size) refl
-
-  imprint_again : (at : PlacedTlv) → IsImprint at.element.body → imprint_at at ≡ Ok at.element.body
-  unfolding imprint_at imprint_in
-  imprint_again at is = rw (imprint_is at.element.body is) refl
-
-  fits_number : (kind n : ℕ) → kind < 32 → FitsLong (plain kind (numeral n))
-  fits_number kind n lt = record { kind = omega arith; body = (let s = laws.size n in omega arith) }
-
+module _ (laws : Written) (listed : Listed) where
   -- ---- what stands inside
 
   said_from : (least : ℕ) (at a b c : PlacedTlv) (t n : ℕ) (root : List ℕ) → elements at.inside at.element.body ≡ Ok a ∷ Ok b ∷ Ok c ∷ []
       → a.element.kind ≡ 1 → b.element.kind ≡ 2 → c.element.kind ≡ 3 → time_at a ≡ Ok t → leb least t ≡ true → imprint_at b ≡ Ok root → number_at c ≡ Ok n → said_at least at ≡ Ok (t, root, n)
-  unfolding said_at field done time_at time_in imprint_at imprint_in number_at
+  unfolding said_at dated rising field done time_at time_in imprint_at imprint_in number_at
   said_from least at a b c t n root split ka kb kc ta rises ib nc = rw (split, ka, ta, rises, kb, ib, kc, nc) refl
 
   said_again : (least : ℕ) (kept : Second) (place n : ℕ) → kept.second < 2 ^ 63 → least ≤ kept.second → IsImprint kept.root → length kept.items ≤ 65536
@@ -167,18 +130,17 @@ module _ (laws : Written) where
       let one : Tlv = plain 1 (numeral kept.second) in
       let two : Tlv = plain 2 kept.root in
       let three : Tlv = plain 3 (numeral (length kept.items)) in
-      let size = root.size in
-      let fits : AllByRecursion FitsLong (head_elements kept) = (fits_number 1 kept.second (omega arith), (record { kind = omega arith; body = omega arith }, (fits_number 3 (length kept.items) (omega arith), tt))) in
+      let fits : AllByRecursion FitsLong (head_elements kept) = (fits_number laws 1 kept.second (omega arith), (fits_imprint 2 kept.root (omega arith) root, (fits_number laws 3 (length kept.items) (omega arith), tt))) in
       said_from least (placed_at place (second_element kept) n) _ _ _ kept.second (length kept.items) kept.root
       (laws.texts at.inside (head_elements kept) fits) refl refl refl
-      (time_again (placed_at at.inside one (length (canonical one))) kept.second refl early) (le-leb least kept.second rises)
+      (time_again laws (placed_at at.inside one (length (canonical one))) kept.second refl early) (le-leb least kept.second rises)
       (imprint_again (placed_at (at.inside + length (canonical one)) two (length (canonical two))) root)
-      (number_again (placed_at (at.inside + length (canonical one) + length (canonical two)) three (length (canonical three))) (length kept.items) refl (omega (arith, few)))
+      (number_again laws (placed_at (at.inside + length (canonical one) + length (canonical two)) three (length (canonical three))) (length kept.items) refl (omega (arith, few)))
 
   voters_made : (least : ℕ) (at a b : PlacedTlv) (t bits : ℕ) → elements at.inside at.element.body ≡ Ok a ∷ Ok b ∷ []
       → a.element.kind ≡ 1 → b.element.kind ≡ 2 → time_at a ≡ Ok t → leb least t ≡ true → number_at b ≡ Ok bits → leb 1 bits ≡ true → leb bits 511 ≡ true
       → voters_from least at ≡ Ok (record { second = t; voters = cores_in bits })
-  unfolding voters_from field done time_at time_in number_at
+  unfolding voters_from voting rising field done time_at time_in number_at
   voters_made least at a b t bits split ka kb ta rises nb some few = rw (split, ka, ta, rises, kb, nb, some, few) refl
 
   voters_again : (least : ℕ) (pair : VotersFrom) (place n : ℕ) → IsVoters pair → least ≤ pair.second
@@ -188,18 +150,18 @@ module _ (laws : Written) where
       let one : Tlv = plain 1 (numeral pair.second) in
       let two : Tlv = plain 2 (numeral (bits_of pair.voters)) in
       let early = is.early in
-      let small = bits_small laws.listed pair.voters is.cores in
-      let fits : AllByRecursion FitsLong (voter_elements pair) = (fits_number 1 pair.second (omega arith), (fits_number 2 (bits_of pair.voters) (omega arith), tt)) in
+      let small = bits_small listed pair.voters is.cores in
+      let fits : AllByRecursion FitsLong (voter_elements pair) = (fits_number laws 1 pair.second (omega arith), (fits_number laws 2 (bits_of pair.voters) (omega arith), tt)) in
       voters_made least (placed_at place (voters_element pair) n) _ _ pair.second (bits_of pair.voters)
       (laws.texts at.inside (voter_elements pair) fits) refl refl
-      (time_again (placed_at at.inside one (length (canonical one))) pair.second refl early) (le-leb least pair.second rises)
-      (number_again (placed_at (at.inside + length (canonical one)) two (length (canonical two))) (bits_of pair.voters) refl (omega (arith, small.1)))
+      (time_again laws (placed_at at.inside one (length (canonical one))) pair.second refl early) (le-leb least pair.second rises)
+      (number_again laws (placed_at (at.inside + length (canonical one)) two (length (canonical two))) (bits_of pair.voters) refl (omega (arith, small.1)))
       (le-leb 1 (bits_of pair.voters) small.0) (le-leb (bits_of pair.voters) 511 small.1)
-      ∙ ap (λ (voters : List ℕ). let made : VotersFrom = record { second = pair.second; voters = voters } in Ok made) (cores_again laws.listed pair.voters is.cores)
+      ∙ ap (λ (voters : List ℕ). let made : VotersFrom = record { second = pair.second; voters = voters } in Ok made) (cores_again listed pair.voters is.cores)
 
   signature_from : (least : ℕ) (at a b : PlacedTlv) (n : ℕ) → elements at.inside at.element.body ≡ Ok a ∷ Ok b ∷ []
       → a.element.kind ≡ 1 → b.element.kind ≡ 2 → number_at a ≡ Ok n → leb least n ≡ true → leb (length b.element.body) 60000 ≡ true → signature_at least at ≡ Ok (n, b.element.body)
-  unfolding signature_at field done number_at
+  unfolding signature_at numbered field done number_at
   signature_from least at a b n split ka kb na rises short = rw (split, ka, na, rises, kb, short) refl
 
   signature_again : (least : ℕ) (signature : ℕ × List ℕ) (place n : ℕ) → IsIssued signature → least ≤ signature.0
@@ -209,14 +171,14 @@ module _ (laws : Written) where
       let one : Tlv = plain 1 (numeral signature.0) in
       let two : Tlv = plain 2 signature.1 in
       let short = is.short in
-      let fits : AllByRecursion FitsLong (pair_elements signature) = (fits_number 1 signature.0 (omega arith), (record { kind = omega arith; body = omega arith }, tt)) in
+      let fits : AllByRecursion FitsLong (pair_elements signature) = (fits_number laws 1 signature.0 (omega arith), (record { kind = omega arith; body = omega arith }, tt)) in
       signature_from least (placed_at place (issued_element signature) n) _ _ signature.0
       (laws.texts at.inside (pair_elements signature) fits) refl refl
-      (number_again (placed_at at.inside one (length (canonical one))) signature.0 refl is.number) (le-leb least signature.0 rises) (le-leb (length signature.1) 60000 short)
+      (number_again laws (placed_at at.inside one (length (canonical one))) signature.0 refl is.number) (le-leb least signature.0 rises) (le-leb (length signature.1) 60000 short)
 
   published_from : (least : ℕ) (at a b : PlacedTlv) (t : ℕ) (root : List ℕ) → elements at.inside at.element.body ≡ Ok a ∷ Ok b ∷ []
       → a.element.kind ≡ 1 → b.element.kind ≡ 2 → time_at a ≡ Ok t → leb least t ≡ true → imprint_at b ≡ Ok root → published_at least at ≡ Ok (t, root)
-  unfolding published_at field done time_at time_in imprint_at imprint_in
+  unfolding published_at dated rising field done time_at time_in imprint_at imprint_in
   published_from least at a b t root split ka kb ta rises ib = rw (split, ka, ta, rises, kb, ib) refl
 
   published_again : (least : ℕ) (publication : ℕ × List ℕ) (place n : ℕ) → IsPublication publication → least ≤ publication.0
@@ -225,56 +187,11 @@ module _ (laws : Written) where
       let at : PlacedTlv = placed_at place (publication_element publication) n in
       let one : Tlv = plain 1 (numeral publication.0) in
       let two : Tlv = plain 2 publication.1 in
-      let size = is.imprint.size in
-      let fits : AllByRecursion FitsLong (pair_elements publication) = (fits_number 1 publication.0 (omega arith), (record { kind = omega arith; body = omega arith }, tt)) in
+      let fits : AllByRecursion FitsLong (pair_elements publication) = (fits_number laws 1 publication.0 (omega arith), (fits_imprint 2 publication.1 (omega arith) is.imprint, tt)) in
       published_from least (placed_at place (publication_element publication) n) _ _ publication.0 publication.1
       (laws.texts at.inside (pair_elements publication) fits) refl refl
-      (time_again (placed_at at.inside one (length (canonical one))) publication.0 refl is.early) (le-leb least publication.0 rises)
+      (time_again laws (placed_at at.inside one (length (canonical one))) publication.0 refl is.early) (le-leb least publication.0 rises)
       (imprint_again (placed_at (at.inside + length (canonical one)) two (length (canonical two))) is.imprint)
-
-  -- ---- items
-
-  take_front : (x : List ℕ) (y : ℕ) (ys : List ℕ) (n : ℕ) → length x ≡ n → take n (x ++ y ∷ ys) ≡ x
-  take_front x y ys n is = subst (λ (n : ℕ). take n (x ++ y ∷ ys) ≡ x) is (take-append_seam x (y ∷ ys))
-
-  at_last : (x : List ℕ) (y : ℕ) (ys : List ℕ) (n : ℕ) → length x ≡ n → get_or (x ++ y ∷ ys) n 0 ≡ y
-  at_last x y ys n is = subst (λ (n : ℕ). get_or (x ++ y ∷ ys) n 0 ≡ y) is (get_or-append_seam x y ys 0)
-
-  drop_front : (x : List ℕ) (y : ℕ) (ys : List ℕ) (n : ℕ) → length x + 1 ≡ n → drop n (x ++ y ∷ ys) ≡ ys
-  drop_front x y ys n is =
-      subst (λ (n : ℕ). drop n (x ++ y ∷ ys) ≡ ys) (length-append x (y ∷ []) ∙ is)
-      (subst (λ (xs : List ℕ). drop (length (x ++ y ∷ [])) xs ≡ ys) (append_assoc x (y ∷ []) ys) (drop-append_seam (x ++ y ∷ []) ys))
-
-  -- the first 34 bytes
-  head_again : (most : ℕ) (item : Item) (ys : List ℕ) (kind place n : ℕ) → IsImprint item.imprint → item.level ≤ most
-      → head_in most (placed_at place (plain kind (item.imprint ++ item.level ∷ ys)) n) ≡ Ok (record item { name = None })
-  unfolding head_in
-  head_again most item ys kind place n is low =
-      rw (take_front item.imprint item.level ys 33 is.size, imprint_is item.imprint is, at_last item.imprint item.level ys 33 is.size, le-leb item.level most low) refl
-
-  plain_again : (item : Item) (place n : ℕ) → IsItem item → item.name ≡ None → item_in (placed_at place (element_with item None) n) ≡ Ok item
-  unfolding item_in plain_in
-  plain_again item place n is none =
-      let size : length item.imprint ≡ 33 = is.imprint.size in
-      let all : eqb (length (item.imprint ++ item.level ∷ [])) 34 ≡ true = eq-eqb _ _ (omega (arith, length-append item.imprint (item.level ∷ []), size)) in
-      let low : item.level ≤ 239 = subst (λ (name : Option (List ℕ)). named_level item.level name ≤ 239) none is.low in
-      rw (all, head_again 239 item [] 3 place n is.imprint low) (ap (λ (name : Option (List ℕ)). let made : Item = record item { name = name } in Ok made) (sym none))
-
-  name_test : (name : List ℕ) → IsName name → is_name name ≡ true
-  name_test name is =
-      let some : leb 1 (length name) ≡ true = le-leb _ _ is.some in
-      let few : leb (length name) 64 ≡ true = le-leb _ _ is.few in
-      rw (some, few, is.each) refl
-
-  named_again : (item : Item) (name : List ℕ) (place n : ℕ) → IsItem item → item.name ≡ Some name → item_in (placed_at place (element_with item (Some name)) n) ≡ Ok item
-  unfolding item_in named_in
-  named_again item name place n is some =
-      let size : length item.imprint ≡ 33 = is.imprint.size in
-      let long : leb 34 (length (item.imprint ++ item.level ∷ name)) ≡ true = le-leb _ _ (omega (arith, length-append item.imprint (item.level ∷ name), size)) in
-      let low : item.level ≤ 238 = (let leaf : item.level + 1 ≤ 239 = subst (λ (name : Option (List ℕ)). named_level item.level name ≤ 239) some is.low in omega (arith, leaf)) in
-      let is_it : IsName name = subst (λ (name : Option (List ℕ)). IfSome name IsName) some is.name in
-      rw (long, head_again 238 item name 7 place n is.imprint low, drop_front item.imprint item.level name 34 (omega (arith, size)), name_test name is_it)
-      (ap (λ (name : Option (List ℕ)). let made : Item = record item { name = name } in Ok made) (sym some))
 
   -- ---- one element after the other
 
@@ -293,7 +210,7 @@ module _ (laws : Written) where
 
     start_step : (version : Version) (start : ℕ) → start < 2 ^ 63 → Step (nothing_yet version) (plain 1 (numeral start)) (started (nothing_yet version) start)
     unfolding element_read start_at
-    start_step version start lt = record { more = refl; may = refl; read = λ place n. rw (time_again (placed_at place (plain 1 (numeral start)) n) start refl lt) refl }
+    start_step version start lt = record { more = refl; may = refl; read = λ place n. rw (time_again laws (placed_at place (plain 1 (numeral start)) n) start refl lt) refl }
 
     end_step : (s : Loaded) → is_end s.stage ≡ false → may_stand (kinds_next s.version s.stage) 6 ≡ true → Step s (plain 6 []) (record s { stage = stages.End })
     unfolding element_read end_at
@@ -350,8 +267,8 @@ module _ (laws : Written) where
     item_read : (s : Loaded) (item : Item) (name : Option (List ℕ)) (place n : ℕ) → IsItem item → item.name ≡ name
         → element_read image s (placed_at place (element_with item name) n) ≡ added image s (with_item s.current item) (s.left - 1)
     unfolding element_read item_at
-    item_read s item None place n is same = rw (plain_again item place n is same) refl
-    item_read s item (Some name) place n is same = rw (named_again item name place n is same) refl
+    item_read s item None place n is same = rw (item_again item None place n is same) refl
+    item_read s item (Some name) place n is same = rw (item_again item (Some name) place n is same) refl
 
     item_more : (s : Loaded) (item : Item) → s.stage ≡ stages.Items → Stands s.version item → IsItem item → eqb (s.left - 1) 0 ≡ false
         → Step s (item_element item) (record s { current = with_item s.current item; left = s.left - 1 })
@@ -438,15 +355,6 @@ module _ (laws : Written) where
 
   -- ---- sizes
 
-  length-canonical : (e : Tlv) → length (canonical e) ≤ 4 + length e.body
-  length-canonical e = cond_both (ltb e.kind 32 && ltb (length e.body) 256) (short_form e) (long_form e) (λ (text : List ℕ). length text ≤ 4 + length e.body) (λ yes. omega arith) (λ no. omega arith)
-
-  length-two : (e f : Tlv) → length (texts (e ∷ f ∷ [])) ≤ 8 + length e.body + length f.body
-  length-two e f = rw (length-append (canonical e) (canonical f ++ []), length-append (canonical f) []) (omega (arith, length-canonical e, length-canonical f))
-
-  length-three : (e f g : Tlv) → length (texts (e ∷ f ∷ g ∷ [])) ≤ 12 + length e.body + length f.body + length g.body
-  length-three e f g = rw (length-append (canonical e) (canonical f ++ (canonical g ++ [])), length-append (canonical f) (canonical g ++ []), length-append (canonical g) []) (omega (arith, length-canonical e, length-canonical f, length-canonical g))
-
   second_fits : (image : List ℕ → List ℕ) (kept : Second) → IsSecond image kept → FitsLong (second_element kept)
   second_fits image kept is = record {
     kind = omega arith;
@@ -457,18 +365,6 @@ module _ (laws : Written) where
   voters_fit [] more rest = rest
   voters_fit (pair ∷ others) more rest =
       (record { kind = omega arith; body = omega (arith, length-two (plain 1 (numeral pair.second)) (plain 2 (numeral (bits_of pair.voters))), laws.size pair.second, laws.size (bits_of pair.voters)) }, voters_fit others more rest)
-
-  item_fits : (item : Item) (name : Option (List ℕ)) → IsItem item → item.name ≡ name → FitsLong (element_with item name)
-  item_fits item None is same = record { kind = omega arith; body = (let size = is.imprint.size in omega (arith, length-append item.imprint (item.level ∷ []), size)) }
-  item_fits item (Some name) is same = record {
-    kind = omega arith;
-    body = (let size = is.imprint.size in let is_it : IsName name = subst (λ (name : Option (List ℕ)). IfSome name IsName) same is.name in let few = is_it.few in omega (arith, length-append item.imprint (item.level ∷ name), size, few));
-  }
-
-  items_fit : (items : List Item) (more : List Tlv) → AllByRecursion IsItem items → AllByRecursion FitsLong more → AllByRecursion FitsLong (map item_element items ++ more)
-  items_fit [] more all rest = rest
-  items_fit (item ∷ items) more all rest =
-      (item_fits item item.name all.0 refl, items_fit items more all.1 rest)
 
   seconds_fit : (image : List ℕ → List ℕ) (seconds : List Second) (more : List Tlv) → AllByRecursion (IsSecond image) seconds → AllByRecursion FitsLong more → AllByRecursion FitsLong (seconds_elements seconds ++ more)
   seconds_fit image [] more all rest = rest
@@ -536,6 +432,7 @@ module _ (laws : Written) where
   -- ---- the whole file
 
   pub journal_again : (image : List ℕ → List ℕ) (version : Version) (journal : Contents) → IsJournal image journal → Allows version journal → IsJournalFile image (text_in version journal) journal
+  unfolding journal_format
   journal_again image version journal is allows =
       let hold = allowed version journal allows in
       let none : Loaded = nothing_yet version in
@@ -567,7 +464,7 @@ module _ (laws : Written) where
       let voters = all_voters_again image t a journal.voters from_seconds refl hold.voters is.voters is.voters_rise seconds in
       let all = goes_on image t none a (plain 1 (numeral journal.start)) (map voters_element journal.voters ++ from_seconds) (start_step image t version journal.start is.start) voters in
       let fits : AllByRecursion FitsLong (journal_elements journal) = (
-        fits_number 1 journal.start (omega arith),
+        fits_number laws 1 journal.start (omega arith),
         voters_fit journal.voters from_seconds
             (seconds_fit image journal.seconds from_signs is.seconds
             (issued_fit journal.issued from_pubs is.issued
@@ -577,14 +474,11 @@ module _ (laws : Written) where
       let contents_b = contents_after v journal.seconds ∙ ap (λ (x : Contents). record x { seconds = x.seconds ++ journal.seconds }) contents_v in
       let contents_c = over_c.0 ∙ ap (λ (x : Contents). record x { issued = x.issued ++ journal.issued }) contents_b in
       let contents_d = published_contents c journal.publications ∙ ap (λ (x : Contents). record x { publications = x.publications ++ journal.publications }) contents_c in
-      record {
-        version = version;
-        rest = texts (journal_elements journal);
-        begins = refl;
-        said = t;
-        whole = record { es = placed 8 (journal_elements journal); split = laws.texts 8 (journal_elements journal) fits; leads = all 8; ends = refl };
-        holds = sym contents_d;
-      }
+      record { version = version; file = file_again laws (journal_format image version) (journal_elements journal) journal t fits (goes_in version none t (journal_elements journal) all) refl (sym contents_d) }
+    where
+      goes_in : (version : Version) (s t : Loaded) (es : List Tlv) → ((place : ℕ) → Leads (journal_order image) s (placed place es) t) → Leads (journal_order image) s (placed (length (magic version)) es) t
+      goes_in versions.One s t es goes = goes 8
+      goes_in versions.Two s t es goes = goes 8
 
 -- the version that a journal is written in allows it
 pub version_allows : (journal : Contents) → Allows (version_of journal) journal

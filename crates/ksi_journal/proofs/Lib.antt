@@ -1,11 +1,12 @@
 pub mod Bits
-pub mod Sound
+pub mod Rising
 pub mod Run
 pub mod Trees
 pub mod Files
 pub mod Texts
-pub mod Again
-pub mod Read
 pub mod Spelled
-pub mod Told
+pub mod Items
+pub mod Values
+pub mod Walked
 pub mod Ordered
+pub mod Again

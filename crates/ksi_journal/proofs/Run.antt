@@ -1,9 +1,9 @@
 -- The seconds that follow the start without a gap are those that are covered.
-use Rattle.std.proofs.Common.{◌≡◌, ℕ, zero, suc, ◌+◌, ◌-◌, ◌^◌, ◌<◌, ◌≤◌, Bool, true, false, cond, ◌&&◌, leb, ltb, eqb, List, [], ◌∷◌, length, map, get_or, Option, Some, None, refl, sym, ap, subst, ◌∙◌, arith}
+use Rattle.std.proofs.Common.{◌≡◌, ℕ, zero, suc, ◌+◌, ◌-◌, ◌^◌, ◌<◌, ◌≤◌, Bool, true, false, cond, leb, ltb, eqb, List, [], ◌∷◌, length, map, get_or, Option, Some, None, refl, sym, ap, subst, ◌∙◌, arith}
 use Rattle.std.specs.Borrow.{Bor}
 use Rattle.std.specs.Prelude.{IsSome, IsNone, is_some, IfSome, IsTrue, ◌↔◌, unwrap_or}
 use Rattle.std.specs.List.{AllByRecursion}
-use Rattle.std.proofs.lemmas.Bool.{cond-false, leb-true, ltb-true, ltb-false, eqb-true, eqb-false, eq-eqb, ne_eqb, le-ltb, lt-ltb, le-leb}
+use Rattle.std.proofs.lemmas.Bool.{cond-false, leb-true, ltb-true, ltb-false, eqb-true, eqb-false, eq-eqb, ne_eqb, le-ltb, lt-ltb, le-leb, and_parts}
 use Rattle.ksi_imprint.specs.Imprints.{zero_imprint}
 use Rattle.ksi_calendar.specs.Calendar.{Seconds, is_covered, calendar_leaf}
 use Rattle.ksi_calendar.specs.Covered.{Roots, IsCovered, IsFirstMissing, first_missing, covered_seconds, second_leaf}
@@ -137,10 +137,6 @@ module _ (image : List ℕ → List ℕ) (journal : Contents) (is : IsJournal im
 
   -- ---- the calendar
 
-  both_true : (b c : Bool) → (b && c) ≡ true → (b ≡ true) × (c ≡ true)
-  both_true true c e = (refl, e)
-  both_true false c e = absurd cc
-
   pub before_end : (p : ℕ) → IsCovered (root_at journal) journal.start p → p < journal.start + length (calendar_of journal).roots
   unfolding calendar_of
   before_end p covered = kept_to p covered.each
@@ -152,7 +148,7 @@ module _ (image : List ℕ → List ℕ) (journal : Contents) (is : IsJournal im
   pub covered_words : (p : ℕ) → IsTrue (is_covered (calendar_of journal) p) ↔ IsCovered (root_at journal) journal.start p
   unfolding calendar_of
   covered_words p = (
-    λ e. (let b = both_true (leb journal.start p) (ltb p (journal.start + length run)) e in
+    λ e. (let b = and_parts (leb journal.start p) (ltb p (journal.start + length run)) e in
         let early = ltb-true p (journal.start + length run) b.1 in
         record { from = leb-true journal.start p b.0; each = λ t from to. some_root t from (omega arith) }),
     λ covered. rw (le-leb journal.start p covered.from, lt-ltb p (journal.start + length run) (kept_to p covered.each)) refl,

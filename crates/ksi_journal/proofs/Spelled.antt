@@ -8,6 +8,7 @@ use Rattle.std.proofs.lemmas.List.Elements.{All-drop, All-head, All-take}
 use Rattle.std.proofs.Math.Nat.{pow-le-pow_right, pow-suc, mul-le-mul_right}
 use Rattle.ksi_imprint.specs.declared.fault.ImprintFault.{ImprintFault}
 use Rattle.ksi_imprint.specs.declared.fault.ImprintFault.TheVariants as imprints_fault
+use Rattle.ksi_imprint.specs.Imprints.{IsImprint}
 use Rattle.ksi_imprint.specs.Reading as imprints
 use Rattle.ksi_tlv.specs.Spelling.{Tlv, Spells, AreBytes, canonical, short_form, long_form}
 use Rattle.ksi_tlv.specs.Walking.{PlacedTlv, Items, IsReading, elements, joined, laid, items_of, end_at}
@@ -19,6 +20,7 @@ use Rattle.ksi_grammar.specs.Reading.{◌>>=◌}
 use Rattle.ksi_order.specs.declared.fault.OrderFault.{OrderFault}
 use Rattle.ksi_order.specs.Fields.{Inside, next_field, field, none_left, done}
 use Rattle.ksi_order.specs.Values.{or_fault, number_at, time_at, imprint_at}
+use Rattle.ksi_format.proofs.Steps.{test_ok}
 
 -- the laws of elements
 pub record Read : Type 0 where
@@ -147,10 +149,6 @@ bytes_inside laws place bytes es are is =
 
 -- ---- values
 
-test_ok : {A F : Type 0} (test : Bool) (x : A) (fault : F) (y : A) → cond test (Ok x) (Err fault) ≡ Ok y → (test ≡ true) × (x ≡ y)
-test_ok true x fault y e = (refl, cc)
-test_ok false x fault y e = absurd cc
-
 pub record IsNumber (at : PlacedTlv) (n : ℕ) : Type 0 where
   pub value : number_of at.element.body ≡ n
   pub few : length at.element.body ≤ 8
@@ -198,12 +196,16 @@ number_small at n is are =
 pub numeral_short : Read → (at : PlacedTlv) (n : ℕ) → IsNumber at n → AreBytes at.element.body → length (numeral n) ≤ length at.element.body
 numeral_short laws at n is are = laws.fewest n at.element.body (number_small at n is are) are is.value
 
-pub imprint_same : (bytes x : List ℕ) → imprints.imprint_at bytes ≡ Ok x → bytes ≡ x
-imprint_same [] x e = absurd cc
-imprint_same (a ∷ digest) x e = by (eqb a 1) (eqb (length digest) 32) refl refl
+-- the bytes are the imprint that is read in them
+pub imprint_said : (bytes x : List ℕ) → imprints.imprint_at bytes ≡ Ok x → IsImprint x × (bytes ≡ x)
+imprint_said [] x e = absurd cc
+imprint_said (a ∷ digest) x e = by (eqb a 1) (eqb (length digest) 32) refl refl
   where
-    by : (one whole : Bool) → eqb a 1 ≡ one → eqb (length digest) 32 ≡ whole → a ∷ digest ≡ x
-    by true true ia id = (let found : imprints.imprint_at (a ∷ digest) ≡ Ok (a ∷ digest) = rw (ia, id) refl in cc)
+    by : (one whole : Bool) → eqb a 1 ≡ one → eqb (length digest) 32 ≡ whole → IsImprint x × (a ∷ digest ≡ x)
+    by true true ia id =
+        let found : imprints.imprint_at (a ∷ digest) ≡ Ok (a ∷ digest) = rw (ia, id) refl in
+        let same : a ∷ digest ≡ x = cc in
+        (subst IsImprint same (record { algorithm = eqb-true a 1 ia; size = (let d = eqb-true (length digest) 32 id in omega (arith, d)) }), same)
     by true false ia id = absurd (let found : imprints.imprint_at (a ∷ digest) ≡ Err (imprints_fault.Length (length (a ∷ digest))) = rw (ia, id) refl in cc)
     by false whole ia id = absurd (let found : imprints.imprint_at (a ∷ digest) ≡ Err (imprints_fault.Algorithm a) = rw ia refl in cc)
 
@@ -213,7 +215,7 @@ imprint_if place named (Err fault) x e = absurd cc
 
 pub imprint_ok : (at : PlacedTlv) (x : List ℕ) → imprint_at at ≡ Ok x → at.element.body ≡ x
 unfolding imprint_at imprint_in
-imprint_ok at x e = imprint_same at.element.body x (imprint_if at.place _ (imprints.imprint_at at.element.body) x e)
+imprint_ok at x e = (imprint_said at.element.body x (imprint_if at.place _ (imprints.imprint_at at.element.body) x e)).1
 
 -- ---- the elements inside an element
 
@@ -239,6 +241,3 @@ done_ok i u e = none_ok i.items u e
 
 pub two_fields : (items : Items) (one two : PlacedTlv) (behind last : Items) → items ≡ items_head one behind → behind ≡ items_head two last → last ≡ [] → items ≡ items_of (one ∷ two ∷ [])
 two_fields items one two behind last a b c = rw (a, b, c) refl
-
-pub three_fields : (items : Items) (one two three : PlacedTlv) (behind rest last : Items) → items ≡ items_head one behind → behind ≡ items_head two rest → rest ≡ items_head three last → last ≡ [] → items ≡ items_of (one ∷ two ∷ three ∷ [])
-three_fields items one two three behind rest last a b c d = rw (a, b, c, d) refl

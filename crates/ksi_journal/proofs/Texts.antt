@@ -1,16 +1,13 @@
 -- What is written one after the other.
-use Rattle.std.proofs.Common.{◌≡◌, ℕ, List, [], ◌∷◌, ◌++◌, map, refl, sym, ap, ◌∙◌, append_assoc, append-nil}
-use Rattle.ksi_tlv.specs.Spelling.{Tlv, canonical, plain}
+use Rattle.std.proofs.Common.{◌≡◌, ℕ, List, [], ◌∷◌, ◌++◌, map, sym, ap, ◌∙◌, append_assoc}
+use Rattle.ksi_tlv.specs.Spelling.{canonical, plain}
 use Rattle.ksi_tlv.specs.Writing.{texts}
 use Rattle.ksi_tlv.specs.Numerals.{numeral}
+use Rattle.ksi_format.proofs.Texts.{texts-append, last_told, before}
 use Rattle.ksi_aggtree.specs.declared.second.Second.{Second}
 use Rattle.ksi_synod.specs.declared.core_plan.VotersFrom.{VotersFrom}
 use Rattle.ksi_journal.specs.Journal.{Contents}
 use Rattle.ksi_journal.specs.Written.{voters_element, kept_elements, second_element, item_element, seconds_elements, issued_element, publication_element, journal_elements}
-
-pub texts-append : (xs ys : List Tlv) → texts (xs ++ ys) ≡ texts xs ++ texts ys
-texts-append [] ys = refl
-texts-append (x ∷ xs) ys = ap (λ (t : List ℕ). canonical x ++ t) (texts-append xs ys) ∙ sym (append_assoc (canonical x) (texts xs) (texts ys))
 
 -- a second is its element and then its items
 pub second_told : (old one two : List ℕ) (kept : Second) → one ≡ old ++ canonical (second_element kept) → two ≡ one ++ texts (map item_element kept.items) → two ≡ old ++ texts (kept_elements kept)
@@ -28,18 +25,12 @@ pub parts_told : (journal : Contents) (o a v b c d e : List ℕ) → a ≡ o ++ 
     → c ≡ b ++ texts (map issued_element journal.issued) → d ≡ c ++ texts (map publication_element journal.publications) → e ≡ d ++ canonical (plain 6 [])
     → e ≡ o ++ texts (journal_elements journal)
 parts_told journal o a v b c d e ea ev eb ec ed ee =
-    ee ∙ last_told d ∙ before c (map publication_element journal.publications) (plain 6 [] ∷ []) d ed
+    ee ∙ last_told d (plain 6 []) ∙ before c (map publication_element journal.publications) (plain 6 [] ∷ []) d ed
     ∙ before b (map issued_element journal.issued) (map publication_element journal.publications ++ plain 6 [] ∷ []) c ec
     ∙ before v (seconds_elements journal.seconds) (map issued_element journal.issued ++ (map publication_element journal.publications ++ plain 6 [] ∷ [])) b eb
     ∙ before a (map voters_element journal.voters) (seconds_elements journal.seconds ++ (map issued_element journal.issued ++ (map publication_element journal.publications ++ plain 6 [] ∷ []))) v ev
     ∙ ap (λ (x : List ℕ). x ++ texts (map voters_element journal.voters ++ (seconds_elements journal.seconds ++ (map issued_element journal.issued ++ (map publication_element journal.publications ++ plain 6 [] ∷ []))))) ea
     ∙ append_assoc o (canonical (plain 1 (numeral journal.start))) _
-  where
-    last_told : (d : List ℕ) → d ++ canonical (plain 6 []) ≡ d ++ texts (plain 6 [] ∷ [])
-    last_told d = ap (λ (t : List ℕ). d ++ t) (sym (append-nil (canonical (plain 6 []))))
-
-    before : (x : List ℕ) (es more : List Tlv) (y : List ℕ) → y ≡ x ++ texts es → y ++ texts more ≡ x ++ texts (es ++ more)
-    before x es more y is = ap (λ (t : List ℕ). t ++ texts more) is ∙ append_assoc x (texts es) (texts more) ∙ ap (λ (t : List ℕ). x ++ t) (sym (texts-append es more))
 
 pub parts_read : (journal : Contents) (start : ℕ) (voters : List VotersFrom) (seconds : List Second) (issued publications : List (ℕ × List ℕ)) (o a v b c d e : List ℕ)
     → start ≡ journal.start → voters ≡ journal.voters → seconds ≡ journal.seconds → issued ≡ journal.issued → publications ≡ journal.publications

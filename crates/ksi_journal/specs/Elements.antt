@@ -11,8 +11,9 @@ use Rattle.ksi_aggtree.specs.Names.{most_letters, are_name_bytes}
 use Rattle.ksi_order.specs.declared.fault.OrderFault.{OrderFault}
 use Rattle.ksi_order.specs.declared.fault.OrderFault.TheVariants as orders
 use Rattle.ksi_order.specs.Order.{Order, ◌>>=◌}
-use Rattle.ksi_order.specs.Fields.{inside, field, done}
+use Rattle.ksi_order.specs.Fields.{Inside, inside, field, done}
 use Rattle.ksi_order.specs.Values.{number_at, time_at, imprint_at}
+use Rattle.ksi_format.specs.Format as formats
 use Rattle.ksi_aggtree.specs.declared.second.Second.{Second}
 use Rattle.ksi_journal.specs.declared.stage.Stage.{Stage}
 use Rattle.ksi_journal.specs.declared.stage.Stage.TheVariants.{Start, Voters, Seconds, Items, Issued, Publications, End}
@@ -67,12 +68,21 @@ named (orders.Bound place) = faults.Bound place
 named (orders.Imprint place) = faults.Imprint place
 
 abbrev pub or_named : {A : Type 0} → Result A OrderFault → Result A JournalFault
-or_named (Ok value) = Ok value
-or_named (Err fault) = Err (named fault)
+or_named r = formats.or_named named r
 
 -- a value that rises
 abbrev pub rises : ℕ → ℕ → ℕ → Result (Unit {0}) OrderFault
 rises least n place = if nat_le least n then Ok tt else Err (orders.Order place)
+
+-- ---- what several elements begin with
+
+-- 1: a time that is at least the least, and what is then left
+unfoldable pub rising : ℕ → Inside → Result (ℕ × Inside) OrderFault
+rising least i = field 1 i >>= λ one. time_at one.0 >>= λ t. rises least t one.0.place >>= λ _. Ok (t, one.1)
+
+-- behind it 2: an imprint
+unfoldable pub dated : ℕ → Inside → Result (ℕ × List ℕ × Inside) OrderFault
+dated least i = rising least i >>= λ one. field 2 one.1 >>= λ two. imprint_at two.0 >>= λ root. Ok (one.0, root, two.1)
 
 -- ---- 1: the start, a time
 
@@ -91,11 +101,14 @@ start_at s at = or_named (time_at at) >>= λ t. Ok (started s t)
 abbrev pub voters_in : ℕ → ℕ → Result (List ℕ) JournalFault
 voters_in bits place = if nat_le 1 bits && nat_le bits 511 then Ok (cores_in bits) else Err (faults.Voters place)
 
+-- the second, the bits, where these stand, and what is then left
+unfoldable pub voting : ℕ → Inside → Result (ℕ × ℕ × ℕ × Inside) OrderFault
+voting least i = rising least i >>= λ one. field 2 one.1 >>= λ two. number_at two.0 >>= λ bits. Ok (one.0, bits, two.0.place, two.1)
+
 unfoldable pub voters_from : ℕ → PlacedTlv → Result VotersFrom JournalFault
 voters_from least at =
-    or_named (field 1 (inside at)) >>= λ one. or_named (time_at one.0) >>= λ t. or_named (rises least t one.0.place) >>= λ _.
-    or_named (field 2 one.1) >>= λ two. or_named (number_at two.0) >>= λ bits. voters_in bits two.0.place >>= λ voters.
-    or_named (done two.1) >>= λ _. Ok (record { second = t; voters = voters })
+    or_named (voting least (inside at)) >>= λ found. voters_in found.1 found.2 >>= λ voters.
+    or_named (done found.3) >>= λ _. Ok (record { second = found.0; voters = voters })
 
 abbrev pub with_voters : Loaded → VotersFrom → Loaded
 with_voters s pair = record s {
@@ -133,10 +146,8 @@ counted s t root n =
 -- what the elements inside say
 unfoldable pub said_at : ℕ → PlacedTlv → Result (ℕ × List ℕ × ℕ) OrderFault
 said_at least at =
-    field 1 (inside at) >>= λ one. time_at one.0 >>= λ t. rises least t one.0.place >>= λ _.
-    field 2 one.1 >>= λ two. imprint_at two.0 >>= λ root.
-    field 3 two.1 >>= λ three. number_at three.0 >>= λ n.
-    done three.1 >>= λ _. Ok (t, root, n)
+    dated least (inside at) >>= λ found. field 3 found.2 >>= λ three. number_at three.0 >>= λ n.
+    done three.1 >>= λ _. Ok (found.0, found.1, n)
 
 unfoldable pub read_second : Loaded → PlacedTlv → Result Loaded JournalFault
 read_second s at = or_named (said_at s.least_second at) >>= λ said. counted s said.0 said.1 said.2
@@ -193,11 +204,14 @@ item_at image s at = item_in at >>= λ item. added image s (with_item s.current 
 abbrev pub short_at : PlacedTlv → Result (List ℕ) OrderFault
 short_at at = if nat_le (length at.element.body) 60000 then Ok at.element.body else Err (orders.Bound at.place)
 
+-- the number, which is at least the least, and what is then left
+unfoldable pub numbered : ℕ → Inside → Result (ℕ × Inside) OrderFault
+numbered least i = field 1 i >>= λ one. number_at one.0 >>= λ n. rises least n one.0.place >>= λ _. Ok (n, one.1)
+
 unfoldable pub signature_at : ℕ → PlacedTlv → Result (ℕ × List ℕ) OrderFault
 signature_at least at =
-    field 1 (inside at) >>= λ one. number_at one.0 >>= λ n. rises least n one.0.place >>= λ _.
-    field 2 one.1 >>= λ two. short_at two.0 >>= λ bytes.
-    done two.1 >>= λ _. Ok (n, bytes)
+    numbered least (inside at) >>= λ one. field 2 one.1 >>= λ two. short_at two.0 >>= λ bytes.
+    done two.1 >>= λ _. Ok (one.0, bytes)
 
 abbrev pub with_issued : Loaded → ℕ × List ℕ → Loaded
 with_issued s signature = record s {
@@ -212,10 +226,7 @@ issued_at s at = or_named (signature_at s.least_number at) >>= λ signature. Ok 
 -- ---- 5: a publication: 1 its time, 2 the root that was published
 
 unfoldable pub published_at : ℕ → PlacedTlv → Result (ℕ × List ℕ) OrderFault
-published_at least at =
-    field 1 (inside at) >>= λ one. time_at one.0 >>= λ t. rises least t one.0.place >>= λ _.
-    field 2 one.1 >>= λ two. imprint_at two.0 >>= λ root.
-    done two.1 >>= λ _. Ok (t, root)
+published_at least at = dated least (inside at) >>= λ found. done found.2 >>= λ _. Ok (found.0, found.1)
 
 abbrev pub with_publication : Loaded → ℕ × List ℕ → Loaded
 with_publication s publication = record s {

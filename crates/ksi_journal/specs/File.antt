@@ -1,7 +1,7 @@
 -- Which bytes are which journal, and the first fault of bytes that are none.
-use Rattle.std.specs.Prelude.{◌≡◌, ℕ, ◌+◌, ◌⊎◌, List, ◌++◌, length, codes}
-use Rattle.ksi_tlv.specs.Walking.{elements}
-use Rattle.ksi_order.specs.Sequence.{IsWhole, IsFirstFault, IsWanting}
+use Rattle.std.specs.Prelude.{◌≡◌, ◌⊎◌, List, ◌++◌, ℕ, codes}
+use Rattle.ksi_format.specs.Format as files
+use Rattle.ksi_format.specs.Format.{Format, IsFile}
 use Rattle.ksi_journal.specs.declared.fault.JournalFault.{JournalFault}
 use Rattle.ksi_journal.specs.declared.fault.JournalFault.TheVariants as faults
 use Rattle.ksi_journal.specs.declared.version.Version.{Version}
@@ -14,14 +14,15 @@ abbrev pub magic : Version → List ℕ
 magic One = codes "KSIJRNL1"
 magic Two = codes "KSIJRNL2"
 
--- behind the magic stand whole elements in their order, which say that the journal holds this
+-- behind the magic of the version stand whole elements in their order, which say what the journal holds
+unfoldable pub journal_format : (List ℕ → List ℕ) → Version → Format Loaded JournalFault Contents
+journal_format image version =
+    record { magic = magic version; other = faults.Magic; order = journal_order image; start = nothing_yet version; value = λ s. s.contents }
+
+-- a file of one of the versions
 pub record IsJournalFile (image : List ℕ → List ℕ) (bytes : List ℕ) (journal : Contents) : Type 0 where
   pub version : Version
-  pub rest : List ℕ
-  pub begins : bytes ≡ magic version ++ rest
-  pub said : Loaded
-  pub whole : IsWhole (journal_order image) (elements 8 rest) (nothing_yet version) said
-  pub holds : journal ≡ said.contents
+  pub file : IsFile (journal_format image version) bytes journal
 
 -- the bytes begin with the magic of no version
 abbrev pub IsOther : List ℕ → Type 0
@@ -31,12 +32,10 @@ pub record IsOtherFile (bytes : List ℕ) (fault : JournalFault) : Type 0 where
   pub begins : IsOther bytes
   pub named : fault ≡ faults.Magic
 
--- the first fault of the elements behind the magic
+-- the first fault of the elements behind the magic of a version
 pub record IsFaultInside (image : List ℕ → List ℕ) (bytes : List ℕ) (fault : JournalFault) : Type 0 where
   pub version : Version
-  pub rest : List ℕ
-  pub begins : bytes ≡ magic version ++ rest
-  pub first : IsFirstFault (journal_order image) (8 + length rest) (elements 8 rest) (nothing_yet version) fault
+  pub first : files.IsFaultInside (journal_format image version) bytes fault
 
 abbrev pub IsJournalFault : (List ℕ → List ℕ) → List ℕ → JournalFault → Type 0
 IsJournalFault image bytes fault = IsOtherFile bytes fault ⊎ IsFaultInside image bytes fault
@@ -44,6 +43,4 @@ IsJournalFault image bytes fault = IsOtherFile bytes fault ⊎ IsFaultInside ima
 -- memory was wanting for an element behind the start, up to which there is no fault
 pub record IsWantingInside (image : List ℕ → List ℕ) (bytes : List ℕ) : Type 0 where
   pub version : Version
-  pub rest : List ℕ
-  pub begins : bytes ≡ magic version ++ rest
-  pub inside : IsWanting (journal_order image) (WantsFor image) (elements 8 rest) (nothing_yet version)
+  pub wanting : files.IsWantingInside (journal_format image version) (WantsFor image) bytes

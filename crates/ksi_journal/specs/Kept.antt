@@ -1,22 +1,36 @@
 -- What loading keeps, for its own proof.
 use Rattle.std.specs.Borrow.{Bor}
 use Rattle.std.specs.Prelude.{◌≡◌, ℕ, zero, suc, ◌==◌, if◌then◌else◌, ◌∷◌, Option, Some, None, ◌+◌, ◌^◌, ◌<◌, ◌≤◌, List, [], length, Result, Ok, Err}
-use Rattle.std.specs.List.{AllByRecursion}
-use Rattle.ksi_tlv.specs.Spelling.{AreBytes}
+use Rattle.ksi_order.specs.Fields.{Inside}
 use Rattle.ksi_order.specs.declared.fault.OrderFault.{OrderFault}
 use Rattle.ksi_aggtree.specs.declared.item.Item.{Item}
 use Rattle.ksi_aggtree.specs.declared.second.Second.{Second}
 use Rattle.ksi_aggtree.specs.Rounds.{most_items, highest_item, leaf_level, item_at}
+use Rattle.ksi_journal.specs.Elements.{rising, numbered, voting, dated}
 
--- a second whose items come is below 2^63, those that are there and to come make a round, numbers have 64 bits, and what
--- stands behind them are bytes
-pub record IsLoading (second : ℕ) (items : List Item) (left : ℕ) (issued : List (ℕ × List ℕ)) : Type 0 where
+-- a second whose items come is below 2^63, and those that are there and to come make a round
+pub record IsLoading (second : ℕ) (items : List Item) (left : ℕ) : Type 0 where
   pub early : second < 2 ^ 63
   pub few : length items + left ≤ most_items
   pub none : left ≡ 0 → items ≡ []
   pub low : (k : ℕ) → leaf_level (item_at items k) ≤ highest_item
-  pub numbers : AllByRecursion (λ signature. signature.0 < 2 ^ 64) issued
-  pub bytes : AllByRecursion (λ signature. AreBytes signature.1) issued
+
+-- what was read of an element, and what is left of it
+abbrev pub IsRising : ℕ → Inside → Inside → Result ℕ OrderFault → Type 0
+IsRising least old new (Ok found) = rising least old ≡ Ok (found, new)
+IsRising least old new (Err fault) = rising least old ≡ Err fault
+
+abbrev pub IsNumbered : ℕ → Inside → Inside → Result ℕ OrderFault → Type 0
+IsNumbered least old new (Ok found) = numbered least old ≡ Ok (found, new)
+IsNumbered least old new (Err fault) = numbered least old ≡ Err fault
+
+abbrev pub IsVoting : ℕ → Inside → Inside → Result (ℕ × ℕ × ℕ) OrderFault → Type 0
+IsVoting least old new (Ok found) = voting least old ≡ Ok (found.0, found.1, found.2, new)
+IsVoting least old new (Err fault) = voting least old ≡ Err fault
+
+abbrev pub IsDated : ℕ → Inside → Inside → Result (ℕ × List ℕ) OrderFault → Type 0
+IsDated least old new (Ok found) = dated least old ≡ Ok (found.0, found.1, new)
+IsDated least old new (Err fault) = dated least old ≡ Err fault
 
 -- a number and bytes, wherever these lie in memory
 abbrev pub view_signature : Result (ℕ × Bor (List ℕ)) OrderFault → Result (ℕ × List ℕ) OrderFault

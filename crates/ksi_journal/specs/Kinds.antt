@@ -1,7 +1,7 @@
 -- The kinds of a journal's elements, in their order.
-use Rattle.std.specs.Prelude.{◌≡◌, ℕ, List, [], ◌∷◌, ◌++◌, map, if◌then◌else◌}
+use Rattle.std.specs.Prelude.{ℕ, List, [], ◌∷◌, ◌++◌, map, if◌then◌else◌}
 use Rattle.std.specs.Option.{is_some}
-use Rattle.ksi_tlv.specs.Walking.{PlacedTlv, elements, items_of}
+use Rattle.ksi_format.specs.Kinds.{HasKinds}
 use Rattle.ksi_aggtree.specs.declared.item.Item.{Item}
 use Rattle.ksi_aggtree.specs.declared.second.Second.{Second}
 use Rattle.ksi_journal.specs.declared.version.Version.{Version}
@@ -27,8 +27,4 @@ journal_kinds journal =
 -- behind the magic of a version stand whole elements, and their kinds are those of the journal, one for one
 pub record IsInOrder (bytes : List ℕ) (journal : Contents) : Type 0 where
   pub version : Version
-  pub rest : List ℕ
-  pub begins : bytes ≡ magic version ++ rest
-  pub es : List PlacedTlv
-  pub whole : elements 8 rest ≡ items_of es
-  pub kinds : map (λ at. at.element.kind) es ≡ journal_kinds journal
+  pub kinds : HasKinds (magic version) (journal_kinds journal) bytes

@@ -1,5 +1,3 @@
-pub use Rattle.ksi_order.specs.Order
-pub use Rattle.ksi_order.specs.Sequence
 pub mod Voters
 pub mod Journal
 pub mod Calendar

@@ -13,10 +13,12 @@ ghost use Rattle.ksi_journal.specs.Kinds.{IsInOrder};
 ghost use Rattle.ksi_journal.specs.Reading.{journal_at};
 
 use crate::fault::JournalFault;
+use crate::journal::Journal;
 use crate::loading::Loading;
 use ksi_calendar::laws::one_covered;
+use ksi_format::laws::file_is_read;
 use ksi_imprint::Sha;
-use ksi_order::laws::{values_are_bounded, walked_says, whole_or_fault};
+use ksi_order::laws::values_are_bounded;
 use ksi_synod::laws::voters_are_cores;
 use ksi_tlv::laws::{numeral_is_read, reading_is_elements, written_is_read};
 
@@ -55,7 +57,7 @@ pub fn file_or_fault()
     ensures one_fault { (image : List ℕ → List ℕ) (bytes : List ℕ) (fault other : JournalFault) →
         IsJournalFault image bytes fault → IsJournalFault image bytes other → fault ≡ other }
 {
-    whole_or_fault::<Loading<Sha>, JournalFault>();
+    journal_is_read();
 }
 
 /// What a journal file holds is a journal. The elements of the file are those of the journal, one for one: their kinds are
@@ -99,7 +101,7 @@ pub fn journal_is_read()
     ensures fault { (image : List ℕ → List ℕ) (bytes : List ℕ) (fault : JournalFault) →
         (journal_at image bytes ≡ Err fault) ↔ IsJournalFault image bytes fault }
 {
-    walked_says::<Loading<Sha>, JournalFault>();
+    file_is_read::<Loading<Sha>, JournalFault, Journal<Sha>>();
 }
 
 /// Bytes are below 256, as their type keeps it.

@@ -66,14 +66,12 @@ impl<C: Compress> Model for Loading<C> {
       left = s.left;
     } };
 
-    ghost invariant = { λ s. IsLoading s.second s.items.items s.left s.parts.issued.items };
+    ghost invariant = { λ s. IsLoading s.second s.items.items s.left };
 }
 
 impl<C: Compress> Loading<C> {
-    ghost use Rattle.std.specs.Prelude.{◌≡◌, ◌≢◌, ◌+◌, ◌<◌, ◌≤◌, ◌^◌, Ok, Err, IsOk, ℕ};
-    ghost use Rattle.std.specs.List.{AllByRecursion};
+    ghost use Rattle.std.specs.Prelude.{◌≡◌, ◌≢◌, Err, IsOk};
     ghost use Rattle.ksi_tlv.specs.Views.{view_placed};
-    ghost use Rattle.ksi_tlv.specs.Spelling.{AreBytes};
     ghost use Rattle.ksi_order.specs.Order.{Steps};
     ghost use Rattle.ksi_imprint.specs.declared.refused.Refused.TheVariants as refused;
     ghost use Rattle.ksi_journal.specs.Elements.{nothing_yet, start_at, voters_at, end_at};
@@ -108,9 +106,7 @@ impl<C: Compress> Loading<C> {
 
     /// The journal that whole elements make, but for its calendar.
     pub(crate) fn into_parts(self) -> Parts
-        ensures contents { contents result ≡ self.contents }
-        ensures numbers { AllByRecursion (λ signature. signature.0 < 2 ^ 64) self.contents.issued }
-        ensures bytes { AllByRecursion (λ signature. AreBytes signature.1) self.contents.issued }
+        ensures { contents result ≡ self.contents }
     {
         let Loading {
             version: _,

@@ -1,7 +1,6 @@
 //! Issued signatures and publications, as they are loaded.
 use crate::fault::JournalFault;
 use crate::fields::{read_publication, read_signature};
-use crate::laws::are_bytes;
 use crate::loading::{Loading, named};
 use crate::stage::Stage;
 use ksi_imprint::{Bytes, Compress, Refused};
@@ -23,7 +22,6 @@ impl<C: Compress> Loading<C> {
             Ok(signature) => signature,
             Err(fault) => return Err(Refused::Fault(named(fault))),
         };
-        are_bytes(bytes);
         let copy = match Bytes::copy_of(self.alloc, bytes) {
             Ok(copy) => copy,
             Err(_) => return Err(Refused::NoMemory),

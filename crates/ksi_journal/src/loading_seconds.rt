@@ -115,6 +115,15 @@ impl<C: Compress> Loading<C> {
         if !is_same(&computed, &self.root) {
             return Err(Refused::Fault(JournalFault::TreeRoot(self.second, self.root, computed)));
         }
+        self.keep(item)
+    }
+
+    /// The last item of a second whose tree has its root.
+    fn keep(&mut self, item: Item) -> Result<(), Refused<JournalFault>>
+        requires left { self.old.left ≤ 1 }
+        requires low { leaf_level item ≤ highest_item }
+        ensures { Steps (Ok (closed self.old (with_item self.old.current item))) self.new result }
+    {
         if self.items.is_empty() {
             return self.close(self.second, self.root, Items::one(item));
         }

@@ -1,20 +1,16 @@
-ghost use Rattle.std.specs.Prelude.{◌≡◌, ◌⊎◌, ◌++◌, ◌+◌, ◌<◌, ◌^◌, ℕ, List, None, Err, IfOk, IfSome, length};
+ghost use Rattle.std.specs.Prelude.{◌≡◌, ◌⊎◌, ◌++◌, ◌+◌, ◌<◌, ◌^◌, None, Err, IfOk, IfSome, length};
 ghost use Rattle.ksi_imprint.specs.Refused.{IfRefused};
 ghost use Rattle.ksi_imprint.specs.declared.refused.Refused.TheVariants.{Fault};
-ghost use Rattle.ksi_tlv.specs.Walking.{elements};
-ghost use Rattle.ksi_order.specs.Sequence.{IsWhole, IsFirstFault, IsWanting};
 ghost use Rattle.ksi_journal.specs.declared.fault.JournalFault.TheVariants.{Magic};
-ghost use Rattle.ksi_journal.specs.Journal.{Contents, contents, IsJournal};
-ghost use Rattle.ksi_journal.specs.Elements.{Loaded, WantsFor, journal_order, nothing_yet};
+ghost use Rattle.ksi_journal.specs.Journal.{Contents};
 ghost use Rattle.ksi_journal.specs.File.{magic, IsJournalFile, IsJournalFault, IsOther, IsWantingInside};
 
 use crate::fault::JournalFault;
 use crate::journal::Journal;
+use crate::laws::{are_bytes, file_is_journal};
 use crate::loading::Loading;
-use crate::parts::Parts;
 use crate::version::Version;
 use ksi_imprint::{Compress, Refused};
-use ksi_order::laws::values_are_bounded;
 use ksi_order::walk;
 use ksi_tlv::after_magic;
 use std::alloc::Global;
@@ -30,12 +26,19 @@ pub fn load<C: Compress>(alloc: Global, bytes: &[u8]) -> Result<Journal<C>, Refu
         (IsWantingInside C.image bytes.now ⊎ ((journal : Contents) × IsJournalFile C.image bytes.now journal)) }
     ensures other { IsOther bytes.now → result ≡ Err (Fault Magic) }
 {
+    are_bytes(bytes);
+    file_is_journal();
     let Some((version, rest)) = after_version(bytes) else {
         return Err(Refused::Fault(JournalFault::Magic));
     };
-    let parts = parts_in::<C>(alloc, version, rest)?;
-    let journal = Journal::new(alloc, parts)?;
-    Ok(journal)
+    let mut loading = Loading::<C>::new(alloc, version);
+    match walk(&mut loading, 8, rest) {
+        Ok(()) => {
+            let journal = Journal::new(alloc, loading.into_parts())?;
+            Ok(journal)
+        }
+        Err(refused) => Err(refused),
+    }
 }
 
 /// The version by the magic that the bytes begin with, and what stands behind it.
@@ -50,27 +53,5 @@ fn after_version(bytes: &[u8]) -> Option<(Version, &[u8])>
     match after_magic(bytes, Version::Two.magic()) {
         Some(rest) => Some((Version::Two, rest)),
         None => None,
-    }
-}
-
-/// What the elements behind the magic say.
-fn parts_in<C: Compress>(
-    alloc: Global,
-    version: Version,
-    rest: &[u8],
-) -> Result<Parts, Refused<JournalFault>>
-    requires { 8 + length rest.now < 2 ^ 64 }
-    ensures journal { IfOk result (λ parts. IsJournal C.image (contents parts)) }
-    ensures whole { IfOk result (λ parts. (said : Loaded) ×
-        IsWhole (journal_order C.image) (elements 8 rest.now) (nothing_yet version) said × (contents parts ≡ said.contents)) }
-    ensures refused { IfRefused result
-        (IsFirstFault (journal_order C.image) (8 + length rest.now) (elements 8 rest.now) (nothing_yet version))
-        (IsWanting (journal_order C.image) (WantsFor C.image) (elements 8 rest.now) (nothing_yet version)) }
-{
-    values_are_bounded();
-    let mut loading = Loading::<C>::new(alloc, version);
-    match walk(&mut loading, 8, rest) {
-        Ok(()) => Ok(loading.into_parts()),
-        Err(refused) => Err(refused),
     }
 }

@@ -2,7 +2,7 @@ ghost use Rattle.std.specs.Prelude.{◌≡◌};
 ghost use Rattle.ksi_journal.specs.File.{magic};
 
 /// The versions of a journal's file, by the eight bytes that it begins with.
-#[derive(Clone, Copy, PartialEq, Eq, Debug)]
+#[derive(Clone, Copy)]
 pub enum Version {
     /// `KSIJRNL1`: no voters stand behind the start, and no item has a name.
     One,

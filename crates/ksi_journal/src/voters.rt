@@ -2,13 +2,15 @@
 ghost use Rattle.std.specs.Prelude.{◌≡◌, ◌<◌, ◌^◌, IfOk};
 ghost use Rattle.ksi_synod.specs.CorePlans.{AreVoters};
 ghost use Rattle.ksi_tlv.specs.Views.{view_placed};
+ghost use Rattle.ksi_order.specs.Left.{left};
 ghost use Rattle.ksi_journal.specs.Elements.{voters_in, voters_from};
+ghost use Rattle.ksi_journal.specs.Kept.{IsVoting};
 ghost use Rattle.ksi_journal.specs.Voters.{bits_of, cores_in};
 
 use crate::fault::JournalFault;
-use crate::fields::check_rise;
+use crate::fields::rising;
 use crate::loading::named;
-use ksi_order::{Fields, number, time};
+use ksi_order::{Fields, OrderFault, number};
 use ksi_synod::laws::voters_are_cores;
 use ksi_synod::{Voters, VotersFrom};
 use ksi_tlv::Placed;
@@ -23,30 +25,33 @@ pub(crate) fn read_voters(at: &Placed<'_>, least: u64) -> Result<VotersFrom, Jou
     ensures early { IfOk result (λ pair. pair.second < 2 ^ 63) }
 {
     let mut inside = Fields::new(at);
-    let one = match inside.next(0x01) {
-        Ok(at) => at,
+    let (second, bits, place) = match voting(&mut inside, least) {
+        Ok(found) => found,
         Err(fault) => return Err(named(fault)),
     };
-    let second = match time(&one) {
-        Ok(second) => second,
-        Err(fault) => return Err(named(fault)),
-    };
-    if let Err(fault) = check_rise(u128::from(least), u128::from(second), one.place) {
-        return Err(named(fault));
-    }
-    let two = match inside.next(0x02) {
-        Ok(at) => at,
-        Err(fault) => return Err(named(fault)),
-    };
-    let bits = match number(&two) {
-        Ok(bits) => bits,
-        Err(fault) => return Err(named(fault)),
-    };
-    let voters = voters_in(bits, two.place)?;
+    let voters = voters_in(bits, place)?;
     match inside.done() {
         Ok(()) => Ok(VotersFrom { second, voters }),
         Err(fault) => Err(named(fault)),
     }
+}
+
+/// The second, the bits, and where these stand.
+#[tactic(auto, unfolding(crate::specs::Elements::voting))]
+fn voting(inside: &mut Fields<'_>, least: u64) -> Result<(u64, u64, usize), OrderFault>
+    ensures value { IsVoting least (left inside.old) (left inside.new) result }
+    ensures early { IfOk result (λ found. found.0 < 2 ^ 63) }
+{
+    let second = match rising(inside, least) {
+        Ok(second) => second,
+        Err(fault) => return Err(fault),
+    };
+    let two = match inside.next(0x02) {
+        Ok(at) => at,
+        Err(fault) => return Err(fault),
+    };
+    let bits = number(&two)?;
+    Ok((second, bits, two.place))
 }
 
 /// One or more of the cores 0 to 8.

@@ -1,11 +1,11 @@
 ghost use Rattle.std.specs.Prelude.{◌≡◌, ◌↔◌, ◌++◌, ◌∷◌, [], ◌≤◌, ◌<◌, true, length, map, Err, OnOk, IfOk};
 ghost use Rattle.std.specs.List.{AllByRecursion, list_any};
-ghost use Rattle.ksi_tlv.specs.Spelling.{canonical};
+ghost use Rattle.ksi_tlv.specs.Spelling.{canonical, plain};
 ghost use Rattle.ksi_tlv.specs.Writing.{texts};
 ghost use Rattle.ksi_imprint.specs.declared.refused.Refused.TheVariants.{Fault};
 ghost use Rattle.ksi_journal.specs.declared.version.Version.TheVariants.{One};
 ghost use Rattle.ksi_journal.specs.declared.writer.VersionRefusal.TheVariants.{NeedsTwo};
-ghost use Rattle.ksi_journal.specs.Written.{voter_elements, voters_element, needs_two, has_name, text_in, head_elements, pair_elements, second_element, item_element, kept_elements, seconds_elements, issued_element, publication_element, journal_elements, journal_text};
+ghost use Rattle.ksi_journal.specs.Written.{voter_elements, voters_element, needs_two, version_of, has_name, text_in, head_elements, pair_elements, second_element, item_element, kept_elements, seconds_elements, issued_element, publication_element, journal_elements, journal_text};
 ghost use Rattle.ksi_journal.specs.Journal.{IsVoters, IsIssued, IsJournal};
 ghost use Rattle.ksi_journal.specs.File.{IsJournalFile};
 
@@ -24,7 +24,7 @@ use ksi_tlv::laws::numeral_is_read;
 use std::alloc::Global;
 
 /// Why a journal is not written in a version.
-#[derive(Clone, Copy, PartialEq, Eq, Debug)]
+#[derive(Clone, Copy, Debug)]
 pub enum VersionRefusal {
     /// Version 1 is asked, and there are voters, or a kept item has a name.
     NeedsTwo,
@@ -39,12 +39,7 @@ pub fn write<C: Compress>(alloc: Global, journal: &Journal<C>) -> Result<Bytes, 
     ensures again { IfOk result (λ text. IsJournalFile C.image text journal.now) }
 {
     written_is_journal();
-    let version = if needs_two(journal) {
-        Version::Two
-    } else {
-        Version::One
-    };
-    written(alloc, journal, version)
+    written(alloc, journal, version_of(journal))
 }
 
 /// The text of a journal in a version, which loads again as the journal.
@@ -67,6 +62,17 @@ pub fn write_version<C: Compress>(
     match written(alloc, journal, version) {
         Ok(text) => Ok(text),
         Err(NoMemory) => Err(Refused::NoMemory),
+    }
+}
+
+/// Version 2 exactly where it is needed.
+fn version_of<C: Compress>(journal: &Journal<C>) -> Version
+    ensures { result ≡ version_of journal.now }
+{
+    if needs_two(journal) {
+        Version::Two
+    } else {
+        Version::One
     }
 }
 
@@ -210,33 +216,9 @@ fn put_issued(writer: &mut Writer, alloc: Global, issued: &[(u64, Bytes)]) -> Re
     ensures { OnOk result (writer.new ≡ writer.old ++ texts (map issued_element issued.now)) }
 {
     for signature in issued {
-        put_signature(writer, alloc, signature)?;
+        put_pair(writer, alloc, ISSUED, signature.0, signature.1.as_slice())?;
     }
     Ok(())
-}
-
-fn put_signature(
-    writer: &mut Writer,
-    alloc: Global,
-    signature: &(u64, Bytes),
-) -> Result<(), NoMemory>
-    requires { length signature.now.1 ≤ 60000 }
-    ensures { OnOk result (writer.new ≡ writer.old ++ canonical (issued_element signature.now)) }
-{
-    let body = signature_body(alloc, signature)?;
-    put_short(writer, ISSUED, body.bytes())
-}
-
-fn signature_body(alloc: Global, signature: &(u64, Bytes)) -> Result<Writer, NoMemory>
-    requires { length signature.now.1 ≤ 60000 }
-    ensures text { IfOk result (λ body. body ≡ texts (pair_elements signature.now)) }
-    ensures short { IfOk result (λ body. length body ≤ 65535) }
-{
-    numeral_is_read();
-    let mut body = body_of(alloc, signature.1.as_slice().len() + 16)?;
-    body.put_number(0x01, signature.0)?;
-    put_short(&mut body, 0x02, signature.1.as_slice())?;
-    Ok(body)
 }
 
 fn put_publications(
@@ -247,29 +229,41 @@ fn put_publications(
     ensures { OnOk result (writer.new ≡ writer.old ++ texts (map publication_element publications.now)) }
 {
     for publication in publications {
-        put_publication(writer, alloc, publication)?;
+        put_pair(
+            writer,
+            alloc,
+            PUBLICATION,
+            publication.0,
+            publication.1.bytes(),
+        )?;
     }
     Ok(())
 }
 
-fn put_publication(
+/// A number and bytes, as an element of a kind.
+fn put_pair(
     writer: &mut Writer,
     alloc: Global,
-    publication: &(u64, Imprint),
+    kind: u16,
+    number: u64,
+    bytes: &[u8],
 ) -> Result<(), NoMemory>
-    ensures { OnOk result (writer.new ≡ writer.old ++ canonical (publication_element publication.now)) }
+    requires kind { kind ≤ 0x1fff }
+    requires short { length bytes.now ≤ 60000 }
+    ensures { OnOk result (writer.new ≡ writer.old ++ canonical (plain kind (texts (pair_elements (number, bytes.now))))) }
 {
-    let body = publication_body(alloc, publication)?;
-    put_short(writer, PUBLICATION, body.bytes())
+    let body = pair_body(alloc, number, bytes)?;
+    put_short(writer, kind, body.bytes())
 }
 
-fn publication_body(alloc: Global, publication: &(u64, Imprint)) -> Result<Writer, NoMemory>
-    ensures text { IfOk result (λ body. body ≡ texts (pair_elements publication.now)) }
+fn pair_body(alloc: Global, number: u64, bytes: &[u8]) -> Result<Writer, NoMemory>
+    requires { length bytes.now ≤ 60000 }
+    ensures text { IfOk result (λ body. body ≡ texts (pair_elements (number, bytes.now))) }
     ensures short { IfOk result (λ body. length body ≤ 65535) }
 {
     numeral_is_read();
-    let mut body = body_of(alloc, 64)?;
-    body.put_number(0x01, publication.0)?;
-    put_short(&mut body, 0x02, publication.1.bytes())?;
+    let mut body = body_of(alloc, bytes.len() + 16)?;
+    body.put_number(0x01, number)?;
+    put_short(&mut body, 0x02, bytes)?;
     Ok(body)
 }

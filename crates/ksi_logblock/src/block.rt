@@ -154,12 +154,12 @@ impl<'a, C: Compress> Block<'a, C> {
         ensures own { IfOk result (λ proof. proof ≡ own_proof C.image self.now k) }
     {
         own_proofs();
-        let _count = self.count();
         self.mask_and_links(k)
     }
 
     fn mask_and_links(&self, k: usize) -> Result<LineProof, NoMemory>
         requires { k < length self.now.lines }
+        ensures few { length self.now.lines ≤ most_lines }
         ensures mask { IfOk result (λ proof. proof.mask ≡ mask_at C.image self.now k) }
         ensures links { IfOk result (λ proof. plain_line_links proof.links ≡ plain_links (chain_of C.image (items_of C.image self.now) k)) }
     {

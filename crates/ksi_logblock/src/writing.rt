@@ -1,10 +1,10 @@
 //! A proof file, as it is written.
-ghost use Rattle.std.specs.Prelude.{◌≡◌, ◌≤◌, ◌++◌, [], length, map, IfOk, OnOk};
+ghost use Rattle.std.specs.Prelude.{◌≡◌, ◌≤◌, ◌++◌, length, map, IfOk, OnOk};
 ghost use Rattle.ksi_tlv.specs.Spelling.{canonical};
 ghost use Rattle.ksi_tlv.specs.Writing.{texts};
 ghost use Rattle.ksi_logblock.specs.Kept.{IsLineLink};
 ghost use Rattle.std.specs.List.{AllByRecursion};
-ghost use Rattle.ksi_logblock.specs.File.{IsProofFile, correction_elements, kind_of, link_element, link_elements, proof_elements, proof_text};
+ghost use Rattle.ksi_logblock.specs.File.{IsProofFile, correction_elements, kind_of, link_element, link_elements, proof_text};
 
 use crate::laws::text_is_proof;
 use crate::line_proof::{LineLink, LineProof};
@@ -25,29 +25,6 @@ pub fn write_proof(alloc: Global, proof: &LineProof) -> Result<Bytes, NoMemory>
     ensures again { IfOk result (λ text. IsProofFile text proof.now) }
 {
     text_is_proof();
-    let _mask = proof.mask.bytes();
-    let links = proof.links.as_slice();
-    are_links(links);
-    written(alloc, proof)
-}
-
-/// What the type of links keeps of each.
-fn are_links(links: &[LineLink])
-    ensures { AllByRecursion IsLineLink links.now }
-{
-    match links.split_first() {
-        None => {}
-        Some((link, higher)) => {
-            let _bytes = link.sibling.bytes();
-            let _correction = link.correction;
-            are_links(higher);
-        }
-    }
-}
-
-fn written(alloc: Global, proof: &LineProof) -> Result<Bytes, NoMemory>
-    ensures { IfOk result (λ text. text ≡ proof_text proof.now) }
-{
     let mut magic = Vec::new(alloc);
     magic.extend_from_slice(MAGIC)?;
     let mut writer = Writer::behind(magic);
@@ -57,7 +34,8 @@ fn written(alloc: Global, proof: &LineProof) -> Result<Bytes, NoMemory>
 }
 
 fn put_links(writer: &mut Writer, alloc: Global, links: &[LineLink]) -> Result<(), NoMemory>
-    ensures { OnOk result (writer.new ≡ writer.old ++ texts (map link_element links.now)) }
+    ensures text { OnOk result (writer.new ≡ writer.old ++ texts (map link_element links.now)) }
+    ensures links { OnOk result (AllByRecursion IsLineLink links.now) }
 {
     for link in links {
         put_link(writer, alloc, link)?;
@@ -66,7 +44,8 @@ fn put_links(writer: &mut Writer, alloc: Global, links: &[LineLink]) -> Result<(
 }
 
 fn put_link(writer: &mut Writer, alloc: Global, link: &LineLink) -> Result<(), NoMemory>
-    ensures { OnOk result (writer.new ≡ writer.old ++ canonical (link_element link.now)) }
+    ensures text { OnOk result (writer.new ≡ writer.old ++ canonical (link_element link.now)) }
+    ensures link { OnOk result (IsLineLink link.now) }
 {
     let body = link_body(alloc, link)?;
     put_short(writer, kind_of(link.side), body.bytes())
@@ -85,6 +64,7 @@ fn kind_of(side: Side) -> u16
 fn link_body(alloc: Global, link: &LineLink) -> Result<Writer, NoMemory>
     ensures text { IfOk result (λ body. body ≡ texts (link_elements link.now)) }
     ensures short { IfOk result (λ body. length body ≤ 65535) }
+    ensures link { IfOk result (λ _. IsLineLink link.now) }
 {
     numeral_is_read();
     let mut body = Writer::behind(Vec::with_capacity(alloc, 40)?);

@@ -1,23 +1,33 @@
+// Lines of words, and the commands that they ask for.
 use crate::same::same;
 use ksi_imprint::{Imprint, Refused};
 use ksi_words::{Command, WordsRefusal, command, hash, number, seed, time};
 use std::alloc::Global;
 use std::process::Abort;
-use std::str::Split;
 use std::test::Fail;
 
 const DIGITS: &str = "e3b0c44298fc1c149afbf4c8996fb92427ae41e4649b934ca495991b7852b855";
 
 const CAPITALS: &str = "E3B0C44298FC1C149AFBF4C8996FB92427AE41E4649B934CA495991B7852B855";
 
-/// 64 hex digits for `#`, the same as capitals for `^`, and 65 for `#0`. Other words stand for themselves.
+/// What a sign stands for: 64 hex digits, the same as capitals, and 65.
+static SIGNS: [(&str, &str); 3] = [
+    ("#", DIGITS),
+    ("^", CAPITALS),
+    (
+        "#0",
+        "e3b0c44298fc1c149afbf4c8996fb92427ae41e4649b934ca495991b7852b8550",
+    ),
+];
+
+/// What a word stands for: a sign's digits, or else itself.
 fn spelled(word: &str) -> &str {
-    match word {
-        "#" => DIGITS,
-        "^" => CAPITALS,
-        "#0" => "e3b0c44298fc1c149afbf4c8996fb92427ae41e4649b934ca495991b7852b8550",
-        word => word,
+    for (sign, digits) in &SIGNS {
+        if *sign == word {
+            return *digits;
+        }
     }
+    word
 }
 
 /// The words between single spaces, of which some may be empty.
@@ -31,9 +41,10 @@ fn words(alloc: Global, line: &str) -> Result<Vec<String>, Fail> {
 
 /// `#` for the hash of those digits.
 fn sign(imprint: &Imprint) -> &'static str {
-    match hash(DIGITS) {
-        Some(other) if other == *imprint => "#",
-        _ => "other",
+    if hash(DIGITS) == Some(*imprint) {
+        "#"
+    } else {
+        "other"
     }
 }
 
@@ -42,59 +53,71 @@ fn seed_sign(seed: &[u8; 32]) -> &'static str {
     sign(&Imprint::of_digest(seed))
 }
 
-fn is_next(words: &mut Split<'_, char>, word: &str) -> bool {
-    words.next().unwrap_or("") == word
-}
-
-/// Whether these are the words between the single spaces of a text, where those that it lacks are empty.
-fn are(text: &str, name: &str, first: &str, second: &str, third: &str, fourth: &str) -> bool {
-    let mut words = text.split(' ');
-    let front = is_next(&mut words, name) && is_next(&mut words, first);
-    let middle = is_next(&mut words, second) && is_next(&mut words, third);
-    let end = is_next(&mut words, fourth) && words.next().is_none();
-    front && middle && end
-}
-
-/// Whether a text says the name of what is asked and its words that are no numbers.
-fn says(text: &str, command: &Command<'_>) -> bool {
+/// The name of what is asked.
+fn name_of(command: &Command<'_>) -> &'static str {
     match command {
-        Command::Replay(schedule, journal) => are(text, "replay", schedule, journal, "", ""),
-        Command::Sign(journal, _, out) => are(text, "sign", journal, out, "", ""),
-        Command::Publish(journal, out) => are(text, "publish", journal, out, "", ""),
-        Command::Extend(journal, signature, _, out) => {
-            are(text, "extend", journal, signature, out, "")
+        Command::Replay(..) => "replay",
+        Command::Sign(..) => "sign",
+        Command::Publish(..) => "publish",
+        Command::Extend(..) => "extend",
+        Command::Verify(..) => "verify",
+        Command::Audit(..) => "audit",
+        Command::Make(..) => "make",
+        Command::Drill(..) => "drill",
+        Command::Migrate(..) => "migrate",
+        Command::Front(..) => "front",
+        Command::Compare(..) => "compare",
+        Command::Block(..) => "block",
+        Command::Line(..) => "line",
+        Command::CheckLine(..) => "checkline",
+        Command::Locate(..) => "locate",
+        Command::Merge(..) => "merge",
+        Command::Whole(..) => "whole",
+        Command::Inspect(..) => "inspect",
+        Command::Mirror(..) => "mirror",
+        Command::Node(..) => "node",
+    }
+}
+
+/// Four words, those that are lacking being empty.
+type Words<'a> = (&'a str, &'a str, &'a str, &'a str);
+
+/// The words that are no numbers.
+fn words_of<'a>(command: &Command<'a>) -> Words<'a> {
+    match command {
+        Command::Replay(a, b)
+        | Command::Publish(a, b)
+        | Command::Migrate(a, b)
+        | Command::Whole(a, b) => (a, b, "", ""),
+        Command::Compare(a, b, c) | Command::Merge(a, b, c) => (a, b, c, ""),
+        Command::CheckLine(a, b, c, d) => (a, b, c, d),
+        Command::Inspect(a) => (a, "", "", ""),
+        other => beside_numbers(other),
+    }
+}
+
+/// The same of what has a number and no hash.
+fn beside_numbers<'a>(command: &Command<'a>) -> Words<'a> {
+    match command {
+        Command::Sign(a, _, b) | Command::Mirror(a, _, b) | Command::Node(a, _, b) => {
+            (a, b, "", "")
         }
-        Command::Verify(signature, imprint, publications) => {
-            are(text, "verify", signature, sign(imprint), publications, "")
-        }
-        Command::Audit(journal, signature, imprint, publications) => {
-            are(
-                text,
-                "audit",
-                journal,
-                signature,
-                sign(imprint),
-                publications,
-            )
-        }
-        Command::Make(_, out) => are(text, "make", out, "", "", ""),
-        Command::Drill(_) => are(text, "drill", "", "", "", ""),
-        Command::Migrate(old, new) => are(text, "migrate", old, new, "", ""),
-        Command::Front(journal, _, _, out) => are(text, "front", journal, out, "", ""),
-        Command::Compare(old, new, proof) => are(text, "compare", old, new, proof, ""),
-        Command::Block(log, seed) => are(text, "block", log, seed_sign(seed), "", ""),
-        Command::Line(log, seed, _, out) => are(text, "line", log, seed_sign(seed), out, ""),
-        Command::CheckLine(signature, publications, line, proof) => {
-            are(text, "checkline", signature, publications, line, proof)
-        }
-        Command::Locate(log, seed, line, proof) => {
-            are(text, "locate", log, seed_sign(seed), line, proof)
-        }
-        Command::Merge(one, two, out) => are(text, "merge", one, two, out, ""),
-        Command::Whole(mirror, journal) => are(text, "whole", mirror, journal, "", ""),
-        Command::Inspect(node) => are(text, "inspect", node, "", "", ""),
-        Command::Mirror(schedule, _, out) => are(text, "mirror", schedule, out, "", ""),
-        Command::Node(schedule, _, out) => are(text, "node", schedule, out, "", ""),
+        Command::Extend(a, b, _, c) => (a, b, c, ""),
+        Command::Make(_, a) => (a, "", "", ""),
+        Command::Front(a, _, _, b) => (a, b, "", ""),
+        other => beside_hashes(other),
+    }
+}
+
+/// The same of what has a hash or a seed.
+fn beside_hashes<'a>(command: &Command<'a>) -> Words<'a> {
+    match command {
+        Command::Verify(a, hash, b) => (a, sign(hash), b, ""),
+        Command::Audit(a, b, hash, c) => (a, b, sign(hash), c),
+        Command::Block(a, seed) => (a, seed_sign(seed), "", ""),
+        Command::Line(a, seed, _, b) => (a, seed_sign(seed), b, ""),
+        Command::Locate(a, seed, b, c) => (a, seed_sign(seed), b, c),
+        _ => ("", "", "", ""),
     }
 }
 
@@ -113,116 +136,180 @@ fn number_of(command: &Command<'_>) -> u64 {
     }
 }
 
-/// The number of a command that a text says, or of the word that is bad; none where it says something else.
-fn told(text: &str, answer: &Result<Command<'_>, Refused<WordsRefusal>>) -> Option<u64> {
-    let (is_said, number) = match answer {
-        Ok(command) => (says(text, command), number_of(command)),
-        Err(Refused::Fault(WordsRefusal::Words)) => (text == "refused", 0),
-        Err(Refused::Fault(WordsRefusal::BadWord(n))) => (text == "bad", *n as u64),
-        Err(Refused::NoMemory) => (false, 0),
-    };
-    if is_said { Some(number) } else { None }
+/// The name, four words and the number of what is asked.
+fn shown(alloc: Global, command: &Command<'_>) -> Result<String, Fail> {
+    let name = name_of(command);
+    let (first, second, third, fourth) = words_of(command);
+    let number = number_of(command);
+    Ok(format!(in alloc; "{name} {first} {second} {third} {fourth} {number}")?)
 }
 
-/// What is asked by a line is said by this text and this number.
-fn is_told(
-    rt: &impl Abort,
-    alloc: Global,
-    line: &str,
-    text: &str,
-    number: u64,
-) -> Result<(), Fail> {
+/// A refusal as `Debug` prints it.
+fn refusal(alloc: Global, refused: Refused<WordsRefusal>) -> Result<String, Fail> {
+    match refused {
+        Refused::Fault(refusal) => Ok(format!(in alloc; "{refusal:?}")?),
+        Refused::NoMemory => Err(Fail::from("no memory")),
+    }
+}
+
+/// What words ask for, or why they ask for nothing.
+fn told(alloc: Global, words: &[String]) -> Result<String, Fail> {
+    match command(alloc, words) {
+        Ok(command) => shown(alloc, &command),
+        Err(refused) => refusal(alloc, refused),
+    }
+}
+
+/// The line on the left side of a row asks for what its right side says.
+fn is_told(rt: &impl Abort, alloc: Global, row: &str) -> Result<(), Fail> {
+    let (line, want) = row.split_once(" = ").unwrap_or((row, ""));
     let words = words(alloc, line)?;
-    same(rt, line, told(text, &command(alloc, &words)), Some(number));
+    same(rt, row, told(alloc, &words)?.as_str(), want);
     Ok(())
 }
+
+fn are_told(rt: &impl Abort, alloc: Global, rows: &str) -> Result<(), Fail> {
+    for row in rows.lines() {
+        is_told(rt, alloc, row)?;
+    }
+    Ok(())
+}
+
+/// Lines, and behind each what it asks for: the name, four words, those that are lacking being empty, and the number, or else
+/// 0.
+const ASKED: &str = "sign j 18446744073709551615 s = sign j s   18446744073709551615
+sign j 007 s = sign j s   7
+mirror f 2 m = mirror f m   2
+node f 2 n = node f n   2
+extend j s 9223372036854775807 t = extend j s t  9223372036854775807
+make 007 f = make f    7
+drill 18446744073709551615 = drill     18446744073709551615
+front j 007 5 f = front j f   2
+verify s ^ p = verify s # p  0
+line g # 007 f = line g # f  7
+block g ^ = block g #   0
+verify  #  = verify  #   0
+replay f j = replay f j   0
+publish j p = publish j p   0
+verify s # p = verify s # p  0
+verify verify # help = verify verify # help  0
+verify s-- # p=- = verify s-- # p=-  0
+verify 0 # 1 = verify 0 # 1  0
+audit j s # p = audit j s # p 0
+migrate j k = migrate j k   0
+compare j k f = compare j k f  0
+block g # = block g #   0
+checkline s p l f = checkline s p l f 0
+locate g # l f = locate g # l f 0
+merge m n o = merge m n o  0
+whole m j = whole m j   0
+inspect n = inspect n    0";
 
 #[test]
 fn each_command_is_told(rt: HostRuntime) -> Result<(), Fail> {
-    static ROWS: [(&str, &str, u64); 12] = [
-        ("sign j 18446744073709551615 s", "sign j s", u64::MAX),
-        ("sign j 007 s", "sign j s", 7),
-        ("mirror f 2 m", "mirror f m", 2),
-        ("node f 2 n", "node f n", 2),
-        (
-            "extend j s 9223372036854775807 t",
-            "extend j s t",
-            u64::MAX >> 1,
-        ),
-        ("make 007 f", "make f", 7),
-        ("drill 18446744073709551615", "drill", u64::MAX),
-        ("front j 007 5 f", "front j f", 2),
-        ("verify s ^ p", "verify s # p", 0),
-        ("line g # 007 f", "line g # f", 7),
-        ("block g ^", "block g #", 0),
-        ("verify  # ", "verify  # ", 0),
-    ];
-    // what is asked just as it stands
-    const ASKED: &str =
-        "replay f j;publish j p;verify s # p;verify verify # help;verify s-- # p=-;verify 0 # 1;audit j s # p;migrate j k;compare j k f;block g #;checkline s p l f;locate g # l f;merge m n o;whole m j;inspect n";
-    for (line, text, number) in &ROWS {
-        is_told(&rt, rt.alloc(), line, text, *number)?;
-    }
-    for line in ASKED.split(';') {
-        is_told(&rt, rt.alloc(), line, line, 0)?;
-    }
-    Ok(())
+    are_told(&rt, rt.alloc(), ASKED)
 }
 
-const BAD_FIRST: &str = "make f 7;drill 18446744073709551616";
+/// Lines with a word that is no number, hash or seed.
+const BAD: &str = "make f 7 = BadWord(1)
+drill 18446744073709551616 = BadWord(1)
+sign j 18446744073709551616 s = BadWord(2)
+mirror f x m = BadWord(2)
+verify s 12 p = BadWord(2)
+verify s #0 p = BadWord(2)
+verify s  p = BadWord(2)
+front j x 2 f = BadWord(2)
+verify s e3b0c44298fc1c149afbf4c8996fb92427ae41e4649b934ca495991b7852b85 p = BadWord(2)
+verify s e3b0c44298fc1c149afbf4c8996fb92427ae41e4649b934ca495991b7852b85g p = BadWord(2)
+block g 12 = BadWord(2)
+line g #0 x f = BadWord(2)
+locate g  l f = BadWord(2)
+extend j s 9223372036854775808 t = BadWord(3)
+extend j s # t = BadWord(3)
+audit j s 12 p = BadWord(3)
+front j 1 9223372036854775808 f = BadWord(3)
+line g # x f = BadWord(3)";
 
-const BAD_SECOND: &str =
-    "sign j 18446744073709551616 s;mirror f x m;verify s 12 p;verify s #0 p;verify s  p;front j x 2 f;verify s e3b0c44298fc1c149afbf4c8996fb92427ae41e4649b934ca495991b7852b85 p;verify s e3b0c44298fc1c149afbf4c8996fb92427ae41e4649b934ca495991b7852b85g p;block g 12;line g #0 x f;locate g  l f";
-
-const BAD_THIRD: &str =
-    "extend j s 9223372036854775808 t;extend j s # t;audit j s 12 p;front j 1 9223372036854775808 f;line g # x f";
-
-// Too few or too many words.
-const COUNTS: &str =
-    ";replay f;replay f j 1;sign j 1;publish j;extend j s 1;make 7;drill;drill 7 f;migrate;migrate j;migrate j k l;verify;verify s;verify s 12;verify s #;verify s # p q;verify s # p q r s t;verify s 12 p q;audit j s #;audit j s # p q;front;front j 1 2;front j 1 2 f g;compare j k;compare j k f g;merge m n;merge m n o p;whole m;whole m j k;inspect;inspect n n;mirror f 1;mirror f 1 m n;block g;block g # f;line g # 1;line g # 1 f g;checkline s p l;checkline s p l f g;locate g # l;locate g # l f g";
-
-// Names of no command.
-const NAMES: &str =
-    "Verify s # p;verif s # p;verifys s # p;ksi verify s # p;help;help verify; verify s # p";
-
-// Words that begin with a dash.
-const DASHES: &str =
-    "sign j -1 s;-;--;--help;--version;-h;-- verify s # p;-verify s # p;verify - # p;verify -s # p;verify s -# p;verify s 12 -;verify s # --;verify s # -p;verify s # --help;migrate j -k;verify -- s # p;verify s # p --";
-
-fn each_is_told(
-    rt: &impl Abort,
-    alloc: Global,
-    lines: &str,
-    text: &str,
-    number: u64,
-) -> Result<(), Fail> {
-    for line in lines.split(';') {
-        is_told(rt, alloc, line, text, number)?;
-    }
-    Ok(())
-}
+/// Too few or too many words, the first line having none; names of no command; and words that begin with a dash.
+const REFUSED: &str = " = Words
+replay f = Words
+replay f j 1 = Words
+sign j 1 = Words
+publish j = Words
+extend j s 1 = Words
+make 7 = Words
+drill = Words
+drill 7 f = Words
+migrate = Words
+migrate j = Words
+migrate j k l = Words
+verify = Words
+verify s = Words
+verify s 12 = Words
+verify s # = Words
+verify s # p q = Words
+verify s # p q r s t = Words
+verify s 12 p q = Words
+audit j s # = Words
+audit j s # p q = Words
+front = Words
+front j 1 2 = Words
+front j 1 2 f g = Words
+compare j k = Words
+compare j k f g = Words
+merge m n = Words
+merge m n o p = Words
+whole m = Words
+whole m j k = Words
+inspect = Words
+inspect n n = Words
+mirror f 1 = Words
+mirror f 1 m n = Words
+block g = Words
+block g # f = Words
+line g # 1 = Words
+line g # 1 f g = Words
+checkline s p l = Words
+checkline s p l f g = Words
+locate g # l = Words
+locate g # l f g = Words
+Verify s # p = Words
+verif s # p = Words
+verifys s # p = Words
+ksi verify s # p = Words
+help = Words
+help verify = Words
+ verify s # p = Words
+sign j -1 s = Words
+- = Words
+-- = Words
+--help = Words
+--version = Words
+-h = Words
+-- verify s # p = Words
+-verify s # p = Words
+verify - # p = Words
+verify -s # p = Words
+verify s -# p = Words
+verify s 12 - = Words
+verify s # -- = Words
+verify s # -p = Words
+verify s # --help = Words
+migrate j -k = Words
+verify -- s # p = Words
+verify s # p -- = Words";
 
 #[test]
 fn each_other_line_is_refused(rt: HostRuntime) -> Result<(), Fail> {
-    static ROWS: [(&str, &str, u64); 6] = [
-        (BAD_FIRST, "bad", 1),
-        (BAD_SECOND, "bad", 2),
-        (BAD_THIRD, "bad", 3),
-        (COUNTS, "refused", 0),
-        (NAMES, "refused", 0),
-        (DASHES, "refused", 0),
-    ];
-    for (lines, text, number) in &ROWS {
-        each_is_told(&rt, rt.alloc(), lines, text, *number)?;
-    }
-    Ok(())
+    are_told(&rt, rt.alloc(), BAD)?;
+    are_told(&rt, rt.alloc(), REFUSED)
 }
 
 #[test]
-fn no_words_are_refused(rt: HostRuntime) {
+fn no_words_are_refused(rt: HostRuntime) -> Result<(), Fail> {
     let none: Vec<String> = Vec::new(rt.alloc());
-    let told = told("refused", &command(rt.alloc(), &none));
-    same(&rt, "none", told, Some(0));
+    same(&rt, "none", told(rt.alloc(), &none)?.as_str(), "Words");
+    Ok(())
 }
 
 #[test]

@@ -1,27 +1,21 @@
 -- What is written is loaded again.
-use Rattle.std.proofs.Common.{◌≡◌, ℕ, suc, ◌+◌, ◌-◌, ◌^◌, ◌<◌, ◌≤◌, Bool, true, false, cond, leb, eqb, List, [], ◌∷◌, ◌++◌, length, map, take, drop, get_or, Option, Some, None, Ok, refl, sym, ap, subst, ◌∙◌, arith, append_assoc, append-nil, length-append}
-use Rattle.std.specs.Prelude.{IfSome}
+use Rattle.std.proofs.Common.{◌≡◌, ℕ, suc, ◌+◌, ◌-◌, ◌^◌, ◌<◌, ◌≤◌, Bool, true, false, cond, leb, eqb, List, [], ◌∷◌, ◌++◌, length, map, Option, Some, None, Ok, refl, sym, ap, subst, ◌∙◌, arith, append_assoc, append-nil}
 use Rattle.std.specs.List.{AllByRecursion}
 use Rattle.std.proofs.lemmas.Bool.{le-leb, ne_eqb, eq-eqb, eqb-true}
-use Rattle.std.proofs.Math.Seq.{take-append_seam, drop-append_seam, get_or-append_seam}
-use Rattle.ksi_imprint.specs.Imprints.{IsImprint}
-use Rattle.ksi_imprint.specs.Reading as imprints
 use Rattle.ksi_tlv.specs.Spelling.{Tlv, FitsLong, plain, canonical}
 use Rattle.ksi_tlv.specs.Walking.{PlacedTlv, placed_at, elements}
 use Rattle.ksi_tlv.specs.Numerals.{numeral}
 use Rattle.ksi_tlv.specs.Writing.{texts, placed}
 use Rattle.ksi_grammar.specs.Contents.{time_in, imprint_in}
 use Rattle.ksi_aggtree.specs.declared.item.Item.{Item}
-use Rattle.ksi_aggtree.specs.Rounds.{named_level}
-use Rattle.ksi_aggtree.specs.Names.{IsName}
 use Rattle.ksi_order.specs.Order.{may_stand}
 use Rattle.ksi_order.specs.Sequence.{Leads}
 use Rattle.ksi_order.specs.Fields.{field, done}
 use Rattle.ksi_order.specs.Values.{number_at, time_at, imprint_at}
-use Rattle.ksi_format.proofs.Again.{Written, number_again, time_again, imprint_again, fits_number, fits_imprint, length-canonical, file_again}
+use Rattle.ksi_format.proofs.Again.{Written, number_again, time_again, imprint_again, fits_number, fits_imprint, length-two, length-three, file_again}
 use Rattle.ksi_journal.specs.Journal.{RiseFrom, IsItem}
-use Rattle.ksi_journal.specs.Elements.{head_in, plain_in, is_name, named_in, item_in}
 use Rattle.ksi_journal.specs.Written.{pair_elements, element_with, item_element}
+use Rattle.ksi_journal.proofs.Items.{item_again, items_fit}
 use Rattle.ksi_mirror.specs.declared.stage.MirrorStage.TheVariants as stages
 use Rattle.ksi_mirror.specs.declared.sealed_list.SealedList.{SealedList}
 use Rattle.ksi_mirror.specs.Mirrors.{MirrorState, rank_at, rank, IsRoot, IsList, IsMirror}
@@ -69,13 +63,6 @@ may_after s (one ∷ others) may = may_after (closed s one) others (record { mor
 
 may_at_roots : (s : MirrorSaid) → s.stage ≡ stages.Roots → MayList s
 may_at_roots s at = record { more = rw at refl; list = rw at refl; end = rw at refl }
-
-imprint_is : (bytes : List ℕ) → IsImprint bytes → imprints.imprint_at bytes ≡ Ok bytes
-imprint_is [] is = absurd (let s = is.size in omega arith)
-imprint_is (a ∷ digest) is =
-    let one : eqb a 1 ≡ true = eq-eqb a 1 is.algorithm in
-    let size : eqb (length digest) 32 ≡ true = eq-eqb (length digest) 32 (let s = is.size in omega arith) in
-    rw (one, size) refl
 
 module _ (laws : Written) where
   -- ---- what stands inside
@@ -128,50 +115,6 @@ module _ (laws : Written) where
       (le-leb one.core 8 low) (le-leb (core_from least_list least_core one.second) one.core up.1)
       (number_again laws (placed_at (at.inside + length (canonical first) + length (canonical second)) third (length (canonical third))) (length one.items) refl (omega (arith, few)))
 
-  -- ---- items
-
-  take_front : (x : List ℕ) (y : ℕ) (ys : List ℕ) (n : ℕ) → length x ≡ n → take n (x ++ y ∷ ys) ≡ x
-  take_front x y ys n is = subst (λ (n : ℕ). take n (x ++ y ∷ ys) ≡ x) is (take-append_seam x (y ∷ ys))
-
-  at_last : (x : List ℕ) (y : ℕ) (ys : List ℕ) (n : ℕ) → length x ≡ n → get_or (x ++ y ∷ ys) n 0 ≡ y
-  at_last x y ys n is = subst (λ (n : ℕ). get_or (x ++ y ∷ ys) n 0 ≡ y) is (get_or-append_seam x y ys 0)
-
-  drop_front : (x : List ℕ) (y : ℕ) (ys : List ℕ) (n : ℕ) → length x + 1 ≡ n → drop n (x ++ y ∷ ys) ≡ ys
-  drop_front x y ys n is =
-      subst (λ (n : ℕ). drop n (x ++ y ∷ ys) ≡ ys) (length-append x (y ∷ []) ∙ is)
-      (subst (λ (xs : List ℕ). drop (length (x ++ y ∷ [])) xs ≡ ys) (append_assoc x (y ∷ []) ys) (drop-append_seam (x ++ y ∷ []) ys))
-
-  -- the first 34 bytes
-  head_again : (most : ℕ) (item : Item) (ys : List ℕ) (kind place n : ℕ) → IsImprint item.imprint → item.level ≤ most
-      → head_in most (placed_at place (plain kind (item.imprint ++ item.level ∷ ys)) n) ≡ Ok (record item { name = None })
-  unfolding head_in
-  head_again most item ys kind place n is low =
-      rw (take_front item.imprint item.level ys 33 is.size, imprint_is item.imprint is, at_last item.imprint item.level ys 33 is.size, le-leb item.level most low) refl
-
-  plain_again : (item : Item) (place n : ℕ) → IsItem item → item.name ≡ None → item_in (placed_at place (element_with item None) n) ≡ Ok item
-  unfolding item_in plain_in
-  plain_again item place n is none =
-      let size : length item.imprint ≡ 33 = is.imprint.size in
-      let all : eqb (length (item.imprint ++ item.level ∷ [])) 34 ≡ true = eq-eqb _ _ (omega (arith, length-append item.imprint (item.level ∷ []), size)) in
-      let low : item.level ≤ 239 = subst (λ (name : Option (List ℕ)). named_level item.level name ≤ 239) none is.low in
-      rw (all, head_again 239 item [] 3 place n is.imprint low) (ap (λ (name : Option (List ℕ)). let made : Item = record item { name = name } in Ok made) (sym none))
-
-  name_test : (name : List ℕ) → IsName name → is_name name ≡ true
-  name_test name is =
-      let some : leb 1 (length name) ≡ true = le-leb _ _ is.some in
-      let few : leb (length name) 64 ≡ true = le-leb _ _ is.few in
-      rw (some, few, is.each) refl
-
-  named_again : (item : Item) (name : List ℕ) (place n : ℕ) → IsItem item → item.name ≡ Some name → item_in (placed_at place (element_with item (Some name)) n) ≡ Ok item
-  unfolding item_in named_in
-  named_again item name place n is some =
-      let size : length item.imprint ≡ 33 = is.imprint.size in
-      let long : leb 34 (length (item.imprint ++ item.level ∷ name)) ≡ true = le-leb _ _ (omega (arith, length-append item.imprint (item.level ∷ name), size)) in
-      let low : item.level ≤ 238 = (let leaf : item.level + 1 ≤ 239 = subst (λ (name : Option (List ℕ)). named_level item.level name ≤ 239) some is.low in omega (arith, leaf)) in
-      let is_it : IsName name = subst (λ (name : Option (List ℕ)). IfSome name IsName) some is.name in
-      rw (long, head_again 238 item name 7 place n is.imprint low, drop_front item.imprint item.level name 34 (omega (arith, size)), name_test name is_it)
-      (ap (λ (name : Option (List ℕ)). let made : Item = record item { name = name } in Ok made) (sym some))
-
   -- ---- one element after the other
 
   module _ (t : MirrorSaid) where
@@ -218,8 +161,8 @@ module _ (laws : Written) where
     item_read : (s : MirrorSaid) (item : Item) (name : Option (List ℕ)) (place n : ℕ) → IsItem item → item.name ≡ name
         → element_read s (placed_at place (element_with item name) n) ≡ Ok (added s (with_item s.current item) (s.left - 1))
     unfolding element_read item_at
-    item_read s item None place n is same = rw (plain_again item place n is same) refl
-    item_read s item (Some name) place n is same = rw (named_again item name place n is same) refl
+    item_read s item None place n is same = rw (item_again item None place n is same) refl
+    item_read s item (Some name) place n is same = rw (item_again item (Some name) place n is same) refl
 
     item_stands : (item : Item) (name : Option (List ℕ)) → may_stand (kinds_next stages.Items) (element_with item name).kind ≡ true
     item_stands item None = refl
@@ -286,12 +229,6 @@ module _ (laws : Written) where
 
   -- ---- sizes
 
-  length-two : (e f : Tlv) → length (texts (e ∷ f ∷ [])) ≤ 8 + length e.body + length f.body
-  length-two e f = rw (length-append (canonical e) (canonical f ++ []), length-append (canonical f) []) (omega (arith, length-canonical e, length-canonical f))
-
-  length-three : (e f g : Tlv) → length (texts (e ∷ f ∷ g ∷ [])) ≤ 12 + length e.body + length f.body + length g.body
-  length-three e f g = rw (length-append (canonical e) (canonical f ++ (canonical g ++ [])), length-append (canonical f) (canonical g ++ []), length-append (canonical g) []) (omega (arith, length-canonical e, length-canonical f, length-canonical g))
-
   root_fits : (one : ℕ × List ℕ) → IsRoot one → FitsLong (root_element one)
   root_fits one is = record {
     kind = omega arith;
@@ -307,21 +244,6 @@ module _ (laws : Written) where
     kind = omega arith;
     body = omega (arith, length-three (plain 1 (numeral one.second)) (plain 2 (numeral one.core)) (plain 3 (numeral (length one.items))), laws.size one.second, laws.size one.core, laws.size (length one.items));
   }
-
-  item_fits : (item : Item) (name : Option (List ℕ)) → IsItem item → item.name ≡ name → FitsLong (element_with item name)
-  item_fits item None is same = record { kind = omega arith; body = (let size = is.imprint.size in omega (arith, length-append item.imprint (item.level ∷ []), size)) }
-  item_fits item (Some name) is same = record {
-    kind = omega arith;
-    body = (
-        let size = is.imprint.size in
-        let is_it : IsName name = subst (λ (name : Option (List ℕ)). IfSome name IsName) same is.name in
-        let few = is_it.few in
-        omega (arith, length-append item.imprint (item.level ∷ name), size, few));
-  }
-
-  items_fit : (items : List Item) (more : List Tlv) → AllByRecursion IsItem items → AllByRecursion FitsLong more → AllByRecursion FitsLong (map item_element items ++ more)
-  items_fit [] more all rest = rest
-  items_fit (item ∷ items) more all rest = (item_fits item item.name all.0 refl, items_fit items more all.1 rest)
 
   lists_fit : (lists : List SealedList) (more : List Tlv) → AllByRecursion IsList lists → AllByRecursion FitsLong more → AllByRecursion FitsLong (lists_elements lists ++ more)
   lists_fit [] more all rest = rest

@@ -4,17 +4,9 @@ use Rattle.std.proofs.lemmas.Bool.{ltb-true, ltb-false, eqb-true, eqb-false, eq-
 use Rattle.std.proofs.lemmas.List.{map-append}
 use Rattle.std.specs.Borrow.{Bor}
 use Rattle.ksi_journal.specs.Journal.{RiseFrom}
+use Rattle.ksi_journal.proofs.Rising.{least_behind, rise_more}
 use Rattle.ksi_mirror.specs.Maps.{Agree, entry_at, or_else}
 use Rattle.ksi_mirror.specs.Keys.{DifferFirst, IsLeast, SaysLeast, IsUnited}
-
--- the least that may stand behind numbers
-abbrev pub least_behind : ℕ → List ℕ → ℕ
-least_behind least [] = least
-least_behind least (n ∷ others) = least_behind (n + 1) others
-
-pub rise_more : (least : ℕ) (ns : List ℕ) (n : ℕ) → RiseFrom least ns → least_behind least ns ≤ n → RiseFrom least (ns ++ n ∷ []) × (least_behind least (ns ++ n ∷ []) ≡ n + 1)
-rise_more least [] n rise le = ((le, tt), refl)
-rise_more least (m ∷ ns) n rise le = let more = rise_more (m + 1) ns n rise.1 le in ((rise.0, more.0), more.1)
 
 pub rise_earlier : (least most : ℕ) (ns : List ℕ) → least ≤ most → RiseFrom most ns → RiseFrom least ns
 rise_earlier least most [] le rise = tt

@@ -1,22 +1,21 @@
 -- The elements of a mirror's file stand for what it has, one for one and in its order, and that is a mirror.
 use Rattle.std.proofs.Common.{◌≡◌, ℕ, zero, suc, ◌+◌, ◌-◌, ◌^◌, ◌<◌, ◌≤◌, Bool, true, false, cond, ◌||◌, leb, eqb, List, [], ◌∷◌, ◌++◌, length, map, Result, Ok, inl, inr, ◌⊎◌, refl, sym, ap, subst, ◌∙◌, arith, append_assoc, append-nil, length-append}
 use Rattle.std.specs.List.{AllByRecursion}
-use Rattle.std.proofs.lemmas.Bool.{leb-true}
+use Rattle.std.proofs.lemmas.Bool.{leb-true, and_parts}
 use Rattle.std.proofs.lemmas.List.{map-append}
 use Rattle.ksi_tlv.specs.Walking.{PlacedTlv}
 use Rattle.ksi_aggtree.specs.declared.item.Item.{Item}
 use Rattle.ksi_order.specs.Order.{may_stand}
 use Rattle.ksi_order.specs.Values.{time_at}
 use Rattle.ksi_format.specs.Kinds.{kinds_of}
-use Rattle.ksi_format.proofs.Steps.{Bounded, bind_ok, ok_is, any_kind, all_more, kinds_more, leads_keep, file_kinds}
+use Rattle.ksi_format.proofs.Steps.{Bounded, bind_ok, or_named_ok, ok_is, test_ok, any_kind, all_more, kinds_more, leads_keep, file_kinds}
 use Rattle.ksi_journal.specs.declared.fault.JournalFault.{JournalFault}
 use Rattle.ksi_journal.specs.declared.fault.JournalFault.TheVariants as faults
-use Rattle.ksi_journal.specs.Journal.{RiseFrom, IsItem}
-use Rattle.ksi_journal.specs.Elements.{or_named, item_in}
+use Rattle.ksi_journal.specs.Journal.{IsItem}
+use Rattle.ksi_journal.specs.Elements.{named, or_named, item_in}
 use Rattle.ksi_journal.specs.Kinds.{item_kind}
-use Rattle.ksi_journal.proofs.Sound.{test_ok, or_named_ok, both_true}
-use Rattle.ksi_journal.proofs.Told.{item_match}
-use Rattle.ksi_journal.proofs.Ordered.{item_same}
+use Rattle.ksi_journal.proofs.Rising.{Rises, rises_more}
+use Rattle.ksi_journal.proofs.Items.{item_said, item_same}
 use Rattle.ksi_mirror.specs.declared.stage.MirrorStage.{MirrorStage}
 use Rattle.ksi_mirror.specs.declared.stage.MirrorStage.TheVariants as stages
 use Rattle.ksi_mirror.specs.declared.sealed_list.SealedList.{SealedList}
@@ -24,22 +23,7 @@ use Rattle.ksi_mirror.specs.Mirrors.{MirrorState, rank_at, rank, IsRoot, IsList,
 use Rattle.ksi_mirror.specs.Elements.{MirrorSaid, kinds_next, is_end, started, start_at, root_said, with_root, root_at, list_said, counts, opened, list_at, with_item, closed, added, item_at, end_at, element_read, mirror_order, nothing_yet}
 use Rattle.ksi_mirror.specs.File.{mirror_format, IsMirrorFile}
 use Rattle.ksi_mirror.specs.Kinds.{lists_kinds, mirror_kinds, IsInOrder}
-use Rattle.ksi_mirror.proofs.ByKeys.{least_behind, rise_more}
-use Rattle.ksi_mirror.proofs.Values.{root_ok, list_ok, item_ok}
-
--- ---- rising
-
--- one more, at least the least that may stand behind
-record Rises {A : Type 0} (key : A → ℕ) (least : ℕ) (xs : List A) (next : ℕ) : Type 0 where
-  rise : RiseFrom least (map key xs)
-  behind : least_behind least (map key xs) ≤ next
-
-rises_more : {A : Type 0} (key : A → ℕ) (least : ℕ) (xs : List A) (next : ℕ) (x : A) → Rises key least xs next → next ≤ key x → Rises key least (xs ++ x ∷ []) (key x + 1)
-rises_more key least xs next x rises le =
-    let behind = rises.behind in
-    let more = rise_more least (map key xs) (key x) rises.rise (omega (arith, behind)) in
-    let same : map key (xs ++ x ∷ []) ≡ map key xs ++ key x ∷ [] = map-append key xs (x ∷ []) in
-    record { rise = subst (RiseFrom least) (sym same) more.0; behind = (let e = ap (least_behind least) same ∙ more.1 in omega (arith, e)) }
+use Rattle.ksi_mirror.proofs.Values.{root_ok, list_ok}
 
 -- ---- what is told so far
 
@@ -122,7 +106,7 @@ start_step values s u es at told kind e =
     subst (λ (u : MirrorSaid). Holds u (es ++ at ∷ [])) (ap (λ (s : MirrorSaid). started s time.0) (sym told.1) ∙ ok_is {F = JournalFault} (started s time.0) u time.2) (
       rw told.0 (ap (λ (k : ℕ). k ∷ []) kind),
       record {
-        start = values.early at time.0 (or_named_ok (time_at at) time.0 time.1);
+        start = values.early at time.0 (or_named_ok named (time_at at) time.0 time.1);
         roots = tt;
         roots_rise = record { rise = tt; behind = omega arith };
         lists = tt;
@@ -136,7 +120,7 @@ root_step : (values : Bounded) (s u : MirrorSaid) (es : List PlacedTlv) (at : Pl
 unfolding root_at
 root_step values s u es at stage told kind e =
     let one = bind_ok (or_named (root_said s.least_root at)) _ u e in
-    let is = root_ok values s.least_root at one.0 (or_named_ok (root_said s.least_root at) one.0 one.1) in
+    let is = root_ok values s.least_root at one.0 (or_named_ok named (root_said s.least_root at) one.0 one.1) in
     let sound = told.1 in
     subst (λ (u : MirrorSaid). Holds u (es ++ at ∷ [])) (ok_is {F = JournalFault} (with_root s one.0) u one.2)
     (subst (λ (at_stage : MirrorStage). Told at_stage (with_root s one.0) (es ++ at ∷ [])) (sym stage) (
@@ -156,9 +140,9 @@ list_step : (values : Bounded) (s u : MirrorSaid) (es : List PlacedTlv) (at : Pl
 unfolding list_at
 list_step values s u es at told sound kind e =
     let said = bind_ok (or_named (list_said s.least_list s.least_core at)) _ u e in
-    let is = list_ok values s.least_list s.least_core at said.0 sound.cores (or_named_ok (list_said s.least_list s.least_core at) said.0 said.1) in
+    let is = list_ok values s.least_list s.least_core at said.0 sound.cores (or_named_ok named (list_said s.least_list s.least_core at) said.0 said.1) in
     let t = test_ok (counts said.0.2) (opened s said.0.0 said.0.1 said.0.2) (faults.Count said.0.0) u said.2 in
-    let b = both_true (leb 1 said.0.2) (leb said.0.2 65536) t.0 in
+    let b = and_parts (leb 1 said.0.2) (leb said.0.2 65536) t.0 in
     let some = leb-true 1 said.0.2 b.0 in
     let few = leb-true said.0.2 65536 b.1 in
     subst (λ (u : MirrorSaid). Holds u (es ++ at ∷ [])) t.1 (
@@ -221,9 +205,9 @@ item_step : (s u : MirrorSaid) (es : List PlacedTlv) (at : PlacedTlv) → s.stag
 unfolding item_at
 item_step s u es at stage told kind e =
     let item = bind_ok (item_in at) _ u e in
-    let same = item_match at item.0 item.1 kind in
-    item_told s u (es ++ at ∷ []) item.0 (eqb (s.left - 1) 0) refl stage told.1 told.2 (item_ok at item.0 item.1)
-    (kinds_more es at (item_kind item.0) (front s.mirror (9 ∷ map item_kind s.current.items)) told.0 (sym same.kind ∙ item_same item.0 item.0.name refl) ∙ item_more s.mirror s.current.items item.0)
+    let said = item_said at item.0 item.1 kind in
+    item_told s u (es ++ at ∷ []) item.0 (eqb (s.left - 1) 0) refl stage told.1 told.2 said.0
+    (kinds_more es at (item_kind item.0) (front s.mirror (9 ∷ map item_kind s.current.items)) told.0 (sym said.1.kind ∙ item_same item.0 item.0.name refl) ∙ item_more s.mirror s.current.items item.0)
     (ok_is {F = JournalFault} (added s (with_item s.current item.0) (s.left - 1)) u item.2)
 
 end_step : (s u : MirrorSaid) (es : List PlacedTlv) (at : PlacedTlv) → kinds_of es ≡ front s.mirror [] → Sound s → at.element.kind ≡ 6 → end_at s at ≡ Ok u → Holds u (es ++ at ∷ [])

@@ -33,11 +33,6 @@ kept T A A 0
 request 0
 request 1";
 
-#[test]
-fn a_settled_second_answers_as_before(rt: HostRuntime) -> Result<(), Fail> {
-    are_so(&rt, rt.alloc(), BESIDE, SETTLED, SETTLED_ENDS)
-}
-
 /// One core, and two aggregators above one another.
 const ONE: &str = "ksi-schedule 1
 cores 1
@@ -79,11 +74,6 @@ kept T Z
 kept T+1 Z
 kept T+2 Z";
 
-#[test]
-fn what_is_missing_is_named(rt: HostRuntime) -> Result<(), Fail> {
-    are_so(&rt, rt.alloc(), ONE, MISSING, MISSING_ENDS)
-}
-
 /// Three cores and an aggregator.
 const THREE: &str = "ksi-schedule 1
 cores 3
@@ -111,11 +101,6 @@ settled 0
 settled 0
 request 0";
 
-#[test]
-fn a_restart_forgets_the_ballot_in_hand(rt: HostRuntime) -> Result<(), Fail> {
-    are_so(&rt, rt.alloc(), THREE, RESTARTED, RESTARTED_ENDS)
-}
-
 /// Core 1 promises ballot 16 and then 18: no vote comes in ballot 16.
 const TWO_BALLOTS: &str = "seal 0 T = done
 seal 2 T = done
@@ -132,11 +117,6 @@ const TWO_BALLOTS_ENDS: &str = "events 10 messages 12
 settled 0 sealed T 0 Z
 settled 0
 settled 0 sealed T 0 Z";
-
-#[test]
-fn a_lower_ballot_comes_too_late(rt: HostRuntime) -> Result<(), Fail> {
-    are_so(&rt, rt.alloc(), THREE, TWO_BALLOTS, TWO_BALLOTS_ENDS)
-}
 
 /// A LastVote and a Voted count once of each core.
 const REPEATED: &str = "request 0 T A = number 0
@@ -168,11 +148,6 @@ settled 0
 kept T A A 0
 request 0";
 
-#[test]
-fn repeats_do_not_count(rt: HostRuntime) -> Result<(), Fail> {
-    are_so(&rt, rt.alloc(), THREE, REPEATED, REPEATED_ENDS)
-}
-
 /// Core 1 voted in ballot 16, and core 2, with a candidate of its own, begins ballot 18 with that decree.
 const TAKEN_OVER: &str = "request 0 T A = number 0
 close 0 T = done / a0 c0 T A 0
@@ -197,7 +172,26 @@ settled 0
 settled 0 sealed T 0 Z
 request 0";
 
+/// A plan, events and what they tell, and the state of the world behind them.
+static WORLDS: [(&str, &str, &str); 6] = [
+    // a settled second answers as before
+    (BESIDE, SETTLED, SETTLED_ENDS),
+    // what is missing is named
+    (ONE, MISSING, MISSING_ENDS),
+    // a restart forgets the ballot in hand
+    (THREE, RESTARTED, RESTARTED_ENDS),
+    // a lower ballot comes too late
+    (THREE, TWO_BALLOTS, TWO_BALLOTS_ENDS),
+    // repeats do not count
+    (THREE, REPEATED, REPEATED_ENDS),
+    // a reported vote is taken over
+    (THREE, TAKEN_OVER, TAKEN_OVER_ENDS),
+];
+
 #[test]
-fn a_reported_vote_is_taken_over(rt: HostRuntime) -> Result<(), Fail> {
-    are_so(&rt, rt.alloc(), THREE, TAKEN_OVER, TAKEN_OVER_ENDS)
+fn each_world_is_so(rt: HostRuntime) -> Result<(), Fail> {
+    for (plan, rows, ends) in &WORLDS {
+        are_so(&rt, rt.alloc(), plan, rows, ends)?;
+    }
+    Ok(())
 }

@@ -30,11 +30,6 @@ published T *A
 kept T A A 0
 request 0 bytes 615 at T 1 1 from A at T 1 from A";
 
-#[test]
-fn a_request_is_decided_issued_and_published(rt: HostRuntime) -> Result<(), Fail> {
-    are_so(&rt, rt.alloc(), ONE, ISSUED, ISSUED_ENDS)
-}
-
 /// A request of the lower aggregator, and one of the upper beside it. A response that comes again changes nothing.
 const BELOW: &str = "request 1 T A = number 0
 close 1 T = done / a1 a0 T A 0
@@ -59,11 +54,6 @@ settled 1 sealed T 1 AB held T AB
 kept T AB AB 1
 request 0 bytes 709 at T 1 3 1 from A at T 1 3 from A L 0 B at T 1 from AB
 request 1 bytes 652 at T 1 2 from B R 0 A at T 1 from AB";
-
-#[test]
-fn a_response_goes_down_the_aggregators(rt: HostRuntime) -> Result<(), Fail> {
-    are_so(&rt, rt.alloc(), ONE, BELOW, BELOW_ENDS)
-}
 
 /// One core, and two aggregators beside one another.
 const BESIDE: &str = "ksi-schedule 1
@@ -95,11 +85,6 @@ settled 1 sealed T 2 AB held T AB
 kept T AB A 0 B 0
 request 0 bytes 652 at T 3 1 from A at T 3 from A L 0 B
 request 1 bytes 652 at T 2 1 from B at T 2 from B R 0 A";
-
-#[test]
-fn each_aggregator_submits_once_and_has_its_response(rt: HostRuntime) -> Result<(), Fail> {
-    are_so(&rt, rt.alloc(), BESIDE, TWO_BESIDE, TWO_BESIDE_ENDS)
-}
 
 /// What is open is lost by a restart, and what is closed is not. A submission that comes again is known, and late once the
 /// round is sealed or closed.
@@ -145,7 +130,22 @@ request 1 bytes 650 at T+1 1 1 from A at T+1 1 from A
 request 2
 request 3";
 
+/// A plan, events and what they tell, and the state of the world behind them.
+static WORLDS: [(&str, &str, &str); 4] = [
+    // a request is decided issued and published
+    (ONE, ISSUED, ISSUED_ENDS),
+    // a response goes down the aggregators
+    (ONE, BELOW, BELOW_ENDS),
+    // each aggregator submits once and has its response
+    (BESIDE, TWO_BESIDE, TWO_BESIDE_ENDS),
+    // a restart forgets what is open
+    (ONE, LATE, LATE_ENDS),
+];
+
 #[test]
-fn a_restart_forgets_what_is_open(rt: HostRuntime) -> Result<(), Fail> {
-    are_so(&rt, rt.alloc(), ONE, LATE, LATE_ENDS)
+fn each_world_is_so(rt: HostRuntime) -> Result<(), Fail> {
+    for (plan, rows, ends) in &WORLDS {
+        are_so(&rt, rt.alloc(), plan, rows, ends)?;
+    }
+    Ok(())
 }

@@ -22,11 +22,6 @@ settled 0
 settled 0
 kept T Z";
 
-#[test]
-fn one_voter_decides_for_another_core(rt: HostRuntime) -> Result<(), Fail> {
-    are_so(&rt, rt.alloc(), ONE_VOTES, ONE_VOTER, ONE_VOTER_ENDS)
-}
-
 /// Three cores. On the first second core 1 alone votes, and from the next on cores 0 and 2.
 const OTHERS_VOTE: &str = "ksi-schedule 2
 cores 3
@@ -57,11 +52,6 @@ settled 1 sealed T 0 Z held T Z sealed T+1 0 Z
 settled 0
 settled 0
 kept T Z";
-
-#[test]
-fn a_core_asks_the_voters_of_each_second(rt: HostRuntime) -> Result<(), Fail> {
-    are_so(&rt, rt.alloc(), OTHERS_VOTE, EACH_SECOND, EACH_SECOND_ENDS)
-}
 
 /// Three cores and an aggregator. All vote on the first second, core 1 on the next, and cores 0 and 2 from the third on.
 const TWICE: &str = "ksi-schedule 2
@@ -125,7 +115,20 @@ kept T+1 Z
 kept T+2 Z
 request 0 bytes 615 at T 1 1 from A at T 1 from A";
 
+/// A plan, events and what they tell, and the state of the world behind them.
+static WORLDS: [(&str, &str, &str); 3] = [
+    // one voter decides for another core
+    (ONE_VOTES, ONE_VOTER, ONE_VOTER_ENDS),
+    // a core asks the voters of each second
+    (OTHERS_VOTE, EACH_SECOND, EACH_SECOND_ENDS),
+    // voters change twice while ballots are open
+    (TWICE, CHANGING, CHANGING_ENDS),
+];
+
 #[test]
-fn voters_change_twice_while_ballots_are_open(rt: HostRuntime) -> Result<(), Fail> {
-    are_so(&rt, rt.alloc(), TWICE, CHANGING, CHANGING_ENDS)
+fn each_world_is_so(rt: HostRuntime) -> Result<(), Fail> {
+    for (plan, rows, ends) in &WORLDS {
+        are_so(&rt, rt.alloc(), plan, rows, ends)?;
+    }
+    Ok(())
 }

@@ -8,7 +8,7 @@ use crate::text::{Text, meant};
 use ksi_corenode::Core;
 use ksi_imprint::Sha;
 use ksi_schedule::{Schedule, read_schedule};
-use ksi_world::{Actor, Content, Event, Message, NoMemory, World};
+use ksi_world::{Actor, Content, Event, LentMessage, NoMemory, World};
 use std::alloc::Global;
 use std::process::Abort;
 use std::test::Fail;
@@ -57,11 +57,11 @@ fn put_actor(text: &mut Text, actor: Actor) {
 }
 
 /// A message: from whom it comes, to whom it goes, its second and what it says.
-fn put_message(text: &mut Text, message: &Message) {
+fn put_message(text: &mut Text, message: &LentMessage<'_>) {
     put_actor(text, message.sender);
     put_actor(text, message.addressee);
     text.number("", message.second);
-    match &message.content {
+    match message.content {
         Content::Synod(synod) => put_synod(text, synod),
         Content::Submission(item) => put_item(text, item),
         Content::Response(above) => put_above(text, above),
@@ -70,9 +70,11 @@ fn put_message(text: &mut Text, message: &Message) {
 
 /// Each message behind so many.
 fn put_sent(text: &mut Text, world: &World<Sha>, before: usize) {
-    for message in world.wire().iter().skip(before) {
-        text.word("/");
-        put_message(text, message);
+    for number in before..world.wire().len() {
+        if let Some(message) = world.wire().get(number) {
+            text.word("/");
+            put_message(text, &message);
+        }
     }
 }
 

@@ -1,5 +1,5 @@
 -- All messages of a history are about seconds before 2^63.
-use Rattle.std.proofs.Common.{◌≡◌, ℕ, zero, suc, ◌<◌, ◌^◌, min, List, [], ◌∷◌, ◌++◌, map, length, drop, Option, Some, None, IfSome, ap, ◌∙◌, arith}
+use Rattle.std.proofs.Common.{◌≡◌, ℕ, zero, suc, ◌<◌, ◌^◌, List, [], ◌∷◌, ◌++◌, map, drop, Option, Some, None, IfSome, ap, arith}
 use Rattle.std.specs.Prelude.{slice_get}
 use Rattle.std.proofs.lemmas.List.Elements.{All-from_recursion}
 use Rattle.std.specs.List.{AllByRecursion}
@@ -89,18 +89,11 @@ module _ (image : List ℕ → List ℕ) (plan : PlanState) where
   unfolding after first_world
   wire_early es is may = run_early (first_world plan) es is may tt
 
-drop_early : (n : ℕ) (ms : List Message) → Early ms → Early (drop n ms)
-drop_early zero ms is = is
-drop_early (suc n) [] is = tt
-drop_early (suc n) (m ∷ ms) is = drop_early n ms is.1
+pub are_early : (ms : List Message) → Early ms → AreEarly ms
+are_early ms is = All-from_recursion IsEarly ms is
 
-pub are_early : (n : ℕ) (ms : List Message) → Early ms → AreEarly (drop n ms)
-are_early n ms is = All-from_recursion IsEarly (drop n ms) (drop_early n ms is)
-
--- where there are fewer, none is left
-pub drop_least : {A : Type 0} (n : ℕ) (xs : List A) → drop (min n (length xs)) xs ≡ drop n xs
-drop_least zero xs = let none : min 0 (length xs) ≡ 0 = omega arith in ap (λ (k : ℕ). drop k xs) none
-drop_least (suc n) [] = let none : min (suc n) 0 ≡ 0 = omega arith in ap (λ (k : ℕ). drop k []) none
-drop_least (suc n) (x ∷ xs) =
-    let one : min (suc n) (suc (length xs)) ≡ suc (min n (length xs)) = omega arith in
-    ap (λ (k : ℕ). drop k (x ∷ xs)) one ∙ drop_least n xs
+-- the messages from a number on are that of the number and those behind it
+pub from_number : (ms : List Message) (number : ℕ) (m : Message) → slice_get ms number ≡ Some m → drop number ms ≡ m ∷ drop (suc number) ms
+from_number [] number m at = absurd (cc at)
+from_number (first ∷ ms) zero m at = let same : first ≡ m = cc at in ap (λ (one : Message). one ∷ ms) same
+from_number (first ∷ ms) (suc number) m at = from_number ms number m at

@@ -1,4 +1,4 @@
-ghost use Rattle.std.specs.Prelude.{◌≡◌, ◌<◌, ◌+◌, ◌++◌, ◌∷◌, [], ◌↔◌, ℕ, drop, length, take, vec_len, vec_capacity, IfErr, IfOk, IfSome, IsSome, OnOk};
+ghost use Rattle.std.specs.Prelude.{◌≡◌, ◌<◌, ◌+◌, [], ◌↔◌, length, take, IfErr, IfOk, IfSome, IsSome, OnOk};
 ghost use Rattle.ksi_schedule.specs.Events.{with_event, AreEvents, IsEvent};
 ghost use Rattle.ksi_world.specs.Histories.{after, happens, world_of};
 ghost use Rattle.ksi_retrace.specs.Entries.{restart_of, IsGiven, IsHead};
@@ -14,7 +14,7 @@ use crate::telling::{answer_as, block, is, is_block, signature_block};
 use ksi_imprint::{Bytes, Compress, NoMemory, Refused};
 use ksi_schedule::{Actor, Event, Plan};
 use ksi_signature::Answer;
-use ksi_world::{Message, Outcome, World};
+use ksi_world::{Outcome, Wire, World};
 use std::alloc::Global;
 use std::marker::Model;
 
@@ -102,7 +102,7 @@ impl<C: Compress> Tracer<C> {
         ensures events { OnOk result (self.new ≡ record { plan = self.old.plan; events = with_head C.image self.old.plan self.old.events (heads.Said given.now) }) }
     {
         let (before, answer) = self.step(given)?;
-        if is_block(self.alloc, &answer, self.sent_from(before), said)? {
+        if is_block(self.alloc, &answer, self.wire(), before, said)? {
             Ok(Told::Agrees)
         } else {
             Ok(Told::Differs)
@@ -120,7 +120,7 @@ impl<C: Compress> Tracer<C> {
         if !said.is_empty() {
             return Ok(Told::Differs);
         }
-        let text = block(self.alloc, &answer, false, self.sent_from(before))?;
+        let text = block(self.alloc, &answer, false, self.wire(), before)?;
         Ok(Told::Unsaid(Bytes::from_vec(text)))
     }
 
@@ -229,17 +229,15 @@ impl<C: Compress> Tracer<C> {
         Some((marks[place], marks[place + 1]))
     }
 
-    /// The messages that were sent behind so many.
-    fn sent_from(&self, before: usize) -> &[Message]
-        ensures sent { result.now ≡ drop before (world_of C.image self.now).wire }
+    /// All messages ever sent.
+    fn wire(&self) -> &Wire
+        ensures wire { result.now ≡ (world_of C.image self.now).wire }
         ensures early { AreEarly result.now }
     {
         // what is told of a world: its plan is one, and its events are the plan's
         self.world.plan();
         self.world.events();
-        let wire = self.world.wire();
-        let (_, sent) = wire.split_at(before.min(wire.len()));
-        sent
+        self.world.wire()
     }
 
     /// One event: how many messages there were before it, and what came of it.
@@ -252,7 +250,7 @@ impl<C: Compress> Tracer<C> {
         let before = self.world.wire().len();
         self.marks.reserve(1)?;
         let outcome = self.world.step(event)?;
-        put(&mut self.marks, mark(&self.world));
+        self.marks.push_reserved(mark(&self.world));
         Ok((before, outcome))
     }
 }
@@ -264,17 +262,6 @@ fn mark<C: Compress>(world: &World<C>) -> Mark
     Mark {
         messages: world.wire().len(),
         requests: world.requests().len(),
-    }
-}
-
-/// Puts a mark behind the others, where there is room.
-fn put(marks: &mut Vec<Mark>, mark: Mark)
-    requires { vec_len marks.old < vec_capacity marks.old }
-    ensures { marks.new.items ≡ marks.old.items ++ mark ∷ [] }
-{
-    match marks.extend_from_slice(&[mark]) {
-        Ok(()) => {}
-        Err(_) => unreachable!(),
     }
 }
 

@@ -11,9 +11,8 @@ ghost use Rattle.ksi_grammar.specs.Inside.{inner_elements};
 ghost use Rattle.ksi_signature.specs.Tables.{calendar_table};
 ghost use Rattle.ksi_signature.specs.Contents.{calendar_links_among, side_in};
 
-use crate::contents::side_of;
-use crate::kinds::{LEFT_LINK, RIGHT_LINK};
-use ksi_grammar::laws::inside_is_whole;
+use crate::contents::{is_link, side_of};
+use crate::within::calendar_is_limited;
 use ksi_imprint::{Compress, Imprint};
 use ksi_split::{ShapeFault, Side, second_of};
 use ksi_tlv::{Elements, Placed};
@@ -26,7 +25,7 @@ pub(crate) fn climb_calendar_in<C: Compress>(at: &Placed<'_>, start: Imprint) ->
     let mut elements = Elements::at(at.inside, at.element.body);
     while let Some(item) = elements.next() {
         if let Ok(part) = item {
-            if matches!(part.element.kind, LEFT_LINK | RIGHT_LINK) {
+            if is_link(&part) {
                 top = join_at::<C>(&top, &part);
             }
         }
@@ -49,17 +48,18 @@ fn join_at<C: Compress>(node: &Imprint, link: &Placed<'_>) -> Imprint
 ///
 /// # Errors
 /// As [`ksi_calchain::second`] has them.
+#[tactic(auto, unfolding(crate::specs::Contents::calendar_in))]
 pub(crate) fn second_in(at: &Placed<'_>, p: u64) -> Result<u64, ShapeFault>
     requires { inner_verdict calendar_table (view_placed at.now) ≡ Ok tt }
     ensures { result ≡ second_at p (sides_from_top (calendar_links_among (inner_elements (view_placed at.now)))) }
 {
-    inside_is_whole();
+    calendar_is_limited(at);
     let mut sides = [Side::Left; 63];
     let mut from = 63;
     let mut elements = Elements::at(at.inside, at.element.body);
     while let Some(item) = elements.next() {
         if let Ok(part) = item {
-            if matches!(part.element.kind, LEFT_LINK | RIGHT_LINK) {
+            if is_link(&part) {
                 from -= 1;
                 sides[from] = side_of(&part);
             }

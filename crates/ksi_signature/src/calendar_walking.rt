@@ -11,9 +11,10 @@ ghost use Rattle.ksi_signature.specs.Heads.{SaysCalendar, calendar_with};
 ghost use Rattle.ksi_signature.specs.HeadViews.{view_calendar_head};
 
 use crate::calendar_link_views::CalendarLinkViews;
-use crate::contents::{imprint_of, side_of, time_of};
+use crate::contents::{imprint_of, is_link, side_of, time_of};
 use crate::head::CalendarHead;
-use crate::kinds::{AGGREGATION_TIME, INPUT_HASH, LEFT_LINK, PUBLICATION_TIME, RIGHT_LINK};
+use crate::kinds::{AGGREGATION_TIME, INPUT_HASH, PUBLICATION_TIME};
+use crate::within::calendar_is_limited;
 use ksi_calchain::CalendarLink;
 use ksi_grammar::laws::inside_is_whole;
 use ksi_tlv::{Elements, Placed};
@@ -54,16 +55,18 @@ impl<'a> CalendarHead<'a> {
 }
 
 /// The links of an accepted calendar chain.
+#[tactic(auto, unfolding(crate::specs::Contents::calendar_in))]
 pub(crate) fn calendar_links_in(at: &Placed<'_>) -> CalendarLinkViews
     requires { inner_verdict calendar_table (view_placed at.now) ≡ Ok tt }
     ensures { result ≡ calendar_links_among (inner_elements (view_placed at.now)) }
 {
     inside_is_whole();
+    calendar_is_limited(at);
     let mut links = CalendarLinkViews::new();
     let mut elements = Elements::at(at.inside, at.element.body);
     while let Some(item) = elements.next() {
         if let Ok(part) = item {
-            if matches!(part.element.kind, LEFT_LINK | RIGHT_LINK) {
+            if is_link(&part) {
                 links.push(CalendarLink {
                     side: side_of(&part),
                     sibling: imprint_of(&part),

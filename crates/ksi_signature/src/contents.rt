@@ -1,10 +1,10 @@
-ghost use Rattle.std.specs.Prelude.{◌≡◌, ◌<◌, ◌^◌, Ok};
+ghost use Rattle.std.specs.Prelude.{◌≡◌, ◌==◌, ◌||◌, ◌<◌, ◌^◌, Ok};
 ghost use Rattle.ksi_tlv.specs.Views.{view_placed};
 ghost use Rattle.ksi_tlv.specs.Numerals.{number_of};
 ghost use Rattle.ksi_grammar.specs.Contents.{passes, number_in, time_in, level_in, imprint_in};
 ghost use Rattle.ksi_signature.specs.Contents.{side_in};
 
-use crate::kinds::LEFT_LINK;
+use crate::kinds::{LEFT_LINK, RIGHT_LINK};
 use ksi_grammar::{imprint, level, number, time};
 use ksi_imprint::Imprint;
 use ksi_split::Side;
@@ -53,6 +53,13 @@ pub(crate) fn imprint_of(part: &Placed<'_>) -> Imprint
         Ok(imprint) => imprint,
         Err(_) => unreachable!(),
     }
+}
+
+/// Whether an element is a link.
+pub(crate) fn is_link(at: &Placed<'_>) -> bool
+    ensures { result ≡ (at.now.element.kind == 7 || at.now.element.kind == 8) }
+{
+    matches!(at.element.kind, LEFT_LINK | RIGHT_LINK)
 }
 
 /// The side that a link is called after.

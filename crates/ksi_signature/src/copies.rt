@@ -65,8 +65,7 @@ fn chain_of(alloc: Global, chain: &ChainView<'_>) -> Result<AggregationChain, No
 fn index_of(alloc: Global, chain: &ChainView<'_>) -> Result<Index, NoMemory>
     ensures { IfOk result (λ index. index ≡ (chain_seen chain.now).index) }
 {
-    let _some = chain.parts();
-    let mut index = Vec::new(alloc);
+    let mut index = Vec::with_capacity(alloc, chain.parts())?;
     let mut parts = chain.index();
     while let Some(part) = parts.next() {
         index.push(part)?;

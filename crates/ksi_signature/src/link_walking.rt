@@ -1,6 +1,6 @@
 //! Walks over the links of an accepted aggregation chain.
 
-ghost use Rattle.std.specs.Prelude.{◌≡◌, ◌==◌, ◌||◌, map, option_map, slice_get, Ok};
+ghost use Rattle.std.specs.Prelude.{◌≡◌, map, option_map, slice_get, Ok};
 ghost use Rattle.ksi_aggchain.specs.Links.{first_bare};
 ghost use Rattle.ksi_aggchain.specs.Owned.{plain_link, plain_links};
 ghost use Rattle.ksi_aggchain.specs.Climbing.{climbed};
@@ -14,10 +14,11 @@ ghost use Rattle.ksi_signature.specs.Tables.{link_table, chain_table};
 ghost use Rattle.ksi_signature.specs.Contents.{link_in, links_among};
 ghost use Rattle.ksi_signature.specs.LinkParts.{parts_of, parts_with, view_sibling, view_parts};
 
-use crate::contents::{level_of, side_of};
-use crate::kinds::{CORRECTION, IMPRINT, LEFT_LINK, LEGACY, METADATA, RIGHT_LINK};
+use crate::contents::{is_link, level_of, side_of};
+use crate::kinds::{CORRECTION, IMPRINT, LEGACY, METADATA};
 use crate::link_parts::{LinkParts, SiblingView};
 use crate::link_views::LinkViews;
+use crate::within::links_are_limited;
 use ksi_aggchain::laws::one_shape;
 use ksi_aggchain::{LevelFault, LinkView, Node, climb_link, is_bare, with_leading_one, with_side};
 use ksi_grammar::laws::inside_is_whole;
@@ -29,12 +30,12 @@ pub(crate) fn links_in<'a>(at: &Placed<'a>) -> LinkViews<'a>
     requires { inner_verdict chain_table (view_placed at.now) ≡ Ok tt }
     ensures { result ≡ plain_links (links_among (inner_elements (view_placed at.now))) }
 {
-    inside_is_whole();
+    links_are_limited(at);
     let mut links = LinkViews::new();
     let mut elements = Elements::at(at.inside, at.element.body);
     while let Some(item) = elements.next() {
         if let Ok(part) = item {
-            if matches!(part.element.kind, LEFT_LINK | RIGHT_LINK) {
+            if is_link(&part) {
                 links.push(link_at(&part));
             }
         }
@@ -47,13 +48,13 @@ pub(crate) fn climb_in<C: Compress>(at: &Placed<'_>, start: Node) -> Result<Node
     requires { inner_verdict chain_table (view_placed at.now) ≡ Ok tt }
     ensures { result ≡ climbed C.image 0 start (plain_links (links_among (inner_elements (view_placed at.now)))) }
 {
-    inside_is_whole();
+    links_are_limited(at);
     let mut top = start;
     let mut place = 0;
     let mut elements = Elements::at(at.inside, at.element.body);
     while let Some(item) = elements.next() {
         if let Ok(part) = item {
-            if matches!(part.element.kind, LEFT_LINK | RIGHT_LINK) {
+            if is_link(&part) {
                 match climb_link::<C, LinkView<'_>>(top, place, &link_at(&part)) {
                     Ok(above) => top = above,
                     Err(fault) => return Err(fault),
@@ -70,7 +71,7 @@ pub(crate) fn bare_in(at: &Placed<'_>) -> Option<usize>
     requires { inner_verdict chain_table (view_placed at.now) ≡ Ok tt }
     ensures { result ≡ first_bare 0 (plain_links (links_among (inner_elements (view_placed at.now)))) }
 {
-    inside_is_whole();
+    links_are_limited(at);
     let mut place = 0;
     let mut elements = Elements::at(at.inside, at.element.body);
     while let Some(item) = elements.next() {
@@ -123,7 +124,7 @@ pub(crate) fn shape_in(at: &Placed<'_>) -> u64
     requires { inner_verdict chain_table (view_placed at.now) ≡ Ok tt }
     ensures { result ≡ shape_of (map (λ link. link.side) (plain_links (links_among (inner_elements (view_placed at.now))))) }
 {
-    inside_is_whole();
+    links_are_limited(at);
     one_shape();
     let mut bits = 0;
     let mut place = 0;
@@ -137,13 +138,6 @@ pub(crate) fn shape_in(at: &Placed<'_>) -> u64
         }
     }
     with_leading_one(bits, place)
-}
-
-/// Whether an element is a link.
-fn is_link(at: &Placed<'_>) -> bool
-    ensures { result ≡ (at.now.element.kind == 7 || at.now.element.kind == 8) }
-{
-    matches!(at.element.kind, LEFT_LINK | RIGHT_LINK)
 }
 
 /// The link that an accepted element is.

@@ -11,14 +11,12 @@ ghost use Rattle.ksi_signature.specs.Kept.{HasImprint};
 ghost use Rattle.ksi_signature.specs.LinkParts.{view_sibling};
 
 use crate::NoMemory;
-use crate::contents::side_of;
-use crate::kinds::{LEFT_LINK, RIGHT_LINK};
+use crate::contents::{is_link, side_of};
 use crate::link_parts::SiblingView;
 use crate::link_walking::link_parts_in;
 use crate::lists::Links;
-use crate::within::{link_is_limited, read_imprint};
+use crate::within::{link_is_limited, links_are_limited, read_imprint};
 use ksi_aggchain::{Link, Sibling};
-use ksi_grammar::laws::inside_is_whole;
 use ksi_imprint::Bytes;
 use ksi_tlv::{Elements, Placed};
 use std::alloc::Global;
@@ -28,12 +26,12 @@ pub(crate) fn links_of(alloc: Global, at: &Placed<'_>) -> Result<Links, NoMemory
     requires { inner_verdict chain_table (view_placed at.now) ≡ Ok tt }
     ensures { IfOk result (λ links. links ≡ links_among (inner_elements (view_placed at.now))) }
 {
-    inside_is_whole();
+    links_are_limited(at);
     let mut links = Vec::new(alloc);
     let mut elements = Elements::at(at.inside, at.element.body);
     while let Some(item) = elements.next() {
         if let Ok(part) = item {
-            if matches!(part.element.kind, LEFT_LINK | RIGHT_LINK) {
+            if is_link(&part) {
                 links.push(link_of(alloc, &part)?)?;
             }
         }

@@ -1,15 +1,17 @@
 //! What an accepted chain is within. The functions without a result only tell it to the proofs.
 
 ghost use Rattle.std.specs.Prelude.{◌≡◌, ◌<◌, ◌^◌, true, Ok};
+ghost use Rattle.std.specs.List.{AllByRecursion};
 ghost use Rattle.ksi_imprint.specs.Imprints.{IsImprint};
 ghost use Rattle.ksi_tlv.specs.Spelling.{AreBytes};
 ghost use Rattle.ksi_tlv.specs.Views.{view_placed};
 ghost use Rattle.ksi_grammar.specs.Reading.{inner_verdict};
+ghost use Rattle.ksi_grammar.specs.Valid.{MayStand};
 ghost use Rattle.ksi_grammar.specs.Inside.{inner_elements};
 ghost use Rattle.ksi_grammar.specs.Published.{record_table, recorded_in};
-ghost use Rattle.ksi_signature.specs.Values.{AreChains};
+ghost use Rattle.ksi_signature.specs.Values.{AreLinks, AreChains};
 ghost use Rattle.ksi_signature.specs.Tables.{link_table, chain_table, calendar_table, signature_table};
-ghost use Rattle.ksi_signature.specs.Contents.{link_in, chain_in, calendar_in, signature_of};
+ghost use Rattle.ksi_signature.specs.Contents.{link_in, links_among, chain_in, calendar_in, signature_of};
 ghost use Rattle.ksi_signature.specs.Heads.{parts_pass};
 ghost use Rattle.ksi_signature.specs.Kept.{IsLink, IsLent, IsCalendar};
 
@@ -22,6 +24,15 @@ use ksi_tlv::Placed;
 pub(crate) fn chain_is_limited(at: &Placed<'_>)
     requires { inner_verdict chain_table (view_placed at.now) ≡ Ok tt }
     ensures { IsLent (chain_in (view_placed at.now)) }
+{
+    inside_is_whole();
+}
+
+/// The elements of an accepted chain may stand in it, and its links are within the limits of their type.
+pub(crate) fn links_are_limited(at: &Placed<'_>)
+    requires { inner_verdict chain_table (view_placed at.now) ≡ Ok tt }
+    ensures each { AllByRecursion (MayStand chain_table) (inner_elements (view_placed at.now)) }
+    ensures limits { AreLinks (links_among (inner_elements (view_placed at.now))) }
 {
     inside_is_whole();
 }

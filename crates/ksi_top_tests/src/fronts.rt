@@ -1,5 +1,5 @@
 // Fronts of calendars, made and compared.
-use crate::script::plays;
+use crate::script::each_plays;
 use crate::whole_paths::REPLAYED;
 use std::test::Fail;
 
@@ -30,11 +30,6 @@ compare j j = Words words refused
 holds q 20 4b534946524e5431 01046553f100 02046553f100
 holds r 20 4b534946524e5431 01046553f100 02046553f100";
 
-#[test]
-fn a_calendar_is_a_front_of_itself(rt: HostRuntime) -> Result<(), Fail> {
-    plays(&rt, rt.alloc(), &[REPLAYED, OF_ITSELF])
-}
-
 // A journal that begins with second 8, which was missed, and keeps A in 9; one that ends with 8; and one that keeps B in 9.
 // The front of 8 in 9, the same with another first imprint, and with another last one.
 const LONGER: &str =
@@ -55,11 +50,6 @@ compare eight nine first = Refused refused F2 2a0697a49e108ad6be83502438989fb0fa
 compare nine other q = Refused refused F3 7dd6308dc4f1cf1c80ff4459dc24eb8541e38929096329c51893c5d6370fe7c4 91735aaadabf09f9ee60663aab99ec1b33f9e63a50cc2fcc42c5a45e40f986b0
 holds q 119 4b534946524e5431 010108 020109 032101 Z 032101 A 0321";
 
-#[test]
-fn a_longer_calendar_begins_with_it(rt: HostRuntime) -> Result<(), Fail> {
-    plays(&rt, rt.alloc(), &[LONGER])
-}
-
 const NO_FRONTS: &str = "hold short 4b534946524e5431
 hold cut 4b534946524e5431 0101
 hold late 4b534946524e5431 0100 0300
@@ -75,7 +65,17 @@ compare j p short = Malformed malformed 2 J1
 compare s p short = Malformed malformed 1 J1
 front p T T q = Malformed malformed 1 J1";
 
+/// Each is played over files that hold nothing.
+static SCRIPTS: [&[&str]; 3] = [
+    // a calendar is a front of itself
+    &[REPLAYED, OF_ITSELF],
+    // a longer calendar begins with it
+    &[LONGER],
+    // faults of fronts are told
+    &[REPLAYED, NO_FRONTS],
+];
+
 #[test]
-fn faults_of_fronts_are_told(rt: HostRuntime) -> Result<(), Fail> {
-    plays(&rt, rt.alloc(), &[REPLAYED, NO_FRONTS])
+fn each_script_is_played(rt: HostRuntime) -> Result<(), Fail> {
+    each_plays(&rt, rt.alloc(), &SCRIPTS)
 }

@@ -1,16 +1,11 @@
 // Files that are cut short at each place, and signatures whose chains were exchanged.
-use crate::script::plays;
+use crate::script::each_plays;
 use crate::whole_paths::REPLAYED;
 use std::test::Fail;
 
 // Each front of a file `w` is run by itself under the name `x`.
 const SIGNATURE: &str = "hold w 8800005a G K
 fronts 0-93 verify x A p = Malformed malformed 1 S1 0";
-
-#[test]
-fn no_front_of_a_signature_is_one(rt: HostRuntime) -> Result<(), Fail> {
-    plays(&rt, rt.alloc(), &[SIGNATURE])
-}
 
 // The elements of the journal begin behind its magic of eight bytes, and its last one ends at 766.
 const JOURNAL: &str = "hold w j:
@@ -28,11 +23,6 @@ fronts 722-763 publish x o = Malformed malformed 1 J2 721
 fronts 764-764 publish x o = Malformed malformed 1 J8 764
 fronts 765-765 publish x o = Malformed malformed 1 J2 764";
 
-#[test]
-fn no_front_of_a_journal_is_one(rt: HostRuntime) -> Result<(), Fail> {
-    plays(&rt, rt.alloc(), &[REPLAYED, JOURNAL])
-}
-
 // The signature with its two aggregation chains exchanged.
 const EXCHANGED: &str = "hold x s:0-4 s:58-109 s:4-58 s:109-615
 verify x A p = Done accepted T
@@ -40,7 +30,17 @@ extend j x T y = Done extended T T
 verify y A p = Done accepted T
 holds y 662 88000292 8801002f 02046553f100 030101 052101 A 060101 88010032 02046553f100 030101 030101 052101 A 060101";
 
+/// Each is played over files that hold nothing.
+static SCRIPTS: [&[&str]; 3] = [
+    // no front of a signature is one
+    &[SIGNATURE],
+    // no front of a journal is one
+    &[REPLAYED, JOURNAL],
+    // chains may stand in any order
+    &[REPLAYED, EXCHANGED],
+];
+
 #[test]
-fn chains_may_stand_in_any_order(rt: HostRuntime) -> Result<(), Fail> {
-    plays(&rt, rt.alloc(), &[REPLAYED, EXCHANGED])
+fn each_script_is_played(rt: HostRuntime) -> Result<(), Fail> {
+    each_plays(&rt, rt.alloc(), &SCRIPTS)
 }

@@ -1,5 +1,5 @@
 // Signatures extended to a later second, and audited.
-use crate::script::plays;
+use crate::script::each_plays;
 use std::test::Fail;
 
 // Journals that keep A, B or nothing in second T, which is their start, and signatures of A in T without a calendar chain:
@@ -51,11 +51,6 @@ extend from_8 unlike 9 t = Refused refused V3 0 2 1
 extend from_8 bare 8 t = Refused refused V15 0 0
 same t -";
 
-#[test]
-fn each_refusal_of_an_extension_has_its_line(rt: HostRuntime) -> Result<(), Fail> {
-    plays(&rt, rt.alloc(), &[OF_T, OF_8_AND_9, OF_0, NOT_EXTENDED])
-}
-
 const COUNTED: &str = "calls 0 extend a alone 9223372036854775808 t = Words bad word 3
 calls 0 extend a alone x t = Words bad word 3
 calls 0 extend a alone 0 = Words words refused
@@ -68,11 +63,6 @@ calls 2 audit a root_a A root_a = Malformed malformed 2 S1 0
 calls 3 audit a alone A alone = Malformed malformed 4 Q1
 calls 3 audit a alone A root_a = Done inside 0 -";
 
-#[test]
-fn files_of_both_commands_are_read_from_left_to_right(rt: HostRuntime) -> Result<(), Fail> {
-    plays(&rt, rt.alloc(), &[JOURNALS_OF_0, OF_0, COUNTED])
-}
-
 const EXTENDED: &str = "extend from_8 of_9 9 t = Done extended 9 9
 verify t A root_of_9 = Done accepted 9
 audit from_8 t A root_of_9 = Done inside 9 -
@@ -80,22 +70,12 @@ extend from_8 t 9 u = Done extended 9 9
 verify u A root_of_9 = Done accepted 9
 same u t";
 
-#[test]
-fn an_extended_signature_is_accepted(rt: HostRuntime) -> Result<(), Fail> {
-    plays(&rt, rt.alloc(), &[OF_8_AND_9, EXTENDED])
-}
-
 const KEPT: &str = "extend keeps_a of_t T t = Done extended T T
 extend keeps_a dropped T u = Done extended T T
 extend keeps_a kept T v = Done extended T T
 holds t 662
 holds u 662
 holds v 664";
-
-#[test]
-fn an_extension_keeps_what_is_to_be_passed_on(rt: HostRuntime) -> Result<(), Fail> {
-    plays(&rt, rt.alloc(), &[OF_T, KEPT])
-}
 
 const AUDITED: &str = "audit a alone A root_a = Done inside 0 -
 audit both beside_b A root_joined = Done inside 0 L
@@ -114,7 +94,21 @@ audit b alone B root_a = Refused refused V1 A B
 audit a beside_b B root_a = Refused refused V1 A B
 audit a of_t B root_a = Refused refused V1 A B";
 
+/// Each is played over files that hold nothing.
+static SCRIPTS: [&[&str]; 5] = [
+    // each refusal of an extension has its line
+    &[OF_T, OF_8_AND_9, OF_0, NOT_EXTENDED],
+    // files of both commands are read from left to right
+    &[JOURNALS_OF_0, OF_0, COUNTED],
+    // an extended signature is accepted
+    &[OF_8_AND_9, EXTENDED],
+    // an extension keeps what is to be passed on
+    &[OF_T, KEPT],
+    // each answer of an audit has its line
+    &[OF_T, JOURNALS_OF_0, OF_0, AUDITED],
+];
+
 #[test]
-fn each_answer_of_an_audit_has_its_line(rt: HostRuntime) -> Result<(), Fail> {
-    plays(&rt, rt.alloc(), &[OF_T, JOURNALS_OF_0, OF_0, AUDITED])
+fn each_script_is_played(rt: HostRuntime) -> Result<(), Fail> {
+    each_plays(&rt, rt.alloc(), &SCRIPTS)
 }

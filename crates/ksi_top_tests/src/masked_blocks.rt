@@ -1,6 +1,6 @@
 // Masked blocks of logs: their roots, the proofs of lines, and where these stand. The values are those of a plain program in
 // another language.
-use crate::script::plays;
+use crate::script::each_plays;
 use std::test::Fail;
 
 // Logs: of two lines, the same without the last line feed, of two empty lines before another, of an empty line, of none, and
@@ -54,11 +54,6 @@ holds q 80 4b53494c494e4531012101ae0798d0ecaed2b778eddebf18f071a561c53658c05e76c
 holds r 80 4b53494c494e4531012101175ff4dc38c2dc17213ef30e0d13acf0f921758a39d6884257e532133d2b2c4d08230221019f11846cb14a92f6bce39e6d885d69bc922230c45686549316bfd85097e69639
 holds t 83 4b53494c494e4531012101fbfaaba07a9da5d2667513b1558071805316e8c4156cf6836fe4f6e8daeaf848082601010102210128f29766ef26a5d0f74fdc3ed2a12b4c257d5ab5a459de67676d5a35b878cd6d";
 
-#[test]
-fn both_lines_of_a_signed_block_are_accepted(rt: HostRuntime) -> Result<(), Fail> {
-    plays(&rt, rt.alloc(), &[LOGS, SIGNED, TOLD])
-}
-
 const NOT_TOLD: &str = "block none Z = Refused refused B3
 block long Z = Refused refused B6 1 8001
 line none Z 0 x = Refused refused B3
@@ -89,7 +84,15 @@ line two Z x q = Words bad word 3
 locate two Z a = Words words refused
 same x -";
 
+/// Each is played over files that hold nothing.
+static SCRIPTS: [&[&str]; 2] = [
+    // both lines of a signed block are accepted
+    &[LOGS, SIGNED, TOLD],
+    // each other answer has its line
+    &[LOGS, SIGNED, PROOFS, NOT_TOLD],
+];
+
 #[test]
-fn each_other_answer_has_its_line(rt: HostRuntime) -> Result<(), Fail> {
-    plays(&rt, rt.alloc(), &[LOGS, SIGNED, PROOFS, NOT_TOLD])
+fn each_script_is_played(rt: HostRuntime) -> Result<(), Fail> {
+    each_plays(&rt, rt.alloc(), &SCRIPTS)
 }

@@ -1,5 +1,5 @@
 // Mirrors, merged and made journals.
-use crate::script::plays;
+use crate::script::each_plays;
 use crate::whole_paths::REPLAYED;
 use std::test::Fail;
 
@@ -45,11 +45,6 @@ same x -
 holds q 158 4b53494d49525231 01046553f100 0229 01046553f100 022101 A 090b 01046553f100 0200 030101 032201 A 00 090c 01046553f100 020101 030101 032201 B 00 0600
 holds j 98 4b53494a524e4c31 01046553f100 022c 01046553f100 022101 A 030101 032201 A 00 0600";
 
-#[test]
-fn mirrors_are_merged(rt: HostRuntime) -> Result<(), Fail> {
-    plays(&rt, rt.alloc(), &[ONE, OTHERS, MERGED])
-}
-
 const MIRRORED: &str = "mirror f 0 w = Done mirror 0 1
 merge w w o = Done merged 1
 whole o j = Done whole 1
@@ -59,11 +54,6 @@ same w m
 same o m
 same x -
 holds j 98 4b53494a524e4c31";
-
-#[test]
-fn the_mirror_of_a_core_is_saved(rt: HostRuntime) -> Result<(), Fail> {
-    plays(&rt, rt.alloc(), &[REPLAYED, ONE, MIRRORED])
-}
 
 const NO_MIRRORS: &str = "hold j 4b53494a524e4c31 010105 0600
 hold short 4b53494d49525231 010105
@@ -86,7 +76,17 @@ whole rest x = Malformed malformed 1 J8 11
 whole name x = Malformed malformed 1 J9 21
 migrate m x = Malformed malformed 1 J1";
 
+/// Each is played over files that hold nothing.
+static SCRIPTS: [&[&str]; 3] = [
+    // mirrors are merged
+    &[ONE, OTHERS, MERGED],
+    // the mirror of a core is saved
+    &[REPLAYED, ONE, MIRRORED],
+    // faults of mirrors are told
+    &[ONE, NO_MIRRORS],
+];
+
 #[test]
-fn faults_of_mirrors_are_told(rt: HostRuntime) -> Result<(), Fail> {
-    plays(&rt, rt.alloc(), &[ONE, NO_MIRRORS])
+fn each_script_is_played(rt: HostRuntime) -> Result<(), Fail> {
+    each_plays(&rt, rt.alloc(), &SCRIPTS)
 }

@@ -1,5 +1,5 @@
 // Files of what a core stored.
-use crate::script::plays;
+use crate::script::each_plays;
 use crate::whole_paths::{NOTHING, REPLAYED};
 use std::test::Fail;
 
@@ -18,11 +18,6 @@ inspect seven = Done core 0 records 4 sealed 1 held 0
 inspect held = Done core 2 records 2 sealed 0 held 2
 inspect = Words words refused
 inspect one one = Words words refused";
-
-#[test]
-fn a_node_file_is_told(rt: HostRuntime) -> Result<(), Fail> {
-    plays(&rt, rt.alloc(), &[FILES, SAID])
-}
 
 // Files without a header; cut off before the last gate, and within a record; with a root twice, a root before the start, a vote
 // without a promise, and a record that spells nothing; and with numbers that are out of their bounds.
@@ -51,11 +46,6 @@ inspect coreless = Malformed malformed 1 N3 0 0 T
 inspect many = Malformed malformed 1 N3 0 10 1
 inspect late = Malformed malformed 1 N3 0 1 9223372036837998593";
 
-#[test]
-fn faults_of_node_files_are_told(rt: HostRuntime) -> Result<(), Fail> {
-    plays(&rt, rt.alloc(), &[BROKEN])
-}
-
 // Ballots of each core of plans of three and of nine; of core 3 of three, 14 and 8 of one, and 8 of eight, behind facts that are
 // lawful; and one that another core of the plan tries.
 const BALLOTS: &str =
@@ -74,11 +64,6 @@ inspect eight = Malformed malformed 1 N2 97
 inspect vote = Malformed malformed 1 N2 95
 inspect others = Done core 1 records 2 sealed 1 held 0";
 
-#[test]
-fn a_ballot_is_of_a_core_of_the_plan(rt: HostRuntime) -> Result<(), Fail> {
-    plays(&rt, rt.alloc(), &[BALLOTS])
-}
-
 // What the core of one request stored, and what is told of it.
 const SAVED: &str = "node f 0 n = Done node 0 records 5
 inspect n = Done core 0 records 5 sealed 1 held 1
@@ -88,18 +73,8 @@ node f 18446744073709551615 x = Refused no core 18446744073709551615
 same n one
 same x -";
 
-#[test]
-fn what_a_core_stored_is_saved(rt: HostRuntime) -> Result<(), Fail> {
-    plays(&rt, rt.alloc(), &[REPLAYED, FILES, SAVED])
-}
-
 const NO_RECORDS: &str = "node f 0 n = Done node 0 records 0
 same n none";
-
-#[test]
-fn a_core_of_no_events_stored_nothing(rt: HostRuntime) -> Result<(), Fail> {
-    plays(&rt, rt.alloc(), &[NOTHING, FILES, NO_RECORDS])
-}
 
 // The same request, where the core restarts after each step.
 const RESTARTED: &str =
@@ -107,7 +82,23 @@ const RESTARTED: &str =
 node f 0 n = Done node 0 records 2
 inspect n = Done core 0 records 2 sealed 1 held 0";
 
+/// Each is played over files that hold nothing.
+static SCRIPTS: [&[&str]; 6] = [
+    // a node file is told
+    &[FILES, SAID],
+    // faults of node files are told
+    &[BROKEN],
+    // a ballot is of a core of the plan
+    &[BALLOTS],
+    // what a core stored is saved
+    &[REPLAYED, FILES, SAVED],
+    // a core of no events stored nothing
+    &[NOTHING, FILES, NO_RECORDS],
+    // a restart stores nothing
+    &[RESTARTED],
+];
+
 #[test]
-fn a_restart_stores_nothing(rt: HostRuntime) -> Result<(), Fail> {
-    plays(&rt, rt.alloc(), &[RESTARTED])
+fn each_script_is_played(rt: HostRuntime) -> Result<(), Fail> {
+    each_plays(&rt, rt.alloc(), &SCRIPTS)
 }

@@ -1,6 +1,6 @@
 // Verifications: the line of each check and of each fault, and how often files are loaded.
 use crate::same::same;
-use crate::script::plays;
+use crate::script::each_plays;
 use ksi_top::Status;
 use std::test::Fail;
 
@@ -70,11 +70,6 @@ calls 2 verify s A p = Refused refused V13 5
 hold s 8800005a 8801002b 0200 030101 052101 Z 060101 88020027 0100 0200 052101 Z
 calls 2 verify s Z p = Refused refused V9";
 
-#[test]
-fn each_check_has_its_line(rt: HostRuntime) -> Result<(), Fail> {
-    plays(&rt, rt.alloc(), &[P0, CHECKS])
-}
-
 // A file of 65,540 bytes passes its limit.
 const SIGNATURES: &str = "hold s
 calls 1 verify s A p = Malformed malformed 1 S1 0
@@ -119,11 +114,6 @@ calls 1 verify s A p = Malformed malformed 1 S3 0
 hold s 65540x00
 calls 1 verify s A p = TooLong too long 1";
 
-#[test]
-fn each_fault_of_a_signature_has_its_code(rt: HostRuntime) -> Result<(), Fail> {
-    plays(&rt, rt.alloc(), &[P0, SIGNATURES])
-}
-
 const PUBLICATIONS: &str = "hold p 4b53495055424c
 calls 2 verify s A p = Malformed malformed 3 Q1
 hold p 4b53495055424c46
@@ -143,11 +133,6 @@ calls 2 verify s A p = Malformed malformed 3 Q8 12
 hold p 4b53495055424c46 87010005 010101 0200 8703002f 102d 02088000000000000000 042101 A
 calls 2 verify s A p = Malformed malformed 3 Q9 23";
 
-#[test]
-fn each_fault_of_publications_has_its_code(rt: HostRuntime) -> Result<(), Fail> {
-    plays(&rt, rt.alloc(), &[S0, PUBLICATIONS])
-}
-
 // The last signature has links; its hashes are those of another implementation of SHA-256.
 const COMPARED: &str = "hold p 4b53495055424c46 87010005 010101 0200 87030028 1026 020105 042101 A
 calls 2 verify s A p = Refused refused V13 0
@@ -159,11 +144,6 @@ hold s 880000c8 88010051 020105 030103 052101 A 060101 0723022101 B 8802006f 010
 hold p 4b53495055424c46 87010005 010101 0200 87030028 1026 020105 042101697c0cfb23e449352c7d9da7297a948f391d538e8cc14b4efed20c99e9b6dd24
 calls 2 verify s A p = Done accepted 5";
 
-#[test]
-fn publications_are_compared(rt: HostRuntime) -> Result<(), Fail> {
-    plays(&rt, rt.alloc(), &[S0, COMPARED])
-}
-
 const WORDS: &str =
     "calls 2 verify s E3b0C44298fC1C149afbf4c8996Fb92427ae41e4649b934ca495991b7852b855 p = Done accepted 0
 calls 0 verify s 12 p = Words bad word 2
@@ -173,11 +153,6 @@ calls 0 audit s A p = Words words refused
 calls 0 migrate s = Words words refused
 calls 0 migrate s p A = Words words refused
 calls 0  = Words words refused";
-
-#[test]
-fn words_are_a_command_or_refused(rt: HostRuntime) -> Result<(), Fail> {
-    plays(&rt, rt.alloc(), &[S0, P0, WORDS])
-}
 
 #[test]
 fn each_status_has_its_number(rt: HostRuntime) {
@@ -194,4 +169,23 @@ fn each_status_has_its_number(rt: HostRuntime) {
     for (number, status) in STATUSES.iter().enumerate() {
         same(&rt, "number", status.code() as usize, number);
     }
+}
+
+/// Each is played over files that hold nothing.
+static SCRIPTS: [&[&str]; 5] = [
+    // each check has its line
+    &[P0, CHECKS],
+    // each fault of a signature has its code
+    &[P0, SIGNATURES],
+    // each fault of publications has its code
+    &[S0, PUBLICATIONS],
+    // publications are compared
+    &[S0, COMPARED],
+    // words are a command or refused
+    &[S0, P0, WORDS],
+];
+
+#[test]
+fn each_script_is_played(rt: HostRuntime) -> Result<(), Fail> {
+    each_plays(&rt, rt.alloc(), &SCRIPTS)
 }

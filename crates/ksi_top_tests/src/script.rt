@@ -259,3 +259,11 @@ pub(crate) fn plays(rt: &impl Abort, alloc: Global, scripts: &[&str]) -> Result<
     }
     Ok(())
 }
+
+/// Plays each of these by itself.
+pub(crate) fn each_plays(rt: &impl Abort, alloc: Global, each: &[&[&str]]) -> Result<(), Fail> {
+    for scripts in each {
+        plays(rt, alloc, scripts)?;
+    }
+    Ok(())
+}

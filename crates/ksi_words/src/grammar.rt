@@ -1,8 +1,8 @@
 // The command line as `clap` reads it.
 ghost use Rattle.std.specs.Prelude.{◌≡◌, IfOk, map, false};
-ghost use Rattle.clap.specs.Words.{app_of};
+ghost use Rattle.clap.specs.Words.{app_of, with_subcommand};
 ghost use Rattle.clap.specs.declared.builder.command.Command.TheViews.{out-Command};
-ghost use Rattle.ksi_words.specs.Grammar.{app_over, row_app, form_of};
+ghost use Rattle.ksi_words.specs.Grammar.{app_over, bare, row_app, form_of};
 
 use crate::table::CommandForm;
 use clap::{Arg, Command};
@@ -12,15 +12,32 @@ use std::alloc::{AllocError, Global};
 pub(crate) fn grammar<'a>(alloc: Global, rows: &[CommandForm]) -> Result<Command<'a>, AllocError>
     ensures { IfOk result (λ grammar. app_of grammar ≡ app_over (map form_of rows.now)) }
 {
-    let mut grammar = Command::new(alloc, "ksi")
+    let mut grammar = without_rows(alloc);
+    'rows: for row in rows {
+        grammar = with_row(alloc, grammar, row)?;
+    }
+    Ok(grammar)
+}
+
+fn without_rows<'a>(alloc: Global) -> Command<'a>
+    ensures { app_of result ≡ bare }
+{
+    Command::new(alloc, "ksi")
         .no_binary_name(true)
         .disable_help_flag(true)
         .disable_help_subcommand(true)
-        .subcommand_required(true);
-    'rows: for row in rows {
-        grammar = grammar.subcommand(form(alloc, row)?)?;
-    }
-    Ok(grammar)
+        .subcommand_required(true)
+}
+
+fn with_row<'a>(
+    alloc: Global,
+    grammar: Command<'a>,
+    row: &CommandForm,
+) -> Result<Command<'a>, AllocError>
+    ensures { IfOk result (λ more. app_of more ≡ with_subcommand (app_of grammar.entry) (row_app (form_of row.now)).top) }
+{
+    let form = form(alloc, row)?;
+    grammar.subcommand(form)
 }
 
 fn form<'a>(alloc: Global, row: &CommandForm) -> Result<Command<'a>, AllocError>

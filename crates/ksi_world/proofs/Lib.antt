@@ -34,6 +34,7 @@ pub mod Imprinted
 pub mod Carrying
 pub mod IssuedCarried
 pub mod Wiring
+pub mod Stored
 pub mod Beyond
 pub mod KeptOf
 pub mod Counting

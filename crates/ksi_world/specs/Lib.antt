@@ -1,4 +1,5 @@
 pub mod Histories
+pub mod Messages
 pub mod Records
 pub mod Sound
 pub mod Nodes

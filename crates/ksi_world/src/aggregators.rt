@@ -1,15 +1,18 @@
 //! The turns of aggregators.
-ghost use Rattle.std.specs.Prelude.{◌≡◌, ◌≤◌, ◌<◌, ◌+◌, ◌^◌, length, slice_get, Some, IfOk, OnErr};
+ghost use Rattle.std.specs.Prelude.{◌≡◌, ◌≤◌, ◌<◌, ◌^◌, length, option_map, slice_get, Some, IfOk, OnErr};
 ghost use Rattle.ksi_aggregator.specs.Rows.{fresh_round, round_request, round_submission, round_close, round_restarted};
 ghost use Rattle.ksi_aggregator.specs.Rounds.{rounds_of, IsNew};
 ghost use Rattle.ksi_aggtree.specs.Rounds.{highest_item, leaf_level};
 ghost use Rattle.ksi_world.specs.declared.message.Message.{Message};
 ghost use Rattle.ksi_schedule.specs.Plans.{PlanState};
+ghost use Rattle.ksi_world.specs.Messages.{content_of};
 ghost use Rattle.ksi_world.specs.Nodes.{AreAggregators, EachAggregator, CanTake, response_row, RoundMove, RoundStep, RoundRestart, AggregatorsStay};
 
-use crate::message::{Content, Message};
+use crate::message::Content;
 use crate::outcome::Outcome;
+use crate::posted::Posted;
 use crate::posting::post_round;
+use crate::wire::Wire;
 use ksi_aggregator::{Aggregator, NoMemory, Step};
 use ksi_aggtree::{Item, Name};
 use ksi_imprint::{Compress, Imprint};
@@ -31,7 +34,7 @@ pub(crate) fn new<C: Compress>(alloc: Global, plan: &Plan) -> Result<Vec<Aggrega
 pub(crate) fn request<C: Compress>(
     plan: &Plan,
     aggregators: &mut Vec<Aggregator<C>>,
-    wire: &mut Vec<Message>,
+    wire: &mut Wire,
     aggregator: u32,
     number: u64,
     second: u64,
@@ -42,19 +45,19 @@ pub(crate) fn request<C: Compress>(
     requires planned { aggregator < length plan.now.parents }
     requires new { EachAggregator (λ a. IsNew number (rounds_of a)) aggregators.old.items }
     requires early { second < 2 ^ 63 }
-    ensures ok { IfOk result (RoundStep (round_request number imprint name) plan.now aggregator second aggregators.old.items aggregators.new.items wire.old.items wire.new.items) }
+    ensures ok { IfOk result (RoundStep (round_request number imprint name) plan.now aggregator second aggregators.old.items aggregators.new.items wire.old wire.new) }
     ensures aggregators { OnErr result (AggregatorsStay aggregators.old.items aggregators.new.items) }
-    ensures wire { OnErr result (wire.new.items ≡ wire.old.items) }
+    ensures wire { OnErr result (wire.new ≡ wire.old) }
 {
     let step = aggregators[aggregator as usize].request(number, second, imprint, name)?;
-    Ok(post_round(plan, wire, aggregator, second, step))
+    Ok(post_round(plan, &mut wire.posted, aggregator, second, step))
 }
 
 /// An aggregator takes an item of another for a second.
 pub(crate) fn submission<C: Compress>(
     plan: &Plan,
     aggregators: &mut Vec<Aggregator<C>>,
-    wire: &mut Vec<Message>,
+    wire: &mut Wire,
     from: u32,
     aggregator: u32,
     second: u64,
@@ -64,32 +67,32 @@ pub(crate) fn submission<C: Compress>(
     requires planned { aggregator < length plan.now.parents }
     requires early { second < 2 ^ 63 }
     requires level { leaf_level item ≤ highest_item }
-    ensures ok { IfOk result (RoundStep (round_submission from item) plan.now aggregator second aggregators.old.items aggregators.new.items wire.old.items wire.new.items) }
+    ensures ok { IfOk result (RoundStep (round_submission from item) plan.now aggregator second aggregators.old.items aggregators.new.items wire.old wire.new) }
     ensures aggregators { OnErr result (AggregatorsStay aggregators.old.items aggregators.new.items) }
-    ensures wire { OnErr result (wire.new.items ≡ wire.old.items) }
+    ensures wire { OnErr result (wire.new ≡ wire.old) }
 {
     let step = aggregators[aggregator as usize].submission(from, second, item)?;
-    Ok(post_round(plan, wire, aggregator, second, step))
+    Ok(post_round(plan, &mut wire.posted, aggregator, second, step))
 }
 
 /// An aggregator closes its round of a second.
 pub(crate) fn close<C: Compress>(
     plan: &Plan,
     aggregators: &mut Vec<Aggregator<C>>,
-    wire: &mut Vec<Message>,
+    wire: &mut Wire,
     aggregator: u32,
     second: u64,
 ) -> Result<Outcome, NoMemory>
     requires there { aggregator < length aggregators.old.items }
     requires planned { aggregator < length plan.now.parents }
     requires early { second < 2 ^ 63 }
-    ensures ok { IfOk result (RoundStep (round_close C.image) plan.now aggregator second aggregators.old.items aggregators.new.items wire.old.items wire.new.items) }
+    ensures ok { IfOk result (RoundStep (round_close C.image) plan.now aggregator second aggregators.old.items aggregators.new.items wire.old wire.new) }
     ensures aggregators { OnErr result (AggregatorsStay aggregators.old.items aggregators.new.items) }
-    ensures wire { OnErr result (wire.new.items ≡ wire.old.items) }
+    ensures wire { OnErr result (wire.new ≡ wire.old) }
 {
-    wire.reserve(1)?;
+    wire.posted.reserve(1)?;
     let step = aggregators[aggregator as usize].close(second)?;
-    Ok(post_round(plan, wire, aggregator, second, step))
+    Ok(post_round(plan, &mut wire.posted, aggregator, second, step))
 }
 
 /// An aggregator takes a response of the wire to its round of a second, and sends it on to at most each aggregator of the
@@ -97,7 +100,7 @@ pub(crate) fn close<C: Compress>(
 pub(crate) fn response<C: Compress>(
     plan: &Plan,
     aggregators: &mut Vec<Aggregator<C>>,
-    wire: &mut Vec<Message>,
+    wire: &mut Wire,
     aggregator: u32,
     second: u64,
     number: usize,
@@ -105,15 +108,27 @@ pub(crate) fn response<C: Compress>(
     requires there { aggregator < length aggregators.old.items }
     requires planned { aggregator < length plan.now.parents }
     requires early { second < 2 ^ 63 }
-    requires response { (message : Message) × (slice_get wire.old.items number ≡ Some message) × CanTake C.image plan.now aggregator second aggregators.old.items message.content }
-    ensures ok { IfOk result (λ outcome. (message : Message) → slice_get wire.old.items number ≡ Some message →
-        RoundStep (response_row C.image message.content) plan.now aggregator second aggregators.old.items aggregators.new.items wire.old.items wire.new.items outcome) }
+    requires response { (message : Message) × (slice_get wire.old number ≡ Some message) × CanTake C.image plan.now aggregator second aggregators.old.items message.content }
+    ensures ok { IfOk result (λ outcome. (message : Message) → slice_get wire.old number ≡ Some message →
+        RoundStep (response_row C.image message.content) plan.now aggregator second aggregators.old.items aggregators.new.items wire.old wire.new outcome) }
     ensures aggregators { OnErr result (AggregatorsStay aggregators.old.items aggregators.new.items) }
-    ensures wire { OnErr result (wire.new.items ≡ wire.old.items) }
+    ensures wire { OnErr result (wire.new ≡ wire.old) }
 {
-    wire.reserve(plan.aggregators())?;
-    let step = answer(aggregators, aggregator, second, &wire[number].content)?;
-    Ok(post_round(plan, wire, aggregator, second, step))
+    wire.posted.reserve(plan.aggregators())?;
+    let content = content_of(&wire.posted, number);
+    let step = answer(aggregators, aggregator, second, content)?;
+    Ok(post_round(plan, &mut wire.posted, aggregator, second, step))
+}
+
+/// What the message of a number says.
+fn content_of(posted: &Posted, number: usize) -> &Content
+    requires { number < length posted.now.messages }
+    ensures { option_map content_of (slice_get posted.now.messages number) ≡ Some result.now }
+{
+    match posted.get(number) {
+        Some(message) => message.content,
+        None => unreachable!(),
+    }
 }
 
 /// An aggregator takes a response to its round of a second.

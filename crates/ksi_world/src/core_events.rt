@@ -13,7 +13,8 @@ ghost use Rattle.ksi_world.specs.Nodes.{core_turn, IsCore};
 ghost use Rattle.ksi_world.specs.CoreEvents.{asked_by_content, asked_of, is_restart_of, where_mine};
 
 use crate::World;
-use crate::message::{Content, Message};
+use crate::message::{Content, LentMessage};
+use crate::wire::Wire;
 use ksi_aggtree::laws::one_round;
 use ksi_corenode::CoreEvent;
 use ksi_imprint::Compress;
@@ -28,7 +29,7 @@ impl<C: Compress> World<C> {
     }
 }
 
-fn asked_of(core: u8, wire: &[Message], event: &Event) -> Option<CoreEvent>
+fn asked_of(core: u8, wire: &Wire, event: &Event) -> Option<CoreEvent>
     ensures { result ≡ asked_of core wire.now event.now }
 {
     match *event {
@@ -36,7 +37,7 @@ fn asked_of(core: u8, wire: &[Message], event: &Event) -> Option<CoreEvent>
         Event::Ballot(j, t) => where_mine(core, j, CoreEvent::Ballot(t)),
         Event::Deliver(number) => match wire.get(number as usize) {
             None => None,
-            Some(message) => asked_by(core, message),
+            Some(message) => asked_by(core, &message),
         },
         Event::Tell(j, t) => where_mine(core, j, CoreEvent::Tell(t)),
         Event::Respond(j, t) => where_mine(core, j, CoreEvent::Respond(t)),
@@ -46,14 +47,14 @@ fn asked_of(core: u8, wire: &[Message], event: &Event) -> Option<CoreEvent>
 }
 
 /// What a message asks of a core.
-fn asked_by(core: u8, message: &Message) -> Option<CoreEvent>
-    ensures { result ≡ asked_by_content core message.now.sender message.now.addressee message.now.second message.now.content }
+fn asked_by(core: u8, message: &LentMessage<'_>) -> Option<CoreEvent>
+    ensures { result ≡ asked_by_content core message.now.sender message.now.addressee message.now.second message.now.content.now }
 {
     let Actor::Core(to) = message.addressee else {
         return None;
     };
     let second = message.second;
-    match (message.sender, &message.content) {
+    match (message.sender, message.content) {
         (Actor::Core(from), Content::Synod(vote)) => {
             where_mine(core, to, CoreEvent::Receive(from, second, *vote))
         }

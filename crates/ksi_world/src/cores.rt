@@ -1,15 +1,16 @@
 //! The turns of cores.
 ghost use Rattle.ksi_schedule.specs.Plans.{core_plan_of};
-ghost use Rattle.std.specs.Prelude.{◌≡◌, ◌≤◌, ◌<◌, ◌+◌, length, vec_len, vec_capacity, IsTrue, false, IfOk, OnOk, OnErr};
+ghost use Rattle.std.specs.Prelude.{◌≡◌, ◌≤◌, ◌<◌, length, IsTrue, false, IfOk, OnOk, OnErr};
 ghost use Rattle.ksi_synod.specs.CorePlans.{IsCorePlan};
 ghost use Rattle.ksi_corenode.specs.Events.{event_second, MayTake, core_row};
 ghost use Rattle.ksi_corenode.specs.Rows.{restart_row};
 ghost use Rattle.ksi_corenode.specs.SecondState.{fresh_second};
 ghost use Rattle.ksi_world.specs.Nodes.{AreCores, EachCore, CoreStep, CoreRestart, CoresStay, is_respond};
 
-use crate::message::Message;
 use crate::outcome::Outcome;
+use crate::posted::Posted;
 use crate::posting::post_core;
+use crate::wire::Wire;
 use ksi_corenode::{Core, CoreEvent, NoMemory, Step};
 use ksi_imprint::Compress;
 use ksi_schedule::Plan;
@@ -31,7 +32,7 @@ pub(crate) fn new<C: Compress>(alloc: Global, plan: &Plan) -> Result<Vec<Core<C>
 /// A core takes an event of a second.
 pub(crate) fn take<C: Compress>(
     cores: &mut Vec<Core<C>>,
-    wire: &mut Vec<Message>,
+    wire: &mut Wire,
     core: u8,
     second: u64,
     event: CoreEvent,
@@ -40,29 +41,29 @@ pub(crate) fn take<C: Compress>(
     requires plan { EachCore (λ c. IsCorePlan c.plan) cores.old.items }
     requires may { EachCore (λ c. MayTake c event) cores.old.items }
     requires second { event_second event ≡ second }
-    ensures ok { IfOk result (CoreStep (λ c. core_row C.image c event) core second cores.old.items cores.new.items wire.old.items wire.new.items) }
+    ensures ok { IfOk result (CoreStep (λ c. core_row C.image c event) core second cores.old.items cores.new.items wire.old wire.new) }
     ensures cores { OnErr result (CoresStay cores.old.items cores.new.items) }
-    ensures wire { OnErr result (wire.new.items ≡ wire.old.items) }
+    ensures wire { OnErr result (wire.new ≡ wire.old) }
 {
     voters_are_cores();
-    wire.reserve(9)?;
+    wire.posted.reserve(9)?;
     let step = cores[core as usize].take(event)?;
-    make_room(wire, &event, &step)?;
-    Ok(post_core(wire, core, second, step))
+    make_room(&mut wire.posted, &event, &step)?;
+    Ok(post_core(&mut wire.posted, core, second, step))
 }
 
 /// Makes room for what a core sends, where there is room for nine messages: only to Respond it may send more.
-fn make_room(wire: &mut Vec<Message>, event: &CoreEvent, step: &Step) -> Result<(), NoMemory>
-    requires room { vec_len wire.old + 9 ≤ vec_capacity wire.old }
+fn make_room(posted: &mut Posted, event: &CoreEvent, step: &Step) -> Result<(), NoMemory>
+    requires room { 9 ≤ posted.old.room }
     requires few { is_respond event.now ≡ false → length step.now.sends ≤ 9 }
-    ensures room { OnOk result (vec_len wire.new + length step.now.sends ≤ vec_capacity wire.new) }
+    ensures room { OnOk result (length step.now.sends ≤ posted.new.room) }
     ensures respond { OnErr result (IsTrue (is_respond event.now)) }
-    ensures items { wire.new.items ≡ wire.old.items }
+    ensures messages { posted.new.messages ≡ posted.old.messages }
 {
     if !is_respond(event) {
         return Ok(());
     }
-    wire.reserve(step.sends.as_slice().len())?;
+    posted.reserve(step.sends.as_slice().len())?;
     Ok(())
 }
 

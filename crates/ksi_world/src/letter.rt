@@ -2,7 +2,7 @@
 ghost use Rattle.std.specs.Prelude.{◌≡◌};
 ghost use Rattle.ksi_world.specs.Letters.{letter_of, vote_of, item_of};
 
-use crate::message::{Content, Message};
+use crate::message::{Content, LentMessage};
 use ksi_aggtree::Item;
 use ksi_schedule::Actor;
 use ksi_synod::SynodMessage;
@@ -23,10 +23,10 @@ pub(crate) enum Letter {
 }
 
 /// What the message is.
-pub(crate) fn letter_of(message: &Message) -> Letter
-    ensures { result ≡ letter_of message.now.sender message.now.addressee message.now.content }
+pub(crate) fn letter_of(message: &LentMessage<'_>) -> Letter
+    ensures { result ≡ letter_of message.now.sender message.now.addressee message.now.content.now }
 {
-    match &message.content {
+    match message.content {
         Content::Synod(vote) => vote_of(message.sender, message.addressee, vote),
         Content::Submission(item) => item_of(message.sender, message.addressee, item),
         Content::Response(_) => match message.addressee {

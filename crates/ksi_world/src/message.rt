@@ -23,3 +23,13 @@ pub struct Message {
     pub second: u64,
     pub content: Content,
 }
+
+/// A message whose content is lent.
+#[derive(Clone, Copy)]
+pub struct LentMessage<'a> {
+    pub sender: Actor,
+    pub addressee: Actor,
+    /// The second that it is about.
+    pub second: u64,
+    pub content: &'a Content,
+}

@@ -1,8 +1,9 @@
 //! All nodes, the wire between them, and what one event makes of them.
-ghost use Rattle.std.specs.Prelude.{◌≡◌, ◌<◌, ◌+◌, ◌^◌, ◌++◌, ◌∷◌, [], vec_len, vec_capacity, length, slice_get, Some, IfOk, OnErr};
+ghost use Rattle.std.specs.Prelude.{◌≡◌, ◌<◌, ◌+◌, ◌^◌, vec_len, vec_capacity, length, slice_get, Some, IfOk, OnErr};
 ghost use Rattle.std.specs.Option.{option_copied};
 ghost use Rattle.ksi_signature.specs.declared.above.Above.{Above};
 ghost use Rattle.ksi_corenode.specs.Events.{event_second};
+ghost use Rattle.ksi_world.specs.declared.message.Content.{Content};
 ghost use Rattle.ksi_world.specs.declared.message.Message.{Message};
 ghost use Rattle.ksi_schedule.specs.Plans.{PlanState, IsPlan};
 ghost use Rattle.ksi_schedule.specs.Events.{AreEvents};
@@ -13,9 +14,9 @@ ghost use Rattle.ksi_world.specs.Nodes.{Fits, IsReady, IsReadyCore, IsTaken, IsW
 
 use crate::kept::kept_seconds;
 use crate::letter::{Letter, letter_of};
-use crate::message::{Content, Message};
 use crate::outcome::{Asked, Outcome};
 use crate::published::PublishedRoots;
+use crate::wire::Wire;
 use crate::{aggregators, cores};
 use ksi_aggregator::Aggregator;
 use ksi_aggtree::laws::one_round;
@@ -32,7 +33,7 @@ use std::marker::Model;
 pub(crate) struct Nodes<C: Compress> {
     cores: Vec<Core<C>>,
     aggregators: Vec<Aggregator<C>>,
-    wire: Vec<Message>,
+    wire: Wire,
     requests: Vec<Asked>,
     published: PublishedRoots,
 }
@@ -42,7 +43,7 @@ impl<C: Compress> Model for Nodes<C> {
 
     ghost Value = { NodesState };
 
-    ghost view = { λ n. record { cores = n.cores.items; aggregators = n.aggregators.items; wire = n.wire.items; requests = n.requests.items; published = n.published } };
+    ghost view = { λ n. record { cores = n.cores.items; aggregators = n.aggregators.items; wire = n.wire; requests = n.requests.items; published = n.published } };
 }
 
 impl<C: Compress> Nodes<C> {
@@ -196,12 +197,12 @@ impl<C: Compress> Nodes<C> {
         ensures err { OnErr result (StoodStill plan.now self.old self.new) }
     {
         let number = number as usize;
-        let Some(message) = message_at(&self.wire, number) else {
+        let Some(message) = self.wire.get(number) else {
             return Ok(nothing());
         };
         let sender = message.sender;
         let second = message.second;
-        match letter_of(message) {
+        match letter_of(&message) {
             Letter::Vote(from, to, vote) => {
                 self.take(to, second, CoreEvent::Receive(from, second, vote))
             }
@@ -239,10 +240,10 @@ impl<C: Compress> Nodes<C> {
     }
 
     /// All messages ever sent.
-    pub fn wire(&self) -> &[Message]
+    pub fn wire(&self) -> &Wire
         ensures { result.now ≡ self.now.wire }
     {
-        self.wire.as_slice()
+        &self.wire
     }
 
     /// The accepted requests.
@@ -310,7 +311,7 @@ impl<C: Compress> Nodes<C> {
     {
         let cores = cores::new(alloc, plan)?;
         let aggregators = aggregators::new(alloc, plan)?;
-        let wire = Vec::new(alloc);
+        let wire = Wire::new(alloc);
         let requests = Vec::new(alloc);
         let published = PublishedRoots::new(alloc);
         Ok(Nodes {
@@ -321,13 +322,6 @@ impl<C: Compress> Nodes<C> {
             published,
         })
     }
-}
-
-/// The message of a number.
-fn message_at(wire: &[Message], number: usize) -> Option<&Message>
-    ensures { option_copied result ≡ slice_get wire.now number }
-{
-    wire.get(number)
 }
 
 /// No message was sent, and nothing was done.
@@ -346,17 +340,6 @@ fn accept(requests: &mut Vec<Asked>, asked: Asked, answer: &Answer)
     ensures { requests.new.items ≡ asked_with requests.old.items asked answer.now }
 {
     if let Answer::Number(_) = answer {
-        put(requests, asked);
-    }
-}
-
-/// Puts a request behind the others, where there is room.
-fn put(requests: &mut Vec<Asked>, asked: Asked)
-    requires { vec_len requests.old < vec_capacity requests.old }
-    ensures { requests.new.items ≡ requests.old.items ++ asked ∷ [] }
-{
-    match requests.push(asked) {
-        Ok(()) => {}
-        Err(_) => unreachable!(),
+        requests.push_reserved(asked);
     }
 }

@@ -1,20 +1,21 @@
-//! What is sent goes into the wire.
-ghost use Rattle.std.specs.Prelude.{◌≡◌, ◌≤◌, ◌<◌, ◌+◌, ◌++◌, ◌∷◌, [], map, length, vec_len, vec_capacity};
+//! What is sent stands behind the messages of the wire.
+ghost use Rattle.std.specs.Prelude.{◌≡◌, ◌≤◌, ◌<◌, ◌++◌, map, length};
 ghost use Rattle.ksi_world.specs.Histories.{core_message, round_message, outcome_of};
 
 use crate::message::{Content, Message};
 use crate::outcome::Outcome;
+use crate::posted::Posted;
 use ksi_schedule::{Actor, Plan};
 
-/// Puts what a core sent in a second into the wire, where there is room.
+/// Puts what a core sent in a second behind the messages, where there is room.
 pub(crate) fn post_core(
-    wire: &mut Vec<Message>,
+    posted: &mut Posted,
     core: u8,
     second: u64,
     step: ksi_corenode::Step,
 ) -> Outcome
-    requires room { vec_len wire.old + length step.sends ≤ vec_capacity wire.old }
-    ensures wire { wire.new.items ≡ wire.old.items ++ map (core_message core second) step.sends }
+    requires room { length step.sends ≤ posted.old.room }
+    ensures messages { posted.new.messages ≡ posted.old.messages ++ map (core_message core second) step.sends }
     ensures outcome { result ≡ outcome_of step.answer (length step.sends) }
 {
     let ksi_corenode::Step {
@@ -25,22 +26,22 @@ pub(crate) fn post_core(
     let sends = sends.into_vec();
     let sent = sends.len();
     'posting: for send in sends {
-        put(wire, core_message(core, second, send));
+        posted.push(core_message(core, second, send));
     }
     Outcome { answer, sent }
 }
 
-/// Puts what an aggregator of the plan sent in a second into the wire, where there is room.
+/// Puts what an aggregator of the plan sent in a second behind the messages, where there is room.
 pub(crate) fn post_round(
     plan: &Plan,
-    wire: &mut Vec<Message>,
+    posted: &mut Posted,
     aggregator: u32,
     second: u64,
     step: ksi_aggregator::Step,
 ) -> Outcome
     requires there { aggregator < length plan.now.parents }
-    requires room { vec_len wire.old + length step.sends ≤ vec_capacity wire.old }
-    ensures wire { wire.new.items ≡ wire.old.items ++ map (round_message plan.now aggregator second) step.sends }
+    requires room { length step.sends ≤ posted.old.room }
+    ensures messages { posted.new.messages ≡ posted.old.messages ++ map (round_message plan.now aggregator second) step.sends }
     ensures outcome { result ≡ outcome_of step.answer (length step.sends) }
 {
     let ksi_aggregator::Step {
@@ -51,7 +52,7 @@ pub(crate) fn post_round(
     let sends = sends.into_vec();
     let sent = sends.len();
     'posting: for send in sends {
-        put(wire, round_message(plan, aggregator, second, send));
+        posted.push(round_message(plan, aggregator, second, send));
     }
     Outcome { answer, sent }
 }
@@ -96,18 +97,5 @@ fn round_message(plan: &Plan, aggregator: u32, second: u64, send: ksi_aggregator
             second,
             content: Content::Response(above),
         },
-    }
-}
-
-/// Puts a message behind the others, where there is room.
-fn put(wire: &mut Vec<Message>, message: Message)
-    requires { vec_len wire.old < vec_capacity wire.old }
-    ensures items { wire.new.items ≡ wire.old.items ++ message ∷ [] }
-    ensures room { vec_capacity wire.old ≤ vec_capacity wire.new }
-    ensures len { vec_len wire.new ≡ vec_len wire.old + 1 }
-{
-    match wire.push(message) {
-        Ok(()) => {}
-        Err(_) => unreachable!(),
     }
 }

@@ -1,4 +1,4 @@
-ghost use Rattle.std.specs.Prelude.{◌≡◌, ◌<◌, ◌≤◌, ◌^◌, ◌++◌, ◌∷◌, [], ℕ, length, vec_len, vec_capacity, IfOk, IfSome, IfNone, OnOk, OnErr};
+ghost use Rattle.std.specs.Prelude.{◌≡◌, ◌<◌, ◌≤◌, ◌^◌, [], ℕ, length, IfOk, IfSome, IfNone, OnOk, OnErr};
 ghost use Rattle.ksi_corenode.specs.CoreState.{state_of};
 ghost use Rattle.ksi_world.specs.Histories.{happens, held_in, world_of};
 ghost use Rattle.ksi_world.specs.Records.{issued_of, IsIssuedOf, NotIssuedOf, kept_seconds};
@@ -7,10 +7,10 @@ ghost use Rattle.ksi_schedule.specs.Plans.{IsPlan, core_plan_of};
 ghost use Rattle.ksi_schedule.specs.Events.{with_event, IsEvent, AreEvents};
 
 use crate::kept::{Kept, kept_under};
-use crate::message::Message;
 use crate::nodes::Nodes;
 use crate::outcome::{Asked, Outcome};
 use crate::published::PublishedRoots;
+use crate::wire::Wire;
 use ksi_aggtree::laws::one_round;
 use ksi_corenode::Core;
 use ksi_imprint::{Bytes, Compress, Imprint, NoMemory};
@@ -88,7 +88,7 @@ impl<C: Compress> World<C> {
         one_round();
         self.events.reserve(1)?;
         let outcome = self.nodes.happen(&self.plan, &event)?;
-        put(&mut self.events, event);
+        self.events.push_reserved(event);
         Ok(outcome)
     }
 
@@ -101,7 +101,7 @@ impl<C: Compress> World<C> {
     }
 
     /// All messages ever sent. The number of a message is its place.
-    pub fn wire(&self) -> &[Message]
+    pub fn wire(&self) -> &Wire
         ensures { result.now ≡ (world_of C.image self.now).wire }
     {
         self.nodes.wire()
@@ -194,15 +194,4 @@ fn all_seconds() -> u64
     ensures { result ≡ 2 ^ 24 }
 {
     16_777_216
-}
-
-/// Puts an event behind the others, where there is room.
-fn put(events: &mut Vec<Event>, event: Event)
-    requires { vec_len events.old < vec_capacity events.old }
-    ensures { events.new.items ≡ events.old.items ++ event ∷ [] }
-{
-    match events.extend_from_slice(&[event]) {
-        Ok(()) => {}
-        Err(_) => unreachable!(),
-    }
 }

@@ -6,7 +6,7 @@ use Rattle.ksi_disk.proofs.DeedLemmas.{deeds_more, pieces_length-more}
 use Rattle.ksi_disk.proofs.marks.note_sync.Goals as goal
 
 pub returns-clause-deeds : goal.returns-clause-deeds
-returns-clause-deeds c = ap (λ (marks : List Mark). deeds_onto [] marks c.args._pieces.now.items) c.push.ensures.items ∙ deeds_more [] c.args.marks.now.items Synced c.args._pieces.now.items
+returns-clause-deeds c = ap (λ (marks : List Mark). deeds_onto [] marks c.args._pieces.now.items) c.push_reserved.ensures.items ∙ deeds_more [] c.args.marks.now.items Synced c.args._pieces.now.items
 
 pub returns-clause-whole : goal.returns-clause-whole
-returns-clause-whole c = omega (arith, ap pieces_length c.push.ensures.items, pieces_length-more c.args.marks.now.items Synced, c.requires.whole)
+returns-clause-whole c = omega (arith, ap pieces_length c.push_reserved.ensures.items, pieces_length-more c.args.marks.now.items Synced, c.requires.whole)

@@ -6,5 +6,4 @@ returns c = journal_again (record {
   texts = c.written_is_read.ensures.texts;
   value = c.numeral_is_read.ensures.value;
   size = c.numeral_is_read.ensures.size;
-  listed = record { listed = c.voters_are_cores.ensures.listed };
-})
+}) (record { listed = c.voters_are_cores.ensures.listed })

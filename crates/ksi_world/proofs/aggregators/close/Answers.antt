@@ -12,7 +12,7 @@ pub post_round-requires : goal.post_round-requires
 post_round-requires g c =
     let one = c.index_mut.result.now in
     let at : slice_get c.args.aggregators.now.items c.args.aggregator ≡ Some one = slice_get_read c.args.aggregators.now.items _ c.args.aggregator one refl c.requires.there c.index_mut.ensures.value in
-    record { there = c.requires.planned; room = omega (arith, ap length c.in_ok-step.ensures.step.sends, one_closed g.C.Compress.image (rounds_of one c.args.second), c.in_ok-reserve.ensures.ok, c.reserve.ensures.len) }
+    record { there = c.requires.planned; room = omega (arith, ap length c.in_ok-step.ensures.step.sends, one_closed g.C.Compress.image (rounds_of one c.args.second), c.in_ok-reserve.ensures.room) }
 
 pub returns-in_err-step-clause-aggregators : goal.returns-in_err-step-clause-aggregators
 returns-in_err-step-clause-aggregators g c =
@@ -24,5 +24,5 @@ pub returns-clause-ok : goal.returns-clause-ok
 returns-clause-ok g c =
     let one = c.index_mut.result.now in
     let at : slice_get c.args.aggregators.now.items c.args.aggregator ≡ Some one = slice_get_read c.args.aggregators.now.items _ c.args.aggregator one refl c.requires.there c.index_mut.ensures.value in
-    round_turned (round_close g.C.Compress.image) c.args.plan.now c.args.aggregator c.args.second c.args.aggregators.now.items c.args.wire.now.items c.post_round.new.wire.items one c.close.new.self c.in_ok-step.step c.post_round.result at c.close.ensures.me c.in_ok-step.ensures.step
-    (c.post_round.ensures.wire ∙ ap (λ xs. xs ++ map (round_message c.args.plan.now c.args.aggregator c.args.second) c.in_ok-step.step.sends) c.reserve.ensures.items) c.post_round.ensures.outcome
+    round_turned (round_close g.C.Compress.image) c.args.plan.now c.args.aggregator c.args.second c.args.aggregators.now.items c.args.wire.now c.post_round.new.posted.messages one c.close.new.self c.in_ok-step.step c.post_round.result at c.close.ensures.me c.in_ok-step.ensures.step
+    (c.post_round.ensures.messages ∙ ap (λ xs. xs ++ map (round_message c.args.plan.now c.args.aggregator c.args.second) c.in_ok-step.step.sends) (c.reserve.ensures.messages ∙ c.wire.view_is)) c.post_round.ensures.outcome

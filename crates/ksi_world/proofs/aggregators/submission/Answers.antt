@@ -1,8 +1,9 @@
-use Rattle.std.proofs.Common.{◌≡◌, length, refl, ap, ◌∙◌, arith, Some}
-use Rattle.std.specs.Prelude.{slice_get}
+use Rattle.std.proofs.Common.{◌≡◌, ◌++◌, length, refl, ap, ◌∙◌, arith, Some}
+use Rattle.std.specs.Prelude.{slice_get, map}
 use Rattle.std.proofs.lemmas.Option.{slice_get_read}
 use Rattle.ksi_aggregator.specs.Rounds.{rounds_of}
 use Rattle.ksi_aggregator.specs.Rows.{round_submission}
+use Rattle.ksi_world.specs.Histories.{round_message}
 use Rattle.ksi_world.proofs.Turning.{at_error}
 use Rattle.ksi_world.proofs.RoundTurning.{round_turned, aggregators_stay, none_submitted}
 use Rattle.ksi_world.proofs.aggregators.submission.Goals as goal
@@ -11,7 +12,7 @@ pub post_round-requires : goal.post_round-requires
 post_round-requires g c =
     let one = c.index_mut.result.now in
     let at : slice_get c.args.aggregators.now.items c.args.aggregator ≡ Some one = slice_get_read c.args.aggregators.now.items _ c.args.aggregator one refl c.requires.there c.index_mut.ensures.value in
-    record { there = c.requires.planned; room = omega (arith, ap length (c.in_ok-step.ensures.step.sends ∙ none_submitted c.args.from c.args.item (rounds_of one c.args.second)), c.args.wire.now.ok) }
+    record { there = c.requires.planned; room = omega (arith, ap length (c.in_ok-step.ensures.step.sends ∙ none_submitted c.args.from c.args.item (rounds_of one c.args.second))) }
 
 pub returns-in_err-step-clause-aggregators : goal.returns-in_err-step-clause-aggregators
 returns-in_err-step-clause-aggregators g c =
@@ -23,5 +24,5 @@ pub returns-clause-ok : goal.returns-clause-ok
 returns-clause-ok g c =
     let one = c.index_mut.result.now in
     let at : slice_get c.args.aggregators.now.items c.args.aggregator ≡ Some one = slice_get_read c.args.aggregators.now.items _ c.args.aggregator one refl c.requires.there c.index_mut.ensures.value in
-    round_turned (round_submission c.args.from c.args.item) c.args.plan.now c.args.aggregator c.args.second c.args.aggregators.now.items c.args.wire.now.items c.post_round.new.wire.items one c.submission.new.self c.in_ok-step.step c.post_round.result at c.submission.ensures.me c.in_ok-step.ensures.step
-    c.post_round.ensures.wire c.post_round.ensures.outcome
+    round_turned (round_submission c.args.from c.args.item) c.args.plan.now c.args.aggregator c.args.second c.args.aggregators.now.items c.args.wire.now c.post_round.new.posted.messages one c.submission.new.self c.in_ok-step.step c.post_round.result at c.submission.ensures.me c.in_ok-step.ensures.step
+    (c.post_round.ensures.messages ∙ ap (λ xs. xs ++ map (round_message c.args.plan.now c.args.aggregator c.args.second) c.in_ok-step.step.sends) c.wire.view_is) c.post_round.ensures.outcome

@@ -31,6 +31,6 @@ returns-clause-ok g c =
     let image = g.C.Compress.image in
     let core = c.index_mut.result.now in
     let at : slice_get c.args.cores.now.items c.args.core ≡ Some core = slice_get_read c.args.cores.now.items _ c.args.core core refl c.requires.there c.index_mut.ensures.value in
-    core_turned (λ c'. core_row image c' c.args.event) c.args.core c.args.second c.args.cores.now.items c.args.wire.now.items c.post_core.new.wire.items core c.take.new.self c.in_ok-step.step c.post_core.result at
+    core_turned (λ c'. core_row image c' c.args.event) c.args.core c.args.second c.args.cores.now.items c.args.wire.now c.post_core.new.posted.messages core c.take.new.self c.in_ok-step.step c.post_core.result at
     (subst (λ t. IsTurn core c.take.new.self t (core_row image core c.args.event) c.in_ok-step.step) c.requires.second c.in_ok-step.ensures.turn)
-    (c.post_core.ensures.wire ∙ ap (λ xs. xs ++ map (core_message c.args.core c.args.second) c.in_ok-step.step.sends) (c.make_room.ensures.items ∙ c.reserve.ensures.items)) c.post_core.ensures.outcome
+    (c.post_core.ensures.messages ∙ ap (λ xs. xs ++ map (core_message c.args.core c.args.second) c.in_ok-step.step.sends) (c.make_room.ensures.messages ∙ c.reserve.ensures.messages ∙ c.wire.view_is)) c.post_core.ensures.outcome

@@ -12,10 +12,10 @@ invariant_of-self-2 g c =
     let rows = c.self.inside.rows in
     let items = c.self.inside.items.items in
     let x = c.args.item in
-    let more : c.put.new.vec.items ≡ items ++ x ∷ [] = c.put.ensures ∙ ap (λ (before : List Item). before ++ x ∷ []) c.reserve_one.ensures.items in
+    let more : c.push_reserved.new.self.items ≡ items ++ x ∷ [] = c.push_reserved.ensures.items ∙ ap (λ (before : List Item). before ++ x ∷ []) c.reserve_one.ensures.items in
     let leaves : c.append.new.self ≡ record rows { items = rows.items ++ leaf image x ∷ [] }
     = c.in_ok-append.ensures.added ∙ ap (λ (node : Node). record rows { items = rows.items ++ node ∷ [] }) c.leaf.ensures.leaf in (
-      subst (λ (after : Leaves Node). AreLeaves image after c.put.new.vec.items) (sym leaves)
+      subst (λ (after : Leaves Node). AreLeaves image after c.push_reserved.new.self.items) (sym leaves)
           (subst (AreLeaves image (record rows { items = rows.items ++ leaf image x ∷ [] })) (sym more) (leaves_more image rows items x c.self.invariant.0)),
       subst IsRound (sym more) (round_more items x c.self.invariant.1 (omega (arith, c.len-place.ensures, c.if-place-ge-MOST_ITEMS.false)) c.requires),
     )

@@ -11,7 +11,7 @@ returns-in-Ok-clause-added g c =
     let inside = c.self.inside in
     let o = c.args.entry.origin in
     let x = c.args.entry.item in
-    ap (λ (origins : List Origin). entries_of origins c.add.new.self) (c.put.ensures ∙ ap (λ (origins : List Origin). origins ++ o ∷ []) c.reserve_one.ensures.items)
+    ap (λ (origins : List Origin). entries_of origins c.add.new.self) (c.push_reserved.ensures.items ∙ ap (λ (origins : List Origin). origins ++ o ∷ []) c.reserve_one.ensures.items)
     ∙ ap (λ (items : List Item). entries_of (inside.origins.items ++ o ∷ []) items) c.in-Ok.ensures.added
     ∙ beside_more inside.origins.items inside.round o x c.self.invariant.count
     ∙ ap (λ (entries : List Entry). entries ++ c.args.entry ∷ []) c.self.view_is

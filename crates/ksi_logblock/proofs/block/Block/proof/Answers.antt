@@ -9,7 +9,7 @@ returns-clause-way g c =
 pub returns-clause-root : goal.returns-clause-root
 returns-clause-root g c =
     ok_both c.mask_and_links.result _ _ _ c.mask_and_links.ensures.mask c.mask_and_links.ensures.links
-    (λ proof mask links. c.own_proofs.ensures.root g.C.Compress.image c.args.self.now proof c.args.k c.requires mask links c.count-count.ensures.few)
+    (λ proof mask links. c.own_proofs.ensures.root g.C.Compress.image c.args.self.now proof c.args.k c.requires mask links c.mask_and_links.ensures.few)
 
 pub returns-clause-own : goal.returns-clause-own
 returns-clause-own g c =

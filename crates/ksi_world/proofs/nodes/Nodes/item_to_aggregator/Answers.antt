@@ -10,14 +10,14 @@ use Rattle.ksi_world.proofs.nodes.Nodes.item_to_aggregator.Goals as goal
 pub returns-clause-ok : goal.returns-clause-ok
 returns-clause-ok g c = IfOk-weaker c.submission.result _ _
     (λ outcome step w fits.
-    round_fits c.args.plan.now w c.self.inside.cores.items c.self.inside.cores.items c.self.inside.aggregators.items c.submission.new.aggregators.items c.self.inside.wire.items c.submission.new.wire.items c.self.inside.requests.items c.self.inside.requests.items c.self.inside.published c.self.inside.published
+    round_fits c.args.plan.now w c.self.inside.cores.items c.self.inside.cores.items c.self.inside.aggregators.items c.submission.new.aggregators.items c.self.inside.wire c.submission.new.wire c.self.inside.requests.items c.self.inside.requests.items c.self.inside.published c.self.inside.published
     (subst (λ (n : NodesState). Fits c.args.plan.now w n) (sym c.self.view_is) fits) (round_submission c.args.from c.args.item) c.args.to c.args.second outcome step)
     c.submission.ensures.ok
 
 pub returns-clause-err : goal.returns-clause-err
 returns-clause-err g c = on_err_weaker c.submission.result
     (λ stayed w fits.
-    round_stands c.args.plan.now w c.self.inside.cores.items c.self.inside.cores.items c.self.inside.aggregators.items c.submission.new.aggregators.items c.self.inside.wire.items c.submission.new.wire.items c.self.inside.requests.items c.self.inside.requests.items c.self.inside.published c.self.inside.published
+    round_stands c.args.plan.now w c.self.inside.cores.items c.self.inside.cores.items c.self.inside.aggregators.items c.submission.new.aggregators.items c.self.inside.wire c.submission.new.wire c.self.inside.requests.items c.self.inside.requests.items c.self.inside.published c.self.inside.published
     (subst (λ (n : NodesState). Fits c.args.plan.now w n) (sym c.self.view_is) fits) stayed.0 stayed.1)
     (both_errors _ _ c.submission.result c.submission.ensures.aggregators c.submission.ensures.wire)
 

@@ -30,13 +30,13 @@ returns-in_err-outcome-clause-err g c = at_error c.from_residual.result (λ plan
 
 pub returns-in_err-put_answer-clause-err : goal.returns-in_err-put_answer-clause-err
 returns-in_err-put_answer-clause-err g c = at_error c.from_residual-in_err-put_answer.result (λ plan w fits.
-    let stands = (publish_stands plan w c.self.inside.cores.items c.take.new.cores.items c.self.inside.aggregators.items c.self.inside.aggregators.items c.self.inside.wire.items c.take.new.wire.items c.self.inside.requests.items c.self.inside.requests.items c.self.inside.published c.self.inside.published
+    let stands = (publish_stands plan w c.self.inside.cores.items c.take.new.cores.items c.self.inside.aggregators.items c.self.inside.aggregators.items c.self.inside.wire c.take.new.wire c.self.inside.requests.items c.self.inside.requests.items c.self.inside.published c.self.inside.published
     (subst (λ (n : NodesState). Fits plan w n) (sym c.self.view_is) fits) g.C.Compress.image c.args.core c.args.second c.in_ok-outcome.outcome c.in_ok-outcome.ensures.ok).0 in
     record { cores = stands.cores; aggregators = stands.aggregators; wire = stands.wire; requests = stands.requests; published = c.in_err-put_answer.ensures.unchanged ∙ stands.published })
 
 pub returns-clause-ok : goal.returns-clause-ok
 unfolding happens
 returns-clause-ok g c = λ plan w fits.
-    publish_fits plan w c.self.inside.cores.items c.take.new.cores.items c.self.inside.aggregators.items c.self.inside.aggregators.items c.self.inside.wire.items c.take.new.wire.items c.self.inside.requests.items c.self.inside.requests.items c.self.inside.published c.put_answer.new.self
+    publish_fits plan w c.self.inside.cores.items c.take.new.cores.items c.self.inside.aggregators.items c.self.inside.aggregators.items c.self.inside.wire c.take.new.wire c.self.inside.requests.items c.self.inside.requests.items c.self.inside.published c.put_answer.new.self
     (subst (λ (n : NodesState). Fits plan w n) (sym c.self.view_is) fits) g.C.Compress.image c.args.core c.args.second c.in_ok-outcome.outcome c.in_ok-outcome.ensures.ok
     c.in_ok-put_answer.ensures.put

@@ -22,6 +22,6 @@ unfolding happens
 returns-clause-ok g c = λ w fits.
     let fits' = subst (λ (n : NodesState). Fits c.args.plan.now w n) (sym c.self.view_is) fits in
     let new : Asked = record { aggregator = c.args.aggregator; second = c.args.second; imprint = c.args.imprint } in
-    request_fits c.args.plan.now w c.self.inside.cores.items c.self.inside.cores.items c.self.inside.aggregators.items c.request.new.aggregators.items c.self.inside.wire.items c.request.new.wire.items c.self.inside.requests.items c.accept.new.requests.items c.self.inside.published c.self.inside.published
+    request_fits c.args.plan.now w c.self.inside.cores.items c.self.inside.cores.items c.self.inside.aggregators.items c.request.new.aggregators.items c.self.inside.wire c.request.new.wire c.self.inside.requests.items c.accept.new.requests.items c.self.inside.published c.self.inside.published
     fits' c.len-number.result c.args.aggregator c.args.second c.args.imprint c.args.name c.in_ok-outcome.outcome (omega (arith, c.len-number.ensures, c.self.inside.requests.ok, ap length fits'.requests)) c.in_ok-outcome.ensures.ok
     (c.accept.ensures ∙ ap (λ rs. asked_with rs new c.in_ok-outcome.outcome.answer) c.reserve.ensures.items)

@@ -35,15 +35,15 @@ response-requires-clause-response g c =
 pub returns-clause-ok : goal.returns-clause-ok
 returns-clause-ok g c = IfOk-weaker c.response.result _ _
     (λ outcome steps m above at is w fits.
-    let step = subst (λ (content : Content). RoundStep (response_row g.C.Compress.image content) c.args.plan.now c.args.to c.args.second c.self.inside.aggregators.items c.response.new.aggregators.items c.self.inside.wire.items c.response.new.wire.items outcome) is (steps m (ap (λ (n : NodesState). slice_get n.wire c.args.number) c.self.view_is ∙ at)) in
-    subst (λ (h : Happening). Fits c.args.plan.now h.world (nodes_of c.self.inside.cores.items c.response.new.aggregators.items c.response.new.wire.items c.self.inside.requests.items c.self.inside.published) × (outcome ≡ h.outcome)) (sym (response_taken g.C.Compress.image c.args.plan.now w c.args.sender c.args.to c.args.second above))
-    (round_fits c.args.plan.now w c.self.inside.cores.items c.self.inside.cores.items c.self.inside.aggregators.items c.response.new.aggregators.items c.self.inside.wire.items c.response.new.wire.items c.self.inside.requests.items c.self.inside.requests.items c.self.inside.published c.self.inside.published
+    let step = subst (λ (content : Content). RoundStep (response_row g.C.Compress.image content) c.args.plan.now c.args.to c.args.second c.self.inside.aggregators.items c.response.new.aggregators.items c.self.inside.wire c.response.new.wire outcome) is (steps m (ap (λ (n : NodesState). slice_get n.wire c.args.number) c.self.view_is ∙ at)) in
+    subst (λ (h : Happening). Fits c.args.plan.now h.world (nodes_of c.self.inside.cores.items c.response.new.aggregators.items c.response.new.wire c.self.inside.requests.items c.self.inside.published) × (outcome ≡ h.outcome)) (sym (response_taken g.C.Compress.image c.args.plan.now w c.args.sender c.args.to c.args.second above))
+    (round_fits c.args.plan.now w c.self.inside.cores.items c.self.inside.cores.items c.self.inside.aggregators.items c.response.new.aggregators.items c.self.inside.wire c.response.new.wire c.self.inside.requests.items c.self.inside.requests.items c.self.inside.published c.self.inside.published
     (subst (λ (n : NodesState). Fits c.args.plan.now w n) (sym c.self.view_is) fits) (round_response g.C.Compress.image above) c.args.to c.args.second outcome step))
     c.response.ensures.ok
 
 pub returns-clause-err : goal.returns-clause-err
 returns-clause-err g c = on_err_weaker c.response.result
     (λ stayed w fits.
-    round_stands c.args.plan.now w c.self.inside.cores.items c.self.inside.cores.items c.self.inside.aggregators.items c.response.new.aggregators.items c.self.inside.wire.items c.response.new.wire.items c.self.inside.requests.items c.self.inside.requests.items c.self.inside.published c.self.inside.published
+    round_stands c.args.plan.now w c.self.inside.cores.items c.self.inside.cores.items c.self.inside.aggregators.items c.response.new.aggregators.items c.self.inside.wire c.response.new.wire c.self.inside.requests.items c.self.inside.requests.items c.self.inside.published c.self.inside.published
     (subst (λ (n : NodesState). Fits c.args.plan.now w n) (sym c.self.view_is) fits) stayed.0 stayed.1)
     (both_errors _ _ c.response.result c.response.ensures.aggregators c.response.ensures.wire)

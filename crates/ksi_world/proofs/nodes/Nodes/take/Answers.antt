@@ -28,13 +28,13 @@ returns-clause-ok g c = IfOk-weaker c.take.result _ _
     (λ outcome step plan w fits.
     let fits' = subst (λ (n : NodesState). Fits plan w n) (sym c.self.view_is) fits in
     let is = fits'.cores.each c.args.core step.old step.at in
-    core_fits plan w c.self.inside.cores.items c.take.new.cores.items c.self.inside.aggregators.items c.self.inside.aggregators.items c.self.inside.wire.items c.take.new.wire.items c.self.inside.requests.items c.self.inside.requests.items c.self.inside.published c.self.inside.published
+    core_fits plan w c.self.inside.cores.items c.take.new.cores.items c.self.inside.aggregators.items c.self.inside.aggregators.items c.self.inside.wire c.take.new.wire c.self.inside.requests.items c.self.inside.requests.items c.self.inside.published c.self.inside.published
     fits' (λ core. core_row g.C.Compress.image core c.args.event) c.args.core c.args.second outcome (core_turn g.C.Compress.image plan w c.args.core c.args.event) step (core_turn_is plan w c.args.core step.old is g.C.Compress.image c.args.event))
     c.take.ensures.ok
 
 pub returns-clause-err : goal.returns-clause-err
 returns-clause-err g c = on_err_weaker c.take.result
     (λ stayed plan w fits.
-    core_stands plan w c.self.inside.cores.items c.take.new.cores.items c.self.inside.aggregators.items c.self.inside.aggregators.items c.self.inside.wire.items c.take.new.wire.items c.self.inside.requests.items c.self.inside.requests.items c.self.inside.published c.self.inside.published
+    core_stands plan w c.self.inside.cores.items c.take.new.cores.items c.self.inside.aggregators.items c.self.inside.aggregators.items c.self.inside.wire c.take.new.wire c.self.inside.requests.items c.self.inside.requests.items c.self.inside.published c.self.inside.published
     (subst (λ (n : NodesState). Fits plan w n) (sym c.self.view_is) fits) stayed.0 stayed.1)
     (both_errors _ _ c.take.result c.take.ensures.cores c.take.ensures.wire)

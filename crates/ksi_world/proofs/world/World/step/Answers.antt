@@ -21,5 +21,5 @@ invariant_of-self-2 g c =
     let events = c.self.inside.events.items in
     let is = c.self.invariant in
     let there : IsEvent plan c.args.event = subst (λ (h : History). IsEvent h.plan c.args.event) (sym c.self.view_is) c.requires in
-    subst (λ es. IsWorld image plan es c.happen.new.self) (sym (c.put.ensures ∙ ap (λ es. es ++ c.args.event ∷ []) c.reserve.ensures.items))
+    subst (λ es. IsWorld image plan es c.happen.new.self) (sym (c.push_reserved.ensures.items ∙ ap (λ es. es ++ c.args.event ∷ []) c.reserve.ensures.items))
     (world_more image plan (c.one_round.ensures.level image) events c.args.event c.self.inside.nodes c.happen.new.self is there ((c.in_ok-outcome.ensures.ok (after image plan events) is.fits).0))

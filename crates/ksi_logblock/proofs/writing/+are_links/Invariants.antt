@@ -1,5 +1,0 @@
-use Rattle.std.proofs.Common.{length}
-use Rattle.ksi_logblock.proofs.writing.+are_links.Given as goal
-
-abbrev pub decreases-are_links : goal.decreases-are_links
-decreases-are_links l = length l.links.now
