@@ -1,14 +1,13 @@
 -- The step of a number, as a search along the chains comes to it.
-use Rattle.std.proofs.Common.{◌≡◌, ℕ, suc, ◌+◌, ◌<◌, ◌≤◌, List, [], ◌∷◌, length, drop, get_or, Option, None, Ok, Err, sym, ap, ◌∙◌, arith}
+use Rattle.std.proofs.Common.{◌≡◌, ℕ, suc, ◌+◌, ◌<◌, ◌≤◌, List, ◌∷◌, length, drop, get_or, Option, None, Ok, Err, sym, ap, ◌∙◌, arith}
 use Rattle.std.specs.List.{slice_get}
 use Rattle.std.proofs.Math.Seq.{drop-cons}
-use Rattle.std.proofs.Math.ListN.{drop_of_length-le}
 use Rattle.ksi_aggchain.specs.Climbing.{climbed}
 use Rattle.ksi_aggchain.specs.declared.node.Node.{Node}
 use Rattle.ksi_aggchain.specs.declared.climbing.LevelFault.{LevelFault}
 use Rattle.ksi_signature.specs.Values.{Calendar}
 use Rattle.ksi_verifier.specs.Chains.{PlainChain}
-use Rattle.ksi_check.specs.Steps.{PlainStep, link_steps, input_at, steps_of_calendar, steps_from}
+use Rattle.ksi_check.specs.Steps.{PlainStep, link_steps, input_at, steps_from}
 use Rattle.ksi_check.proofs.Along.{within_links, past_links, past_fault}
 
 module _ (image : List ℕ → List ℕ) (calendar : Option Calendar) (chain level rest : ℕ) (lowest : PlainChain) (all : List PlainChain) (found : Option PlainStep)
@@ -35,9 +34,3 @@ module _ (image : List ℕ → List ℕ) (calendar : Option Calendar) (chain lev
       → slice_get (steps_from image (chain + 1) top.level (drop (chain + 1) all) calendar) n ≡ found
   unfolding more
   above_chain top n at e = past_links image chain more 0 (input_at level lowest) lowest.links rest n top at e ∙ here
-
-pub above_all : (image : List ℕ → List ℕ) (calendar : Option Calendar) (chain level rest : ℕ) (all : List PlainChain) (found : Option PlainStep)
-    → length all ≤ chain → slice_get (steps_from image chain level (drop chain all) calendar) rest ≡ found → slice_get (steps_of_calendar image calendar) rest ≡ found
-above_all image calendar chain level rest all found end so_far =
-    let none : drop chain all ≡ [] = drop_of_length-le all {i = chain} end in
-    ap (λ (chains : List PlainChain). slice_get (steps_from image chain level chains calendar) rest) (sym none) ∙ so_far

@@ -1,10 +1,6 @@
 -- Where both roots that a front leads to are given, what its last imprint is joined with.
 use Rattle.std.proofs.Common.{◌≡◌, ◌≢◌, ◌+◌, subst, ℕ, zero, suc, ◌+◌, ◌-◌, ◌<◌, ◌≤◌, List, [], ◌∷◌, ◌++◌, length, reverse, true, false, Option, Some, None, Result, Ok, Err, inl, inr, refl, sym, ap, ◌∙◌, arith}
 use Rattle.std.specs.Prelude.{IfNone, IfOk, IfSome, Contains}
-use Rattle.ksi_calendar.specs.Calendar.{Seconds, calendar_tree}
-use Rattle.ksi_consistency.specs.Parts.{IsPart}
-use Rattle.ksi_consistency.specs.declared.halves.Halves.{Halves}
-use Rattle.ksi_consistency.specs.Compared.{halves_text, IsKeptText}
 use Rattle.ksi_split.specs.Powers.{split_of}
 use Rattle.ksi_calchain.specs.Climbing.{calendar_join, calendar_join_text}
 use Rattle.ksi_consistency.specs.declared.roots.Roots.{Roots}
@@ -148,18 +144,6 @@ module _ (image : List ℕ → List ℕ) (given : List ℕ) (m n k : ℕ) (front
     pub right_behind : Contains (texts_from image given first rest (reverse inner)) text → Contains (texts_from image given m n (reverse front)) text
     right_behind has = subst (λ (texts : List (List ℕ)). Contains texts text) all_right
         (behind_one (calendar_join_text x part.old) text (calendar_join_text x part.new ∷ texts_from image given first rest (reverse inner)) (behind_one (calendar_join_text x part.new) text (texts_from image given first rest (reverse inner)) has))
-
--- what a part of a calendar hashes
-pub kept_text : (image : List ℕ → List ℕ) (seconds : Seconds) (p first count : ℕ) (halves : Halves) (text : List ℕ) → 1 < count → IsPart (p + 1) first count
-    → halves.left ≡ calendar_tree image seconds first (split_of count) → halves.right ≡ calendar_tree image seconds (first + split_of count) (count - split_of count) → text ≡ halves_text halves
-    → IsKeptText image seconds p text
-kept_text image seconds p first count halves text many part left right is = record {
-  first = first;
-  count = count;
-  many = many;
-  part = part;
-  joined = is ∙ ap (λ (x : List ℕ). calendar_join_text x halves.right) left ∙ ap (λ (x : List ℕ). calendar_join_text (calendar_tree image seconds first (split_of count)) x) right;
-}
 
 -- three facts of a value that is there, or none
 pub all_three : {A E : Type 0} (r : Result A E) (P Q R S : A → Type 0) → IfOk r P → IfOk r Q → IfOk r R → ((x : A) → P x → Q x → R x → S x) → IfOk r S

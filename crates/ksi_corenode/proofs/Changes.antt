@@ -34,26 +34,6 @@ is_sealed me voters items s v = by s.vote.candidate
 
 -- A CHANGE
 
--- behind what changes nothing
-pub change_later : (a b c : CoreState) (t : ℕ) (row : SecondState → SecondState) → IsSame a b → IsChange b c t (row (state_of b t)) → IsChange a c t (row (state_of a t))
-change_later a b c t row same change = record {
-  me = change.me ∙ same.me;
-  plan = change.plan ∙ same.plan;
-  start = change.start ∙ same.start;
-  seconds = λ u. change.seconds u
-      ∙ ap (λ (s : SecondState). if u == t then row s else state_of b u) (same.seconds t)
-      ∙ ap (λ (s : SecondState). if u == t then row (state_of a t) else s) (same.seconds u);
-}
-
--- nothing changes
-pub no_change : (core : CoreState) (t : ℕ) (after : SecondState) → after ≡ state_of core t → IsChange core core t after
-no_change core t after is = record {
-  me = refl;
-  plan = refl;
-  start = refl;
-  seconds = λ u. cond_both (u == t) after (state_of core u) (λ (s : SecondState). state_of core u ≡ s) (λ here. ap (state_of core) (eqb-true u t here) ∙ sym is) (λ _. refl);
-}
-
 -- what is written at a second is there
 pub written : {A : Type 0} (old new : ℕ → A) (t : ℕ) (a : A) → ((u : ℕ) → new u ≡ (if u == t then a else old u)) → (P : ℕ → A → Type 0) → ((u : ℕ) → P u (old u)) → P t a → (u : ℕ) → P u (new u)
 written old new t a is P each here u = subst (λ x. P u x) (sym (is u)) (cond_both (u == t) a (old u) (λ x. P u x) (λ same. subst (λ n. P n a) (sym (eqb-true u t same)) here) (λ _. each u))

@@ -42,6 +42,3 @@ fit_round entries few = (
   λ are. (record { few = omega (arith, few, items_length entries); low = low_of entries are }, submitted_of entries are),
   λ both. fit_of entries both.0.low both.1,
 )
-
-pub few_of : (entries : List Entry) → IsRound (items_of entries) → length entries ≤ most_items
-few_of entries round = omega (arith, round.few, items_length entries)

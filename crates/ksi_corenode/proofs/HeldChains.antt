@@ -1,12 +1,12 @@
 -- The chain over the calendar of what is held.
-use Rattle.std.proofs.Common.{◌≡◌, ◌↔◌, ℕ, ◌+◌, ◌<◌, ◌≤◌, Bool, true, false, cond, leb, List, length, Option, Some, None, refl, sym, ap, ◌∙◌, arith}
+use Rattle.std.proofs.Common.{◌≡◌, ℕ, ◌+◌, ◌<◌, ◌≤◌, cond, leb, List, length, Some, None, refl, sym, ap, ◌∙◌, arith}
 use Rattle.std.specs.Prelude.{IsSome}
-use Rattle.std.proofs.lemmas.Bool.{leb-true, le-leb}
+use Rattle.std.proofs.lemmas.Bool.{le-leb}
 use Rattle.ksi_split.specs.declared.tree_link.TreeLink.{TreeLink}
 use Rattle.ksi_calendar.specs.Calendar.{Seconds, calendar_leaf, calendar_path, calendar_root, root_to}
-use Rattle.ksi_calendar.specs.Covered.{Roots, IsCovered, covered_path, covered_root, first_missing, second_leaf}
+use Rattle.ksi_calendar.specs.Covered.{Roots, covered_path, covered_root, first_missing, second_leaf}
 use Rattle.ksi_signature.specs.declared.answer.Answer.TheVariants.{Published}
-use Rattle.ksi_corenode.specs.Chains.{chain_over, held_chain}
+use Rattle.ksi_corenode.specs.Chains.{chain_over}
 use Rattle.ksi_corenode.specs.Rows.{publish_answer, publish_where}
 use Rattle.ksi_corenode.specs.Settled.{IsCalendarOf}
 use Rattle.ksi_corenode.proofs.Kept.{kept_leaves, published_root}
@@ -28,16 +28,6 @@ module _ (image : List ℕ → List ℕ) (held : Roots) (start t p : ℕ) where
       let same : root ≡ covered_root image held start p = cc in
       let path : links ≡ covered_path image held start t p = along ∙ own_path leaves in
       (λ i. Some (record { links = path i; root = same i })) ∙ ap (chain_over image held start t p) (sym none)
-
-  -- there is a chain exactly where all is held and t is not after p
-  pub chain_some : ((first_missing held start p ≡ None) ↔ ((u : ℕ) → start ≤ u → u ≤ p → IsSome (held u))) → start ≤ p → IsSome (held_chain image held start t p) ↔ ((t ≤ p) × IsCovered held start p)
-  unfolding held_chain
-  chain_some all from = (λ some. to (leb t p) (first_missing held start p) refl refl some, λ both. back both.0 (all.1 both.1.each))
-    where
-      to : (b : Bool) (missing : Option ℕ) → leb t p ≡ b → first_missing held start p ≡ missing → IsSome (cond b (chain_over image held start t p missing) None) → (t ≤ p) × IsCovered held start p
-      to true None le none some = (leb-true t p le, record { from = from; each = all.0 none })
-      to true (Some second) le none some = absurd cc
-      to false missing le none some = absurd cc
 
       back : t ≤ p → first_missing held start p ≡ None → IsSome (cond (leb t p) (chain_over image held start t p (first_missing held start p)) None)
       back le none = rw (le-leb t p le, none) refl

@@ -1,6 +1,6 @@
 -- The calendar of what is held: its leaves, what it leaves out, and how it grows.
-use Rattle.std.proofs.Common.{◌≡◌, ◌≢◌, ◌∙◌, ℕ, zero, suc, ◌+◌, ◌-◌, ◌^◌, ◌<◌, ◌≤◌, List, [], ◌∷◌, ◌++◌, length, get_or, slice_get, Option, Some, None, true, false, Bool, refl, sym, ap, subst, arith, inl, inr, ltb, leb, le-leb, lt-ltb, length-append}
-use Rattle.std.specs.Prelude.{◌==◌, if◌then◌else◌, is_some, IsSome, unwrap_or, Result, Ok, Err, OnOk, OnErr}
+use Rattle.std.proofs.Common.{◌≡◌, ◌∙◌, ℕ, zero, suc, ◌+◌, ◌-◌, ◌^◌, ◌<◌, ◌≤◌, List, [], ◌∷◌, ◌++◌, length, get_or, slice_get, Option, Some, None, true, false, refl, sym, ap, subst, arith, inl, inr, ltb, leb, le-leb, lt-ltb, length-append}
+use Rattle.std.specs.Prelude.{◌==◌, is_some, IsSome, unwrap_or, Result, Ok, Err, OnOk, OnErr}
 use Rattle.std.proofs.lemmas.Bool.{le-ltb, cond-true, cond-false, cond_both, eqb-true, cases_lt, eq-eqb, ne_eqb}
 use Rattle.std.proofs.lemmas.Option.{slice_get-get_or, slice_get_past}
 use Rattle.ksi_imprint.specs.Imprints.{zero_imprint}
@@ -8,7 +8,7 @@ use Rattle.ksi_calendar.specs.Calendar.{Seconds, calendar_leaf, calendar_root, r
 use Rattle.ksi_synod.specs.CorePlans.{CorePlanState}
 use Rattle.ksi_corenode.specs.SecondState.{SecondState, fresh_second}
 use Rattle.ksi_calendar.specs.Covered.{Roots, IsFirstMissing, covered_root, first_missing, second_leaf}
-use Rattle.ksi_synod.specs.VoteState.{VoteState, fresh_vote}
+use Rattle.ksi_synod.specs.VoteState.{fresh_vote}
 use Rattle.ksi_corenode.specs.Kept.{held_with}
 use Rattle.ksi_corenode.specs.Settled.{IsCalendarOf}
 use Rattle.ksi_corenode.specs.CoreState.{CoreState, state_of, held_by, IsSame, IsChange}
@@ -93,17 +93,6 @@ kept_after old new second after (Err error) calendar change same holds kept =
 
 -- WHERE SOMETHING IS HELD FOR A SECOND
 
--- the part in the vote on a second is another, and the calendar is that of what is held by it
-pub kept_put : (old grown new : CoreState) (second : ℕ) (vote : VoteState) (held : Option (List ℕ)) (calendar : Seconds) → IsSame old grown → held ≡ vote.held →
-    IsCalendarOf (held_with (held_by grown) second held) grown.start calendar → IsChange grown new second (record (state_of grown second) { vote = vote }) → IsCalendarOf (held_by new) new.start calendar
-kept_put old grown new second vote held calendar same is kept change =
-    kept_same (held_with (held_by grown) second held) (held_by new) grown.start new.start calendar
-    (λ t. ap (λ (s : SecondState). s.vote.held) (change.seconds t) ∙ by t (t == second)) change.start kept
-  where
-    by : (t : ℕ) (here : Bool) → (if here then record (state_of grown second) { vote = vote } else state_of grown t).vote.held ≡ (if here then held else held_by grown t)
-    by t true = sym is
-    by t false = refl
-
 module _ (roots : Roots) (start second : ℕ) (calendar : Seconds) (kept : IsCalendarOf roots start calendar) where
   -- nothing is held for it, as before
   pub kept_none : ((root : List ℕ) → roots second ≡ Some root → None ≡ Some root) → IsCalendarOf (held_with roots second None) start calendar
@@ -113,21 +102,6 @@ module _ (roots : Roots) (start second : ℕ) (calendar : Seconds) (kept : IsCal
       none : (o : Option (List ℕ)) → roots second ≡ o → None ≡ roots second
       none None is = sym is
       none (Some root) is = absurd (cc (keeps root is))
-
-  -- it is not the next one
-  pub kept_beside : (held : Option (List ℕ)) → ((root : List ℕ) → roots second ≡ Some root → held ≡ Some root) → (second < 2 ^ 63 → second ≢ start + length calendar.roots) →
-      IsCalendarOf (held_with roots second held) start calendar
-  kept_beside held keeps other = record {
-    begins = kept.begins;
-    most = kept.most;
-    roots = λ k to below. cond_both (start + k == second) held (roots (start + k)) (λ (o : Option (List ℕ)). o ≡ slice_get calendar.roots k)
-        (λ here. let same : start + k ≡ second = eqb-true (start + k) second here in
-        let apart : second ≢ start + length calendar.roots = other (omega (arith, same, below)) in
-        let within : k < length calendar.roots = omega (arith, same, to, apart) in
-        let is = slice_get-get_or calendar.roots k zero_imprint within in
-        keeps (get_or calendar.roots k zero_imprint) (ap roots (sym same) ∙ kept.roots k to below ∙ is) ∙ sym is)
-        (λ _. kept.roots k to below);
-  }
 
 get_left : (xs ys : List (List ℕ)) (k : ℕ) → k < length xs → slice_get (xs ++ ys) k ≡ slice_get xs k
 get_left [] ys k lt = absurd (omega arith)

@@ -1,5 +1,5 @@
 -- What stands above the items of a round.
-use Rattle.std.proofs.Common.{◌≡◌, ◌∙◌, ℕ, zero, suc, ◌+◌, ◌<◌, ◌≤◌, List, [], ◌∷◌, ◌++◌, length, take, drop, slice_get, Option, Some, None, refl, sym, ap, subst, append_assoc, add-one, arith, inl, inr, ◌⊎◌}
+use Rattle.std.proofs.Common.{◌≡◌, ◌∙◌, ℕ, zero, suc, ◌+◌, ◌<◌, ◌≤◌, List, [], ◌∷◌, ◌++◌, length, take, drop, slice_get, Option, Some, None, refl, sym, ap, subst, append_assoc, add-one, arith, inl, inr}
 use Rattle.std.specs.Prelude.{IfSome}
 use Rattle.std.specs.List.{AllByRecursion}
 use Rattle.std.proofs.lemmas.Option.{slice_get_within, get_or_from_slice_get}
@@ -15,7 +15,7 @@ use Rattle.ksi_aggtree.specs.Names.{IsName, meta_of}
 use Rattle.ksi_aggtree.specs.Paths.{name_links, links_from, chain_of}
 use Rattle.ksi_aggtree.specs.Entries.{items_of}
 use Rattle.ksi_signature.specs.declared.above.Above.{Above}
-use Rattle.ksi_signature.specs.Above.{IsNode, IsNameLink, AreRoundLinks}
+use Rattle.ksi_signature.specs.Above.{IsNode, AreRoundLinks}
 use Rattle.ksi_corenode.specs.declared.step.Send.{Send}
 use Rattle.ksi_corenode.specs.Rows.{response_to, responses_from}
 
@@ -27,10 +27,6 @@ links_nodes (other ∷ others) level = (tt, links_nodes others _)
 -- the metadata of each name is short
 abbrev pub ShortMetas : Type 0
 ShortMetas = (name : List ℕ) → IsName name → (1 ≤ length (meta_of name)) × (length (meta_of name) ≤ 70)
-
--- what a link of a round stands beside, the lowest one and each other
-abbrev IsLowest : Link → Type 0
-IsLowest link = IsNode link.sibling ⊎ IsNameLink link
 
 abbrev IsOther : Link → Type 0
 IsOther link = IsNode link.sibling

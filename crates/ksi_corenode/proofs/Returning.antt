@@ -175,9 +175,6 @@ range_of cores start t facts are = subst (λ (fs : List Fact). InRange (stored_b
 
 -- THE FIRST SO MANY FACTS
 
-pub all_facts : (facts : List Fact) (n : ℕ) → n ≡ length facts → take n facts ≡ facts
-all_facts facts n is = ap (λ (m : ℕ). take m facts) is ∙ take_whole facts
-
 -- a core of the first facts that stores the next one
 pub next_stored : (image : List ℕ → List ℕ) (me : ℕ) (plan : CorePlanState) (facts : List Fact) (k : ℕ) (fact : Fact) (old new : CoreState) → slice_get facts k ≡ Some fact → IsOfFacts image me plan (take k facts) old →
     IsChange old new fact.second (second_with image fact.what (state_of old fact.second)) → IsOfFacts image me plan (take (k + 1) facts) new

@@ -143,10 +143,6 @@ module _ (s : SecondState) where
       by (Some entries) None None = refl
       by (Some entries) None (Some root) = cond_both (is_mine image entries root) _ _ (λ (turn : Turn). turn.fact ≡ None) (λ _. refl) (λ _. refl)
 
-  pub none_stored : (from : ℕ) (item : Item) → (submission_row from item s).fact ≡ None
-  unfolding submission_row
-  none_stored from item = cond_both (is_some s.sealed) _ _ (λ (turn : Turn). turn.fact ≡ None) (λ _. refl) (λ _. refl)
-
 -- A STEP
 
 -- what a turn stores, its step does, and no other second is another

@@ -1,6 +1,6 @@
 -- When a row gives which answer, in words.
 use Rattle.std.proofs.Common.{◌≡◌, ◌≢◌, ◌∙◌, ◌⊎◌, ℕ, ◌≤◌, ◌↔◌, ◌&&◌, Bool, true, false, not, List, Option, Some, None, refl, sym, ap, arith, inl, inr}
-use Rattle.std.specs.Prelude.{◌==◌, if◌then◌else◌, IsSome, IsNone}
+use Rattle.std.specs.Prelude.{◌==◌, if◌then◌else◌, IsSome}
 use Rattle.std.specs.Bool.{Decides}
 use Rattle.std.specs.Str.{bytes_eq}
 use Rattle.std.proofs.lemmas.Bool.{cond_both, eqb-true}
@@ -9,7 +9,7 @@ use Rattle.ksi_imprint.specs.Imprints.{zero_imprint}
 use Rattle.ksi_aggtree.specs.declared.entries.Entry.{Entry}
 use Rattle.ksi_aggtree.specs.Entries.{candidate_of}
 use Rattle.ksi_signature.specs.declared.answer.Answer.{Answer}
-use Rattle.ksi_signature.specs.declared.answer.Answer.TheVariants.{Unsealed, Undecided, NotMine}
+use Rattle.ksi_signature.specs.declared.answer.Answer.TheVariants.{Undecided, NotMine}
 use Rattle.ksi_corenode.specs.SecondState.{SecondState}
 use Rattle.ksi_corenode.specs.Turns.{Turn}
 use Rattle.ksi_calendar.specs.Covered.{Roots, IsFirstMissing, first_missing}
@@ -51,17 +51,6 @@ module _ (image : List ℕ → List ℕ) (held : Roots) where
         by (Some entries) (Some missing) root = refl
         by (Some entries) None None = refl
         by (Some entries) None (Some root) = cond_both (is_mine image entries root) _ _ (λ (turn : Turn). turn.after ≡ s) (λ _. refl) (λ _. refl)
-
-    pub respond_unsealed : ((respond_row image held start second s).answer ≡ Unsealed) ↔ IsNone s.sealed
-    unfolding respond_row
-    respond_unsealed = by s.sealed (first_missing held start second) (held second)
-      where
-        by : (sealed : Option (List Entry)) (missing : Option ℕ) (root : Option (List ℕ)) → ((respond_where image held start second sealed missing root s).answer ≡ Unsealed) ↔ IsNone sealed
-        by None missing root = (λ _. refl, λ _. refl)
-        by (Some entries) (Some missing) root = (λ e. absurd (cc e), λ n. absurd (cc n))
-        by (Some entries) None None = (λ e. absurd (cc e), λ n. absurd (cc n))
-        by (Some entries) None (Some root) = cond_both (is_mine image entries root) _ _ (λ (turn : Turn). (turn.answer ≡ Unsealed) ↔ IsNone (Some entries))
-            (λ _. (λ e. absurd (cc e), λ n. absurd (cc n))) (λ _. (λ e. absurd (cc e), λ n. absurd (cc n)))
 
     pub respond_undecided : (law : FirstMissing) → start ≤ second → (t : ℕ) → ((respond_row image held start second s).answer ≡ Undecided t) ↔ (IsSome s.sealed × IsFirstMissing held start second t)
     unfolding respond_row

@@ -32,10 +32,6 @@ pub affords_turns : (failing : List ℕ) (bytes turns room left : ℕ) → Affor
 affords_turns [] bytes turns room left affords = affords.1
 affords_turns (call ∷ calls) bytes turns room left affords = absurd affords
 
-pub affords_room : (failing : List ℕ) (bytes turns room left : ℕ) → Affords bytes turns (meter_unless failing room left) → bytes ≤ room
-affords_room [] bytes turns room left affords = affords.0
-affords_room (call ∷ calls) bytes turns room left affords = absurd affords
-
 -- the disk after a sync, which fails or not
 abbrev pub synced_unless : Bool → StoredDisk → StoredDisk
 synced_unless fails disk = if fails then after_call disk true else with_deed (after_call disk false) synced 0

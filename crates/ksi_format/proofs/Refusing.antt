@@ -3,19 +3,12 @@ use Rattle.std.proofs.Common.{◌≡◌, ◌++◌, List, ℕ, Result, Err, inr, 
 use Rattle.ksi_imprint.specs.Refused.{IfRefused}
 use Rattle.ksi_imprint.specs.declared.refused.Refused.{Refused}
 use Rattle.ksi_imprint.specs.declared.refused.Refused.TheVariants.{Fault, NoMemory}
-use Rattle.ksi_tlv.specs.Walking.{PlacedTlv, Items}
-use Rattle.ksi_order.specs.Order.{Order}
+use Rattle.ksi_tlv.specs.Walking.{PlacedTlv}
 use Rattle.ksi_order.specs.Sequence.{IsFirstFault, IsWanting, Tells}
 use Rattle.ksi_format.specs.Format.{Format, behind, end_of, IsFaultInside, IsFileFault, IsWantingInside}
 
 abbrev refusal : {F : Type 0} → Refused F → Result (Unit {0}) (Refused F)
 refusal refused = Err refused
-
--- the elements alone
-pub elements_refused : {S F : Type 0} (A : Type 0) (o : Order S F) (wants : S → PlacedTlv → Type 0) (end : ℕ) (items : Items) (s t : S) (refused : Refused F)
-    → Tells o end items s t (Err refused) → (refusal refused ≡ Err NoMemory → IsWanting o wants items s) → IfRefused {T = A} (Err refused) (IsFirstFault o end items s) (IsWanting o wants items s)
-elements_refused A o wants end items s t (Fault fault) told wanting = told
-elements_refused A o wants end items s t NoMemory told wanting = wanting refl
 
 pub inside_refused : {S F A : Type 0} (f : Format S F A) (wants : S → PlacedTlv → Type 0) (bytes rest : List ℕ) (s t : S) (refused : Refused F)
     → bytes ≡ f.magic ++ rest → s ≡ f.start → Tells f.order (end_of f rest) (behind f rest) s t (Err refused)

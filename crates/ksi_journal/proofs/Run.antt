@@ -112,9 +112,6 @@ module _ (image : List ℕ → List ℕ) (journal : Contents) (is : IsJournal im
       by true c = ltb-true p (journal.start + length run) c
       by false c = absurd (let more = ltb-false p (journal.start + length run) c in none_here (all (journal.start + length run) (omega arith) (omega arith)))
 
-  missing_not : (s : ℕ) → journal.start ≤ s → s < journal.start + length run → root_at journal s ≡ no_root → ⊥
-  missing_not s le lt missing = absurd (let some : IsSome no_root = subst (λ (o : Option (List ℕ)). IsSome o) missing (some_root s le lt) in cc)
-
   pub early_words : journal.start + length (calendar_of journal).roots ≤ 2 ^ 63
   unfolding calendar_of
   early_words = let early = is.start in run_early image journal.start journal.seconds (omega arith) is.seconds

@@ -1,5 +1,5 @@
 -- The journal of a mirror's roots.
-use Rattle.std.proofs.Common.{◌≡◌, ℕ, zero, suc, ◌+◌, ◌<◌, ◌≤◌, Bool, true, false, cond, ◌&&◌, eqb, List, [], ◌∷◌, ◌++◌, length, map, Option, Some, None, Result, Ok, Err, refl, sym, ap, subst, ◌∙◌, arith, append-nil, append_assoc}
+use Rattle.std.proofs.Common.{◌≡◌, ℕ, zero, suc, ◌+◌, ◌<◌, ◌≤◌, Bool, true, false, cond, ◌&&◌, eqb, List, [], ◌∷◌, ◌++◌, length, map, Option, Some, None, Result, Ok, Err, refl, sym, ap, subst, ◌∙◌, arith, append_assoc}
 use Rattle.std.specs.Prelude.{option_map}
 use Rattle.std.specs.List.{AllByRecursion}
 use Rattle.std.specs.Str.{bytes_eq}
@@ -8,7 +8,7 @@ use Rattle.std.proofs.lemmas.Slice.Eq.{bytes_eq-Decides}
 use Rattle.ksi_imprint.specs.Imprints.{zero_imprint}
 use Rattle.ksi_aggtree.specs.declared.item.Item.{Item}
 use Rattle.ksi_aggtree.specs.declared.second.Second.{Second}
-use Rattle.ksi_aggtree.specs.Rounds.{item_at, leaf_level, tree_of, IsRound}
+use Rattle.ksi_aggtree.specs.Rounds.{item_at, leaf_level, tree_of}
 use Rattle.ksi_synod.specs.declared.core_plan.VotersFrom.{VotersFrom}
 use Rattle.ksi_journal.specs.Journal.{RiseFrom, IsItem, IsRootOf, IsSecond, IsJournal}
 use Rattle.ksi_mirror.specs.declared.sealed_list.SealedList.{SealedList}
@@ -24,9 +24,6 @@ low_items : (items : List Item) (k : ℕ) → AllByRecursion IsItem items → le
 low_items [] k all = omega arith
 low_items (item ∷ items) zero all = all.0.low
 low_items (item ∷ items) (suc k) all = low_items items k all.1
-
-pub list_round : (one : SealedList) → IsList one → IsRound one.items
-list_round one is = record { few = is.few; low = λ k. low_items one.items k is.items }
 
 -- ---- the first of rising lists is that of the lowest core
 
@@ -115,36 +112,7 @@ module _ (image : List ℕ → List ℕ) where
 
   -- ---- one list after the other
 
-  pub tree_skips : (t : ℕ) (root : List ℕ) (all xs rest : List SealedList) (x : SealedList) → first_tree image t root xs ≡ first_tree image t root all → xs ≡ x ∷ rest → x.second ≡ t
-      → (test : Bool) → test ≡ bytes_eq (tree_of image x.items).imprint root → test ≡ false → first_tree image t root rest ≡ first_tree image t root all
-  tree_skips t root all xs rest x so is here test by failed =
-      let same : eqb x.second t ≡ true = eq-eqb x.second t here in
-      let none : bytes_eq (tree_of image x.items).imprint root ≡ false = sym by ∙ failed in
-      let step : first_tree image t root (x ∷ rest) ≡ first_tree image t root rest = rw (same, none) refl in
-      sym step ∙ sym (ap (first_tree image t root) is) ∙ so
-
-  pub tree_found : (t : ℕ) (root : List ℕ) (all xs rest : List SealedList) (x : SealedList) → first_tree image t root xs ≡ first_tree image t root all → xs ≡ x ∷ rest → x.second ≡ t
-      → (test : Bool) → test ≡ bytes_eq (tree_of image x.items).imprint root → test ≡ true → first_tree image t root all ≡ Some x.items
-  tree_found t root all xs rest x so is here test by held =
-      let same : eqb x.second t ≡ true = eq-eqb x.second t here in
-      let some : bytes_eq (tree_of image x.items).imprint root ≡ true = sym by ∙ held in
-      let step : first_tree image t root (x ∷ rest) ≡ Some x.items = rw (same, some) refl in
-      sym so ∙ ap (first_tree image t root) is ∙ step
-
-  pub tree_passed : (t : ℕ) (root : List ℕ) (all xs rest : List SealedList) (x : SealedList) → first_tree image t root xs ≡ first_tree image t root all → xs ≡ x ∷ rest → (x.second ≡ t → ⊥) → first_tree image t root all ≡ None
-  tree_passed t root all xs rest x so is other =
-      let same : eqb x.second t ≡ false = ne_eqb x.second t other in
-      let step : first_tree image t root (x ∷ rest) ≡ None = rw same refl in
-      sym so ∙ ap (first_tree image t root) is ∙ step
-
-  pub tree_ended : (t : ℕ) (root : List ℕ) (all xs : List SealedList) → first_tree image t root xs ≡ first_tree image t root all → length xs ≤ 0 → first_tree image t root all ≡ None
-  tree_ended t root all [] so le = sym so
-  tree_ended t root all (x ∷ xs) so le = absurd (omega arith)
-
   -- ---- one root
-
-  pub second_zero : (f : ℕ → Option (List Item)) (one : ℕ × List ℕ) → one.1 ≡ zero_imprint → second_from image f one ≡ Some (kept_with one.0 one.1 [])
-  second_zero f one is = let zero_is : bytes_eq one.1 zero_imprint ≡ true = (bytes_eq-Decides one.1 zero_imprint).1 is in rw zero_is refl
 
   not_zero : (root : List ℕ) → (root ≡ zero_imprint → ⊥) → bytes_eq root zero_imprint ≡ false
   not_zero root other = by (bytes_eq root zero_imprint) refl
@@ -231,10 +199,6 @@ module _ (image : List ℕ → List ℕ) where
     pub journaling_refused : second_from image (list_among further one.0) one ≡ None → seconds_for image mirror mirror.roots ≡ Err (NoTree one.0)
     journaling_refused none = said_here ∙ ap (λ o. before done (with_second one.0 o (seconds_for image mirror rest))) none
 
-  pub journaling_ends : (mirror : MirrorState) (done : List Second) (left : List (ℕ × List ℕ)) (lists : List SealedList) → Journaling mirror done left lists → length left ≤ 0 → seconds_for image mirror mirror.roots ≡ Ok done
-  journaling_ends mirror done [] lists so le = so.said ∙ ap Ok (append-nil done)
-  journaling_ends mirror done (one ∷ rest) lists so le = absurd (omega arith)
-
 -- ---- lists of a second and behind it
 
 pub record Skipping (second : ℕ) (rest lists : List SealedList) : Type 0 where
@@ -258,15 +222,6 @@ skipping_goes_on second rest lists others one so is lt =
 
     skipped : (t j : ℕ) → one.second < t → list_among others t j ≡ list_among (one ∷ others) t j
     skipped t j lt = let other : eqb one.second t ≡ false = ne_eqb one.second t (λ e. absurd (omega (arith, lt, e))) in rw other refl
-
-pub skipping_stops : (second : ℕ) (rest lists others : List SealedList) (one : SealedList) → Skipping second rest lists → rest ≡ one ∷ others → second ≤ one.second → RiseFrom (rank_at second 0) (map rank rest)
-skipping_stops second rest lists others one so is le =
-    let rises : RiseFrom 0 (map rank (one ∷ others)) = subst (λ xs. RiseFrom 0 (map rank xs)) is so.rises in
-    subst (λ xs. RiseFrom (rank_at second 0) (map rank xs)) (sym is) (omega (arith, le), rises.1)
-
-pub skipping_ends : (second : ℕ) (rest : List SealedList) → length rest ≤ 0 → RiseFrom (rank_at second 0) (map rank rest)
-skipping_ends second [] le = tt
-skipping_ends second (one ∷ rest) le = absurd (omega arith)
 
 -- ---- it is a journal
 

@@ -1,7 +1,7 @@
 -- What is read has this spelling.
 use Rattle.std.specs.Int.{w32, w64, from_be_bytes, to_be_bytes}
 use Rattle.std.specs.List.{flat_map}
-use Rattle.std.proofs.Common.{◌≡◌, ℕ, zero, suc, ◌+◌, ◌≤◌, ◌<◌, ◌^◌, nat_le, Bool, true, false, if◌then◌else◌, List, [], ◌∷◌, ◌++◌, length, take, drop, slice_index, option_map, Option, Some, None, IfSome, refl, sym, subst, ◌∙◌, ap, arith, append_assoc, length-append, length-drop}
+use Rattle.std.proofs.Common.{◌≡◌, ℕ, zero, suc, ◌+◌, ◌≤◌, ◌<◌, nat_le, Bool, true, false, if◌then◌else◌, List, [], ◌∷◌, ◌++◌, length, take, drop, slice_index, option_map, Option, Some, None, IfSome, refl, sym, subst, ◌∙◌, ap, arith, append_assoc, length-append}
 use Rattle.std.proofs.Math.Seq.{take-append-add, take-add}
 use Rattle.std.proofs.lemmas.List.{append-nil, take-append-drop, drop-drop, drop_all, flat_map_more}
 use Rattle.ksi_aggtree.specs.Names.{IsName}
@@ -9,7 +9,7 @@ use Rattle.ksi_aggtree.specs.declared.entries.Entry.{Entry}
 use Rattle.ksi_corenode.specs.declared.fact.What.{What}
 use Rattle.ksi_corenode.specs.declared.fact.Fact.{Fact}
 use Rattle.ksi_corenode.specs.Facts.{fact_of}
-use Rattle.ksi_nodestore.specs.Texts.{name_text, entry_text, what_text, tag_of, IsSpelled, FitsWhat, IsTextOf}
+use Rattle.ksi_nodestore.specs.Texts.{name_text, entry_text, IsSpelled, IsTextOf}
 use Rattle.ksi_nodestore.specs.TextReading.{entry_at, more_entries, entries_at, what_at, fact_at}
 use Rattle.ksi_nodestore.proofs.Spelled.{fact_again}
 
@@ -50,16 +50,6 @@ entry_sound bytes four imprint rest back from level count name (Some entry) four
     let front_is : take (length (name_text entry.item.name)) (slice_index last 1 ∷ drop 2 last) ≡ name_text entry.item.name = subst (λ (l : List ℕ). take (length (name_text entry.item.name)) l ≡ name_text entry.item.name) (λ i. count_of i ∷ back_of i) name_is in
     let same : entry_text entry ≡ take 4 bytes ++ (take 33 (drop 4 bytes) ++ slice_index last 0 ∷ name_text entry.item.name) = sound.1 ∙ (λ i. four_is i ++ (imprint_is i ++ level_of i ∷ name_text entry.item.name)) in
     (sound.0, subst (λ (text : List ℕ). take (length text) bytes ≡ text) (sym same) (entry_front bytes (name_text entry.item.name) (subst (λ (l : List ℕ). 2 ≤ length l) rest_is two) front_is))
-
--- the fact of its parts
-pub fact_parts : (bytes : List ℕ) (second : ℕ) (what : What) → 1 ≤ length bytes → second < 2 ^ 64 → to_be_bytes w64 second ≡ take 8 (drop 1 bytes) → FitsWhat what → tag_of what ≡ slice_index bytes 0 → what_text what ≡ drop 9 bytes
-    → IsTextOf (record { second = second; what = what }) bytes
-fact_parts [] second what some fits second_is what_fits tag_is text_is = absurd (omega arith)
-fact_parts (byte ∷ bytes) second what some fits second_is what_fits tag_is text_is = record {
-  second = fits;
-  what = what_fits;
-  text = sym ((λ i. tag_is i ∷ (second_is i ++ text_is i)) ∙ ap (λ (l : List ℕ). byte ∷ l) (take-append-drop 8 bytes));
-}
 
 pub no_fact : (bytes : List ℕ) → fact_at bytes ≡ None → (fact : Fact) → IsTextOf fact bytes → ⊥
 no_fact bytes none fact is = let some = fact_again fact bytes is in absurd (cc (none, some))
@@ -106,13 +96,6 @@ text_more place next bytes entries entry so_far next_is text within =
 -- at the end nothing is behind them
 pub ended : (place : ℕ) (bytes : List ℕ) (entries : List Entry) → length bytes ≤ place → prepended entries (entries_at 0 (drop place bytes)) ≡ Some entries
 ended place bytes entries all = ap (λ (l : List ℕ). prepended entries (entries_at 0 l)) (drop_all place bytes all) ∙ ap Some (append-nil entries)
-
-pub left_over : (place : ℕ) (bytes : List ℕ) (entries : List Entry) → place < length bytes → prepended entries (entries_at 0 (drop place bytes)) ≡ None
-left_over place bytes entries more = over (drop place bytes) (omega (arith, length-drop place bytes))
-  where
-    over : (l : List ℕ) → 0 < length l → prepended entries (entries_at 0 l) ≡ None
-    over [] some = absurd (omega arith)
-    over (x ∷ l) some = refl
 
 none_either : (b : Bool) (found : Option Fact) → found ≡ None → (if b then found else None) ≡ None
 none_either true found none = none

@@ -66,9 +66,6 @@ module _ (M Msg : Type 0) (votes : M → ℕ → VoteState) (wire : M → List M
   hold_row : (d : List ℕ) (s : VoteState) → Any s → receive s j (message.Success d) ≡ (held_after d s, none_by s)
   hold_row d s may = learns s j d
 
-  number_to : (first : ℕ) (to : List ℕ) → ℕ → ℕ
-  number_to first to q = first + place_in to q
-
   abbrev Promised : (first : ℕ) → M → M → List ℕ → Type 0
   Promised first = Told M Msg votes wire letter deliver voters cores takes j (message.NextBallot b) (λ q. first + place_in voters q) promised_in last_by (λ s. s.promised < b) promise_row
 

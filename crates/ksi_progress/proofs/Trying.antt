@@ -37,9 +37,6 @@ module _ (keep : SecondsKeep) (image : List ℕ → List ℕ) (plan : PlanState)
   round_same : (s s' : VoteState) → SameVote s s' → greater_round s' ≡ greater_round s
   round_same s s' is = omega (arith, is.tried, is.promised)
 
-  own_of : SecondState → List ℕ
-  own_of s = candidate_of image (unwrap_or s.sealed s.open_items)
-
   seal_own : (s : SecondState) → candidate_of image (unwrap_or (seal_row image s).after.sealed (seal_row image s).after.open_items) ≡ candidate_of image (unwrap_or s.sealed s.open_items)
   unfolding seal_row
   seal_own s = by s.sealed refl

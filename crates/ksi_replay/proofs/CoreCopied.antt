@@ -1,8 +1,7 @@
 -- What the code copies of a core is its mirror.
-use Rattle.std.proofs.Common.{◌≡◌, ℕ, ◌^◌, ◌<◌, ◌≤◌, false, List, [], ◌∷◌, length, Option, Some, None, refl, ap, ◌∙◌, arith}
+use Rattle.std.proofs.Common.{◌≡◌, ℕ, ◌^◌, ◌<◌, ◌≤◌, false, List, Option, Some, None, refl, ap, ◌∙◌}
 use Rattle.std.specs.Prelude.{option_map}
 use Rattle.ksi_aggtree.specs.declared.entries.Entry.{Entry}
-use Rattle.ksi_aggtree.specs.Entries.{items_of}
 use Rattle.ksi_corenode.specs.SecondState.{SecondState}
 use Rattle.ksi_corenode.specs.CoreState.{CoreState, state_of, held_by}
 use Rattle.ksi_corenode.specs.Next.{held_or_sealed}
@@ -36,11 +35,6 @@ module _ (node : CoreState) (core from to : ℕ) (idle : (t : ℕ) → from ≤ 
 
   pub idle_lists : (t : ℕ) → from ≤ t → t < to → list_at (sealed_by node) core t ≡ None
   idle_lists t le lt = ap (λ o. option_map (list_with core t) (some_sealed o)) (none_sealed (state_of node t) (idle t le lt))
-
--- the list of items that there are
-pub some_list : (core second : ℕ) (entries : List Entry) → (length entries ≤ 0 → ⊥) → option_map (list_with core second) (some_sealed (Some entries)) ≡ Some (list_with core second (items_of entries))
-some_list core second [] some = absurd (some (omega arith))
-some_list core second (e ∷ es) some = refl
 
 -- ---- all of it
 

@@ -1,6 +1,6 @@
 -- An aggregator that stores the facts of its steps stores lawful ones for good, and comes back with them as after a restart.
-use Rattle.std.proofs.Common.{◌≡◌, ◌∙◌, ℕ, ◌<◌, ◌^◌, Bool, true, false, List, [], ◌∷◌, Option, Some, None, refl, sym, ap, subst, arith}
-use Rattle.std.specs.Prelude.{◌==◌, if◌then◌else◌, is_some, slice_get, unwrap_or, option_map, IfSome}
+use Rattle.std.proofs.Common.{◌≡◌, ◌∙◌, ℕ, ◌<◌, ◌^◌, List, [], Option, Some, None, refl, sym, ap, subst}
+use Rattle.std.specs.Prelude.{◌==◌, if◌then◌else◌, is_some, slice_get, option_map, IfSome}
 use Rattle.std.proofs.lemmas.Bool.{cond_both}
 use Rattle.std.proofs.lemmas.Option.{none-some}
 use Rattle.ksi_aggtree.specs.declared.entries.Entry.{Entry}
@@ -14,7 +14,7 @@ use Rattle.ksi_aggregator.specs.Facts.{StableRound, stable_round, with_fact}
 use Rattle.ksi_aggregator.specs.Rows.{RoundState, RoundTurn, fresh_round, round_restarted}
 use Rattle.ksi_aggregator.specs.Rounds.{AggregatorState, rounds_of, items_in, fact_of, SameRounds, IsTurn}
 use Rattle.ksi_aggregator.proofs.Storing.{turn_stores, restart_leaves}
-use Rattle.ksi_roundfacts.specs.Lawful.{stored_by, with_new, IsLawful, AreLawful, AreAdded, AreApart, closed_items}
+use Rattle.ksi_roundfacts.specs.Lawful.{stored_by, with_new, IsLawful, AreLawful, closed_items}
 use Rattle.ksi_roundfacts.specs.Restored.{restored, IsOfFacts, IsWell, HasFacts}
 use Rattle.ksi_roundfacts.proofs.Storing.{event_well, event_apart, event_stores, fact_lawful, apart_within, apart_same}
 use Rattle.ksi_roundfacts.proofs.Returning.{some_more, more_lawful, stable_is, good_of}
@@ -69,9 +69,6 @@ has_facts_restarted facts old new has are = record {
   well = λ t. subst IsWell (sym (are t)) (restart_well (old t) (has.well t));
   apart = apart_within (λ t. items_in (old t)) (λ t. items_in (new t)) (λ t k e at. restart_items (old t) k e (subst (λ (r : RoundState). slice_get (items_in r) k ≡ Some e) (are t) at)) has.apart;
 }
-
-restored_items : (s : StableRound) → items_in (restored s) ≡ closed_items s
-restored_items s = refl
 
 pub has_facts : (me : ℕ) (facts : List Fact) (a : AggregatorState) → AreLawful facts → IsOfFacts me facts a → HasFacts facts (rounds_of a)
 has_facts me facts a lawful are = record {

@@ -31,12 +31,6 @@ not_refused plan me line fault refused event written is =
     let no : ◌≡◌ {A = Result AggregatorLine WireFault} (Err fault) (Ok (lines.Event event)) = sym refused ∙ ap (λ (l : Text). aggregator_line_of plan me l) is ∙ written.asked in
     absurd (cc no)
 
--- nor is one that asks for a signature
-pub not_signed : (plan : PlanState) (me : ℕ) (line : Text) (number : ℕ) → aggregator_line_of plan me line ≡ Ok (lines.Sign number) → (event : RoundEvent) → IsWritten plan me event → line ≡ line_of (round_words event) → ⊥
-not_signed plan me line number signed event written is =
-    let no : ◌≡◌ {A = Result AggregatorLine WireFault} (Ok (lines.Sign number)) (Ok (lines.Event event)) = sym signed ∙ ap (λ (l : Text). aggregator_line_of plan me l) is ∙ written.asked in
-    absurd (cc no)
-
 -- one line more
 pub line_more : (text rest line behind : Text) (list : List RoundEvent) (event : RoundEvent) → text ≡ lines_of list ++ rest → rest ≡ line ++ 10 ∷ behind → line ≡ line_of (round_words event) → text ≡ lines_of (list ++ event ∷ []) ++ behind
 line_more text rest line behind list event so_far is same =

@@ -1,19 +1,11 @@
 -- Events that are taken one after the other.
-use Rattle.std.proofs.Common.{◌≡◌, ℕ, ◌<◌, ◌+◌, Bool, true, false, List, [], ◌∷◌, ◌++◌, take, length, get_or, refl, sym, subst, ap, ◌∙◌, drop}
+use Rattle.std.proofs.Common.{◌≡◌, ℕ, ◌<◌, ◌+◌, true, false, List, [], ◌∷◌, ◌++◌, take, length, get_or, refl, sym, subst, ap, ◌∙◌, drop}
 use Rattle.std.proofs.lemmas.List.{drop_more, take-append-drop, take_more}
-use Rattle.std.proofs.lemmas.Bool.{false≢true}
 use Rattle.ksi_aggregator.specs.declared.event.RoundEvent.{RoundEvent}
-use Rattle.ksi_aggregator.specs.declared.step.Step.{Step}
-use Rattle.ksi_aggregator.specs.Events.{MayTake, event_second, round_row}
-use Rattle.ksi_aggregator.specs.Rounds.{IsTurn}
 use Rattle.ksi_aggregator.specs.Rows.{RoundState}
-use Rattle.ksi_roundstore.specs.Facts.{AreAccepted, IsAccepted, TakesAs, is_accepted, round_after, rounds_after}
+use Rattle.ksi_roundstore.specs.Facts.{AreAccepted, IsAccepted, TakesAs, round_after, rounds_after}
 
 module _ (image : List ℕ → List ℕ) where
-  pub takes_as : (old new : ℕ → RoundState) (event : RoundEvent) (step : Step) (result : Bool) → MayTake old event → IsTurn old new (event_second event) (round_row image event (old (event_second event))) step → result ≡ is_accepted step.answer → TakesAs image old new event result
-  takes_as old new event step true may turn is = (record { may = may; accepted = ap is_accepted (sym turn.answer) ∙ sym is }, turn.after)
-  takes_as old new event step false may turn is = λ was. absurd (false≢true (is ∙ ap is_accepted turn.answer ∙ was.accepted))
-
   pub after_then : (rounds : ℕ → RoundState) (some others : List RoundEvent) → rounds_after image rounds (some ++ others) ≡ rounds_after image (rounds_after image rounds some) others
   after_then rounds [] others = refl
   after_then rounds (event ∷ some) others = after_then (round_after image rounds event) some others

@@ -1,10 +1,10 @@
 -- What a piece takes of known bytes.
-use Rattle.std.proofs.Common.{◌≡◌, ◌≢◌, ℕ, ◌≤◌, List, [], ◌∷◌, ◌++◌, ◌∙◌, ap, append_assoc, inl, inr, length, take, Bool, true, false, Option, Some, None, refl, sym, subst, IfSome, arith}
+use Rattle.std.proofs.Common.{◌≡◌, ◌≢◌, ℕ, ◌≤◌, List, [], ◌∷◌, ◌++◌, ◌∙◌, ap, append_assoc, inl, inr, length, take, Bool, true, false, Option, Some, None, refl, sym, subst, IfSome}
 use Rattle.std.specs.Io.{StartsWith}
 use Rattle.std.specs.Io.KnownBytes.{Consumes, IsAtEnd, Keeps}
 use Rattle.std.specs.Io.BufRead.{DropsConsumable}
-use Rattle.std.proofs.KnownBytes.{Consumes-nil, Consumes-trans}
-use Rattle.std.proofs.lemmas.List.Elements.{All-append, All-nil}
+use Rattle.std.proofs.KnownBytes.{Consumes-trans}
+use Rattle.std.proofs.lemmas.List.Elements.{All-append}
 use Rattle.std.proofs.BufReadLemmas.{Consumes_shown}
 use Rattle.ksi_service.specs.declared.inlet.Piece.{Piece}
 use Rattle.ksi_service.specs.declared.inlet.Piece.TheVariants as pieces
@@ -35,9 +35,6 @@ pub record SoFar (line : List ℕ) (is_long : Bool) (input left : Option (List �
   pub free : NoFeed bytes
   pub holds : Holds bytes line is_long
   pub taken : Consumes input left bytes
-
-pub none_so_far : (line : List ℕ) (input : Option (List ℕ)) → line ≡ [] → SoFar line false input input
-none_so_far line input none = record { bytes = []; free = All-nil (λ b. b ≢ 10); holds = (none, omega arith); taken = Consumes-nil input }
 
 both_free : (one other : List ℕ) → NoFeed one → NoFeed other → NoFeed (one ++ other)
 both_free one other = All-append (λ b. b ≢ 10) one other

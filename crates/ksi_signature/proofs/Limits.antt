@@ -1,13 +1,13 @@
 -- What accepted containers hold is within the limits.
-use Rattle.std.proofs.Common.{◌≡◌, ℕ, suc, ◌+◌, ◌<◌, ◌≤◌, ◌^◌, Bool, true, false, cond, eqb, ltb, leb, List, [], ◌∷◌, ◌++◌, length, map, Some, Ok, Err, refl, sym, ap, subst, ◌∙◌, arith}
+use Rattle.std.proofs.Common.{◌≡◌, ℕ, suc, ◌+◌, ◌<◌, ◌≤◌, ◌^◌, Bool, true, false, cond, eqb, ltb, leb, List, [], ◌∷◌, length, map, Some, Ok, Err, refl, ap, subst, arith}
 use Rattle.std.specs.Prelude.{◌||◌, ◌&&◌}
 use Rattle.std.specs.List.{AllByRecursion}
 use Rattle.std.proofs.lemmas.Bool.{eqb-true, ltb-true, ltb-false, leb-true}
-use Rattle.std.proofs.lemmas.List.{append-nil, length-map}
+use Rattle.std.proofs.lemmas.List.{length-map}
 use Rattle.ksi_split.specs.declared.tree_link.TreeLink.{TreeLink}
 use Rattle.ksi_aggchain.specs.declared.link.Link.{Link}
 use Rattle.ksi_aggchain.specs.declared.link.Sibling.TheVariants as siblings
-use Rattle.ksi_tlv.specs.Walking.{PlacedTlv, Items, elements}
+use Rattle.ksi_tlv.specs.Walking.{PlacedTlv, elements}
 use Rattle.ksi_tlv.specs.Numerals.{number_of}
 use Rattle.ksi_grammar.specs.declared.fault.ElementFault.{ElementFault}
 use Rattle.ksi_grammar.specs.declared.fault.ElementFault.TheVariants as faults
@@ -25,11 +25,6 @@ use Rattle.ksi_signature.proofs.Says.{passed, time_says}
 -- the law of what is held
 abbrev pub IsHeld : Type 0
 IsHeld = (t : Table) (place inside : ℕ) (body : List ℕ) → is_table t ≡ true → container_verdict t place inside body ≡ Ok tt → IsContainer t inside body (whole (elements inside body))
-
--- nothing is left, so all was taken
-pub done : {A : Type 0} (f : List PlacedTlv → List A) (items all : List A) (r : Items) → f [] ≡ [] → r ≡ [] → items ++ f (whole r) ≡ all → items ≡ all
-done f items all r none is e =
-    sym (append-nil items) ∙ ap (λ tail. items ++ tail) (sym none) ∙ subst (λ (r : Items). items ++ f (whole r) ≡ all) is e
 
 -- ---- counts
 

@@ -9,18 +9,11 @@ use Rattle.ksi_tlv.specs.Numerals.{number_of}
 use Rattle.ksi_grammar.specs.declared.fault.ElementFault.{ElementFault}
 use Rattle.ksi_grammar.specs.declared.fault.ElementFault.TheVariants as faults
 use Rattle.ksi_grammar.specs.Reading.{◌>>=◌}
-use Rattle.ksi_grammar.specs.Contents.{passes, number_in, time_in, level_in, imprint_or, imprint_in}
+use Rattle.ksi_grammar.specs.Contents.{passes, time_in, level_in, imprint_or, imprint_in}
 
 pub no_fault : {A : Type 0} (r s : Result A ElementFault) (fault : ElementFault) → passes s ≡ Ok tt → r ≡ s → r ≡ Err fault → ⊥
 no_fault r (Ok x) fault ok is err = let no : Ok x ≡ Err fault = sym is ∙ err in absurd cc
 no_fault r (Err other) fault ok is err = absurd cc
-
-number_if : (b : Bool) (fault : ElementFault) (m n : ℕ) → cond b (Err fault) (Ok m) ≡ Ok n → n ≡ m
-number_if true fault m n e = absurd cc
-number_if false fault m n e = cc
-
-pub number_says : (at : PlacedTlv) (n : ℕ) → number_in at ≡ Ok n → n ≡ number_of at.element.body
-number_says at n e = number_if (ltb 8 (length at.element.body)) (faults.Number at.place) (number_of at.element.body) n e
 
 abbrev bounded : ℕ → ElementFault → ℕ → Result ℕ ElementFault
 bounded limit fault n = cond (ltb n limit) (Ok n) (Err fault)

@@ -1,16 +1,10 @@
 -- Rows after a growth, and with one leaf more.
-use Rattle.std.proofs.Common.{◌≡◌, ℕ, ◌+◌, ◌-◌, ◌^◌, ◌<◌, ◌≤◌, List, [], ◌∷◌, ◌++◌, length, refl, sym, ap, ◌∙◌, arith, length-append}
+use Rattle.std.proofs.Common.{◌≡◌, ℕ, ◌+◌, ◌-◌, ◌^◌, ◌<◌, ◌≤◌, List, [], ◌∷◌, ◌++◌, length, refl, sym, ap, ◌∙◌, arith}
 use Rattle.ksi_split.specs.Upward.{halves, whole}
 use Rattle.ksi_split.proofs.Powers.{halves_rise}
-use Rattle.ksi_split.specs.Leaves.{leaf_at, Leaves}
+use Rattle.ksi_split.specs.Leaves.{leaf_at}
 use Rattle.ksi_split.specs.Stored.{Stored, row_at, row_of, AreRows, kept_part, parts}
 use Rattle.ksi_split.proofs.Complete.{parts_same, row_more, leaf_last, leaf_kept, leaf_before, length-parts, kept_is}
-
-abbrev pub with_leaves : {A : Type 0} → ℕ → A → List A → Leaves A
-with_leaves start before items = record { start = start; before = before; items = items }
-
-abbrev pub with_leaf : {A : Type 0} → Leaves A → A → Leaves A
-with_leaf v leaf = record v { items = v.items ++ leaf ∷ [] }
 
 module _ {A : Type 0} (join : A → A → A) (start : ℕ) (before : A) where
   -- the lowest row
@@ -36,17 +30,6 @@ module _ {A : Type 0} (join : A → A → A) (start : ℕ) (before : A) where
       same k ∙ are.each k few
       ∙ parts_same join (leaf_at start before (row_at rows 0)) (leaf_at start before (row_at rows 0 ++ x ∷ [])) n k (halves k start) (halves k n - halves k start) (leaf_kept start before (row_at rows 0) x) (omega arith)
       ∙ ap (λ (xs : List A). row_of join (leaf_at start before (xs ++ x ∷ [])) start n k) (sym (same 0))
-
-  pub rows_added : (items : List A) (x : A) (new : List (Stored A)) (n : ℕ) → n ≡ start + length items → n < 2 ^ 63 → row_at new 0 ≡ items ++ x ∷ []
-      → ((k : ℕ) → k < 64 → row_at new k ≡ row_of join (leaf_at start before (items ++ x ∷ [])) start (n + 1) k) → AreRows join start before new
-  rows_added items x new n count small zero_row rows =
-      let size = ap length zero_row in
-      let total : n + 1 ≡ start + length (row_at new 0) = omega (arith, size, length-append items (x ∷ [])) in
-      record {
-        few = omega arith;
-        each = λ k few. rows k few ∙ ap (λ (m : ℕ). row_of join (leaf_at start before (items ++ x ∷ [])) start m k) total
-            ∙ ap (λ (xs : List A). row_of join (leaf_at start before xs) start (start + length (row_at new 0)) k) (sym zero_row);
-      }
 
   -- what is kept of a complete part
   pub part_kept : (rows : List (Stored A)) (k j : ℕ) → AreRows join start before rows → k < 64 → j < halves k (start + length (row_at rows 0))

@@ -579,10 +579,6 @@ module _ (voters : List ℕ) (states : ℕ → VoteState) (said : List Said) (j 
   pub keeps_restart : Keeps_on voters states said j (restarted (states j), None)
   keeps_restart states' others mine = restart_taken voters states states' said j ok others mine
 
-  -- nothing
-  pub keeps_still : Keeps_on voters states said j (states j, None)
-  keeps_still states' others mine = stay voters states states' said j ok others mine
-
 -- at the start
 pub holds_first : (voters : List ℕ) (states : ℕ → VoteState) → ((j : ℕ) → states j ≡ fresh_vote j voters) → Holds voters states []
 unfolding fresh_vote

@@ -1,5 +1,5 @@
 -- The value of bytes as a loop comes to it, and numerals.
-use Rattle.std.proofs.Common.{◌≡◌, ℕ, zero, suc, ◌+◌, ◌*◌, ◌^◌, ◌<◌, ◌≤◌, List, [], ◌∷◌, length, inl, inr, arith, refl, sym, ap, ◌∙◌, add-one, mul_assoc, mul_comm}
+use Rattle.std.proofs.Common.{◌≡◌, ℕ, zero, suc, ◌+◌, ◌*◌, ◌^◌, ◌<◌, ◌≤◌, List, [], ◌∷◌, length, inl, inr, arith, refl, sym, ap, ◌∙◌, mul_assoc, mul_comm}
 use Rattle.std.specs.List.{AllByRecursion}
 use Rattle.std.proofs.lemmas.Bool.{cases_lt}
 use Rattle.ksi_tlv.specs.Spelling.{AreBytes}
@@ -34,9 +34,6 @@ pub more_fits : (n i b : ℕ) → n < 256 ^ i → i < 8 → b < 256 → 256 * n 
 more_fits n i b lt small byte =
     let bound : 256 ^ i ≤ 256 ^ 7 = let le : i ≤ 7 = omega arith in pow-le-pow_right {n = 256} (omega arith) le in
     omega (arith, bound)
-
-pub more_below : (n i b : ℕ) → n < 256 ^ i → b < 256 → 256 * n + b < 256 ^ (i + 1)
-more_below n i b lt byte = rw (add-one, pow-suc 256 i) (omega arith)
 
 -- ---- numbers
 

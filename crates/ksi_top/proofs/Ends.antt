@@ -5,7 +5,7 @@ use Rattle.std.specs.declared.alloc.AllocError.{AllocError}
 use Rattle.ksi_top.specs.declared.report.Report.{Report}
 use Rattle.ksi_top.specs.declared.status.Status.{Status}
 use Rattle.ksi_top.specs.declared.status.Status.TheVariants as statuses
-use Rattle.ksi_top.specs.Reports.{Nothing, Ran, ends, behind, report, saving, saves_of}
+use Rattle.ksi_top.specs.Reports.{Nothing, Ran, ends, report, saving, saves_of}
 use Rattle.ksi_top.specs.Causes.{IsJudged, JudgedAs}
 
 -- with at most so many saves
@@ -22,9 +22,6 @@ IsSound ran = ran.reported.status ≡ statuses.TooLong → 0 < ran.loads
 
 pub end_is_sound : (saves : ℕ) (report : Report) → IsEnd saves report → IsSound (ends report)
 end_is_sound saves report is long = absurd (not_long saves report is long)
-
-pub load_is_sound : {T : Type 0} (expected : Result T Report) (next : T → Ran) → IsSound (behind expected next)
-load_is_sound expected next long = omega arith
 
 pub ends_as : (saves : ℕ) (report : Report) (computed : Result Report AllocError) → IfOk computed (λ it. it ≡ report) → IsEnd saves report → IfOk computed (IsEnd saves)
 ends_as saves report (Ok it) is end = subst (λ (it : Report). IsEnd saves it) (sym is) end

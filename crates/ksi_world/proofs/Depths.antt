@@ -18,10 +18,6 @@ module _ (plan : PlanState) where
   unfolding depth_of
   depth_most a = within_most 8 a
 
-  pub depth_core : (j : ℕ) → depth_of plan (actors.Core j) ≡ 0
-  unfolding depth_of depth_within
-  depth_core j = refl
-
   within_more : (n : ℕ) (a : Actor) → ReachesCore plan n a → depth_within plan (suc n) a ≡ depth_within plan n a
   unfolding depth_within ReachesCore
   within_more n (actors.Core j) r = refl
