@@ -95,6 +95,8 @@ class State:
         """The last entry of each node's own log."""
         self.sent: Dict[str, list] = {}
         """By NODE ID of a line whose messages are on their way: its step, and how many of them did not come yet."""
+        self.forgotten = 0
+        """How many facts nodes were started without, of those that they had acknowledged, in what was read or added of the record."""
 
     def node(self, name):
         return self.nodes.setdefault(name, NodeState())
@@ -128,6 +130,8 @@ class State:
         node.unanswered.clear()
         if node.facts is not None:
             told.append(Step(name, None, None, None))
+        if node.before is not None:
+            self.forgotten += node.before - facts
         node.facts, node.before = facts, None
         return told
 
@@ -165,7 +169,9 @@ class State:
     def take_restarted(self, name, number, again, found=None):
         self.seen[name] = number
         if found is not None:
-            self.node(name).facts = found
+            node = self.node(name)
+            self.forgotten += max(0, (node.facts or 0) - found)
+            node.facts = found
         return [Step(name, None, None, None)] if again else []
 
     def take_begins(self, state):

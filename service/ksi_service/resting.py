@@ -21,10 +21,16 @@ class Resting:
 
     def __init__(self, clock, say):
         self.clock, self.network, self.plan, self.say = clock, clock.network, clock.network.plan, say
-        self.rounds, self.times = 0, 0
-        """How many rounds were forgotten, and how often an aggregator forgot some."""
+        self.times, self.known = 0, self.network.record.state.forgotten
+        """How often an aggregator forgot some rounds, and how many it had forgotten by the record when this began."""
         self.before = {}
         """Before which second each aggregator forgot."""
+
+    @property
+    def rounds(self):
+        """How many rounds were forgotten, by the record: also those of an aggregator that was away, and whose host told nobody. Of a
+        forgotten round the closing stays, and its response goes: one fact."""
+        return self.network.record.state.forgotten - self.known
 
     async def run(self, every):
         """Lets each aggregator forget so often, for ever."""
@@ -43,9 +49,7 @@ class Resting:
         except (NotForgotten, Refused, Missing, Down, OSError) as reason:
             self.say(f"a{number} forgets nothing now: {'it is down' if isinstance(reason, Down) else reason}")
             return
-        if left < found:
-            # of a forgotten round the closing stays, and its response goes
-            self.rounds, self.times = self.rounds + found - left, self.times + 1
+        self.times += left < found
 
     async def rested(self, number):
         """Has an aggregator forget while it takes no requests, and waits for a while until it is there again."""

@@ -25,6 +25,7 @@ class RecordTest(unittest.TestCase):
         self.room = tempfile.TemporaryDirectory()
         self.addCleanup(self.room.cleanup)
         self.folder = os.path.join(self.room.name, "record")
+        self.state = State()
 
     def write(self, *entries, number=1, end="\n"):
         os.makedirs(self.folder, exist_ok=True)
@@ -226,6 +227,23 @@ class RecordTest(unittest.TestCase):
         self.write(*self.entries)
         with open(os.path.join(self.room.name, "plan"), "w", encoding="ascii") as file:
             file.write(Plan(1, 5, ("c0",)).text())
+
+    def test_what_was_forgotten_is_counted_where_nobody_was_told(self):
+        """By what nodes are started with: over pipes, from the new file or still from the old one, and behind a server."""
+        closed = [["given", "a0", "close 5", None], ["said", "a0", ["answer done", "stored"]]]
+        for entries, forgotten in (([["ready", "a0", 0, 0], *closed, *closed, *closed], 0), ([["forgot", "a0", 3, 1]], 0), ([["ready", "a0", 1, 0]], 2),
+                                   ([["forgot", "a0", 1, 0], ["ready", "a0", 1, 0]], 2), ([["forgot", "a0", 1, 0], ["ready", "a0", 0, 0]], 3), ([["ready", "a0", 0, 0]], 3)):
+            self.check_forgotten(entries, forgotten)
+        self.state = State()
+        did = [["did", "a1", f"{number}-0", str(number), f"close {number}", None, ["answer done", "stored"]] for number in range(4)]
+        for entries, forgotten in (([["restarted", "a1", "0-0", 0, 0], *did], 0), ([["restarted", "a1", "5-0", 1, 4]], 0), ([["restarted", "a1", "6-0", 1, 1]], 3),
+                                   ([["restarted", "a1", "7-0", 1, 1]], 3)):
+            self.check_forgotten(entries, forgotten)
+
+    def check_forgotten(self, entries, forgotten):
+        for it in entries:
+            self.state.take(it)
+        self.assertEqual(self.state.forgotten, forgotten, entries)
 
     def test_entries_are_those_of_ksi_retrace(self):
         self.run_of_two()
