@@ -1,7 +1,5 @@
 -- The chain over the calendar of what is held.
-use Rattle.std.proofs.Common.{◌≡◌, ℕ, ◌+◌, ◌<◌, ◌≤◌, cond, leb, List, length, Some, None, refl, sym, ap, ◌∙◌, arith}
-use Rattle.std.specs.Prelude.{IsSome}
-use Rattle.std.proofs.lemmas.Bool.{le-leb}
+use Rattle.std.proofs.Common.{◌≡◌, ℕ, ◌+◌, ◌<◌, ◌≤◌, List, length, Some, None, sym, ap, ◌∙◌, arith}
 use Rattle.ksi_split.specs.declared.tree_link.TreeLink.{TreeLink}
 use Rattle.ksi_calendar.specs.Calendar.{Seconds, calendar_leaf, calendar_path, calendar_root, root_to}
 use Rattle.ksi_calendar.specs.Covered.{Roots, covered_path, covered_root, first_missing, second_leaf}
@@ -28,6 +26,3 @@ module _ (image : List ℕ → List ℕ) (held : Roots) (start t p : ℕ) where
       let same : root ≡ covered_root image held start p = cc in
       let path : links ≡ covered_path image held start t p = along ∙ own_path leaves in
       (λ i. Some (record { links = path i; root = same i })) ∙ ap (chain_over image held start t p) (sym none)
-
-      back : t ≤ p → first_missing held start p ≡ None → IsSome (cond (leb t p) (chain_over image held start t p (first_missing held start p)) None)
-      back le none = rw (le-leb t p le, none) refl
