@@ -1,22 +1,23 @@
-ghost use Rattle.std.specs.Prelude.{◌≡◌, ◌+◌, ◌≤◌, ◌++◌, length};
-ghost use Rattle.arrayvec.specs.ArrayVec.{array_vec_len};
+ghost use Rattle.std.specs.Prelude.{◌≡◌, ◌+◌, ◌-◌, ◌≤◌, ◌++◌, ◌∷◌, length, replicate};
 ghost use Rattle.ksi_aggtree.specs.Names.{most_letters, padding, meta_of};
 
-use arrayvec::ArrayVec;
 use std::marker::Model;
 
 /// The metadata of a name: an even number of bytes, at most 70. A contract sees the bytes.
 #[derive(Drop)]
 pub struct Meta {
-    bytes: ArrayVec<u8, 70>,
+    bytes: [u8; 70],
+    length: u8,
 }
 
 impl Model for Meta {
-    ghost use Rattle.std.specs.Prelude.{ℕ, List};
+    ghost use Rattle.std.specs.Prelude.{ℕ, List, ◌≤◌, take};
 
     ghost Value = { List ℕ };
 
-    ghost view = { λ meta. meta.bytes.items };
+    ghost view = { λ meta. take meta.length meta.bytes };
+
+    ghost invariant = { λ meta. meta.length ≤ 70 };
 }
 
 impl Meta {
@@ -25,7 +26,7 @@ impl Meta {
         ensures bytes { result.now ≡ self.now }
         ensures few { length self.now ≤ 70 }
     {
-        self.bytes.as_slice()
+        &self.bytes[..self.length as usize]
     }
 
     /// The metadata of these bytes: a padding element that makes the whole even, and the element of the name, which a zero
@@ -34,13 +35,28 @@ impl Meta {
         requires { length name.now ≤ most_letters }
         ensures { result ≡ meta_of name.now }
     {
-        let mut bytes = ArrayVec::new();
-        push(&mut bytes, padding(name.len()));
-        push(&mut bytes, &[1, name.len() as u8 + 1]);
-        push(&mut bytes, name);
-        push(&mut bytes, &[0]);
-        Meta { bytes }
+        let front = padding(name.len());
+        Meta {
+            bytes: laid(front, name),
+            length: (front.len() + name.len() + 3) as u8,
+        }
     }
+}
+
+/// A padding, the element of a name, and zero bytes behind it.
+fn laid(front: &[u8], name: &[u8]) -> [u8; 70]
+    requires front { length front.now ≤ 4 }
+    requires name { length name.now ≤ most_letters }
+    ensures { result ≡ front.now ++ 1 ∷ (length name.now + 1) ∷ (name.now ++ replicate (68 - length front.now - length name.now) 0) }
+{
+    let mut bytes = [0; 70];
+    let (padding, rest) = bytes.split_at_mut(front.len());
+    padding.copy_from_slice(front);
+    let (header, rest) = rest.split_at_mut(2);
+    header.copy_from_slice(&[1, name.len() as u8 + 1]);
+    let (letters, _) = rest.split_at_mut(name.len());
+    letters.copy_from_slice(name);
+    bytes
 }
 
 /// The padding before a name of so many bytes.
@@ -52,15 +68,5 @@ fn padding(n: usize) -> &'static [u8]
         &[126, 1, 1]
     } else {
         &[126, 2, 1, 1]
-    }
-}
-
-fn push(bytes: &mut ArrayVec<u8, 70>, piece: &[u8])
-    requires { array_vec_len bytes.old + length piece.now ≤ 70 }
-    ensures { bytes.new.items ≡ bytes.old.items ++ piece.now }
-{
-    match bytes.try_extend_from_slice(piece) {
-        Ok(()) => {}
-        Err(_) => unreachable!(),
     }
 }

@@ -2,7 +2,7 @@ use ksi_imprint::Imprint;
 
 /// Why bytes are no journal. A malformed file is reported by the codes J1 to J10 with the values of the variant. A place
 /// is the offset of an element's first byte in the file.
-#[derive(Clone, Copy, Debug, PartialEq, Eq)]
+#[derive(Clone, Copy)]
 pub enum JournalFault {
     /// J1: the first eight bytes are others, or fewer.
     Magic,
