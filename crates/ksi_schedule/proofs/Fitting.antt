@@ -24,7 +24,7 @@ other_count (sort ∷ sorts) (w ∷ ws) not = second_false (looks_like sort w) (
 abbrev pub HaveOthers : {A : Type 0} → List Text → List (Form A) → Type 0
 HaveOthers ws forms = AllByRecursion (λ form. ¬ (length ws ≡ length form.sorts)) forms
 
-none_fits : {A : Type 0} (plan : PlanState) (forms : List (Form A)) (ws : List Text) → HaveOthers ws forms → form_at plan forms ws ≡ Err Word
+pub none_fits : {A : Type 0} (plan : PlanState) (forms : List (Form A)) (ws : List Text) → HaveOthers ws forms → form_at plan forms ws ≡ Err Word
 unfolding form_at
 none_fits plan [] ws others = refl
 none_fits plan (form ∷ forms) ws others = rw (other_count form.sorts ws others.0) (none_fits plan forms ws others.1)

@@ -12,6 +12,7 @@ pub mod MembersAgain
 pub mod Whole
 pub mod Holding
 pub mod Fitting
+pub mod Naming
 pub mod Rising
 pub mod Taking
 pub mod Within

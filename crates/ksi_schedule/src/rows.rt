@@ -77,7 +77,7 @@ fn bare_parent(plan: &Plan, k: &[u8], word: &[u8], actor: &[u8]) -> Result<(u64,
     }
 }
 
-#[tactic(auto, unfolding(crate::specs::Words::form_at))]
+// Under a name: what stands before it is a bare parent.
 fn named_parent(plan: &Plan, words: Words<'_>) -> Result<(u64, Parent), LineFault>
     ensures value { result ≡ form_at plan.now named_parents (words_left words.entry) }
     ensures there { IfOk result (λ said. IsParent plan.now.cores (length plan.now.parents) said.1.actor) }
@@ -86,32 +86,17 @@ fn named_parent(plan: &Plan, words: Words<'_>) -> Result<(u64, Parent), LineFaul
     let Some((k, word, actor, under, named)) = five(words) else {
         return Err(LineFault::Word)
     };
-    if !is(word, b"parent") || !is(under, b"name") {
+    if !is(under, b"name") {
         return Err(LineFault::Word);
     }
-    match actor {
-        [b'c', j @ ..] => {
-            let k = number(k)?;
-            Ok((
-                k,
-                Parent {
-                    actor: Actor::Core(core(plan, j)?),
-                    name: Some(name(named)?),
-                },
-            ))
-        }
-        [b'a', i @ ..] => {
-            let k = number(k)?;
-            Ok((
-                k,
-                Parent {
-                    actor: Actor::Aggregator(aggregator(plan, i)?),
-                    name: Some(name(named)?),
-                },
-            ))
-        }
-        _ => Err(LineFault::Word),
-    }
+    let (k, bare) = bare_parent(plan, k, word, actor)?;
+    Ok((
+        k,
+        Parent {
+            actor: bare.actor,
+            name: Some(name(named)?),
+        },
+    ))
 }
 
 // What an event's line stands for, or its first fault.
