@@ -1,6 +1,5 @@
 pub mod Items
 pub mod Found
-pub mod Restart
 pub mod Words
 pub mod Storing
 pub mod Listing
