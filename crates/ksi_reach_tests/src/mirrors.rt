@@ -65,26 +65,28 @@ pub(crate) fn mirror_of(alloc: Global, words: &str) -> Result<Mirror, Fail> {
 pub(crate) const ONE: &str =
     "01046553f100 0229 01046553f100 0221 A 090b 01046553f100 0200 030101 0322 A 00 0600";
 
-/// The fault of bytes: the number of its code, and the place or the second; zeros where they have none.
-fn fault_of(alloc: Global, bytes: &[u8]) -> (u8, u64) {
+/// The fault of bytes, if they have one.
+fn fault_of(alloc: Global, bytes: &[u8]) -> Option<JournalFault> {
     match load_mirror(alloc, bytes) {
-        Err(Refused::Fault(fault)) => coded(fault),
-        _ => (0, 0),
+        Err(Refused::Fault(fault)) => Some(fault),
+        _ => None,
     }
 }
 
-fn coded(fault: JournalFault) -> (u8, u64) {
+/// The number of a fault's code, and its place or second.
+fn coded(fault: Option<JournalFault>) -> (u8, u64) {
     match fault {
-        JournalFault::Magic => (1, 0),
-        JournalFault::Tlv(place) => (2, place as u64),
-        JournalFault::Order(place) => (3, place as u64),
-        JournalFault::TreeRoot(second, _, _) => (4, second),
-        JournalFault::Bound(place) => (5, place as u64),
-        JournalFault::Imprint(place) => (6, place as u64),
-        JournalFault::Count(second) => (7, second),
-        JournalFault::Ends(place) => (8, place as u64),
-        JournalFault::Name(place) => (9, place as u64),
-        JournalFault::Voters(place) => (10, place as u64),
+        None => (0, 0),
+        Some(JournalFault::Magic) => (1, 0),
+        Some(JournalFault::Tlv(place)) => (2, place as u64),
+        Some(JournalFault::Order(place)) => (3, place as u64),
+        Some(JournalFault::TreeRoot(second, _, _)) => (4, second),
+        Some(JournalFault::Bound(place)) => (5, place as u64),
+        Some(JournalFault::Imprint(place)) => (6, place as u64),
+        Some(JournalFault::Count(second)) => (7, second),
+        Some(JournalFault::Ends(place)) => (8, place as u64),
+        Some(JournalFault::Name(place)) => (9, place as u64),
+        Some(JournalFault::Voters(place)) => (10, place as u64),
     }
 }
 
@@ -191,7 +193,12 @@ fn answers_the_first_fault(rt: HostRuntime) -> Result<(), Fail> {
     ];
     for (words, fault) in &CASES {
         let bytes = file(rt.alloc(), words)?;
-        same(&rt, *words, fault_of(rt.alloc(), bytes.as_slice()), *fault);
+        same(
+            &rt,
+            *words,
+            coded(fault_of(rt.alloc(), bytes.as_slice())),
+            *fault,
+        );
     }
     Ok(())
 }
@@ -200,7 +207,7 @@ fn answers_the_first_fault(rt: HostRuntime) -> Result<(), Fail> {
 fn another_magic_is_none(rt: HostRuntime) -> Result<(), Fail> {
     static CASES: [&[u8]; 3] = [b"", b"KSIMIRR", b"KSIJRNL1"];
     for bytes in CASES {
-        same(&rt, "magic", fault_of(rt.alloc(), bytes), (1, 0));
+        same(&rt, "magic", coded(fault_of(rt.alloc(), bytes)), (1, 0));
     }
     Ok(())
 }
