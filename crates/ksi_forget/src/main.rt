@@ -9,10 +9,9 @@ ghost use Rattle.std.specs.Prelude.{◌<◌, length};
 mod words;
 
 use crate::words::{Command, words};
-use ksi_forgetting::{ForgetRefusal, forget};
 use ksi_host_disk::HostDisk;
 use ksi_imprint::Sha;
-use ksi_roundstore::OpenRefusal;
+use ksi_roundstore::{ForgetRefusal, OpenRefusal, forget};
 use ksi_schedule::Plan;
 use ksi_service::{Failure, disk_at, end, plan_of};
 use std::io::Write;

@@ -11,13 +11,16 @@ use Rattle.ksi_roundstore.specs.Headers.{empty_file, header_at, header_text}
 use Rattle.ksi_roundstore.specs.Stores.{IsFileOf}
 use Rattle.ksi_roundstore.specs.Written.{AreTexts}
 
+-- reading a text again that was spelled so
+abbrev pub ReadAgain : Type 0
+ReadAgain = (header : List ℕ) (records : List (List ℕ)) (gate : ℕ) (rest : List ℕ) → All (λ content. length content < 2 ^ 32) records → gate ≢ 1
+    → reading_of (length header) (header ++ (records_text records ++ gate ∷ rest)) ≡ behind records (ends (Closed (length header + length (records_text records))))
+
 pub header_again : (me start : ℕ) → me < 2 ^ 32 → start < 2 ^ 64 → header_at (header_text me start) ≡ Some (record { aggregator = me; start = start })
 header_again me start few early =
     λ i. Some (record { aggregator = from_be_bytes-to_be_bytes_4 me few i; start = from_be_bytes-to_be_bytes_8 start early i })
 
-pub formatted_file : AreLawful [] → ((header : List ℕ) (records : List (List ℕ)) (gate : ℕ) (rest : List ℕ) → All (λ content. length content < 2 ^ 32) records → gate ≢ 1
-    → reading_of (length header) (header ++ (records_text records ++ gate ∷ rest)) ≡ behind records (ends (Closed (length header + length (records_text records)))))
-    → (me : ℕ) (plan : PlanState) → me < length plan.parents → IsPlan plan → IsFileOf me plan [] (empty_file me plan.start)
+pub formatted_file : AreLawful [] → ReadAgain → (me : ℕ) (plan : PlanState) → me < length plan.parents → IsPlan plan → IsFileOf me plan [] (empty_file me plan.start)
 formatted_file none again me plan member is =
     let many = is.many in
     let begins = is.core_plan.early in

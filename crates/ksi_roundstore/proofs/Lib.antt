@@ -14,3 +14,9 @@ pub mod Accepted
 pub mod Unread
 pub mod Reasons
 pub mod Untaken
+pub mod Leaving
+pub mod Unnoticed
+pub mod LastLine
+pub mod Telling
+pub mod PutBehind
+pub mod NewFile

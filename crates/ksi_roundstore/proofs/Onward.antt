@@ -35,11 +35,14 @@ all_of : {X Y : Type 0} (f : X → Y) (P : Y → Type 0) (xs : List X) → AllBy
 all_of f P [] are = tt
 all_of f P (x ∷ xs) are = (are.0, all_of f P xs are.1)
 
+pub texts_join : (plan : PlanState) (me : ℕ) (facts more : List Fact) (records others : List (List ℕ)) → AreTexts plan me facts records → AreTexts plan me more others → AreTexts plan me (facts ++ more) (records ++ others)
+texts_join plan me [] more [] others are tail = tail
+texts_join plan me [] more (c ∷ cs) others are tail = absurd are
+texts_join plan me (f ∷ fs) more [] others are tail = absurd are
+texts_join plan me (f ∷ fs) more (c ∷ cs) others are tail = (are.0, texts_join plan me fs more cs others are.1 tail)
+
 pub texts_more : (plan : PlanState) (me : ℕ) (facts : List Fact) (records : List (List ℕ)) (fact : Fact) (content : List ℕ) → AreTexts plan me facts records → IsTextOf plan me fact content → AreTexts plan me (facts ++ fact ∷ []) (records ++ content ∷ [])
-texts_more plan me [] [] fact content are is = (is, tt)
-texts_more plan me [] (c ∷ cs) fact content are is = absurd are
-texts_more plan me (f ∷ fs) [] fact content are is = absurd are
-texts_more plan me (f ∷ fs) (c ∷ cs) fact content are is = (are.0, texts_more plan me fs cs fact content are.1 is)
+texts_more plan me facts records fact content are is = texts_join plan me facts (fact ∷ []) records (content ∷ []) are (is, tt)
 
 module _ (plan : PlanState) (me : ℕ) where
   -- each open item of a round came by a written event

@@ -24,7 +24,7 @@ get_here [] fact others = refl
 get_here (d ∷ ds) fact others = get_here ds fact others
 
 -- a fact is lawful after those before it
-lawful_here : (done : List Fact) (fact : Fact) (others : List Fact) → AreLawful (done ++ fact ∷ others) → IsLawful (stored_by done) fact
+pub lawful_here : (done : List Fact) (fact : Fact) (others : List Fact) → AreLawful (done ++ fact ∷ others) → IsLawful (stored_by done) fact
 lawful_here done fact others are =
     subst (λ (l : List Fact). IsLawful (stored_by l) fact) (take_at done (fact ∷ others) (length done) refl) (are (length done) fact (get_here done fact others))
 

@@ -9,3 +9,7 @@ pub mod Written
 pub mod Stores
 pub mod Folds
 pub mod Crashes
+pub mod Left
+pub mod Forgotten
+pub mod Kinds
+pub mod Forgets

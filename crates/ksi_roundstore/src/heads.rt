@@ -5,7 +5,7 @@ pub const HEADER: usize = 20;
 pub(crate) const MAGIC: [u8; 8] = *b"KSIROUN1";
 
 /// Whose file it is: an aggregator's, and the first second of its plan.
-#[derive(Clone, Copy, Debug, PartialEq, Eq)]
+#[derive(Clone, Copy)]
 pub struct Header {
     pub aggregator: u32,
     pub start: u64,

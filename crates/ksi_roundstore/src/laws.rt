@@ -1,5 +1,6 @@
-//! What holds of the files of aggregators, for the layers above to cite. These functions do nothing.
-ghost use Rattle.std.specs.Prelude.{◌≡◌, ◌≢◌, All, ◌<◌, ◌^◌, ℕ, List, [], length, Ok};
+//! What holds of the files of aggregators, and of one that forgot rounds, for the layers above to cite. These functions do
+//! nothing.
+ghost use Rattle.std.specs.Prelude.{◌≡◌, ◌≢◌, All, ◌<◌, ◌≤◌, ◌^◌, ℕ, Bool, List, [], length, Ok};
 ghost use Rattle.ksi_disk.specs.Images.{LeavesOnly};
 ghost use Rattle.ksi_schedule.specs.Pieces.{Text};
 ghost use Rattle.ksi_schedule.specs.Plans.{IsPlan, PlanState};
@@ -10,12 +11,16 @@ ghost use Rattle.ksi_wire.specs.declared.event.AggregatorLine.TheVariants.{Event
 ghost use Rattle.ksi_aggregator.specs.declared.event.RoundEvent.{RoundEvent};
 ghost use Rattle.ksi_aggregator.specs.declared.fact.Fact.{Fact};
 ghost use Rattle.ksi_aggregator.specs.declared.step.Step.{Step};
-ghost use Rattle.ksi_aggregator.specs.Events.{event_second, MayTake};
-ghost use Rattle.ksi_aggregator.specs.Rounds.{AggregatorState, rounds_of};
-ghost use Rattle.ksi_roundfacts.specs.Lawful.{with_new};
+ghost use Rattle.ksi_aggregator.specs.Events.{event_second, MayTake, round_row};
+ghost use Rattle.ksi_aggregator.specs.Issuing.{IsIssued, IsIssuedAt};
+ghost use Rattle.ksi_aggregator.specs.Rounds.{AggregatorState, rounds_of, ChangesOnly};
+ghost use Rattle.ksi_aggregator.specs.Rows.{RoundState, round_restarted};
+ghost use Rattle.ksi_roundfacts.specs.Lawful.{AreLawful, with_new};
 ghost use Rattle.ksi_roundfacts.specs.Restored.{HasFacts, IsOfFacts};
 ghost use Rattle.ksi_roundstore.specs.Crashes.{IsRestarted, IsRestartedEither};
+ghost use Rattle.ksi_roundstore.specs.Forgotten.{AreForgotten, SayTheSame, SayTheSameOf};
 ghost use Rattle.ksi_roundstore.specs.Headers.{empty_file};
+ghost use Rattle.ksi_roundstore.specs.Left.{left_before, left_of};
 ghost use Rattle.ksi_roundstore.specs.Opens.{IsOutside, IsRefused, OpensAs};
 ghost use Rattle.ksi_roundstore.specs.declared.refusal.OpenRefusal.{OpenRefusal};
 ghost use Rattle.ksi_roundstore.specs.StoreState.{StoreState};
@@ -26,7 +31,9 @@ ghost use Rattle.ksi_roundstore.specs.Written.{IsWritten};
 use ksi_disk::Disk;
 use ksi_gates::laws::records_are_read_again;
 use ksi_imprint::Compress;
-use ksi_roundfacts::laws::{facts_one_by_one, one_aggregator_of_facts, steps_are_lawful};
+use ksi_roundfacts::laws::{
+    facts_one_by_one, one_aggregator_of_facts, settled_rounds_stay, steps_are_lawful,
+};
 
 /// A file is of one list of facts.
 pub fn a_file_is_of_one_list_of_facts()
@@ -101,4 +108,38 @@ pub fn files_of_facts_are_opened()
 /// A file is refused for one reason, but for a disk that failed or want of memory.
 pub fn files_are_refused_for_one_reason()
     ensures { (me : ℕ) (plan : PlanState) (file : List ℕ) (one other : OpenRefusal) → IsRefused me plan file one → IsRefused me plan file other → (IsOutside one → ⊥) → (IsOutside other → ⊥) → one ≡ other }
+{}
+
+/// What is left of lawful facts is lawful, whichever rounds are forgotten. An aggregator of the facts left has the rounds of
+/// one of all facts, but for those that are gone.
+pub fn facts_left_are_lawful()
+    ensures lawful { (forgotten : ℕ → Bool) (facts : List Fact) → AreLawful facts → AreLawful (left_of forgotten facts) }
+    ensures rounds { (me before : ℕ) (facts : List Fact) (whole other : AggregatorState) → AreLawful facts → IsOfFacts me facts whole → IsOfFacts me (left_before before facts) other →
+        AreForgotten before (rounds_of whole) (rounds_of other) }
+{
+    facts_one_by_one();
+    one_aggregator_of_facts();
+}
+
+/// Nobody notices what an aggregator forgot: each event that might have come may come, is answered as it would have been,
+/// stores the same fact and sends the same messages. So it is after each step and after a restart, and for events in any number.
+pub fn forgetting_is_not_noticed()
+    ensures may { (before : ℕ) (rounds forgot : ℕ → RoundState) (event : RoundEvent) → AreForgotten before rounds forgot → MayTake rounds event → MayTake forgot event }
+    ensures alike { (image : List ℕ → List ℕ) (before : ℕ) (rounds forgot : ℕ → RoundState) (event : RoundEvent) → AreForgotten before rounds forgot →
+        SayTheSame (round_row image event (forgot (event_second event))) (round_row image event (rounds (event_second event))) }
+    ensures after { (image : List ℕ → List ℕ) (before : ℕ) (rounds forgot new new_forgot : ℕ → RoundState) (event : RoundEvent) → AreForgotten before rounds forgot →
+        ChangesOnly rounds new (event_second event) (round_row image event (rounds (event_second event))).after →
+        ChangesOnly forgot new_forgot (event_second event) (round_row image event (forgot (event_second event))).after → AreForgotten before new new_forgot }
+    ensures restart { (before : ℕ) (rounds forgot : ℕ → RoundState) → AreForgotten before rounds forgot → AreForgotten before (λ t. round_restarted (rounds t)) (λ t. round_restarted (forgot t)) }
+    ensures events { (image : List ℕ → List ℕ) (before : ℕ) (rounds forgot : ℕ → RoundState) (list : List RoundEvent) → AreForgotten before rounds forgot → SayTheSameOf image rounds forgot list }
+{
+    settled_rounds_stay();
+}
+
+/// What an aggregator that forgot rounds issues, it would have issued; and of each second that is not before, it issues what
+/// it would have.
+pub fn no_other_signature_is_issued()
+    ensures no_other { (image : List ℕ → List ℕ) (before : ℕ) (rounds forgot : ℕ → RoundState) (number : ℕ) (bytes : List ℕ) → AreForgotten before rounds forgot → IsIssued image forgot number bytes → IsIssued image rounds number bytes }
+    ensures kept { (image : List ℕ → List ℕ) (before : ℕ) (rounds forgot : ℕ → RoundState) (number second k : ℕ) (bytes : List ℕ) → AreForgotten before rounds forgot → before ≤ second →
+        IsIssuedAt image (rounds second) number second k bytes → IsIssuedAt image (forgot second) number second k bytes }
 {}

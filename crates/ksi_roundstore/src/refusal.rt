@@ -3,7 +3,7 @@ use ksi_gates::ReadRefusal;
 use ksi_imprint::NoMemory;
 
 /// Why the file of an aggregator was not opened.
-#[derive(Clone, Copy, Debug, PartialEq, Eq)]
+#[derive(Clone, Copy)]
 pub enum OpenRefusal {
     /// The disk failed, and its count of faults rose.
     Failed,
@@ -18,7 +18,7 @@ pub enum OpenRefusal {
 }
 
 /// Why a store did not take an event.
-#[derive(Clone, Copy, Debug, PartialEq, Eq)]
+#[derive(Clone, Copy)]
 pub enum TakeRefusal {
     /// The disk failed, and its count of faults rose. The store is spent.
     Failed,
@@ -26,6 +26,15 @@ pub enum TakeRefusal {
     Spent,
     /// Memory was wanting.
     NoMemory,
+}
+
+/// Why rounds were not forgotten.
+#[derive(Clone, Copy)]
+pub enum ForgetRefusal {
+    /// The old file was not opened.
+    Old(OpenRefusal),
+    /// The new disk failed, and its count of faults rose. Nothing is said of what it has.
+    New,
 }
 
 impl From<NoMemory> for TakeRefusal {

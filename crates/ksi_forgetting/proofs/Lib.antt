@@ -1,6 +1,0 @@
-pub mod Leaving
-pub mod Unnoticed
-pub mod LastLine
-pub mod Telling
-pub mod PutBehind
-pub mod NewFile

@@ -1,4 +1,0 @@
-pub mod Left
-pub mod Forgotten
-pub mod Kinds
-pub mod Forgets

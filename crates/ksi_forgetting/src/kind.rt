@@ -1,7 +1,0 @@
-/// Which fact a record has, by its last line: the closing of a second's round, or its response.
-#[derive(Clone, Copy, Debug, PartialEq, Eq)]
-pub(crate) enum Kind {
-    Closed(u64),
-    Answered(u64),
-    Other,
-}
