@@ -1,5 +1,6 @@
 pub mod Building
 pub mod Commands
+mod Counted
 pub mod Leaf
 pub mod Misfits
 pub mod Parsed

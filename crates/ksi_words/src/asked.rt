@@ -47,7 +47,7 @@ pub enum Command<'a> {
 }
 
 /// Why words are no command.
-#[derive(Clone, Copy, Debug, PartialEq, Eq)]
+#[derive(Clone, Copy, Debug)]
 pub enum WordsRefusal {
     /// They have no command's form.
     Words,

@@ -1,8 +1,8 @@
 // The commands: a row of the table each, and what the words after its name ask for.
-ghost use Rattle.std.specs.Prelude.{◌≡◌, ◌<◌, ◌^◌, ℕ, IfOk, map};
+ghost use Rattle.std.specs.Prelude.{◌≡◌, ◌<◌, ◌^◌, ℕ, [], ◌∷◌, IfOk, map};
 ghost use Rattle.ksi_schedule.specs.Decimal.{number_of};
 ghost use Rattle.ksi_words.specs.Sorts.{hash_of, seed_of, time_of};
-ghost use Rattle.ksi_words.specs.Words.{Asks, asked_by, command_named, table, replay_row, sign_row, publish_row, extend_row, verify_row, audit_row, make_row, drill_row, migrate_row, front_row, compare_row, block_row, line_row, checkline_row, locate_row, merge_row, whole_row, inspect_row, mirror_row, node_row, word_at};
+ghost use Rattle.ksi_words.specs.Words.{Asks, asked_by, command_named, table, sign_row, extend_row, verify_row, audit_row, make_row, drill_row, front_row, block_row, line_row, locate_row, mirror_row, node_row, word_at};
 
 use crate::values::{hash, number, seed, time};
 use crate::{Command, WordsRefusal};
@@ -102,209 +102,181 @@ pub(crate) static TABLE: [CommandForm; 20] = [
 pub(crate) fn asked<'a>(name: &str, words: &[&'a str]) -> Result<Command<'a>, WordsRefusal>
     ensures { Asks (command_named table name.now (map (λ word. word.now) words.now)) result }
 {
-    match name {
-        "replay" => replay(words),
-        "sign" => sign(words),
-        "publish" => publish(words),
-        "extend" => extend(words),
-        "verify" => verify(words),
-        "audit" => audit(words),
-        "make" => make(words),
-        "drill" => drill(words),
-        "migrate" => migrate(words),
-        "front" => front(words),
-        "compare" => compare(words),
-        "block" => block(words),
-        "line" => line(words),
-        "checkline" => checkline(words),
-        "locate" => locate(words),
-        "merge" => merge(words),
-        "whole" => whole(words),
-        "inspect" => inspect(words),
-        "mirror" => mirror(words),
-        "node" => node(words),
+    match words {
+        [one] => with_one(name, one),
+        [one, two] => with_two(name, one, two),
+        [one, two, three] => with_three(name, one, two, three),
+        [one, two, three, four] => with_four(name, one, two, three, four),
         _ => Err(WordsRefusal::Words),
     }
 }
 
-fn replay<'a>(words: &[&'a str]) -> Result<Command<'a>, WordsRefusal>
-    ensures { Asks (asked_by replay_row (map (λ word. word.now) words.now)) result }
+// The command of a name and one word.
+fn with_one<'a>(name: &str, one: &'a str) -> Result<Command<'a>, WordsRefusal>
+    ensures { Asks (command_named table name.now (one.now ∷ [])) result }
 {
-    let [schedule, journal] = words else {
-        return Err(WordsRefusal::Words);
-    };
-    Ok(Command::Replay(schedule, journal))
+    match name {
+        "drill" => drill(one),
+        "inspect" => Ok(Command::Inspect(one)),
+        _ => Err(WordsRefusal::Words),
+    }
 }
 
-fn sign<'a>(words: &[&'a str]) -> Result<Command<'a>, WordsRefusal>
-    ensures { Asks (asked_by sign_row (map (λ word. word.now) words.now)) result }
+// The command of a name and two words.
+fn with_two<'a>(name: &str, one: &'a str, two: &'a str) -> Result<Command<'a>, WordsRefusal>
+    ensures { Asks (command_named table name.now (one.now ∷ two.now ∷ [])) result }
 {
-    let [journal, number, out] = words else {
-        return Err(WordsRefusal::Words);
-    };
-    Ok(Command::Sign(journal, number_at(2, number)?, out))
+    match name {
+        "replay" => Ok(Command::Replay(one, two)),
+        "publish" => Ok(Command::Publish(one, two)),
+        "make" => make(one, two),
+        "migrate" => Ok(Command::Migrate(one, two)),
+        "block" => block(one, two),
+        "whole" => Ok(Command::Whole(one, two)),
+        _ => Err(WordsRefusal::Words),
+    }
 }
 
-fn publish<'a>(words: &[&'a str]) -> Result<Command<'a>, WordsRefusal>
-    ensures { Asks (asked_by publish_row (map (λ word. word.now) words.now)) result }
+// The command of a name and three words.
+fn with_three<'a>(
+    name: &str,
+    one: &'a str,
+    two: &'a str,
+    three: &'a str,
+) -> Result<Command<'a>, WordsRefusal>
+    ensures { Asks (command_named table name.now (one.now ∷ two.now ∷ three.now ∷ [])) result }
 {
-    let [journal, out] = words else {
-        return Err(WordsRefusal::Words);
-    };
-    Ok(Command::Publish(journal, out))
+    match name {
+        "sign" => sign(one, two, three),
+        "verify" => verify(one, two, three),
+        "compare" => Ok(Command::Compare(one, two, three)),
+        "merge" => Ok(Command::Merge(one, two, three)),
+        "mirror" => mirror(one, two, three),
+        "node" => node(one, two, three),
+        _ => Err(WordsRefusal::Words),
+    }
 }
 
-fn extend<'a>(words: &[&'a str]) -> Result<Command<'a>, WordsRefusal>
-    ensures { Asks (asked_by extend_row (map (λ word. word.now) words.now)) result }
+// The command of a name and four words.
+fn with_four<'a>(
+    name: &str,
+    one: &'a str,
+    two: &'a str,
+    three: &'a str,
+    four: &'a str,
+) -> Result<Command<'a>, WordsRefusal>
+    ensures { Asks (command_named table name.now (one.now ∷ two.now ∷ three.now ∷ four.now ∷ [])) result }
 {
-    let [journal, signature, publication, out] = words else {
-        return Err(WordsRefusal::Words);
-    };
-    Ok(Command::Extend(journal, signature, time_at(3, publication)?, out))
+    match name {
+        "extend" => extend(one, two, three, four),
+        "audit" => audit(one, two, three, four),
+        "front" => front(one, two, three, four),
+        "line" => line(one, two, three, four),
+        "checkline" => Ok(Command::CheckLine(one, two, three, four)),
+        "locate" => locate(one, two, three, four),
+        _ => Err(WordsRefusal::Words),
+    }
 }
 
-fn verify<'a>(words: &[&'a str]) -> Result<Command<'a>, WordsRefusal>
-    ensures { Asks (asked_by verify_row (map (λ word. word.now) words.now)) result }
+fn drill<'a>(number: &str) -> Result<Command<'a>, WordsRefusal>
+    ensures { Asks (asked_by drill_row (number.now ∷ [])) result }
 {
-    let [signature, hash, publications] = words else {
-        return Err(WordsRefusal::Words);
-    };
-    Ok(Command::Verify(signature, hash_at(2, hash)?, publications))
-}
-
-fn audit<'a>(words: &[&'a str]) -> Result<Command<'a>, WordsRefusal>
-    ensures { Asks (asked_by audit_row (map (λ word. word.now) words.now)) result }
-{
-    let [journal, signature, hash, publications] = words else {
-        return Err(WordsRefusal::Words);
-    };
-    Ok(Command::Audit(journal, signature, hash_at(3, hash)?, publications))
-}
-
-fn make<'a>(words: &[&'a str]) -> Result<Command<'a>, WordsRefusal>
-    ensures { Asks (asked_by make_row (map (λ word. word.now) words.now)) result }
-{
-    let [number, out] = words else {
-        return Err(WordsRefusal::Words);
-    };
-    Ok(Command::Make(number_at(1, number)?, out))
-}
-
-fn drill<'a>(words: &[&'a str]) -> Result<Command<'a>, WordsRefusal>
-    ensures { Asks (asked_by drill_row (map (λ word. word.now) words.now)) result }
-{
-    let [number] = words else {
-        return Err(WordsRefusal::Words);
-    };
     Ok(Command::Drill(number_at(1, number)?))
 }
 
-fn migrate<'a>(words: &[&'a str]) -> Result<Command<'a>, WordsRefusal>
-    ensures { Asks (asked_by migrate_row (map (λ word. word.now) words.now)) result }
+fn make<'a>(number: &str, out: &'a str) -> Result<Command<'a>, WordsRefusal>
+    ensures { Asks (asked_by make_row (number.now ∷ out.now ∷ [])) result }
 {
-    let [old, new] = words else {
-        return Err(WordsRefusal::Words);
-    };
-    Ok(Command::Migrate(old, new))
+    Ok(Command::Make(number_at(1, number)?, out))
 }
 
-fn front<'a>(words: &[&'a str]) -> Result<Command<'a>, WordsRefusal>
-    ensures { Asks (asked_by front_row (map (λ word. word.now) words.now)) result }
+fn block<'a>(log: &'a str, seed: &str) -> Result<Command<'a>, WordsRefusal>
+    ensures { Asks (asked_by block_row (log.now ∷ seed.now ∷ [])) result }
 {
-    let [journal, p1, p2, out] = words else {
-        return Err(WordsRefusal::Words);
-    };
-    Ok(Command::Front(journal, time_at(2, p1)?, time_at(3, p2)?, out))
-}
-
-fn compare<'a>(words: &[&'a str]) -> Result<Command<'a>, WordsRefusal>
-    ensures { Asks (asked_by compare_row (map (λ word. word.now) words.now)) result }
-{
-    let [old, new, proof] = words else {
-        return Err(WordsRefusal::Words);
-    };
-    Ok(Command::Compare(old, new, proof))
-}
-
-fn block<'a>(words: &[&'a str]) -> Result<Command<'a>, WordsRefusal>
-    ensures { Asks (asked_by block_row (map (λ word. word.now) words.now)) result }
-{
-    let [log, seed] = words else {
-        return Err(WordsRefusal::Words);
-    };
     Ok(Command::Block(log, seed_at(2, seed)?))
 }
 
-fn line<'a>(words: &[&'a str]) -> Result<Command<'a>, WordsRefusal>
-    ensures { Asks (asked_by line_row (map (λ word. word.now) words.now)) result }
+fn sign<'a>(journal: &'a str, number: &str, out: &'a str) -> Result<Command<'a>, WordsRefusal>
+    ensures { Asks (asked_by sign_row (journal.now ∷ number.now ∷ out.now ∷ [])) result }
 {
-    let [log, seed, number, out] = words else {
-        return Err(WordsRefusal::Words);
-    };
-    Ok(Command::Line(log, seed_at(2, seed)?, number_at(3, number)?, out))
+    Ok(Command::Sign(journal, number_at(2, number)?, out))
 }
 
-fn checkline<'a>(words: &[&'a str]) -> Result<Command<'a>, WordsRefusal>
-    ensures { Asks (asked_by checkline_row (map (λ word. word.now) words.now)) result }
+fn verify<'a>(
+    signature: &'a str,
+    hash: &str,
+    publications: &'a str,
+) -> Result<Command<'a>, WordsRefusal>
+    ensures { Asks (asked_by verify_row (signature.now ∷ hash.now ∷ publications.now ∷ [])) result }
 {
-    let [signature, publications, line, proof] = words else {
-        return Err(WordsRefusal::Words);
-    };
-    Ok(Command::CheckLine(signature, publications, line, proof))
+    Ok(Command::Verify(signature, hash_at(2, hash)?, publications))
 }
 
-fn locate<'a>(words: &[&'a str]) -> Result<Command<'a>, WordsRefusal>
-    ensures { Asks (asked_by locate_row (map (λ word. word.now) words.now)) result }
+fn mirror<'a>(schedule: &'a str, core: &str, out: &'a str) -> Result<Command<'a>, WordsRefusal>
+    ensures { Asks (asked_by mirror_row (schedule.now ∷ core.now ∷ out.now ∷ [])) result }
 {
-    let [log, seed, line, proof] = words else {
-        return Err(WordsRefusal::Words);
-    };
-    Ok(Command::Locate(log, seed_at(2, seed)?, line, proof))
-}
-
-fn merge<'a>(words: &[&'a str]) -> Result<Command<'a>, WordsRefusal>
-    ensures { Asks (asked_by merge_row (map (λ word. word.now) words.now)) result }
-{
-    let [one, two, out] = words else {
-        return Err(WordsRefusal::Words);
-    };
-    Ok(Command::Merge(one, two, out))
-}
-
-fn whole<'a>(words: &[&'a str]) -> Result<Command<'a>, WordsRefusal>
-    ensures { Asks (asked_by whole_row (map (λ word. word.now) words.now)) result }
-{
-    let [mirror, journal] = words else {
-        return Err(WordsRefusal::Words);
-    };
-    Ok(Command::Whole(mirror, journal))
-}
-
-fn inspect<'a>(words: &[&'a str]) -> Result<Command<'a>, WordsRefusal>
-    ensures { Asks (asked_by inspect_row (map (λ word. word.now) words.now)) result }
-{
-    let [node] = words else {
-        return Err(WordsRefusal::Words);
-    };
-    Ok(Command::Inspect(node))
-}
-
-fn mirror<'a>(words: &[&'a str]) -> Result<Command<'a>, WordsRefusal>
-    ensures { Asks (asked_by mirror_row (map (λ word. word.now) words.now)) result }
-{
-    let [schedule, core, out] = words else {
-        return Err(WordsRefusal::Words);
-    };
     Ok(Command::Mirror(schedule, number_at(2, core)?, out))
 }
 
-fn node<'a>(words: &[&'a str]) -> Result<Command<'a>, WordsRefusal>
-    ensures { Asks (asked_by node_row (map (λ word. word.now) words.now)) result }
+fn node<'a>(schedule: &'a str, core: &str, out: &'a str) -> Result<Command<'a>, WordsRefusal>
+    ensures { Asks (asked_by node_row (schedule.now ∷ core.now ∷ out.now ∷ [])) result }
 {
-    let [schedule, core, out] = words else {
-        return Err(WordsRefusal::Words);
-    };
     Ok(Command::Node(schedule, number_at(2, core)?, out))
+}
+
+fn extend<'a>(
+    journal: &'a str,
+    signature: &'a str,
+    publication: &str,
+    out: &'a str,
+) -> Result<Command<'a>, WordsRefusal>
+    ensures { Asks (asked_by extend_row (journal.now ∷ signature.now ∷ publication.now ∷ out.now ∷ [])) result }
+{
+    Ok(Command::Extend(journal, signature, time_at(3, publication)?, out))
+}
+
+fn audit<'a>(
+    journal: &'a str,
+    signature: &'a str,
+    hash: &str,
+    publications: &'a str,
+) -> Result<Command<'a>, WordsRefusal>
+    ensures { Asks (asked_by audit_row (journal.now ∷ signature.now ∷ hash.now ∷ publications.now ∷ [])) result }
+{
+    Ok(Command::Audit(journal, signature, hash_at(3, hash)?, publications))
+}
+
+fn front<'a>(
+    journal: &'a str,
+    p1: &str,
+    p2: &str,
+    out: &'a str,
+) -> Result<Command<'a>, WordsRefusal>
+    ensures { Asks (asked_by front_row (journal.now ∷ p1.now ∷ p2.now ∷ out.now ∷ [])) result }
+{
+    Ok(Command::Front(journal, time_at(2, p1)?, time_at(3, p2)?, out))
+}
+
+fn line<'a>(
+    log: &'a str,
+    seed: &str,
+    number: &str,
+    out: &'a str,
+) -> Result<Command<'a>, WordsRefusal>
+    ensures { Asks (asked_by line_row (log.now ∷ seed.now ∷ number.now ∷ out.now ∷ [])) result }
+{
+    Ok(Command::Line(log, seed_at(2, seed)?, number_at(3, number)?, out))
+}
+
+fn locate<'a>(
+    log: &'a str,
+    seed: &str,
+    line: &'a str,
+    proof: &'a str,
+) -> Result<Command<'a>, WordsRefusal>
+    ensures { Asks (asked_by locate_row (log.now ∷ seed.now ∷ line.now ∷ proof.now ∷ [])) result }
+{
+    Ok(Command::Locate(log, seed_at(2, seed)?, line, proof))
 }
 
 // The seed that word n is.
