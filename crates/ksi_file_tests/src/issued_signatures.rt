@@ -2,7 +2,8 @@
 ghost use Rattle.std.specs.Prelude.{IfOk, ◌<◌, ◌^◌};
 ghost use Rattle.ksi_signature.specs.Above.{AreRoundLinks, IsNode, IsNameLink};
 
-use crate::text::{hash, is_text};
+use crate::imprints::hash;
+use crate::text::is_text;
 use ksi_aggchain::{Link, Sibling};
 use ksi_calchain::CalendarLink;
 use ksi_imprint::{Bytes, Imprint, NoMemory};

@@ -1,6 +1,7 @@
 // Names of aggregators and requests.
+use crate::imprints::hash;
+use crate::same::same;
 use crate::schedule_texts::{are_read, schedule_of};
-use crate::text::{hash, same};
 use ksi_schedule::{Actor, Event, Name, Parent, Plan};
 use std::process::Abort;
 use std::test::Fail;
