@@ -48,7 +48,7 @@ fn issues_without_links(rt: HostRuntime) -> Result<(), Fail> {
 }
 
 /// The metadata of the name `al`.
-const AL: [u8; 8] = [0x7e, 0x01, 0x01, 0x01, 0x03, 0x61, 0x6c, 0x00];
+static AL: [u8; 8] = [0x7e, 0x01, 0x01, 0x01, 0x03, 0x61, 0x6c, 0x00];
 
 fn link_of_al(alloc: Global) -> Result<Link, NoMemory>
     ensures { IfOk result IsNameLink }

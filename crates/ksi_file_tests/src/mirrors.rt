@@ -152,8 +152,8 @@ fn answers_the_first_fault(rt: HostRuntime) -> Result<(), Fail> {
 #[test]
 fn another_magic_is_none(rt: HostRuntime) -> Result<(), Fail> {
     static CASES: [&[u8]; 3] = [b"", b"KSIMIRR", b"KSIJRNL1"];
-    for bytes in CASES {
-        same(&rt, "magic", told(rt.alloc(), bytes), (1, 0));
+    for bytes in &CASES {
+        same(&rt, "magic", told(rt.alloc(), *bytes), (1, 0));
     }
     Ok(())
 }

@@ -110,7 +110,7 @@ fn names_are_read(rt: HostRuntime) -> Result<(), Fail> {
     Ok(())
 }
 
-const LONGEST: &[u8] = b"abcdefghijklmnopqrstuvwxyzABCDEFGHIJKLMNOPQRSTUVWXYZ0123456789._";
+static LONGEST: &[u8] = b"abcdefghijklmnopqrstuvwxyzABCDEFGHIJKLMNOPQRSTUVWXYZ0123456789._";
 
 fn has_a_parent_and_a_name(rt: &impl Abort, plan: &Plan) {
     same(rt, "aggregators", plan.aggregators(), 2);
