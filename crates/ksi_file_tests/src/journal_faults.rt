@@ -28,8 +28,9 @@ pub(crate) fn coded(fault: Option<JournalFault>) -> Coded {
 /// The fault of bytes, if they have one.
 fn fault_of(alloc: Global, bytes: &[u8]) -> Option<JournalFault> {
     match load::<Tiny>(alloc, bytes) {
+        Ok(_) => None,
         Err(Refused::Fault(fault)) => Some(fault),
-        _ => None,
+        Err(Refused::NoMemory) => None,
     }
 }
 

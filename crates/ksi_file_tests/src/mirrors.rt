@@ -30,8 +30,9 @@ pub(crate) const ONE: &str =
 /// The fault of bytes, if they have one.
 fn fault_of(alloc: Global, bytes: &[u8]) -> Option<JournalFault> {
     match load_mirror(alloc, bytes) {
+        Ok(_) => None,
         Err(Refused::Fault(fault)) => Some(fault),
-        _ => None,
+        Err(Refused::NoMemory) => None,
     }
 }
 
