@@ -46,18 +46,14 @@ fn told(alloc: Global, answer: &Audit) -> Result<String, Fail> {
     }
 }
 
-/// Whether two strings differ, and the length and the sum of each.
+/// The length and the sum of a string.
+fn measured(text: &[u8]) -> (usize, u8) {
+    (text.len(), Tiny::of(text).bytes()[1])
+}
+
+/// Whether two strings differ, and the measures of each.
 fn two_strings(alloc: Global, one: &[u8], two: &[u8]) -> Result<String, Fail> {
-    let sums = [Tiny::of(one).bytes()[1], Tiny::of(two).bytes()[1]];
-    shown(
-        alloc,
-        &(
-            "clash",
-            one != two,
-            (one.len(), sums[0]),
-            (two.len(), sums[1]),
-        ),
-    )
+    shown(alloc, &("clash", one != two, measured(one), measured(two)))
 }
 
 // An inner node, in files whose headers are all long; a named item from below its leaf, its leaf, and the item beside it;

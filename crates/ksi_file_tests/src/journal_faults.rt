@@ -1,7 +1,7 @@
 // Bytes that are no journal, and their first faults: the number of the code, the place or the second, and both roots of J4.
-use crate::text::{bytes, is_so, sides};
+use crate::text::{bytes, is_so, reason, sides};
 use ksi_imprint::{Imprint, Tiny};
-use ksi_journal::{JournalFault, Refused, load};
+use ksi_journal::{JournalFault, load};
 use std::alloc::Global;
 use std::process::Abort;
 use std::test::Fail;
@@ -25,15 +25,6 @@ pub(crate) fn coded(fault: Option<JournalFault>) -> Coded {
     }
 }
 
-/// The fault of bytes, if they have one.
-fn fault_of(alloc: Global, bytes: &[u8]) -> Option<JournalFault> {
-    match load::<Tiny>(alloc, bytes) {
-        Ok(_) => None,
-        Err(Refused::Fault(fault)) => Some(fault),
-        Err(Refused::NoMemory) => None,
-    }
-}
-
 /// A fault is printed as the right side of a row.
 fn is_coded(rt: &impl Abort, alloc: Global, row: &str, told: Coded) -> Result<(), Fail> {
     let (code, place, roots) = told;
@@ -46,7 +37,8 @@ fn is_coded(rt: &impl Abort, alloc: Global, row: &str, told: Coded) -> Result<()
 /// The words of a row have the fault that stands behind them.
 fn has_fault(rt: &impl Abort, alloc: Global, row: &str) -> Result<(), Fail> {
     let text = bytes(alloc, sides(row).0)?;
-    is_coded(rt, alloc, row, coded(fault_of(alloc, text.as_slice())))
+    let told = load::<Tiny>(alloc, text.as_slice()).err();
+    is_coded(rt, alloc, row, coded(reason(told)))
 }
 
 fn have_faults(rt: &impl Abort, alloc: Global, rows: &str) -> Result<(), Fail> {

@@ -1,10 +1,10 @@
 // Mirrors: their first faults, what is written of them, and the journals that they make.
 use crate::journal_faults::coded;
 use crate::same::same;
-use crate::text::{bytes, push_words};
+use crate::text::{bytes, push_words, reason};
 use ksi_imprint::{Bytes, Sha};
 use ksi_journal::{Journal, write};
-use ksi_mirror::{JournalFault, Mirror, Refused, load_mirror, whole, write_mirror};
+use ksi_mirror::{Mirror, load_mirror, whole, write_mirror};
 use std::alloc::Global;
 use std::test::Fail;
 
@@ -27,18 +27,9 @@ pub(crate) fn mirror_of(alloc: Global, words: &str) -> Result<Mirror, Fail> {
 pub(crate) const ONE: &str =
     "01046553f100 0229 01046553f100 0221 A 090b 01046553f100 0200 030101 0322 A 00 0600";
 
-/// The fault of bytes, if they have one.
-fn fault_of(alloc: Global, bytes: &[u8]) -> Option<JournalFault> {
-    match load_mirror(alloc, bytes) {
-        Ok(_) => None,
-        Err(Refused::Fault(fault)) => Some(fault),
-        Err(Refused::NoMemory) => None,
-    }
-}
-
-/// The number of its code, and the place or the second; zeros where they have none.
+/// The number of the code of the fault of bytes, and the place or the second; zeros where they have none.
 fn told(alloc: Global, bytes: &[u8]) -> (u8, u64) {
-    let (code, place, _) = coded(fault_of(alloc, bytes));
+    let (code, place, _) = coded(reason(load_mirror(alloc, bytes).err()));
     (code, place)
 }
 

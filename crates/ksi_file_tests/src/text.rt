@@ -85,6 +85,14 @@ pub(crate) fn is_so<T: Copy + Debug>(
     Ok(())
 }
 
+/// A call's own reason, where it has one.
+pub(crate) fn reason<T: Copy>(told: Option<Refused<T>>) -> Option<T> {
+    match told {
+        Some(Refused::Fault(fault)) => Some(fault),
+        _ => None,
+    }
+}
+
 /// The same of a call's own reason, where it has one.
 pub(crate) fn is_refused<T: Copy + Debug>(
     rt: &impl Abort,
