@@ -1,5 +1,6 @@
 // Signatures that are given another calendar chain and publication record.
-use crate::text::{bytes, hash, is_refused, is_told, sides};
+use crate::imprints::hash;
+use crate::text::{bytes, is_refused, is_told, sides};
 use ksi_imprint::{Bytes, NoMemory, Refused};
 use ksi_signature::laws::shown_is_of_bytes;
 use ksi_signature::{

@@ -2,7 +2,8 @@
 ghost use Rattle.std.specs.Prelude.{IfOk, ◌<◌, ◌^◌};
 ghost use Rattle.ksi_signature.specs.Above.{AreRoundLinks, IsNode, IsNameLink};
 
-use crate::text::{hash, is_text};
+use crate::imprints::hash;
+use crate::text::is_text;
 use ksi_aggchain::{Link, Sibling};
 use ksi_calchain::CalendarLink;
 use ksi_imprint::{Bytes, Imprint, NoMemory};
@@ -47,7 +48,7 @@ fn issues_without_links(rt: HostRuntime) -> Result<(), Fail> {
 }
 
 /// The metadata of the name `al`.
-const AL: [u8; 8] = [0x7e, 0x01, 0x01, 0x01, 0x03, 0x61, 0x6c, 0x00];
+static AL: [u8; 8] = [0x7e, 0x01, 0x01, 0x01, 0x03, 0x61, 0x6c, 0x00];
 
 fn link_of_al(alloc: Global) -> Result<Link, NoMemory>
     ensures { IfOk result IsNameLink }

@@ -1,15 +1,44 @@
-// Bytes that are no journal, and their first faults.
-use crate::text::{bytes, is_refused, sides};
-use ksi_imprint::Tiny;
-use ksi_journal::load;
+// Bytes that are no journal, and their first faults: the number of the code, the place or the second, and both roots of J4.
+use crate::text::{bytes, is_so, reason, sides};
+use ksi_imprint::{Imprint, Tiny};
+use ksi_journal::{JournalFault, load};
 use std::alloc::Global;
 use std::process::Abort;
 use std::test::Fail;
 
+/// The number of a fault's code; the place or the second, or zero; and both roots, where these differ.
+pub(crate) type Coded = (u8, u64, Option<(Imprint, Imprint)>);
+
+pub(crate) fn coded(fault: Option<JournalFault>) -> Coded {
+    match fault {
+        None => (0, 0, None),
+        Some(JournalFault::Magic) => (1, 0, None),
+        Some(JournalFault::Tlv(place)) => (2, place as u64, None),
+        Some(JournalFault::Order(place)) => (3, place as u64, None),
+        Some(JournalFault::TreeRoot(second, kept, computed)) => (4, second, Some((kept, computed))),
+        Some(JournalFault::Bound(place)) => (5, place as u64, None),
+        Some(JournalFault::Imprint(place)) => (6, place as u64, None),
+        Some(JournalFault::Count(second)) => (7, second, None),
+        Some(JournalFault::Ends(place)) => (8, place as u64, None),
+        Some(JournalFault::Name(place)) => (9, place as u64, None),
+        Some(JournalFault::Voters(place)) => (10, place as u64, None),
+    }
+}
+
+/// A fault is printed as the right side of a row.
+fn is_coded(rt: &impl Abort, alloc: Global, row: &str, told: Coded) -> Result<(), Fail> {
+    let (code, place, roots) = told;
+    match roots {
+        Some(roots) => is_so(rt, alloc, row, (code, place, roots)),
+        None => is_so(rt, alloc, row, (code, place)),
+    }
+}
+
 /// The words of a row have the fault that stands behind them.
 fn has_fault(rt: &impl Abort, alloc: Global, row: &str) -> Result<(), Fail> {
     let text = bytes(alloc, sides(row).0)?;
-    is_refused(rt, alloc, row, load::<Tiny>(alloc, text.as_slice()).err())
+    let told = load::<Tiny>(alloc, text.as_slice()).err();
+    is_coded(rt, alloc, row, coded(reason(told)))
 }
 
 fn have_faults(rt: &impl Abort, alloc: Global, rows: &str) -> Result<(), Fail> {
@@ -20,76 +49,76 @@ fn have_faults(rt: &impl Abort, alloc: Global, rows: &str) -> Result<(), Fail> {
 }
 
 /// Worked out by hand. A second's element stands at 11 and ends at 54.
-const OF_ONE: &str = "4b53494a524e4c = Magic
-4b53494a524e4c33 = Magic
-J1 = Ends(8)
-J1 01 = Tlv(8)
-J1 0200 = Order(8)
-J1 0109000000000000000001 = Bound(8)
-J1 01088000000000000000 = Bound(8)
-J1 010105 = Ends(11)
-J1 010105 010106 = Order(11)
-J1 010105 0300 = Order(11)
-J1 010105 0700 = Order(11)
-J1 010105 0806010105020101 = Order(11)
-J1 010105 0229010105 0221 one 030101 0723 one 00 61 = Order(54)
-J1 010105 060100 = Ends(11)
-J1 010105 060000 = Ends(13)
-J1 010105 0203010104 = Order(13)
-J1 010105 0203010105 = Ends(16)
-J1 010105 02020105 = Tlv(13)
-J1 010105 02020200 = Order(13)
-J1 010105 0206010105020101 = Imprint(16)
-J1 010105 0400 = Ends(13)
-J1 010105 040401000200 04020100 = Order(19)
-J1 010105 0406010002000200 = Order(17)
-J1 010105 050401000200 = Imprint(15)
-J1 010105 0229010105 0221 zero 030101 0322 one 00 = Count(5)
-J1 010105 0229010105 0221 one 030100 0322 one 00 = Count(5)
-J1 010105 0229010105 0221 one 030101 0322 one f0 = Bound(54)
-J1 010105 0229010105 0221 one 030101 0321 one = Imprint(54)
-J1 010105 0229010105 0221 one 030102 0322 one 00 = Ends(90)
-J1 010105 0229010105 0221 two 030101 0322 one 00 = TreeRoot(5, Imprint { bytes: [1, 2, 0, 0, 0, 0, 0, 0, 0, 0, 0, 0, 0, 0, 0, 0, 0, 0, 0, 0, 0, 0, 0, 0, 0, 0, 0, 0, 0, 0, 0, 0, 0] }, Imprint { bytes: [1, 1, 0, 0, 0, 0, 0, 0, 0, 0, 0, 0, 0, 0, 0, 0, 0, 0, 0, 0, 0, 0, 0, 0, 0, 0, 0, 0, 0, 0, 0, 0, 0] })";
+const OF_ONE: &str = "4b53494a524e4c = (1, 0)
+4b53494a524e4c33 = (1, 0)
+J1 = (8, 8)
+J1 01 = (2, 8)
+J1 0200 = (3, 8)
+J1 0109000000000000000001 = (5, 8)
+J1 01088000000000000000 = (5, 8)
+J1 010105 = (8, 11)
+J1 010105 010106 = (3, 11)
+J1 010105 0300 = (3, 11)
+J1 010105 0700 = (3, 11)
+J1 010105 0806010105020101 = (3, 11)
+J1 010105 0229010105 0221 one 030101 0723 one 00 61 = (3, 54)
+J1 010105 060100 = (8, 11)
+J1 010105 060000 = (8, 13)
+J1 010105 0203010104 = (3, 13)
+J1 010105 0203010105 = (8, 16)
+J1 010105 02020105 = (2, 13)
+J1 010105 02020200 = (3, 13)
+J1 010105 0206010105020101 = (6, 16)
+J1 010105 0400 = (8, 13)
+J1 010105 040401000200 04020100 = (3, 19)
+J1 010105 0406010002000200 = (3, 17)
+J1 010105 050401000200 = (6, 15)
+J1 010105 0229010105 0221 zero 030101 0322 one 00 = (7, 5)
+J1 010105 0229010105 0221 one 030100 0322 one 00 = (7, 5)
+J1 010105 0229010105 0221 one 030101 0322 one f0 = (5, 54)
+J1 010105 0229010105 0221 one 030101 0321 one = (6, 54)
+J1 010105 0229010105 0221 one 030102 0322 one 00 = (8, 90)
+J1 010105 0229010105 0221 two 030101 0322 one 00 = (4, 5, (Imprint { bytes: [1, 2, 0, 0, 0, 0, 0, 0, 0, 0, 0, 0, 0, 0, 0, 0, 0, 0, 0, 0, 0, 0, 0, 0, 0, 0, 0, 0, 0, 0, 0, 0, 0] }, Imprint { bytes: [1, 1, 0, 0, 0, 0, 0, 0, 0, 0, 0, 0, 0, 0, 0, 0, 0, 0, 0, 0, 0, 0, 0, 0, 0, 0, 0, 0, 0, 0, 0, 0, 0] }))";
 
 /// A start at 5, and the second 5 with a count above all counts.
 const COUNTS: &str =
-    "J1 010105 0230 010105 0221 011111111111111111111111111111111111111111111111111111111111111111 0308ffffffffffffffff = Count(5)
-J1 010105 0230 010105 0221 zero 0308ffffffffffffffff = Count(5)
-J1 010105 022b 010105 0221 011111111111111111111111111111111111111111111111111111111111111111 0303010001 = Count(5)";
+    "J1 010105 0230 010105 0221 011111111111111111111111111111111111111111111111111111111111111111 0308ffffffffffffffff = (7, 5)
+J1 010105 0230 010105 0221 zero 0308ffffffffffffffff = (7, 5)
+J1 010105 022b 010105 0221 011111111111111111111111111111111111111111111111111111111111111111 0303010001 = (7, 5)";
 
 /// Worked out by hand. Voters stand at 11. A second's element stands there too, and its item at 54.
-const OF_TWO: &str = "J2 = Ends(8)
-J2 0806010105020101 = Order(8)
-J2 010105 0700 = Order(11)
-J2 010105 0805010105 = Tlv(11)
-J2 010105 0800 = Ends(13)
-J2 010105 0803020101 = Order(13)
-J2 010105 0803010105 = Ends(16)
-J2 010105 0806010104020101 = Order(13)
-J2 010105 0806010105020101 0806010105020101 = Order(21)
-J2 010105 0228010105 0221 zero 0300 0806010105020101 = Order(53)
-J2 010105 080e0109000000000000000005020100 = Bound(13)
-J2 010105 080d01088000000000000000020100 = Bound(13)
-J2 010105 080e0101050209000000000000000000 = Bound(16)
-J2 010105 0806010104020100 = Order(13)
-J2 010105 0805010105 0200 = Voters(16)
-J2 010105 0806010105020100 = Voters(16)
-J2 010105 080701010502020200 = Voters(16)
-J2 010105 0809010105020100030100 = Voters(16)
-J2 010105 0809010105020101030100 = Order(19)
-J2 010105 0229010105 0221 one 030101 0721 one = Imprint(54)
-J2 010105 0229010105 0221 one 030101 0723 02 0000000000000000000000000000000000000000000000000000000000000000 ef 2f = Imprint(54)
-J2 010105 0229010105 0221 one 030101 0723 one ef 61 = Bound(54)
-J2 010105 0229010105 0221 one 030101 0723 one ef 2f = Bound(54)
-J2 010105 0229010105 0221 one 030101 0722 one 00 = Name(54)
-J2 010105 0229010105 0221 one 030101 0723 one ee 2f = Name(54)
-J2 010105 0229010105 0221 one 030101 0724 one 00 6120 = Name(54)
-J2 010105 0229010105 0221 one 030101 0763 one 00 61 61616161616161616161616161616161616161616161616161616161616161616161616161616161616161616161616161616161616161616161616161616161 = Name(54)
-J2 010105 0229010105 0221 one 030101 0322 one f0 = Bound(54)
-J2 010105 0229010105 0221 one 030101 0323 one 00 61 = Imprint(54)
-J2 010105 0229010105 0221 one 030101 0806010105020101 = Order(54)
-J2 010105 0229010105 0221 one 030102 0723 one 00 61 = Ends(91)
-J2 010105 0229010105 0221 one 030101 0723 one ee 61 = TreeRoot(5, Imprint { bytes: [1, 1, 0, 0, 0, 0, 0, 0, 0, 0, 0, 0, 0, 0, 0, 0, 0, 0, 0, 0, 0, 0, 0, 0, 0, 0, 0, 0, 0, 0, 0, 0, 0] }, Imprint { bytes: [1, 215, 0, 0, 0, 0, 0, 0, 0, 0, 0, 0, 0, 0, 0, 0, 0, 0, 0, 0, 0, 0, 0, 0, 0, 0, 0, 0, 0, 0, 0, 0, 0] })";
+const OF_TWO: &str = "J2 = (8, 8)
+J2 0806010105020101 = (3, 8)
+J2 010105 0700 = (3, 11)
+J2 010105 0805010105 = (2, 11)
+J2 010105 0800 = (8, 13)
+J2 010105 0803020101 = (3, 13)
+J2 010105 0803010105 = (8, 16)
+J2 010105 0806010104020101 = (3, 13)
+J2 010105 0806010105020101 0806010105020101 = (3, 21)
+J2 010105 0228010105 0221 zero 0300 0806010105020101 = (3, 53)
+J2 010105 080e0109000000000000000005020100 = (5, 13)
+J2 010105 080d01088000000000000000020100 = (5, 13)
+J2 010105 080e0101050209000000000000000000 = (5, 16)
+J2 010105 0806010104020100 = (3, 13)
+J2 010105 0805010105 0200 = (10, 16)
+J2 010105 0806010105020100 = (10, 16)
+J2 010105 080701010502020200 = (10, 16)
+J2 010105 0809010105020100030100 = (10, 16)
+J2 010105 0809010105020101030100 = (3, 19)
+J2 010105 0229010105 0221 one 030101 0721 one = (6, 54)
+J2 010105 0229010105 0221 one 030101 0723 02 0000000000000000000000000000000000000000000000000000000000000000 ef 2f = (6, 54)
+J2 010105 0229010105 0221 one 030101 0723 one ef 61 = (5, 54)
+J2 010105 0229010105 0221 one 030101 0723 one ef 2f = (5, 54)
+J2 010105 0229010105 0221 one 030101 0722 one 00 = (9, 54)
+J2 010105 0229010105 0221 one 030101 0723 one ee 2f = (9, 54)
+J2 010105 0229010105 0221 one 030101 0724 one 00 6120 = (9, 54)
+J2 010105 0229010105 0221 one 030101 0763 one 00 61 61616161616161616161616161616161616161616161616161616161616161616161616161616161616161616161616161616161616161616161616161616161 = (9, 54)
+J2 010105 0229010105 0221 one 030101 0322 one f0 = (5, 54)
+J2 010105 0229010105 0221 one 030101 0323 one 00 61 = (6, 54)
+J2 010105 0229010105 0221 one 030101 0806010105020101 = (3, 54)
+J2 010105 0229010105 0221 one 030102 0723 one 00 61 = (8, 91)
+J2 010105 0229010105 0221 one 030101 0723 one ee 61 = (4, 5, (Imprint { bytes: [1, 1, 0, 0, 0, 0, 0, 0, 0, 0, 0, 0, 0, 0, 0, 0, 0, 0, 0, 0, 0, 0, 0, 0, 0, 0, 0, 0, 0, 0, 0, 0, 0] }, Imprint { bytes: [1, 215, 0, 0, 0, 0, 0, 0, 0, 0, 0, 0, 0, 0, 0, 0, 0, 0, 0, 0, 0, 0, 0, 0, 0, 0, 0, 0, 0, 0, 0, 0, 0] }))";
 
 // A count is tested before room is made for so many.
 static ROWS: [&str; 3] = [OF_ONE, COUNTS, OF_TWO];

@@ -1,5 +1,7 @@
 // Journals that are loaded, asked and written again.
-use crate::text::{bytes, is_text, is_told, same, sides};
+use crate::imprints::named;
+use crate::same::same;
+use crate::text::{bytes, is_text, is_told, sides};
 use ksi_aggchain::Node;
 use ksi_imprint::{Bytes, Compress, Imprint, NoMemory, Tiny};
 use ksi_journal::{Journal, Parts, Refused, Version, VersionRefusal, load, write, write_version};
@@ -9,15 +11,10 @@ use std::alloc::Global;
 use std::process::Abort;
 use std::test::Fail;
 
-/// The imprint whose digest has this first byte, and zero bytes behind it.
-fn named(first: u8) -> Imprint {
-    Tiny::of(&[first])
-}
-
 /// The journal of these words.
-fn journal_of(alloc: Global, words: &str) -> Result<Journal<Tiny>, Fail> {
+pub(crate) fn journal_of<C: Compress>(alloc: Global, words: &str) -> Result<Journal<C>, Fail> {
     let text = bytes(alloc, words)?;
-    match load::<Tiny>(alloc, text.as_slice()) {
+    match load::<C>(alloc, text.as_slice()) {
         Ok(journal) => Ok(journal),
         Err(_) => Err(Fail::from("it does not load")),
     }
@@ -40,7 +37,7 @@ fn written(
 fn is_written(rt: &impl Abort, alloc: Global, row: &str) -> Result<(), Fail> {
     let (words, _) = sides(row);
     let (version, words) = words.split_once(" ").unwrap_or(("", words));
-    let journal = journal_of(alloc, words)?;
+    let journal = journal_of::<Tiny>(alloc, words)?;
     is_told(rt, alloc, row, written(alloc, &journal, version))
 }
 
@@ -98,7 +95,7 @@ fn keeps_no_second(rt: &impl Abort, journal: &Journal<Tiny>) {
 
 #[test]
 fn the_empty_journal_keeps_no_second(rt: HostRuntime) -> Result<(), Fail> {
-    let journal = journal_of(rt.alloc(), EMPTY)?;
+    let journal = journal_of::<Tiny>(rt.alloc(), EMPTY)?;
     keeps_no_second(&rt, &journal);
     Ok(())
 }
@@ -175,7 +172,7 @@ const WHOLE: &str =
 
 #[test]
 fn a_journal_answers_what_was_loaded(rt: HostRuntime) -> Result<(), Fail> {
-    let journal = journal_of(rt.alloc(), WHOLE)?;
+    let journal = journal_of::<Tiny>(rt.alloc(), WHOLE)?;
     keeps_whole(&rt, &journal);
     Ok(())
 }

@@ -1,11 +1,25 @@
-//! Tests of the readers and writers of files: `ksi_signature`, `ksi_schedule` and `ksi_journal`.
+//! Tests of files, and of what is computed over them: the readers and writers of `ksi_signature`, `ksi_schedule` and
+//! `ksi_journal`; the fronts of `ksi_consistency`, the mirrors of `ksi_mirror` and the blocks of log lines of `ksi_logblock`; and
+//! `ksi_verifier`, `ksi_check`, `ksi_texts`, `ksi_extender` and `ksi_auditor`.
 //!
 //! They stand in a crate of their own, since a crate with tests is proved twice. Nothing is here for the layers above.
 //! Most are rows of text: words that stand for bytes, and behind an equals sign what comes of them.
 #![tactic(auto)]
 
 #[cfg(test)]
+mod auditing;
+#[cfg(test)]
+mod blocks;
+#[cfg(test)]
 mod extended_signatures;
+#[cfg(test)]
+mod extending;
+#[cfg(test)]
+mod front_files;
+#[cfg(test)]
+mod fronts;
+#[cfg(test)]
+mod imprints;
 #[cfg(test)]
 mod issued_signatures;
 #[cfg(test)]
@@ -13,14 +27,36 @@ mod journal_faults;
 #[cfg(test)]
 mod journals;
 #[cfg(test)]
+mod locations;
+#[cfg(test)]
+mod logs;
+#[cfg(test)]
+mod merging;
+#[cfg(test)]
+mod mirrors;
+#[cfg(test)]
 mod named_schedules;
 #[cfg(test)]
+mod over_files;
+#[cfg(test)]
+mod proof_files;
+#[cfg(test)]
+mod publications;
+#[cfg(test)]
 mod read_signatures;
+#[cfg(test)]
+mod rows;
+#[cfg(test)]
+mod same;
 #[cfg(test)]
 mod schedule_texts;
 #[cfg(test)]
 mod schedules;
 #[cfg(test)]
+mod showing;
+#[cfg(test)]
 mod signatures;
 #[cfg(test)]
 mod text;
+#[cfg(test)]
+mod verifying;

@@ -1,6 +1,7 @@
 // Names of aggregators and requests.
+use crate::imprints::hash;
+use crate::same::same;
 use crate::schedule_texts::{are_read, schedule_of};
-use crate::text::{hash, same};
 use ksi_schedule::{Actor, Event, Name, Parent, Plan};
 use std::process::Abort;
 use std::test::Fail;
@@ -109,7 +110,7 @@ fn names_are_read(rt: HostRuntime) -> Result<(), Fail> {
     Ok(())
 }
 
-const LONGEST: &[u8] = b"abcdefghijklmnopqrstuvwxyzABCDEFGHIJKLMNOPQRSTUVWXYZ0123456789._";
+static LONGEST: &[u8] = b"abcdefghijklmnopqrstuvwxyzABCDEFGHIJKLMNOPQRSTUVWXYZ0123456789._";
 
 fn has_a_parent_and_a_name(rt: &impl Abort, plan: &Plan) {
     same(rt, "aggregators", plan.aggregators(), 2);

@@ -1,6 +1,8 @@
 // What is read of a signature, and what a view of its bytes shows, as text.
+use crate::imprints::hash;
+use crate::same::same_text;
 use crate::signatures::TWO_CHAINS;
-use crate::text::{bytes, hash, is_refused, push, same};
+use crate::text::{bytes, is_refused, push};
 use ksi_aggchain::{LinkView, Sibling};
 use ksi_signature::{
     AggregationChain, CalendarView, ChainView, Signature, SignatureView, read, view,
@@ -69,7 +71,7 @@ fn says(rt: &impl Abort, alloc: Global, signature: &Signature, want: &str) -> Re
     }
     let others = (calendar(signature), publication(signature));
     push(alloc, &mut said, others)?;
-    same(rt, "said", said.as_str(), want);
+    same_text(rt, "said", said.as_str(), want);
     Ok(())
 }
 
@@ -156,7 +158,7 @@ fn shows(rt: &impl Abort, alloc: Global, view: &SignatureView<'_>, want: &str) -
         show_chain(alloc, &mut shown, chain)?;
     }
     show_others(alloc, &mut shown, view)?;
-    same(rt, "shown", shown.as_str(), want);
+    same_text(rt, "shown", shown.as_str(), want);
     Ok(())
 }
 

@@ -1,5 +1,6 @@
 // Schedules as rows of text, and what comes of them.
-use crate::text::{is_refused, same, sides};
+use crate::same::same;
+use crate::text::{is_refused, sides};
 use ksi_schedule::{NoMemory, Schedule, print, read_schedule};
 use std::alloc::Global;
 use std::process::Abort;

@@ -1,6 +1,7 @@
 // Lines of schedules, what is printed of them, and their first faults.
+use crate::same::{same, same_text};
 use crate::schedule_texts::{are_read, schedule_of, spelled_behind};
-use crate::text::{is_refused, push, same, sides};
+use crate::text::{is_refused, push, sides};
 use ksi_schedule::{
     Actor, Event, Events, Parent, Parents, Plan, Refused, Schedule, ScheduleFault, read_schedule,
 };
@@ -33,7 +34,7 @@ fn are_events(rt: &impl Abort, alloc: Global, events: &[Event], want: &str) -> R
     for event in events {
         push(alloc, &mut said, *event)?;
     }
-    same(rt, "events", said.as_str(), want);
+    same_text(rt, "events", said.as_str(), want);
     Ok(())
 }
 

@@ -1,5 +1,6 @@
 // Signatures: their first faults, and what is written of them.
-use crate::text::{bytes, is_refused, is_so, is_told, same, sides};
+use crate::same::same;
+use crate::text::{bytes, is_refused, is_so, is_told, sides};
 use ksi_imprint::{Bytes, Imprint, NoMemory, Refused};
 use ksi_signature::{
     AggregationChain, Chains, Index, Links, Signature, WriteRefusal, check, read, view, write,

@@ -1,13 +1,12 @@
+// Mirrors, merged or refused.
 use crate::mirrors::{ONE, mirror_of, written};
 use crate::same::same;
-use ksi_imprint::{Bytes, Compress, Imprint, Sha};
+use crate::text::{is_so, sides};
+use ksi_imprint::Bytes;
 use ksi_mirror::{MergeRefusal, Mirror, Refused, merge, write_mirror};
 use std::alloc::Global;
+use std::process::Abort;
 use std::test::Fail;
-
-/// The same with another item, and so another root.
-const OTHER: &str =
-    "01046553f100 0229 01046553f100 0221 B 090b 01046553f100 0200 030101 0322 B 00 0600";
 
 fn merged(alloc: Global, one: &Mirror, two: &Mirror) -> Result<Mirror, Fail> {
     match merge(alloc, one, two) {
@@ -100,28 +99,24 @@ fn refusal_of(alloc: Global, one: &str, two: &str) -> Result<Option<MergeRefusal
     }
 }
 
+/// Two mirrors, with a semicolon between, and their refusal.
+const DIFFER: &str =
+    "01046553f100 0229 01046553f100 0221 A 090b 01046553f100 0200 030101 0322 A 00 0600;01046553f100 0229 01046553f100 0221 B 090b 01046553f100 0200 030101 0322 B 00 0600 = Some(Conflict(1700000000, Imprint { bytes: [1, 227, 176, 196, 66, 152, 252, 28, 20, 154, 251, 244, 200, 153, 111, 185, 36, 39, 174, 65, 228, 100, 155, 147, 76, 164, 149, 153, 27, 120, 82, 184, 85] }, Imprint { bytes: [1, 186, 120, 22, 191, 143, 1, 207, 234, 65, 65, 64, 222, 93, 174, 34, 35, 176, 3, 97, 163, 150, 23, 122, 156, 180, 16, 255, 97, 242, 0, 21, 173] }))
+010106 0600;010105 0226 010107 0221 A 0908 010106 0200 030102 0322 A 00 0322 A 00 0909 010106 020101 030101 0322 A 00 0600 = Some(Starts(6, 5))
+010105 0226 010107 0221 A 0908 010106 0200 030102 0322 A 00 0322 A 00 0909 010106 020101 030101 0322 A 00 0600;010105 0226 010107 0221 zero 0600 = Some(Conflict(7, Imprint { bytes: [1, 227, 176, 196, 66, 152, 252, 28, 20, 154, 251, 244, 200, 153, 111, 185, 36, 39, 174, 65, 228, 100, 155, 147, 76, 164, 149, 153, 27, 120, 82, 184, 85] }, Imprint { bytes: [1, 0, 0, 0, 0, 0, 0, 0, 0, 0, 0, 0, 0, 0, 0, 0, 0, 0, 0, 0, 0, 0, 0, 0, 0, 0, 0, 0, 0, 0, 0, 0, 0] }))
+010105 0226 010107 0221 A 0908 010106 0200 030102 0322 A 00 0322 A 00 0909 010106 020101 030101 0322 A 00 0600;010105 0226 010107 0221 zero 0908 010106 0200 030102 0322 A 00 0322 A 01 0600 = Some(Trees(6, 0, 1))
+010105 0908 010106 0200 030101 0322 A 00 0600;010105 0226 010107 0221 A 0908 010106 0200 030102 0322 A 00 0322 A 00 0909 010106 020101 030101 0322 A 00 0600 = Some(Trees(6, 0, 1))
+010105 0226 010107 0221 A 0908 010106 0200 030102 0322 A 00 0322 A 00 0909 010106 020101 030101 0322 A 00 0600;010105 0909 010106 020101 030101 0322 B 00 0600 = Some(Trees(6, 1, 0))";
+
+fn differ(rt: &impl Abort, alloc: Global, row: &str) -> Result<(), Fail> {
+    let (one, two) = sides(row).0.split_once(';').unwrap_or((row, ""));
+    is_so(rt, alloc, row, refusal_of(alloc, one, two)?)
+}
+
 #[test]
 fn two_mirrors_that_differ(rt: HostRuntime) -> Result<(), Fail> {
-    const START: &str = "010106 0600";
-    const FIRST: &str =
-        "010105 0226 010107 0221 A 0908 010106 0200 030102 0322 A 00 0322 A 00 0909 010106 020101 030101 0322 A 00 0600";
-    const LATER: &str = "010105 0226 010107 0221 zero 0600";
-    const LISTS: &str =
-        "010105 0226 010107 0221 zero 0908 010106 0200 030102 0322 A 00 0322 A 01 0600";
-    const SHORT: &str = "010105 0908 010106 0200 030101 0322 A 00 0600";
-    const CORE: &str = "010105 0909 010106 020101 030101 0322 B 00 0600";
-    let (a, b) = (Sha::of(b""), Sha::of(b"abc"));
-    let cases = [
-        (ONE, OTHER, MergeRefusal::Conflict(1_700_000_000, a, b)),
-        (START, FIRST, MergeRefusal::Starts(6, 5)),
-        (FIRST, LATER, MergeRefusal::Conflict(7, a, Imprint::ZERO)),
-        (FIRST, LISTS, MergeRefusal::Trees(6, 0, 1)),
-        (SHORT, FIRST, MergeRefusal::Trees(6, 0, 1)),
-        (FIRST, CORE, MergeRefusal::Trees(6, 1, 0)),
-    ];
-    for (one, two, refusal) in cases {
-        let told = refusal_of(rt.alloc(), one, two)?;
-        same(&rt, two, told, Some(refusal));
+    for row in DIFFER.lines() {
+        differ(&rt, rt.alloc(), row)?;
     }
     Ok(())
 }

@@ -1,5 +1,6 @@
 // Rows of text: what is done over files, and behind an equals sign what comes of it.
-use crate::same::same;
+use crate::same::same_text;
+use crate::text::sides;
 use crate::{auditing, extending, over_files, showing, verifying};
 use ksi_imprint::{Sha, Tiny};
 use std::alloc::Global;
@@ -9,8 +10,8 @@ use std::test::Fail;
 /// What is done in each row comes to what stands behind its equals sign.
 pub(crate) fn are_so(rt: &impl Abort, alloc: Global, rows: &str) -> Result<(), Fail> {
     for row in rows.lines() {
-        let (done, want) = row.split_once(" = ").unwrap_or((row, ""));
-        same(rt, row, told(alloc, done)?.as_str(), want);
+        let (done, want) = sides(row);
+        same_text(rt, row, told(alloc, done)?.as_str(), want);
     }
     Ok(())
 }

@@ -105,14 +105,20 @@ pub(crate) fn text_of(alloc: Global, name: &str) -> Option<Bytes> {
     }
 }
 
+static TEXTS: [(&str, &str); 6] = [
+    ("missed", MISSED),
+    ("open", OPEN),
+    ("signed", SIGNED),
+    ("decided", DECIDED),
+    ("one_votes", ONE_VOTES),
+    ("named", NAMED),
+];
+
 fn by_hand(name: &str) -> &'static str {
-    match name {
-        "missed" => MISSED,
-        "open" => OPEN,
-        "signed" => SIGNED,
-        "decided" => DECIDED,
-        "one_votes" => ONE_VOTES,
-        "named" => NAMED,
-        _ => IDLE,
+    for (known, text) in &TEXTS {
+        if *known == name {
+            return *text;
+        }
     }
+    IDLE
 }

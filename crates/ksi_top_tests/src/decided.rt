@@ -1,6 +1,6 @@
 // Behind the front of a generated schedule a core tries ballots on a second, of which two cores answer the last. All three
 // cores hold one root for it then, whatever was lost, repeated or late before.
-use crate::mirrors::front;
+use crate::moments::front;
 use crate::rows::are_so;
 use ksi_generate::generate;
 use ksi_imprint::{Bytes, Imprint, Sha};

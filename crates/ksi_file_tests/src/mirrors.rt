@@ -1,50 +1,12 @@
+// Mirrors: their first faults, what is written of them, and the journals that they make.
+use crate::journal_faults::coded;
 use crate::same::same;
+use crate::text::{bytes, push_words, reason};
 use ksi_imprint::{Bytes, Sha};
 use ksi_journal::{Journal, write};
-use ksi_mirror::{JournalFault, Mirror, Refused, load_mirror, whole, write_mirror};
+use ksi_mirror::{Mirror, load_mirror, whole, write_mirror};
 use std::alloc::Global;
 use std::test::Fail;
-
-/// The names of imprints, in hex: of no bytes, of `abc`, and the zero imprint.
-static NAMES: [(&str, &str); 3] = [
-    (
-        "A",
-        "01e3b0c44298fc1c149afbf4c8996fb92427ae41e4649b934ca495991b7852b855",
-    ),
-    (
-        "B",
-        "01ba7816bf8f01cfea414140de5dae2223b00361a396177a9cb410ff61f20015ad",
-    ),
-    (
-        "zero",
-        "010000000000000000000000000000000000000000000000000000000000000000",
-    ),
-];
-
-/// What a word stands for in hex: the imprint of this name, or itself.
-fn meant(word: &str) -> &str {
-    for (name, hex) in &NAMES {
-        if *name == word {
-            return *hex;
-        }
-    }
-    word
-}
-
-/// Puts what the words stand for behind the bytes.
-fn push_words(alloc: Global, bytes: &mut Vec<u8>, words: &str) -> Result<(), Fail> {
-    for word in words.split_whitespace() {
-        bytes.extend_from_slice(&hex::decode(alloc, meant(word))?)?;
-    }
-    Ok(())
-}
-
-/// The bytes that words stand for.
-fn bytes(alloc: Global, words: &str) -> Result<Vec<u8>, Fail> {
-    let mut bytes = Vec::new(alloc);
-    push_words(alloc, &mut bytes, words)?;
-    Ok(bytes)
-}
 
 /// The magic, and what these words stand for behind it.
 fn file(alloc: Global, words: &str) -> Result<Vec<u8>, Fail> {
@@ -65,29 +27,10 @@ pub(crate) fn mirror_of(alloc: Global, words: &str) -> Result<Mirror, Fail> {
 pub(crate) const ONE: &str =
     "01046553f100 0229 01046553f100 0221 A 090b 01046553f100 0200 030101 0322 A 00 0600";
 
-/// The fault of bytes, if they have one.
-fn fault_of(alloc: Global, bytes: &[u8]) -> Option<JournalFault> {
-    match load_mirror(alloc, bytes) {
-        Err(Refused::Fault(fault)) => Some(fault),
-        _ => None,
-    }
-}
-
-/// The number of a fault's code, and its place or second.
-fn coded(fault: Option<JournalFault>) -> (u8, u64) {
-    match fault {
-        None => (0, 0),
-        Some(JournalFault::Magic) => (1, 0),
-        Some(JournalFault::Tlv(place)) => (2, place as u64),
-        Some(JournalFault::Order(place)) => (3, place as u64),
-        Some(JournalFault::TreeRoot(second, _, _)) => (4, second),
-        Some(JournalFault::Bound(place)) => (5, place as u64),
-        Some(JournalFault::Imprint(place)) => (6, place as u64),
-        Some(JournalFault::Count(second)) => (7, second),
-        Some(JournalFault::Ends(place)) => (8, place as u64),
-        Some(JournalFault::Name(place)) => (9, place as u64),
-        Some(JournalFault::Voters(place)) => (10, place as u64),
-    }
+/// The number of the code of the fault of bytes, and the place or the second; zeros where they have none.
+fn told(alloc: Global, bytes: &[u8]) -> (u8, u64) {
+    let (code, place, _) = coded(reason(load_mirror(alloc, bytes).err()));
+    (code, place)
 }
 
 /// The bytes of the mirror of words that have no fault.
@@ -193,12 +136,7 @@ fn answers_the_first_fault(rt: HostRuntime) -> Result<(), Fail> {
     ];
     for (words, fault) in &CASES {
         let bytes = file(rt.alloc(), words)?;
-        same(
-            &rt,
-            *words,
-            coded(fault_of(rt.alloc(), bytes.as_slice())),
-            *fault,
-        );
+        same(&rt, *words, told(rt.alloc(), bytes.as_slice()), *fault);
     }
     Ok(())
 }
@@ -206,8 +144,8 @@ fn answers_the_first_fault(rt: HostRuntime) -> Result<(), Fail> {
 #[test]
 fn another_magic_is_none(rt: HostRuntime) -> Result<(), Fail> {
     static CASES: [&[u8]; 3] = [b"", b"KSIMIRR", b"KSIJRNL1"];
-    for bytes in CASES {
-        same(&rt, "magic", coded(fault_of(rt.alloc(), bytes)), (1, 0));
+    for bytes in &CASES {
+        same(&rt, "magic", told(rt.alloc(), *bytes), (1, 0));
     }
     Ok(())
 }

@@ -2,6 +2,7 @@
 use crate::replays::journal_bytes;
 use crate::rows::are_so;
 use crate::schedules::text_of;
+use crate::script::first;
 use ksi_imprint::{Bytes, Compress, Imprint, Sha};
 use ksi_journal::write;
 use ksi_mirror::{Mirror, merge, whole, write_mirror};
@@ -45,8 +46,8 @@ fn merged(alloc: Global, all: &Mirror, text: &[u8], moment: &str) -> Option<Mirr
 
 /// The mirrors of these moments, merged one after the other.
 fn gathered(alloc: Global, text: &[u8], moments: &str) -> Option<Mirror> {
-    let (first, others) = moments.split_once(' ').unwrap_or((moments, ""));
-    let mut all = mirror_at(alloc, text, first)?;
+    let (moment, others) = first(moments);
+    let mut all = mirror_at(alloc, text, moment)?;
     for moment in others.split_whitespace() {
         all = merged(alloc, &all, text, moment)?;
     }

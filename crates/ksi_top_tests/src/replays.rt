@@ -47,7 +47,7 @@ fn schedules_become_journals(rt: HostRuntime) -> Result<(), Fail> {
 }
 
 // The start of a journal of version 2, and behind it the voters of its first second: core 1.
-const VOTERS: &[u8] =
+static VOTERS: &[u8] =
     b"KSIJRNL2\x01\x04\x65\x53\xf1\x00\x08\x09\x01\x04\x65\x53\xf1\x00\x02\x01\x02";
 
 pub(crate) fn is_with_voters(alloc: Global, name: &str) -> Option<bool> {

@@ -12,3 +12,8 @@ pub(crate) fn same<A: Copy + Display + Drop, T: Copy + PartialEq>(
         rt.panic(at)
     }
 }
+
+// The same of texts, which it prints.
+pub(crate) fn same_text(rt: &impl Abort, at: &str, told: &str, want: &str) {
+    assert_eq!(rt; told, want, "at {at}");
+}
