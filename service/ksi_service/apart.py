@@ -1,4 +1,4 @@
-"""The logs of a run's nodes, each held against the node's own run by the proved `ksi_retrace_node`, in the memory of one node.
+"""The logs of a run's nodes, each held against the node's own run by the proved `ksi_retrace`, in the memory of one node.
 
 A law says that such logs are those of one history, where each line that came from a node was said before, by an earlier block, and
 where each request has a number of its own. `join` sees to these two. Its memory is bounded: what was said stands in a file."""
@@ -43,7 +43,7 @@ def steps_of(folder) -> Iterator[Step]:
 
 def hold(plan, folder, name):
     """Holds the log of one node. Returns how many entries it has; raises Differs with the program's last line."""
-    with subprocess.Popen([program("ksi_retrace_node"), plan, name], stdin=subprocess.PIPE, stdout=subprocess.PIPE, stderr=subprocess.DEVNULL) as run:
+    with subprocess.Popen([program("ksi_retrace"), "--node", name, plan], stdin=subprocess.PIPE, stdout=subprocess.PIPE, stderr=subprocess.DEVNULL) as run:
         try:
             for step in steps_of(folder):
                 if step.node == name:
@@ -54,7 +54,7 @@ def hold(plan, folder, name):
         said = run.stdout.read().decode().strip()
     words = said.split(" ")
     if run.returncode or words[:-1] != ["agrees"]:
-        raise Differs(f"ksi_retrace_node {name}: {said or run.returncode}")
+        raise Differs(f"ksi_retrace --node {name}: {said or run.returncode}")
     return int(words[1])
 
 

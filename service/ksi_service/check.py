@@ -63,7 +63,7 @@ def compare(folder, say, by_node):
     plan, record = os.path.join(folder, "plan"), os.path.join(folder, "record")
     if by_node:
         steps, unsaid, lines = apart.hold_all(plan, record)
-        say(f"ksi_retrace_node agrees: the blocks of {many(steps, 'step')} ({unsaid} of them never came) are the proved nodes'; {many(lines, 'line')} from nodes had been said before")
+        say(f"ksi_retrace --node agrees: the blocks of {many(steps, 'step')} ({unsaid} of them never came) are the proved nodes'; {many(lines, 'line')} from nodes had been said before")
         return steps, unsaid, 0
     steps, unsaid, signatures = retrace(plan, record)
     say(f"ksi_retrace agrees: the blocks of {many(steps, 'step')} ({unsaid} of them never came) and {many(signatures, 'signature')} are the proved world's")

@@ -335,9 +335,9 @@ send c0 submission 0 5 {ONES} 0
         self.write(*self.entries, again, ["said", "c0", ["answer known"]])
         self.assertEqual(apart.join(self.folder), (6, 1, 2))
 
-    def test_what_ksi_retrace_node_says_is_taken(self):
+    def test_what_ksi_retrace_says_of_a_node_is_taken(self):
         self.run_of_two()
-        plan, path = os.path.join(self.room.name, "plan"), os.path.join(self.room.name, "ksi_retrace_node")
+        plan, path = os.path.join(self.room.name, "plan"), os.path.join(self.room.name, "ksi_retrace")
         counted = 'n=$(grep -cE "^(unsaid |restart )?$2( |$)"); echo agrees $n'
         for text, counts in ((counted, (5, 1, 1)), (counted.replace("$n", "${n}1"), None), ("cat > /dev/null; echo agrees", None), ("cat > /dev/null; echo differs 2 9; exit 1", None), ("exit 7", None)):
             with open(path, "w", encoding="ascii") as file:

@@ -5,9 +5,9 @@ use Rattle.ksi_schedule.specs.Printed.{line_of}
 use Rattle.ksi_schedule.specs.Plans.{PlanState}
 use Rattle.ksi_retrace.specs.declared.fault.RecordFault.TheVariants as faults
 use Rattle.ksi_retrace.specs.declared.head.Head.{Head}
-use Rattle.ksi_blocks.specs.declared.lines.Came.TheVariants as comes
-use Rattle.ksi_blocks.specs.Blocks.{IsLine}
-use Rattle.ksi_blocks.specs.Steps.{IsLineOf}
+use Rattle.ksi_retrace.specs.declared.blocks.lines.Came.TheVariants as comes
+use Rattle.ksi_retrace.specs.Blocks.{IsLine}
+use Rattle.ksi_retrace.specs.Blocks.Steps.{IsLineOf}
 use Rattle.ksi_retrace.specs.Heads.{head_at}
 use Rattle.ksi_retrace.specs.Entries.{head_words}
 use Rattle.ksi_retrace.specs.Steps.{IsBlockBehind, IsWhole}

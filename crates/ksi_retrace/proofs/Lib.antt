@@ -2,10 +2,17 @@ pub mod EntryLemmas
 pub mod HeadLemmas
 pub mod LineLemmas
 pub mod MarkLemmas
+pub mod NodeEntryLemmas
+pub mod NodeLogLemmas
+pub mod NodeRunLemmas
+pub mod NodeStandingLemmas
+pub mod NodeStreamLemmas
+pub mod NodeVerdictLemmas
 pub mod RecordLemmas
 pub mod ReportLemmas
 pub mod SaidLemmas
 pub mod StandingLemmas
 pub mod SumLemmas
+pub mod TextLemmas
 pub mod VerdictLemmas
 pub mod WireLemmas

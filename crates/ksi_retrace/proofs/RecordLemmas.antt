@@ -12,7 +12,7 @@ use Rattle.ksi_retrace.specs.declared.head.Head.{Head}
 use Rattle.ksi_retrace.specs.declared.head.Head.TheVariants as heads
 use Rattle.ksi_retrace.specs.declared.sum.Sum.{Sum}
 use Rattle.ksi_retrace.specs.declared.verdict.Counts.{Counts}
-use Rattle.ksi_blocks.specs.declared.place.Place.{Place}
+use Rattle.ksi_retrace.specs.declared.blocks.place.Place.{Place}
 use Rattle.ksi_retrace.specs.declared.verdict.Retraced.{Retraced}
 use Rattle.ksi_retrace.specs.declared.verdict.Retraced.TheVariants as retraced
 use Rattle.ksi_retrace.specs.Entries.{Entry, entry_text, record_text}

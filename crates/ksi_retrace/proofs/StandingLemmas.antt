@@ -8,10 +8,10 @@ use Rattle.ksi_retrace.specs.declared.fault.RecordFault.TheVariants as faults
 use Rattle.ksi_retrace.specs.declared.head.Head.{Head}
 use Rattle.ksi_retrace.specs.declared.head.Head.TheVariants as heads
 use Rattle.ksi_retrace.specs.Heads.{Read, head_at}
-use Rattle.ksi_blocks.specs.Blocks.{IsLine, IsCutBlock}
+use Rattle.ksi_retrace.specs.Blocks.{IsLine, IsCutBlock}
 use Rattle.ksi_retrace.specs.Entries.{Entry, entry_text, head_words, HasBlock, WantsBlock}
 use Rattle.ksi_retrace.specs.Verdicts.{IsEntry, Standing, Nothing, Whole, Refused, StandsIn}
-use Rattle.ksi_blocks.proofs.TextLemmas.{no_feed, one_block, same_line, whole_is_not_cut}
+use Rattle.ksi_retrace.proofs.TextLemmas.{no_feed, one_block, same_line, whole_is_not_cut}
 
 abbrev ok : Head → Read Head
 ok head = Ok head

@@ -1,7 +1,7 @@
 -- Counts of one entry more.
 use Rattle.std.proofs.Common.{◌≡◌, ℕ, ◌+◌, Bool, List, [], ◌∷◌, ◌++◌, length, cond, sym, ap, ◌∙◌, arith, length-append}
 use Rattle.std.specs.Io.Iter.{u64_saturate}
-use Rattle.ksi_blocks.specs.Blocks.{lines_in}
+use Rattle.ksi_retrace.specs.Blocks.{lines_in}
 use Rattle.ksi_retrace.specs.Entries.{Entry}
 use Rattle.ksi_retrace.specs.Verdicts.{how_many, lines_of, is_unsaid, is_signature}
 use Rattle.ksi_retrace.specs.Sums.{sum_of, sum_with}

@@ -2,7 +2,7 @@
 use Rattle.std.specs.Prelude.{◌≡◌, ◌<◌, ◌^◌, ℕ, List, [], ◌∷◌, ◌++◌, codes}
 use Rattle.std.specs.Fmt.{decimal}
 use Rattle.ksi_schedule.specs.Pieces.{Text}
-use Rattle.ksi_blocks.specs.Blocks.{IsBlock}
+use Rattle.ksi_retrace.specs.Blocks.{IsBlock}
 use Rattle.ksi_schedule.specs.Printed.{actor_word, line_of}
 use Rattle.ksi_schedule.specs.Plans.{PlanState}
 use Rattle.ksi_schedule.specs.Events.{IsEvent}

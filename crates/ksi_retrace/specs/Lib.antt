@@ -1,6 +1,8 @@
+pub mod Blocks
 pub mod Entries
 pub mod Heads
 pub mod Marks
+pub mod Node
 pub mod Reports
 pub mod Steps
 pub mod Sums

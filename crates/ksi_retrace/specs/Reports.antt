@@ -7,7 +7,7 @@ use Rattle.ksi_wire.specs.Refused.{fault_word}
 use Rattle.ksi_retrace.specs.declared.fault.RecordFault.{RecordFault}
 use Rattle.ksi_retrace.specs.declared.fault.RecordFault.TheVariants as faults
 use Rattle.ksi_retrace.specs.declared.verdict.Counts.{Counts}
-use Rattle.ksi_blocks.specs.Blocks.{place_words}
+use Rattle.ksi_retrace.specs.Blocks.{place_words}
 use Rattle.ksi_retrace.specs.declared.verdict.Retraced.{Retraced}
 use Rattle.ksi_retrace.specs.declared.verdict.Retraced.TheVariants as retraced
 

@@ -13,10 +13,10 @@ use Rattle.ksi_retrace.specs.declared.entry.Next.{Next}
 use Rattle.ksi_retrace.specs.declared.entry.Next.TheVariants as nexts
 use Rattle.ksi_retrace.specs.declared.tracer.Told.{Told}
 use Rattle.ksi_retrace.specs.declared.tracer.Told.TheVariants as tolds
-use Rattle.ksi_blocks.specs.declared.place.Place.{Place}
+use Rattle.ksi_retrace.specs.declared.blocks.place.Place.{Place}
 use Rattle.ksi_retrace.specs.declared.verdict.Retraced.{Retraced}
 use Rattle.ksi_retrace.specs.declared.verdict.Retraced.TheVariants as retraced
-use Rattle.ksi_blocks.specs.Blocks.{IsCutBlock}
+use Rattle.ksi_retrace.specs.Blocks.{IsCutBlock}
 use Rattle.ksi_retrace.specs.Entries.{IsHead, HasBlock, WantsBlock}
 use Rattle.ksi_retrace.specs.Told.{unsaid_block, IsTold, IsMissing, MayCome}
 use Rattle.ksi_retrace.specs.Verdicts.{shown_block, is_unsaid, StandsIn, Whole}

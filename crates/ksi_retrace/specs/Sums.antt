@@ -5,7 +5,7 @@ use Rattle.ksi_retrace.specs.declared.verdict.Counts.{Counts}
 use Rattle.ksi_retrace.specs.declared.sum.Sum.{Sum}
 use Rattle.ksi_retrace.specs.Entries.{Entry}
 use Rattle.ksi_retrace.specs.Verdicts.{place_behind, how_many, is_unsaid, is_signature}
-use Rattle.ksi_blocks.specs.Blocks.{lines_in}
+use Rattle.ksi_retrace.specs.Blocks.{lines_in}
 
 -- of these entries
 abbrev pub sum_of : List Entry → Sum

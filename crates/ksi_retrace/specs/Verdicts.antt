@@ -12,12 +12,12 @@ use Rattle.ksi_retrace.specs.declared.fault.RecordFault.{RecordFault}
 use Rattle.ksi_retrace.specs.declared.fault.RecordFault.TheVariants as faults
 use Rattle.ksi_retrace.specs.declared.head.Head.{Head}
 use Rattle.ksi_retrace.specs.declared.head.Head.TheVariants as heads
-use Rattle.ksi_blocks.specs.declared.place.Place.{Place}
+use Rattle.ksi_retrace.specs.declared.blocks.place.Place.{Place}
 use Rattle.ksi_retrace.specs.declared.verdict.Counts.{Counts}
 use Rattle.ksi_retrace.specs.declared.verdict.Retraced.{Retraced}
 use Rattle.ksi_retrace.specs.declared.verdict.Retraced.TheVariants as retraced
 use Rattle.ksi_retrace.specs.Heads.{head_at}
-use Rattle.ksi_blocks.specs.Blocks.{lines_in, IsLine, IsCutBlock}
+use Rattle.ksi_retrace.specs.Blocks.{lines_in, IsLine, IsCutBlock}
 use Rattle.ksi_retrace.specs.Entries.{Entry, entry_text, record_text, head_words, HasBlock, WantsBlock}
 use Rattle.ksi_retrace.specs.Told.{with_head, unsaid_block, AreTold, IsTold, IsMissing, MayCome}
 

@@ -2,10 +2,10 @@
 ghost use Rattle.std.specs.Prelude.{IfOk};
 ghost use Rattle.ksi_retrace.specs.Steps.{IsBlockBehind, IsNext, IsThere};
 
+use crate::blocks::{Came, next_line, read_block};
 use crate::fault::RecordFault;
 use crate::head::Head;
 use crate::reading::read_head;
-use ksi_blocks::{Came, next_line, read_block};
 use ksi_imprint::Refused;
 use ksi_schedule::Plan;
 use std::alloc::Global;

@@ -1,15 +1,19 @@
-//! `ksi_retrace PLAN [RECORD]` holds the record of a live run against the world of its plan.
+//! `ksi_retrace PLAN [RECORD]` holds the record of a live run against the world of its plan, and
+//! `ksi_retrace --node NODE PLAN` the log of one node, as `c0` or `a1`, against that node's own run.
 //!
 //! PLAN is a schedule file without events. The record comes from the file RECORD, or from standard input, entry by entry
 //! (docs/FORMATS.md, "Records of runs"). Of each step that was never said the program prints the place and the world's block.
-//! Its last line is `agrees` with counts, `differs` with the first entry whose block is not what the world says at its place,
-//! `refused` with what is no entry, or `failed`.
+//! The log comes from standard input ("Logs of nodes"). The last line is `agrees` with counts, `differs` with the first entry
+//! whose block is not what the world or the node says at its place, `refused` with what is no entry, or `failed`.
 #![tactic(auto)]
 
+mod blocks;
 mod entry;
+mod failure;
 mod fault;
 mod head;
 mod mark;
+mod node;
 mod printing;
 mod reading;
 mod report;
@@ -19,11 +23,12 @@ mod telling;
 mod tracer;
 mod verdict;
 
+use failure::{Failure, fail};
 use ksi_imprint::{Refused, Sha};
-use ksi_schedule::read_schedule;
+use ksi_schedule::{Plan, Schedule, read_schedule};
 use report::report;
 use std::fs::File;
-use std::io::{self, BufRead, BufReader, ErrorKind};
+use std::io::{self, BufRead, BufReader};
 use std::process::ExitCode;
 use std::{env, fs};
 
@@ -46,35 +51,52 @@ fn run(rt: &HostRuntime) -> io::Result<u8> {
                 let mut record = BufReader::new(rt.alloc(), file)?;
                 hold(rt, plan.as_str(), &mut record)
             }
-            Err(_) => fail(rt, "stream", 4),
+            Err(_) => fail(rt, Failure::Stream),
         },
-        _ => fail(rt, "words", 2),
+        [_, option, node, plan] if option.as_str() == "--node" => {
+            hold_node(rt, plan.as_str(), node.as_str())
+        }
+        _ => fail(rt, Failure::Words),
     }
 }
 
 /// Holds a record against the world of the plan in a file.
 fn hold<S: BufRead>(rt: &HostRuntime, plan: &str, record: &mut S) -> io::Result<u8> {
-    let text = match fs::read(rt, plan) {
-        Ok(text) => text,
-        Err(_) => return fail(rt, "plan", 3),
-    };
-    let schedule = match read_schedule(rt.alloc(), &text) {
-        Ok(schedule) => schedule,
-        Err(Refused::Fault(_)) => return fail(rt, "plan", 3),
-        Err(Refused::NoMemory) => return fail(rt, "memory", 5),
-    };
-    if !schedule.events().is_empty() {
-        return fail(rt, "plan", 3);
-    }
-    let mut out = io::writer(rt);
-    match report::<Sha, S, _>(rt.alloc(), schedule.plan(), record, &mut out) {
-        Ok(status) => Ok(status),
-        Err(error) if error.kind() == ErrorKind::OutOfMemory => fail(rt, "memory", 5),
-        Err(_) => fail(rt, "stream", 4),
+    match plan_in(rt, plan) {
+        Ok(schedule) => hold_record(rt, schedule.plan(), record),
+        Err(failure) => fail(rt, failure),
     }
 }
 
-fn fail(rt: &HostRuntime, why: &str, status: u8) -> io::Result<u8> {
-    println!(rt; "failed {why}")?;
-    Ok(status)
+fn hold_record<S: BufRead>(rt: &HostRuntime, plan: &Plan, record: &mut S) -> io::Result<u8> {
+    let mut out = io::writer(rt);
+    match report::<Sha, S, _>(rt.alloc(), plan, record, &mut out) {
+        Ok(status) => Ok(status),
+        Err(error) => fail(rt, Failure::of(&error)),
+    }
+}
+
+/// Holds the log of a node against its run by the plan in a file.
+fn hold_node(rt: &HostRuntime, plan: &str, node: &str) -> io::Result<u8> {
+    match plan_in(rt, plan) {
+        Ok(schedule) => node::hold(rt, schedule.plan(), node.as_bytes()),
+        Err(failure) => fail(rt, failure),
+    }
+}
+
+/// The schedule in a file, if it has no events.
+fn plan_in(rt: &HostRuntime, path: &str) -> Result<Schedule, Failure> {
+    let Ok(text) = fs::read(rt, path) else {
+        return Err(Failure::Plan);
+    };
+    let schedule = match read_schedule(rt.alloc(), &text) {
+        Ok(schedule) => schedule,
+        Err(Refused::Fault(_)) => return Err(Failure::Plan),
+        Err(Refused::NoMemory) => return Err(Failure::Memory),
+    };
+    if schedule.events().is_empty() {
+        Ok(schedule)
+    } else {
+        Err(Failure::Plan)
+    }
 }

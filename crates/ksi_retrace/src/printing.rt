@@ -7,9 +7,9 @@ ghost use Rattle.ksi_aggregator.specs.Events.{event_second};
 ghost use Rattle.ksi_wire.specs.RoundLines.{round_words};
 ghost use Rattle.ksi_retrace.specs.Entries.{line_words, given_words, head_words, IsEarly, IsEarlyGiven, IsEarlyHead};
 
+use crate::blocks::{put_node, put_number};
 use crate::head::{Given, Head};
 use ksi_aggregator::RoundEvent;
-use ksi_blocks::{put_node, put_number};
 use ksi_corenode::CoreEvent;
 use ksi_imprint::NoMemory;
 use ksi_schedule::{Actor, Event};

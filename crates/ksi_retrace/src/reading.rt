@@ -267,7 +267,7 @@ fn cut(line: &[u8]) -> (&[u8], &[u8])
 }
 
 /// Whether a word is this one.
-fn is(word: &[u8], text: &[u8]) -> bool
+pub(crate) fn is(word: &[u8], text: &[u8]) -> bool
     ensures value { result ≡ bytes_eq word.now text.now }
     ensures same { IsTrue result ↔ (text.now ≡ word.now) }
 {

@@ -6,9 +6,9 @@ ghost use Rattle.ksi_retrace.specs.Verdicts.{shown, IsVerdict};
 ghost use Rattle.ksi_schedule.specs.Printed.{line_of};
 ghost use Rattle.ksi_retrace.specs.Reports.{counts_words, status_of, verdict_text, verdict_words};
 
+use crate::blocks::{put_number, put_place};
 use crate::stream::retrace;
 use crate::verdict::{Counts, Retraced};
-use ksi_blocks::{put_number, put_place};
 use ksi_imprint::{Compress, NoMemory};
 use ksi_schedule::Plan;
 use std::alloc::Global;

@@ -6,12 +6,12 @@ ghost use Rattle.ksi_retrace.specs.Told.{with_head};
 ghost use Rattle.ksi_retrace.specs.Steps.{IsHeld};
 ghost use Rattle.ksi_retrace.specs.Verdicts.{shown, shown_block, IsVerdict};
 
+use crate::blocks::{Place, put_number};
 use crate::entry::{Next, next_entry};
 use crate::head::Head;
 use crate::sum::Sum;
 use crate::tracer::{Told, Tracer};
 use crate::verdict::Retraced;
-use ksi_blocks::{Place, put_number};
 use ksi_imprint::{Compress, NoMemory, Refused};
 use ksi_schedule::Plan;
 use std::alloc::Global;

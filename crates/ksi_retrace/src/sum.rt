@@ -3,9 +3,9 @@ ghost use Rattle.std.specs.Prelude.{◌≡◌, []};
 ghost use Rattle.ksi_retrace.specs.Sums.{sum_of, sum_with, counts_in};
 ghost use Rattle.ksi_retrace.specs.Verdicts.{is_unsaid, is_sign};
 
+use crate::blocks::Place;
 use crate::head::Head;
 use crate::verdict::Counts;
-use ksi_blocks::Place;
 
 /// How many entries there were, none of the counts beyond 2^64 - 1.
 #[derive(Clone, Copy)]

@@ -1,6 +1,6 @@
 //! What comes of a comparison.
+use crate::blocks::Place;
 use crate::fault::RecordFault;
-use ksi_blocks::Place;
 
 /// How many entries there were of a record that agrees.
 #[derive(Clone, Copy)]

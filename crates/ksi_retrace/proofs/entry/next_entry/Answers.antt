@@ -1,7 +1,7 @@
 use Rattle.std.proofs.Common.{◌≡◌, ◌∙◌, Bool, Ok, ap, sym, subst}
-use Rattle.ksi_blocks.specs.declared.lines.Came.{Came}
-use Rattle.ksi_blocks.specs.declared.lines.Came.TheVariants as comes
-use Rattle.ksi_blocks.specs.Steps.{IsLineOf}
+use Rattle.ksi_retrace.specs.declared.blocks.lines.Came.{Came}
+use Rattle.ksi_retrace.specs.declared.blocks.lines.Came.TheVariants as comes
+use Rattle.ksi_retrace.specs.Blocks.Steps.{IsLineOf}
 use Rattle.ksi_retrace.specs.Heads.{head_at}
 use Rattle.ksi_retrace.specs.Steps.{IsBlockBehind}
 use Rattle.ksi_retrace.proofs.EntryLemmas.{cut_entry}

@@ -1,0 +1,7 @@
+-- The log of one node, held against that node's own run.
+pub mod Entries
+pub mod Heads
+pub mod Reports
+pub mod Runs
+pub mod Steps
+pub mod Verdicts

@@ -1,6 +1,0 @@
-pub mod EntryLemmas
-pub mod LogLemmas
-pub mod NodeLemmas
-pub mod StandingLemmas
-pub mod StreamLemmas
-pub mod VerdictLemmas
