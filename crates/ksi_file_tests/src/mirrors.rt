@@ -29,8 +29,7 @@ pub(crate) const ONE: &str =
 
 /// The number of the code of the fault of bytes, and the place or the second; zeros where they have none.
 fn told(alloc: Global, bytes: &[u8]) -> (u8, u64) {
-    let (code, place, _) = coded(reason(load_mirror(alloc, bytes).err()));
-    (code, place)
+    coded(reason(load_mirror(alloc, bytes).err()))
 }
 
 /// The bytes of the mirror of words that have no fault.
