@@ -67,13 +67,14 @@ class RunningTest(Served):
 
     def test_who_forgot_is_small(self):
         self.start("--forget-every", "1")
-        new, told_of = self.status(), -1
+        new, told_of = {name: self.memory(name) for name in ("a0", "a1")}, -1
         with concurrent.futures.ThreadPoolExecutor(150) as pool:
             self.assertEqual({status for status, _ in pool.map(lambda number: self.ask("/sign", imprint(number)), range(900))}, {200})
         while told_of < self.status()["rounds_forgotten"]:
             told_of = self.status()["rounds_forgotten"]
             time.sleep(4)
         after = self.status()
+        left = {name: self.memory(name) for name in ("a0", "a1")}
         self.assertEqual((after["asked_again"], after["busy"], after["nodes_up"]), (0, 0, 5))
         self.command("stop")
         facts = last_state(os.path.join(self.folder, "record"))[0]
@@ -82,8 +83,13 @@ class RunningTest(Served):
             self.assertLess(os.path.getsize(os.path.join(self.folder, f"{name}.facts")), 40 + 30 * facts.node(name).facts)
             if REAL:
                 # half of the requests would take some 140,000 bytes
-                self.assertLess(after["memory_bytes"][name], new["memory_bytes"][name] + 100_000)
+                self.assertLess(left[name], new[name] + 100_000)
         self.checked()
+
+    def memory(self, name):
+        """How many bytes a process has of its own, without the pages of its program, which come as it does more."""
+        with open(f"/proc/{self.status()['processes'][name]}/status", encoding="ascii") as file:
+            return sum(int(row.split()[1]) * 1024 for row in file if row.startswith(("RssAnon:", "VmSwap:")))
 
     def test_who_never_forgets_is_not_told_to(self):
         self.start("--forget-every", "0")
