@@ -5,7 +5,7 @@ use Rattle.ksi_split.specs.declared.side.Side.{Side}
 use Rattle.ksi_split.specs.declared.side.Side.TheVariants.{Left, Right}
 use Rattle.ksi_split.specs.Parts.{Part, half_of, part_at}
 use Rattle.ksi_split.specs.Trees.{node_at}
-use Rattle.ksi_calchain.specs.Climbing.{calendar_join, calendar_join_text}
+use Rattle.ksi_calendar.specs.Climbing.{calendar_join, calendar_join_text}
 use Rattle.ksi_calendar.specs.Calendar as calendars
 use Rattle.ksi_journal.specs.Journal.{Contents, IsJournal}
 use Rattle.ksi_journal.specs.Calendar.{calendar_of}

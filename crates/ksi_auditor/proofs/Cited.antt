@@ -18,7 +18,7 @@ use Rattle.ksi_aggtree.specs.Nodes.{LeadsBelow, node_of, parts_text, text_of}
 use Rattle.ksi_aggtree.specs.Rounds.{as_node, leaf, item_at, named_text, tree_from}
 use Rattle.ksi_beside.specs.Beside.{Rung, Pair, pairs_below, differing}
 use Rattle.ksi_beside.specs.Standing.{Holds, IsTree, Walked}
-use Rattle.ksi_calchain.specs.Climbing.{ClimbsCalendar, calendar_join}
+use Rattle.ksi_calendar.specs.Climbing.{ClimbsCalendar, calendar_join}
 use Rattle.ksi_calendar.specs.Calendar.{Seconds, calendar_leaf, calendar_tree, calendar_root, is_covered}
 use Rattle.ksi_calendar.specs.Covered.{Roots, IsCovered, first_missing, covered_root, second_leaf}
 use Rattle.ksi_signature.specs.declared.signature.Signature.{Signature}

@@ -12,7 +12,7 @@ use Rattle.ksi_aggchain.specs.declared.link.Sibling.{Sibling}
 use Rattle.ksi_aggchain.specs.declared.link.Sibling.TheVariants.{Imprint, Legacy, Metadata}
 use Rattle.ksi_aggchain.specs.Climbing.{above}
 use Rattle.ksi_aggchain.specs.declared.node.Node.{Node}
-use Rattle.ksi_calchain.specs.Climbing.{calendar_element_text}
+use Rattle.ksi_calendar.specs.Climbing.{calendar_element_text}
 use Rattle.ksi_beside.specs.Beside.{Rung, rung_from, rungs_from, calendar_rung_from, calendar_rungs_from}
 use Rattle.ksi_signature.specs.Kept.{HasImprint, IsLink}
 use Rattle.ksi_signature.specs.Values.{Aggregation}

@@ -9,7 +9,7 @@ use Rattle.ksi_split.specs.Trees.{tree, node_in, node_at}
 use Rattle.ksi_split.specs.Ways.{IsWay, LeadsTo}
 use Rattle.ksi_aggtree.specs.declared.item.Item.{Item}
 use Rattle.ksi_aggtree.specs.Nodes.{text_of}
-use Rattle.ksi_calchain.specs.Climbing.{calendar_join}
+use Rattle.ksi_calendar.specs.Climbing.{calendar_join}
 use Rattle.ksi_calendar.specs.Calendar as calendars
 use Rattle.ksi_auditor.proofs.Cases.{eq_cases}
 

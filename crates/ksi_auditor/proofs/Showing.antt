@@ -15,7 +15,7 @@ use Rattle.ksi_aggchain.specs.declared.node.Node.{Node}
 use Rattle.ksi_aggtree.specs.declared.item.Item.{Item}
 use Rattle.ksi_aggtree.specs.Nodes.{text_of}
 use Rattle.ksi_aggtree.specs.Rounds.{tree_from}
-use Rattle.ksi_calchain.specs.Sides.{sides_from_top}
+use Rattle.ksi_calendar.specs.Sides.{sides_from_top}
 use Rattle.ksi_calendar.specs.Calendar as calendars
 use Rattle.ksi_calendar.specs.Covered.{IsCovered, first_missing, covered_root, second_leaf}
 use Rattle.ksi_signature.specs.Values.{Calendar}

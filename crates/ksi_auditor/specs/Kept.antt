@@ -2,7 +2,7 @@
 use Rattle.std.specs.Prelude.{ℕ, List, [], ◌∷◌, ◌++◌, Option, Some, None}
 use Rattle.ksi_split.specs.declared.side.Side.{Side}
 use Rattle.ksi_split.specs.declared.side.Side.TheVariants.{Left, Right}
-use Rattle.ksi_calchain.specs.Climbing.{calendar_join_text}
+use Rattle.ksi_calendar.specs.Climbing.{calendar_join_text}
 use Rattle.ksi_calendar.specs.Calendar as calendars
 
 abbrev pub joined_imprints : Option (List ℕ) → Option (List ℕ) → Option (List ℕ)

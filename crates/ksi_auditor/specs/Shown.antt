@@ -11,7 +11,7 @@ use Rattle.ksi_aggtree.specs.Nodes.{node_of}
 use Rattle.ksi_aggtree.specs.Paths.{item_way}
 use Rattle.ksi_aggtree.specs.Rounds.{item_at}
 use Rattle.ksi_beside.specs.Beside.{AreShort}
-use Rattle.ksi_calchain.specs.Sides.{sides_from_top}
+use Rattle.ksi_calendar.specs.Sides.{sides_from_top}
 use Rattle.ksi_calendar.specs.Covered.{IsCovered, covered_root}
 use Rattle.ksi_signature.specs.Kept.{IsLink}
 use Rattle.ksi_signature.specs.Values.{Calendar}

@@ -22,7 +22,7 @@ use crate::links::{are_links, are_owned_links, is_early};
 use ksi_aggchain::Node;
 use ksi_aggtree::Item;
 use ksi_beside::{Place, Walk, along_calendar};
-use ksi_calchain::climb_calendar;
+use ksi_calendar::climb_calendar;
 use ksi_calendar::laws::one_first_missing;
 use ksi_imprint::{Compress, Imprint, NoMemory};
 use ksi_journal::Journal;

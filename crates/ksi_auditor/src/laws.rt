@@ -37,7 +37,7 @@ pub fn audit_shows()
     one_text();
     metas_are_even();
     ksi_aggchain::laws::one_climb();
-    ksi_calchain::laws::one_climb();
+    ksi_calendar::laws::one_climb();
     joined();
     accepted();
     calendar_is_covered();
@@ -67,7 +67,7 @@ pub fn missed_seconds()
     one_calendar();
     one_first_missing();
     ksi_aggchain::laws::one_climb();
-    ksi_calchain::laws::one_climb();
+    ksi_calendar::laws::one_climb();
     joined();
     accepted();
     calendar_is_covered();

@@ -10,7 +10,7 @@ use crate::kept::KeptTree;
 use crate::place::Place;
 use crate::rung::{Rung, is_joined_of, join_of, text_of, text_of_parts};
 use ksi_aggchain::{ChainLink, Node};
-use ksi_calchain::CalendarLink;
+use ksi_calendar::CalendarLink;
 use ksi_imprint::{Clash, Compress, Imprint, NoMemory};
 use std::alloc::Global;
 

@@ -8,7 +8,7 @@ use Rattle.ksi_signature.specs.declared.chain_view.ChainView.{ChainView}
 use Rattle.ksi_signature.specs.declared.signature.Signature.{Signature}
 use Rattle.ksi_verifier.specs.Chains.{PlainChain, plain_chains}
 use Rattle.ksi_verifier.specs.Lent.{lent_chain}
-use Rattle.ksi_check.specs.Steps.{steps, steps_from}
+use Rattle.ksi_verifier.specs.Steps.{steps, steps_from}
 
 lent_all : (chains : List ChainView) → map lent_chain chains ≡ plain_chains (map chain_seen chains)
 lent_all [] = refl

@@ -5,7 +5,7 @@ use Rattle.ksi_split.specs.declared.side.Side.TheVariants.{Left, Right}
 use Rattle.ksi_imprint.specs.Imprints.{imprint_of}
 use Rattle.ksi_signature.specs.declared.fault.SignatureFault.{SignatureFault}
 use Rattle.ksi_signature.specs.declared.signature.Signature.{Signature}
-use Rattle.ksi_check.specs.Steps.{PlainStep, steps}
+use Rattle.ksi_verifier.specs.Steps.{PlainStep, steps}
 use Rattle.ksi_c.specs.declared.drawn.KsiStep.{KsiStep}
 
 abbrev pub flag : Bool → ℕ

@@ -2,16 +2,15 @@
 ghost use Rattle.std.specs.Prelude.{◌≡◌, is_some, option_map, slice_get};
 ghost use Rattle.ksi_imprint.specs.Imprints.{imprint_of};
 ghost use Rattle.ksi_signature.specs.Seen.{seen};
-ghost use Rattle.ksi_check.specs.Steps.{step_seen, steps};
+ghost use Rattle.ksi_verifier.specs.Steps.{step_seen, steps};
 ghost use Rattle.ksi_c.specs.Drawn.{flag, padded, side_number, step_or, step_told};
 
 use crate::drawn::KsiStep;
 use crate::telling::digest_of;
-use ksi_check::{Step, find_step};
 use ksi_imprint::Sha;
 use ksi_signature::SignatureView;
 use ksi_split::Side;
-use ksi_verifier::lent_calendar;
+use ksi_verifier::{Step, find_step, lent_calendar};
 
 /// Puts a step of a signature, and says whether there is one of this number.
 pub(crate) fn put_step(signature: &SignatureView<'_>, number: usize, out: &mut KsiStep) -> bool

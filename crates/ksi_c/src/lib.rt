@@ -14,7 +14,7 @@ ghost use Rattle.ksi_stream.specs.Held.{Holds};
 ghost use Rattle.ksi_imprint.specs.Imprints.{imprint_of, join_text};
 ghost use Rattle.ksi_signature.specs.Reading.{signature_at};
 ghost use Rattle.ksi_publications.specs.Reading.{publications_at};
-ghost use Rattle.ksi_check.specs.Files.{IsVerified, files_verdict};
+ghost use Rattle.ksi_verifier.specs.Files.{IsVerified, files_verdict};
 ghost use Rattle.ksi_c.specs.Answers.{answered};
 ghost use Rattle.ksi_c.specs.Drawn.{step_in, step_or, step_status};
 
@@ -23,11 +23,11 @@ use crate::drawing::put_step;
 pub use crate::drawn::KsiStep;
 use crate::telling::answered;
 pub use crate::told::Told;
-use ksi_check::verify_files;
 use ksi_imprint::{Compress, Imprint, Sha};
 use ksi_signature::laws::signature_is_read;
 use ksi_signature::view;
 use ksi_stream::Core256;
+use ksi_verifier::verify_files;
 
 /// The number of this interface. A caller compares it with that of its header.
 #[unsafe(no_mangle)]

@@ -4,12 +4,11 @@ ghost use Rattle.ksi_c.specs.Answers.{answer, answered, digests_told, difference
 
 use crate::answer::KsiAnswer;
 use crate::told::Told;
-use ksi_check::FilesVerdict;
 use ksi_imprint::Imprint;
 use ksi_publications::PublicationsFault;
 use ksi_signature::SignatureFault;
 use ksi_split::ShapeFault;
-use ksi_verifier::{RecordDifference, Refusal};
+use ksi_verifier::{FilesVerdict, RecordDifference, Refusal};
 
 /// What is answered of a verdict.
 pub(crate) fn answered(verdict: &FilesVerdict) -> KsiAnswer

@@ -1,2 +1,4 @@
 pub mod Missing
 pub mod Knowing
+pub mod CalendarLemmas
+pub mod SideLemmas

@@ -1,7 +1,7 @@
 ghost use Rattle.std.specs.Prelude.{◌≡◌, ◌++◌, ◌∷◌, [], ◌<◌, ◌≤◌, ◌+◌, ◌^◌, length, OnOk, OnErr, IfOk};
 ghost use Rattle.ksi_split.specs.Ways.{way_of};
-ghost use Rattle.ksi_calchain.specs.Climbing.{ClimbsCalendar};
-ghost use Rattle.ksi_calchain.specs.Sides.{sides_from_top};
+ghost use Rattle.ksi_calendar.specs.Climbing.{ClimbsCalendar};
+ghost use Rattle.ksi_calendar.specs.Sides.{sides_from_top};
 ghost use Rattle.ksi_calendar.specs.Calendar.{calendar_leaf, calendar_root, calendar_path, root_to, node_of, is_covered};
 
 use crate::join::CalendarJoin;

@@ -1,4 +1,4 @@
-ghost use Rattle.ksi_calchain.specs.Climbing.{calendar_join};
+ghost use Rattle.ksi_calendar.specs.Climbing.{calendar_join};
 
 use ksi_imprint::{Compress, Imprint};
 use ksi_split::Joins;

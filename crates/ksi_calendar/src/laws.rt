@@ -1,14 +1,15 @@
 //! What holds of the calendar's definitions, for the layers above to cite. None of these functions does anything.
-ghost use Rattle.std.specs.Prelude.{◌≡◌, ◌↔◌, ◌<◌, ◌≤◌, ◌+◌, ◌-◌, ◌^◌, ℕ, suc, List, length, Some, None, IsSome, IsTrue};
+ghost use Rattle.std.specs.Prelude.{◌≡◌, ◌↔◌, ◌<◌, ◌≤◌, ◌+◌, ◌-◌, ◌^◌, ℕ, suc, List, length, Some, None, IsSome, IsTrue, ◌++◌};
 ghost use Rattle.ksi_split.specs.Powers.{IsSplit};
 ghost use Rattle.ksi_split.specs.Ways.{way_of, LeadsTo, PassesLeaf};
 ghost use Rattle.ksi_split.specs.declared.side.Side.{Side};
-ghost use Rattle.ksi_calchain.specs.Climbing.{ClimbsCalendar, calendar_join};
-ghost use Rattle.ksi_calchain.specs.Sides.{sides_from_top};
+ghost use Rattle.ksi_calendar.specs.Climbing.{ClimbsCalendar, calendar_join, calendar_element_text};
+ghost use Rattle.ksi_calendar.specs.Sides.{sides_from_top};
 ghost use Rattle.ksi_calendar.specs.Calendar.{Seconds, calendar_leaf, calendar_tree, calendar_root, calendar_path, is_covered, node_of};
 ghost use Rattle.ksi_calendar.specs.Covered.{Roots, IsCovered, IsFirstMissing, first_missing, covered_seconds, covered_root, covered_path, second_leaf};
+ghost use Rattle.ksi_split.specs.Trees.{climb_links, link_from};
+ghost use Rattle.ksi_split.specs.declared.tree_link.TreeLink.{TreeLink};
 
-use ksi_calchain::laws::one_climb;
 use ksi_imprint::Imprint;
 use ksi_split::trees::{one_node, one_path, one_tree};
 
@@ -84,4 +85,26 @@ pub fn more_is_known()
     ensures seconds { (roots more : Roots) (start p : ℕ) → IsCovered roots start p →
         ((t : ℕ) → start ≤ t → t ≤ p → (root : List ℕ) → roots t ≡ Some root → more t ≡ Some root) →
         covered_seconds roots start p ≡ covered_seconds more start p }
+{}
+
+/// Links lead from an imprint to one other: the one that climbing in the calendar's tree computes. Each step of it is
+/// the image of the link's string.
+pub fn one_climb()
+    ensures value { (image : List ℕ → List ℕ) (start top : List ℕ) (links : List (TreeLink (List ℕ))) →
+        ClimbsCalendar image start links top ↔ (top ≡ climb_links (calendar_join image) start links) }
+    ensures strings { (image : List ℕ → List ℕ) (imprint : List ℕ) (link : TreeLink (List ℕ)) →
+        link_from (calendar_join image) imprint link link.side ≡ image (calendar_element_text imprint link) }
+{}
+
+/// Climbing along links and then along more links is climbing along all of them.
+pub fn one_after_another()
+    ensures together { (image : List ℕ → List ℕ) (start middle top : List ℕ) (links more : List (TreeLink (List ℕ))) →
+        ClimbsCalendar image start links middle → ClimbsCalendar image middle more top →
+        ClimbsCalendar image start (links ++ more) top }
+    ensures apart { (image : List ℕ → List ℕ) (start top : List ℕ) (links more : List (TreeLink (List ℕ))) →
+        ClimbsCalendar image start (links ++ more) top →
+        (middle : List ℕ) × ClimbsCalendar image start links middle × ClimbsCalendar image middle more top }
+    ensures value { (image : List ℕ → List ℕ) (start : List ℕ) (links more : List (TreeLink (List ℕ))) →
+        climb_links (calendar_join image) start (links ++ more) ≡
+        climb_links (calendar_join image) (climb_links (calendar_join image) start links) more }
 {}

@@ -1,6 +1,6 @@
 ghost use Rattle.std.specs.Prelude.{◌≡◌};
 
-use ksi_calchain::CalendarLink;
+use crate::CalendarLink;
 use std::marker::Model;
 
 /// The links from a second up to the root of a calendar's tree, the lowest first. A contract sees their list.

@@ -5,7 +5,7 @@ use Rattle.std.proofs.lemmas.Slice.Eq.{bytes_eq-Decides}
 use Rattle.std.proofs.lemmas.Bool.Decides.{not_from_Decides}
 use Rattle.ksi_split.specs.Powers.{IsSplit, split_of}
 use Rattle.ksi_split.specs.Trees.{tree}
-use Rattle.ksi_calchain.specs.Climbing.{calendar_join}
+use Rattle.ksi_calendar.specs.Climbing.{calendar_join}
 use Rattle.ksi_calendar.specs.Calendar.{Seconds, calendar_leaf, calendar_tree, calendar_root}
 use Rattle.ksi_consistency.specs.Front.{front_within, front_of, count_within, count_of, calendar_front, front_count}
 use Rattle.ksi_consistency.specs.Checked.{roots_from, joined_left, joined_right, front_roots, roots_checked, front_checked}

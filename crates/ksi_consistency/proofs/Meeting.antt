@@ -2,7 +2,7 @@
 use Rattle.std.proofs.Common.{◌≡◌, ◌≢◌, ◌+◌, subst, ℕ, zero, suc, ◌+◌, ◌-◌, ◌<◌, ◌≤◌, List, [], ◌∷◌, ◌++◌, length, reverse, true, false, Option, Some, None, Result, Ok, Err, inl, inr, refl, sym, ap, ◌∙◌, arith}
 use Rattle.std.specs.Prelude.{IfNone, IfOk, IfSome, Contains}
 use Rattle.ksi_split.specs.Powers.{split_of}
-use Rattle.ksi_calchain.specs.Climbing.{calendar_join, calendar_join_text}
+use Rattle.ksi_calendar.specs.Climbing.{calendar_join, calendar_join_text}
 use Rattle.ksi_consistency.specs.declared.roots.Roots.{Roots}
 use Rattle.ksi_consistency.specs.Front.{count_within, count_of}
 use Rattle.ksi_consistency.specs.Checked.{roots_from, texts_from, joined_left, joined_right}

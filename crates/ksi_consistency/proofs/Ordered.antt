@@ -7,9 +7,9 @@ use Rattle.ksi_imprint.specs.Imprints.{IsImprint}
 use Rattle.ksi_tlv.specs.Walking.{PlacedTlv}
 use Rattle.ksi_order.specs.Order.{may_stand}
 use Rattle.ksi_order.specs.Values.{time_at, imprint_at}
-use Rattle.ksi_format.specs.Format.{or_named}
-use Rattle.ksi_format.specs.Kinds.{kinds_of}
-use Rattle.ksi_format.proofs.Steps.{Bounded, bind_ok, or_named_ok, ok_is, if_not_ok, any_kind, all_more, kinds_more, leads_keep, file_kinds}
+use Rattle.ksi_order.specs.Format.{or_named}
+use Rattle.ksi_order.specs.Kinds.{kinds_of}
+use Rattle.ksi_order.proofs.Steps.{Bounded, bind_ok, or_named_ok, ok_is, if_not_ok, any_kind, all_more, kinds_more, leads_keep, file_kinds}
 use Rattle.ksi_consistency.specs.declared.fault.FrontFault.{FrontFault}
 use Rattle.ksi_consistency.specs.declared.fault.FrontFault.TheVariants as faults
 use Rattle.ksi_consistency.specs.declared.stage.Stage.{Stage}

@@ -6,7 +6,7 @@ use Rattle.ksi_split.specs.Powers.{split_of}
 use Rattle.ksi_split.specs.Ways.{way_of}
 use Rattle.ksi_split.specs.declared.side.Side.{Side}
 use Rattle.ksi_split.specs.declared.side.Side.TheVariants.{Left, Right}
-use Rattle.ksi_calchain.specs.Climbing.{calendar_join_text}
+use Rattle.ksi_calendar.specs.Climbing.{calendar_join_text}
 use Rattle.ksi_calendar.specs.Calendar.{Seconds, calendar_leaf, calendar_root, calendar_tree}
 use Rattle.ksi_consistency.specs.Checked.{front_checked, roots_from}
 use Rattle.ksi_consistency.specs.declared.compared.Compared.{Compared}

@@ -2,7 +2,7 @@
 use Rattle.std.specs.Prelude.{ℕ, ◌+◌, ◌-◌, ◌==◌, nat_lt, if◌then◌else◌, List, [], ◌∷◌, length, reverse, Result, Ok, Err}
 use Rattle.std.specs.Str.{bytes_eq}
 use Rattle.ksi_split.specs.Powers.{split_of}
-use Rattle.ksi_calchain.specs.Climbing.{calendar_join, calendar_join_text}
+use Rattle.ksi_calendar.specs.Climbing.{calendar_join, calendar_join_text}
 use Rattle.ksi_consistency.specs.Front.{front_count}
 use Rattle.ksi_consistency.specs.declared.roots.Roots.{Roots}
 use Rattle.ksi_consistency.specs.declared.refusal.FrontRefusal.{FrontRefusal}

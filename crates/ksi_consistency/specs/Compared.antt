@@ -3,7 +3,7 @@ use Rattle.std.specs.Prelude.{◌≡◌, ◌≢◌, ℕ, ◌+◌, ◌-◌, ◌<�
 use Rattle.ksi_imprint.specs.Imprints.{IsClash}
 use Rattle.ksi_imprint.specs.declared.clash.Clash.{Clash}
 use Rattle.ksi_split.specs.Powers.{split_of}
-use Rattle.ksi_calchain.specs.Climbing.{calendar_join_text}
+use Rattle.ksi_calendar.specs.Climbing.{calendar_join_text}
 use Rattle.ksi_calendar.specs.Calendar.{Seconds, calendar_leaf, calendar_root, calendar_tree}
 use Rattle.ksi_consistency.specs.Checked.{front_checked, front_texts}
 use Rattle.ksi_consistency.specs.Parts.{IsPart}

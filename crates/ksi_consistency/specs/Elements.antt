@@ -7,7 +7,7 @@ use Rattle.ksi_order.specs.declared.fault.OrderFault.{OrderFault}
 use Rattle.ksi_order.specs.declared.fault.OrderFault.TheVariants as orders
 use Rattle.ksi_order.specs.Order.{Order, ◌>>=◌}
 use Rattle.ksi_order.specs.Values.{time_at, imprint_at}
-use Rattle.ksi_format.specs.Format.{or_named}
+use Rattle.ksi_order.specs.Format.{or_named}
 use Rattle.ksi_consistency.specs.declared.fault.FrontFault.{FrontFault}
 use Rattle.ksi_consistency.specs.declared.fault.FrontFault.TheVariants as faults
 use Rattle.ksi_consistency.specs.declared.stage.Stage.{Stage}

@@ -2,7 +2,7 @@
 use Rattle.std.specs.Prelude.{ℕ, zero, suc, ◌+◌, ◌-◌, ◌==◌, nat_lt, Bool, true, false, if◌then◌else◌, List, [], ◌∷◌, ◌++◌}
 use Rattle.ksi_split.specs.Powers.{split_of}
 use Rattle.ksi_split.specs.Trees.{tree}
-use Rattle.ksi_calchain.specs.Climbing.{calendar_join}
+use Rattle.ksi_calendar.specs.Climbing.{calendar_join}
 use Rattle.ksi_calendar.specs.Calendar.{Seconds, calendar_leaf}
 
 -- for the first m of the n leaves from lo, of which there are at most `most`: nothing where these are all of them and the

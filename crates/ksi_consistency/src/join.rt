@@ -1,5 +1,5 @@
 ghost use Rattle.std.specs.Prelude.{◌≡◌};
-ghost use Rattle.ksi_calchain.specs.Climbing.{calendar_join};
+ghost use Rattle.ksi_calendar.specs.Climbing.{calendar_join};
 
 use ksi_imprint::{Compress, Imprint};
 

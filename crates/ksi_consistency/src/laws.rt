@@ -16,8 +16,7 @@ use crate::fault::FrontFault;
 use crate::loading::Loading;
 use crate::value::Front;
 use ksi_calendar::laws::one_calendar;
-use ksi_format::laws::{file_is_read, file_or_fault};
-use ksi_order::laws::values_are_bounded;
+use ksi_order::laws::{file_is_read, file_or_fault, values_are_bounded};
 use ksi_split::laws::one_split;
 use ksi_tlv::laws::{numeral_is_read, written_is_read};
 

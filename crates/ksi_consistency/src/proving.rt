@@ -1,5 +1,5 @@
 ghost use Rattle.std.specs.Prelude.{◌≡◌, ◌≤◌, ◌+◌, ◌++◌, true, IsTrue, Ok, IfOk, OnOk, reverse};
-ghost use Rattle.ksi_calchain.specs.Climbing.{calendar_join};
+ghost use Rattle.ksi_calendar.specs.Climbing.{calendar_join};
 ghost use Rattle.ksi_calendar.specs.Calendar.{calendar_leaf, is_covered, calendar_root};
 ghost use Rattle.ksi_consistency.specs.Parts.{IsPart};
 ghost use Rattle.ksi_consistency.specs.Front.{front_of, count_of, calendar_front};

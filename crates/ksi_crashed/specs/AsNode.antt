@@ -1,10 +1,10 @@
--- An aggregator as a node in general (`specs/Restarts` of `ksi_gates`): its state is its rounds.
+-- An aggregator as a node in general (`specs/Restarts` of `ksi_disk`): its state is its rounds.
 use Rattle.std.specs.Prelude.{◌≡◌, ◌<◌, ◌^◌, ℕ, ◌==◌, if◌then◌else◌, List}
 use Rattle.ksi_aggregator.specs.declared.event.RoundEvent.{RoundEvent}
 use Rattle.ksi_aggregator.specs.Events.{event_second, MayTake, round_row}
 use Rattle.ksi_aggregator.specs.Rounds.{AggregatorState, rounds_of}
 use Rattle.ksi_aggregator.specs.Rows.{RoundState, round_restarted}
-use Rattle.ksi_gates.specs.Restarts.{IsNode}
+use Rattle.ksi_disk.specs.Restarts.{IsNode}
 use Rattle.ksi_roundfacts.specs.Restored.{HasFacts, IsOfFacts}
 use Rattle.ksi_roundstore.specs.Takes.{fact_added}
 

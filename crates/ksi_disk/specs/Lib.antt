@@ -3,3 +3,12 @@ pub mod ImageLaws
 pub mod Costs
 pub mod Deeds
 pub mod DeedLaws
+pub mod Gates
+pub mod Logs
+pub mod Drafts
+pub mod Reads
+pub mod Opens
+pub mod Restarts
+pub mod Restarting
+pub mod Noted
+pub mod Host

@@ -1,6 +1,5 @@
 use crate::logs::opened;
-use ksi_disk::MemDisk;
-use ksi_gates::{OpenRefusal, open_log};
+use ksi_disk::{MemDisk, OpenRefusal, open_log};
 use ksi_imprint::Bytes;
 use std::alloc::Global;
 use std::test::Fail;

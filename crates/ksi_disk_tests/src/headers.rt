@@ -1,5 +1,4 @@
-use ksi_disk::MemDisk;
-use ksi_gates::open_log;
+use ksi_disk::{MemDisk, open_log};
 use ksi_nodestore::{Header, HeaderFault, format, header};
 use ksi_synod::CorePlan;
 use std::alloc::Global;

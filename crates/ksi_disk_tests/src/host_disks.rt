@@ -1,5 +1,4 @@
-use ksi_disk::Disk;
-use ksi_host_disk::HostDisk;
+use ksi_disk::{Disk, HostDisk};
 use std::fs;
 use std::test::Fail;
 

@@ -1,5 +1,4 @@
-use ksi_disk::MemDisk;
-use ksi_gates::{OpenRefusal, Record, open_log};
+use ksi_disk::{MemDisk, OpenRefusal, Record, open_log};
 use std::alloc::Global;
 use std::test::Fail;
 

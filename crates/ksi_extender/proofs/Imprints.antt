@@ -7,7 +7,7 @@ use Rattle.ksi_imprint.specs.Imprints.{IsImprint, zero_imprint}
 use Rattle.ksi_split.specs.declared.side.Side.TheVariants.{Left, Right}
 use Rattle.ksi_split.specs.declared.tree_link.TreeLink.{TreeLink}
 use Rattle.ksi_split.specs.Trees.{tree_within, tree, path_within, path_of}
-use Rattle.ksi_calchain.specs.Climbing.{calendar_join, calendar_join_text}
+use Rattle.ksi_calendar.specs.Climbing.{calendar_join, calendar_join_text}
 use Rattle.ksi_calendar.specs.Calendar.{calendar_leaf}
 use Rattle.ksi_calendar.specs.Covered.{roots_among, covered_seconds, covered_root, covered_path, second_leaf}
 use Rattle.ksi_aggtree.specs.declared.second.Second.{Second}

@@ -5,7 +5,7 @@ use Rattle.ksi_imprint.specs.declared.refused.Refused.{Refused}
 use Rattle.ksi_imprint.specs.declared.refused.Refused.TheVariants.{Fault}
 use Rattle.ksi_split.specs.declared.tree_link.TreeLink.{TreeLink}
 use Rattle.ksi_split.specs.Trees.{climb_links}
-use Rattle.ksi_calchain.specs.Climbing.{ClimbsCalendar, calendar_join}
+use Rattle.ksi_calendar.specs.Climbing.{ClimbsCalendar, calendar_join}
 use Rattle.ksi_calendar.specs.Calendar.{Seconds, calendar_leaf, calendar_root}
 use Rattle.ksi_signature.specs.declared.fault.SignatureFault.{SignatureFault}
 use Rattle.ksi_signature.specs.declared.refusal.WriteRefusal.{WriteRefusal}

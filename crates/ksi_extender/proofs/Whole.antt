@@ -5,8 +5,8 @@ use Rattle.std.specs.List.{AllByRecursion}
 use Rattle.ksi_imprint.specs.Imprints.{zero_imprint}
 use Rattle.ksi_split.specs.declared.side.Side.{Side}
 use Rattle.ksi_split.specs.Ways.{IsWay, way_of}
-use Rattle.ksi_calchain.specs.Climbing.{ClimbsCalendar}
-use Rattle.ksi_calchain.specs.Sides.{sides_from_top}
+use Rattle.ksi_calendar.specs.Climbing.{ClimbsCalendar}
+use Rattle.ksi_calendar.specs.Sides.{sides_from_top}
 use Rattle.ksi_calendar.specs.Calendar.{Seconds, calendar_leaf, calendar_root, calendar_path}
 use Rattle.ksi_publications.specs.Finding.{find}
 use Rattle.ksi_signature.specs.Values.{Aggregation, Calendar, Publishing}

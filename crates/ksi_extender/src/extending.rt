@@ -12,10 +12,8 @@ ghost use Rattle.ksi_extender.specs.Accepted.{IsExtended, extended_signature};
 
 use crate::laws::extended_is_accepted;
 use crate::refusal::ExtendRefusal;
-use ksi_calchain::climb_calendar;
-use ksi_calchain::laws::one_climb;
-use ksi_calendar::Steps;
-use ksi_calendar::laws::one_first_missing;
+use ksi_calendar::laws::{one_climb, one_first_missing};
+use ksi_calendar::{Steps, climb_calendar};
 use ksi_imprint::{Bytes, Compress, Imprint, NoMemory, Refused};
 use ksi_journal::Journal;
 use ksi_journal::laws::{are_bytes, calendar_is_covered};

@@ -1,10 +1,9 @@
 use crate::imprints::hash;
 use crate::rows::are_so;
 use crate::text::{bytes, shown};
-use ksi_check::{find_step, verify_files};
 use ksi_imprint::{Sha, Tiny};
 use ksi_signature::{SignatureView, view};
-use ksi_verifier::lent_calendar;
+use ksi_verifier::{find_step, lent_calendar, verify_files};
 use std::alloc::Global;
 use std::test::Fail;
 

@@ -9,7 +9,7 @@ ghost use Rattle.std.specs.Prelude.{◌<◌, length};
 mod words;
 
 use crate::words::{Command, words};
-use ksi_host_disk::HostDisk;
+use ksi_disk::HostDisk;
 use ksi_imprint::Sha;
 use ksi_roundstore::{ForgetRefusal, OpenRefusal, forget};
 use ksi_schedule::Plan;

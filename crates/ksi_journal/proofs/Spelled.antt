@@ -20,7 +20,7 @@ use Rattle.ksi_grammar.specs.Reading.{◌>>=◌}
 use Rattle.ksi_order.specs.declared.fault.OrderFault.{OrderFault}
 use Rattle.ksi_order.specs.Fields.{Inside, next_field, field, none_left, done}
 use Rattle.ksi_order.specs.Values.{or_fault, number_at, time_at, imprint_at}
-use Rattle.ksi_format.proofs.Steps.{test_ok}
+use Rattle.ksi_order.proofs.Steps.{test_ok}
 
 -- the laws of elements
 pub record Read : Type 0 where

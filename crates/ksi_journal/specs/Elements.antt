@@ -13,7 +13,7 @@ use Rattle.ksi_order.specs.declared.fault.OrderFault.TheVariants as orders
 use Rattle.ksi_order.specs.Order.{Order, ◌>>=◌}
 use Rattle.ksi_order.specs.Fields.{Inside, inside, field, done}
 use Rattle.ksi_order.specs.Values.{number_at, time_at, imprint_at}
-use Rattle.ksi_format.specs.Format as formats
+use Rattle.ksi_order.specs.Format as formats
 use Rattle.ksi_aggtree.specs.declared.second.Second.{Second}
 use Rattle.ksi_journal.specs.declared.stage.Stage.{Stage}
 use Rattle.ksi_journal.specs.declared.stage.Stage.TheVariants.{Start, Voters, Seconds, Items, Issued, Publications, End}

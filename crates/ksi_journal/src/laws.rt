@@ -16,9 +16,8 @@ use crate::fault::JournalFault;
 use crate::journal::Journal;
 use crate::loading::Loading;
 use ksi_calendar::laws::one_covered;
-use ksi_format::laws::file_is_read;
 use ksi_imprint::Sha;
-use ksi_order::laws::values_are_bounded;
+use ksi_order::laws::{file_is_read, values_are_bounded};
 use ksi_synod::laws::voters_are_cores;
 use ksi_tlv::laws::{numeral_is_read, reading_is_elements, written_is_read};
 

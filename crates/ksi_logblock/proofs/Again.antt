@@ -16,7 +16,7 @@ use Rattle.ksi_order.specs.Fields.{Inside, field, done}
 use Rattle.ksi_order.specs.Values.{imprint_at}
 use Rattle.ksi_order.specs.declared.fault.OrderFault.{OrderFault}
 use Rattle.ksi_order.specs.declared.fault.OrderFault.TheVariants as orders
-use Rattle.ksi_format.proofs.Again.{Written, numeral_again, imprint_again, fits_number, fits_imprint, length-canonical, file_again}
+use Rattle.ksi_order.proofs.Again.{Written, numeral_again, imprint_again, fits_number, fits_imprint, length-canonical, file_again}
 use Rattle.ksi_logblock.specs.declared.line_proof.LineLink.{LineLink}
 use Rattle.ksi_logblock.specs.declared.line_proof.LineProof.{LineProof}
 use Rattle.ksi_logblock.specs.Elements.{Said, correction_at, element_read, link_at, link_in, mask_at, nothing_yet, proof_order, side_of, with_correction, with_sibling}

@@ -8,9 +8,9 @@ use Rattle.ksi_order.specs.declared.fault.OrderFault.TheVariants as orders
 use Rattle.ksi_order.specs.Order.{may_stand}
 use Rattle.ksi_order.specs.Fields.{Inside, inside, field, done}
 use Rattle.ksi_order.specs.Values.{imprint_at}
-use Rattle.ksi_format.specs.Format.{or_named}
-use Rattle.ksi_format.specs.Kinds.{kinds_of}
-use Rattle.ksi_format.proofs.Steps.{bind_ok, or_named_ok, ok_is, if_ok, any_kind, kinds_more, leads_keep, file_kinds}
+use Rattle.ksi_order.specs.Format.{or_named}
+use Rattle.ksi_order.specs.Kinds.{kinds_of}
+use Rattle.ksi_order.proofs.Steps.{bind_ok, or_named_ok, ok_is, if_ok, any_kind, kinds_more, leads_keep, file_kinds}
 use Rattle.ksi_logblock.specs.declared.line_proof.LineLink.{LineLink}
 use Rattle.ksi_logblock.specs.declared.line_proof.LineProof.{LineProof}
 use Rattle.ksi_logblock.specs.declared.proof_fault.ProofFault.{ProofFault}

@@ -10,7 +10,7 @@ use Rattle.ksi_order.specs.Fields.{Inside, inside, field, done}
 use Rattle.ksi_order.specs.Values.{or_fault, imprint_at}
 use Rattle.ksi_order.specs.declared.fault.OrderFault.{OrderFault}
 use Rattle.ksi_order.specs.declared.fault.OrderFault.TheVariants as orders
-use Rattle.ksi_format.specs.Format.{or_named}
+use Rattle.ksi_order.specs.Format.{or_named}
 use Rattle.ksi_logblock.specs.declared.line_proof.LineLink.{LineLink}
 use Rattle.ksi_logblock.specs.declared.proof_fault.ProofFault.{ProofFault}
 use Rattle.ksi_logblock.specs.declared.proof_fault.ProofFault.TheVariants as faults

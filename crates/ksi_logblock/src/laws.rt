@@ -30,7 +30,7 @@ use crate::said::Reading;
 use ksi_aggchain::laws::one_climb;
 use ksi_aggtree::laws::{one_chain, one_round};
 use ksi_beside::laws::beside_a_tree;
-use ksi_format::laws as formats;
+use ksi_order::laws as formats;
 use ksi_split::laws::{one_answer, one_split, one_way};
 use ksi_tlv::laws::{numeral_is_read, written_is_read};
 

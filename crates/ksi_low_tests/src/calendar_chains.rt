@@ -1,5 +1,5 @@
 use crate::same::same;
-use ksi_calchain::{CalendarLink, climb_calendar, second};
+use ksi_calendar::{CalendarLink, climb_calendar, second};
 use ksi_imprint::{Compress, Imprint, NoMemory, Sha, Tiny};
 use ksi_split::Side::{Left, Right};
 use ksi_split::{ShapeFault, Side};

@@ -1,8 +1,7 @@
 ghost use Rattle.std.specs.Prelude.{◌≡◌, ◌≤◌, ◌<◌, ◌+◌, ◌^◌, length, IfOk};
 
 use crate::same::same;
-use ksi_calchain::CalendarLink;
-use ksi_calendar::{Calendar, SecondPath, Steps};
+use ksi_calendar::{Calendar, CalendarLink, SecondPath, Steps};
 use ksi_imprint::{Imprint, NoMemory, Tiny};
 use ksi_split::Side;
 use ksi_split::Side::{Left, Right};

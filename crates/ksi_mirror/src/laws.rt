@@ -14,9 +14,8 @@ ghost use Rattle.ksi_mirror.specs.Written.{mirror_text};
 
 use crate::loading::MirrorLoading;
 use crate::mirror::Mirror;
-use ksi_format::laws::{file_is_read, file_or_fault};
 use ksi_journal::JournalFault;
-use ksi_order::laws::values_are_bounded;
+use ksi_order::laws::{file_is_read, file_or_fault, values_are_bounded};
 use ksi_tlv::laws::{numeral_is_read, written_is_read};
 
 /// The union of two finite maps that agree: of one map with itself it is that map; it is the same in either order; and

@@ -14,7 +14,7 @@ use Rattle.ksi_corenode.specs.declared.event.CoreEvent.{CoreEvent}
 use Rattle.ksi_corenode.specs.declared.fact.Fact.{Fact}
 use Rattle.ksi_corenode.specs.declared.step.Step.{Step}
 use Rattle.ksi_disk.specs.Deeds.{StoredDisk, content_of}
-use Rattle.ksi_gates.specs.declared.log.GateLog.{GateLog}
+use Rattle.ksi_disk.specs.declared.log.GateLog.{GateLog}
 use Rattle.ksi_nodestore.specs.Crashes.{IsRestarted}
 use Rattle.ksi_nodestore.specs.StoreState.{IsStoreOf, StoreState}
 use Rattle.ksi_schedule.specs.declared.event.Event.{Event}

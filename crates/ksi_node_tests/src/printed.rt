@@ -2,7 +2,7 @@
 use crate::text::Text;
 use ksi_aggchain::Link;
 use ksi_aggtree::Item;
-use ksi_calchain::{CalendarLink, climb_calendar};
+use ksi_calendar::{CalendarLink, climb_calendar};
 use ksi_imprint::{Imprint, Sha};
 use ksi_signature::{Above, AboveChain, AggregationChain, Answer, read};
 use ksi_split::Side;

@@ -10,10 +10,10 @@ use Rattle.ksi_corenode.specs.Events.{core_row, event_second}
 use Rattle.ksi_corenode.specs.Lawful.{IsLawful, stored_by, with_new}
 use Rattle.ksi_corenode.specs.Restored.{HasFacts}
 use Rattle.ksi_corenode.specs.declared.step.Step.{Step}
-use Rattle.ksi_gates.specs.declared.ending.Ending.TheVariants.{Closed}
-use Rattle.ksi_gates.specs.declared.log.GateLog.{GateLog}
-use Rattle.ksi_gates.specs.Logs.{IsSettled}
-use Rattle.ksi_gates.specs.Gates.{place_of, reading_of, record_text, records_text}
+use Rattle.ksi_disk.specs.declared.ending.Ending.TheVariants.{Closed}
+use Rattle.ksi_disk.specs.declared.log.GateLog.{GateLog}
+use Rattle.ksi_disk.specs.Logs.{IsSettled}
+use Rattle.ksi_disk.specs.Gates.{place_of, reading_of, record_text, records_text}
 use Rattle.ksi_nodestore.specs.Stores.{AreTexts, IsFileOf}
 use Rattle.ksi_nodestore.specs.StoreState.{IsStoreOf, StoreState}
 use Rattle.ksi_nodestore.proofs.Onward.{texts_size}

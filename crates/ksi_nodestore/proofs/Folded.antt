@@ -4,7 +4,7 @@ use Rattle.std.specs.Prelude.{slice_get}
 use Rattle.std.proofs.lemmas.List.{append-nil, take_at}
 use Rattle.ksi_corenode.specs.declared.fact.Fact.{Fact}
 use Rattle.ksi_corenode.specs.Lawful.{stored_by, AreLawful, IsLawful}
-use Rattle.ksi_gates.specs.Gates.{record_text, records_text}
+use Rattle.ksi_disk.specs.Gates.{record_text, records_text}
 use Rattle.ksi_nodestore.specs.Stores.{AreTexts, AreFactsOf, IsFault}
 use Rattle.ksi_nodestore.specs.FactReading.{facts_read, gone_on}
 use Rattle.ksi_nodestore.proofs.Tested.{next_is}

@@ -6,8 +6,8 @@ use Rattle.std.proofs.lemmas.Bool.Decides.{nat_tests}
 use Rattle.std.proofs.lemmas.List.Elements.{All-nil}
 use Rattle.ksi_synod.specs.CorePlans.{CorePlanState, IsCorePlan}
 use Rattle.ksi_corenode.specs.Lawful.{AreLawful}
-use Rattle.ksi_gates.specs.declared.ending.Ending.TheVariants.{Closed}
-use Rattle.ksi_gates.specs.Gates.{Reading, behind, ends, reading_of, records_text}
+use Rattle.ksi_disk.specs.declared.ending.Ending.TheVariants.{Closed}
+use Rattle.ksi_disk.specs.Gates.{Reading, behind, ends, reading_of, records_text}
 use Rattle.ksi_nodestore.specs.declared.heads.HeaderFault.TheVariants.{Bad}
 use Rattle.ksi_nodestore.specs.Headers.{header_text, is_good, good_header, header_at, empty_file}
 use Rattle.ksi_nodestore.specs.Stores.{AreTexts, IsFileOf}

@@ -6,8 +6,8 @@ use Rattle.ksi_corenode.specs.declared.fact.Fact.{Fact}
 use Rattle.ksi_corenode.specs.Facts.{StableState, stable_state}
 use Rattle.ksi_corenode.specs.CoreState.{CoreState, state_of}
 use Rattle.ksi_corenode.specs.Lawful.{AreLawful, IsLawful, stored_by}
-use Rattle.ksi_gates.specs.Gates.{record_text, records_text, reading_of}
-use Rattle.ksi_gates.specs.Logs.{OpensTo, IsBeforeOrAfter}
+use Rattle.ksi_disk.specs.Gates.{record_text, records_text, reading_of}
+use Rattle.ksi_disk.specs.Logs.{OpensTo, IsBeforeOrAfter}
 use Rattle.ksi_nodestore.specs.Headers.{header_at}
 use Rattle.ksi_nodestore.specs.Texts.{IsTextOf}
 use Rattle.ksi_nodestore.proofs.Spelled.{one_fact}

@@ -8,7 +8,7 @@ use Rattle.ksi_corenode.specs.Facts.{StableState, stable_state, fact_of}
 use Rattle.ksi_corenode.specs.CoreState.{CoreState, state_of}
 use Rattle.ksi_corenode.specs.Events.{core_row, event_second}
 use Rattle.ksi_corenode.specs.Lawful.{IsLawful, MayStore}
-use Rattle.ksi_gates.specs.Drafts.{Draft}
+use Rattle.ksi_disk.specs.Drafts.{Draft}
 use Rattle.ksi_nodestore.specs.Takes.{fact_added, HasRecordFor, IsReady}
 use Rattle.ksi_nodestore.specs.Writing.{CanSpell, most_bytes}
 use Rattle.ksi_nodestore.proofs.Tested.{items_length}

@@ -2,8 +2,8 @@
 use Rattle.std.proofs.Common.{◌≡◌, ℕ, List, [], ◌∷◌, take, get_or, Result, Ok, Err, inl, inr, refl, sym, ap, ◌∙◌}
 use Rattle.ksi_synod.specs.CorePlans.{CorePlanState}
 use Rattle.ksi_corenode.specs.declared.fact.Fact.{Fact}
-use Rattle.ksi_gates.specs.declared.ending.Ending.TheVariants.{Broken}
-use Rattle.ksi_gates.specs.Gates.{reading_of}
+use Rattle.ksi_disk.specs.declared.ending.Ending.TheVariants.{Broken}
+use Rattle.ksi_disk.specs.Gates.{reading_of}
 use Rattle.ksi_nodestore.specs.declared.heads.Header.{Header}
 use Rattle.ksi_nodestore.specs.declared.heads.HeaderFault.{HeaderFault}
 use Rattle.ksi_nodestore.specs.declared.heads.HeaderFault.TheVariants as heads

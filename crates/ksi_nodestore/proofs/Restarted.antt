@@ -8,8 +8,8 @@ use Rattle.ksi_corenode.specs.SecondState.{SecondState}
 use Rattle.ksi_corenode.specs.Facts.{stable_state}
 use Rattle.ksi_corenode.specs.Rows.{restart_row}
 use Rattle.ksi_corenode.specs.Restored.{HasFacts, IsWell}
-use Rattle.ksi_gates.specs.Logs.{IsSettled}
-use Rattle.ksi_gates.specs.declared.log.GateLog.{GateLog}
+use Rattle.ksi_disk.specs.Logs.{IsSettled}
+use Rattle.ksi_disk.specs.declared.log.GateLog.{GateLog}
 use Rattle.ksi_nodestore.specs.Crashes.{IsRestarted}
 use Rattle.ksi_nodestore.specs.Stores.{IsFileOf}
 use Rattle.ksi_nodestore.specs.StoreState.{IsStoreOf, StoreState}

@@ -4,8 +4,8 @@ use Rattle.std.proofs.lemmas.List.{append-nil, take_at, drop_all}
 use Rattle.ksi_synod.specs.CorePlans.{CorePlanState}
 use Rattle.ksi_corenode.specs.declared.fact.Fact.{Fact}
 use Rattle.ksi_disk.specs.Images.{laid_over}
-use Rattle.ksi_gates.specs.declared.ending.Ending.TheVariants.{Closed}
-use Rattle.ksi_gates.specs.Gates.{place_of, reading_of, record_text, records_text}
+use Rattle.ksi_disk.specs.declared.ending.Ending.TheVariants.{Closed}
+use Rattle.ksi_disk.specs.Gates.{place_of, reading_of, record_text, records_text}
 use Rattle.ksi_nodestore.specs.Headers.{header_text}
 use Rattle.ksi_nodestore.specs.Texts.{fact_text, IsTextOf}
 use Rattle.ksi_nodestore.specs.Stores.{AreTexts}

@@ -6,9 +6,9 @@ use Rattle.ksi_synod.specs.CorePlans.{CorePlanState}
 use Rattle.ksi_corenode.specs.declared.fact.Fact.{Fact}
 use Rattle.ksi_corenode.specs.Counted.{count_below}
 use Rattle.ksi_corenode.specs.Lawful.{stored_by}
-use Rattle.ksi_gates.specs.declared.ending.Ending.{Ending}
-use Rattle.ksi_gates.specs.declared.ending.Ending.TheVariants.{Closed, Broken}
-use Rattle.ksi_gates.specs.Gates.{reading_of}
+use Rattle.ksi_disk.specs.declared.ending.Ending.{Ending}
+use Rattle.ksi_disk.specs.declared.ending.Ending.TheVariants.{Closed, Broken}
+use Rattle.ksi_disk.specs.Gates.{reading_of}
 use Rattle.ksi_nodestore.specs.declared.heads.Header.{Header}
 use Rattle.ksi_nodestore.specs.declared.heads.HeaderFault.{HeaderFault}
 use Rattle.ksi_nodestore.specs.declared.heads.HeaderFault.TheVariants as heads

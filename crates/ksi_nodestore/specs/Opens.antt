@@ -5,10 +5,10 @@ use Rattle.ksi_synod.specs.CorePlans.{CorePlanState}
 use Rattle.ksi_corenode.specs.declared.fact.Fact.{Fact}
 use Rattle.ksi_corenode.specs.CoreState.{CoreState}
 use Rattle.ksi_corenode.specs.Restored.{IsOfFacts}
-use Rattle.ksi_gates.specs.declared.ending.Ending.TheVariants as ending
-use Rattle.ksi_gates.specs.declared.log.GateLog.{GateLog}
-use Rattle.ksi_gates.specs.Gates.{reading_of}
-use Rattle.ksi_gates.specs.Logs.{IsSettled}
+use Rattle.ksi_disk.specs.declared.ending.Ending.TheVariants as ending
+use Rattle.ksi_disk.specs.declared.log.GateLog.{GateLog}
+use Rattle.ksi_disk.specs.Gates.{reading_of}
+use Rattle.ksi_disk.specs.Logs.{IsSettled}
 use Rattle.ksi_nodestore.specs.declared.heads.HeaderFault.TheVariants as fault
 use Rattle.ksi_nodestore.specs.declared.refusal.OpenRefusal.{OpenRefusal}
 use Rattle.ksi_nodestore.specs.declared.refusal.OpenRefusal.TheVariants.{Failed, NotFormatted, Foreign, Malformed, NoMemory}

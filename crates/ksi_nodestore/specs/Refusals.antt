@@ -1,6 +1,6 @@
 -- The refusal of a reading as one of an opening.
-use Rattle.ksi_gates.specs.declared.refusal.ReadRefusal.{ReadRefusal}
-use Rattle.ksi_gates.specs.declared.refusal.ReadRefusal.TheVariants as read
+use Rattle.ksi_disk.specs.declared.refusal.ReadRefusal.{ReadRefusal}
+use Rattle.ksi_disk.specs.declared.refusal.ReadRefusal.TheVariants as read
 use Rattle.ksi_nodestore.specs.declared.refusal.OpenRefusal.{OpenRefusal}
 use Rattle.ksi_nodestore.specs.declared.refusal.OpenRefusal.TheVariants as open_refusal
 

@@ -4,8 +4,8 @@ use Rattle.ksi_synod.specs.CorePlans.{CorePlanState}
 use Rattle.ksi_corenode.specs.declared.fact.Fact.{Fact}
 use Rattle.ksi_corenode.specs.CoreState.{CoreState}
 use Rattle.ksi_corenode.specs.Restored.{HasFacts}
-use Rattle.ksi_gates.specs.declared.log.GateLog.{GateLog}
-use Rattle.ksi_gates.specs.Logs.{IsSettled}
+use Rattle.ksi_disk.specs.declared.log.GateLog.{GateLog}
+use Rattle.ksi_disk.specs.Logs.{IsSettled}
 use Rattle.ksi_nodestore.specs.Stores.{IsFileOf}
 
 -- the core, the log of its file, and how many records there are

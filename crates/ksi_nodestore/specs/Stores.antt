@@ -5,8 +5,8 @@ use Rattle.ksi_corenode.specs.declared.fact.Fact.{Fact}
 use Rattle.ksi_corenode.specs.CoreState.{CoreState}
 use Rattle.ksi_corenode.specs.Lawful.{AreLawful, IsLawful, stored_by}
 use Rattle.ksi_corenode.specs.Restored.{IsOfFacts}
-use Rattle.ksi_gates.specs.declared.ending.Ending.TheVariants as ending
-use Rattle.ksi_gates.specs.Gates.{reading_of, records_text}
+use Rattle.ksi_disk.specs.declared.ending.Ending.TheVariants as ending
+use Rattle.ksi_disk.specs.Gates.{reading_of, records_text}
 use Rattle.ksi_nodestore.specs.declared.heads.HeaderFault.TheVariants as fault
 use Rattle.ksi_nodestore.specs.Headers.{header_at}
 use Rattle.ksi_nodestore.specs.Texts.{IsTextOf}

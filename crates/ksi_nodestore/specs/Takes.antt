@@ -10,13 +10,13 @@ use Rattle.ksi_corenode.specs.Events.{core_row, event_second}
 use Rattle.ksi_corenode.specs.Facts.{fact_of}
 use Rattle.ksi_corenode.specs.Lawful.{with_new}
 use Rattle.ksi_disk.specs.Costs.{Affords, Meter, Spends}
-use Rattle.ksi_gates.specs.Drafts.{Draft}
+use Rattle.ksi_disk.specs.Drafts.{Draft}
 use Rattle.ksi_nodestore.specs.declared.refusal.TakeRefusal.{TakeRefusal}
 use Rattle.ksi_nodestore.specs.declared.refusal.TakeRefusal.TheVariants.{Failed, Spent, NoMemory}
 use Rattle.ksi_nodestore.specs.Texts.{fact_text}
 use Rattle.ksi_nodestore.specs.Writing.{CanSpell, most_bytes}
 use Rattle.ksi_nodestore.specs.Stores.{IsFileOf}
-use Rattle.ksi_gates.specs.declared.log.GateLog.{GateLog}
+use Rattle.ksi_disk.specs.declared.log.GateLog.{GateLog}
 use Rattle.ksi_nodestore.specs.Opens.{IsLogOf}
 use Rattle.ksi_nodestore.specs.StoreState.{IsStoreOf, StoreState}
 use Rattle.ksi_nodestore.specs.Spelling.{node_text}

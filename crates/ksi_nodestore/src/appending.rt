@@ -6,7 +6,7 @@ ghost use Rattle.ksi_corenode.specs.Lawful.{stored_by, IsLawful};
 ghost use Rattle.ksi_nodestore.specs.Takes.{AffordsFor, AffordsMost, HasKept, IsFileBeforeOrAfter, IsReady, SpendsFor};
 ghost use Rattle.ksi_disk.specs.Images.{LeavesOnly};
 ghost use Rattle.ksi_disk.specs.Costs.{Affords, DiskCounts, Spends};
-ghost use Rattle.ksi_gates.specs.Logs.{IsSettled};
+ghost use Rattle.ksi_disk.specs.Logs.{IsSettled};
 ghost use Rattle.ksi_nodestore.specs.Texts.{fact_text};
 ghost use Rattle.ksi_nodestore.specs.Writing.{CanSpell, most_bytes};
 ghost use Rattle.ksi_nodestore.specs.Stores.{IsFileOf};
@@ -16,9 +16,8 @@ ghost use Rattle.ksi_nodestore.specs.Spelling.{node_text};
 use crate::writing::put_fact;
 use ksi_corenode::Fact;
 use ksi_corenode::laws::facts_one_by_one;
-use ksi_disk::{Disk, DiskFailed};
-use ksi_gates::laws::records_stand_one_after_the_other;
-use ksi_gates::{GateLog, Record};
+use ksi_disk::laws::records_stand_one_after_the_other;
+use ksi_disk::{Disk, DiskFailed, GateLog, Record};
 
 /// Appends the record of a fact that is lawful after those of the file.
 pub(crate) fn append_fact<D: Disk>(

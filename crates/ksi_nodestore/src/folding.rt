@@ -4,7 +4,7 @@ ghost use Rattle.ksi_synod.specs.CorePlans.{CorePlanState};
 ghost use Rattle.ksi_corenode.specs.declared.fact.Fact.{Fact};
 ghost use Rattle.ksi_corenode.specs.Lawful.{AreLawful};
 ghost use Rattle.ksi_corenode.specs.Restored.{IsOfFacts};
-ghost use Rattle.ksi_gates.specs.Gates.{records_text};
+ghost use Rattle.ksi_disk.specs.Gates.{records_text};
 ghost use Rattle.ksi_nodestore.specs.Stores.{GoesOn};
 ghost use Rattle.ksi_nodestore.specs.Opens.{FoldsAs};
 

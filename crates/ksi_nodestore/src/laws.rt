@@ -19,7 +19,7 @@ ghost use Rattle.ksi_nodestore.specs.Texts.{fact_text, IsReadOf, IsTextOf};
 
 use ksi_corenode::laws::{facts_one_by_one, one_core_of_facts, steps_come_back};
 use ksi_disk::Disk;
-use ksi_gates::laws::records_are_read_again;
+use ksi_disk::laws::records_are_read_again;
 use ksi_imprint::Compress;
 
 /// No two facts have one spelling, and what is spelled is read again.

@@ -1,6 +1,6 @@
 //! A core whose facts are on a disk, so that a crash at any moment is a restart.
 //!
-//! A fact is spelled as the content of one record of `ksi_gates`, behind a header that says whose file it is. [`format`] makes
+//! A fact is spelled as the content of one record of `ksi_disk`, behind a header that says whose file it is. [`format`] makes
 //! an empty file, [`NodeStore::open`] a store of the facts in one, and [`NodeStore::take`] takes an event of the core: room
 //! for its record first, then the core's step, then the record, and only then the step is handed out. So want of memory
 //! leaves all as it was. After a failure of the disk the store is spent: its file is to be opened again.

@@ -6,7 +6,7 @@ ghost use Rattle.ksi_corenode.specs.Events.{event_second};
 ghost use Rattle.ksi_nodestore.specs.Takes.{HasRecordFor, HasRoomFor};
 
 use ksi_corenode::{Core, CoreEvent};
-use ksi_gates::Record;
+use ksi_disk::Record;
 use ksi_imprint::{Compress, NoMemory};
 use std::alloc::Global;
 

@@ -19,7 +19,7 @@ use crate::{Counts, NodeStore, TakeRefusal};
 use ksi_corenode::laws::steps_are_lawful;
 use ksi_corenode::{Core, CoreEvent, Fact, Step};
 use ksi_disk::Disk;
-use ksi_gates::laws::records_stand_one_after_the_other;
+use ksi_disk::laws::records_stand_one_after_the_other;
 use ksi_imprint::Compress;
 
 impl<C: Compress, D: Disk> NodeStore<C, D> {

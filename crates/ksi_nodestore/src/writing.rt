@@ -9,7 +9,7 @@ ghost use Rattle.ksi_nodestore.specs.Writing.{CanSpell, most_bytes};
 
 use ksi_aggtree::{Entry, Name, Origin};
 use ksi_corenode::{Fact, What};
-use ksi_gates::Record;
+use ksi_disk::Record;
 
 /// Spells a fact into an empty record.
 pub(crate) fn put_fact(record_: &mut Record, fact: &Fact)

@@ -4,3 +4,6 @@ pub mod Sequence
 pub mod Fields
 pub mod Values
 pub mod Left
+pub mod Format
+pub mod Reading
+pub mod Kinds

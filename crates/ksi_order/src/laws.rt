@@ -5,6 +5,8 @@ ghost use Rattle.ksi_tlv.specs.Walking.{PlacedTlv, Items};
 ghost use Rattle.ksi_order.specs.Order.{Order, walked};
 ghost use Rattle.ksi_order.specs.Values.{time_at, imprint_at};
 ghost use Rattle.ksi_order.specs.Sequence.{IsWhole, IsFirstFault};
+ghost use Rattle.ksi_order.specs.Format.{Format, IsFile, IsFileFault};
+ghost use Rattle.ksi_order.specs.Reading.{file_at};
 
 /// Elements up to an end are whole and lead to a state, or have a first fault, and not both; and they have one such
 /// state and one first fault.
@@ -32,3 +34,25 @@ pub fn values_are_bounded()
     ensures early { (at : PlacedTlv) (t : ℕ) → time_at at ≡ Ok t → t < 2 ^ 63 }
     ensures imprint { (at : PlacedTlv) (imprint : List ℕ) → imprint_at at ≡ Ok imprint → IsImprint imprint }
 {}
+
+/// Bytes are the file of a value or have a first fault, and not both; and they are the file of one value and have one first
+/// fault.
+pub fn file_or_fault<S, F, A>()
+    ensures one { (f : Format S F A) (bytes : List ℕ) → ((value : A) × IsFile f bytes value) ⊎ ((fault : F) × IsFileFault f bytes fault) }
+    ensures not_both { (f : Format S F A) (bytes : List ℕ) (value : A) (fault : F) →
+        IsFile f bytes value → IsFileFault f bytes fault → ⊥ }
+    ensures one_value { (f : Format S F A) (bytes : List ℕ) (some other : A) →
+        IsFile f bytes some → IsFile f bytes other → some ≡ other }
+    ensures one_fault { (f : Format S F A) (bytes : List ℕ) (fault other : F) →
+        IsFileFault f bytes fault → IsFileFault f bytes other → fault ≡ other }
+{
+    walked_says::<S, F>();
+}
+
+/// What `file_at` gives is the value that the bytes are the file of, or their first fault.
+pub fn file_is_read<S, F, A>()
+    ensures value { (f : Format S F A) (bytes : List ℕ) (value : A) → (file_at f bytes ≡ Ok value) ↔ IsFile f bytes value }
+    ensures fault { (f : Format S F A) (bytes : List ℕ) (fault : F) → (file_at f bytes ≡ Err fault) ↔ IsFileFault f bytes fault }
+{
+    walked_says::<S, F>();
+}

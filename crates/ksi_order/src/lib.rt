@@ -1,4 +1,4 @@
-//! Elements that stand in a stated order, as in journals: the first fault in order of bytes.
+//! Elements that stand in a stated order, as in journals: the first fault in order of bytes, and file formats over them.
 //!
 //! A type says what the elements so far say and what may stand behind them ([`Ordered`]); [`walk`] reads the elements
 //! of bytes into it. The fields inside one element are read by [`Fields`], each in its place, and their values by
@@ -7,6 +7,12 @@
 //! The layer above may rely on this: a walk comes to the state that whole elements in their order lead to, or to the
 //! first fault in order of bytes, and for all bytes to exactly one of these. At one element its being cut off comes
 //! first, then its kind, then what it holds. The readers of fields take no memory.
+//!
+//! A format is a record of its definitions (`specs/Format`): the magic, the order of the elements behind it, and the value
+//! of the state that they lead to. What follows for all formats is said here once, in [`laws`]: bytes are the file of a value
+//! or have a first fault, and not both; they are the file of one value and have one first fault; and `file_at` gives the
+//! value or the fault. The lemmas of `proofs/` serve the proofs of formats: that what is written is read again, and that a
+//! file's elements are those of its value.
 //!
 //! ```text
 //! let mut inside = Fields::new(&at);

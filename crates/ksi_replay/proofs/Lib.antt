@@ -4,3 +4,17 @@ pub mod Copying
 pub mod CoreCopied
 pub mod Gathered
 pub mod Wholeness
+pub mod Chaining
+pub mod Reaching
+pub mod RootsKept
+pub mod Journaled
+pub mod Places
+pub mod Loops
+pub mod Planned
+pub mod Few
+pub mod Weights
+pub mod Thin
+pub mod Leading
+pub mod Ending
+pub mod Unbounded
+pub mod Accepted

@@ -1,7 +1,7 @@
 -- Along the records of a file.
 use Rattle.std.proofs.Common.{◌≡◌, ℕ, ◌+◌, ◌≤◌, ◌<◌, List, [], ◌∷◌, ◌++◌, length, take, drop, get_or, sym, ◌∙◌, ap, arith, length-append}
 use Rattle.std.proofs.lemmas.List.{take_more, take-append-drop}
-use Rattle.ksi_gates.specs.Gates.{record_text, records_text}
+use Rattle.ksi_disk.specs.Gates.{record_text, records_text}
 
 -- one record more of a list
 pub taken : (records : List (List ℕ)) (k : ℕ) (content : List ℕ) → k < length records → content ≡ get_or records k content → take (k + 1) records ≡ take k records ++ content ∷ []

@@ -1,7 +1,7 @@
 -- An aggregator goes on with the facts of records, and the store of what was found.
 use Rattle.std.proofs.Common.{◌≡◌, ℕ, suc, ◌+◌, ◌<◌, List, [], ◌∷◌, ◌++◌, length, take, get_or, true, refl, sym, subst, ap, drop, ◌∙◌}
 use Rattle.std.proofs.lemmas.List.{drop_more, take-append-drop}
-use Rattle.ksi_gates.specs.Gates.{records_text}
+use Rattle.ksi_disk.specs.Gates.{records_text}
 use Rattle.std.specs.List.{AllByRecursion}
 use Rattle.ksi_aggtree.specs.declared.entries.Entry.{Entry}
 use Rattle.ksi_schedule.specs.Plans.{PlanState}
@@ -9,8 +9,8 @@ use Rattle.ksi_aggregator.specs.declared.fact.Fact.{Fact}
 use Rattle.ksi_aggregator.specs.Rounds.{AggregatorState, rounds_of}
 use Rattle.ksi_aggregator.specs.Rows.{RoundState}
 use Rattle.ksi_roundfacts.specs.Restored.{HasFacts, IsOfFacts}
-use Rattle.ksi_gates.specs.declared.log.GateLog.{GateLog}
-use Rattle.ksi_gates.specs.Logs.{IsSettled}
+use Rattle.ksi_disk.specs.declared.log.GateLog.{GateLog}
+use Rattle.ksi_disk.specs.Logs.{IsSettled}
 use Rattle.ksi_roundstore.specs.Folds.{AreFactsOf, GoesOn, HasNoFact, IsAggregatorOf, IsFault}
 use Rattle.ksi_roundstore.specs.Stores.{IsFileOf, IsStoreOf}
 use Rattle.ksi_roundstore.specs.Texts.{event_of}

@@ -4,10 +4,10 @@ use Rattle.ksi_aggregator.specs.declared.fact.Fact.{Fact}
 use Rattle.ksi_aggregator.specs.Rounds.{AggregatorState}
 use Rattle.ksi_disk.specs.Images.{LeavesOnly}
 use Rattle.ksi_disk.specs.ImageLaws.{leaves_now}
-use Rattle.ksi_gates.specs.declared.ending.Ending.TheVariants.{Closed}
-use Rattle.ksi_gates.specs.declared.log.GateLog.{GateLog}
-use Rattle.ksi_gates.specs.Logs.{IsSettled}
-use Rattle.ksi_gates.specs.Gates.{place_of, reading_of, records_text}
+use Rattle.ksi_disk.specs.declared.ending.Ending.TheVariants.{Closed}
+use Rattle.ksi_disk.specs.declared.log.GateLog.{GateLog}
+use Rattle.ksi_disk.specs.Logs.{IsSettled}
+use Rattle.ksi_disk.specs.Gates.{place_of, reading_of, records_text}
 use Rattle.ksi_roundstore.specs.StoreState.{IsStored, records_in}
 use Rattle.ksi_roundstore.specs.Takes.{HasEither, HasMore, HasStored, count_new}
 use Rattle.ksi_roundstore.specs.Texts.{fact_text, with_record}

@@ -10,8 +10,8 @@ use Rattle.std.proofs.Math.Seq.{take-append_seam, take-length}
 use Rattle.ksi_schedule.specs.Plans.{PlanState}
 use Rattle.ksi_aggregator.specs.declared.fact.Fact.{Fact}
 use Rattle.ksi_roundfacts.specs.Lawful.{stored_by, AreLawful}
-use Rattle.ksi_gates.specs.declared.ending.Ending.TheVariants.{Closed}
-use Rattle.ksi_gates.specs.Gates.{Reading, behind, ends, reading_of, records_text}
+use Rattle.ksi_disk.specs.declared.ending.Ending.TheVariants.{Closed}
+use Rattle.ksi_disk.specs.Gates.{Reading, behind, ends, reading_of, records_text}
 use Rattle.ksi_roundstore.specs.declared.heads.Header.{Header}
 use Rattle.ksi_roundstore.specs.Headers.{header_at, magic}
 use Rattle.ksi_roundstore.specs.StoreState.{records_in}

@@ -11,7 +11,7 @@ use Rattle.ksi_aggregator.specs.declared.fact.RoundFact.{RoundFact}
 use Rattle.ksi_aggregator.specs.declared.fact.RoundFact.TheVariants.{Closed, Answered}
 use Rattle.ksi_aggregator.specs.declared.fact.Fact.{Fact}
 use Rattle.ksi_aggregator.specs.Rounds.{fact_of}
-use Rattle.ksi_gates.specs.Gates.{record_text, records_text}
+use Rattle.ksi_disk.specs.Gates.{record_text, records_text}
 use Rattle.ksi_wire.specs.RoundLines.{round_words}
 use Rattle.ksi_roundstore.specs.Written.{AreTexts, IsLine, IsTextOf, IsWritten}
 use Rattle.ksi_roundstore.specs.declared.kind.Kind.{Kind}

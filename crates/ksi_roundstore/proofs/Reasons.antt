@@ -6,8 +6,8 @@ use Rattle.std.proofs.lemmas.Option.{none-some}
 use Rattle.ksi_schedule.specs.Plans.{PlanState}
 use Rattle.ksi_aggregator.specs.declared.fact.Fact.{Fact}
 use Rattle.ksi_roundfacts.specs.Lawful.{AreLawful, IsLawful, stored_by}
-use Rattle.ksi_gates.specs.declared.ending.Ending.TheVariants.{Broken, Closed}
-use Rattle.ksi_gates.specs.Gates.{records_text}
+use Rattle.ksi_disk.specs.declared.ending.Ending.TheVariants.{Broken, Closed}
+use Rattle.ksi_disk.specs.Gates.{records_text}
 use Rattle.ksi_roundstore.specs.declared.heads.Header.{Header}
 use Rattle.ksi_roundstore.specs.declared.refusal.OpenRefusal.{OpenRefusal}
 use Rattle.ksi_roundstore.specs.declared.refusal.OpenRefusal.TheVariants as opens

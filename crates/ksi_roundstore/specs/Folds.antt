@@ -5,7 +5,7 @@ use Rattle.ksi_aggregator.specs.declared.fact.Fact.{Fact}
 use Rattle.ksi_aggregator.specs.Rounds.{AggregatorState}
 use Rattle.ksi_roundfacts.specs.Lawful.{AreLawful, IsLawful, stored_by}
 use Rattle.ksi_roundfacts.specs.Restored.{IsOfFacts}
-use Rattle.ksi_gates.specs.Gates.{records_text}
+use Rattle.ksi_disk.specs.Gates.{records_text}
 use Rattle.ksi_roundstore.specs.declared.refusal.OpenRefusal.{OpenRefusal}
 use Rattle.ksi_roundstore.specs.declared.refusal.OpenRefusal.TheVariants.{Failed, NotFormatted, Foreign, Malformed, NoMemory}
 use Rattle.ksi_roundstore.specs.Written.{AreTexts, IsTextOf}

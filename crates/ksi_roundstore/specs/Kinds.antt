@@ -8,7 +8,7 @@ use Rattle.ksi_aggregator.specs.declared.fact.RoundFact.TheVariants as what
 use Rattle.ksi_aggregator.specs.declared.fact.Fact.{Fact}
 use Rattle.ksi_wire.specs.declared.event.AggregatorLine.{AggregatorLine}
 use Rattle.ksi_wire.specs.declared.event.AggregatorLine.TheVariants as lines
-use Rattle.ksi_gates.specs.Gates.{records_text}
+use Rattle.ksi_disk.specs.Gates.{records_text}
 use Rattle.ksi_roundstore.specs.Written.{AreTexts, IsTextOf}
 use Rattle.ksi_roundstore.specs.declared.kind.Kind.{Kind}
 use Rattle.ksi_roundstore.specs.declared.kind.Kind.TheVariants as kinds

@@ -1,9 +1,9 @@
 -- An aggregator whose facts are on a disk, and what it keeps.
 use Rattle.std.specs.Prelude.{◌≡◌, ℕ, List, length, false}
 use Rattle.ksi_aggregator.specs.Rounds.{AggregatorState}
-use Rattle.ksi_gates.specs.declared.log.GateLog.{GateLog}
-use Rattle.ksi_gates.specs.Logs.{IsSettled}
-use Rattle.ksi_gates.specs.Gates.{reading_of}
+use Rattle.ksi_disk.specs.declared.log.GateLog.{GateLog}
+use Rattle.ksi_disk.specs.Logs.{IsSettled}
+use Rattle.ksi_disk.specs.Gates.{reading_of}
 
 -- the aggregator, the log of its file, and how many records there are
 pub record StoreState (D : Type 0) : Type 0 where

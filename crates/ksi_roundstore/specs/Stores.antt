@@ -6,9 +6,9 @@ use Rattle.ksi_aggregator.specs.declared.fact.Fact.{Fact}
 use Rattle.ksi_aggregator.specs.Rounds.{rounds_of}
 use Rattle.ksi_roundfacts.specs.Lawful.{AreLawful, with_new}
 use Rattle.ksi_roundfacts.specs.Restored.{HasFacts}
-use Rattle.ksi_gates.specs.declared.ending.Ending.TheVariants as ending
-use Rattle.ksi_gates.specs.Gates.{reading_of}
-use Rattle.ksi_gates.specs.Logs.{IsSettled}
+use Rattle.ksi_disk.specs.declared.ending.Ending.TheVariants as ending
+use Rattle.ksi_disk.specs.Gates.{reading_of}
+use Rattle.ksi_disk.specs.Logs.{IsSettled}
 use Rattle.ksi_roundstore.specs.Headers.{header_at}
 use Rattle.ksi_roundstore.specs.StoreState.{StoreState, records_in}
 use Rattle.ksi_roundstore.specs.Texts.{event_of}

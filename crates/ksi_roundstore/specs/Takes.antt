@@ -8,9 +8,9 @@ use Rattle.ksi_aggregator.specs.Events.{event_second, round_row}
 use Rattle.ksi_aggregator.specs.Rows.{RoundState}
 use Rattle.ksi_aggregator.specs.Rounds.{AggregatorState, IsTurn, SameRounds, fact_of, rounds_of}
 use Rattle.ksi_disk.specs.Costs.{Affords, Meter, Spends}
-use Rattle.ksi_gates.specs.declared.log.GateLog.{GateLog}
-use Rattle.ksi_gates.specs.Drafts.{Draft}
-use Rattle.ksi_gates.specs.Logs.{IsSettled, OpensTo}
+use Rattle.ksi_disk.specs.declared.log.GateLog.{GateLog}
+use Rattle.ksi_disk.specs.Drafts.{Draft}
+use Rattle.ksi_disk.specs.Logs.{IsSettled, OpensTo}
 use Rattle.ksi_roundstore.specs.declared.refusal.TakeRefusal.{TakeRefusal}
 use Rattle.ksi_roundstore.specs.declared.refusal.TakeRefusal.TheVariants.{Failed, Spent, NoMemory}
 use Rattle.ksi_roundstore.specs.StoreState.{StoreState, records_in}

@@ -2,12 +2,11 @@
 ghost use Rattle.std.specs.Prelude.{◌≡◌, true, OnErr, OnOk, IsOk};
 ghost use Rattle.ksi_disk.specs.Images.{LeavesOnly};
 ghost use Rattle.ksi_disk.specs.Costs.{DiskCounts};
-ghost use Rattle.ksi_gates.specs.Logs.{IsSettled};
+ghost use Rattle.ksi_disk.specs.Logs.{IsSettled};
 ghost use Rattle.ksi_roundstore.specs.Takes.{AffordsFor, HasEither, HasStored, IsReady, SpendsFor};
 
 use ksi_aggregator::Fact;
-use ksi_disk::{Disk, DiskFailed};
-use ksi_gates::{GateLog, Record};
+use ksi_disk::{Disk, DiskFailed, GateLog, Record};
 
 /// Appends the record of a fact, where there is one.
 pub(crate) fn keep<D: Disk>(

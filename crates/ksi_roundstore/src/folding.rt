@@ -1,7 +1,7 @@
 // The aggregator of the facts that records spell.
 ghost use Rattle.std.specs.Prelude.{◌≡◌, ◌+◌, ◌↔◌, ℕ, List, length, IfOk, IsTrue, OnOk};
 ghost use Rattle.std.specs.List.{AllByRecursion};
-ghost use Rattle.ksi_gates.specs.Gates.{records_text};
+ghost use Rattle.ksi_disk.specs.Gates.{records_text};
 ghost use Rattle.ksi_aggregator.specs.Events.{event_second, MayTake, round_row};
 ghost use Rattle.ksi_aggregator.specs.Rounds.{rounds_of, IsTurn};
 ghost use Rattle.ksi_roundstore.specs.Facts.{is_accepted, TakesAll, TakesAs};

@@ -1,7 +1,7 @@
 ghost use Rattle.std.specs.Prelude.{◌≡◌, ◌<◌, List, length, OnOk};
 ghost use Rattle.ksi_disk.specs.Images.{AddsNone, LeavesOnly, Only};
 ghost use Rattle.ksi_aggregator.specs.declared.fact.Fact.{Fact};
-ghost use Rattle.ksi_gates.specs.Reads.{WroteNothing};
+ghost use Rattle.ksi_disk.specs.Reads.{WroteNothing};
 ghost use Rattle.ksi_roundstore.specs.Stores.{IsFileOf};
 ghost use Rattle.ksi_disk.specs.Costs.{DiskCounts};
 ghost use Rattle.ksi_roundstore.specs.Forgets.{ForgetCounts, ForgetsAs, disk_after};

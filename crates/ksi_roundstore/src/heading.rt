@@ -1,7 +1,7 @@
 // Whose file it is.
 ghost use Rattle.std.specs.Prelude.{◌≡◌, ℕ, List, length, take, IsErrOf};
 ghost use Rattle.ksi_disk.specs.Costs.{Affords};
-ghost use Rattle.ksi_gates.specs.Reads.{WroteNothing};
+ghost use Rattle.ksi_disk.specs.Reads.{WroteNothing};
 ghost use Rattle.ksi_roundstore.specs.declared.refusal.OpenRefusal.TheVariants.{Failed};
 ghost use Rattle.ksi_roundstore.specs.Opens.{CountsReads, HeadsAs, StaysRead};
 

@@ -29,7 +29,7 @@ ghost use Rattle.ksi_roundstore.specs.Takes.{fact_added, HasEither, HasStored, T
 ghost use Rattle.ksi_roundstore.specs.Written.{IsWritten};
 
 use ksi_disk::Disk;
-use ksi_gates::laws::records_are_read_again;
+use ksi_disk::laws::records_are_read_again;
 use ksi_imprint::Compress;
 use ksi_roundfacts::laws::{
     facts_one_by_one, one_aggregator_of_facts, settled_rounds_stay, steps_are_lawful,

@@ -1,7 +1,7 @@
 //! An aggregator whose facts are on a disk, so that a crash at any moment is a restart; and what is left of its file when
 //! it forgets rounds that have a response.
 //!
-//! A fact is spelled as the lines of the events that make it, as the content of one record of `ksi_gates`, behind a header
+//! A fact is spelled as the lines of the events that make it, as the content of one record of `ksi_disk`, behind a header
 //! that says whose file it is. [`format`] makes an empty file, [`RoundStore::open`] a store of the facts in one, and
 //! [`RoundStore::take`] takes an event of the aggregator: the record of its fact first, then the aggregator's step, then the
 //! record is appended, and only then the step is handed out. So want of memory leaves all as it was. After a failure of the

@@ -2,7 +2,7 @@
 ghost use Rattle.std.specs.Prelude.{◌≡◌, ◌<◌, ◌≤◌, ◌^◌, ◌++◌, ◌∷◌, ◌&&◌, [], length, nat_lt, IfOk};
 ghost use Rattle.std.specs.Ordering.{nat_cmp};
 ghost use Rattle.std.specs.BTreeSet.{contains};
-ghost use Rattle.ksi_gates.specs.Gates.{record_text};
+ghost use Rattle.ksi_disk.specs.Gates.{record_text};
 ghost use Rattle.ksi_roundstore.specs.Kinds.{IsPut, IsPutAll, IsPutOf, records_stay, stays};
 
 use crate::answered::is_forgotten;

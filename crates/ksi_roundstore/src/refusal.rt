@@ -1,5 +1,4 @@
-use ksi_disk::DiskFailed;
-use ksi_gates::ReadRefusal;
+use ksi_disk::{DiskFailed, ReadRefusal};
 use ksi_imprint::NoMemory;
 
 /// Why the file of an aggregator was not opened.
@@ -83,7 +82,7 @@ impl From<DiskFailed> for OpenRefusal {
 
 impl From<ReadRefusal> for OpenRefusal {
     ghost use Rattle.std.specs.Prelude.{◌≡◌};
-    ghost use Rattle.ksi_gates.specs.declared.refusal.ReadRefusal.{ReadRefusal};
+    ghost use Rattle.ksi_disk.specs.declared.refusal.ReadRefusal.{ReadRefusal};
     ghost use Rattle.ksi_roundstore.specs.Refusals.{as_refusal};
 
     ghost from_gives = { λ read refusal. refusal ≡ as_refusal read };

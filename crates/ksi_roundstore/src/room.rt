@@ -6,7 +6,7 @@ ghost use Rattle.ksi_roundstore.specs.Takes.{HasRecordFor};
 
 use crate::writing::{closed_text, line_text};
 use ksi_aggregator::{Aggregator, RoundEvent};
-use ksi_gates::Record;
+use ksi_disk::Record;
 use ksi_imprint::{Compress, NoMemory};
 use std::alloc::Global;
 

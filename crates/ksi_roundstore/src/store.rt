@@ -1,6 +1,5 @@
 use ksi_aggregator::Aggregator;
-use ksi_disk::Disk;
-use ksi_gates::GateLog;
+use ksi_disk::{Disk, GateLog};
 use ksi_imprint::Compress;
 use std::alloc::Global;
 use std::marker::Model;

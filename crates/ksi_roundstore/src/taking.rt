@@ -11,7 +11,7 @@ use crate::room::record_for;
 use crate::{RoundStore, TakeRefusal};
 use ksi_aggregator::{Aggregator, Fact, RoundEvent, Step};
 use ksi_disk::Disk;
-use ksi_gates::laws::records_stand_one_after_the_other;
+use ksi_disk::laws::records_stand_one_after_the_other;
 use ksi_imprint::Compress;
 
 impl<C: Compress, D: Disk> RoundStore<C, D> {

@@ -5,7 +5,7 @@
 
 ghost use Rattle.std.specs.Prelude.{◌<◌, length};
 
-use ksi_host_disk::HostDisk;
+use ksi_disk::HostDisk;
 use ksi_imprint::Sha;
 use ksi_roundstore::{OpenRefusal, RoundStore, format};
 use ksi_schedule::Plan;

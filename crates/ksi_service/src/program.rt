@@ -1,11 +1,10 @@
 // What the programs of nodes share.
 ghost use Rattle.std.specs.Prelude.{◌≡◌, length, IfOk};
 ghost use Rattle.ksi_disk.specs.Images.{Only};
-ghost use Rattle.ksi_host_disk.specs.Host.{content_of, images_of};
+ghost use Rattle.ksi_disk.specs.Host.{content_of, images_of};
 
 use crate::failure::Failure;
-use ksi_disk::DiskFailed;
-use ksi_host_disk::HostDisk;
+use ksi_disk::{DiskFailed, HostDisk};
 use ksi_imprint::Refused;
 use ksi_schedule::{Plan, read_number, read_schedule};
 use std::io::Write;

@@ -4,7 +4,7 @@ use crate::drawing::{
 };
 use crate::spans::{Span, span_beside};
 use ksi_aggchain::{LinkView, Node, climb_link};
-use ksi_calchain::{CalendarLink, climb_calendar};
+use ksi_calendar::{CalendarLink, climb_calendar};
 use ksi_imprint::{Imprint, NoMemory, Sha};
 use ksi_signature::{CalendarView, ChainView, SignatureView};
 use ksi_split::Side;

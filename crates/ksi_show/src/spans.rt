@@ -1,5 +1,5 @@
 // Which seconds the other part of a link of a calendar chain stands for.
-use ksi_calchain::CalendarLink;
+use ksi_calendar::CalendarLink;
 use ksi_split::{Side, split};
 
 /// Seconds from the first to the last.

@@ -18,7 +18,7 @@ use crate::kinds::{
 use crate::refusal::WriteRefusal;
 use crate::signature::PublicationRecord;
 use ksi_aggchain::{Link, Sibling};
-use ksi_calchain::CalendarLink;
+use ksi_calendar::CalendarLink;
 use ksi_grammar::{put_short, written_published};
 use ksi_imprint::{Bytes, Imprint, Refused};
 use ksi_split::Side;

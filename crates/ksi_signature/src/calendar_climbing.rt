@@ -3,8 +3,8 @@
 ghost use Rattle.std.specs.Prelude.{◌≡◌, Ok};
 ghost use Rattle.ksi_split.specs.Parts.{second_at};
 ghost use Rattle.ksi_split.specs.Trees.{climb_links};
-ghost use Rattle.ksi_calchain.specs.Climbing.{calendar_element_text, calendar_join};
-ghost use Rattle.ksi_calchain.specs.Sides.{sides_from_top};
+ghost use Rattle.ksi_calendar.specs.Climbing.{calendar_element_text, calendar_join};
+ghost use Rattle.ksi_calendar.specs.Sides.{sides_from_top};
 ghost use Rattle.ksi_tlv.specs.Views.{view_placed};
 ghost use Rattle.ksi_grammar.specs.Reading.{inner_verdict};
 ghost use Rattle.ksi_grammar.specs.Inside.{inner_elements};
@@ -47,7 +47,7 @@ fn join_at<C: Compress>(node: &Imprint, link: &Placed<'_>) -> Imprint
 /// The second that the sides of an accepted calendar chain name among those from 0 to `p`.
 ///
 /// # Errors
-/// As [`ksi_calchain::second`] has them.
+/// As [`ksi_calendar::second`] has them.
 #[tactic(auto, unfolding(crate::specs::Contents::calendar_in))]
 pub(crate) fn second_in(at: &Placed<'_>, p: u64) -> Result<u64, ShapeFault>
     requires { inner_verdict calendar_table (view_placed at.now) ≡ Ok tt }

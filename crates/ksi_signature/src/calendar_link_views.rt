@@ -1,7 +1,7 @@
 ghost use Rattle.std.specs.Prelude.{◌≡◌, ◌<◌, ◌≤◌, ◌++◌, ◌∷◌, [], length};
 
 use crate::arrays::append_at;
-use ksi_calchain::CalendarLink;
+use ksi_calendar::CalendarLink;
 use ksi_imprint::Imprint;
 use ksi_split::Side;
 use std::marker::Model;

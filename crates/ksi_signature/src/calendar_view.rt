@@ -29,8 +29,8 @@ impl<'a> CalendarView<'a> {
     ghost use Rattle.std.specs.Prelude.{◌≡◌, ◌<◌, ◌≤◌, ◌^◌, Ok, length};
     ghost use Rattle.ksi_split.specs.Parts.{second_at};
     ghost use Rattle.ksi_split.specs.Trees.{climb_links};
-    ghost use Rattle.ksi_calchain.specs.Climbing.{calendar_join};
-    ghost use Rattle.ksi_calchain.specs.Sides.{sides_from_top};
+    ghost use Rattle.ksi_calendar.specs.Climbing.{calendar_join};
+    ghost use Rattle.ksi_calendar.specs.Sides.{sides_from_top};
     ghost use Rattle.ksi_tlv.specs.Views.{view_placed};
     ghost use Rattle.ksi_grammar.specs.Reading.{inner_verdict};
     ghost use Rattle.ksi_signature.specs.Tables.{calendar_table};
@@ -94,7 +94,7 @@ impl<'a> CalendarView<'a> {
     /// The second that the links' sides name among those from 0 to the publication time.
     ///
     /// # Errors
-    /// As [`ksi_calchain::second`] has them.
+    /// As [`ksi_calendar::second`] has them.
     #[tactic(auto, unfolding(crate::specs::Contents::calendar_in))]
     pub fn second(&self) -> Result<u64, ShapeFault>
         ensures { result ≡ second_at (calendar_seen self.now).publication (sides_from_top (calendar_seen self.now).links) }

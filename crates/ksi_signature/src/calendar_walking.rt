@@ -15,7 +15,7 @@ use crate::contents::{imprint_of, is_link, side_of, time_of};
 use crate::head::CalendarHead;
 use crate::kinds::{AGGREGATION_TIME, INPUT_HASH, PUBLICATION_TIME};
 use crate::within::calendar_is_limited;
-use ksi_calchain::CalendarLink;
+use ksi_calendar::CalendarLink;
 use ksi_grammar::laws::inside_is_whole;
 use ksi_tlv::{Elements, Placed};
 

@@ -9,7 +9,7 @@ ghost use Rattle.ksi_signature.specs.Carried.{IsAboveChain, IsAbove};
 use crate::above::{Above, AboveChain};
 use crate::signature::{CalendarChain, PublicationRecord};
 use ksi_aggchain::{Link, Sibling};
-use ksi_calchain::CalendarLink;
+use ksi_calendar::CalendarLink;
 use ksi_imprint::Imprint;
 
 pub(crate) fn calendar_is_kept(chain: &CalendarChain)

@@ -17,7 +17,7 @@ use crate::lists::{Bodies, CalendarLinks, Chains, Index};
 use crate::record_view::RecordView;
 use crate::signature::{AggregationChain, CalendarChain, PublicationRecord, Signature};
 use crate::signature_view::SignatureView;
-use ksi_calchain::CalendarLink;
+use ksi_calendar::CalendarLink;
 use ksi_imprint::Bytes;
 use ksi_tlv::{Elements, Placed};
 use std::alloc::Global;

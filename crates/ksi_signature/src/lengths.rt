@@ -12,7 +12,7 @@ use crate::kinds::{
     AGGREGATION_TIME, INPUT_HASH, LEFT_LINK, PUBLICATION_TIME, PUBLISHED, REFERENCE, REPOSITORY,
 };
 use crate::signature::{CalendarChain, PublicationRecord};
-use ksi_calchain::CalendarLink;
+use ksi_calendar::CalendarLink;
 use ksi_imprint::{Bytes, Imprint};
 
 /// An element with a body of so many bytes.

@@ -5,7 +5,7 @@ ghost use Rattle.ksi_signature.specs.Values.{Aggregation, AreLinks, AreChains};
 
 use crate::signature::AggregationChain;
 use ksi_aggchain::Link;
-use ksi_calchain::CalendarLink;
+use ksi_calendar::CalendarLink;
 use ksi_imprint::Bytes;
 use std::marker::Model;
 

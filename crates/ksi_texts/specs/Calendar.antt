@@ -7,8 +7,8 @@ use Rattle.ksi_split.specs.Trees.{climb_links, link_from}
 use Rattle.ksi_split.specs.declared.tree_link.TreeLink.{TreeLink}
 use Rattle.ksi_split.specs.declared.fault.ShapeFault.{ShapeFault}
 use Rattle.ksi_schedule.specs.Printed.{hex_of}
-use Rattle.ksi_calchain.specs.Climbing.{calendar_join}
-use Rattle.ksi_calchain.specs.Sides.{sides_from_top}
+use Rattle.ksi_calendar.specs.Climbing.{calendar_join}
+use Rattle.ksi_calendar.specs.Sides.{sides_from_top}
 use Rattle.ksi_signature.specs.Values.{Calendar, Publishing}
 use Rattle.ksi_texts.specs.Chains.{side_word}
 use Rattle.ksi_texts.specs.Words.{second_text, short_text}

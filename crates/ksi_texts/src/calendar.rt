@@ -7,7 +7,7 @@ ghost use Rattle.ksi_texts.specs.Calendar.{calendar_head, calendar_rows, chain_r
 use crate::chains::side_word;
 use crate::printing::put;
 use crate::word::Word::{Digest, Number, Second, Short, Text};
-use ksi_calchain::{CalendarLink, climb_calendar, second};
+use ksi_calendar::{CalendarLink, climb_calendar, second};
 use ksi_imprint::{Imprint, NoMemory, Sha};
 use ksi_signature::{CalendarView, RecordView};
 use ksi_split::ShapeFault;

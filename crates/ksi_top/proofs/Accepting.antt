@@ -12,8 +12,8 @@ use Rattle.ksi_publications.specs.File.{IsPublications}
 use Rattle.ksi_publications.specs.Reading.{publications_at}
 use Rattle.ksi_verifier.specs.declared.verdict.Verdict.TheVariants.{Accepted}
 use Rattle.ksi_verifier.specs.Verdict.{verdict}
-use Rattle.ksi_history.specs.Joined.{Lasts}
-use Rattle.ksi_history.specs.Lasting.{LastsTo}
+use Rattle.ksi_replay.specs.Joined.{Lasts}
+use Rattle.ksi_replay.specs.Lasting.{LastsTo}
 use Rattle.ksi_extender.specs.Accepted.{extended_signature}
 use Rattle.ksi_extender.specs.Extended.{extended}
 use Rattle.ksi_replay.specs.Journals.{journal_of}

@@ -13,7 +13,7 @@ use Rattle.ksi_world.specs.Records.{issued_of}
 use Rattle.ksi_journal.specs.Journal.{root_at}
 use Rattle.ksi_replay.specs.Journals.{journal_of}
 use Rattle.ksi_extender.specs.Extended.{extended}
-use Rattle.ksi_history.specs.Lasting.{Publish}
+use Rattle.ksi_replay.specs.Lasting.{Publish}
 use Rattle.ksi_words.specs.Words.{Asked, verify}
 use Rattle.ksi_top.specs.declared.report.Report.{Report}
 use Rattle.ksi_top.specs.Loading.{content, file_limit}

@@ -1,8 +1,8 @@
 -- The command `drill`.
 use Rattle.std.specs.Prelude.{◌≡◌, ℕ, List, [], ◌∷◌, codes}
 use Rattle.std.specs.Fmt.{decimal}
-use Rattle.ksi_drill.specs.declared.tally.Tally.{Tally}
-use Rattle.ksi_drill.specs.Drill.{drilled}
+use Rattle.ksi_replay.specs.declared.tally.Tally.{Tally}
+use Rattle.ksi_replay.specs.Drill.{drilled}
 use Rattle.ksi_lines.specs.Lines.{line_text}
 use Rattle.ksi_top.specs.declared.report.Report.{Report}
 use Rattle.ksi_top.specs.declared.status.Status.TheVariants.{Done}

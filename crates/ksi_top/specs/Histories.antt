@@ -11,7 +11,7 @@ use Rattle.ksi_world.specs.Validity.{IsProposed}
 use Rattle.ksi_world.specs.Wire.{ResponsesClimb}
 use Rattle.ksi_replay.specs.Journals.{journal_of}
 use Rattle.ksi_facts.specs.Recalled.{IsRecalled}
-use Rattle.ksi_history.specs.Joined.{IsPublished, Lasts}
+use Rattle.ksi_replay.specs.Joined.{IsPublished, Lasts}
 
 -- After every history, whichever messages are lost, repeated, late or out of order, and whichever nodes restart:
 pub record HoldsOver (history : History) : Type 0 where

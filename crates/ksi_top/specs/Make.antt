@@ -4,7 +4,7 @@ use Rattle.std.specs.Fmt.{decimal}
 use Rattle.ksi_schedule.specs.Events.{History}
 use Rattle.ksi_schedule.specs.Printed.{schedule_text}
 use Rattle.ksi_schedule.specs.Spelled.{IsScheduleText}
-use Rattle.ksi_generate.specs.Generate.{generated}
+use Rattle.ksi_replay.specs.Generate.{generated}
 use Rattle.ksi_lines.specs.Lines.{line_text}
 use Rattle.ksi_top.specs.declared.report.Report.{Report}
 use Rattle.ksi_top.specs.Reports.{CommandRow, saving, ends}

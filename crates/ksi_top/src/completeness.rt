@@ -6,8 +6,8 @@ ghost use Rattle.ksi_top.specs.Complete.{Complete};
 ghost use Rattle.ksi_top.specs.Run.{run};
 
 use crate::histories::histories_hold;
-use ksi_history::laws::extensions_are_bytes;
 use ksi_publications::laws::publications_are_read;
+use ksi_replay::laws::extensions_are_bytes;
 use ksi_signature::laws::signature_is_read;
 
 /// Over the files of a signature that was issued and extended, `verify` reports that it is accepted.

@@ -10,9 +10,9 @@ ghost use Rattle.ksi_replay.specs.Journals.{journal_of};
 ghost use Rattle.ksi_top.specs.Histories.{HoldsOver};
 
 use ksi_facts::laws::history_is_recalled;
-use ksi_history::laws::history_is_joined;
 use ksi_imprint::laws::hashes_are_bytes;
 use ksi_journal::laws::written_is_journal;
+use ksi_replay::laws::history_is_joined;
 use ksi_schedule::laws::spelled_is_schedule;
 use ksi_world::laws::{agreement, held_stays, responses_climb, validity};
 

@@ -2,14 +2,14 @@
 ghost use Rattle.std.specs.Prelude.{◌≡◌, IfOk};
 ghost use Rattle.ksi_schedule.specs.Printed.{schedule_text};
 ghost use Rattle.ksi_schedule.specs.Spelled.{IsScheduleText};
-ghost use Rattle.ksi_generate.specs.Generate.{generated};
+ghost use Rattle.ksi_replay.specs.Generate.{generated};
 ghost use Rattle.ksi_top.specs.Make.{IsMade, made};
 
 use crate::report::{Report, Saved};
-use ksi_generate::generate;
 use ksi_imprint::NoMemory;
 use ksi_lines::Word::{Number, Text};
 use ksi_lines::print;
+use ksi_replay::generate;
 use ksi_schedule::Schedule;
 use std::alloc::Global;
 

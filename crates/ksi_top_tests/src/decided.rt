@@ -2,9 +2,8 @@
 // cores hold one root for it then, whatever was lost, repeated or late before.
 use crate::moments::front;
 use crate::rows::are_so;
-use ksi_generate::generate;
 use ksi_imprint::{Bytes, Imprint, Sha};
-use ksi_replay::replay;
+use ksi_replay::{generate, replay};
 use ksi_schedule::{print, read_schedule};
 use std::alloc::Global;
 use std::test::Fail;

@@ -1,5 +1,5 @@
 use crate::rows::are_so;
-use ksi_drill::{NoMemory, drill};
+use ksi_replay::{NoMemory, drill};
 use std::alloc::Global;
 use std::test::Fail;
 

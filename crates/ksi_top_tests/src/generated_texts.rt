@@ -1,8 +1,8 @@
 use crate::rows::are_so;
 use crate::same::same;
 use crate::schedules::text_of;
-use ksi_generate::generate;
 use ksi_imprint::NoMemory;
+use ksi_replay::generate;
 use ksi_schedule::Event;
 use std::alloc::Global;
 use std::test::Fail;

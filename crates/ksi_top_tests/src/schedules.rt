@@ -1,6 +1,6 @@
 // Texts of schedules, by their names.
-use ksi_generate::generate;
 use ksi_imprint::Bytes;
+use ksi_replay::generate;
 use ksi_schedule::print;
 use std::alloc::Global;
 

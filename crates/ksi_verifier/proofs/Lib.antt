@@ -6,3 +6,7 @@ pub mod Levels
 pub mod Breaks
 pub mod Orders
 pub mod Turns
+pub mod Verified
+pub mod Along
+pub mod AlongCalendar
+pub mod Ways

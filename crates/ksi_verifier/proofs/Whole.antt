@@ -12,8 +12,8 @@ use Rattle.ksi_split.specs.Ways.{NamesSecond}
 use Rattle.ksi_aggchain.specs.Links.{PlainLink}
 use Rattle.ksi_aggchain.specs.Climbing.{Climbs, climbed}
 use Rattle.ksi_aggchain.specs.declared.node.Node.{Node}
-use Rattle.ksi_calchain.specs.Climbing.{ClimbsCalendar, calendar_join}
-use Rattle.ksi_calchain.specs.Sides.{sides_from_top}
+use Rattle.ksi_calendar.specs.Climbing.{ClimbsCalendar, calendar_join}
+use Rattle.ksi_calendar.specs.Sides.{sides_from_top}
 use Rattle.ksi_publications.specs.Finding.{find}
 use Rattle.ksi_signature.specs.Values.{Calendar, Publishing}
 use Rattle.ksi_signature.specs.declared.signature.Signature.{Signature}

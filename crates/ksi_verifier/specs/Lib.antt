@@ -7,3 +7,5 @@ pub mod Verdict
 pub mod Accepted
 pub mod Leading
 pub mod Bytes
+pub mod Files
+pub mod Steps

@@ -6,8 +6,8 @@ use Rattle.ksi_split.specs.Parts.{second_at}
 use Rattle.ksi_split.specs.Trees.{climb_links}
 use Rattle.ksi_split.specs.declared.fault.ShapeFault.{ShapeFault}
 use Rattle.ksi_aggchain.specs.declared.node.Node.{Node}
-use Rattle.ksi_calchain.specs.Climbing.{calendar_join}
-use Rattle.ksi_calchain.specs.Sides.{sides_from_top}
+use Rattle.ksi_calendar.specs.Climbing.{calendar_join}
+use Rattle.ksi_calendar.specs.Sides.{sides_from_top}
 use Rattle.ksi_publications.specs.Finding.{find}
 use Rattle.ksi_signature.specs.Values.{Calendar}
 use Rattle.ksi_signature.specs.declared.signature.Signature.{Signature}

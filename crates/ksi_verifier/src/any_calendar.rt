@@ -1,13 +1,13 @@
 ghost use Rattle.std.specs.Prelude.{◌≡◌};
 ghost use Rattle.ksi_split.specs.Parts.{second_at};
-ghost use Rattle.ksi_calchain.specs.Sides.{sides_from_top};
+ghost use Rattle.ksi_calendar.specs.Sides.{sides_from_top};
 ghost use Rattle.ksi_signature.specs.PartsSeen.{calendar_seen};
 ghost use Rattle.ksi_signature.specs.Values.{Calendar};
 ghost use Rattle.ksi_verifier.specs.Lent.{calendar_of};
 ghost use Rattle.ksi_verifier.specs.Verdict.{chain_root};
 
 use crate::lent::CalendarPart;
-use ksi_calchain::climb_calendar;
+use ksi_calendar::climb_calendar;
 use ksi_imprint::{Compress, Imprint};
 use ksi_signature::CalendarView;
 use ksi_split::ShapeFault;
@@ -32,7 +32,7 @@ pub(crate) trait AnyCalendar {
     /// The second that the links' sides name among those from 0 to the publication time.
     ///
     /// # Errors
-    /// As [`ksi_calchain::second`] has them.
+    /// As [`ksi_calendar::second`] has them.
     fn second(&self) -> Result<u64, ShapeFault>
         ensures { result ≡ second_at (plain self.now).publication (sides_from_top (plain self.now).links) };
 
@@ -57,7 +57,7 @@ impl AnyCalendar for CalendarPart<'_> {
     }
 
     fn second(&self) -> Result<u64, ShapeFault> {
-        ksi_calchain::second(self.publication, self.links)
+        ksi_calendar::second(self.publication, self.links)
     }
 
     fn climb<C: Compress>(&self) -> Imprint {

@@ -4,7 +4,7 @@ ghost use Rattle.ksi_split.specs.Ways.{NamesSecond, PassesLeaf, EndsAbove};
 ghost use Rattle.ksi_split.specs.declared.fault.ShapeFault.TheVariants.{TooMany, TooFew};
 ghost use Rattle.ksi_aggchain.specs.Climbing.{Climbs};
 ghost use Rattle.ksi_aggchain.specs.declared.node.Node.{Node};
-ghost use Rattle.ksi_calchain.specs.Sides.{sides_from_top};
+ghost use Rattle.ksi_calendar.specs.Sides.{sides_from_top};
 ghost use Rattle.ksi_signature.specs.Values.{Calendar};
 ghost use Rattle.ksi_signature.specs.declared.signature.Signature.{Signature};
 ghost use Rattle.ksi_verifier.specs.declared.aggregated.Aggregated.{Aggregated};
@@ -23,7 +23,7 @@ pub fn accepted()
         (verdict image signature hash publications ≡ verdicts.Accepted t) ↔ IsAccepted image signature hash publications t }
 {
     ksi_aggchain::laws::one_climb();
-    ksi_calchain::laws::one_climb();
+    ksi_calendar::laws::one_climb();
     ksi_split::laws::one_answer();
 }
 

@@ -1,4 +1,4 @@
-use ksi_calchain::CalendarLink;
+use ksi_calendar::CalendarLink;
 use ksi_imprint::Imprint;
 
 /// A calendar chain whose links are lent.

@@ -12,7 +12,8 @@
 //! first fault it gives where they are no signature; [`aggregate`] and [`aggregate_view`] do V2 to V6 and V15
 //! alone, and give the chains' time and the node that they lead to. No call takes memory, so that none may want it. In
 //! [`laws`] stands what the checks mean whatever their order: `accepted` turns an accepted signature into the facts that
-//! make it one, and back.
+//! make it one, and back. [`verify_files`] is the whole check from bytes to verdict, over a signature file and a
+//! publications file that are lent, as for a call from C or from a page; [`find_step`] gives one step of it, to be shown.
 //!
 //! ```text
 //! let publications = ksi_publications::read(alloc, file)?;
@@ -33,6 +34,8 @@ mod calendar;
 mod chains;
 mod checking;
 mod difference;
+mod files_checking;
+mod files_verdict;
 mod index;
 pub mod laws;
 mod lent;
@@ -41,6 +44,8 @@ mod lent_checking;
 mod owned;
 mod publication;
 mod refusal;
+mod step;
+mod stepping;
 mod verdict;
 
 pub use aggregated::{Aggregated, aggregate};
@@ -49,8 +54,12 @@ pub use bytes_checking::verify_bytes;
 pub use bytes_verdict::BytesVerdict;
 pub use checking::verify;
 pub use difference::RecordDifference;
+pub use files_checking::verify_files;
+pub use files_verdict::FilesVerdict;
 pub use lent::{CalendarPart, RecordPart};
 pub use lent_checking::{aggregate_view, lent_calendar, verify_lent, verify_view};
 pub use owned::calendar_part;
 pub use refusal::Refusal;
+pub use step::Step;
+pub use stepping::find_step;
 pub use verdict::Verdict;

@@ -7,7 +7,7 @@ use Rattle.ksi_imprint.specs.Imprints.{IsImprint, join_text, zero_imprint}
 use Rattle.ksi_split.specs.declared.side.Side.TheVariants.{Left, Right}
 use Rattle.ksi_split.specs.declared.tree_link.TreeLink.{TreeLink}
 use Rattle.ksi_split.specs.Trees.{tree_within, tree, path_within, path_of}
-use Rattle.ksi_calchain.specs.Climbing.{calendar_join, calendar_join_text}
+use Rattle.ksi_calendar.specs.Climbing.{calendar_join, calendar_join_text}
 use Rattle.ksi_calendar.specs.Calendar.{calendar_leaf, calendar_path}
 use Rattle.ksi_aggchain.specs.Climbing.{Climbs, level_after}
 use Rattle.ksi_aggchain.specs.Links.{PlainLink}

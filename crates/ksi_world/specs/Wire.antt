@@ -6,7 +6,7 @@ use Rattle.ksi_aggchain.specs.declared.node.Node.{Node}
 use Rattle.ksi_aggtree.specs.declared.entries.Entry.{Entry}
 use Rattle.ksi_aggtree.specs.Rounds.{tree_of}
 use Rattle.ksi_aggtree.specs.Entries.{items_of}
-use Rattle.ksi_calchain.specs.Climbing.{ClimbsCalendar}
+use Rattle.ksi_calendar.specs.Climbing.{ClimbsCalendar}
 use Rattle.ksi_signature.specs.declared.above.Above.{Above}
 use Rattle.ksi_calendar.specs.Covered.{IsCovered, covered_root}
 use Rattle.ksi_schedule.specs.declared.actor.Actor.{Actor}

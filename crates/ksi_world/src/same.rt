@@ -4,7 +4,7 @@ ghost use Rattle.std.specs.Prelude.{◌≡◌, ◌↔◌, IsTrue};
 use crate::message::Content;
 use ksi_aggchain::{Link, Sibling};
 use ksi_aggtree::{Item, Name};
-use ksi_calchain::CalendarLink;
+use ksi_calendar::CalendarLink;
 use ksi_signature::{Above, AboveChain};
 
 pub(crate) fn is_same_content(one: &Content, other: &Content) -> bool

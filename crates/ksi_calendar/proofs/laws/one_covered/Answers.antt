@@ -1,5 +1,5 @@
 use Rattle.std.proofs.Common.{◌+◌, ◌∙◌, sym, arith}
-use Rattle.ksi_calchain.specs.Climbing.{calendar_join}
+use Rattle.ksi_calendar.specs.Climbing.{calendar_join}
 use Rattle.ksi_calendar.specs.Calendar.{calendar_leaf}
 use Rattle.ksi_calendar.specs.Covered.{covered_seconds}
 use Rattle.ksi_calendar.proofs.Knowing.{leaf_is, seconds_is}

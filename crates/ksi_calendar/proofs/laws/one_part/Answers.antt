@@ -1,5 +1,5 @@
 use Rattle.std.proofs.Common.{◌≡◌, ℕ, List, Bool, true, false, Option, None, refl, if◌then◌else◌}
-use Rattle.ksi_calchain.specs.Climbing.{calendar_join}
+use Rattle.ksi_calendar.specs.Climbing.{calendar_join}
 use Rattle.ksi_split.specs.Trees.{node_at}
 use Rattle.ksi_calendar.specs.Calendar.{calendar_leaf, is_covered}
 use Rattle.ksi_calendar.proofs.laws.one_part.Goals as goal

@@ -1,7 +1,7 @@
 use Rattle.std.proofs.Common.{inl, inr, ◌≡◌, ◌+◌, ◌-◌, ◌<◌, ℕ, reverse, true, ap, sym, subst, ◌∙◌, arith, rules}
 use Rattle.ksi_imprint.specs.declared.clash.Clash.{Clash}
 use Rattle.ksi_split.specs.Powers.{split_of}
-use Rattle.ksi_calchain.specs.Climbing.{calendar_join_text}
+use Rattle.ksi_calendar.specs.Climbing.{calendar_join_text}
 use Rattle.ksi_calendar.specs.Calendar.{calendar_tree}
 use Rattle.ksi_consistency.specs.Parts.{IsPart}
 use Rattle.ksi_consistency.specs.Compared.{IsHalves, IsKeptText, IsNodeClash}

@@ -1,5 +1,5 @@
 use Rattle.std.proofs.Common.{◌≡◌, ◌+◌, ◌-◌, ◌++◌, [], ◌∙◌, ℕ, List, ◌∷◌, ◌<◌, false, sym, ap, arith, refl, append_assoc, append-nil, rules}
-use Rattle.ksi_calchain.specs.Climbing.{calendar_join}
+use Rattle.ksi_calendar.specs.Climbing.{calendar_join}
 use Rattle.ksi_calendar.specs.Calendar.{calendar_leaf}
 use Rattle.ksi_consistency.specs.Front.{front_of}
 use Rattle.ksi_consistency.proofs.Fronts.{front_all, front_down_left, front_down_right}

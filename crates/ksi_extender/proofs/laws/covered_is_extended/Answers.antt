@@ -1,5 +1,5 @@
 use Rattle.std.proofs.Common.{◌+◌, arith}
-use Rattle.ksi_calchain.specs.Climbing.{calendar_join}
+use Rattle.ksi_calendar.specs.Climbing.{calendar_join}
 use Rattle.ksi_calendar.specs.Calendar.{calendar_leaf}
 use Rattle.ksi_calendar.specs.Covered.{covered_seconds}
 use Rattle.ksi_journal.specs.Journal.{root_at}

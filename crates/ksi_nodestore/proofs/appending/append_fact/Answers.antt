@@ -1,7 +1,7 @@
 use Rattle.std.proofs.Common.{◌⊎◌, ◌∙◌, ℕ, ◌+◌, List, [], ◌∷◌, ◌++◌, length, ap, sym, subst}
 use Rattle.ksi_disk.specs.ImageLaws.{leaves_more}
 use Rattle.ksi_disk.specs.Costs.{Affords}
-use Rattle.ksi_gates.specs.Logs.{IsAfter, IsBeforeOrAfter}
+use Rattle.ksi_disk.specs.Logs.{IsAfter, IsBeforeOrAfter}
 use Rattle.ksi_nodestore.specs.Stores.{IsFileOf}
 use Rattle.ksi_nodestore.proofs.Onward.{file_after, file_either, on_ok}
 use Rattle.ksi_nodestore.proofs.Sizes.{affords_text, text_few}

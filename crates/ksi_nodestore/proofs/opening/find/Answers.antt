@@ -1,6 +1,6 @@
 use Rattle.std.proofs.Common.{◌≡◌, ℕ, List, ◌∙◌, ap, sym, subst, arith, length}
-use Rattle.ksi_gates.specs.declared.ending.Ending.TheVariants.{Closed}
-use Rattle.ksi_gates.specs.Gates.{reading_of}
+use Rattle.ksi_disk.specs.declared.ending.Ending.TheVariants.{Closed}
+use Rattle.ksi_disk.specs.Gates.{reading_of}
 use Rattle.ksi_nodestore.specs.Stores.{IsCoreOf}
 use Rattle.ksi_nodestore.proofs.opening.find.Goals as goal
 

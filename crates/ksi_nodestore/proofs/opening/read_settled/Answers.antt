@@ -1,5 +1,5 @@
 use Rattle.std.proofs.Common.{ℕ, List, ◌+◌, ◌∙◌, ap, sym, length}
-use Rattle.ksi_gates.specs.Gates.{place_of, records_text}
+use Rattle.ksi_disk.specs.Gates.{place_of, records_text}
 use Rattle.ksi_nodestore.proofs.opening.read_settled.Goals as goal
 
 pub find-requires-clause-end : goal.find-requires-clause-end

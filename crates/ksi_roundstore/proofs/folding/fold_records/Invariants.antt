@@ -1,5 +1,5 @@
 use Rattle.std.proofs.Common.{◌≡◌, ◌+◌, length, take}
-use Rattle.ksi_gates.specs.Gates.{records_text}
+use Rattle.ksi_disk.specs.Gates.{records_text}
 use Rattle.ksi_roundstore.specs.Folds.{IsAggregatorOf}
 use Rattle.ksi_roundstore.proofs.folding.fold_records.Given as goal
 

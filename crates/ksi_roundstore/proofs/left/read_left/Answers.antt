@@ -1,5 +1,5 @@
 use Rattle.std.proofs.Common.{◌∙◌, List, ℕ, ap, take}
-use Rattle.ksi_gates.specs.Gates.{reading_of}
+use Rattle.ksi_disk.specs.Gates.{reading_of}
 use Rattle.ksi_roundstore.proofs.left.read_left.Goals as goal
 
 pub returns-clause-left : goal.returns-clause-left

@@ -4,8 +4,8 @@ use Rattle.ksi_imprint.specs.Imprints.{imprint_of}
 use Rattle.ksi_split.specs.Parts.{second_at}
 use Rattle.ksi_split.specs.Trees.{climb_links}
 use Rattle.ksi_schedule.specs.Printed.{hex_of, text_of_lines}
-use Rattle.ksi_calchain.specs.Climbing.{calendar_join}
-use Rattle.ksi_calchain.specs.Sides.{sides_from_top}
+use Rattle.ksi_calendar.specs.Climbing.{calendar_join}
+use Rattle.ksi_calendar.specs.Sides.{sides_from_top}
 use Rattle.ksi_signature.specs.PartsSeen.{calendar_seen}
 use Rattle.ksi_texts.specs.Calendar.{calendar_head, end_rows, leaf_rows}
 use Rattle.ksi_texts.proofs.RowLemmas.{then_rows}

@@ -1,6 +1,6 @@
 use Rattle.ksi_split.specs.Parts.{second_at}
 use Rattle.ksi_split.specs.declared.fault.ShapeFault.TheVariants.{TooMany, TooFew}
-use Rattle.ksi_calchain.specs.Sides.{sides_from_top}
+use Rattle.ksi_calendar.specs.Sides.{sides_from_top}
 use Rattle.ksi_verifier.proofs.Whole.{shape_both, fault_both}
 use Rattle.ksi_verifier.proofs.Passing.{both_then}
 use Rattle.ksi_verifier.proofs.laws.seconds.Goals as goal

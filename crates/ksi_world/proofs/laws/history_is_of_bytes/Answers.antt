@@ -1,6 +1,6 @@
 use Rattle.std.proofs.Common.{◌+◌, sym, subst}
 use Rattle.ksi_tlv.specs.Spelling.{AreBytes}
-use Rattle.ksi_calchain.specs.Climbing.{calendar_join}
+use Rattle.ksi_calendar.specs.Climbing.{calendar_join}
 use Rattle.ksi_calendar.specs.Calendar.{calendar_leaf}
 use Rattle.ksi_world.specs.Histories.{world_of}
 use Rattle.ksi_world.specs.Records.{kept_seconds}

@@ -1,6 +1,6 @@
 use Rattle.std.proofs.Common.{◌+◌}
 use Rattle.ksi_imprint.specs.Imprints.{IsImprint}
-use Rattle.ksi_calchain.specs.Climbing.{calendar_join}
+use Rattle.ksi_calendar.specs.Climbing.{calendar_join}
 use Rattle.ksi_calendar.specs.Calendar.{calendar_leaf}
 use Rattle.ksi_world.specs.Histories.{after}
 use Rattle.ksi_world.proofs.Deciding.{after_sound, kept_rising, kept_early, kept_trees}

@@ -5,8 +5,8 @@ use Rattle.ksi_split.specs.declared.side.Side.{Side}
 use Rattle.ksi_split.specs.Trees.{path_of}
 use Rattle.ksi_split.specs.declared.tree_link.TreeLink.{TreeLink}
 use Rattle.ksi_split.specs.Leaves.{leaf_at}
-use Rattle.ksi_calchain.specs.Climbing.{ClimbsCalendar, calendar_join}
-use Rattle.ksi_calchain.specs.Sides.{sides_from_top}
+use Rattle.ksi_calendar.specs.Climbing.{ClimbsCalendar, calendar_join}
+use Rattle.ksi_calendar.specs.Sides.{sides_from_top}
 use Rattle.ksi_calendar.specs.Calendar.{Seconds, calendar_leaf, calendar_root, calendar_path}
 use Rattle.ksi_calendar.proofs.calendar.Calendar.chain_to_counted.Goals as goal
 

@@ -1,7 +1,7 @@
 use Rattle.std.proofs.Common.{◌≡◌, ℕ, List, Bool, true, None, if◌then◌else◌, ◌∙◌, sym, ap}
 use Rattle.ksi_split.specs.Trees.{node_at}
 use Rattle.ksi_split.specs.Leaves.{leaf_at}
-use Rattle.ksi_calchain.specs.Climbing.{calendar_join}
+use Rattle.ksi_calendar.specs.Climbing.{calendar_join}
 use Rattle.ksi_calendar.specs.Calendar.{Seconds, calendar_leaf, is_covered}
 use Rattle.ksi_calendar.proofs.calendar.Calendar.node.Goals as goal
 

@@ -1,6 +1,6 @@
 use Rattle.std.proofs.Common.{◌≡◌, ◌+◌, ◌-◌, ℕ, List, ap, sym, ◌∙◌, arith, refl}
 use Rattle.ksi_split.specs.Powers.{split_of}
-use Rattle.ksi_calchain.specs.Climbing.{calendar_join}
+use Rattle.ksi_calendar.specs.Climbing.{calendar_join}
 use Rattle.ksi_calendar.specs.Calendar.{calendar_tree}
 use Rattle.ksi_consistency.proofs.Parts.{left_part, right_part, inside}
 use Rattle.ksi_consistency.proofs.kept.CalendarTo.halves.Goals as goal

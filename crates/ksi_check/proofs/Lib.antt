@@ -1,4 +1,0 @@
-pub mod Verified
-pub mod Along
-pub mod AlongCalendar
-pub mod Ways

@@ -1,5 +1,0 @@
-use Rattle.std.proofs.Common.{rules}
-use Rattle.ksi_drill.proofs.trials.judged.Goals as goal
-
-pub returns : goal.returns
-returns c = search rules

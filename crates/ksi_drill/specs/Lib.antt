@@ -1,3 +1,0 @@
-pub mod Covered
-pub mod Trials
-pub mod Drill

@@ -1,6 +1,0 @@
-pub mod Readings
-pub mod Standing
-pub mod Appended
-pub mod Steps
-pub mod Spelled
-pub mod Endings

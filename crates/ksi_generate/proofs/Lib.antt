@@ -1,9 +1,0 @@
-pub mod Places
-pub mod Loops
-pub mod Planned
-pub mod Few
-pub mod Weights
-pub mod Thin
-pub mod Leading
-pub mod Ending
-pub mod Unbounded

@@ -1,4 +1,0 @@
-pub mod Chaining
-pub mod Reaching
-pub mod RootsKept
-pub mod Journaled

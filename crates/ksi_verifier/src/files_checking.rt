@@ -1,0 +1,71 @@
+ghost use Rattle.std.specs.Prelude.{◌≡◌, ◌↔◌, ℕ};
+ghost use Rattle.ksi_signature.specs.Reading.{signature_at};
+ghost use Rattle.ksi_signature.specs.Seen.{seen};
+ghost use Rattle.ksi_publications.specs.Reading.{publications_at};
+ghost use Rattle.ksi_verifier.specs.declared.files_verdict.FilesVerdict.TheVariants as files;
+ghost use Rattle.ksi_verifier.specs.Files.{IsVerified, files_verdict, of_verdict, over_publications};
+
+use crate::files_verdict::FilesVerdict;
+use crate::laws::accepted;
+use crate::{Verdict, verify_lent};
+use ksi_imprint::{Compress, Imprint};
+use ksi_publications::PublicationsView;
+use ksi_publications::laws::publications_are_read;
+use ksi_signature::laws::signature_is_read;
+use ksi_signature::{SignatureView, view};
+
+/// Reads a signature file and then a publications file, and checks the one for a hash against the other. No memory is taken.
+pub fn verify_files<C: Compress>(
+    signature: &[u8],
+    hash: &Imprint,
+    publications: &[u8],
+) -> FilesVerdict
+    ensures value { result ≡ files_verdict C.image (signature_at signature.now) (publications_at publications.now) hash.now }
+    ensures accepted { (t : ℕ) → (result ≡ files.Accepted t) ↔ IsVerified C.image signature.now hash.now publications.now t }
+{
+    accepted();
+    signature_is_read();
+    publications_are_read();
+    verdict_of_files::<C>(signature, hash, publications)
+}
+
+fn verdict_of_files<C: Compress>(
+    signature: &[u8],
+    hash: &Imprint,
+    publications: &[u8],
+) -> FilesVerdict
+    ensures { result ≡ files_verdict C.image (signature_at signature.now) (publications_at publications.now) hash.now }
+{
+    signature_is_read();
+    match view(signature) {
+        Ok(signature) => verdict_over::<C>(&signature, hash, publications),
+        Err(fault) => FilesVerdict::NotSignature(fault),
+    }
+}
+
+fn verdict_over<C: Compress>(
+    signature: &SignatureView<'_>,
+    hash: &Imprint,
+    publications: &[u8],
+) -> FilesVerdict
+    ensures { result ≡ over_publications C.image (seen signature.now) (publications_at publications.now) hash.now }
+{
+    publications_are_read();
+    match PublicationsView::of(publications) {
+        Ok(publications) => of_verdict(verify_lent::<C, PublicationsView<'_>>(
+            signature,
+            hash,
+            &publications,
+        )),
+        Err(fault) => FilesVerdict::NotPublications(fault),
+    }
+}
+
+fn of_verdict(verdict: Verdict) -> FilesVerdict
+    ensures { result ≡ of_verdict verdict }
+{
+    match verdict {
+        Verdict::Accepted(second) => FilesVerdict::Accepted(second),
+        Verdict::Refused(refusal) => FilesVerdict::Refused(refusal),
+    }
+}
