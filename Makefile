@@ -15,7 +15,7 @@ PROGRAM = crates/ksi/out/ksi
 # shows files in words: installed where it is built
 VIEWER = crates/ksi_show/out/ksi_show
 # of the nodes of ksi-service: installed where they are built
-NODES = ksi_serve_core ksi_serve_aggregator ksi_retrace ksi_forget
+NODES = ksi_serve ksi_retrace
 # what has a page and completions
 NAMES = ksi ksi-show ksi-service
 # what a static program is linked with
@@ -35,9 +35,7 @@ programs:
 	cd crates/ksi && $(RT) run -- drill 7 > /dev/null
 	cd crates/ksi_show && $(RT) run -- ../../lang/samples/deed.ksig > /dev/null
 	cd crates/ksi_retrace && $(RT) run -- data/plan data/record > /dev/null
-	room=$$(mktemp -d) && trap 'rm -rf "$$room"' EXIT && for it in ksi_serve_core ksi_serve_aggregator; do \
-	    (cd crates/$$it && $(RT) run -- data/plan 0 "$$room" $$it < /dev/null > /dev/null) || exit; \
-	done && cd crates/ksi_forget && $(RT) run -- ../ksi_serve_aggregator/data/plan 0 "$$room" ksi_serve_aggregator 0 left > /dev/null
+	room=$$(mktemp -d) && trap 'rm -rf "$$room"' EXIT && cd crates/ksi_serve && $(RT) run -- data/plan c0 "$$room" facts < /dev/null > /dev/null
 
 library:
 	cd crates/ksi_c && $(RT) lib

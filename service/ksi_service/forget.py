@@ -1,4 +1,4 @@
-"""Lets aggregators forget old rounds, by the proved `ksi_forget`: those of a stopped service, and one of a running service (resting.py).
+"""Lets aggregators forget old rounds, by the proved `ksi_serve --forget`: those of a stopped service, and one of a running service (resting.py).
 
 Which rounds may go: each signature that was handed out was on the record before. A host that starts again drives no second before the
 last one that it let a core seal, and asks for no request that it took before. So nobody asks for a signature of an earlier second.
@@ -20,7 +20,7 @@ from .proved import Refused
 from .record import Record
 
 LOOK_SECONDS = 0.2
-"""How often is looked whether `ksi_forget` has ended."""
+"""How often is looked whether `ksi_serve --forget` has ended."""
 
 
 class NotForgotten(Exception):
@@ -33,7 +33,7 @@ class Left:
     def __init__(self, folder, name, before, meanwhile=lambda: None):
         self.path, self.made = (os.path.join(folder, f"{name}.{it}") for it in ("facts", "forgetting"))
         files.remove(self.made)
-        words = [program("ksi_forget"), os.path.join(folder, "plan"), name[1:], folder, f"{name}.facts", str(before), f"{name}.forgetting"]
+        words = [program("ksi_serve"), "--forget", os.path.join(folder, "plan"), name, folder, f"{name}.facts", str(before), f"{name}.forgetting"]
         self.left, self.found = self.counts(words, name, meanwhile)
         """How many facts it has, and how many the old file."""
 
@@ -48,7 +48,7 @@ class Left:
         said = text.split(" ")
         if run.returncode or said[::2] != ["left", "of"]:
             self.drop()
-            raise Refused(run.returncode, f"ksi_forget of {name}: {text or run.returncode}")
+            raise Refused(run.returncode, f"ksi_serve --forget of {name}: {text or run.returncode}")
         return int(said[1]), int(said[3])
 
     def is_less(self):

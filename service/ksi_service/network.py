@@ -44,10 +44,9 @@ class Network:
     def __init__(self, folder, plan, trouble=None, say=lambda text: None):
         self.folder, self.plan, self.trouble, self.lost = folder, plan, trouble, 0
         self.record = Record(os.path.join(folder, "record"))
-        programs = {"c": program("ksi_serve_core"), "a": program("ksi_serve_aggregator")}
-        file = os.path.join(folder, "plan")
+        words = [program("ksi_serve"), os.path.join(folder, "plan")]
         self.nodes = {
-            name: Node(name, [programs[name[0]], file, name[1:], folder, f"{name}.facts"], self.record, self.route, say)
+            name: Node(name, [*words, name, folder, f"{name}.facts"], self.record, self.route, say)
             for name in plan.names()}
         self.flights, self.calm = collections.Counter(), {}
         self.decided, self.seconds_decided = collections.OrderedDict(), 0

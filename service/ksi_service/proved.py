@@ -28,8 +28,7 @@ class Stopped:
         self.name, self.facts = name, 0
         if not os.path.exists(os.path.join(folder, f"{name}.facts")):
             raise Refused(1, f"{folder} has no facts of {name}")
-        node = program("ksi_serve_core" if name[0] == "c" else "ksi_serve_aggregator")
-        words = [node, os.path.join(folder, "plan"), name[1:], folder, f"{name}.facts"]
+        words = [program("ksi_serve"), os.path.join(folder, "plan"), name, folder, f"{name}.facts"]
         self.process = subprocess.Popen(words, stdin=subprocess.PIPE, stdout=subprocess.PIPE, stderr=subprocess.DEVNULL, text=True)
 
     def __enter__(self):

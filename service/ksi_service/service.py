@@ -270,8 +270,7 @@ async def run(folder, cores=None, aggregators=None, address=("127.0.0.1", 8080),
     held = files.lock(folder)
     if options.get("over", "pipes") == "pipes":
         # a plan's seconds count from its making on: none is made for nodes that cannot start
-        for name in ("ksi_serve_core", "ksi_serve_aggregator"):
-            program(name)
+        program("ksi_serve")
     files.remove(os.path.join(folder, "door"))
     # the name that a killed `forget` gave a file, before a node adds to that
     files.sync_folder(folder)

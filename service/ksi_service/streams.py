@@ -145,8 +145,7 @@ class NodeHost:
 
     def live(self):
         """One life of the process."""
-        node = program("ksi_serve_core" if self.name[0] == "c" else "ksi_serve_aggregator")
-        words = [node, os.path.join(self.folder, "plan"), self.name[1:], self.folder, f"{self.name}.facts"]
+        words = [program("ksi_serve"), os.path.join(self.folder, "plan"), self.name, self.folder, f"{self.name}.facts"]
         # the name of a file of which rounds were forgotten, before a node adds to it
         files.sync_folder(self.folder)
         files.drop_cache(os.path.join(*words[-2:]))

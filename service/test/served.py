@@ -14,7 +14,7 @@ import unittest
 import stands
 from ksi_service import check, replay
 
-REAL = not stands.missing("ksi", "ksi_retrace", *stands.NODES)
+REAL = not stands.missing("ksi", "ksi_retrace", stands.NODE)
 
 
 def imprint(number):

@@ -262,8 +262,9 @@ def forget(folder, name, before, fresh):
 
 
 if __name__ == "__main__":
-    kind, plan, number, folder, name, *rest = sys.argv[1:]
-    if kind == "forget":
-        forget(folder, name, *rest)
+    words = sys.argv[1:]
+    if words[0] == "--forget":
+        forget(*words[3:])
     else:
-        {"core": Core, "aggregator": Aggregator}[kind](plan, int(number), os.path.join(folder, name)).serve()
+        plan, node, folder, name = words
+        {"c": Core, "a": Aggregator}[node[0]](plan, int(node[1:]), os.path.join(folder, name)).serve()

@@ -1,4 +1,4 @@
-"""What tests share: a folder of stand-ins for the programs of the nodes, and which real programs are there."""
+"""What tests share: a folder with a stand-in for the program of the nodes, and which real programs are there."""
 import os
 import stat
 import subprocess
@@ -8,7 +8,7 @@ from ksi_service import programs
 
 HERE = os.path.dirname(os.path.abspath(__file__))
 COMMAND = os.path.join(os.path.dirname(HERE), "ksi-service")
-NODES = ("ksi_serve_core", "ksi_serve_aggregator")
+NODE = "ksi_serve"
 
 
 def missing(*names):
@@ -26,11 +26,10 @@ def run_script(test, *words):
 
 
 def make(folder):
-    """Makes the stand-ins for the nodes' programs, and for ksi_forget, in a folder."""
+    """Makes the stand-in for the nodes' program in a folder."""
     os.makedirs(folder, exist_ok=True)
-    for name in (*NODES, "ksi_forget"):
-        path = os.path.join(folder, name)
-        with open(path, "w", encoding="utf-8") as file:
-            file.write(f'#!/bin/sh\nexec {sys.executable} {os.path.join(HERE, "stand_in.py")} {name.rsplit("_", 1)[1]} "$@"\n')
-        os.chmod(path, os.stat(path).st_mode | stat.S_IXUSR)
+    path = os.path.join(folder, NODE)
+    with open(path, "w", encoding="utf-8") as file:
+        file.write(f'#!/bin/sh\nexec {sys.executable} {os.path.join(HERE, "stand_in.py")} "$@"\n')
+    os.chmod(path, os.stat(path).st_mode | stat.S_IXUSR)
     return folder

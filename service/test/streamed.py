@@ -17,7 +17,7 @@ from ksi_service import check, replay
 from ksi_service.proved import Stopped
 from ksi_service.record import Step, last_state, told
 
-REAL = not stands.missing("ksi", "ksi_retrace", *stands.NODES)
+REAL = not stands.missing("ksi", "ksi_retrace", stands.NODE)
 NODES = ["c0", "c1", "c2", "a0", "a1", "a2"]
 
 

@@ -3,7 +3,7 @@ import unittest
 
 import stands
 
-MISSING = stands.missing("ksi", "ksi_retrace", "ksi_forget", *stands.NODES)
+MISSING = stands.missing("ksi", "ksi_retrace", stands.NODE)
 
 
 @unittest.skipIf(MISSING, MISSING)

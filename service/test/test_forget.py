@@ -11,7 +11,7 @@ from ksi_service.node import LostFacts
 from ksi_service.record import NodeState, State, last_state
 from served import Served, imprint
 
-WHY = stands.missing("ksi_forget", "ksi", "ksi_retrace", *stands.NODES)
+WHY = stands.missing("ksi", "ksi_retrace", stands.NODE)
 
 
 def last_count(folder):

@@ -1,4 +1,4 @@
-"""Aggregators of a running service that forget, with stand-ins for the nodes and for `ksi_forget`."""
+"""Aggregators of a running service that forget, with stand-ins for the nodes and for their forgetting."""
 import asyncio
 import os
 import time
@@ -79,7 +79,7 @@ class RestingTest(Clocked):
                 await Resting(clock, said.append).forget(0)
             return (await clock.sign(imprint(2)))[0][:64], clock.resting
         self.assertEqual(self.play(work), (imprint(2), set()))
-        self.assertRegex(said[0], "^a0 forgets nothing now: ksi_forget is not built")
+        self.assertRegex(said[0], "^a0 forgets nothing now: ksi_serve is not built")
 
     def test_a_full_disk_leaves_the_file_as_it_was(self):
         said = []

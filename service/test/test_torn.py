@@ -10,7 +10,7 @@ from ksi_service.files import lock_of
 from ksi_service.plan import Plan
 from ksi_service.proved import Stopped
 
-MISSING = stands.missing("ksi_serve_core", "ksi_serve_aggregator")
+MISSING = stands.missing(stands.NODE)
 FACT = b"\x01\x00\x00\x00\x03abc"
 FILE = b"KSINODE1" + bytes(10) + FACT + FACT + b"\x00"
 

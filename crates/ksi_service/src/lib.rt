@@ -28,5 +28,5 @@ pub use core_node::serve_core;
 pub use failure::Failure;
 pub use inlet::{Came, next_line};
 pub use outlet::{HostOutlet, Outlet};
-pub use program::{Command, disk_at, end, formatted_disk, plan_of, words};
+pub use program::{disk_at, end, formatted_disk, plan_of};
 pub use round_node::serve_aggregator;

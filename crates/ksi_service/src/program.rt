@@ -6,49 +6,10 @@ ghost use Rattle.ksi_disk.specs.Host.{content_of, images_of};
 use crate::failure::Failure;
 use ksi_disk::{DiskFailed, HostDisk};
 use ksi_imprint::Refused;
-use ksi_schedule::{Plan, read_number, read_schedule};
+use ksi_schedule::{Plan, read_schedule};
+use std::fs;
 use std::io::Write;
 use std::process::ExitCode;
-use std::{env, fs};
-
-/// The words of the command: the plan's file, the number of the node, and the folder and the name of its file.
-#[derive(Drop)]
-pub struct Command {
-    pub plan: String,
-    pub node: u64,
-    pub folder: String,
-    pub name: String,
-}
-
-/// The words behind the program's name.
-///
-/// # Errors
-/// `Words`: there are not four, the second is no number, or one is not UTF-8. `Memory`.
-pub fn words(rt: &HostRuntime) -> Result<Command, Failure> {
-    let mut args = match env::args(rt) {
-        Ok(args) => args,
-        Err(error) => return Err(Failure::of(&error, Failure::Words)),
-    };
-    let _program = args.next();
-    let (Some(plan), Some(node), Some(folder), Some(name), None) = (
-        args.next(),
-        args.next(),
-        args.next(),
-        args.next(),
-        args.next(),
-    ) else {
-        return Err(Failure::Words);
-    };
-    let Some(node) = read_number(node.as_str().as_bytes()) else {
-        return Err(Failure::Words);
-    };
-    Ok(Command {
-        plan,
-        node,
-        folder,
-        name,
-    })
-}
 
 /// The plan that a schedule file begins with.
 ///
