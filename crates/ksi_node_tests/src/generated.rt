@@ -49,7 +49,7 @@ fn cast(near: [u64; 2], n: u64) -> Option<Vote> {
 }
 
 /// A message of the vote, where these ballots were tried and promised.
-pub(crate) fn message(near: [u64; 2], n: u64) -> SynodMessage
+fn message(near: [u64; 2], n: u64) -> SynodMessage
     ensures { OfBallot result }
 {
     let named = ballot(near, n / 32);
@@ -67,7 +67,7 @@ pub(crate) fn message(near: [u64; 2], n: u64) -> SynodMessage
 }
 
 /// An item of level 0, every other one with a name.
-pub(crate) fn item(n: u64) -> Item
+fn item(n: u64) -> Item
     ensures { leaf_level result ≤ 239 }
 {
     let name: &[u8] = if n % 2 == 0 { b"bob" } else { b"" };

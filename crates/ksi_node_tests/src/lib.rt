@@ -20,8 +20,6 @@ mod named_worlds;
 #[cfg(test)]
 mod names;
 #[cfg(test)]
-mod plain;
-#[cfg(test)]
 mod printed;
 #[cfg(test)]
 mod requests;
@@ -29,8 +27,6 @@ mod requests;
 mod rounds;
 #[cfg(test)]
 mod same;
-#[cfg(test)]
-mod settled;
 #[cfg(test)]
 mod steps;
 #[cfg(test)]

@@ -1,4 +1,5 @@
-//! A core that takes events beside one whose calls are made, and its next second beside a plain look at all seconds.
+//! A core that takes events beside one whose calls are made, and its next second, and the first that is not held, beside plain
+//! looks at all seconds.
 ghost use Rattle.std.specs.Prelude.{◌≡◌, ◌<◌, ◌^◌};
 ghost use Rattle.ksi_corenode.specs.CoreState.{CoreState};
 ghost use Rattle.ksi_corenode.specs.Events.{MayTake};
@@ -6,11 +7,12 @@ ghost use Rattle.ksi_corenode.specs.Events.{MayTake};
 use crate::generated::{event, next};
 use crate::same::same;
 use crate::steps::are_alike;
-use ksi_corenode::{Answer, Core, CoreEvent, CorePlan, NoMemory, Step};
+use ksi_corenode::{Answer, Core, CoreEvent, CorePlan, NoMemory, Step, Steps};
 use ksi_imprint::{Imprint, Sha};
 use std::alloc::Global;
-use std::marker::Model;
+use std::marker::{Brand, Model};
 use std::process::Abort;
+use std::sync::ledger::{Blank, Ledger};
 
 const T: u64 = 1_700_000_000;
 
@@ -146,9 +148,34 @@ fn is_next(core: &Core<Sha>, from: u64) -> bool {
     core.next_second(from) == plain_next(core, from)
 }
 
-/// Whether the next second is that of a plain look, from each of the seconds on, and from the first and the last there are.
+fn counted<L: Ledger>(core: &Core<Sha>, p: u64, blank: Blank) -> Option<u64>
+    requires name { blank.name ≡ L.name }
+    requires parts { blank.parts ≡ L.parts }
+    requires one { blank.parts ≡ 1 }
+{
+    let mut steps = Steps::<L>::open(blank);
+    core.first_not_held(p, &mut steps)
+}
+
+/// The first second from the start to T + 8 that is not held.
+fn plain_not_held(core: &Core<Sha>) -> Option<u64> {
+    for t in T..T + 9 {
+        if core.held(t).is_none() {
+            return Some(t);
+        }
+    }
+    None
+}
+
+/// Whether the first second that is not held is that of a plain look.
+fn is_not_held(core: &Core<Sha>) -> bool {
+    counted::<Brand>(core, T + 8, Blank::new(1)) == plain_not_held(core)
+}
+
+/// Whether the next second is that of a plain look, from each of the seconds on, and from the first and the last there are, and
+/// so is the first that is not held.
 fn has_next(core: &Core<Sha>) -> bool {
-    let mut same = is_next(core, 0) && is_next(core, u64::MAX);
+    let mut same = is_not_held(core) && is_next(core, 0) && is_next(core, u64::MAX);
     for from in T - 3..T + 10 {
         same = same && is_next(core, from);
     }
