@@ -1,5 +1,4 @@
 //! The log of one node of a live run, held against the node's own run, without any other node. Memory is that of the node.
-ghost use Rattle.std.specs.Prelude.{IfSome};
 ghost use Rattle.ksi_retrace.specs.Node.Steps.{IsThere};
 
 mod entry;
@@ -13,16 +12,17 @@ mod stream;
 mod verdict;
 
 use crate::failure::{Failure, fail};
+use crate::reading::node;
 use ksi_imprint::Sha;
-use ksi_schedule::{Actor, Plan, read_number};
+use ksi_schedule::{Actor, Plan};
 use report::report;
 use std::io::{self, BufReader};
 
 /// Holds the log on standard input against the run of the node of a plan that a word names.
 pub(crate) fn hold(rt: &HostRuntime, plan: &Plan, word: &[u8]) -> io::Result<u8> {
-    match node_of(plan, word) {
-        Some(me) => hold_log(rt, plan, me),
-        None => fail(rt, Failure::Node),
+    match node(plan, word) {
+        Ok(me) => hold_log(rt, plan, me),
+        Err(_) => fail(rt, Failure::Node),
     }
 }
 
@@ -34,36 +34,5 @@ fn hold_log(rt: &HostRuntime, plan: &Plan, me: Actor) -> io::Result<u8>
     match report::<Sha, _, _>(rt.alloc(), plan, me, &mut log, &mut out) {
         Ok(status) => Ok(status),
         Err(error) => fail(rt, Failure::of(&error)),
-    }
-}
-
-/// The node of the plan that a word names.
-fn node_of(plan: &Plan, word: &[u8]) -> Option<Actor>
-    ensures { IfSome result (IsThere plan.now) }
-{
-    match word {
-        [b'c', digits @ ..] => core_of(plan, read_number(digits)?),
-        [b'a', digits @ ..] => aggregator_of(plan, read_number(digits)?),
-        _ => None,
-    }
-}
-
-fn core_of(plan: &Plan, number: u64) -> Option<Actor>
-    ensures { IfSome result (IsThere plan.now) }
-{
-    if number < u64::from(plan.cores()) {
-        Some(Actor::Core(number as u8))
-    } else {
-        None
-    }
-}
-
-fn aggregator_of(plan: &Plan, number: u64) -> Option<Actor>
-    ensures { IfSome result (IsThere plan.now) }
-{
-    if number < plan.aggregators() as u64 {
-        Some(Actor::Aggregator(number as u32))
-    } else {
-        None
     }
 }

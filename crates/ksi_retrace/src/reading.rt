@@ -7,6 +7,7 @@ ghost use Rattle.ksi_schedule.specs.Events.{IsEvent};
 ghost use Rattle.ksi_schedule.specs.Printed.{line_of};
 ghost use Rattle.ksi_wire.specs.Asked.{Answers};
 ghost use Rattle.ksi_retrace.specs.Entries.{head_words, restart_of, IsGiven, IsHead, IsEarly, IsEarlyGiven, IsEarlyHead};
+ghost use Rattle.ksi_retrace.specs.Node.Steps.{IsThere};
 ghost use Rattle.ksi_retrace.specs.Heads.{aggregator_at, aggregator_line_at, any_head_at, asked_at, core_at, core_event, core_line_at, given_at, head_at, imprint_at, is_core_word, line_to, message_at, name_at, node_at, number_at, request_at, rest_of, second_at, word_of};
 
 use crate::head::{Given, Head};
@@ -207,9 +208,10 @@ fn second(plan: &Plan, word: &[u8]) -> Result<u64, WireFault>
 }
 
 /// The node of the plan that a word names.
-fn node(plan: &Plan, word: &[u8]) -> Result<Actor, WireFault>
+pub(crate) fn node(plan: &Plan, word: &[u8]) -> Result<Actor, WireFault>
     ensures exact { result ≡ node_at plan.now word.now }
     ensures there { IfOk result (λ actor. IsEvent plan.now (restart_of actor)) }
+    ensures member { IfOk result (IsThere plan.now) }
 {
     match word {
         [b'c', digits @ ..] => core(plan, digits),
@@ -221,6 +223,7 @@ fn node(plan: &Plan, word: &[u8]) -> Result<Actor, WireFault>
 fn core(plan: &Plan, digits: &[u8]) -> Result<Actor, WireFault>
     ensures exact { result ≡ core_at plan.now digits.now }
     ensures there { IfOk result (λ actor. IsEvent plan.now (restart_of actor)) }
+    ensures member { IfOk result (IsThere plan.now) }
 {
     let n = number(digits)?;
     if n < u64::from(plan.cores()) {
@@ -233,6 +236,7 @@ fn core(plan: &Plan, digits: &[u8]) -> Result<Actor, WireFault>
 fn aggregator(plan: &Plan, digits: &[u8]) -> Result<Actor, WireFault>
     ensures exact { result ≡ aggregator_at plan.now digits.now }
     ensures there { IfOk result (λ actor. IsEvent plan.now (restart_of actor)) }
+    ensures member { IfOk result (IsThere plan.now) }
 {
     let n = number(digits)?;
     if n < plan.aggregators() as u64 {
