@@ -1,4 +1,4 @@
-// Behind the front of a generated schedule a core tries ballots on a second, of which two cores answer the last. All three
+// Behind the beginning of a generated schedule a core tries ballots on a second, of which two cores answer the last. All three
 // cores hold one root for it then, whatever was lost, repeated or late before.
 use crate::moments::front;
 use crate::rows::are_so;
@@ -81,7 +81,7 @@ fn pair_of(number: u64) -> [u64; 2] {
     }
 }
 
-/// Whether the second of a number is decided behind the front of its schedule, and whether it is behind the ballots.
+/// Whether the second of a number is decided behind the beginning of its schedule, and whether it is behind the ballots.
 fn run(alloc: Global, number: u64) -> Option<(bool, bool)> {
     let made = made(alloc, number)?;
     let text = front(made.as_slice(), (number % 9 + 1) as usize);

@@ -3,7 +3,7 @@ use crate::script::each_plays;
 use crate::whole_paths::REPLAYED;
 use std::test::Fail;
 
-// Each front of a file `w` is run by itself under the name `x`.
+// Each beginning of a file `w` is run by itself under the name `x`.
 const SIGNATURE: &str = "hold w 8800005a G K
 fronts 0-93 verify x A p = Malformed malformed 1 S1 0";
 
@@ -32,9 +32,9 @@ holds y 662 88000292 8801002f 02046553f100 030101 052101 A 060101 88010032 02046
 
 /// Each is played over files that hold nothing.
 static SCRIPTS: [&[&str]; 3] = [
-    // no front of a signature is one
+    // no beginning of a signature is one
     &[SIGNATURE],
-    // no front of a journal is one
+    // no beginning of a journal is one
     &[REPLAYED, JOURNAL],
     // chains may stand in any order
     &[REPLAYED, EXCHANGED],

@@ -55,7 +55,7 @@ fn gathered(alloc: Global, text: &[u8], moments: &str) -> Option<Mirror> {
 }
 
 /// Of the mirror of these moments the hash of its file, and of the journal that it makes the length, and whether it is the
-/// front of the text's journal, but for its end.
+/// beginning of the text's journal, but for its end.
 pub(crate) fn told(alloc: Global, name: &str, moments: &str) -> Option<(Imprint, usize, bool)> {
     let text = text_of(alloc, name)?;
     let all = gathered(alloc, text.as_slice(), moments)?;

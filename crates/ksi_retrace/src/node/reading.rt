@@ -134,7 +134,7 @@ fn to_aggregator(
     }
 }
 
-/// What stands in a line behind a front, if it begins so.
+/// What stands in a line behind a beginning, if it begins so.
 fn behind<'a>(front: &[u8], line: &'a [u8]) -> Option<&'a [u8]>
     ensures { IsBehind (behind front.now line.now) result }
 {
