@@ -38,9 +38,13 @@ fn run(rt: &HostRuntime) -> Result<(), Failure> {
 
 /// The words of the command, the program's name in front.
 fn words(rt: &HostRuntime) -> Result<Vec<String>, Failure> {
-    match env::args(rt) {
-        Ok(args) => args.collect(rt.alloc()).map_err(|_| Failure::Memory),
-        Err(error) => Err(Failure::of(&error, Failure::Words)),
+    let args = match env::args(rt) {
+        Ok(args) => args,
+        Err(error) => return Err(Failure::of(&error, Failure::Words)),
+    };
+    match args.collect(rt.alloc()) {
+        Ok(words) => Ok(words),
+        Err(_) => Err(Failure::Memory),
     }
 }
 
