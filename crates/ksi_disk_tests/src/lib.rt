@@ -1,5 +1,4 @@
-//! Tests of the disks and of what stands on them: `ksi_disk`, `ksi_disk`, `ksi_disk`, `ksi_nodestore` and
-//! `ksi_roundstore`.
+//! Tests of the disks and of what stands on them: `ksi_disk`, `ksi_nodestore` and `ksi_roundstore`.
 //!
 //! They stand in a crate of their own, since a crate with tests is proved twice. Nothing is here for the layers above.
 #![tactic(auto)]

@@ -1,6 +1,6 @@
 //! Tests of files, and of what is computed over them: the readers and writers of `ksi_signature`, `ksi_schedule` and
 //! `ksi_journal`; the fronts of `ksi_consistency`, the mirrors of `ksi_mirror` and the blocks of log lines of `ksi_logblock`; and
-//! `ksi_verifier`, `ksi_verifier`, `ksi_texts`, `ksi_extender` and `ksi_auditor`.
+//! `ksi_verifier`, `ksi_texts`, `ksi_extender` and `ksi_auditor`.
 //!
 //! They stand in a crate of their own, since a crate with tests is proved twice. Nothing is here for the layers above.
 //! Most are rows of text: words that stand for bytes, and behind an equals sign what comes of them.

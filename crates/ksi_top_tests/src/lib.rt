@@ -1,5 +1,5 @@
-//! Tests of the top call, `ksi_top::ksi`, over files and an output in memory, and of what is run through the nodes:
-//! `ksi_replay`, `ksi_replay` and `ksi_replay`.
+//! Tests of the top call, `ksi_top::ksi`, over files and an output in memory, and of what is run through the nodes
+//! (`ksi_replay`).
 //!
 //! They stand in a crate of their own, since a crate with tests is proved twice. Nothing is here for the layers above.
 //! Most are scripts, texts whose rows `script.rt` plays; those of the nodes are rows that `rows.rt` reads.
