@@ -99,8 +99,9 @@ class Door:
         except (ConnectionError, TimeoutError, asyncio.CancelledError):
             pass
         finally:
+            # a client that reads nothing would hold more than may be open, if it were not counted until the end
+            await http.end(writer)
             self.open.discard(connection)
-            writer.close()
 
     async def reply(self, request):
         """What a request is answered."""

@@ -191,6 +191,18 @@ async def linger(connection):
         pass
 
 
+async def end(writer):
+    """Ends a connection, once its client has taken what waits for it, or takes too long for that."""
+    writer.close()
+    handle = asyncio.get_running_loop().call_later(SECONDS_FOR_BODY, writer.transport.abort)
+    try:
+        await writer.wait_closed()
+    except OSError:
+        pass
+    finally:
+        handle.cancel()
+
+
 async def send(writer, head, content):
     """Writes an answer, a piece at a time; a client that takes too long to read it loses the connection."""
     writer.write(head + content[:PIECE])

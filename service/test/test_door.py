@@ -257,6 +257,31 @@ class DoorTest(unittest.TestCase):
         self.assertTrue(all(0 < it <= 2 * own.PIECE for it in held), held)
         self.assertLess(len(client.recv(1 << 20)), 8 << 20)
 
+    def unread(self):
+        """A client that reads nothing, and for whom something waits in memory."""
+        client = socket.socket()
+        self.addCleanup(client.close)
+        client.setsockopt(socket.SOL_SOCKET, socket.SO_RCVBUF, 2048)
+        client.connect(self.address)
+        self.wait_for(1)
+        transport = next(iter(self.door.open)).writer.transport
+        while not transport.get_write_buffer_size():
+            client.sendall(b"GET / HTTP/1.1\r\nHost: x\r\n\r\n" * 4)
+            time.sleep(0.002)
+        return client, transport
+
+    def test_a_client_that_never_takes_its_last_answer_is_counted_until_it_is_ended(self):
+        client, transport = self.unread()
+        with mock.patch.object(own, "SECONDS_FOR_BODY", 0.5), mock.patch.object(own, "SECONDS_TO_LINGER", 0.1):
+            client.sendall(b"GET / HTTP/1.1\r\nHost: x\r\nConnection: close\r\n\r\n")
+            while not transport.is_closing():
+                time.sleep(0.01)
+            counted, began = len(self.door.open), time.monotonic()
+            while transport.get_extra_info("socket").fileno() >= 0 and time.monotonic() < began + 5:
+                time.sleep(0.01)
+        self.assertEqual((counted, transport.get_extra_info("socket").fileno()), (1, -1))
+        self.wait_for(0)
+
     def test_a_head_has_no_body_behind_it(self):
         ask = b" / HTTP/1.1\r\nHost: x\r\n\r\nGET /signature/" + ONES.encode() + b" HTTP/1.1\r\nHost: x\r\nConnection: x, Close\r\n\r\n"
         told = self.raw(b"HEAD" + ask)
