@@ -1,0 +1,68 @@
+"""The command alone, over a folder whose service was killed, or with a door that is none of a service."""
+import contextlib
+import io
+import json
+import os
+import tempfile
+import threading
+import unittest
+from http.server import BaseHTTPRequestHandler, HTTPServer
+from unittest import mock
+
+from ksi_service import command, files
+
+
+class Status(BaseHTTPRequestHandler):
+    """Answers each request by a counter."""
+
+    def do_GET(self):
+        content = json.dumps({"signed": 3}).encode()
+        self.send_response(200)
+        self.send_header("Content-Length", str(len(content)))
+        self.end_headers()
+        self.wfile.write(content)
+
+    def log_message(self, *_):
+        pass
+
+
+class CommandTest(unittest.TestCase):
+    def setUp(self):
+        self.room = tempfile.TemporaryDirectory(prefix="ksi-test-")
+        self.addCleanup(self.room.cleanup)
+        self.folder = os.path.join(self.room.name, "data")
+        os.mkdir(self.folder)
+
+    def door(self, address, number):
+        files.write(os.path.join(self.folder, "door"), f"{address}\n{number}\n".encode())
+
+    def command(self, *words, status=0):
+        told = io.StringIO()
+        with contextlib.redirect_stdout(told), contextlib.redirect_stderr(told):
+            self.assertEqual(command.main(words), status, told.getvalue())
+        return told.getvalue()
+
+    def held(self):
+        """The folder is held, as by who checks it."""
+        held = files.lock(self.folder)
+        self.addCleanup(held.close)
+
+    def serve(self):
+        """A door, over a folder that is held."""
+        server = HTTPServer(("127.0.0.1", 0), Status)
+        thread = threading.Thread(target=server.serve_forever)
+        thread.start()
+        self.addCleanup(server.server_close)
+        self.addCleanup(thread.join)
+        self.addCleanup(server.shutdown)
+        self.door("127.0.0.1:%d" % server.server_address[1], os.getpid())
+        self.held()
+
+    def test_a_proxy_of_the_machine_is_not_asked(self):
+        self.serve()
+        with mock.patch.dict(os.environ, http_proxy="http://127.0.0.1:9", no_proxy=""):
+            self.assertIn("signed", self.command("status", self.folder))
+
+
+if __name__ == "__main__":
+    unittest.main()
