@@ -63,6 +63,18 @@ class CommandTest(unittest.TestCase):
         with mock.patch.dict(os.environ, http_proxy="http://127.0.0.1:9", no_proxy=""):
             self.assertIn("signed", self.command("status", self.folder))
 
+    def test_another_user_may_ask(self):
+        self.serve()
+        os.chmod(self.room.name, 0o755)
+        os.chmod(os.path.join(self.folder, "lock"), 0o444)
+        user = os.geteuid()
+        try:
+            # root would be allowed to write
+            os.seteuid(user or 65534)
+            self.assertIn("signed", self.command("status", self.folder))
+        finally:
+            os.seteuid(user)
+
 
 if __name__ == "__main__":
     unittest.main()
