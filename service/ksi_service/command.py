@@ -1,6 +1,7 @@
 """The command `ksi-service`."""
 import argparse
 import asyncio
+import contextlib
 import hashlib
 import json
 import os
@@ -179,8 +180,17 @@ def rests(folder):
     return os.path.exists(os.path.join(folder, "plan")) and not files.is_held(folder)
 
 
+@contextlib.contextmanager
+def at_rest(folder):
+    """Has a folder to itself, over which no service runs. The door of one that was killed is removed: its number may be another
+    process's by now, and whoever finds the folder locked would take that for the service."""
+    with files.lock(folder):
+        files.remove(os.path.join(folder, "door"))
+        yield
+
+
 def extended_by_file(folder, signature):
-    with files.lock(folder), Stopped(folder, "c0") as core:
+    with at_rest(folder), Stopped(folder, "c0") as core:
         published = Publications(folder)
         if published.last() is None:
             raise Failed(f"nothing was published yet over {folder}")
@@ -215,7 +225,7 @@ def verify(words):
 
 def check(words):
     """Holds the record of a service that is stopped against the proved world."""
-    with files.lock(words.folder):
+    with at_rest(words.folder):
         compress(words.folder)
         checking.check(words.folder, words.samples, by_node=words.by_node)
         if words.replay:
@@ -231,7 +241,7 @@ def compress(folder):
 
 def backup(words):
     """The mirrors of all cores, merged, and the journal of what they hold, by the proved `ksi`."""
-    with files.lock(words.folder):
+    with at_rest(words.folder):
         compress(words.folder)
         backing.make(words.folder, words.out, last_state(os.path.join(words.folder, "record"))[0].second)
 
@@ -240,7 +250,7 @@ def forget(words):
     """Lets the aggregators of a service that is stopped forget rounds whose signatures were handed out."""
     if not os.path.exists(os.path.join(words.folder, "plan")):
         raise Failed(f"{words.folder} has no plan: it was no service's")
-    with files.lock(words.folder):
+    with at_rest(words.folder):
         forgetting.forget(words.folder, words.before)
 
 

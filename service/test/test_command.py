@@ -3,6 +3,7 @@ import contextlib
 import io
 import json
 import os
+import subprocess
 import tempfile
 import threading
 import unittest
@@ -74,6 +75,20 @@ class CommandTest(unittest.TestCase):
             self.assertIn("signed", self.command("status", self.folder))
         finally:
             os.seteuid(user)
+
+    def test_who_was_killed_is_not_stopped_while_somebody_checks_the_folder(self):
+        """The number that it left may be another process's by now."""
+        with subprocess.Popen(["sleep", "60"]) as other:
+            self.addCleanup(other.kill)
+            self.door("127.0.0.1:9", other.pid)
+
+            def check(*_, **__):
+                self.assertIn("no service runs", self.command("stop", self.folder, status=1))
+                self.assertIn("no service runs", self.command("status", self.folder, status=1))
+            with mock.patch.object(command.checking, "check", check):
+                self.command("check", self.folder)
+            self.assertIsNone(other.poll())
+            other.kill()
 
 
 if __name__ == "__main__":
