@@ -66,6 +66,11 @@ class Door:
     def address(self):
         return self.server.sockets[0].getsockname()[:2]
 
+    def where(self):
+        """The address as it stands in a URL (RFC 3986, 3.2.2)."""
+        host, port = self.address()
+        return f"[{host}]:{port}" if ":" in host else f"{host}:{port}"
+
     async def stop(self):
         """Takes no more connections, and ends those that are open."""
         self.server.close()

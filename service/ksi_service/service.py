@@ -286,9 +286,8 @@ async def run(folder, cores=None, aggregators=None, address=("127.0.0.1", 8080),
         await first_of(end, asyncio.create_task(service.begin()))
         if not end.done():
             await opened(door, *address)
-            where = "%s:%d" % door.address()
-            files.write(os.path.join(folder, "door"), f"{where}\n{os.getpid()}\n".encode())
-            say(f"the door is open at {where}")
+            files.write(os.path.join(folder, "door"), f"{door.where()}\n{os.getpid()}\n".encode())
+            say(f"the door is open at {door.where()}")
             await first_of(end, asyncio.create_task(service.watch()))
             house.closing = True
             await service.idle(LAST_SECONDS)

@@ -111,6 +111,11 @@ class DoorTest(unittest.TestCase):
         for method, path, body, headers, status, content in rows:
             self.assertEqual(self.ask(method, path, body, **headers), (status, content), (method, path))
 
+    def test_an_address_stands_in_a_url(self):
+        for address, where in ((("127.0.0.1", 80), "127.0.0.1:80"), (("::1", 80), "[::1]:80")):
+            with mock.patch.object(self.door, "address", lambda address=address: address):
+                self.assertEqual(self.door.where(), where)
+
     def test_counters_as_json_and_for_prometheus(self):
         told = json.loads(self.ask("GET", "/status")[1])
         self.assertEqual((told["signed"], told["sign_seconds"]["count"]), (3, 1))
