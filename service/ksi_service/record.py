@@ -224,6 +224,8 @@ class Record:
     def recall(self):
         """Reads the last file, cuts off a line that was not written whole, and goes on behind it."""
         found = names(self.folder)
+        for path in found[-1:]:
+            files.drop_cache(path)
         self.state, whole = last_state(self.folder)
         if not found or found[-1].endswith(".gz"):
             self.open_next(len(found) and int(os.path.basename(found[-1])[:8]))

@@ -111,6 +111,14 @@ class RecordTest(unittest.TestCase):
         self.assertEqual(seen, [])
         self.assertEqual(self.opened().state.nodes, {})
 
+    def test_what_a_failed_sync_left_in_memory_is_not_gone_on_with(self):
+        """Behind a failed sync the system calls pages written that are not on the disk: it reads them, and never writes them."""
+        self.write(*SEALED)
+        path = names(self.folder)[0]
+        first = len(json.dumps(State().begins())) + 1
+        with mock.patch.object(files, "drop_cache", lambda it: it == path and os.truncate(it, first)):
+            self.assertEqual(self.opened().state.steps, 0)
+
     def closed_while(self, work):
         """What had an effect where a record is closed while its first group is on its way to the disk, and who waits for that is
         cancelled, as when a service stops. Work is done with the record just before the group is given on."""
