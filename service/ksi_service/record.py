@@ -213,6 +213,8 @@ class Record:
 
     def __init__(self, folder):
         self.folder, self.bytes, self.failed, self.soon, self.closing = folder, 0, False, False, False
+        self.ended = False
+        """Whether nobody writes what is added any more, until it is closed: it failed, could not be cut, or is told to end."""
         self.waiting, self.wanted = [], asyncio.Event()
         self.flushing: Optional[asyncio.Task] = None
         """The last group on its way to the disk."""
@@ -297,13 +299,16 @@ class Record:
         """Writes what is added, and cuts the record so often."""
         loop = asyncio.get_running_loop()
         cut_at = loop.time() + cut_every
-        while True:
-            await self.wanted.wait()
-            self.wanted.clear()
-            await self.flush()
-            if loop.time() >= cut_at:
-                await self.cut()
-                cut_at = loop.time() + cut_every
+        try:
+            while True:
+                await self.wanted.wait()
+                self.wanted.clear()
+                await self.flush()
+                if loop.time() >= cut_at:
+                    await self.cut()
+                    cut_at = loop.time() + cut_every
+        finally:
+            self.ended = True
 
     async def cut(self):
         """Begins a new file; the one before is compressed in its own time."""
