@@ -3,7 +3,8 @@
 from typing import Iterator, List, NamedTuple, Optional, Tuple
 
 MAGIC_PUBLICATIONS, MAGIC_MIRROR = b"KSIPUBLF", b"KSIMIRR1"
-MOST_BODY = 0xFFFF
+MOST_BODY, MOST_NUMBER = 0xFFFF, 8
+"""The most bytes of an element's body, and of one that is a number."""
 FORWARD = 0x60
 """The flags non-critical and forward: such an unknown element goes with an extension."""
 
@@ -38,6 +39,8 @@ def read(content: bytes, at=0) -> Iterator[Element]:
 
 
 def number_of(body: bytes) -> int:
+    if len(body) > MOST_NUMBER:
+        raise Malformed(f"a number has more than {MOST_NUMBER} bytes")
     return int.from_bytes(body, "big")
 
 

@@ -124,6 +124,12 @@ class ExtensionTest(unittest.TestCase):
         root, links = self.calendar.chain(5, 9)
         self.assertEqual(content, elements.extended(self.parts, 9, self.parts.root, root, links))
 
+    def test_a_second_of_sixty_thousand_bytes_is_told_as_what_it_is(self):
+        for size in (9, 60_000):
+            chain = elements.element(0x801, elements.element(0x02, b"\xff" * size), elements.element(0x05, bytes(33)))
+            with self.assertRaisesRegex(extension.NotExtended, "a number has more than 8 bytes"):
+                extension.wanted(elements.element(0x800, chain), 9)
+
     def test_what_is_not_extended(self):
         whole = {it: ONES for it in range(3, 10)} | {5: self.parts.root}
         for roots, chain, says, reason in (
