@@ -97,7 +97,7 @@ class Door:
         try:
             if self.make_room():
                 self.open.add(connection)
-                await http.serve(connection, self.reply)
+                await http.serve(connection, self.reply, self.note)
             else:
                 answer = Answer(HTTPStatus.SERVICE_UNAVAILABLE, "too many connections are open", Retry_After="2")
                 writer.write(answer.head(True) + answer.content)
@@ -121,8 +121,10 @@ class Door:
         except Exception as error:
             print(f"{request.method} {request.path}: {error!r}", file=sys.stderr, flush=True)
             answer = Answer(HTTPStatus.INTERNAL_SERVER_ERROR, "the service failed at this")
-        self.refused += 400 <= answer.status < 500
         return answer
+
+    def note(self, answer):
+        self.refused += 400 <= answer.status < 500
 
     async def route(self, request):
         if request.headers.get("sec-fetch-site") == "cross-site":

@@ -159,8 +159,9 @@ async def read_head(connection):
     return head[:-4].decode("latin-1")
 
 
-async def serve(connection, reply):
-    """Answers the requests of a connection by `reply`, which gives an Answer for a Request."""
+async def serve(connection, reply, note):
+    """Answers the requests of a connection by `reply`, which gives an Answer for a Request. Each answer is noted, also one to what is no
+    request."""
     ends = False
     while not ends:
         request = None
@@ -174,6 +175,7 @@ async def serve(connection, reply):
             answer = refused
         except TimeoutError:
             answer = Answer(HTTPStatus.REQUEST_TIMEOUT, "it took too long")
+        note(answer)
         ends = request is None or request.ends or request.left > 0
         await send(connection.writer, answer.head(ends), b"" if request and request.method == "HEAD" else answer.content)
     await linger(connection)

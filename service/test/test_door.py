@@ -162,6 +162,16 @@ class DoorTest(unittest.TestCase):
             self.assertIn(b"Connection: close", told)
         self.assertEqual(self.ask("GET", "/status")[0], 200)
 
+    def test_each_refusal_is_counted(self):
+        ask = b"GET /elsewhere HTTP/1.1\r\nHost: x\r\n\r\n"
+        for content in (ask + b"GET\r\n\r\n", ask + b"GET / HTTP/1.1\r\n\r\n", b"GET /" + b"a" * 9000):
+            self.raw(content, more=False)
+        self.assertEqual(self.ask("POST", "/sign", b"5" * 64)[0], 503)
+        with mock.patch.object(own, "SECONDS_FOR_HEAD", 0.2):
+            self.raw(b"GET / HT")
+            self.raw()
+        self.assertEqual(self.door.refused, 6)
+
     def test_a_connection_takes_many_requests(self):
         one = b"POST /sign HTTP/1.1\r\nHost: x\r\nContent-Length: 64\r\n\r\n" + b"2" * 64
         last = b"GET /signature/" + ONES.encode() + b" HTTP/1.1\r\nHost: x\r\nConnection: close\r\n\r\n"
