@@ -24,6 +24,15 @@ def names(folder) -> List[str]:
         return []
 
 
+def all_names(folder) -> List[str]:
+    """The files of a record in order, from the first one on. Without one of them, what is behind it would be taken for another run's."""
+    found = names(folder)
+    for number, path in enumerate(found, 1):
+        if int(os.path.basename(path)[:8]) != number:
+            raise Broken(f"{os.path.join(folder, f'{number:08}')} is not there: bring back what was moved of the record")
+    return found
+
+
 def lines_of(path) -> Iterator[bytes]:
     """The lines of a file, compressed or not."""
     with (gzip.open if path.endswith(".gz") else open)(path, "rb") as lines:

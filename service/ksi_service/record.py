@@ -28,7 +28,7 @@ from dataclasses import dataclass, field
 from typing import Deque, Dict, Iterator, List, Optional, Tuple
 
 from . import files
-from .hours import Broken, entries_of, names, pack
+from .hours import Broken, all_names, entries_of, names, pack
 
 MAY_STORE = {"close", "response", "seal", "ballot", "synod"}
 """The first words of lines whose step may store a fact."""
@@ -187,7 +187,7 @@ class State:
 
 def told(folder) -> Iterator[object]:
     """The steps of a record and the signatures that were handed out, in order."""
-    state, found = State(), names(folder)
+    state, found = State(), all_names(folder)
     for path in found:
         for entry, _ in entries_of(path, path == found[-1]):
             if entry[0] != "begins":

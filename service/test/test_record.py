@@ -214,6 +214,23 @@ class RecordTest(unittest.TestCase):
         again = self.opened().state
         self.assertEqual((again.begins(), again.steps), (state.begins(), 2))
 
+    def test_a_file_that_is_not_there_is_named(self):
+        """As one that was moved to another disk, and not brought back for a check."""
+        async def work(record):
+            for second in (5, 6, 7):
+                for entry in (["given", "c0", f"tell {second}", None], ["said", "c0", ["answer done"]]):
+                    record.add(entry)
+                await record.cut()
+        self.opened(work)
+        self.assertEqual(len(list(told(self.folder))), 3)
+        for number in (1, 2, 3):
+            path = os.path.join(self.folder, f"{number:08}.gz")
+            os.rename(path, f"{path}.away")
+            with self.assertRaisesRegex(Broken, f"{number:08}.* is not there"):
+                list(told(self.folder))
+            os.rename(f"{path}.away", path)
+        self.assertEqual(len(list(told(self.folder))), 3)
+
     def test_a_file_that_was_not_compressed_is_read_once(self):
         self.write(*SEALED)
         with open(os.path.join(self.folder, "00000001.gz"), "wb") as file:
