@@ -33,7 +33,7 @@ def parts(plan, last):
 def make(folder, out, last, say=print):
     """Saves OUT/mirror.N and OUT/journal.N for each part, up to second `last`."""
     plan = Plan.read(os.path.join(folder, "plan"))
-    os.makedirs(out, exist_ok=True)
+    files.make_folder(out)
     at = lambda name: os.path.abspath(os.path.join(out, name))
     for number in range(plan.cores):
         for part, content in enumerate(mirrors(folder, plan, number, last)):

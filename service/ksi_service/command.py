@@ -85,7 +85,7 @@ def address_of(text):
 
 def start(words):
     """Starts the service in the background, and waits until its door is open."""
-    os.makedirs(words.folder, exist_ok=True)
+    files.make_folder(words.folder)
     again = [sys.executable, os.path.abspath(sys.argv[0]), "run", *sys.argv[2:]]
     path = os.path.join(words.folder, "log")
     with open(path, "ab") as log:

@@ -62,6 +62,16 @@ def sync_folder(folder):
         os.close(number)
 
 
+def make_folder(path):
+    """Makes a folder with all that it is in, where they are not there. Their names are on the disk before anything in them is."""
+    path = os.path.abspath(path)
+    if not os.path.isdir(path):
+        above = os.path.dirname(path)
+        make_folder(above)
+        os.makedirs(path, exist_ok=True)
+        sync_folder(above)
+
+
 def keep(made, name):
     """Puts a file in its place once it is on the disk. Both are on one file system."""
     with open(made, "rb") as file:

@@ -220,7 +220,7 @@ class Record:
         """The last group on its way to the disk."""
         self.writer, self.packer = concurrent.futures.ThreadPoolExecutor(1), concurrent.futures.ThreadPoolExecutor(1)
         self.packing: List[concurrent.futures.Future] = []
-        os.makedirs(folder, exist_ok=True)
+        files.make_folder(folder)
         self.recall()
 
     def recall(self):

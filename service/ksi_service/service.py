@@ -266,7 +266,7 @@ async def run(folder, cores=None, aggregators=None, address=("127.0.0.1", 8080),
     """Runs the service until it is told to stop. A test makes trouble with it."""
     # futures and lines come and go by thousands a second, and nothing of them is in a cycle
     gc.set_threshold(50_000, 20, 50)
-    os.makedirs(folder, exist_ok=True)
+    files.make_folder(folder)
     held = files.lock(folder)
     if options.get("over", "pipes") == "pipes":
         # a plan's seconds count from its making on: none is made for nodes that cannot start

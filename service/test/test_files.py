@@ -183,6 +183,14 @@ class FilesTest(unittest.TestCase):
             files.write(self.path, b"two")
         self.assertEqual((files.content_of(self.path), os.listdir(self.room.name)), (b"one", ["file"]))
 
+    def test_the_names_of_new_folders_are_on_the_disk(self):
+        synced, room = [], os.path.realpath(self.room.name)
+        with mock.patch("os.fsync", lambda number: synced.append(os.readlink(f"/proc/self/fd/{number}"))):
+            files.make_folder(os.path.join(room, "new", "data"))
+            files.make_folder(os.path.join(room, "new", "data"))
+        self.assertEqual(synced, [room, os.path.join(room, "new")])
+        self.assertRaises(FileExistsError, files.make_folder, files.__file__)
+
     def test_a_folder_is_locked_once(self):
         held = files.lock(self.room.name)
         self.assertRaises(files.Held, files.lock, self.room.name)
