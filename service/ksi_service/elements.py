@@ -76,8 +76,9 @@ def published_in(content: bytes) -> List[Tuple[int, str]]:
     told = []
     for it in read(content, len(MAGIC_PUBLICATIONS)):
         if it.kind == 0x703:
-            data = next(inner for inner in read(it.body) if inner.kind == 0x10)
-            parts = {inner.kind: inner.body for inner in read(data.body)}
+            parts = {part.kind: part.body for data in read(it.body) if data.kind == 0x10 for part in read(data.body)}
+            if not {0x02, 0x04} <= parts.keys():
+                raise Malformed("a publication without its parts")
             told.append((number_of(parts[0x02]), parts[0x04][1:].hex()))
     return told
 

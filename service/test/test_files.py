@@ -10,6 +10,7 @@ import stands
 from ksi_service import calendar as calendars
 from ksi_service import elements, extension, files, replay
 from ksi_service.calendar import ZERO, Calendar, join
+from ksi_service.hours import Broken
 from ksi_service.proved import Refused, ksi
 from ksi_service.publications import Publications
 
@@ -211,6 +212,15 @@ class FilesTest(unittest.TestCase):
         told = [publications.add(second, root) for second, root in ((5, ONES), (9, TWOS), (7, ONES))]
         self.assertEqual(told, [True, True, False])
         self.assertEqual(Publications(self.room.name).published, [(5, ONES), (9, TWOS)])
+
+    def test_a_file_that_is_no_publications_file_is_left_and_named(self):
+        whole = elements.publications_file([(5, ONES), (9, TWOS)])
+        path, magic = os.path.join(self.room.name, "publications"), elements.MAGIC_PUBLICATIONS
+        for content in (b"", b"junk", whole[:-3], magic + elements.element(0x703), magic + elements.element(0x703, elements.element(0x10))):
+            files.write(path, content)
+            with self.assertRaisesRegex(Broken, "publications is not what was published"):
+                Publications(self.room.name)
+            self.assertEqual(files.content_of(path), content)
 
 
 if __name__ == "__main__":
