@@ -3,6 +3,7 @@ import gzip
 import json
 import os
 import re
+import shutil
 import zlib
 from typing import Iterator, List, Optional, Tuple
 
@@ -61,6 +62,23 @@ def entry_in(line) -> Optional[list]:
     except ValueError:
         return None
     return entry if isinstance(entry, list) and entry and isinstance(entry[0], str) else None
+
+
+def cut_off(path, size):
+    """Cuts a file off behind so many bytes, and keeps the rest beside it. After a crash the rest had no effect; but where a disk damaged
+    a line in the middle, it is all that there is of what was behind that."""
+    made = f"{path}.torn.new"
+    with open(path, "r+b") as file:
+        file.seek(size)
+        if not file.peek(1):
+            return
+        try:
+            with open(made, "wb") as rest:
+                shutil.copyfileobj(file, rest)
+            files.keep(made, f"{path}.torn")
+        finally:
+            files.remove(made)
+        file.truncate(size)
 
 
 def pack(path, is_over=lambda: False) -> bool:

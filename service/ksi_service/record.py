@@ -28,7 +28,7 @@ from dataclasses import dataclass, field
 from typing import Deque, Dict, Iterator, List, Optional, Tuple
 
 from . import files
-from .hours import Broken, all_names, entries_of, names, pack
+from .hours import Broken, all_names, cut_off, entries_of, names, pack
 
 MAY_STORE = {"close", "response", "seal", "ballot", "synod"}
 """The first words of lines whose step may store a fact."""
@@ -224,7 +224,7 @@ class Record:
         self.recall()
 
     def recall(self):
-        """Reads the last file, cuts off a line that was not written whole, and goes on behind it."""
+        """Reads the last file, cuts off what is behind its last whole line, and goes on there."""
         found = names(self.folder)
         for path in found[-1:]:
             files.drop_cache(path)
@@ -232,7 +232,7 @@ class Record:
         if not found or found[-1].endswith(".gz"):
             self.open_next(len(found) and int(os.path.basename(found[-1])[:8]))
         else:
-            os.truncate(found[-1], whole)
+            cut_off(found[-1], whole)
             self.number = int(os.path.basename(found[-1]))
             self.file = open(found[-1], "ab", buffering=0)
         for path in found[:-1]:

@@ -59,6 +59,18 @@ class RecordTest(unittest.TestCase):
             state = self.opened().state
             self.assertEqual((before, state.steps, len(list(told(self.folder)))), (1, 1, 1), torn)
 
+    def test_what_a_damaged_line_hides_is_kept(self):
+        """A line in the middle that a disk damaged looks as the end that a crash left, and what is behind it had effects."""
+        self.write(*SEALED, ["given", "c0", "tell 5", None], ["said", "c0", ["answer done"]], ["signed", 1, "abcd"])
+        path = names(self.folder)[0]
+        whole = files.content_of(path)
+        at = whole.index(b'["given", "c0", "tell 5"')
+        files.write(path, whole[:at] + b"\0" + whole[at + 1:])
+        self.assertEqual(self.opened().state.steps, 1)
+        self.assertEqual(files.content_of(path) + files.content_of(f"{path}.torn"), whole[:at] + b"\0" + whole[at + 1:])
+        self.assertEqual(self.opened().state.steps, 1)
+        self.assertEqual((names(self.folder), len(list(told(self.folder)))), ([path], 1))
+
     def test_a_broken_file_before_the_last_is_told(self):
         self.write(*SEALED, end="\n[\n")
         self.write(State().begins(), number=2)
