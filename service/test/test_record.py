@@ -340,6 +340,19 @@ restart c0
         with open(os.path.join(self.room.name, "entries"), encoding="ascii") as file:
             self.assertEqual(file.read(), "".join(retrace.entries(self.folder)))
 
+    def test_what_ends_before_it_has_read_all_is_heard(self):
+        """As where an early entry differs, and more is behind it than a pipe holds."""
+        said = [["given", "c0", f"tell 5 {ONES}", None], ["said", "c0", ["answer done"]]]
+        self.write(["ready", "c0", 0, 0], *said * 5000)
+        plan, path = os.path.join(self.room.name, "plan"), os.path.join(self.room.name, "ksi_retrace")
+        files.write(plan, Plan(1, 5, ()).text().encode())
+        files.write(path, b"#!/bin/sh\necho differs 2 9; exit 1\n")
+        os.chmod(path, stat.S_IRWXU)
+        with mock.patch.dict(os.environ, KSI_BIN=self.room.name):
+            for hold in (retrace.retrace, apart.hold_all):
+                with self.assertRaisesRegex(retrace.Differs, "differs 2 9"):
+                    hold(plan, self.folder)
+
     def test_the_log_of_each_node(self):
         self.run_of_two()
         logs = {name: "".join(apart.entry_of(it) for it in apart.steps_of(self.folder) if it.node == name) for name in ("c0", "a0")}
