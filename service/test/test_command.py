@@ -10,7 +10,11 @@ import unittest
 from http.server import BaseHTTPRequestHandler, HTTPServer
 from unittest import mock
 
+import stands
 from ksi_service import command, files
+from ksi_service.elements import publications_file
+
+SIGNATURE = os.path.join(os.path.dirname(os.path.dirname(stands.HERE)), "crates", "ksi", "data", "linked_signature")
 
 
 class Status(BaseHTTPRequestHandler):
@@ -89,6 +93,16 @@ class CommandTest(unittest.TestCase):
                 self.command("check", self.folder)
             self.assertIsNone(other.poll())
             other.kill()
+
+    def test_a_node_that_ends_before_it_is_asked_is_told(self):
+        path = os.path.join(self.room.name, "ksi_serve_core")
+        files.write(path, b"#!/bin/sh\nexec 0<&-\necho ready 0; echo .; sleep 0.3; echo failed file\n")
+        os.chmod(path, 0o700)
+        for name, content in (("plan", b"cores 1\nstart 5\naggregator 0 parent c0\n"), ("c0.facts", b""), ("publications", publications_file([(9, "1" * 64)]))):
+            files.write(os.path.join(self.folder, name), content)
+        with mock.patch.dict(os.environ, KSI_BIN=self.room.name):
+            told = self.command("extend", SIGNATURE, "--folder", self.folder, status=1)
+        self.assertIn("c0 ended: failed file", told)
 
 
 if __name__ == "__main__":
