@@ -268,6 +268,13 @@ def positive(text):
     return number
 
 
+def carrier(text):
+    """How lines go: `pipes`, or the URL of a server, which may have a password and is not told again."""
+    if text != "pipes" and not re.match("(redis|rediss|unix)://.", text):
+        raise argparse.ArgumentTypeError("it is pipes, redis://HOST, rediss://HOST or unix://PATH")
+    return text
+
+
 def node_name(text):
     if not re.fullmatch(r"[ca](0|[1-9][0-9]{0,3})", text):
         raise ValueError(text)
@@ -289,7 +296,7 @@ def add_running(commands, name, does, told):
     one.add_argument("--cores", type=int, choices=range(1, 10), metavar="1..9", help="how many cores a new folder has: 3")
     one.add_argument("--aggregators", metavar="NUMBER|PARENTS", help="how many aggregators a new folder has, 2; or to whom each submits, as c0,c1,a0,a0")
     one.add_argument("--door", default="127.0.0.1:8080", metavar="HOST:PORT", help="where to listen; port 0 takes a free one")
-    one.add_argument("--over", default=OVER, metavar="pipes|redis://HOST", help="how lines go: pipes on this machine, or Redis Streams to the hosts of nodes")
+    one.add_argument("--over", type=carrier, default=OVER, metavar="pipes|redis://HOST", help="how lines go: pipes on this machine, or Redis Streams to the hosts of nodes")
     one.add_argument("--publish-every", type=positive, default=3600, metavar="SECONDS", help="how often a core publishes: 3600")
     one.add_argument("--most-waiting", type=positive, default=service.MOST_WAITING, metavar="REQUESTS", help="how many requests may wait before the door answers 503")
     one.add_argument("--cut-every", type=positive, default=3600, metavar="SECONDS", help="how often the record begins a new file, and the one before is compressed: 3600")
@@ -311,7 +318,7 @@ def parser_of():
     one = add(commands, "node", node, "run one node of a service whose lines go over Redis")
     one.add_argument("name", type=node_name, metavar="c0|a0|..", help="which core or aggregator")
     one.add_argument("folder", nargs="?", default=DEFAULT)
-    one.add_argument("--over", default=OVER, metavar="redis://HOST", help="the server; rediss:// for TLS")
+    one.add_argument("--over", type=carrier, default=OVER, metavar="redis://HOST", help="the server; rediss:// for TLS")
     add(commands, "stop", stop, "stop it", "folder")
     add(commands, "status", status, "its counters", "folder")
     add_asking(commands, "sign", sign, "sign a file: FILE.ksig", "file")
