@@ -32,6 +32,8 @@ DEFAULT = os.environ.get("KSI_SERVICE", "ksi-service-data")
 OVER = os.environ.get("KSI_OVER", "pipes")
 FOR_A_PERSON = 3
 """The status where starting again does not help."""
+LONG_SECONDS, START_SECONDS = 30, 600
+"""How long a start takes before that is told, and before it is given up: nodes read whole files, and nodes behind a server come later."""
 
 
 class Failed(Exception):
@@ -91,19 +93,28 @@ def start(words):
     with open(path, "ab") as log:
         before = log.tell()
         child = subprocess.Popen(again, stdin=subprocess.DEVNULL, stdout=log, stderr=log, start_new_session=True)
-    for _ in range(300):
+    began, told = time.monotonic(), False
+    while time.monotonic() - began < START_SECONDS:
         if child.poll() is not None:
             raise Failed(f"it did not start: {reason_in(path, before)}")
-        try:
-            address, number = door(words.folder)
-            if number == child.pid:
-                print(f"started over {words.folder}, the door is http://{address}")
-                return
-        except Failed:
-            pass
+        if address := door_of(words.folder, child.pid):
+            print(f"started over {words.folder}, the door is http://{address}")
+            return
+        if not told and time.monotonic() - began > LONG_SECONDS:
+            print(f"its nodes still read their files, or are away: see {path}", flush=True)
+            told = True
         time.sleep(0.1)
     child.terminate()
-    raise Failed(f"it did not open its door within 30 seconds, and is stopped: see {path}")
+    raise Failed(f"it did not open its door within {START_SECONDS} seconds, and is stopped: see {path}")
+
+
+def door_of(folder, number):
+    """The address of the door that a process has opened, or None."""
+    try:
+        address, other = door(folder)
+        return address if other == number else None
+    except Failed:
+        return None
 
 
 def reason_in(path, before):
