@@ -119,6 +119,9 @@ class Door:
         except Missing as missing:
             answer = Answer(HTTPStatus.SERVICE_UNAVAILABLE, str(missing))
         except Exception as error:
+            if isinstance(error, ConnectionError) and request.left:
+                # the client is gone before its body came: that is no fault of the door
+                raise
             print(f"{request.method} {request.path}: {error!r}", file=sys.stderr, flush=True)
             answer = Answer(HTTPStatus.INTERNAL_SERVER_ERROR, "the service failed at this")
         return answer

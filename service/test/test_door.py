@@ -7,6 +7,7 @@ import json
 import os
 import random
 import socket
+import struct
 import threading
 import time
 import unittest
@@ -301,6 +302,20 @@ class DoorTest(unittest.TestCase):
         ask = b" / HTTP/1.1\r\nHost: x\r\n\r\nGET /signature/" + ONES.encode() + b" HTTP/1.1\r\nHost: x\r\nConnection: x, Close\r\n\r\n"
         told = self.raw(b"HEAD" + ask)
         self.assertEqual((told.count(b"HTTP/1.1 200 OK"), b"Content-Length: 6\r\n" in told, b"<html>" in told, told.endswith(b"kept")), (2, True, False, True))
+
+    def test_of_a_client_that_is_gone_before_its_body_came_nothing_is_logged(self):
+        with mock.patch("sys.stderr") as log:
+            for _ in range(20):
+                client = self.connect(b"POST /sign HTTP/1.1\r\nHost: x\r\nContent-Length: 64\r\n\r\n0")
+                self.wait_for(1)
+                time.sleep(0.01)
+                client.setsockopt(socket.SOL_SOCKET, socket.SO_LINGER, struct.pack("ii", 1, 0))
+                client.close()
+                self.wait_for(0)
+            self.assertEqual([it.args for it in log.write.call_args_list], [])
+        with mock.patch.object(House, "publications", side_effect=ConnectionError("of the service")), mock.patch("sys.stderr") as log:
+            self.assertEqual(self.ask("GET", "/publications")[0], 500)
+            self.assertIn("of the service", log.write.call_args_list[0][0][0])
 
     def test_a_failure_inside_is_told_and_logged(self):
         with mock.patch.object(House, "publications", side_effect=OSError(5, "Input/output error")), mock.patch("sys.stderr") as log:
