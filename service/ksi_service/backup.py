@@ -44,9 +44,8 @@ def make(folder, out, last, say=print):
             files.write(at("other"), content)
             say(f"part {part}, core {number}: {ksi('merge', mirror, at('other'), mirror)}")
             files.remove(at("other"))
-    for part in range(len(os.listdir(out))):
-        if os.path.exists(at(f"mirror.{part}")):
-            say(f"part {part}: {ksi('whole', at(f'mirror.{part}'), at(f'journal.{part}'))}")
+    for part in range(len(parts(plan, last))):
+        say(f"part {part}: {ksi('whole', at(f'mirror.{part}'), at(f'journal.{part}'))}")
 
 
 def mirrors(folder, plan, number, last):

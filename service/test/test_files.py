@@ -8,9 +8,10 @@ from unittest import mock
 
 import stands
 from ksi_service import calendar as calendars
-from ksi_service import elements, extension, files, replay
+from ksi_service import backup, elements, extension, files, replay
 from ksi_service.calendar import ZERO, Calendar, join
 from ksi_service.hours import Broken
+from ksi_service.plan import Plan
 from ksi_service.proved import Refused, ksi
 from ksi_service.publications import Publications
 
@@ -81,6 +82,19 @@ class ElementsTest(unittest.TestCase):
             published = replay.published_by(files.content_of(journal))
             self.assertTrue(published)
             self.assertEqual(published, replay.published_by_ksi(journal, os.path.join(room, "publications")))
+
+
+class BackupTest(unittest.TestCase):
+    def test_a_part_of_another_backup_is_none_of_this_one(self):
+        """As one of a longer run, in a folder that is used again."""
+        asked = []
+        with tempfile.TemporaryDirectory() as room:
+            for name, content in (("plan", Plan(1, 5, ("c0",)).text().encode()), ("mirror.1", b"another")):
+                files.write(os.path.join(room, name), content)
+            with mock.patch.object(backup, "mirrors", lambda *_: [b"this"]), mock.patch.object(backup, "ksi", lambda *words: asked.append(os.path.basename(words[1]))):
+                backup.make(room, room, 7, say=lambda text: None)
+            self.assertEqual(files.content_of(os.path.join(room, "mirror.1")), b"another")
+        self.assertEqual(asked, ["mirror.0"])
 
 
 class Teller:
