@@ -8,12 +8,14 @@ from unittest import mock
 
 import stands
 from ksi_service import calendar as calendars
-from ksi_service import backup, elements, extension, files, replay
+from ksi_service import backup, check, elements, extension, files, replay
 from ksi_service.calendar import ZERO, Calendar, join
 from ksi_service.hours import Broken
 from ksi_service.plan import Plan
 from ksi_service.proved import Refused, ksi
 from ksi_service.publications import Publications
+from ksi_service.record import Signed
+from ksi_service.retrace import Differs
 
 DATA = os.path.join(os.path.dirname(os.path.dirname(stands.HERE)), "crates", "ksi", "data")
 ONES, TWOS = "1" * 64, "2" * 64
@@ -95,6 +97,20 @@ class BackupTest(unittest.TestCase):
                 backup.make(room, room, 7, say=lambda text: None)
             self.assertEqual(files.content_of(os.path.join(room, "mirror.1")), b"another")
         self.assertEqual(asked, ["mirror.0"])
+
+
+class CheckTest(unittest.TestCase):
+    def test_what_was_handed_out_and_is_no_signature_differs(self):
+        """`check --by-node` compares no signatures with the world's, so that here it is found first."""
+        with tempfile.TemporaryDirectory() as room:
+            files.write(os.path.join(room, "plan"), Plan(1, 5, ("c0",)).text().encode())
+            publications = Publications(room)
+            publications.add(9, ONES)
+            for content in (b"", b"junk"):
+                with mock.patch.object(check, "Stopped"), self.assertRaisesRegex(Differs, "no signature"):
+                    check.use(room, [content], publications, 9, 0)
+            with mock.patch.object(check, "told", lambda _: [Signed(0, "no hex")]), self.assertRaisesRegex(Differs, "no signature"):
+                check.look("record", 5)
 
 
 class Teller:
