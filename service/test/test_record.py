@@ -4,44 +4,21 @@ import gzip
 import json
 import os
 import stat
-import tempfile
 import threading
 import time
 import unittest
 from unittest import mock
 
-from ksi_service import apart, files, hours, replay, retrace
-from ksi_service import record as records
+from ksi_service import apart, files, replay, retrace
 from ksi_service.plan import Plan
 from ksi_service.record import Broken, Record, Signed, State, Step, names, told
 from ksi_service.replay import schedule_of
+from recorded import SEALED, Recorded
 
 ONES = "1" * 64
-SEALED = [["ready", "c0", 0, 0], ["given", "c0", "seal 5", None], ["said", "c0", ["answer done", "stored"]]]
 
 
-class RecordTest(unittest.TestCase):
-    def setUp(self):
-        self.room = tempfile.TemporaryDirectory()
-        self.addCleanup(self.room.cleanup)
-        self.folder = os.path.join(self.room.name, "record")
-        self.state = State()
-
-    def write(self, *entries, number=1, end="\n"):
-        os.makedirs(self.folder, exist_ok=True)
-        with open(os.path.join(self.folder, f"{number:08}"), "w", encoding="utf-8") as file:
-            file.write("\n".join(json.dumps(it) for it in [*([] if number > 1 else [State().begins()]), *entries]) + end)
-
-    def opened(self, work=None):
-        """A record that is opened, worked with, and closed."""
-        async def go():
-            record = Record(self.folder)
-            if work:
-                await work(record)
-            await record.close()
-            return record
-        return asyncio.run(go())
-
+class RecordTest(Recorded):
     def test_a_line_that_was_cut_off_is_left_out(self):
         self.write(*SEALED, end="\n[\"giv")
         state = self.opened().state
@@ -58,18 +35,6 @@ class RecordTest(unittest.TestCase):
             before = len(list(told(self.folder)))
             state = self.opened().state
             self.assertEqual((before, state.steps, len(list(told(self.folder)))), (1, 1, 1), torn)
-
-    def test_what_a_damaged_line_hides_is_kept(self):
-        """A line in the middle that a disk damaged looks as the end that a crash left, and what is behind it had effects."""
-        self.write(*SEALED, ["given", "c0", "tell 5", None], ["said", "c0", ["answer done"]], ["signed", 1, "abcd"])
-        path = names(self.folder)[0]
-        whole = files.content_of(path)
-        at = whole.index(b'["given", "c0", "tell 5"')
-        files.write(path, whole[:at] + b"\0" + whole[at + 1:])
-        self.assertEqual(self.opened().state.steps, 1)
-        self.assertEqual(files.content_of(path) + files.content_of(f"{path}.torn"), whole[:at] + b"\0" + whole[at + 1:])
-        self.assertEqual(self.opened().state.steps, 1)
-        self.assertEqual((names(self.folder), len(list(told(self.folder)))), ([path], 1))
 
     def test_a_broken_file_before_the_last_is_told(self):
         self.write(*SEALED, end="\n[\n")
@@ -175,26 +140,6 @@ class RecordTest(unittest.TestCase):
         self.opened(work)
         self.assertEqual(self.opened().state.nodes, {})
 
-    def test_what_takes_too_long_to_compress_is_left_whole(self):
-        async def work(record):
-            record.add(["given", "c0", "x" * (3 << 20), None])
-            record.add(["said", "c0", ["answer done"]])
-            record.packer.submit(time.sleep, 0.3)
-            await record.cut()
-        with mock.patch.object(records, "LAST_SECONDS", 0.1):
-            self.opened(work)
-        self.assertEqual(sorted(os.listdir(self.folder)), ["00000001", "00000002"])
-        self.assertEqual((hours.pack_all(self.folder), hours.pack_all(self.folder)), (1, 0))
-        self.assertEqual(sorted(os.listdir(self.folder)), ["00000001.gz", "00000002"])
-        self.assertEqual([it.block for it in told(self.folder)], [["answer done"]])
-
-    def test_a_full_disk_leaves_no_half_of_a_compressed_file(self):
-        self.write(*SEALED)
-        path = names(self.folder)[0]
-        with mock.patch.object(files, "keep", side_effect=OSError(28, "No space left on device")):
-            self.assertFalse(hours.pack(path))
-        self.assertEqual(os.listdir(self.folder), ["00000001"])
-
     def test_a_cut_that_fails_leaves_the_record_as_it_was(self):
         async def work(record):
             record.add(["ready", "c0", 0, 0])
@@ -225,29 +170,6 @@ class RecordTest(unittest.TestCase):
         self.assertEqual([it.text for it in told(self.folder) if isinstance(it, Signed)], ["abcd"])
         again = self.opened().state
         self.assertEqual((again.begins(), again.steps), (state.begins(), 2))
-
-    def test_a_file_that_is_not_there_is_named(self):
-        """As one that was moved to another disk, and not brought back for a check."""
-        async def work(record):
-            for second in (5, 6, 7):
-                for entry in (["given", "c0", f"tell {second}", None], ["said", "c0", ["answer done"]]):
-                    record.add(entry)
-                await record.cut()
-        self.opened(work)
-        self.assertEqual(len(list(told(self.folder))), 3)
-        for number in (1, 2, 3):
-            path = os.path.join(self.folder, f"{number:08}.gz")
-            os.rename(path, f"{path}.away")
-            with self.assertRaisesRegex(Broken, f"{number:08}.* is not there"):
-                list(told(self.folder))
-            os.rename(f"{path}.away", path)
-        self.assertEqual(len(list(told(self.folder))), 3)
-
-    def test_a_file_that_was_not_compressed_is_read_once(self):
-        self.write(*SEALED)
-        with open(os.path.join(self.folder, "00000001.gz"), "wb") as file:
-            file.write(b"half of it")
-        self.assertEqual(len(list(told(self.folder))), 1)
 
     def test_lines_that_happened_unsaid_are_steps_and_a_restart_follows(self):
         self.write(["ready", "a0", 0, 0], ["given", "a0", "request 9 5 " + "0" * 64, None], ["given", "a0", "close 5", None],
