@@ -13,7 +13,7 @@ from typing import Iterator, NamedTuple
 from .plan import Plan
 from .programs import program
 from .record import Signed, Step, told
-from .retrace import Differs
+from .retrace import Differs, feed
 
 FROM_NODES = {"submission", "synod", "response"}
 """The first words of lines that nodes alone send."""
@@ -44,13 +44,7 @@ def steps_of(folder) -> Iterator[Step]:
 def hold(plan, folder, name):
     """Holds the log of one node. Returns how many entries it has; raises Differs with the program's last line."""
     with subprocess.Popen([program("ksi_retrace"), "--node", name, plan], stdin=subprocess.PIPE, stdout=subprocess.PIPE, stderr=subprocess.DEVNULL) as run:
-        try:
-            for step in steps_of(folder):
-                if step.node == name:
-                    run.stdin.write(entry_of(step).encode())
-            run.stdin.close()
-        except BrokenPipeError:
-            pass
+        feed(run, (entry_of(step) for step in steps_of(folder) if step.node == name))
         said = run.stdout.read().decode().strip()
     words = said.split(" ")
     if run.returncode or words[:-1] != ["agrees"]:

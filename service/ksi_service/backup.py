@@ -33,7 +33,7 @@ def parts(plan, last):
 def make(folder, out, last, say=print):
     """Saves OUT/mirror.N and OUT/journal.N for each part, up to second `last`."""
     plan = Plan.read(os.path.join(folder, "plan"))
-    os.makedirs(out, exist_ok=True)
+    files.make_folder(out)
     at = lambda name: os.path.abspath(os.path.join(out, name))
     for number in range(plan.cores):
         for part, content in enumerate(mirrors(folder, plan, number, last)):
@@ -44,9 +44,8 @@ def make(folder, out, last, say=print):
             files.write(at("other"), content)
             say(f"part {part}, core {number}: {ksi('merge', mirror, at('other'), mirror)}")
             files.remove(at("other"))
-    for part in range(len(os.listdir(out))):
-        if os.path.exists(at(f"mirror.{part}")):
-            say(f"part {part}: {ksi('whole', at(f'mirror.{part}'), at(f'journal.{part}'))}")
+    for part in range(len(parts(plan, last))):
+        say(f"part {part}: {ksi('whole', at(f'mirror.{part}'), at(f'journal.{part}'))}")
 
 
 def mirrors(folder, plan, number, last):

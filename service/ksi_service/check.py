@@ -7,7 +7,7 @@ from typing import NamedTuple
 
 from . import apart, backup, extension
 from .calendar import Calendar
-from .elements import parts_of
+from .elements import Malformed, parts_of
 from .plan import Plan
 from .proved import Refused, Stopped, ksi
 from .publications import Publications
@@ -55,7 +55,18 @@ def look(record, samples):
             if words[0] == "seal":
                 last = max(last, int(words[1]))
     dice.shuffle(chosen)
-    return published, [bytes.fromhex(text) for text in chosen], last
+    try:
+        return published, [bytes.fromhex(text) for text in chosen], last
+    except ValueError as fault:
+        raise Differs(f"what was handed out is no signature: {fault}") from None
+
+
+def second_of(signature):
+    """The second of a signature that was handed out."""
+    try:
+        return parts_of(signature).second
+    except Malformed as fault:
+        raise Differs(f"what was handed out is no signature: {fault}") from None
 
 
 def compare(folder, say, by_node):
@@ -114,7 +125,7 @@ def use(folder, signatures, publications, last, audits):
         calendar = Calendar(plan.start)
         with Stopped(folder, "c0") as core:
             for signature in signatures:
-                if parts_of(signature).second > publications.last():
+                if second_of(signature) > publications.last():
                     continue
                 try:
                     parts, content = extension.extend_by(core, calendar, signature, publications)

@@ -15,6 +15,8 @@ TURNS = 60
 """How often a request is made again before it is refused."""
 AFTER = 1.01
 """How long behind its beginning a second is driven, so that requests for it have come."""
+LOOK_SECONDS = 1.0
+"""How long the machine's clock is relied on at most."""
 MOST_WAITING = 10_000
 """How many requests may wait for their signatures at once."""
 MOST_AT_ONCE = 16
@@ -266,13 +268,20 @@ class Clock:
         await self.publish_by_any(last)
         raise PlanEnded(f"the plan's last second was {last}, and is published: begin a new folder, and keep this one")
 
+    async def due(self, second):
+        """Waits until a second is to be driven. The machine's clock may be set meanwhile, so it is looked at again and again."""
+        while (left := second + AFTER - self.now()) > 0:
+            await asyncio.sleep(min(left, LOOK_SECONDS))
+        # who drives many seconds that were missed leaves time for the others
+        await asyncio.sleep(0)
+
     async def run(self, first, publish_every):
         """Drives each second in its time, and lets a core publish so often."""
         tasks, second = set(), first
         try:
             while True:
                 self.next = second
-                await asyncio.sleep(max(0.0, second + AFTER - self.now()))
+                await self.due(second)
                 if second >= self.plan.start + SECONDS:
                     await self.end(tasks)
                 while len(tasks) >= MOST_AT_ONCE:

@@ -1,6 +1,7 @@
 """The command `ksi-service`."""
 import argparse
 import asyncio
+import contextlib
 import hashlib
 import json
 import os
@@ -31,6 +32,8 @@ DEFAULT = os.environ.get("KSI_SERVICE", "ksi-service-data")
 OVER = os.environ.get("KSI_OVER", "pipes")
 FOR_A_PERSON = 3
 """The status where starting again does not help."""
+LONG_SECONDS, START_SECONDS = 30, 600
+"""How long a start takes before that is told, and before it is given up: nodes read whole files, and nodes behind a server come later."""
 
 
 class Failed(Exception):
@@ -55,7 +58,8 @@ def ask(folder, path, content=None, kind="text/plain"):
         raise Failed(f"no service runs over {folder}, and the last one was not stopped: ksi-service start {folder}")
     request = urllib.request.Request(f"http://{address}{path}", data=content, headers={"Content-Type": kind})
     try:
-        with urllib.request.urlopen(request, timeout=90) as answer:
+        # what is asked of this machine goes by no proxy, whatever the environment names
+        with urllib.request.build_opener(urllib.request.ProxyHandler({})).open(request, timeout=90) as answer:
             return answer.read()
     except urllib.error.HTTPError as error:
         raise Failed(error.read().decode(errors="replace").strip()) from None
@@ -83,25 +87,34 @@ def address_of(text):
 
 def start(words):
     """Starts the service in the background, and waits until its door is open."""
-    os.makedirs(words.folder, exist_ok=True)
+    files.make_folder(words.folder)
     again = [sys.executable, os.path.abspath(sys.argv[0]), "run", *sys.argv[2:]]
     path = os.path.join(words.folder, "log")
     with open(path, "ab") as log:
         before = log.tell()
         child = subprocess.Popen(again, stdin=subprocess.DEVNULL, stdout=log, stderr=log, start_new_session=True)
-    for _ in range(300):
+    began, told = time.monotonic(), False
+    while time.monotonic() - began < START_SECONDS:
         if child.poll() is not None:
             raise Failed(f"it did not start: {reason_in(path, before)}")
-        try:
-            address, number = door(words.folder)
-            if number == child.pid:
-                print(f"started over {words.folder}, the door is http://{address}")
-                return
-        except Failed:
-            pass
+        if address := door_of(words.folder, child.pid):
+            print(f"started over {words.folder}, the door is http://{address}")
+            return
+        if not told and time.monotonic() - began > LONG_SECONDS:
+            print(f"its nodes still read their files, or are away: see {path}", flush=True)
+            told = True
         time.sleep(0.1)
     child.terminate()
-    raise Failed(f"it did not open its door within 30 seconds, and is stopped: see {path}")
+    raise Failed(f"it did not open its door within {START_SECONDS} seconds, and is stopped: see {path}")
+
+
+def door_of(folder, number):
+    """The address of the door that a process has opened, or None."""
+    try:
+        address, other = door(folder)
+        return address if other == number else None
+    except Failed:
+        return None
 
 
 def reason_in(path, before):
@@ -178,8 +191,17 @@ def rests(folder):
     return os.path.exists(os.path.join(folder, "plan")) and not files.is_held(folder)
 
 
+@contextlib.contextmanager
+def at_rest(folder):
+    """Has a folder to itself, over which no service runs. The door of one that was killed is removed: its number may be another
+    process's by now, and whoever finds the folder locked would take that for the service."""
+    with files.lock(folder):
+        files.remove(os.path.join(folder, "door"))
+        yield
+
+
 def extended_by_file(folder, signature):
-    with files.lock(folder), Stopped(folder, "c0") as core:
+    with at_rest(folder), Stopped(folder, "c0") as core:
         published = Publications(folder)
         if published.last() is None:
             raise Failed(f"nothing was published yet over {folder}")
@@ -214,7 +236,7 @@ def verify(words):
 
 def check(words):
     """Holds the record of a service that is stopped against the proved world."""
-    with files.lock(words.folder):
+    with at_rest(words.folder):
         compress(words.folder)
         checking.check(words.folder, words.samples, by_node=words.by_node)
         if words.replay:
@@ -230,7 +252,7 @@ def compress(folder):
 
 def backup(words):
     """The mirrors of all cores, merged, and the journal of what they hold, by the proved `ksi`."""
-    with files.lock(words.folder):
+    with at_rest(words.folder):
         compress(words.folder)
         backing.make(words.folder, words.out, last_state(os.path.join(words.folder, "record"))[0].second)
 
@@ -239,7 +261,7 @@ def forget(words):
     """Lets the aggregators of a service that is stopped forget rounds whose signatures were handed out."""
     if not os.path.exists(os.path.join(words.folder, "plan")):
         raise Failed(f"{words.folder} has no plan: it was no service's")
-    with files.lock(words.folder):
+    with at_rest(words.folder):
         forgetting.forget(words.folder, words.before)
 
 
@@ -255,6 +277,13 @@ def positive(text):
     if number < 1:
         raise ValueError(text)
     return number
+
+
+def carrier(text):
+    """How lines go: `pipes`, or the URL of a server, which may have a password and is not told again."""
+    if text != "pipes" and not re.match("(redis|rediss|unix)://.", text):
+        raise argparse.ArgumentTypeError("it is pipes, redis://HOST, rediss://HOST or unix://PATH")
+    return text
 
 
 def node_name(text):
@@ -278,7 +307,7 @@ def add_running(commands, name, does, told):
     one.add_argument("--cores", type=int, choices=range(1, 10), metavar="1..9", help="how many cores a new folder has: 3")
     one.add_argument("--aggregators", metavar="NUMBER|PARENTS", help="how many aggregators a new folder has, 2; or to whom each submits, as c0,c1,a0,a0")
     one.add_argument("--door", default="127.0.0.1:8080", metavar="HOST:PORT", help="where to listen; port 0 takes a free one")
-    one.add_argument("--over", default=OVER, metavar="pipes|redis://HOST", help="how lines go: pipes on this machine, or Redis Streams to the hosts of nodes")
+    one.add_argument("--over", type=carrier, default=OVER, metavar="pipes|redis://HOST", help="how lines go: pipes on this machine, or Redis Streams to the hosts of nodes")
     one.add_argument("--publish-every", type=positive, default=3600, metavar="SECONDS", help="how often a core publishes: 3600")
     one.add_argument("--most-waiting", type=positive, default=service.MOST_WAITING, metavar="REQUESTS", help="how many requests may wait before the door answers 503")
     one.add_argument("--cut-every", type=positive, default=3600, metavar="SECONDS", help="how often the record begins a new file, and the one before is compressed: 3600")
@@ -300,7 +329,7 @@ def parser_of():
     one = add(commands, "node", node, "run one node of a service whose lines go over Redis")
     one.add_argument("name", type=node_name, metavar="c0|a0|..", help="which core or aggregator")
     one.add_argument("folder", nargs="?", default=DEFAULT)
-    one.add_argument("--over", default=OVER, metavar="redis://HOST", help="the server; rediss:// for TLS")
+    one.add_argument("--over", type=carrier, default=OVER, metavar="redis://HOST", help="the server; rediss:// for TLS")
     add(commands, "stop", stop, "stop it", "folder")
     add(commands, "status", status, "its counters", "folder")
     add_asking(commands, "sign", sign, "sign a file: FILE.ksig", "file")

@@ -66,6 +66,11 @@ class Door:
     def address(self):
         return self.server.sockets[0].getsockname()[:2]
 
+    def where(self):
+        """The address as it stands in a URL (RFC 3986, 3.2.2)."""
+        host, port = self.address()
+        return f"[{host}]:{port}" if ":" in host else f"{host}:{port}"
+
     async def stop(self):
         """Takes no more connections, and ends those that are open."""
         self.server.close()
@@ -92,15 +97,16 @@ class Door:
         try:
             if self.make_room():
                 self.open.add(connection)
-                await http.serve(connection, self.reply)
+                await http.serve(connection, self.reply, self.note)
             else:
                 answer = Answer(HTTPStatus.SERVICE_UNAVAILABLE, "too many connections are open", Retry_After="2")
                 writer.write(answer.head(True) + answer.content)
         except (ConnectionError, TimeoutError, asyncio.CancelledError):
             pass
         finally:
+            # a client that reads nothing would hold more than may be open, if it were not counted until the end
+            await http.end(writer)
             self.open.discard(connection)
-            writer.close()
 
     async def reply(self, request):
         """What a request is answered."""
@@ -113,10 +119,15 @@ class Door:
         except Missing as missing:
             answer = Answer(HTTPStatus.SERVICE_UNAVAILABLE, str(missing))
         except Exception as error:
+            if isinstance(error, ConnectionError) and request.left:
+                # the client is gone before its body came: that is no fault of the door
+                raise
             print(f"{request.method} {request.path}: {error!r}", file=sys.stderr, flush=True)
             answer = Answer(HTTPStatus.INTERNAL_SERVER_ERROR, "the service failed at this")
-        self.refused += 400 <= answer.status < 500
         return answer
+
+    def note(self, answer):
+        self.refused += 400 <= answer.status < 500
 
     async def route(self, request):
         if request.headers.get("sec-fetch-site") == "cross-site":

@@ -3,7 +3,8 @@
 from typing import Iterator, List, NamedTuple, Optional, Tuple
 
 MAGIC_PUBLICATIONS, MAGIC_MIRROR = b"KSIPUBLF", b"KSIMIRR1"
-MOST_BODY = 0xFFFF
+MOST_BODY, MOST_NUMBER = 0xFFFF, 8
+"""The most bytes of an element's body, and of one that is a number."""
 FORWARD = 0x60
 """The flags non-critical and forward: such an unknown element goes with an extension."""
 
@@ -38,6 +39,8 @@ def read(content: bytes, at=0) -> Iterator[Element]:
 
 
 def number_of(body: bytes) -> int:
+    if len(body) > MOST_NUMBER:
+        raise Malformed(f"a number has more than {MOST_NUMBER} bytes")
     return int.from_bytes(body, "big")
 
 
@@ -73,8 +76,9 @@ def published_in(content: bytes) -> List[Tuple[int, str]]:
     told = []
     for it in read(content, len(MAGIC_PUBLICATIONS)):
         if it.kind == 0x703:
-            data = next(inner for inner in read(it.body) if inner.kind == 0x10)
-            parts = {inner.kind: inner.body for inner in read(data.body)}
+            parts = {part.kind: part.body for data in read(it.body) if data.kind == 0x10 for part in read(data.body)}
+            if not {0x02, 0x04} <= parts.keys():
+                raise Malformed("a publication without its parts")
             told.append((number_of(parts[0x02]), parts[0x04][1:].hex()))
     return told
 

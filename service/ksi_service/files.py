@@ -24,17 +24,19 @@ def lock(folder):
 
 
 def is_held(folder):
-    """Whether a service runs over a folder."""
+    """Whether a service runs over a folder. Whoever may read it may ask."""
     try:
-        lock_of(os.path.join(folder, "lock"), "", fcntl.LOCK_SH).close()
+        lock_of(os.path.join(folder, "lock"), "", fcntl.LOCK_SH, "r").close()
+        return False
+    except FileNotFoundError:
         return False
     except Held:
         return True
 
 
-def lock_of(path, reason, how=fcntl.LOCK_EX):
+def lock_of(path, reason, how=fcntl.LOCK_EX, mode="a"):
     """Locks a file, or raises Held with the reason."""
-    file = open(path, "a", encoding="ascii")
+    file = open(path, mode, encoding="ascii")
     try:
         fcntl.flock(file, how | fcntl.LOCK_NB)
     except OSError:
@@ -58,6 +60,16 @@ def sync_folder(folder):
         os.fsync(number)
     finally:
         os.close(number)
+
+
+def make_folder(path):
+    """Makes a folder with all that it is in, where they are not there. Their names are on the disk before anything in them is."""
+    path = os.path.abspath(path)
+    if not os.path.isdir(path):
+        above = os.path.dirname(path)
+        make_folder(above)
+        os.makedirs(path, exist_ok=True)
+        sync_folder(above)
 
 
 def keep(made, name):

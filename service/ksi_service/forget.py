@@ -120,6 +120,6 @@ async def on_disk(record):
     there = []
     record.after(lambda: there.append(True))
     while not there:
-        if record.failed:
+        if record.ended:
             raise NotForgotten("the record is not written any more")
         await asyncio.sleep(0.002)

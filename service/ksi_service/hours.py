@@ -3,6 +3,7 @@ import gzip
 import json
 import os
 import re
+import shutil
 import zlib
 from typing import Iterator, List, Optional, Tuple
 
@@ -22,6 +23,15 @@ def names(folder) -> List[str]:
         return [os.path.join(folder, found[it]) for it in sorted(found)]
     except FileNotFoundError:
         return []
+
+
+def all_names(folder) -> List[str]:
+    """The files of a record in order, from the first one on. Without one of them, what is behind it would be taken for another run's."""
+    found = names(folder)
+    for number, path in enumerate(found, 1):
+        if int(os.path.basename(path)[:8]) != number:
+            raise Broken(f"{os.path.join(folder, f'{number:08}')} is not there: bring back what was moved of the record")
+    return found
 
 
 def lines_of(path) -> Iterator[bytes]:
@@ -52,6 +62,23 @@ def entry_in(line) -> Optional[list]:
     except ValueError:
         return None
     return entry if isinstance(entry, list) and entry and isinstance(entry[0], str) else None
+
+
+def cut_off(path, size):
+    """Cuts a file off behind so many bytes, and keeps the rest beside it. After a crash the rest had no effect; but where a disk damaged
+    a line in the middle, it is all that there is of what was behind that."""
+    made = f"{path}.torn.new"
+    with open(path, "r+b") as file:
+        file.seek(size)
+        if not file.peek(1):
+            return
+        try:
+            with open(made, "wb") as rest:
+                shutil.copyfileobj(file, rest)
+            files.keep(made, f"{path}.torn")
+        finally:
+            files.remove(made)
+        file.truncate(size)
 
 
 def pack(path, is_over=lambda: False) -> bool:

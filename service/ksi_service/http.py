@@ -159,8 +159,9 @@ async def read_head(connection):
     return head[:-4].decode("latin-1")
 
 
-async def serve(connection, reply):
-    """Answers the requests of a connection by `reply`, which gives an Answer for a Request."""
+async def serve(connection, reply, note):
+    """Answers the requests of a connection by `reply`, which gives an Answer for a Request. Each answer is noted, also one to what is no
+    request."""
     ends = False
     while not ends:
         request = None
@@ -174,6 +175,7 @@ async def serve(connection, reply):
             answer = refused
         except TimeoutError:
             answer = Answer(HTTPStatus.REQUEST_TIMEOUT, "it took too long")
+        note(answer)
         ends = request is None or request.ends or request.left > 0
         await send(connection.writer, answer.head(ends), b"" if request and request.method == "HEAD" else answer.content)
     await linger(connection)
@@ -189,6 +191,18 @@ async def linger(connection):
                 return
     except (TimeoutError, OSError):
         pass
+
+
+async def end(writer):
+    """Ends a connection, once its client has taken what waits for it, or takes too long for that."""
+    writer.close()
+    handle = asyncio.get_running_loop().call_later(SECONDS_FOR_BODY, writer.transport.abort)
+    try:
+        await writer.wait_closed()
+    except OSError:
+        pass
+    finally:
+        handle.cancel()
 
 
 async def send(writer, head, content):

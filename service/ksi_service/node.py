@@ -14,6 +14,8 @@ MOST_VAIN_STARTS = 8
 """How often in a row a node may end before it is given up: some ten seconds, as the time between starts doubles."""
 FIRST_PAUSE = 0.05
 """How many seconds lie between an end and the next start, if it is the first in a row."""
+SILENT_SECONDS = 30
+"""How long a node may be silent about a line that it was given. Then it is killed: what waits for it would wait for ever."""
 MOST_LINES = 1024
 """How many lines are on their way to a node at once; the others wait. Each waits for two writes of the record."""
 
@@ -59,6 +61,8 @@ class Node:
         self.alive, self.stopping, self.starts, self.unsaid, self.refused = False, False, 0, 0, 0
         self.process, self.vain_starts, self.reason = None, 0, ""
         self.ready_lines, self.between = [], None
+        self.owed, self.heard = 0, 0
+        """How many blocks the process owes for lines that were written to it, and how many blocks there were."""
 
     @property
     def restarts(self):
@@ -115,8 +119,8 @@ class Node:
         pipe = asyncio.subprocess.PIPE
         process = await asyncio.create_subprocess_exec(
             *self.words, stdin=pipe, stdout=pipe, stderr=asyncio.subprocess.DEVNULL, limit=1 << 20, start_new_session=True)
-        self.process, self.ready_lines, self.reason = process, [], ""
-        begun = False
+        self.process, self.ready_lines, self.reason, self.owed = process, [], "", 0
+        begun, watching = False, asyncio.create_task(self.watch())
         try:
             async for block in self.blocks(process):
                 if begun:
@@ -130,9 +134,19 @@ class Node:
             self.alive = False
             process.stdin.close()
             await process.wait()
+            watching.cancel()
             for line in self.waiting:
                 line.fail(self.name)
             self.waiting.clear()
+
+    async def watch(self):
+        """Kills the process if it is silent, as one that is stopped, or whose disk does not return."""
+        while True:
+            owed, heard = self.owed, self.heard
+            await asyncio.sleep(SILENT_SECONDS)
+            if owed and heard == self.heard:
+                self.say(f"{self.name} is silent, and is killed")
+                self.kill()
 
     async def blocks(self, process):
         """Each block that the process writes, until it ends. Lines are given on behind all blocks that came at once."""
@@ -171,6 +185,7 @@ class Node:
 
     def answered(self, block):
         line = self.flying.popleft()
+        self.owed, self.heard = self.owed - 1, self.heard + 1
         self.storing -= line.may_store
         self.vain_starts = 0
         if line.is_question:
@@ -211,6 +226,7 @@ class Node:
         lines, self.ready_lines = self.ready_lines, []
         if self.process.returncode is None and not self.process.stdin.is_closing():
             self.process.stdin.write("".join(f"{it}\n" for it in lines).encode())
+            self.owed += len(lines)
 
     def send(self, line):
         """Puts a line on its way. A node that is down takes none."""

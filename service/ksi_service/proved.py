@@ -44,8 +44,12 @@ class Stopped:
         self.process.wait()
 
     def ask(self, line):
-        self.process.stdin.write(line + "\n")
-        self.process.stdin.flush()
+        try:
+            self.process.stdin.write(line + "\n")
+            self.process.stdin.flush()
+        except BrokenPipeError:
+            # the process has ended, and what it said tells why
+            pass
         return self.block()
 
     def block(self):

@@ -2,7 +2,8 @@
 import os
 
 from . import files
-from .elements import publications_file, published_in
+from .elements import Malformed, publications_file, published_in
+from .hours import Broken
 
 
 class Publications:
@@ -10,7 +11,10 @@ class Publications:
         self.path = os.path.join(folder, "publications")
         self.content = files.content_of(self.path)
         """The file's bytes, or None where nothing was published."""
-        self.published = published_in(self.content) if self.content else []
+        try:
+            self.published = [] if self.content is None else published_in(self.content)
+        except Malformed as fault:
+            raise Broken(f"{self.path} is not what was published: {fault}") from None
 
     def last(self):
         """The last published second, or None."""

@@ -28,7 +28,7 @@ from dataclasses import dataclass, field
 from typing import Deque, Dict, Iterator, List, Optional, Tuple
 
 from . import files
-from .hours import Broken, entries_of, names, pack
+from .hours import Broken, all_names, cut_off, entries_of, names, pack
 
 MAY_STORE = {"close", "response", "seal", "ballot", "synod"}
 """The first words of lines whose step may store a fact."""
@@ -187,7 +187,7 @@ class State:
 
 def told(folder) -> Iterator[object]:
     """The steps of a record and the signatures that were handed out, in order."""
-    state, found = State(), names(folder)
+    state, found = State(), all_names(folder)
     for path in found:
         for entry, _ in entries_of(path, path == found[-1]):
             if entry[0] != "begins":
@@ -213,22 +213,26 @@ class Record:
 
     def __init__(self, folder):
         self.folder, self.bytes, self.failed, self.soon, self.closing = folder, 0, False, False, False
+        self.ended = False
+        """Whether nobody writes what is added any more, until it is closed: it failed, could not be cut, or is told to end."""
         self.waiting, self.wanted = [], asyncio.Event()
         self.flushing: Optional[asyncio.Task] = None
         """The last group on its way to the disk."""
         self.writer, self.packer = concurrent.futures.ThreadPoolExecutor(1), concurrent.futures.ThreadPoolExecutor(1)
         self.packing: List[concurrent.futures.Future] = []
-        os.makedirs(folder, exist_ok=True)
+        files.make_folder(folder)
         self.recall()
 
     def recall(self):
-        """Reads the last file, cuts off a line that was not written whole, and goes on behind it."""
+        """Reads the last file, cuts off what is behind its last whole line, and goes on there."""
         found = names(self.folder)
+        for path in found[-1:]:
+            files.drop_cache(path)
         self.state, whole = last_state(self.folder)
         if not found or found[-1].endswith(".gz"):
             self.open_next(len(found) and int(os.path.basename(found[-1])[:8]))
         else:
-            os.truncate(found[-1], whole)
+            cut_off(found[-1], whole)
             self.number = int(os.path.basename(found[-1]))
             self.file = open(found[-1], "ab", buffering=0)
         for path in found[:-1]:
@@ -295,13 +299,16 @@ class Record:
         """Writes what is added, and cuts the record so often."""
         loop = asyncio.get_running_loop()
         cut_at = loop.time() + cut_every
-        while True:
-            await self.wanted.wait()
-            self.wanted.clear()
-            await self.flush()
-            if loop.time() >= cut_at:
-                await self.cut()
-                cut_at = loop.time() + cut_every
+        try:
+            while True:
+                await self.wanted.wait()
+                self.wanted.clear()
+                await self.flush()
+                if loop.time() >= cut_at:
+                    await self.cut()
+                    cut_at = loop.time() + cut_every
+        finally:
+            self.ended = True
 
     async def cut(self):
         """Begins a new file; the one before is compressed in its own time."""

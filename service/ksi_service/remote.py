@@ -127,7 +127,7 @@ class RemoteNetwork:
         patiently(lambda: self.begin_plan(client), self.say)
         seen = {f"ksi:log:{name}": self.record.state.seen.get(name, "0") for name in self.nodes}
         seen.update(patiently(lambda: {it: last_of(client, it) for it in (f"ksi:said:{name}" for name in self.nodes)}, self.say))
-        looked = trimmed = 0.0
+        looked, trimmed, away = 0.0, 0.0, False
         while not self.ended:
             try:
                 found = client.xread(seen, count=5000, block=ALIVE_MILLISECONDS // 5) or []
@@ -140,9 +140,12 @@ class RemoteNetwork:
                     self.trim(client)
             except errors() as error:
                 loop.call_soon_threadsafe(self.take, [], [None] * len(self.nodes))
-                self.say(f"the server is away: {error}")
+                if not away:
+                    self.say(f"the server is away: {error}")
+                away = True
                 time.sleep(0.5)
                 continue
+            away = False
             for stream, entries in found:
                 seen[stream] = entries[-1][0]
             loop.call_soon_threadsafe(self.take, found, there)

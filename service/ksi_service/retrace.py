@@ -36,18 +36,24 @@ def entries(folder) -> Iterator[str]:
     return map(entry_of, told(folder))
 
 
+def feed(run, rows):
+    """Gives entries to a program until it reads no more, as where one differs: what it says tells why. What was not taken is dropped here,
+    for the program's end would fail at it."""
+    try:
+        with run.stdin:
+            for row in rows:
+                run.stdin.write(row.encode())
+    except BrokenPipeError:
+        pass
+
+
 def retrace(plan, folder):
     """The counts of steps, of steps that were never said, and of signatures, where all agree; else raises Differs with the last line.
 
     Its output goes to a file: a pipe that nobody empties while the record is given would stop both."""
     with tempfile.TemporaryFile() as out:
         with subprocess.Popen([program("ksi_retrace"), plan], stdin=subprocess.PIPE, stdout=out, stderr=subprocess.DEVNULL) as run:
-            try:
-                for entry in entries(folder):
-                    run.stdin.write(entry.encode())
-                run.stdin.close()
-            except BrokenPipeError:
-                pass
+            feed(run, entries(folder))
         out.seek(0)
         said = b"".join(deque(out, maxlen=1)).decode().strip()
     words = said.split(" ")

@@ -266,7 +266,7 @@ async def run(folder, cores=None, aggregators=None, address=("127.0.0.1", 8080),
     """Runs the service until it is told to stop. A test makes trouble with it."""
     # futures and lines come and go by thousands a second, and nothing of them is in a cycle
     gc.set_threshold(50_000, 20, 50)
-    os.makedirs(folder, exist_ok=True)
+    files.make_folder(folder)
     held = files.lock(folder)
     if options.get("over", "pipes") == "pipes":
         # a plan's seconds count from its making on: none is made for nodes that cannot start
@@ -285,9 +285,8 @@ async def run(folder, cores=None, aggregators=None, address=("127.0.0.1", 8080),
         await first_of(end, asyncio.create_task(service.begin()))
         if not end.done():
             await opened(door, *address)
-            where = "%s:%d" % door.address()
-            files.write(os.path.join(folder, "door"), f"{where}\n{os.getpid()}\n".encode())
-            say(f"the door is open at {where}")
+            files.write(os.path.join(folder, "door"), f"{door.where()}\n{os.getpid()}\n".encode())
+            say(f"the door is open at {door.where()}")
             await first_of(end, asyncio.create_task(service.watch()))
             house.closing = True
             await service.idle(LAST_SECONDS)

@@ -116,7 +116,7 @@ class NodeHost:
 
     def run(self):
         """Serves until the process of this host is ended."""
-        os.makedirs(self.folder, exist_ok=True)
+        files.make_folder(self.folder)
         held = files.lock_of(os.path.join(self.folder, f"{self.name}.lock"), f"another host runs {self.name} over {self.folder}")
         self.patiently(self.prepare)
         try:

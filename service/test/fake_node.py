@@ -1,5 +1,6 @@
-"""fake_node.py FILE: a node for tests. It stores a fact at `seal`, dies at `die`, and dies at `ballot` after it has stored one."""
+"""fake_node.py FILE: a node for tests. It stores a fact at `seal`, dies at `die`, is silent at `hang`, and dies at `ballot` after it has stored one."""
 import sys
+import time
 
 facts = open(sys.argv[1], "a+")
 facts.seek(0)
@@ -12,6 +13,8 @@ for line in sys.stdin:
     if word in ("seal", "ballot"):
         facts.write("x")
         facts.flush()
+    if word == "hang":
+        time.sleep(1000)
     if word in ("die", "ballot"):
         sys.exit(1)
     if word == "bad":

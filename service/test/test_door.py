@@ -7,6 +7,7 @@ import json
 import os
 import random
 import socket
+import struct
 import threading
 import time
 import unittest
@@ -111,6 +112,11 @@ class DoorTest(unittest.TestCase):
         for method, path, body, headers, status, content in rows:
             self.assertEqual(self.ask(method, path, body, **headers), (status, content), (method, path))
 
+    def test_an_address_stands_in_a_url(self):
+        for address, where in ((("127.0.0.1", 80), "127.0.0.1:80"), (("::1", 80), "[::1]:80")):
+            with mock.patch.object(self.door, "address", lambda address=address: address):
+                self.assertEqual(self.door.where(), where)
+
     def test_counters_as_json_and_for_prometheus(self):
         told = json.loads(self.ask("GET", "/status")[1])
         self.assertEqual((told["signed"], told["sign_seconds"]["count"]), (3, 1))
@@ -156,6 +162,16 @@ class DoorTest(unittest.TestCase):
             self.assertIn(reason, told.split(b"\r\n\r\n")[1], content[:80])
             self.assertIn(b"Connection: close", told)
         self.assertEqual(self.ask("GET", "/status")[0], 200)
+
+    def test_each_refusal_is_counted(self):
+        ask = b"GET /elsewhere HTTP/1.1\r\nHost: x\r\n\r\n"
+        for content in (ask + b"GET\r\n\r\n", ask + b"GET / HTTP/1.1\r\n\r\n", b"GET /" + b"a" * 9000):
+            self.raw(content, more=False)
+        self.assertEqual(self.ask("POST", "/sign", b"5" * 64)[0], 503)
+        with mock.patch.object(own, "SECONDS_FOR_HEAD", 0.2):
+            self.raw(b"GET / HT")
+            self.raw()
+        self.assertEqual(self.door.refused, 6)
 
     def test_a_connection_takes_many_requests(self):
         one = b"POST /sign HTTP/1.1\r\nHost: x\r\nContent-Length: 64\r\n\r\n" + b"2" * 64
@@ -257,10 +273,49 @@ class DoorTest(unittest.TestCase):
         self.assertTrue(all(0 < it <= 2 * own.PIECE for it in held), held)
         self.assertLess(len(client.recv(1 << 20)), 8 << 20)
 
+    def unread(self):
+        """A client that reads nothing, and for whom something waits in memory."""
+        client = socket.socket()
+        self.addCleanup(client.close)
+        client.setsockopt(socket.SOL_SOCKET, socket.SO_RCVBUF, 2048)
+        client.connect(self.address)
+        self.wait_for(1)
+        transport = next(iter(self.door.open)).writer.transport
+        while not transport.get_write_buffer_size():
+            client.sendall(b"GET / HTTP/1.1\r\nHost: x\r\n\r\n" * 4)
+            time.sleep(0.002)
+        return client, transport
+
+    def test_a_client_that_never_takes_its_last_answer_is_counted_until_it_is_ended(self):
+        client, transport = self.unread()
+        with mock.patch.object(own, "SECONDS_FOR_BODY", 0.5), mock.patch.object(own, "SECONDS_TO_LINGER", 0.1):
+            client.sendall(b"GET / HTTP/1.1\r\nHost: x\r\nConnection: close\r\n\r\n")
+            while not transport.is_closing():
+                time.sleep(0.01)
+            counted, began = len(self.door.open), time.monotonic()
+            while transport.get_extra_info("socket").fileno() >= 0 and time.monotonic() < began + 5:
+                time.sleep(0.01)
+        self.assertEqual((counted, transport.get_extra_info("socket").fileno()), (1, -1))
+        self.wait_for(0)
+
     def test_a_head_has_no_body_behind_it(self):
         ask = b" / HTTP/1.1\r\nHost: x\r\n\r\nGET /signature/" + ONES.encode() + b" HTTP/1.1\r\nHost: x\r\nConnection: x, Close\r\n\r\n"
         told = self.raw(b"HEAD" + ask)
         self.assertEqual((told.count(b"HTTP/1.1 200 OK"), b"Content-Length: 6\r\n" in told, b"<html>" in told, told.endswith(b"kept")), (2, True, False, True))
+
+    def test_of_a_client_that_is_gone_before_its_body_came_nothing_is_logged(self):
+        with mock.patch("sys.stderr") as log:
+            for _ in range(20):
+                client = self.connect(b"POST /sign HTTP/1.1\r\nHost: x\r\nContent-Length: 64\r\n\r\n0")
+                self.wait_for(1)
+                time.sleep(0.01)
+                client.setsockopt(socket.SOL_SOCKET, socket.SO_LINGER, struct.pack("ii", 1, 0))
+                client.close()
+                self.wait_for(0)
+            self.assertEqual([it.args for it in log.write.call_args_list], [])
+        with mock.patch.object(House, "publications", side_effect=ConnectionError("of the service")), mock.patch("sys.stderr") as log:
+            self.assertEqual(self.ask("GET", "/publications")[0], 500)
+            self.assertIn("of the service", log.write.call_args_list[0][0][0])
 
     def test_a_failure_inside_is_told_and_logged(self):
         with mock.patch.object(House, "publications", side_effect=OSError(5, "Input/output error")), mock.patch("sys.stderr") as log:

@@ -8,10 +8,14 @@ from unittest import mock
 
 import stands
 from ksi_service import calendar as calendars
-from ksi_service import elements, extension, files, replay
+from ksi_service import backup, check, elements, extension, files, replay
 from ksi_service.calendar import ZERO, Calendar, join
+from ksi_service.hours import Broken
+from ksi_service.plan import Plan
 from ksi_service.proved import Refused, ksi
 from ksi_service.publications import Publications
+from ksi_service.record import Signed
+from ksi_service.retrace import Differs
 
 DATA = os.path.join(os.path.dirname(os.path.dirname(stands.HERE)), "crates", "ksi", "data")
 ONES, TWOS = "1" * 64, "2" * 64
@@ -82,6 +86,33 @@ class ElementsTest(unittest.TestCase):
             self.assertEqual(published, replay.published_by_ksi(journal, os.path.join(room, "publications")))
 
 
+class BackupTest(unittest.TestCase):
+    def test_a_part_of_another_backup_is_none_of_this_one(self):
+        """As one of a longer run, in a folder that is used again."""
+        asked = []
+        with tempfile.TemporaryDirectory() as room:
+            for name, content in (("plan", Plan(1, 5, ("c0",)).text().encode()), ("mirror.1", b"another")):
+                files.write(os.path.join(room, name), content)
+            with mock.patch.object(backup, "mirrors", lambda *_: [b"this"]), mock.patch.object(backup, "ksi", lambda *words: asked.append(os.path.basename(words[1]))):
+                backup.make(room, room, 7, say=lambda text: None)
+            self.assertEqual(files.content_of(os.path.join(room, "mirror.1")), b"another")
+        self.assertEqual(asked, ["mirror.0"])
+
+
+class CheckTest(unittest.TestCase):
+    def test_what_was_handed_out_and_is_no_signature_differs(self):
+        """`check --by-node` compares no signatures with the world's, so that here it is found first."""
+        with tempfile.TemporaryDirectory() as room:
+            files.write(os.path.join(room, "plan"), Plan(1, 5, ("c0",)).text().encode())
+            publications = Publications(room)
+            publications.add(9, ONES)
+            for content in (b"", b"junk"):
+                with mock.patch.object(check, "Stopped"), self.assertRaisesRegex(Differs, "no signature"):
+                    check.use(room, [content], publications, 9, 0)
+            with mock.patch.object(check, "told", lambda _: [Signed(0, "no hex")]), self.assertRaisesRegex(Differs, "no signature"):
+                check.look("record", 5)
+
+
 class Teller:
     """A core that tells roots, and a chain or none."""
 
@@ -123,6 +154,12 @@ class ExtensionTest(unittest.TestCase):
         self.assertEqual(self.core.asked, ["held 5 1", "chain 5 9", "held 3 7"])
         root, links = self.calendar.chain(5, 9)
         self.assertEqual(content, elements.extended(self.parts, 9, self.parts.root, root, links))
+
+    def test_a_second_of_sixty_thousand_bytes_is_told_as_what_it_is(self):
+        for size in (9, 60_000):
+            chain = elements.element(0x801, elements.element(0x02, b"\xff" * size), elements.element(0x05, bytes(33)))
+            with self.assertRaisesRegex(extension.NotExtended, "a number has more than 8 bytes"):
+                extension.wanted(elements.element(0x800, chain), 9)
 
     def test_what_is_not_extended(self):
         whole = {it: ONES for it in range(3, 10)} | {5: self.parts.root}
@@ -177,6 +214,14 @@ class FilesTest(unittest.TestCase):
             files.write(self.path, b"two")
         self.assertEqual((files.content_of(self.path), os.listdir(self.room.name)), (b"one", ["file"]))
 
+    def test_the_names_of_new_folders_are_on_the_disk(self):
+        synced, room = [], os.path.realpath(self.room.name)
+        with mock.patch("os.fsync", lambda number: synced.append(os.readlink(f"/proc/self/fd/{number}"))):
+            files.make_folder(os.path.join(room, "new", "data"))
+            files.make_folder(os.path.join(room, "new", "data"))
+        self.assertEqual(synced, [room, os.path.join(room, "new")])
+        self.assertRaises(FileExistsError, files.make_folder, files.__file__)
+
     def test_a_folder_is_locked_once(self):
         held = files.lock(self.room.name)
         self.assertRaises(files.Held, files.lock, self.room.name)
@@ -197,6 +242,15 @@ class FilesTest(unittest.TestCase):
         told = [publications.add(second, root) for second, root in ((5, ONES), (9, TWOS), (7, ONES))]
         self.assertEqual(told, [True, True, False])
         self.assertEqual(Publications(self.room.name).published, [(5, ONES), (9, TWOS)])
+
+    def test_a_file_that_is_no_publications_file_is_left_and_named(self):
+        whole = elements.publications_file([(5, ONES), (9, TWOS)])
+        path, magic = os.path.join(self.room.name, "publications"), elements.MAGIC_PUBLICATIONS
+        for content in (b"", b"junk", whole[:-3], magic + elements.element(0x703), magic + elements.element(0x703, elements.element(0x10))):
+            files.write(path, content)
+            with self.assertRaisesRegex(Broken, "publications is not what was published"):
+                Publications(self.room.name)
+            self.assertEqual(files.content_of(path), content)
 
 
 if __name__ == "__main__":

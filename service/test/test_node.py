@@ -68,6 +68,18 @@ class NodeTest(unittest.TestCase):
         self.assertEqual(after, ["answer done"])
         self.assertEqual(self.told()[-3:], [("ballot 5", None), (None, None), ("tell 7", ["answer done"])])
 
+    def test_a_node_that_is_silent_is_killed_and_one_that_is_asked_nothing_is_not(self):
+        async def work(node):
+            await asyncio.sleep(1)
+            before = node.starts, await node.ask("tell 5")
+            said = await asyncio.wait_for(asyncio.gather(node.ask("hang"), node.ask("seal 6"), return_exceptions=True), 10)
+            while not node.alive:
+                await asyncio.sleep(0.005)
+            return before, [type(it) for it in said], await node.ask("tell 7")
+        with mock.patch.object(nodes, "SILENT_SECONDS", 0.3):
+            self.assertEqual(self.play(work)[0], ((1, ["answer done"]), [Down, Down], ["answer done"]))
+        self.assertEqual(self.log, ["c0 is silent, and is killed", "c0 was killed by signal 9, and is started again"])
+
     def test_a_step_that_was_not_stored_left_no_trace(self):
         async def work(node):
             said = await asyncio.gather(node.ask("die"), node.ask("seal 6"), return_exceptions=True)

@@ -4,44 +4,21 @@ import gzip
 import json
 import os
 import stat
-import tempfile
 import threading
 import time
 import unittest
 from unittest import mock
 
-from ksi_service import apart, files, hours, replay, retrace
-from ksi_service import record as records
+from ksi_service import apart, files, replay, retrace
 from ksi_service.plan import Plan
 from ksi_service.record import Broken, Record, Signed, State, Step, names, told
 from ksi_service.replay import schedule_of
+from recorded import SEALED, Recorded
 
 ONES = "1" * 64
-SEALED = [["ready", "c0", 0, 0], ["given", "c0", "seal 5", None], ["said", "c0", ["answer done", "stored"]]]
 
 
-class RecordTest(unittest.TestCase):
-    def setUp(self):
-        self.room = tempfile.TemporaryDirectory()
-        self.addCleanup(self.room.cleanup)
-        self.folder = os.path.join(self.room.name, "record")
-        self.state = State()
-
-    def write(self, *entries, number=1, end="\n"):
-        os.makedirs(self.folder, exist_ok=True)
-        with open(os.path.join(self.folder, f"{number:08}"), "w", encoding="utf-8") as file:
-            file.write("\n".join(json.dumps(it) for it in [*([] if number > 1 else [State().begins()]), *entries]) + end)
-
-    def opened(self, work=None):
-        """A record that is opened, worked with, and closed."""
-        async def go():
-            record = Record(self.folder)
-            if work:
-                await work(record)
-            await record.close()
-            return record
-        return asyncio.run(go())
-
+class RecordTest(Recorded):
     def test_a_line_that_was_cut_off_is_left_out(self):
         self.write(*SEALED, end="\n[\"giv")
         state = self.opened().state
@@ -111,6 +88,14 @@ class RecordTest(unittest.TestCase):
         self.assertEqual(seen, [])
         self.assertEqual(self.opened().state.nodes, {})
 
+    def test_what_a_failed_sync_left_in_memory_is_not_gone_on_with(self):
+        """Behind a failed sync the system calls pages written that are not on the disk: it reads them, and never writes them."""
+        self.write(*SEALED)
+        path = names(self.folder)[0]
+        first = len(json.dumps(State().begins())) + 1
+        with mock.patch.object(files, "drop_cache", lambda it: it == path and os.truncate(it, first)):
+            self.assertEqual(self.opened().state.steps, 0)
+
     def closed_while(self, work):
         """What had an effect where a record is closed while its first group is on its way to the disk, and who waits for that is
         cancelled, as when a service stops. Work is done with the record just before the group is given on."""
@@ -155,26 +140,6 @@ class RecordTest(unittest.TestCase):
         self.opened(work)
         self.assertEqual(self.opened().state.nodes, {})
 
-    def test_what_takes_too_long_to_compress_is_left_whole(self):
-        async def work(record):
-            record.add(["given", "c0", "x" * (3 << 20), None])
-            record.add(["said", "c0", ["answer done"]])
-            record.packer.submit(time.sleep, 0.3)
-            await record.cut()
-        with mock.patch.object(records, "LAST_SECONDS", 0.1):
-            self.opened(work)
-        self.assertEqual(sorted(os.listdir(self.folder)), ["00000001", "00000002"])
-        self.assertEqual((hours.pack_all(self.folder), hours.pack_all(self.folder)), (1, 0))
-        self.assertEqual(sorted(os.listdir(self.folder)), ["00000001.gz", "00000002"])
-        self.assertEqual([it.block for it in told(self.folder)], [["answer done"]])
-
-    def test_a_full_disk_leaves_no_half_of_a_compressed_file(self):
-        self.write(*SEALED)
-        path = names(self.folder)[0]
-        with mock.patch.object(files, "keep", side_effect=OSError(28, "No space left on device")):
-            self.assertFalse(hours.pack(path))
-        self.assertEqual(os.listdir(self.folder), ["00000001"])
-
     def test_a_cut_that_fails_leaves_the_record_as_it_was(self):
         async def work(record):
             record.add(["ready", "c0", 0, 0])
@@ -205,12 +170,6 @@ class RecordTest(unittest.TestCase):
         self.assertEqual([it.text for it in told(self.folder) if isinstance(it, Signed)], ["abcd"])
         again = self.opened().state
         self.assertEqual((again.begins(), again.steps), (state.begins(), 2))
-
-    def test_a_file_that_was_not_compressed_is_read_once(self):
-        self.write(*SEALED)
-        with open(os.path.join(self.folder, "00000001.gz"), "wb") as file:
-            file.write(b"half of it")
-        self.assertEqual(len(list(told(self.folder))), 1)
 
     def test_lines_that_happened_unsaid_are_steps_and_a_restart_follows(self):
         self.write(["ready", "a0", 0, 0], ["given", "a0", "request 9 5 " + "0" * 64, None], ["given", "a0", "close 5", None],
@@ -302,6 +261,19 @@ restart c0
                     self.assertRaises(retrace.Differs, retrace.retrace, "plan", self.folder)
         with open(os.path.join(self.room.name, "entries"), encoding="ascii") as file:
             self.assertEqual(file.read(), "".join(retrace.entries(self.folder)))
+
+    def test_what_ends_before_it_has_read_all_is_heard(self):
+        """As where an early entry differs, and more is behind it than a pipe holds."""
+        said = [["given", "c0", f"tell 5 {ONES}", None], ["said", "c0", ["answer done"]]]
+        self.write(["ready", "c0", 0, 0], *said * 5000)
+        plan, path = os.path.join(self.room.name, "plan"), os.path.join(self.room.name, "ksi_retrace")
+        files.write(plan, Plan(1, 5, ()).text().encode())
+        files.write(path, b"#!/bin/sh\necho differs 2 9; exit 1\n")
+        os.chmod(path, stat.S_IRWXU)
+        with mock.patch.dict(os.environ, KSI_BIN=self.room.name):
+            for hold in (retrace.retrace, apart.hold_all):
+                with self.assertRaisesRegex(retrace.Differs, "differs 2 9"):
+                    hold(plan, self.folder)
 
     def test_the_log_of_each_node(self):
         self.run_of_two()

@@ -8,6 +8,7 @@ from unittest import mock
 from clocked import Clocked, imprint
 from ksi_service import files, programs
 from ksi_service import resting as restings
+from ksi_service.forget import NotForgotten
 from ksi_service.record import last_state
 from ksi_service.resting import Resting
 
@@ -95,6 +96,20 @@ class RestingTest(Clocked):
         self.assertEqual(self.play(work), (imprint(2), []))
         self.assertEqual(len(said), 1)
         self.assertRegex(said[0], "^a[01] forgets nothing now: .*No space left")
+
+    def test_nobody_waits_for_a_record_that_could_not_be_cut(self):
+        """A host whose disk is full at the cut ends, also while an aggregator forgets."""
+        async def work(network, clock):
+            await clock.sign(imprint(1))
+            while clock.settled() <= clock.last_signed:
+                await asyncio.sleep(0.05)
+            network.tasks[0].cancel()
+            with mock.patch.object(network.record, "cut", side_effect=OSError(28, "No space left on device")):
+                network.tasks[0] = asyncio.create_task(network.record.run(0))
+                await asyncio.wait(network.tasks[:1])
+            with self.assertRaisesRegex(NotForgotten, "record"):
+                await network.forget(next(iter(clock.handed)), clock.settled())
+        self.play(work)
 
     def test_an_aggregator_whose_requests_are_not_answered_in_time_goes_on(self):
         said = []

@@ -1,4 +1,5 @@
 """The service over Redis Streams: kills of its server, of hosts, of processes and of the head; and a transaction that is tried again."""
+import asyncio
 import concurrent.futures
 import os
 import random
@@ -12,7 +13,8 @@ import unittest
 from unittest import mock
 
 import stands
-from ksi_service import streams
+from ksi_service import remote, streams
+from ksi_service.plan import Plan
 from ksi_service.record import Signed, last_state, told
 from streamed import NODES, PYTHON, WHY, Streamed
 
@@ -67,6 +69,44 @@ class HeadTest(unittest.TestCase):
                 finally:
                     head.kill()
                 self.assertEqual(head.returncode, 0)
+
+
+class Away:
+    """A client of a server that goes away, comes back for a moment, and stays away."""
+
+    def __init__(self):
+        self.answers = iter([None, None, [], None])
+
+    def set(self, *_, **__):
+        return True
+
+    def xrevrange(self, *_, **__):
+        return []
+
+    def xread(self, *_, **__):
+        if next(self.answers, None) is None:
+            raise ConnectionError("gone")
+        return []
+
+    def mget(self, names):
+        return [None for _ in names]
+
+
+class AwayTest(unittest.TestCase):
+    def test_a_server_that_is_away_is_told_once(self):
+        said = []
+
+        async def go(folder):
+            network, loop = remote.RemoteNetwork(folder, Plan(1, 5, ("c0",)), "", said.append), asyncio.get_running_loop()
+            reading = loop.run_in_executor(None, network.read, loop)
+            await asyncio.sleep(3.2)
+            network.ended = True
+            await reading
+            await network.record.close()
+        with tempfile.TemporaryDirectory(prefix="ksi-test-") as folder, mock.patch.object(remote, "connect", lambda url: Away()), \
+                mock.patch.object(remote, "errors", lambda: ConnectionError):
+            asyncio.run(go(folder))
+        self.assertEqual(said, ["the server is away: gone"] * 2)
 
 
 class Client:

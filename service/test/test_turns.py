@@ -32,6 +32,15 @@ class TurnsTest(Clocked):
         self.assertGreater(second, first)
         self.assertEqual((again, asked), (0, {}))
 
+    def test_a_clock_that_was_set_back_for_a_moment_is_followed_at_once(self):
+        async def work(_, clock):
+            real = clock.now
+            clock.now = lambda: real() - 3600
+            await asyncio.sleep(2.5)
+            clock.now = real
+            return await asyncio.wait_for(clock.sign(imprint(1)), 10)
+        self.assertEqual(self.play(work)[0][:64], imprint(1))
+
     def test_a_round_without_items_is_not_closed(self):
         async def work(_, clock):
             for _ in range(2):

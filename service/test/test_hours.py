@@ -1,0 +1,72 @@
+"""The files of a record: compressed, damaged, or not there."""
+import os
+import time
+import unittest
+from unittest import mock
+
+from ksi_service import files, hours
+from ksi_service import record as records
+from ksi_service.hours import Broken
+from ksi_service.record import names, told
+from recorded import SEALED, Recorded
+
+
+class HoursTest(Recorded):
+    def test_a_file_that_is_not_there_is_named(self):
+        """As one that was moved to another disk, and not brought back for a check."""
+        async def work(record):
+            for second in (5, 6, 7):
+                for entry in (["given", "c0", f"tell {second}", None], ["said", "c0", ["answer done"]]):
+                    record.add(entry)
+                await record.cut()
+        self.opened(work)
+        self.assertEqual(len(list(told(self.folder))), 3)
+        for number in (1, 2, 3):
+            path = os.path.join(self.folder, f"{number:08}.gz")
+            os.rename(path, f"{path}.away")
+            with self.assertRaisesRegex(Broken, f"{number:08}.* is not there"):
+                list(told(self.folder))
+            os.rename(f"{path}.away", path)
+        self.assertEqual(len(list(told(self.folder))), 3)
+
+    def test_what_a_damaged_line_hides_is_kept(self):
+        """A line in the middle that a disk damaged looks as the end that a crash left, and what is behind it had effects."""
+        self.write(*SEALED, ["given", "c0", "tell 5", None], ["said", "c0", ["answer done"]], ["signed", 1, "abcd"])
+        path = names(self.folder)[0]
+        whole = files.content_of(path)
+        at = whole.index(b'["given", "c0", "tell 5"')
+        files.write(path, whole[:at] + b"\0" + whole[at + 1:])
+        self.assertEqual(self.opened().state.steps, 1)
+        self.assertEqual(files.content_of(path) + files.content_of(f"{path}.torn"), whole[:at] + b"\0" + whole[at + 1:])
+        self.assertEqual(self.opened().state.steps, 1)
+        self.assertEqual((names(self.folder), len(list(told(self.folder)))), ([path], 1))
+
+    def test_what_takes_too_long_to_compress_is_left_whole(self):
+        async def work(record):
+            record.add(["given", "c0", "x" * (3 << 20), None])
+            record.add(["said", "c0", ["answer done"]])
+            record.packer.submit(time.sleep, 0.3)
+            await record.cut()
+        with mock.patch.object(records, "LAST_SECONDS", 0.1):
+            self.opened(work)
+        self.assertEqual(sorted(os.listdir(self.folder)), ["00000001", "00000002"])
+        self.assertEqual((hours.pack_all(self.folder), hours.pack_all(self.folder)), (1, 0))
+        self.assertEqual(sorted(os.listdir(self.folder)), ["00000001.gz", "00000002"])
+        self.assertEqual([it.block for it in told(self.folder)], [["answer done"]])
+
+    def test_a_full_disk_leaves_no_half_of_a_compressed_file(self):
+        self.write(*SEALED)
+        path = names(self.folder)[0]
+        with mock.patch.object(files, "keep", side_effect=OSError(28, "No space left on device")):
+            self.assertFalse(hours.pack(path))
+        self.assertEqual(os.listdir(self.folder), ["00000001"])
+
+    def test_a_file_that_was_not_compressed_is_read_once(self):
+        self.write(*SEALED)
+        with open(os.path.join(self.folder, "00000001.gz"), "wb") as file:
+            file.write(b"half of it")
+        self.assertEqual(len(list(told(self.folder))), 1)
+
+
+if __name__ == "__main__":
+    unittest.main()
