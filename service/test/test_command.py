@@ -78,7 +78,7 @@ class CommandTest(unittest.TestCase):
     def test_who_takes_long_to_start_is_waited_for(self):
         """As cores that read a plan of months, or nodes behind a server that come later."""
         programs = stands.make(os.path.join(self.room.name, "bin"))
-        path = os.path.join(programs, "ksi_serve_core")
+        path = os.path.join(programs, stands.NODE)
         files.write(path, files.content_of(path).replace(b"exec ", b"sleep 2; exec ", 1))
         os.chmod(path, 0o700)
         words = ["start", self.folder, "--door", "127.0.0.1:0"]
@@ -123,7 +123,7 @@ class CommandTest(unittest.TestCase):
             other.kill()
 
     def test_a_node_that_ends_before_it_is_asked_is_told(self):
-        path = os.path.join(self.room.name, "ksi_serve_core")
+        path = os.path.join(self.room.name, stands.NODE)
         files.write(path, b"#!/bin/sh\nexec 0<&-\necho ready 0; echo .; sleep 0.3; echo failed file\n")
         os.chmod(path, 0o700)
         for name, content in (("plan", b"cores 1\nstart 5\naggregator 0 parent c0\n"), ("c0.facts", b""), ("publications", publications_file([(9, "1" * 64)]))):
