@@ -108,4 +108,4 @@ deb:
 
 # what a release has beside the sources
 sums:
-	cd $(OUT) && sha256sum $$(ls | grep -v SHA256SUMS) > SHA256SUMS
+	cd "$(OUT)" && rm -f SHA256SUMS && set -- * && test -e "$$1" && sha256sum -- "$$@" > SHA256SUMS
