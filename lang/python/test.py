@@ -1,5 +1,5 @@
 """test.py SAMPLES: the module on the stored files, and its hash beside hashlib's."""
-import array, hashlib, os, sys
+import array, hashlib, os, subprocess, sys
 import ksi
 
 samples = sys.argv[1]
@@ -27,6 +27,10 @@ answer = ksi.verify(publications, right, publications)
 assert (answer.status, answer.file, answer.name, answer.numbers[0]) == (ksi.MALFORMED, ksi.SIGNATURE, "S3", 0x4B & 0x1F), answer
 answer = ksi.verify(signature, right, signature)
 assert (answer.status, answer.file, answer.name) == (ksi.MALFORMED, ksi.PUBLICATIONS, "Q1"), answer
+
+# without the library, the words say how it is found
+ran = subprocess.run([sys.executable, "-c", "import ksi"], env={**os.environ, "KSI_LIBRARY": "/absent"}, capture_output=True, text=True)
+assert ran.stderr.splitlines()[-1].startswith("ImportError: /absent") and "KSI_LIBRARY" in ran.stderr.splitlines()[-1], ran.stderr
 
 # whatever lends bytes is taken, and nothing else; a digest is counted in bytes
 assert ksi.verify(bytearray(signature), memoryview(right), array.array("B", publications)).accepted and ksi.digest(bytearray(b"abc")) == wrong

@@ -11,7 +11,16 @@ ABI = 1
 ACCEPTED, REFUSED, MALFORMED = 0, 1, 3
 SIGNATURE, PUBLICATIONS = 1, 3
 
-_library = ctypes.CDLL(os.environ.get("KSI_LIBRARY") or os.path.join(os.path.dirname(os.path.abspath(__file__)), "libksi.so"))
+
+def _loaded():
+    path = os.environ.get("KSI_LIBRARY") or os.path.join(os.path.dirname(os.path.abspath(__file__)), "libksi.so")
+    try:
+        return ctypes.CDLL(path)
+    except OSError as error:
+        raise ImportError(f"{error}; the wheel has libksi.so, and without it KSI_LIBRARY names one") from error
+
+
+_library = _loaded()
 _bytes = [ctypes.c_char_p, ctypes.c_size_t]
 
 
