@@ -75,7 +75,7 @@ install-service:
 	install -m644 service/deploy/ksi.sysusers "$(ROOT)/lib/sysusers.d/ksi.conf"
 
 install: install-service
-	! test -e $(VIEWER) || install -Dm755 $(VIEWER) "$(ROOT)/bin/ksi-show"
+	if test -e $(VIEWER); then install -Dm755 $(VIEWER) "$(ROOT)/bin/ksi-show"; else echo "ksi_show is not built, so ksi-show is not there: make programs"; fi
 	install -Dm755 package/ksi-why "$(ROOT)/bin/ksi-why"
 	install -Dm644 $(ARCHIVE) "$(ROOT)/lib/libksi.a"
 	install -Dm644 "$(OUT)/$(SONAME)" "$(ROOT)/lib/$(SONAME)"
