@@ -77,6 +77,7 @@ install-service:
 install: install-service
 	if test -e $(VIEWER); then install -Dm755 $(VIEWER) "$(ROOT)/bin/ksi-show"; else echo "ksi_show is not built, so ksi-show is not there: make programs"; fi
 	install -Dm755 package/ksi-why "$(ROOT)/bin/ksi-why"
+	install -Dm644 docs/ANSWERS.md "$(ROOT)/share/ksi/ANSWERS.md"
 	install -Dm644 $(ARCHIVE) "$(ROOT)/lib/libksi.a"
 	install -Dm644 "$(OUT)/$(SONAME)" "$(ROOT)/lib/$(SONAME)"
 	ln -sf $(SONAME) "$(ROOT)/lib/libksi.so"
