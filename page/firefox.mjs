@@ -26,6 +26,8 @@ if (pictures) {
   fs.mkdirSync(pictures, { recursive: true });
   fs.writeFileSync(path.join(pictures, 'firefox.png'), Buffer.from((await ask('browsingContext.captureScreenshot', { context })).data, 'base64'));
 }
+await ask('browsingContext.navigate', { context, url: linked(page, folder).replace(/#d=[^&]*/, '#d=b3RoZXI'), wait: 'none' });
+await wanted('Not shown | 33');
 await ask('browsingContext.navigate', { context, url: `file://${page}`, wait: 'complete' });
 const choose = async (input, file) => {
   const element = await evaluate(`document.querySelector('#${input}')`);
