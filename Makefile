@@ -39,71 +39,72 @@ programs:
 
 library:
 	cd crates/ksi_c && $(RT) lib
-	mkdir -p $(OUT)
-	$(CC) -shared -o $(OUT)/$(SONAME) -Wl,--whole-archive $(ARCHIVE) -Wl,--no-whole-archive -Wl,-soname,$(SONAME) -Wl,-z,relro,-z,now,-z,noexecstack -Wl,--build-id=none
+	mkdir -p "$(OUT)"
+	$(CC) -shared -o "$(OUT)/$(SONAME)" -Wl,--whole-archive $(ARCHIVE) -Wl,--no-whole-archive -Wl,-soname,$(SONAME) -Wl,-z,relro,-z,now,-z,noexecstack -Wl,--build-id=none
 
 pages:
-	python3 package/manual.py $(OUT)
+	python3 package/manual.py "$(OUT)"
 
 # programs without a library of the system, from the objects that `programs` leaves
 static:
-	mkdir -p $(OUT)
-	$(CC) -static -Wl,--build-id=none -o $(OUT)/ksi-static crates/ksi/out/ksi.o $(KIT)/c/libos_c.a $(KIT)/c/liblibc_c.a
-	strip $(OUT)/*-static
+	mkdir -p "$(OUT)"
+	$(CC) -static -Wl,--build-id=none -o "$(OUT)/ksi-static" crates/ksi/out/ksi.o $(KIT)/c/libos_c.a $(KIT)/c/liblibc_c.a
+	strip "$(OUT)"/*-static
 
 # the page that verifies in the browser: $(OUT)/page.html
 page:
-	page/check --keep $(OUT)
+	page/check --keep "$(OUT)"
 
 check:
 	.ci/run
 
 install-service:
-	install -Dm755 $(PROGRAM) $(ROOT)/bin/ksi
-	install -Dm755 service/ksi-service $(ROOT)/lib/ksi/ksi-service
-	install -d $(ROOT)/lib/ksi/ksi_service $(ROOT)/lib/systemd/system $(ROOT)/lib/sysusers.d
-	install -m644 service/ksi_service/*.py $(ROOT)/lib/ksi/ksi_service
+	install -Dm755 $(PROGRAM) "$(ROOT)/bin/ksi"
+	install -Dm755 service/ksi-service "$(ROOT)/lib/ksi/ksi-service"
+	install -d "$(ROOT)/lib/ksi/ksi_service" "$(ROOT)/lib/systemd/system" "$(ROOT)/lib/sysusers.d"
+	install -m644 service/ksi_service/*.py "$(ROOT)/lib/ksi/ksi_service"
 	for it in $(NODES); do \
-	    if test -e crates/$$it/out/$$it; then install -m755 crates/$$it/out/$$it $(ROOT)/lib/ksi/$$it || exit; \
+	    if test -e crates/$$it/out/$$it; then install -m755 crates/$$it/out/$$it "$(ROOT)/lib/ksi/$$it" || exit; \
 	    else echo "$$it is not built, so ksi-service lacks it: make programs"; fi; \
 	done
-	ln -sf ../../bin/ksi $(ROOT)/lib/ksi/ksi
-	ln -sf ../lib/ksi/ksi-service $(ROOT)/bin/ksi-service
-	for it in $(UNITS); do sed -e 's,@PREFIX@,$(PREFIX),' service/deploy/$$it > $(ROOT)/lib/systemd/system/$$it && chmod 644 $(ROOT)/lib/systemd/system/$$it || exit; done
-	install -m644 service/deploy/ksi.sysusers $(ROOT)/lib/sysusers.d/ksi.conf
+	ln -sf ../../bin/ksi "$(ROOT)/lib/ksi/ksi"
+	ln -sf ../lib/ksi/ksi-service "$(ROOT)/bin/ksi-service"
+	for it in $(UNITS); do sed -e 's,@PREFIX@,$(PREFIX),' service/deploy/$$it > "$(ROOT)/lib/systemd/system/$$it" && chmod 644 "$(ROOT)/lib/systemd/system/$$it" || exit; done
+	install -m644 service/deploy/ksi.sysusers "$(ROOT)/lib/sysusers.d/ksi.conf"
 
 install: install-service
-	! test -e $(VIEWER) || install -Dm755 $(VIEWER) $(ROOT)/bin/ksi-show
-	install -Dm755 package/ksi-why $(ROOT)/bin/ksi-why
-	install -Dm644 $(ARCHIVE) $(ROOT)/lib/libksi.a
-	install -Dm644 $(OUT)/$(SONAME) $(ROOT)/lib/$(SONAME)
-	ln -sf $(SONAME) $(ROOT)/lib/libksi.so
-	install -Dm644 lang/c/ksi.h $(ROOT)/include/ksi.h
-	install -d $(ROOT)/lib/pkgconfig
-	sed -e 's,@PREFIX@,$(PREFIX),' -e 's,@VERSION@,$(VERSION),' lang/c/ksi.pc.in > $(ROOT)/lib/pkgconfig/ksi.pc
-	chmod 644 $(ROOT)/lib/pkgconfig/ksi.pc
+	if test -e $(VIEWER); then install -Dm755 $(VIEWER) "$(ROOT)/bin/ksi-show"; else echo "ksi_show is not built, so ksi-show is not there: make programs"; fi
+	install -Dm755 package/ksi-why "$(ROOT)/bin/ksi-why"
+	install -Dm644 docs/ANSWERS.md "$(ROOT)/share/ksi/ANSWERS.md"
+	install -Dm644 $(ARCHIVE) "$(ROOT)/lib/libksi.a"
+	install -Dm644 "$(OUT)/$(SONAME)" "$(ROOT)/lib/$(SONAME)"
+	ln -sf $(SONAME) "$(ROOT)/lib/libksi.so"
+	install -Dm644 lang/c/ksi.h "$(ROOT)/include/ksi.h"
+	install -d "$(ROOT)/lib/pkgconfig"
+	sed -e 's,@PREFIX@,$(PREFIX),' -e 's,@VERSION@,$(VERSION),' lang/c/ksi.pc.in > "$(ROOT)/lib/pkgconfig/ksi.pc"
+	chmod 644 "$(ROOT)/lib/pkgconfig/ksi.pc"
 	for it in $(NAMES); do \
-	    install -Dm644 $(OUT)/$$it.1 $(ROOT)/share/man/man1/$$it.1 && \
-	    install -Dm644 $(OUT)/$$it.bash $(ROOT)/share/bash-completion/completions/$$it && \
-	    install -Dm644 $(OUT)/_$$it $(ROOT)/share/zsh/site-functions/_$$it && \
-	    install -Dm644 $(OUT)/$$it.fish $(ROOT)/share/fish/vendor_completions.d/$$it.fish || exit; \
+	    install -Dm644 "$(OUT)/$$it.1" "$(ROOT)/share/man/man1/$$it.1" && \
+	    install -Dm644 "$(OUT)/$$it.bash" "$(ROOT)/share/bash-completion/completions/$$it" && \
+	    install -Dm644 "$(OUT)/_$$it" "$(ROOT)/share/zsh/site-functions/_$$it" && \
+	    install -Dm644 "$(OUT)/$$it.fish" "$(ROOT)/share/fish/vendor_completions.d/$$it.fish" || exit; \
 	done
-	install -d $(DOC)
-	install -m644 README.md NOTICE docs/*.md $(DOC)
-	! test -e $(OUT)/page.html || install -Dm644 $(OUT)/page.html $(ROOT)/share/ksi/page.html
-	! test -e $(OUT)/page.html || ln -sf ../../share/ksi/page.html $(ROOT)/lib/ksi/page.html
+	install -d "$(DOC)"
+	install -m644 README.md NOTICE docs/*.md "$(DOC)"
+	! test -e "$(OUT)/page.html" || install -Dm644 "$(OUT)/page.html" "$(ROOT)/share/ksi/page.html"
+	! test -e "$(OUT)/page.html" || ln -sf ../../share/ksi/page.html "$(ROOT)/lib/ksi/page.html"
 
 uninstall:
-	cd $(ROOT) && rm -f bin/ksi-why lib/libksi.a lib/$(SONAME) lib/libksi.so include/ksi.h lib/pkgconfig/ksi.pc
-	cd $(ROOT) && for it in $(NAMES); do \
+	cd "$(ROOT)" && rm -f bin/ksi-why lib/libksi.a lib/$(SONAME) lib/libksi.so include/ksi.h lib/pkgconfig/ksi.pc
+	cd "$(ROOT)" && for it in $(NAMES); do \
 	    rm -f bin/$$it share/man/man1/$$it.1 share/bash-completion/completions/$$it share/zsh/site-functions/_$$it share/fish/vendor_completions.d/$$it.fish; \
 	done
-	cd $(ROOT) && rm -f $(UNITS:%=lib/systemd/system/%) lib/sysusers.d/ksi.conf
-	rm -rf $(DOC) $(ROOT)/share/ksi $(ROOT)/lib/ksi
+	cd "$(ROOT)" && rm -f $(UNITS:%=lib/systemd/system/%) lib/sysusers.d/ksi.conf
+	rm -rf "$(DOC)" "$(ROOT)/share/ksi" "$(ROOT)/lib/ksi"
 
 deb:
-	package/deb $(VERSION) $(OUT)
+	package/deb $(VERSION) "$(OUT)"
 
 # what a release has beside the sources
 sums:
-	cd $(OUT) && sha256sum $$(ls | grep -v SHA256SUMS) > SHA256SUMS
+	cd "$(OUT)" && rm -f SHA256SUMS && set -- * && test -e "$$1" && sha256sum -- "$$@" > SHA256SUMS

@@ -1,14 +1,11 @@
 // node --experimental-websocket firefox.mjs PAGE FOLDER [PICTURES]: the page in Firefox, by WebDriver BiDi: files in a link, and chosen.
-import { spawn } from 'node:child_process';
 import fs from 'node:fs';
-import os from 'node:os';
 import path from 'node:path';
-import { linked, wait } from './tab.mjs';
+import { begun, linked, wait } from './tab.mjs';
 
 const [page, folder, pictures] = process.argv.slice(2).map((p) => path.resolve(p));
-const home = fs.mkdtempSync(path.join(os.tmpdir(), 'ksi-'));
 const name = ['firefox', 'firefox-esr'].find((it) => process.env.PATH.split(':').some((at) => fs.existsSync(path.join(at, it))));
-const browser = spawn(name, ['--headless', '--no-remote', '--profile', home, '--remote-debugging-port', '0', '--width', '1000', '--height', '900', 'about:blank'], { stdio: ['ignore', 'ignore', 'pipe'] });
+const { browser, close } = begun(name, (home) => ['--headless', '--no-remote', '--profile', home, '--remote-debugging-port', '0', '--width', '1000', '--height', '900', 'about:blank']);
 const address = await new Promise((found) => { let text = ''; browser.stderr.on('data', (d) => { text += d; const m = text.match(/ws:\/\/\S+/); if (m) found(m[0]); }); });
 const socket = new WebSocket(`${address}/session`);
 await new Promise((opened) => { socket.onopen = opened; });
@@ -29,6 +26,8 @@ if (pictures) {
   fs.mkdirSync(pictures, { recursive: true });
   fs.writeFileSync(path.join(pictures, 'firefox.png'), Buffer.from((await ask('browsingContext.captureScreenshot', { context })).data, 'base64'));
 }
+await ask('browsingContext.navigate', { context, url: linked(page, folder).replace(/#d=[^&]*/, '#d=b3RoZXI'), wait: 'none' });
+await wanted('Not shown | 33');
 await ask('browsingContext.navigate', { context, url: `file://${page}`, wait: 'complete' });
 const choose = async (input, file) => {
   const element = await evaluate(`document.querySelector('#${input}')`);
@@ -41,8 +40,6 @@ await wanted('Existed in second 2023-11-14T22:13:20Z | 34');
 await choose('document', 'deed.ksig');
 await wanted('Not shown | 33');
 console.log(process.exitCode ? 'not as wanted' : `${capabilities.browserName} ${capabilities.browserVersion}: files in a link and files chosen are answered`);
-const closed = new Promise((done) => browser.on('exit', done));
-await ask('browser.close', {}).catch(() => browser.kill());
-await closed;
-fs.rmSync(home, { recursive: true, force: true, maxRetries: 5, retryDelay: 200 });
+await ask('browser.close').catch(() => {});
+await close();
 process.exit();

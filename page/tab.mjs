@@ -7,9 +7,21 @@ import path from 'node:path';
 
 export const wait = (ms) => new Promise((done) => setTimeout(done, ms));
 
-export async function open() {
+// A browser with a folder of its own, which is gone behind `close`: also where the script fails, or is ended by a signal.
+export function begun(name, words) {
   const home = fs.mkdtempSync(path.join(os.tmpdir(), 'ksi-'));
-  const browser = spawn('chromium', ['--headless', '--no-sandbox', '--disable-gpu', '--remote-debugging-port=0', `--user-data-dir=${home}`, 'about:blank'], { stdio: ['ignore', 'ignore', 'pipe'] });
+  const browser = spawn(name, words(home), { stdio: ['ignore', 'ignore', 'pipe'], env: { ...process.env, TMPDIR: home } });
+  const ended = new Promise((done) => browser.on('exit', done));
+  const close = async () => {
+    if (browser.kill()) await ended;
+    fs.rmSync(home, { recursive: true, force: true, maxRetries: 5, retryDelay: 200 });
+  };
+  for (const event of ['uncaughtException', 'SIGINT', 'SIGTERM']) process.on(event, async (why) => { console.error(why); await close(); process.exit(1); });
+  return { browser, close };
+}
+
+export async function open() {
+  const { browser, close } = begun('chromium', (home) => ['--headless', '--no-sandbox', '--disable-gpu', '--remote-debugging-port=0', `--user-data-dir=${home}`, 'about:blank']);
   const address = await new Promise((found) => { let text = ''; browser.stderr.on('data', (d) => { text += d; const m = text.match(/ws:\/\/\S+/); if (m) found(m[0]); }); });
   const tabs = await (await fetch(`http://127.0.0.1:${new URL(address).port}/json`)).json();
   const socket = new WebSocket(tabs.find((tab) => tab.type === 'page').webSocketDebuggerUrl);
@@ -25,12 +37,6 @@ export async function open() {
     const { result, exceptionDetails } = await ask('Runtime.evaluate', { expression, returnByValue: true, awaitPromise: true });
     if (exceptionDetails) throw new Error(exceptionDetails.exception?.description ?? exceptionDetails.text);
     return result.value;
-  };
-  const close = async () => {
-    const closed = new Promise((done) => browser.on('exit', done));
-    browser.kill();
-    await closed;
-    fs.rmSync(home, { recursive: true, force: true, maxRetries: 5, retryDelay: 200 });
   };
   await ask('Page.enable');
   return { ask, told, value, close };

@@ -5,11 +5,12 @@
 
 static uint8_t *load(const char *name, size_t *len) {
     FILE *file = fopen(name, "rb");
-    if (!file || fseek(file, 0, SEEK_END)) { perror(name); exit(4); }
-    *len = (size_t)ftell(file);
-    uint8_t *bytes = malloc(*len + 1); /* never null, not even for no bytes */
-    rewind(file);
-    if (!bytes || fread(bytes, 1, *len, file) != *len) { perror(name); exit(4); }
+    size_t room = 65536, more;
+    uint8_t *bytes = malloc(room); /* never null, not even for no bytes */
+    *len = 0; /* a pipe tells no size, and some files a wrong one */
+    while (file && bytes && (more = fread(bytes + *len, 1, room - *len, file)) > 0)
+        if ((*len += more) == room) bytes = realloc(bytes, room *= 2);
+    if (!file || !bytes || ferror(file)) { perror(name); exit(4); }
     fclose(file);
     return bytes;
 }

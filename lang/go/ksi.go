@@ -53,6 +53,13 @@ func (a Answer) String() string {
 	return fmt.Sprintf("malformed publications Q%d", a.Code)
 }
 
+// The loader may find another library than the header was of.
+func init() {
+	if C.ksi_abi() != C.KSI_ABI {
+		panic("libksi has another interface than this package")
+	}
+}
+
 // A pointer that is never null, not even of no bytes.
 func at(bytes []byte) *C.uint8_t {
 	if len(bytes) == 0 {

@@ -1,5 +1,5 @@
 """test.py SAMPLES: the module on the stored files, and its hash beside hashlib's."""
-import hashlib, os, sys
+import array, hashlib, os, subprocess, sys
 import ksi
 
 samples = sys.argv[1]
@@ -27,6 +27,39 @@ answer = ksi.verify(publications, right, publications)
 assert (answer.status, answer.file, answer.name, answer.numbers[0]) == (ksi.MALFORMED, ksi.SIGNATURE, "S3", 0x4B & 0x1F), answer
 answer = ksi.verify(signature, right, signature)
 assert (answer.status, answer.file, answer.name) == (ksi.MALFORMED, ksi.PUBLICATIONS, "Q1"), answer
+
+# without the library, the words say how it is found
+ran = subprocess.run([sys.executable, "-c", "import ksi"], env={**os.environ, "KSI_LIBRARY": "/absent"}, capture_output=True, text=True)
+assert ran.stderr.splitlines()[-1].startswith("ImportError: /absent") and "KSI_LIBRARY" in ran.stderr.splitlines()[-1], ran.stderr
+
+# whatever lends bytes is taken, and nothing else; a digest is counted in bytes
+assert ksi.verify(bytearray(signature), memoryview(right), array.array("B", publications)).accepted and ksi.digest(bytearray(b"abc")) == wrong
+
+
+class Counted:
+    def __len__(self):
+        return 32
+
+    def __bytes__(self):
+        return b""
+
+
+def refuses(error, call, *words):
+    try:
+        call(*words)
+    except error:
+        return
+    raise AssertionError((call, words))
+
+
+for other in [5, "text", None, Counted()]:
+    refuses(TypeError, ksi.digest, other)
+    refuses(TypeError, ksi.verify, other, right, publications)
+    refuses(TypeError, ksi.verify, signature, other, publications)
+    refuses(TypeError, ksi.verify, signature, right, other)
+    refuses(TypeError, lambda: list(ksi.steps(other)))
+for other in [b"", right[:31], right + b"x", array.array("I", range(32))]:
+    refuses(ValueError, ksi.verify, signature, other, publications)
 
 way = list(ksi.steps(signature))
 assert [step.calendar for step in way] == [False] * 8 + [True] * 24 and way[0].node == right

@@ -1,10 +1,17 @@
 #!/usr/bin/env python3
-"""verify.py SIGNATURE DOCUMENT PUBLICATIONS: the time at which the document existed, or why none is proved."""
+"""verify.py SIGNATURE DOCUMENT PUBLICATIONS: the time at which the document existed, or why none is proved. Ends as `ksi verify`:
+with the status of the answer, with 2 where the words are others, and with 4 where a file cannot be read."""
 import sys
 import ksi
 
+if len(sys.argv) != 4:
+    sys.exit(2)
 signature, document, publications = sys.argv[1:]
-with open(signature, "rb") as s, open(publications, "rb") as p:
-    answer = ksi.verify(s.read(), ksi.file_digest(document), p.read())
+try:
+    with open(signature, "rb") as s, open(publications, "rb") as p:
+        answer = ksi.verify(s.read(), ksi.file_digest(document), p.read())
+except OSError as error:
+    print(error, file=sys.stderr)
+    sys.exit(4)
 print(f"existed at {answer.time or answer.second}" if answer.accepted else answer.name)
 sys.exit(answer.status)

@@ -1,13 +1,21 @@
 //! verify SIGNATURE DOCUMENT PUBLICATIONS: the second in which the document existed, or why none is proved.
 use std::{env, fs, process};
 
-fn main() -> std::io::Result<()> {
+// The status of a file that cannot be read is 4, as of `ksi verify`: 1 says that a check fails.
+fn read(name: &str) -> Vec<u8> {
+    fs::read(name).unwrap_or_else(|error| {
+        eprintln!("{name}: {error}");
+        process::exit(4)
+    })
+}
+
+fn main() {
     let words: Vec<String> = env::args().skip(1).collect();
     let [signature, document, publications] = words.as_slice() else {
         process::exit(2);
     };
-    let digest = ksi::digest(&fs::read(document)?);
-    let answer = ksi::verify(&fs::read(signature)?, &digest, &fs::read(publications)?);
+    let digest = ksi::digest(&read(document));
+    let answer = ksi::verify(&read(signature), &digest, &read(publications));
     match (answer.status, answer.file) {
         (0, _) => println!("accepted {}", answer.second),
         (1, _) => println!("refused V{}", answer.code),

@@ -11,7 +11,16 @@ ABI = 1
 ACCEPTED, REFUSED, MALFORMED = 0, 1, 3
 SIGNATURE, PUBLICATIONS = 1, 3
 
-_library = ctypes.CDLL(os.environ.get("KSI_LIBRARY") or os.path.join(os.path.dirname(os.path.abspath(__file__)), "libksi.so"))
+
+def _loaded():
+    path = os.environ.get("KSI_LIBRARY") or os.path.join(os.path.dirname(os.path.abspath(__file__)), "libksi.so")
+    try:
+        return ctypes.CDLL(path)
+    except OSError as error:
+        raise ImportError(f"{error}; the wheel has libksi.so, and without it KSI_LIBRARY names one") from error
+
+
+_library = _loaded()
 _bytes = [ctypes.c_char_p, ctypes.c_size_t]
 
 
@@ -91,11 +100,17 @@ class Step(typing.NamedTuple):
     join: bytes
 
 
+def _bytes_of(it):
+    """The bytes that an object lends. A number lends none, though `bytes` makes so many zeros of it."""
+    return it if isinstance(it, bytes) else bytes(memoryview(it))
+
+
 def verify(signature: bytes, digest: bytes, publications: bytes) -> Answer:
     """Checks a signature for the SHA-256 of a document against a publications file."""
+    signature, digest, publications = _bytes_of(signature), _bytes_of(digest), _bytes_of(publications)
+    # the library reads as many, and len() of what was handed over may count others
     if len(digest) != 32:
         raise ValueError("a SHA-256 digest has 32 bytes")
-    signature, digest, publications = bytes(signature), bytes(digest), bytes(publications)
     it = _Answer()
     _verify(signature, len(signature), digest, publications, len(publications), it)
     return Answer(it.status, it.file, it.code, it.detail, it.second, tuple(it.numbers), bytes(it.one), bytes(it.other))
@@ -103,7 +118,7 @@ def verify(signature: bytes, digest: bytes, publications: bytes) -> Answer:
 
 def digest(document: bytes) -> bytes:
     """SHA-256 of bytes."""
-    document, out = bytes(document), ctypes.create_string_buffer(32)
+    document, out = _bytes_of(document), ctypes.create_string_buffer(32)
     _hash(document, len(document), out)
     return out.raw
 
@@ -121,7 +136,7 @@ def file_digest(name) -> bytes:
 
 def steps(signature: bytes):
     """The links of a signature from the document's hash up; none where the bytes are no signature."""
-    signature, it, number = bytes(signature), _Step(), 0
+    signature, it, number = _bytes_of(signature), _Step(), 0
     while _step(signature, len(signature), number, it) == 0:
         sibling = bytes(it.sibling)[: it.size]
         yield Step(bool(it.calendar), it.chain, it.place, it.side, it.level, bool(it.raw), bytes(it.node), sibling, bytes(it.join))
