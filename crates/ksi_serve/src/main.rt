@@ -9,10 +9,10 @@
 //! the status 0; at a fault it is `failed WORD`, and the status 1.
 #![tactic(auto)]
 
-mod aggregator;
-mod core;
+mod core_node;
 mod forgetting;
 mod node;
+mod round_node;
 
 use ksi_schedule::read_number;
 use ksi_service::{Failure, end, plan_of};
@@ -58,10 +58,10 @@ fn serve(
     let plan = plan_of(rt, plan.as_str())?;
     match node_of(node.as_str().as_bytes()) {
         Some(Node::Core(number)) => {
-            core::serve_number(rt, &plan, number, folder.as_str(), name.as_str())
+            core_node::serve_number(rt, &plan, number, folder.as_str(), name.as_str())
         }
         Some(Node::Aggregator(number)) => {
-            aggregator::serve_number(rt, &plan, number, folder.as_str(), name.as_str())
+            round_node::serve_number(rt, &plan, number, folder.as_str(), name.as_str())
         }
         None => Err(Failure::Node),
     }
