@@ -8,6 +8,7 @@ use ksi_service::{Failure, disk_at};
 use std::io::Write;
 
 /// The folder of an aggregator's file, the file's name in it, and the name of the new one.
+#[derive(Clone, Copy)]
 pub(crate) struct Names<'a> {
     pub folder: &'a str,
     pub name: &'a str,
