@@ -1,4 +1,4 @@
-//! Fronts of the hash calendar: proofs that the calendar of the seconds from 0 to `p1` is the front of that of the seconds
+//! Fronts of the hash calendar: proofs that the calendar of the seconds from 0 to `p1` is the beginning of that of the seconds
 //! from 0 to `p2`, as a log of certificates proves that it only grew: a consistency proof (RFC 9162, 2.1.4; Go's `sumdb/tlog`).
 //!
 //! A front is a list of parts of the newer calendar, at most one for each level. With the older root they lead to the newer

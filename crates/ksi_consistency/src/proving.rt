@@ -77,7 +77,7 @@ pub fn check<C: Compress>(
     Ok(())
 }
 
-/// How many imprints show that the leaves to `old` are the front of those to `new`, where the root of the former is given
+/// How many imprints show that the leaves to `old` are the beginning of those to `new`, where the root of the former is given
 /// or is not.
 pub(crate) fn needed(old: u64, new: u64, given: bool) -> usize
     requires { old ≤ new }
@@ -97,7 +97,7 @@ pub(crate) fn needed(old: u64, new: u64, given: bool) -> usize
 }
 
 /// Adds the imprints that show that, of a part of the kept tree from leaf `first` on, the leaves to `old` behind it are the
-/// front of those to `new` behind it.
+/// beginning of those to `new` behind it.
 fn prove_part<C: Compress>(
     kept: &CalendarTo<'_, C>,
     first: u64,

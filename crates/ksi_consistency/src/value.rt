@@ -4,7 +4,7 @@ use crate::imprints::Imprints;
 use ksi_imprint::Imprint;
 use std::marker::Model;
 
-/// What shows that the calendar of the seconds from 0 to `p1` is the front of that of the seconds from 0 to `p2`, which are
+/// What shows that the calendar of the seconds from 0 to `p1` is the beginning of that of the seconds from 0 to `p2`, which are
 /// both below 2^63. A contract sees both and the list.
 #[derive(Drop)]
 pub struct Front {

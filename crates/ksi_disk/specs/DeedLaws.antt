@@ -16,7 +16,7 @@ pub length-laid_over : (bytes : List ℕ) (at : ℕ) (piece : List ℕ) → at �
 length-laid_over bytes at piece within =
     omega (arith, length-append (take at bytes ++ piece) (drop (at + length piece) bytes), length-append (take at bytes) piece, length-take-le at bytes within, length-drop (at + length piece) bytes)
 
--- what is laid over a front of a written range is torn
+-- what is laid over a beginning of a written range is torn
 pub torn_laid : (at n : ℕ) (bytes piece : List ℕ) → at ≤ length bytes → length piece ≤ n → Torn at n bytes (laid_over bytes at piece)
 torn_laid at n bytes piece within short =
     let front = take at bytes ++ piece in

@@ -45,7 +45,7 @@ impl Compress for Sha {
     ghost gives_imprints = { λ bytes. record { algorithm = refl; size = ap suc (length-sha256 bytes) } };
 }
 
-/// The text of a join of two imprints, in one block.
+/// The text of a join of two imprints, in one array.
 fn joined(left: &[u8], right: &[u8], level: u8) -> [u8; 67]
     requires left { length left.now ≡ 33 }
     requires right { length right.now ≡ 33 }

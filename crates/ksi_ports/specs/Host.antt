@@ -28,6 +28,6 @@ pub record CountedOutput (W : Type 0) : Type 0 where
   pub given : ℕ
   pub faults : ℕ
 
--- known bytes have grown by a front of the piece
+-- known bytes have grown by a beginning of the piece
 abbrev pub AppendsFront : Option (List ℕ) → Option (List ℕ) → List ℕ → Type 0
 AppendsFront old new piece = (k : ℕ) × Appends old new (take k piece)

@@ -2,7 +2,7 @@
 //! std.
 //!
 //! The layers above rely on four things. Where content is told, a load that gives bytes gives exactly what is held under the
-//! name, a save changes what is held under that name alone, and a put appends its piece, or a front of it where it failed.
+//! name, a save changes what is held under that name alone, and a put appends its piece, or a beginning of it where it failed.
 //! `Failed` and `SinkFailed` come only where the count of faults rose, and every other answer leaves it; loads that failed
 //! are counted by themselves too. A load that gives bytes takes as many, one that is `TooLong` takes one byte more than
 //! allowed, and no load takes more than that. Each load, save and put raises its count of calls by one; a load or save that

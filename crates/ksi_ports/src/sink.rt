@@ -32,7 +32,7 @@ pub trait Sink {
     ///
     /// # Errors
     ///
-    /// `SinkFailed` where the piece could not be written: the count of faults rises, and a front of the piece may have been
+    /// `SinkFailed` where the piece could not be written: the count of faults rises, and a beginning of the piece may have been
     /// written.
     fn put(&mut self, piece: &[u8]) -> Result<(), SinkFailed>
         requires { length piece.now ≤ free self.old }

@@ -1,4 +1,4 @@
-//! The laws of a history's journal and of the mirrors of its cores. None of these functions does anything.
+//! The laws of histories' journals, of the mirrors of their cores, and of generated schedules. None of these functions does anything.
 ghost use Rattle.std.specs.Prelude.{◌≡◌, ◌≢◌, ◌<◌, ℕ, List, None, Ok, ◌≤◌, ◌++◌, ◌∷◌, Some, slice_get, ◌^◌};
 ghost use Rattle.std.specs.List.{AllByRecursion};
 ghost use Rattle.ksi_imprint.specs.Imprints.{IsImprint, imprint_of};

@@ -54,7 +54,7 @@ pub(crate) fn accepted(bytes: &[u8]) -> Result<(Element<'_>, usize), SignatureFa
     Ok((element, size))
 }
 
-/// The element at the front, with its size, where its kind is that of a signature.
+/// The element at the beginning, with its size, where its kind is that of a signature.
 #[tactic(auto, unfolding(crate::specs::File::answer_of))]
 fn first_element(bytes: &[u8]) -> Result<(Element<'_>, usize), SignatureFault>
     ensures size { IfOk result (λ found. length found.0.body.now ≤ found.1) }

@@ -22,11 +22,11 @@ pub enum TlvFault {
     Short(usize, usize),
 }
 
-/// The element at the front of bytes, and how many of them it takes.
+/// The element at the beginning of bytes, and how many of them it takes.
 pub fn read_one(bytes: &[u8]) -> Result<(Element<'_>, usize), TlvFault>
     // The bytes that it takes spell the element.
     ensures found { IfOk result (λ found. IsFront bytes.now (view found.0) found.1) }
-    // Whatever element is spelled at the front is read, whatever follows.
+    // Whatever element is spelled at the beginning is read, whatever follows.
     ensures only { (e : Tlv) (text rest : List ℕ) → Spells e text → bytes.now ≡ text ++ rest →
         IsOkAnd result (λ found. (view found.0 ≡ e) × (found.1 ≡ length text)) }
     ensures ok { IsOk result ↔ (size_at bytes.now ≤ length bytes.now) }
@@ -51,7 +51,7 @@ struct Header {
     count: usize,
 }
 
-/// The element at the front, and how many bytes it takes.
+/// The element at the beginning, and how many bytes it takes.
 #[tactic(auto, unfolding(crate::specs::Front::element_at))]
 fn front(bytes: &[u8]) -> Result<(Element<'_>, usize), TlvFault>
     ensures exact { view_front result ≡ element_at bytes.now }
@@ -75,7 +75,7 @@ fn front(bytes: &[u8]) -> Result<(Element<'_>, usize), TlvFault>
     Ok((element, need))
 }
 
-/// The header at the front, or how many bytes it takes where it is cut off.
+/// The header at the beginning, or how many bytes it takes where it is cut off.
 #[tactic(auto, unfolding(crate::specs::Front::header_at))]
 fn read_header(bytes: &[u8]) -> Result<Header, usize>
     ensures exact { view_header result ≡ header_at bytes.now }

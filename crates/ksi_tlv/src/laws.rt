@@ -21,7 +21,7 @@ pub fn canonical_is_shortest()
     ensures shortest { (e : Tlv) (text : List ℕ) → Spells e text → length (canonical e) ≤ length text }
 {}
 
-/// The element that is found at the front of bytes is the one that is spelled there, whatever follows, and none is
+/// The element that is found at the beginning of bytes is the one that is spelled there, whatever follows, and none is
 /// found exactly where fewer bytes stand than it takes.
 pub fn front_by_spelling()
     ensures found { (bytes : List ℕ) (e : Tlv) (n : ℕ) → AreBytes bytes →
@@ -38,7 +38,7 @@ pub fn reading_is_elements()
         (items ≡ elements place bytes) ↔ IsReading place bytes items }
 {}
 
-/// A walk gives nothing of no bytes; else the element at the front and then the walk behind it, or the one that is
+/// A walk gives nothing of no bytes; else the element at the beginning and then the walk behind it, or the one that is
 /// cut off alone.
 pub fn walk_by_fronts()
     ensures nothing { (place : ℕ) → elements place [] ≡ [] }
