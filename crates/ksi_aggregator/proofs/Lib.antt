@@ -3,3 +3,8 @@ pub mod Found
 pub mod Words
 pub mod Storing
 pub mod Listing
+pub mod StoredLaws
+pub mod Returning
+pub mod Lasting
+pub mod Renaming
+pub mod Settling

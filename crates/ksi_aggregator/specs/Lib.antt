@@ -6,3 +6,7 @@ pub mod Facts
 pub mod Refusals
 pub mod Issuing
 pub mod Events
+pub mod Lawful
+pub mod Restored
+pub mod Renamed
+pub mod Settled

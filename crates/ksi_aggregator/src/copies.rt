@@ -1,7 +1,7 @@
 //! Copies of what a response carries.
 ghost use Rattle.std.specs.Prelude.{◌≡◌, ◌≤◌, ◌∷◌, ◌++◌, length, IfOk, OnOk};
 
-use ksi_aggchain::{Link, Sibling};
+use ksi_aggtree::chains::{Link, Sibling};
 use ksi_imprint::{Bytes, NoMemory};
 use ksi_signature::{Above, AboveChain, AboveChains, AboveLinks, CalendarLinks};
 use std::alloc::Global;

@@ -7,6 +7,9 @@
 //! it is given, and no other second changes; after a refusal for want of memory all is as it was; open rounds are lost at a
 //! restart, closed rounds and their first response stay; and what is issued is the signature of the request's item.
 //!
+//! What holds of facts in their order is in [`laws`]: an aggregator that stores the facts of its steps stores lawful ones for
+//! good, and one that comes back with them is that aggregator after a restart.
+//!
 //! ```text
 //! let mut aggregator = Aggregator::<Sha>::new(alloc, 0);
 //! aggregator.request(0, second, imprint, None)?;

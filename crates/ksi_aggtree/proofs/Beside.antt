@@ -1,7 +1,7 @@
 -- Items with where they came from, as lists of origins and of items.
 use Rattle.std.proofs.Common.{◌≡◌, ℕ, zero, suc, ◌+◌, ◌<◌, get_or, sym, take, add-one, ◌∙◌, ◌++◌, List, [], ◌∷◌, length, map, Bool, ◌||◌, Option, Some, None, refl, ap, arith}
 use Rattle.std.specs.List.{list_any}
-use Rattle.ksi_aggchain.specs.declared.node.Node.{Node}
+use Rattle.ksi_aggtree.specs.declared.chains.node.Node.{Node}
 use Rattle.ksi_aggtree.specs.declared.item.Item.{Item}
 use Rattle.ksi_aggtree.specs.declared.entries.Origin.{Origin}
 use Rattle.ksi_aggtree.specs.declared.entries.Entry.{Entry}

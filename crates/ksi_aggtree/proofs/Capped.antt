@@ -7,7 +7,7 @@ use Rattle.ksi_split.specs.declared.side.Side.TheVariants.{Left, Right}
 use Rattle.ksi_split.specs.Powers.{IsSplit, split_of}
 use Rattle.ksi_split.specs.Parts.{Part, half_of, part_at}
 use Rattle.ksi_split.specs.Trees.{tree_within, tree, path_within, path_of, node_in, node_at}
-use Rattle.ksi_aggchain.specs.declared.node.Node.{Node}
+use Rattle.ksi_aggtree.specs.declared.chains.node.Node.{Node}
 use Rattle.ksi_aggtree.specs.Rounds.{joined_at, aggregation_join, capped_join}
 
 -- what laws of trees and of splits say, as these proofs take it

@@ -5,10 +5,10 @@ use Rattle.ksi_split.specs.declared.side.Side.{Side}
 use Rattle.ksi_split.specs.declared.side.Side.TheVariants.{Left, Right}
 use Rattle.ksi_split.specs.declared.tree_link.TreeLink.{TreeLink}
 use Rattle.ksi_split.specs.Trees.{link_from, climb_links}
-use Rattle.ksi_aggchain.specs.declared.node.Node.{Node}
-use Rattle.ksi_aggchain.specs.Links.{side_text, level_above}
-use Rattle.ksi_aggchain.specs.Owned.{plain_link, plain_links}
-use Rattle.ksi_aggchain.specs.Climbing.{climbed}
+use Rattle.ksi_aggtree.specs.declared.chains.node.Node.{Node}
+use Rattle.ksi_aggtree.specs.Links.{side_text, level_above}
+use Rattle.ksi_aggtree.specs.Owned.{plain_link, plain_links}
+use Rattle.ksi_aggtree.specs.Climbing.{climbed}
 use Rattle.ksi_aggtree.specs.Rounds.{aggregation_join}
 use Rattle.ksi_aggtree.specs.Paths.{link_beside, links_from}
 

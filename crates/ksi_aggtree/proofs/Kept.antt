@@ -7,7 +7,7 @@ use Rattle.std.proofs.Math.ListN.{get_or-eq_default, get_or-map}
 use Rattle.ksi_split.specs.declared.side.Side.{Side}
 use Rattle.ksi_split.specs.Trees.{tree, path_of, node_at}
 use Rattle.ksi_split.specs.Leaves.{Leaves, leaf_at, leaf_of}
-use Rattle.ksi_aggchain.specs.declared.node.Node.{Node}
+use Rattle.ksi_aggtree.specs.declared.chains.node.Node.{Node}
 use Rattle.ksi_aggtree.specs.declared.item.Item.{Item}
 use Rattle.ksi_aggtree.specs.Nodes.{reached_in, node_in}
 use Rattle.ksi_aggtree.specs.Rounds.{capped_join, item_at, leaf, leaf_level, leaf_of_place, no_item, tree_of, root_from, root_of, tree_path, IsRound, AreLeaves}

@@ -1,10 +1,12 @@
 pub mod Capped
 pub mod Kept
 pub mod Climbing
-pub mod Chains
+pub mod ItemChains
 pub mod Beside
 pub mod Halves
 pub mod Nodes
 pub mod Reaching
 pub mod Metas
 pub mod Again
+pub mod ShapeLemmas
+pub mod ClimbLemmas

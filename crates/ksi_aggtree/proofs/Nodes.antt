@@ -8,7 +8,7 @@ use Rattle.ksi_split.specs.Trees.{tree, node_at}
 use Rattle.ksi_split.specs.Trees as trees
 use Rattle.ksi_split.specs.Ways.{LeadsTo, way_of}
 use Rattle.ksi_split.specs.declared.side.Side.{Side}
-use Rattle.ksi_aggchain.specs.declared.node.Node.{Node}
+use Rattle.ksi_aggtree.specs.declared.chains.node.Node.{Node}
 use Rattle.ksi_aggtree.specs.declared.item.Item.{Item}
 use Rattle.ksi_aggtree.specs.declared.reached.Reached.{Reached}
 use Rattle.ksi_aggtree.specs.declared.reached.Reached.TheVariants.{Items, Below}

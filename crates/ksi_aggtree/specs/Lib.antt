@@ -6,3 +6,8 @@ pub mod Names
 pub mod KeptNames
 pub mod Within
 pub mod Stored
+pub mod Links
+pub mod Owned
+pub mod Lent
+pub mod Climbing
+pub mod Shapes

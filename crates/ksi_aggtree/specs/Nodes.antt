@@ -6,7 +6,7 @@ use Rattle.ksi_split.specs.Parts.{Part, half_of}
 use Rattle.ksi_split.specs.Ways.{LeadsTo}
 use Rattle.ksi_split.specs.declared.side.Side.{Side}
 use Rattle.ksi_split.specs.declared.side.Side.TheVariants.{Left, Right}
-use Rattle.ksi_aggchain.specs.declared.node.Node.{Node}
+use Rattle.ksi_aggtree.specs.declared.chains.node.Node.{Node}
 use Rattle.ksi_aggtree.specs.declared.item.Item.{Item}
 use Rattle.ksi_aggtree.specs.declared.reached.Reached.{Reached}
 use Rattle.ksi_aggtree.specs.declared.reached.Reached.TheVariants.{Items, Below}

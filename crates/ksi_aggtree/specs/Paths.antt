@@ -4,10 +4,10 @@ use Rattle.ksi_split.specs.declared.side.Side.{Side}
 use Rattle.ksi_split.specs.declared.side.Side.TheVariants.{Left}
 use Rattle.ksi_split.specs.Ways.{way_of}
 use Rattle.ksi_split.specs.declared.tree_link.TreeLink.{TreeLink}
-use Rattle.ksi_aggchain.specs.declared.node.Node.{Node}
-use Rattle.ksi_aggchain.specs.declared.link.Link.{Link}
+use Rattle.ksi_aggtree.specs.declared.chains.node.Node.{Node}
+use Rattle.ksi_aggtree.specs.declared.chains.link.Link.{Link}
 use Rattle.ksi_aggtree.specs.declared.item.Item.{Item}
-use Rattle.ksi_aggchain.specs.declared.link.Sibling.TheVariants.{Imprint, Metadata}
+use Rattle.ksi_aggtree.specs.declared.chains.link.Sibling.TheVariants.{Imprint, Metadata}
 use Rattle.ksi_aggtree.specs.Names.{meta_of}
 use Rattle.ksi_aggtree.specs.Rounds.{item_at, leaf_of_place, tree_path}
 

@@ -4,8 +4,8 @@ use Rattle.ksi_imprint.specs.Imprints.{join_text, zero_imprint}
 use Rattle.ksi_split.specs.Trees.{tree, path_of}
 use Rattle.ksi_split.specs.declared.tree_link.TreeLink.{TreeLink}
 use Rattle.ksi_split.specs.Leaves.{Leaves}
-use Rattle.ksi_aggchain.specs.Links.{highest_level}
-use Rattle.ksi_aggchain.specs.declared.node.Node.{Node}
+use Rattle.ksi_aggtree.specs.Links.{highest_level}
+use Rattle.ksi_aggtree.specs.declared.chains.node.Node.{Node}
 use Rattle.ksi_aggtree.specs.declared.item.Item.{Item}
 use Rattle.ksi_aggtree.specs.Names.{meta_of}
 

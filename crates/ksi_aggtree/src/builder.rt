@@ -1,11 +1,12 @@
 ghost use Rattle.std.specs.Prelude.{◌≡◌, ◌++◌, ◌∷◌, [], ◌<◌, ◌≤◌, ◌+◌, ◌↔◌, length, OnErr, IfOk, IsOk, IfSome};
 ghost use Rattle.ksi_aggtree.specs.Names.{IsName};
-ghost use Rattle.ksi_aggchain.specs.Climbing.{Climbs};
-ghost use Rattle.ksi_aggchain.specs.Owned.{plain_links};
+ghost use Rattle.ksi_aggtree.specs.Climbing.{Climbs};
+ghost use Rattle.ksi_aggtree.specs.Owned.{plain_links};
 ghost use Rattle.ksi_aggtree.specs.Rounds.{most_items, highest_item, leaf_level, as_node, item_at, tree_of, root_of};
 ghost use Rattle.ksi_aggtree.specs.Nodes.{node_of};
 ghost use Rattle.ksi_aggtree.specs.Paths.{chain_of, item_way, name_links, sides_from_top};
 
+use crate::chains::Node;
 use crate::item::{Item, MOST_ITEMS};
 use crate::item_path::ItemPath;
 use crate::join::AggregationJoin;
@@ -14,7 +15,6 @@ use crate::over::below;
 use crate::paths::RoundPaths;
 use crate::reached::{Reached, reach};
 use crate::room::reserve_one;
-use ksi_aggchain::Node;
 use ksi_imprint::{Compress, Imprint, NoMemory, Refused};
 use ksi_split::{Rows, Side, Steps};
 use std::alloc::Global;

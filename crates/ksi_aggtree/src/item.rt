@@ -2,9 +2,9 @@ ghost use Rattle.std.specs.Prelude.{◌≡◌, ◌≤◌, None, IfSome, is_some}
 ghost use Rattle.ksi_aggtree.specs.Names.{IsName};
 ghost use Rattle.ksi_aggtree.specs.Rounds.{leaf, leaf_level, as_node, as_item, with_name, highest_item};
 
+use crate::chains::Node;
 use crate::laws::name_is_kept;
 use crate::name::Name;
-use ksi_aggchain::Node;
 use ksi_imprint::{Compress, Imprint};
 
 /// How many items a round may have.

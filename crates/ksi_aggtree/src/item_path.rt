@@ -2,8 +2,8 @@ ghost use Rattle.std.specs.Prelude.{◌≡◌, ◌≤◌, ◌++◌, IfOk, IfSome
 ghost use Rattle.ksi_aggtree.specs.Names.{IsName};
 ghost use Rattle.ksi_aggtree.specs.Paths.{name_link, name_links, links_from};
 
+use crate::chains::{Link, Node, Sibling};
 use crate::name::Name;
-use ksi_aggchain::{Link, Node, Sibling};
 use ksi_imprint::{Bytes, NoMemory};
 use ksi_split::{Side, TreeLink};
 use std::alloc::Global;
@@ -17,7 +17,7 @@ pub struct ItemPath {
 
 impl Model for ItemPath {
     ghost use Rattle.std.specs.Prelude.{List};
-    ghost use Rattle.ksi_aggchain.specs.declared.link.Link as links;
+    ghost use Rattle.ksi_aggtree.specs.declared.chains.link.Link as links;
 
     ghost Value = { List links.Link };
 

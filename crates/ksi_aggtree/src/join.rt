@@ -1,6 +1,6 @@
 ghost use Rattle.ksi_aggtree.specs.Rounds.{capped_join};
 
-use ksi_aggchain::Node;
+use crate::chains::Node;
 use ksi_imprint::Compress;
 use ksi_split::Joins;
 use std::marker::PhantomData;

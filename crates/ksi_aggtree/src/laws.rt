@@ -3,10 +3,10 @@ ghost use Rattle.std.specs.Prelude.{◌≡◌, ◌<◌, ◌≤◌, ◌+◌, ◌-
 ghost use Rattle.ksi_split.specs.Powers.{IsSplit};
 ghost use Rattle.ksi_split.specs.Ways.{LeadsTo};
 ghost use Rattle.ksi_split.specs.declared.side.Side.{Side};
-ghost use Rattle.ksi_aggchain.specs.Links.{highest_level};
-ghost use Rattle.ksi_aggchain.specs.Climbing.{Climbs};
-ghost use Rattle.ksi_aggchain.specs.Owned.{plain_links};
-ghost use Rattle.ksi_aggchain.specs.declared.node.Node.{Node};
+ghost use Rattle.ksi_aggtree.specs.Links.{highest_level};
+ghost use Rattle.ksi_aggtree.specs.Climbing.{Climbs};
+ghost use Rattle.ksi_aggtree.specs.Owned.{plain_links};
+ghost use Rattle.ksi_aggtree.specs.declared.chains.node.Node.{Node};
 ghost use Rattle.ksi_aggtree.specs.declared.item.Item.{Item};
 ghost use Rattle.ksi_split.specs.Trees.{tree, path_of, node_at};
 ghost use Rattle.ksi_aggtree.specs.Rounds.{most_items, IsRound, aggregation_join, capped_join, leaf, leaf_level, leaf_of_place, as_node, item_at, named_text, tree_from, tree_of, tree_path};
@@ -14,9 +14,9 @@ ghost use Rattle.ksi_aggtree.specs.Nodes.{node_of, text_of, parts_text, LeadsBel
 ghost use Rattle.ksi_aggtree.specs.Names.{IsName, meta_of};
 ghost use Rattle.ksi_aggtree.specs.Paths.{chain_of, item_way, sides_from_top};
 
+use crate::chains::Node;
+use crate::chains::laws::one_climb;
 use crate::name::Name;
-use ksi_aggchain::Node;
-use ksi_aggchain::laws::one_climb;
 use ksi_split::laws::{one_answer, one_split, one_way, parts};
 use ksi_split::trees::{enough_levels, one_node, one_path, one_tree};
 

@@ -12,7 +12,7 @@
 //! joined of; `root_with` is the root over a slice and one item more. They take no memory, and compute each node from its
 //! leaves. A path takes at most 32 steps, each the read of one stored node, and one step at least for the item and for each
 //! link but that of its name. [`Entries`] is a round that also keeps where each item came from, a request or an aggregator.
-//! What holds of the definitions is in `laws`.
+//! What holds of the definitions is in `laws`. How links are climbed, and what shape they have, is in [`chains`].
 //!
 //! ```text
 //! let mut round = Builder::<Sha>::new(alloc)?;
@@ -24,6 +24,7 @@
 #![tactic(auto)]
 
 mod builder;
+pub mod chains;
 mod entries;
 mod item;
 mod item_path;

@@ -3,11 +3,11 @@ ghost use Rattle.std.specs.Prelude.{◌≡◌, ◌<◌, ◌≤◌, ◌+◌, ◌^
 ghost use Rattle.ksi_aggtree.specs.Rounds.{most_items, highest_item, leaf_level, item_at, as_node, tree_from, tree_of, IsRound};
 ghost use Rattle.ksi_aggtree.specs.Nodes.{node_of, node_below, text_of, text_from, leaf_text, node_text};
 
+use crate::chains::Node;
 use crate::item::Item;
 use crate::laws::one_round;
 use crate::parts::{NodeParts, OtherPart};
 use crate::reached::{Reached, left_half, reach};
-use ksi_aggchain::Node;
 use ksi_imprint::Compress;
 use ksi_split::Side;
 

@@ -1,15 +1,15 @@
 ghost use Rattle.std.specs.Prelude.{◌≡◌, ◌<◌, ◌≤◌, ◌+◌, length, IfOk, IfSome};
 ghost use Rattle.ksi_aggtree.specs.Names.{IsName};
-ghost use Rattle.ksi_aggchain.specs.Climbing.{Climbs};
-ghost use Rattle.ksi_aggchain.specs.Owned.{plain_links};
+ghost use Rattle.ksi_aggtree.specs.Climbing.{Climbs};
+ghost use Rattle.ksi_aggtree.specs.Owned.{plain_links};
 ghost use Rattle.ksi_aggtree.specs.Paths.{chain_of, item_way, sides_from_top};
 ghost use Rattle.ksi_aggtree.specs.Rounds.{item_at, as_node, tree_of};
 
+use crate::chains::Node;
 use crate::item::Item;
 use crate::item_path::ItemPath;
 use crate::join::AggregationJoin;
 use crate::laws::{no_cap, one_chain};
-use ksi_aggchain::Node;
 use ksi_imprint::{Compress, NoMemory};
 use ksi_split::Paths;
 use std::marker::Model;

@@ -1,20 +1,20 @@
 //! The tree over lent items.
 ghost use Rattle.std.specs.Prelude.{◌≡◌, ◌<◌, ◌≤◌, ◌↔◌, ◌++◌, ◌∷◌, [], ℕ, Some, None, length, option_map, IfOk, IfSome};
 ghost use Rattle.ksi_split.specs.Ways.{LeadsTo};
-ghost use Rattle.ksi_aggchain.specs.Climbing.{Climbs};
-ghost use Rattle.ksi_aggchain.specs.Owned.{plain_links};
+ghost use Rattle.ksi_aggtree.specs.Climbing.{Climbs};
+ghost use Rattle.ksi_aggtree.specs.Owned.{plain_links};
 ghost use Rattle.ksi_aggtree.specs.Names.{IsName};
 ghost use Rattle.ksi_aggtree.specs.Paths.{chain_of, item_way, sides_from_top};
 ghost use Rattle.ksi_aggtree.specs.Rounds.{most_items, highest_item, leaf_level, item_at, as_node, IsRound, some_items, tree_from, tree_of};
 ghost use Rattle.ksi_aggtree.specs.Nodes.{node_of, text_of, node_text, LeadsBelow};
 
+use crate::chains::Node;
 use crate::item::Item;
 use crate::item_path::ItemPath;
 use crate::laws::one_part;
 use crate::over::{node_with, parts_with, root_with};
 use crate::parts::NodeParts;
 use crate::rebuilt::rebuilt;
-use ksi_aggchain::Node;
 use ksi_imprint::{Compress, NoMemory};
 use ksi_split::Side;
 use std::alloc::Global;

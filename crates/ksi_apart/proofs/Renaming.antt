@@ -13,7 +13,7 @@ use Rattle.ksi_aggregator.specs.Rows.{RoundState, round_restarted}
 use Rattle.ksi_aggregator.specs.declared.event.RoundEvent.{RoundEvent}
 use Rattle.ksi_aggregator.specs.declared.event.RoundEvent.TheVariants as round_events
 use Rattle.ksi_aggregator.specs.Events.{round_row}
-use Rattle.ksi_roundfacts.specs.Renamed.{event_renamed, round_renamed, turn_renamed}
+use Rattle.ksi_aggregator.specs.Renamed.{event_renamed, round_renamed, turn_renamed}
 use Rattle.ksi_schedule.specs.declared.event.Event.{Event}
 use Rattle.ksi_schedule.specs.Events.{AreEvents}
 use Rattle.ksi_schedule.specs.Plans.{PlanState, core_plan_of}

@@ -13,7 +13,7 @@ use Rattle.ksi_aggregator.specs.Rows.{RoundState, round_restarted}
 use Rattle.ksi_aggregator.specs.declared.event.RoundEvent.{RoundEvent}
 use Rattle.ksi_aggregator.specs.declared.event.RoundEvent.TheVariants as round_events
 use Rattle.ksi_aggregator.specs.Events as of_round
-use Rattle.ksi_roundfacts.specs.Renamed.{answer_renamed, event_renamed}
+use Rattle.ksi_aggregator.specs.Renamed.{answer_renamed, event_renamed}
 use Rattle.ksi_schedule.specs.declared.actor.Actor.{Actor}
 use Rattle.ksi_schedule.specs.declared.actor.Actor.TheVariants as actors
 use Rattle.ksi_schedule.specs.declared.event.Event.{Event}

@@ -4,7 +4,7 @@ ghost use Rattle.ksi_corenode.specs.declared.event.CoreEvent.{CoreEvent};
 ghost use Rattle.ksi_corenode.specs.CoreState.{CoreState, state_of};
 ghost use Rattle.ksi_corenode.specs.Events.{core_row};
 ghost use Rattle.ksi_aggregator.specs.Rows.{RoundState};
-ghost use Rattle.ksi_roundfacts.specs.Renamed.{round_renamed};
+ghost use Rattle.ksi_aggregator.specs.Renamed.{round_renamed};
 ghost use Rattle.ksi_schedule.specs.declared.event.Event.{Event};
 ghost use Rattle.ksi_schedule.specs.Plans.{PlanState, core_plan_of};
 ghost use Rattle.ksi_schedule.specs.Events.{AreEvents};
@@ -12,7 +12,7 @@ ghost use Rattle.ksi_world.specs.Histories.{WorldState};
 ghost use Rattle.ksi_corenode.specs.SecondState.{SecondState};
 ghost use Rattle.ksi_apart.specs.Logs.{Deed, AggregatorAgrees, AggregatorsAgree, AreGiven, AreOutcomes, CoreAgrees, CoresAgree, core_turn, log_of_aggregator, log_of_core, renamed};
 
-use ksi_roundfacts::laws::numbers_are_names;
+use ksi_aggregator::laws::numbers_are_names;
 
 /// Logs of all nodes in one order, in which each message was said before it is taken, and each log agrees with the rows of
 /// its node alone, from what the node has of a world. Then there are events of the plan, one for each entry, of which the

@@ -4,9 +4,9 @@ use Rattle.std.specs.Prelude.{IfOk, OnErr}
 use Rattle.std.proofs.lemmas.List.Concat.{flat_map-cons}
 use Rattle.std.proofs.lemmas.List.Sums.{sum_by-append}
 use Rattle.ksi_split.specs.declared.side.Side.{Side}
-use Rattle.ksi_aggchain.specs.Links.{PlainLink}
-use Rattle.ksi_aggchain.specs.Climbing.{above, level_after}
-use Rattle.ksi_aggchain.specs.declared.node.Node.{Node}
+use Rattle.ksi_aggtree.specs.Links.{PlainLink}
+use Rattle.ksi_aggtree.specs.Climbing.{above, level_after}
+use Rattle.ksi_aggtree.specs.declared.chains.node.Node.{Node}
 use Rattle.ksi_beside.specs.Beside.{Rung, rung_from, rungs_from, laid_from, laid_on, IsApart}
 use Rattle.ksi_beside.specs.declared.walk.Walk.{Walk}
 use Rattle.ksi_beside.specs.declared.walk.Walk.TheVariants.{Apart, At, Past}

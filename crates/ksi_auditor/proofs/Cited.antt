@@ -9,9 +9,9 @@ use Rattle.ksi_split.specs.Powers.{IsSplit, split_of}
 use Rattle.ksi_split.specs.Parts.{Part, part_at, second_at}
 use Rattle.ksi_split.specs.Trees.{climb_links}
 use Rattle.ksi_split.specs.Ways.{IsWay, LeadsTo, NamesSecond, way_of}
-use Rattle.ksi_aggchain.specs.Links.{PlainLink}
-use Rattle.ksi_aggchain.specs.Climbing.{Climbs, climbed}
-use Rattle.ksi_aggchain.specs.declared.node.Node.{Node}
+use Rattle.ksi_aggtree.specs.Links.{PlainLink}
+use Rattle.ksi_aggtree.specs.Climbing.{Climbs, climbed}
+use Rattle.ksi_aggtree.specs.declared.chains.node.Node.{Node}
 use Rattle.ksi_aggtree.specs.declared.item.Item.{Item}
 use Rattle.ksi_aggtree.specs.Names.{IsName, meta_of}
 use Rattle.ksi_aggtree.specs.Nodes.{LeadsBelow, node_of, parts_text, text_of}

@@ -1,9 +1,9 @@
 -- Climbing where no level passes 255.
 use Rattle.std.proofs.Common.{◌≡◌, ℕ, ◌+◌, ◌≤◌, List, [], ◌∷◌, Ok, refl, sym, ◌∙◌, arith, inl, inr}
 use Rattle.std.proofs.lemmas.List.Sums.{sum_by-cons}
-use Rattle.ksi_aggchain.specs.Links.{PlainLink, level_above}
-use Rattle.ksi_aggchain.specs.Climbing.{above, climbed, level_after}
-use Rattle.ksi_aggchain.specs.declared.node.Node.{Node}
+use Rattle.ksi_aggtree.specs.Links.{PlainLink, level_above}
+use Rattle.ksi_aggtree.specs.Climbing.{above, climbed, level_after}
+use Rattle.ksi_aggtree.specs.declared.chains.node.Node.{Node}
 use Rattle.ksi_auditor.specs.Climbed.{climbed_to}
 use Rattle.ksi_auditor.proofs.Cases.{lt_cases}
 

@@ -5,13 +5,13 @@ use Rattle.std.proofs.lemmas.List.Concat.{flat_map-cons}
 use Rattle.ksi_split.specs.declared.side.Side.{Side}
 use Rattle.ksi_split.specs.declared.side.Side.TheVariants.{Left, Right}
 use Rattle.ksi_split.specs.declared.tree_link.TreeLink.{TreeLink}
-use Rattle.ksi_aggchain.specs.Links.{PlainLink, begins_as_imprint, is_bare}
-use Rattle.ksi_aggchain.specs.Owned.{plain_link, plain_links}
-use Rattle.ksi_aggchain.specs.declared.link.Link.{Link}
-use Rattle.ksi_aggchain.specs.declared.link.Sibling.{Sibling}
-use Rattle.ksi_aggchain.specs.declared.link.Sibling.TheVariants.{Imprint, Legacy, Metadata}
-use Rattle.ksi_aggchain.specs.Climbing.{above}
-use Rattle.ksi_aggchain.specs.declared.node.Node.{Node}
+use Rattle.ksi_aggtree.specs.Links.{PlainLink, begins_as_imprint, is_bare}
+use Rattle.ksi_aggtree.specs.Owned.{plain_link, plain_links}
+use Rattle.ksi_aggtree.specs.declared.chains.link.Link.{Link}
+use Rattle.ksi_aggtree.specs.declared.chains.link.Sibling.{Sibling}
+use Rattle.ksi_aggtree.specs.declared.chains.link.Sibling.TheVariants.{Imprint, Legacy, Metadata}
+use Rattle.ksi_aggtree.specs.Climbing.{above}
+use Rattle.ksi_aggtree.specs.declared.chains.node.Node.{Node}
 use Rattle.ksi_calendar.specs.Climbing.{calendar_element_text}
 use Rattle.ksi_beside.specs.Beside.{Rung, rung_from, rungs_from, calendar_rung_from, calendar_rungs_from}
 use Rattle.ksi_signature.specs.Kept.{HasImprint, IsLink}

@@ -3,7 +3,7 @@ use Rattle.std.proofs.Common.{◌≡◌, ◌≢◌, ℕ, suc, ◌-◌, ◌<◌, 
 use Rattle.std.proofs.lemmas.List.{length-map, length-take-le}
 use Rattle.ksi_imprint.specs.declared.clash.Clash.{Clash}
 use Rattle.ksi_split.specs.declared.side.Side.{Side}
-use Rattle.ksi_aggchain.specs.Links.{PlainLink}
+use Rattle.ksi_aggtree.specs.Links.{PlainLink}
 use Rattle.ksi_aggtree.specs.declared.item.Item.{Item}
 use Rattle.ksi_aggtree.specs.Nodes.{text_of}
 use Rattle.ksi_beside.specs.Beside.{Rung, rung_side, rungs_from, Pair, pairs_below, pair_before, differing, ended, laid_from, IsApart, clash_in}

@@ -11,7 +11,7 @@ use Rattle.ksi_split.specs.declared.fault.ShapeFault.TheVariants.{TooMany}
 use Rattle.ksi_split.specs.Powers.{split_of}
 use Rattle.ksi_split.specs.Parts.{half_of, part_at, second_at, second_in}
 use Rattle.ksi_split.specs.Ways.{IsWay, LeadsTo, way_of}
-use Rattle.ksi_aggchain.specs.declared.node.Node.{Node}
+use Rattle.ksi_aggtree.specs.declared.chains.node.Node.{Node}
 use Rattle.ksi_aggtree.specs.declared.item.Item.{Item}
 use Rattle.ksi_aggtree.specs.Names.{meta_of, padding}
 use Rattle.ksi_aggtree.specs.Nodes.{LeadsBelow, node_of, parts_text, text_of}

@@ -7,9 +7,9 @@ use Rattle.ksi_split.specs.declared.side.Side.{Side}
 use Rattle.ksi_split.specs.declared.side.Side.TheVariants.{Left, Right}
 use Rattle.ksi_split.specs.declared.tree_link.TreeLink.{TreeLink}
 use Rattle.ksi_split.specs.Trees.{climb_links, link_from}
-use Rattle.ksi_aggchain.specs.Links.{PlainLink, side_text, level_above}
-use Rattle.ksi_aggchain.specs.Climbing.{above, climbed, level_after}
-use Rattle.ksi_aggchain.specs.declared.node.Node.{Node}
+use Rattle.ksi_aggtree.specs.Links.{PlainLink, side_text, level_above}
+use Rattle.ksi_aggtree.specs.Climbing.{above, climbed, level_after}
+use Rattle.ksi_aggtree.specs.declared.chains.node.Node.{Node}
 use Rattle.ksi_calendar.specs.Climbing.{calendar_join, calendar_join_text, calendar_element_text}
 use Rattle.ksi_calendar.specs.Sides.{sides_from_top}
 use Rattle.ksi_beside.specs.Beside.{Rung, rung_side, rung_text, rung_from, rungs_from, calendar_rung_from, calendar_rungs_from}

@@ -9,9 +9,9 @@ use Rattle.ksi_imprint.specs.Imprints.{IsImprint, IsClash, zero_imprint}
 use Rattle.ksi_imprint.specs.declared.clash.Clash.{Clash}
 use Rattle.ksi_split.specs.declared.side.Side.{Side}
 use Rattle.ksi_split.specs.Parts.{Part, part_at, second_in, second_at}
-use Rattle.ksi_aggchain.specs.Links.{PlainLink}
-use Rattle.ksi_aggchain.specs.Climbing.{Climbs, climbed, level_after}
-use Rattle.ksi_aggchain.specs.declared.node.Node.{Node}
+use Rattle.ksi_aggtree.specs.Links.{PlainLink}
+use Rattle.ksi_aggtree.specs.Climbing.{Climbs, climbed, level_after}
+use Rattle.ksi_aggtree.specs.declared.chains.node.Node.{Node}
 use Rattle.ksi_aggtree.specs.declared.item.Item.{Item}
 use Rattle.ksi_aggtree.specs.Nodes.{text_of}
 use Rattle.ksi_aggtree.specs.Rounds.{tree_from}

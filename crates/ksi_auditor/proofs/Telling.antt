@@ -2,7 +2,7 @@
 use Rattle.std.proofs.Common.{◌≡◌, ◌≤◌, ℕ, List, ◌++◌, length, sym, subst, Option, Some, None}
 use Rattle.std.specs.Prelude.{◌==◌, IsSome, ◌↔◌}
 use Rattle.ksi_split.specs.declared.side.Side.{Side}
-use Rattle.ksi_aggchain.specs.Links.{PlainLink}
+use Rattle.ksi_aggtree.specs.Links.{PlainLink}
 use Rattle.ksi_calendar.specs.Covered.{first_missing}
 use Rattle.ksi_signature.specs.Values.{Calendar}
 use Rattle.ksi_signature.specs.declared.signature.Signature.{Signature}

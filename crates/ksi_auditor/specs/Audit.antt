@@ -8,7 +8,7 @@ use Rattle.ksi_split.specs.declared.fault.ShapeFault.{ShapeFault}
 use Rattle.ksi_split.specs.declared.fault.ShapeFault.TheVariants.{TooMany, TooFew}
 use Rattle.ksi_aggtree.specs.declared.item.Item.{Item}
 use Rattle.ksi_aggtree.specs.Nodes.{text_of}
-use Rattle.ksi_aggchain.specs.Links.{PlainLink}
+use Rattle.ksi_aggtree.specs.Links.{PlainLink}
 use Rattle.ksi_beside.specs.Beside.{Pair, rungs_from, calendar_rungs_from, pairs_below, differing}
 use Rattle.ksi_calendar.specs.Covered.{first_missing, covered_root}
 use Rattle.ksi_signature.specs.Values.{Calendar}

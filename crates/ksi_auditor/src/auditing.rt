@@ -1,6 +1,6 @@
 ghost use Rattle.std.specs.Prelude.{◌≡◌, ◌<◌, ◌≤◌, ◌-◌, ◌^◌, ℕ, [], Some, None, IfOk, IfSome, OnErr, length, map, option_map};
-ghost use Rattle.ksi_aggchain.specs.Climbing.{level_after};
-ghost use Rattle.ksi_aggchain.specs.Links.{highest_level};
+ghost use Rattle.ksi_aggtree.specs.Climbing.{level_after};
+ghost use Rattle.ksi_aggtree.specs.Links.{highest_level};
 ghost use Rattle.ksi_aggtree.specs.Rounds.{IsRound, most_items};
 ghost use Rattle.ksi_signature.specs.Seen.{seen};
 ghost use Rattle.ksi_verifier.specs.Leading.{all_links};
@@ -19,8 +19,8 @@ use crate::items::ItemsOf;
 use crate::laid::LaidChain;
 use crate::laws::{audit_shows, low_levels, missed_seconds};
 use crate::links::{are_links, are_owned_links, is_early};
-use ksi_aggchain::Node;
 use ksi_aggtree::Item;
+use ksi_aggtree::chains::Node;
 use ksi_beside::{Place, Walk, along_calendar};
 use ksi_calendar::climb_calendar;
 use ksi_calendar::laws::one_first_missing;

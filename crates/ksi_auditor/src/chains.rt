@@ -1,12 +1,12 @@
 // All chains of a signature.
 ghost use Rattle.std.specs.Prelude.{◌≡◌, ◌≤◌, [], length, map, IfOk, OnErr};
-ghost use Rattle.ksi_aggchain.specs.Links.{highest_level};
-ghost use Rattle.ksi_aggchain.specs.Climbing.{level_after};
+ghost use Rattle.ksi_aggtree.specs.Links.{highest_level};
+ghost use Rattle.ksi_aggtree.specs.Climbing.{level_after};
 ghost use Rattle.ksi_beside.specs.Beside.{IsApart, IsShortWalk, laid_from, rungs_from};
 ghost use Rattle.ksi_verifier.specs.Leading.{all_links};
 
 use crate::laid::LaidChain;
-use ksi_aggchain::Node;
+use ksi_aggtree::chains::Node;
 use ksi_beside::laws::one_after_another;
 use ksi_beside::{KeptTree, Place, Walk};
 use ksi_imprint::{Compress, NoMemory};

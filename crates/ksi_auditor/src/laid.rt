@@ -1,6 +1,6 @@
 ghost use Rattle.std.specs.Prelude.{◌≡◌, ◌≤◌, length, IfOk, OnErr};
-ghost use Rattle.ksi_aggchain.specs.Links.{highest_level};
-ghost use Rattle.ksi_aggchain.specs.Climbing.{level_after};
+ghost use Rattle.ksi_aggtree.specs.Links.{highest_level};
+ghost use Rattle.ksi_aggtree.specs.Climbing.{level_after};
 ghost use Rattle.ksi_beside.specs.Beside.{IsApart, IsShortWalk, laid_on, rungs_from};
 ghost use Rattle.ksi_verifier.specs.Chains.{PlainChain, plain_chain};
 ghost use Rattle.ksi_verifier.specs.Lent.{lent_chain};
@@ -8,7 +8,7 @@ ghost use Rattle.ksi_auditor.specs.Climbed.{climbed_to};
 
 use crate::links::are_link_list;
 use crate::reached::top_of;
-use ksi_aggchain::{Link, LinkView, Node};
+use ksi_aggtree::chains::{Link, LinkView, Node};
 use ksi_beside::{KeptTree, Walk, along_links};
 use ksi_imprint::{Compress, NoMemory};
 use ksi_signature::{AggregationChain, ChainView};

@@ -1,8 +1,8 @@
 //! What holds of audits, for the layers above to cite. None of these functions does anything.
 ghost use Rattle.std.specs.Prelude.{◌≡◌, ◌≤◌, ℕ, List};
 ghost use Rattle.ksi_imprint.specs.Imprints.{IsImprint};
-ghost use Rattle.ksi_aggchain.specs.Links.{highest_level};
-ghost use Rattle.ksi_aggchain.specs.Climbing.{level_after};
+ghost use Rattle.ksi_aggtree.specs.Links.{highest_level};
+ghost use Rattle.ksi_aggtree.specs.Climbing.{level_after};
 ghost use Rattle.ksi_signature.specs.declared.signature.Signature.{Signature};
 ghost use Rattle.ksi_verifier.specs.Accepted.{IsAccepted};
 ghost use Rattle.ksi_verifier.specs.Verdict.{verdict};
@@ -36,7 +36,7 @@ pub fn audit_shows()
     one_part();
     one_text();
     metas_are_even();
-    ksi_aggchain::laws::one_climb();
+    ksi_aggtree::chains::laws::one_climb();
     ksi_calendar::laws::one_climb();
     joined();
     accepted();
@@ -66,7 +66,7 @@ pub fn missed_seconds()
     beside_a_tree();
     one_calendar();
     one_first_missing();
-    ksi_aggchain::laws::one_climb();
+    ksi_aggtree::chains::laws::one_climb();
     ksi_calendar::laws::one_climb();
     joined();
     accepted();
@@ -78,6 +78,6 @@ pub(crate) fn low_levels()
     ensures { (image : List ℕ → List ℕ) (signature : Signature) (hash : List ℕ) (publications : List (ℕ × List ℕ)) (t : ℕ) →
         IsAccepted image signature hash publications t → level_after 0 (links_of signature) ≤ highest_level }
 {
-    ksi_aggchain::laws::one_climb();
+    ksi_aggtree::chains::laws::one_climb();
     joined();
 }

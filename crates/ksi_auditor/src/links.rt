@@ -4,7 +4,7 @@ ghost use Rattle.std.specs.List.{AllByRecursion};
 ghost use Rattle.ksi_signature.specs.Kept.{IsLink};
 ghost use Rattle.ksi_signature.specs.PartsSeen.{chain_seen};
 
-use ksi_aggchain::{Link, Sibling};
+use ksi_aggtree::chains::{Link, Sibling};
 use ksi_signature::{AggregationChain, CalendarChain, ChainView};
 
 /// Of the links of lent chains.

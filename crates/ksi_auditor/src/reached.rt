@@ -1,9 +1,9 @@
 ghost use Rattle.std.specs.Prelude.{◌≡◌, ◌≤◌, map};
-ghost use Rattle.ksi_aggchain.specs.Climbing.{level_after};
-ghost use Rattle.ksi_aggchain.specs.Links.{highest_level};
+ghost use Rattle.ksi_aggtree.specs.Climbing.{level_after};
+ghost use Rattle.ksi_aggtree.specs.Links.{highest_level};
 ghost use Rattle.ksi_auditor.specs.Climbed.{climbed_to};
 
-use ksi_aggchain::{ChainLink, Node, climb};
+use ksi_aggtree::chains::{ChainLink, Node, climb};
 use ksi_imprint::Compress;
 
 /// The item that links lead to, where no level passes 255.

@@ -6,9 +6,9 @@ use Rattle.ksi_split.specs.declared.side.Side.{Side}
 use Rattle.ksi_split.specs.declared.side.Side.TheVariants.{Left, Right}
 use Rattle.ksi_split.specs.declared.tree_link.TreeLink.{TreeLink}
 use Rattle.ksi_split.specs.Trees.{link_from}
-use Rattle.ksi_aggchain.specs.Links.{PlainLink, side_text}
-use Rattle.ksi_aggchain.specs.Climbing.{above}
-use Rattle.ksi_aggchain.specs.declared.node.Node.{Node}
+use Rattle.ksi_aggtree.specs.Links.{PlainLink, side_text}
+use Rattle.ksi_aggtree.specs.Climbing.{above}
+use Rattle.ksi_aggtree.specs.declared.chains.node.Node.{Node}
 use Rattle.ksi_calendar.specs.Climbing.{calendar_element_text, calendar_join_text}
 use Rattle.ksi_beside.specs.Beside.{Rung, Pair, rung_side, rung_text, rung_from, rungs_from, calendar_rung_from, calendar_rungs_from, ended, laid_from, laid_on, IsApart}
 use Rattle.ksi_beside.specs.Walks.{step, go}

@@ -4,9 +4,9 @@ use Rattle.std.specs.Str.{bytes_eq}
 use Rattle.ksi_split.specs.declared.side.Side.{Side}
 use Rattle.ksi_split.specs.declared.tree_link.TreeLink.{TreeLink}
 use Rattle.ksi_imprint.specs.declared.clash.Clash as clashes
-use Rattle.ksi_aggchain.specs.Links.{PlainLink, side_text, level_above}
-use Rattle.ksi_aggchain.specs.Climbing.{above}
-use Rattle.ksi_aggchain.specs.declared.node.Node.{Node}
+use Rattle.ksi_aggtree.specs.Links.{PlainLink, side_text, level_above}
+use Rattle.ksi_aggtree.specs.Climbing.{above}
+use Rattle.ksi_aggtree.specs.declared.chains.node.Node.{Node}
 use Rattle.ksi_calendar.specs.Climbing.{calendar_element_text}
 use Rattle.ksi_beside.specs.declared.walk.Walk.{Walk}
 use Rattle.ksi_beside.specs.declared.walk.Walk.TheVariants.{Apart, At, Past}

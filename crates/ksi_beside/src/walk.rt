@@ -1,7 +1,7 @@
 ghost use Rattle.std.specs.Prelude.{◌≡◌, ◌≤◌, [], length, map, IfOk, IfSome, OnErr};
 ghost use Rattle.std.specs.List.{AllByRecursion};
-ghost use Rattle.ksi_aggchain.specs.Links.{highest_level};
-ghost use Rattle.ksi_aggchain.specs.Climbing.{level_after};
+ghost use Rattle.ksi_aggtree.specs.Links.{highest_level};
+ghost use Rattle.ksi_aggtree.specs.Climbing.{level_after};
 ghost use Rattle.ksi_beside.specs.Beside.{AreShort, IsApart, IsShortLink, IsShortWalk, calendar_rungs_from, clash_in, laid_from, laid_on, rungs_from};
 ghost use Rattle.ksi_beside.specs.Walks.{go, laid, step, view_rung};
 ghost use Rattle.ksi_beside.specs.declared.walk.Walk.TheVariants as walks;
@@ -9,7 +9,7 @@ ghost use Rattle.ksi_beside.specs.declared.walk.Walk.TheVariants as walks;
 use crate::kept::KeptTree;
 use crate::place::Place;
 use crate::rung::{Rung, is_joined_of, join_of, text_of, text_of_parts};
-use ksi_aggchain::{ChainLink, Node};
+use ksi_aggtree::chains::{ChainLink, Node};
 use ksi_calendar::CalendarLink;
 use ksi_imprint::{Clash, Compress, Imprint, NoMemory};
 use std::alloc::Global;

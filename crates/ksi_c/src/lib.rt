@@ -10,7 +10,7 @@ mod told;
 
 ghost use Rattle.std.specs.Prelude.{◌≡◌, ◌↔◌, ◌∷◌, ◌++◌, [], ℕ, List, if◌then◌else◌};
 ghost use Rattle.sha2.specs.Sha256.{initial_hash_256, sha256};
-ghost use Rattle.ksi_stream.specs.Held.{Holds};
+ghost use Rattle.ksi_imprint.specs.Held.{Holds};
 ghost use Rattle.ksi_imprint.specs.Imprints.{imprint_of, join_text};
 ghost use Rattle.ksi_signature.specs.Reading.{signature_at};
 ghost use Rattle.ksi_publications.specs.Reading.{publications_at};
@@ -23,10 +23,10 @@ use crate::drawing::put_step;
 pub use crate::drawn::KsiStep;
 use crate::telling::answered;
 pub use crate::told::Told;
+use ksi_imprint::stream::Core256;
 use ksi_imprint::{Compress, Imprint, Sha};
 use ksi_signature::laws::signature_is_read;
 use ksi_signature::view;
-use ksi_stream::Core256;
 use ksi_verifier::verify_files;
 
 /// The number of this interface. A caller compares it with that of its header.
@@ -52,7 +52,7 @@ pub extern "C" fn ksi_hash(bytes: &[u8], digest: &mut [u8; 32])
 pub extern "C" fn ksi_hash_start(state: &mut Core256)
     ensures { Holds initial_hash_256 state.new [] }
 {
-    *state = ksi_stream::start();
+    *state = ksi_imprint::stream::start();
 }
 
 /// Takes in the next piece.
@@ -60,7 +60,7 @@ pub extern "C" fn ksi_hash_start(state: &mut Core256)
 pub extern "C" fn ksi_hash_more(state: &mut Core256, bytes: &[u8])
     ensures { (message : List ℕ) → Holds initial_hash_256 state.old message → Holds initial_hash_256 state.new (message ++ bytes.now) }
 {
-    ksi_stream::more(state, bytes);
+    ksi_imprint::stream::more(state, bytes);
 }
 
 /// The SHA-256 of all pieces, which may go on after it.
@@ -68,7 +68,7 @@ pub extern "C" fn ksi_hash_more(state: &mut Core256, bytes: &[u8])
 pub extern "C" fn ksi_hash_end(state: &Core256, digest: &mut [u8; 32])
     ensures { (message : List ℕ) → Holds initial_hash_256 state.now message → digest.new ≡ sha256 message }
 {
-    *digest = ksi_stream::end(state);
+    *digest = ksi_imprint::stream::end(state);
 }
 
 /// Checks a signature file for a digest against a publications file. 0 exactly where it is accepted, and then the second

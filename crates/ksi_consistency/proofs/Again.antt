@@ -7,8 +7,8 @@ use Rattle.ksi_tlv.specs.Spelling.{Tlv, FitsLong, plain, canonical}
 use Rattle.ksi_tlv.specs.Walking.{placed_at}
 use Rattle.ksi_tlv.specs.Numerals.{numeral}
 use Rattle.ksi_tlv.specs.Writing.{placed}
-use Rattle.ksi_order.specs.Sequence.{Leads}
-use Rattle.ksi_order.proofs.Again.{Written, time_again, imprint_again, fits_number, fits_imprint, file_again}
+use Rattle.ksi_tlv.specs.Sequence.{Leads}
+use Rattle.ksi_tlv.proofs.Again.{Written, time_again, imprint_again, fits_number, fits_imprint, file_again}
 use Rattle.ksi_consistency.specs.declared.stage.Stage.TheVariants as stages
 use Rattle.ksi_consistency.specs.Elements.{Contents, IsFront, Said, with_old, old_at, with_new, new_at, with_imprint, next_at, element_read, front_order, nothing_yet}
 use Rattle.ksi_consistency.specs.File.{front_format, IsFrontFile}

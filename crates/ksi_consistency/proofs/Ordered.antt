@@ -5,11 +5,11 @@ use Rattle.std.proofs.lemmas.Bool.{ltb-false}
 use Rattle.std.proofs.lemmas.List.{map-append}
 use Rattle.ksi_imprint.specs.Imprints.{IsImprint}
 use Rattle.ksi_tlv.specs.Walking.{PlacedTlv}
-use Rattle.ksi_order.specs.Order.{may_stand}
-use Rattle.ksi_order.specs.Values.{time_at, imprint_at}
-use Rattle.ksi_order.specs.Format.{or_named}
-use Rattle.ksi_order.specs.Kinds.{kinds_of}
-use Rattle.ksi_order.proofs.Steps.{Bounded, bind_ok, or_named_ok, ok_is, if_not_ok, any_kind, all_more, kinds_more, leads_keep, file_kinds}
+use Rattle.ksi_tlv.specs.Order.{may_stand}
+use Rattle.ksi_tlv.specs.Values.{time_at, imprint_at}
+use Rattle.ksi_tlv.specs.Format.{or_named}
+use Rattle.ksi_tlv.specs.Kinds.{kinds_of}
+use Rattle.ksi_tlv.proofs.Steps.{Bounded, bind_ok, or_named_ok, ok_is, if_not_ok, any_kind, all_more, kinds_more, leads_keep, file_kinds}
 use Rattle.ksi_consistency.specs.declared.fault.FrontFault.{FrontFault}
 use Rattle.ksi_consistency.specs.declared.fault.FrontFault.TheVariants as faults
 use Rattle.ksi_consistency.specs.declared.stage.Stage.{Stage}

@@ -3,11 +3,11 @@ use Rattle.std.specs.Prelude.{ℕ, ◌==◌, ◌<◌, ◌≤◌, ◌^◌, nat_lt
 use Rattle.std.specs.List.{AllByRecursion}
 use Rattle.ksi_imprint.specs.Imprints.{IsImprint}
 use Rattle.ksi_tlv.specs.Walking.{PlacedTlv}
-use Rattle.ksi_order.specs.declared.fault.OrderFault.{OrderFault}
-use Rattle.ksi_order.specs.declared.fault.OrderFault.TheVariants as orders
-use Rattle.ksi_order.specs.Order.{Order, ◌>>=◌}
-use Rattle.ksi_order.specs.Values.{time_at, imprint_at}
-use Rattle.ksi_order.specs.Format.{or_named}
+use Rattle.ksi_tlv.specs.declared.order.fault.OrderFault.{OrderFault}
+use Rattle.ksi_tlv.specs.declared.order.fault.OrderFault.TheVariants as orders
+use Rattle.ksi_tlv.specs.Order.{Order, ◌>>=◌}
+use Rattle.ksi_tlv.specs.Values.{time_at, imprint_at}
+use Rattle.ksi_tlv.specs.Format.{or_named}
 use Rattle.ksi_consistency.specs.declared.fault.FrontFault.{FrontFault}
 use Rattle.ksi_consistency.specs.declared.fault.FrontFault.TheVariants as faults
 use Rattle.ksi_consistency.specs.declared.stage.Stage.{Stage}

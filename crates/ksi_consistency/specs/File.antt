@@ -1,6 +1,6 @@
 -- Which bytes are which front, and the first fault of bytes that are none.
 use Rattle.std.specs.Prelude.{ℕ, List, codes}
-use Rattle.ksi_order.specs.Format.{Format, IsFile, IsFileFault}
+use Rattle.ksi_tlv.specs.Format.{Format, IsFile, IsFileFault}
 use Rattle.ksi_consistency.specs.declared.fault.FrontFault.{FrontFault}
 use Rattle.ksi_consistency.specs.declared.fault.FrontFault.TheVariants as faults
 use Rattle.ksi_consistency.specs.Elements.{Contents, Said, front_order, nothing_yet}

@@ -1,6 +1,6 @@
 -- The kinds of the elements of a front's file, in their order.
 use Rattle.std.specs.Prelude.{ℕ, List, ◌∷◌, map}
-use Rattle.ksi_order.specs.Kinds.{HasKinds}
+use Rattle.ksi_tlv.specs.Kinds.{HasKinds}
 use Rattle.ksi_consistency.specs.Elements.{Contents}
 use Rattle.ksi_consistency.specs.File.{magic}
 

@@ -1,7 +1,7 @@
 -- What memory may be wanting for when a front's file is read.
 use Rattle.std.specs.Prelude.{◌≢◌, IsOk, ℕ, List}
 use Rattle.ksi_tlv.specs.Walking.{PlacedTlv}
-use Rattle.ksi_order.specs.Format as files
+use Rattle.ksi_tlv.specs.Format as files
 use Rattle.ksi_consistency.specs.Elements.{Said, element_read}
 use Rattle.ksi_consistency.specs.File.{front_format}
 

@@ -16,9 +16,9 @@ use crate::fault::FrontFault;
 use crate::loading::Loading;
 use crate::value::Front;
 use ksi_calendar::laws::one_calendar;
-use ksi_order::laws::{file_is_read, file_or_fault, values_are_bounded};
 use ksi_split::laws::one_split;
 use ksi_tlv::laws::{numeral_is_read, written_is_read};
+use ksi_tlv::order::laws::{file_is_read, file_or_fault, values_are_bounded};
 
 /// The front of the first leaves in all of them: where these are all leaves it is nothing if the root is given, and else
 /// their tree. Where they are in the left part, it is their front there and then the right part; where they fill the left

@@ -6,8 +6,8 @@ use crate::imprints::Imprints;
 use crate::stage::Stage;
 use crate::value::Front;
 use ksi_imprint::{Imprint, Refused};
-use ksi_order::{OrderFault, Ordered, imprint, time};
 use ksi_tlv::Placed;
+use ksi_tlv::order::{OrderFault, Ordered, imprint, time};
 use std::alloc::Global;
 use std::marker::Model;
 
@@ -39,7 +39,7 @@ impl Model for Loading {
 impl Loading {
     ghost use Rattle.std.specs.Prelude.{◌≡◌, ◌≢◌, Err, IsOk};
     ghost use Rattle.ksi_tlv.specs.Views.{view_placed};
-    ghost use Rattle.ksi_order.specs.Order.{Steps};
+    ghost use Rattle.ksi_tlv.specs.Order.{Steps};
     ghost use Rattle.ksi_imprint.specs.declared.refused.Refused.TheVariants as refused;
     ghost use Rattle.ksi_consistency.specs.Elements.{nothing_yet, old_at, new_at, next_at};
 

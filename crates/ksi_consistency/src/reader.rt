@@ -7,8 +7,8 @@ use crate::fault::FrontFault;
 use crate::loading::Loading;
 use crate::value::Front;
 use ksi_imprint::Refused;
-use ksi_order::walk;
 use ksi_tlv::after_magic;
+use ksi_tlv::order::walk;
 use std::alloc::Global;
 
 /// What the file of a front begins with.

@@ -10,9 +10,9 @@ use crate::laws::written_is_front;
 use crate::loading::{IMPRINT, NEW, OLD};
 use crate::reader::MAGIC;
 use crate::value::Front;
-use ksi_grammar::put_short;
 use ksi_imprint::{Bytes, Imprint, NoMemory};
 use ksi_tlv::Writer;
+use ksi_tlv::grammar::put_short;
 use std::alloc::Global;
 
 /// The file of a front, which is read again as the front.

@@ -6,7 +6,7 @@ use Rattle.ksi_aggregator.specs.declared.event.RoundEvent.{RoundEvent}
 use Rattle.ksi_aggregator.specs.declared.event.RoundEvent.TheVariants as events
 use Rattle.ksi_aggregator.specs.declared.fact.Fact.{Fact}
 use Rattle.ksi_aggregator.specs.declared.step.Step.{Step}
-use Rattle.ksi_roundfacts.specs.Lawful.{with_new}
+use Rattle.ksi_aggregator.specs.Lawful.{with_new}
 use Rattle.ksi_roundstore.specs.Stores.{IsFileOf, IsFileBeforeOrAfter}
 use Rattle.ksi_roundstore.specs.StoreState.{StoreState}
 use Rattle.ksi_roundstore.specs.Takes.{TookTurn, fact_added}

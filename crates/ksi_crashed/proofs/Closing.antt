@@ -8,7 +8,7 @@ use Rattle.ksi_aggregator.specs.declared.fact.RoundFact.{RoundFact}
 use Rattle.ksi_aggregator.specs.declared.fact.RoundFact.TheVariants as stored
 use Rattle.ksi_aggregator.specs.Facts.{StableRound, with_fact, with_what}
 use Rattle.ksi_aggregator.specs.Rounds.{fact_of}
-use Rattle.ksi_roundfacts.specs.Lawful.{AreLawful, IsLawful, MayStore, stored_by}
+use Rattle.ksi_aggregator.specs.Lawful.{AreLawful, IsLawful, MayStore, stored_by}
 
 -- a list is made by adding behind
 by_adding : {A : Type 0} (P : List A → Type 0) → P [] → ((xs : List A) (x : A) → P xs → P (xs ++ x ∷ [])) → (xs : List A) → P xs

@@ -11,7 +11,7 @@ use Rattle.ksi_aggregator.specs.declared.fact.RoundFact.TheVariants as stored
 use Rattle.ksi_aggregator.specs.Events.{event_second}
 use Rattle.ksi_aggregator.specs.Rounds.{fact_of}
 use Rattle.ksi_aggregator.specs.Rows.{RoundState, RoundTurn, round_request, round_submission, round_close, round_response}
-use Rattle.ksi_roundfacts.specs.Lawful.{with_new}
+use Rattle.ksi_aggregator.specs.Lawful.{with_new}
 use Rattle.ksi_schedule.specs.Plans.{PlanState}
 use Rattle.ksi_schedule.specs.declared.actor.Actor.{Actor}
 use Rattle.ksi_schedule.specs.declared.actor.Actor.TheVariants as actors

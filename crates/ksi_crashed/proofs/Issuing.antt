@@ -8,7 +8,7 @@ use Rattle.ksi_aggtree.specs.declared.item.Item.{Item}
 use Rattle.ksi_aggregator.specs.Issuing.{IsIssued, IsIssuedAt}
 use Rattle.ksi_aggregator.specs.Rounds.{rounds_of}
 use Rattle.ksi_aggregator.specs.Rows.{RoundState}
-use Rattle.ksi_roundfacts.specs.Renamed.{entries_renamed, round_renamed}
+use Rattle.ksi_aggregator.specs.Renamed.{entries_renamed, round_renamed}
 use Rattle.ksi_signature.specs.Issued.{issued}
 use Rattle.ksi_signature.specs.Written.{signature_text}
 use Rattle.ksi_schedule.specs.Plans.{PlanState}

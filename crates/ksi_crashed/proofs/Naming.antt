@@ -12,7 +12,7 @@ use Rattle.ksi_aggregator.specs.Rows.{RoundState}
 use Rattle.ksi_aggregator.specs.declared.fact.Fact.{Fact}
 use Rattle.ksi_aggregator.specs.declared.fact.RoundFact.{RoundFact}
 use Rattle.ksi_aggregator.specs.declared.fact.RoundFact.TheVariants as stored
-use Rattle.ksi_roundfacts.specs.Renamed.{IsOneToOne, origin_renamed, entry_renamed, entries_renamed, round_renamed, fact_renamed}
+use Rattle.ksi_aggregator.specs.Renamed.{IsOneToOne, origin_renamed, entry_renamed, entries_renamed, round_renamed, fact_renamed}
 use Rattle.ksi_crashed.specs.RoundFacts.{facts_named}
 
 -- TWO NUMBERS CHANGE PLACES

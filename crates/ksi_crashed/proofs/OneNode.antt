@@ -7,8 +7,8 @@ use Rattle.ksi_aggregator.specs.Events.{event_second, MayTake, round_row}
 use Rattle.ksi_aggregator.specs.Rounds.{AggregatorState, IsTurn, fact_of, rounds_of}
 use Rattle.ksi_aggregator.specs.Rows.{RoundState, round_restarted}
 use Rattle.ksi_disk.specs.Restarts.{and_new}
-use Rattle.ksi_roundfacts.specs.Lawful.{with_new}
-use Rattle.ksi_roundfacts.specs.Restored.{HasFacts, IsOfFacts}
+use Rattle.ksi_aggregator.specs.Lawful.{with_new}
+use Rattle.ksi_aggregator.specs.Restored.{HasFacts, IsOfFacts}
 use Rattle.ksi_roundstore.specs.Takes.{fact_added}
 use Rattle.ksi_crashed.specs.AsNode.{Rounds, rounds_after, rounds_restarted, HasRounds, MayCome, IsAggregatorNode}
 

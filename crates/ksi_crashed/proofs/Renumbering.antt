@@ -10,8 +10,8 @@ use Rattle.ksi_aggregator.specs.Rows.{RoundState}
 use Rattle.ksi_aggregator.specs.declared.fact.Fact.{Fact}
 use Rattle.ksi_aggregator.specs.declared.fact.RoundFact.{RoundFact}
 use Rattle.ksi_aggregator.specs.declared.fact.RoundFact.TheVariants as stored
-use Rattle.ksi_roundfacts.specs.Renamed.{round_renamed}
-use Rattle.ksi_roundfacts.specs.Restored.{HasFacts}
+use Rattle.ksi_aggregator.specs.Renamed.{round_renamed}
+use Rattle.ksi_aggregator.specs.Restored.{HasFacts}
 use Rattle.ksi_roundstore.specs.Stores.{IsFileOf}
 use Rattle.ksi_schedule.specs.Plans.{PlanState}
 use Rattle.ksi_schedule.specs.declared.event.Event.{Event}

@@ -11,9 +11,9 @@ use Rattle.ksi_aggregator.specs.declared.fact.Fact.{Fact}
 use Rattle.ksi_aggregator.specs.declared.fact.RoundFact.{RoundFact}
 use Rattle.ksi_aggregator.specs.declared.step.Send.{Send}
 use Rattle.ksi_aggregator.specs.declared.step.Step.{Step}
-use Rattle.ksi_roundfacts.specs.Lawful.{AreLawful, with_new}
-use Rattle.ksi_roundfacts.specs.Renamed.{IsOneToOne, answer_renamed, event_renamed, fact_renamed, round_renamed, turn_renamed}
-use Rattle.ksi_roundfacts.specs.Restored.{HasFacts, IsOfFacts}
+use Rattle.ksi_aggregator.specs.Lawful.{AreLawful, with_new}
+use Rattle.ksi_aggregator.specs.Renamed.{IsOneToOne, answer_renamed, event_renamed, fact_renamed, round_renamed, turn_renamed}
+use Rattle.ksi_aggregator.specs.Restored.{HasFacts, IsOfFacts}
 use Rattle.ksi_roundstore.specs.Stores.{IsFileOf}
 use Rattle.ksi_roundstore.specs.Takes.{fact_added}
 use Rattle.ksi_schedule.specs.Plans.{PlanState, IsPlan}

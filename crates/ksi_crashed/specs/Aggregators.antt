@@ -7,9 +7,9 @@ use Rattle.ksi_aggregator.specs.declared.fact.Fact.{Fact}
 use Rattle.ksi_aggregator.specs.declared.step.Step.{Step}
 use Rattle.ksi_aggregator.specs.Rounds.{AggregatorState, IsNew, rounds_of}
 use Rattle.ksi_aggregator.specs.Rows.{RoundState}
-use Rattle.ksi_roundfacts.specs.Lawful.{with_new}
-use Rattle.ksi_roundfacts.specs.Renamed.{IsOneToOne, round_renamed}
-use Rattle.ksi_roundfacts.specs.Restored.{HasFacts, IsOfFacts}
+use Rattle.ksi_aggregator.specs.Lawful.{with_new}
+use Rattle.ksi_aggregator.specs.Renamed.{IsOneToOne, round_renamed}
+use Rattle.ksi_aggregator.specs.Restored.{HasFacts, IsOfFacts}
 use Rattle.ksi_roundstore.specs.Stores.{IsFileOf}
 use Rattle.ksi_roundstore.specs.StoreState.{StoreState}
 use Rattle.ksi_roundstore.specs.Takes.{TookTurn, fact_added}

@@ -5,7 +5,7 @@ use Rattle.ksi_aggregator.specs.Events.{event_second, MayTake, round_row}
 use Rattle.ksi_aggregator.specs.Rounds.{AggregatorState, rounds_of}
 use Rattle.ksi_aggregator.specs.Rows.{RoundState, round_restarted}
 use Rattle.ksi_disk.specs.Restarts.{IsNode}
-use Rattle.ksi_roundfacts.specs.Restored.{HasFacts, IsOfFacts}
+use Rattle.ksi_aggregator.specs.Restored.{HasFacts, IsOfFacts}
 use Rattle.ksi_roundstore.specs.Takes.{fact_added}
 
 abbrev pub Rounds : Type 0

@@ -3,7 +3,7 @@ use Rattle.std.specs.Prelude.{ℕ, List, [], ◌∷◌, ◌++◌, map}
 use Rattle.ksi_aggregator.specs.declared.fact.Fact.{Fact}
 use Rattle.ksi_aggregator.specs.declared.fact.RoundFact.TheVariants as stored
 use Rattle.ksi_aggregator.specs.Rounds.{fact_of}
-use Rattle.ksi_roundfacts.specs.Renamed as renamed
+use Rattle.ksi_aggregator.specs.Renamed as renamed
 use Rattle.ksi_schedule.specs.declared.actor.Actor.TheVariants as actors
 use Rattle.ksi_schedule.specs.declared.event.Event.{Event}
 use Rattle.ksi_schedule.specs.Plans.{PlanState}

@@ -16,7 +16,7 @@ ghost use Rattle.ksi_nodestore.specs.Opens as core_opens;
 ghost use Rattle.ksi_nodestore.specs.Stores as core_stores;
 ghost use Rattle.ksi_nodestore.specs.StoreState as core_states;
 ghost use Rattle.ksi_synod.specs.CorePlans.{CorePlanState};
-ghost use Rattle.ksi_roundfacts.specs.Renamed.{answer_renamed};
+ghost use Rattle.ksi_aggregator.specs.Renamed.{answer_renamed};
 ghost use Rattle.ksi_roundstore.specs.Opens.{OpensAs, StaysOpened};
 ghost use Rattle.ksi_roundstore.specs.Stores.{IsFileOf, IsStoreOf};
 ghost use Rattle.ksi_roundstore.specs.StoreState.{StoreState};
@@ -38,13 +38,13 @@ ghost use Rattle.ksi_crashed.specs.Aggregators.{IsAggregatorAfter, IsTakenAs, Ru
 ghost use Rattle.ksi_crashed.specs.AsNode.{IsAggregatorNode};
 ghost use Rattle.ksi_crashed.specs.Crashed.{all_events, AreNodesAfter, Deed, Nodes, Runs};
 
+use ksi_aggregator::laws::{
+    facts_one_by_one, numbers_are_names, one_aggregator_of_facts, steps_are_lawful,
+};
 use ksi_disk::Disk;
 use ksi_facts::laws::{rows_add_what_they_store, step_is_by_facts, world_is_seen};
 use ksi_imprint::Compress;
 use ksi_node_file::laws::crashed_cores_have_a_history;
-use ksi_roundfacts::laws::{
-    facts_one_by_one, numbers_are_names, one_aggregator_of_facts, steps_are_lawful,
-};
 use ksi_roundstore::laws::{a_file_is_of_one_list_of_facts, stores_go_on};
 use ksi_world::laws::rounds_are_turns;
 

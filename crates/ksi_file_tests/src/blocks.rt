@@ -1,6 +1,6 @@
 use crate::imprints::named;
 use crate::same::same;
-use ksi_aggchain::Node;
+use ksi_aggtree::chains::Node;
 use ksi_imprint::{Imprint, NoMemory, Refused, Tiny};
 use ksi_logblock::{Block, LineLink, PushRefusal, root_of};
 use ksi_split::Side;

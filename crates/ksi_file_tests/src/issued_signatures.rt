@@ -4,7 +4,7 @@ ghost use Rattle.ksi_signature.specs.Above.{AreRoundLinks, IsNode, IsNameLink};
 
 use crate::imprints::hash;
 use crate::text::is_text;
-use ksi_aggchain::{Link, Sibling};
+use ksi_aggtree::chains::{Link, Sibling};
 use ksi_calendar::CalendarLink;
 use ksi_imprint::{Bytes, Imprint, NoMemory};
 use ksi_signature::{Above, AboveChain, AboveChains, AboveLinks, CalendarLinks, issue};

@@ -2,7 +2,7 @@
 use crate::imprints::named;
 use crate::same::same;
 use crate::text::{bytes, is_text, is_told, sides};
-use ksi_aggchain::Node;
+use ksi_aggtree::chains::Node;
 use ksi_imprint::{Bytes, Compress, Imprint, NoMemory, Tiny};
 use ksi_journal::{Journal, Parts, Refused, Version, VersionRefusal, load, write, write_version};
 use ksi_split::Side;

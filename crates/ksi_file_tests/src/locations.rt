@@ -1,7 +1,7 @@
 use crate::blocks::two_lines;
 use crate::imprints::named;
 use crate::same::same;
-use ksi_aggchain::LevelFault;
+use ksi_aggtree::chains::LevelFault;
 use ksi_imprint::{Imprint, Tiny};
 use ksi_logblock::{LineLink, LineLinks, LineProof, LineRefusal, Located, locate};
 use ksi_split::Side;

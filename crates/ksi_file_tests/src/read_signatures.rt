@@ -3,7 +3,7 @@ use crate::imprints::hash;
 use crate::same::same_text;
 use crate::signatures::TWO_CHAINS;
 use crate::text::{bytes, is_refused, push};
-use ksi_aggchain::{LinkView, Sibling};
+use ksi_aggtree::chains::{LinkView, Sibling};
 use ksi_signature::{
     AggregationChain, CalendarView, ChainView, Signature, SignatureView, read, view,
 };

@@ -2,7 +2,7 @@ use crate::imprints::{hash, imprint};
 use crate::publications::listed;
 use crate::rows::are_so;
 use crate::text::{bytes, shown};
-use ksi_aggchain::Node;
+use ksi_aggtree::chains::Node;
 use ksi_imprint::{Imprint, Sha, Tiny};
 use ksi_publications::Publications;
 use ksi_signature::{read, view};

@@ -1,3 +1,4 @@
 pub mod Imprints
 pub mod Reading
 pub mod Refused
+pub mod Held

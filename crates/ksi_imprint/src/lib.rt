@@ -3,7 +3,7 @@
 //! A contract sees an [`Imprint`] as its 33 bytes and [`Bytes`] as their list. The layers above rely on three things:
 //! reading gives exactly the imprint that the bytes or the hex text are, or the fault that stands; `join` and `of` of a
 //! [`Compress`] are one function on lists of bytes; and what that function gives is an imprint. That SHA-256's are of bytes
-//! is a law ([`laws`]).
+//! is a law ([`laws`]). What comes in pieces is hashed by [`stream`].
 //!
 //! ```text
 //! let left = Sha::of(b"abc");
@@ -21,6 +21,7 @@ mod fault;
 mod imprint;
 pub mod laws;
 mod refused;
+pub mod stream;
 
 pub use bytes::Bytes;
 pub use clash::Clash;

@@ -10,7 +10,7 @@ use Rattle.ksi_tlv.specs.Spelling.{Tlv, FitsLong, plain, canonical}
 use Rattle.ksi_tlv.specs.Walking.{PlacedTlv, placed_at, elements}
 use Rattle.ksi_tlv.specs.Numerals.{numeral}
 use Rattle.ksi_tlv.specs.Writing.{placed}
-use Rattle.ksi_grammar.specs.Contents.{time_in, imprint_in}
+use Rattle.ksi_tlv.specs.Contents.{time_in, imprint_in}
 use Rattle.ksi_aggtree.specs.declared.item.Item.{Item}
 use Rattle.ksi_aggtree.specs.Rounds.{tree_of}
 use Rattle.ksi_synod.specs.declared.core_plan.VotersFrom.{VotersFrom}
@@ -19,11 +19,11 @@ use Rattle.ksi_journal.specs.declared.version.Version.TheVariants as versions
 use Rattle.ksi_journal.specs.Voters.{bits_of, cores_in}
 use Rattle.ksi_journal.proofs.Bits.{Listed, cores_again, bits_small}
 use Rattle.ksi_journal.proofs.Items.{item_again, items_fit}
-use Rattle.ksi_order.specs.Order.{may_stand}
-use Rattle.ksi_order.specs.Sequence.{Leads}
-use Rattle.ksi_order.specs.Fields.{field, done}
-use Rattle.ksi_order.specs.Values.{number_at, time_at, imprint_at}
-use Rattle.ksi_order.proofs.Again.{Written, number_again, time_again, imprint_again, fits_number, fits_imprint, length-two, length-three, file_again}
+use Rattle.ksi_tlv.specs.Order.{may_stand}
+use Rattle.ksi_tlv.specs.Sequence.{Leads}
+use Rattle.ksi_tlv.specs.Fields.{field, done}
+use Rattle.ksi_tlv.specs.Values.{number_at, time_at, imprint_at}
+use Rattle.ksi_tlv.proofs.Again.{Written, number_again, time_again, imprint_again, fits_number, fits_imprint, length-two, length-three, file_again}
 use Rattle.ksi_aggtree.specs.declared.second.Second.{Second}
 use Rattle.ksi_journal.specs.declared.stage.Stage.TheVariants as stages
 use Rattle.ksi_journal.specs.Journal.{Contents, RiseFrom, IsVoters, IsItem, IsRootOf, IsSecond, IsIssued, IsPublication, IsJournal}

@@ -6,12 +6,12 @@ use Rattle.ksi_imprint.specs.Refused.{IfRefused}
 use Rattle.ksi_imprint.specs.declared.refused.Refused.{Refused}
 use Rattle.ksi_imprint.specs.declared.refused.Refused.TheVariants.{Fault, NoMemory}
 use Rattle.ksi_tlv.specs.Walking.{elements}
-use Rattle.ksi_order.specs.Sequence.{IsWhole, IsWanting, Tells}
-use Rattle.ksi_order.specs.Format as files
-use Rattle.ksi_order.specs.Format.{Format, IsFile, IsFileFault}
-use Rattle.ksi_order.specs.Reading.{file_at}
-use Rattle.ksi_order.proofs.Files as formats
-use Rattle.ksi_order.proofs.Refusing.{inside_refused}
+use Rattle.ksi_tlv.specs.Sequence.{IsWhole, IsWanting, Tells}
+use Rattle.ksi_tlv.specs.Format as files
+use Rattle.ksi_tlv.specs.Format.{Format, IsFile, IsFileFault}
+use Rattle.ksi_tlv.specs.Reading.{file_at}
+use Rattle.ksi_tlv.proofs.Files as formats
+use Rattle.ksi_tlv.proofs.Refusing.{inside_refused}
 use Rattle.ksi_journal.specs.declared.fault.JournalFault.{JournalFault}
 use Rattle.ksi_journal.specs.declared.version.Version.{Version}
 use Rattle.ksi_journal.specs.declared.version.Version.TheVariants.{One, Two}

@@ -13,9 +13,9 @@ use Rattle.ksi_tlv.specs.Walking.{PlacedTlv, placed_at}
 use Rattle.ksi_aggtree.specs.declared.item.Item.{Item}
 use Rattle.ksi_aggtree.specs.Rounds.{named_level, leaf_level, with_name}
 use Rattle.ksi_aggtree.specs.Names.{IsName, are_name_bytes}
-use Rattle.ksi_order.specs.declared.fault.OrderFault.TheVariants as orders
-use Rattle.ksi_order.proofs.Again.{imprint_is}
-use Rattle.ksi_order.proofs.Steps.{bind_ok, or_named_ok, if_ok, test_ok}
+use Rattle.ksi_tlv.specs.declared.order.fault.OrderFault.TheVariants as orders
+use Rattle.ksi_tlv.proofs.Again.{imprint_is}
+use Rattle.ksi_tlv.proofs.Steps.{bind_ok, or_named_ok, if_ok, test_ok}
 use Rattle.ksi_journal.specs.declared.fault.JournalFault.TheVariants as faults
 use Rattle.ksi_journal.specs.Journal.{IsItem}
 use Rattle.ksi_journal.specs.Elements.{named, or_named, item_of, head_in, plain_in, is_name, named_in, item_in}

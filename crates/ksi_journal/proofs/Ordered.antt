@@ -5,8 +5,8 @@ use Rattle.ksi_tlv.specs.Spelling.{Tlv, AreBytes}
 use Rattle.ksi_tlv.specs.Walking.{PlacedTlv}
 use Rattle.ksi_tlv.specs.Writing.{texts}
 use Rattle.ksi_aggtree.specs.declared.second.Second.{Second}
-use Rattle.ksi_order.specs.Kinds.{kinds_of}
-use Rattle.ksi_order.proofs.Steps.{Bounded, file_kinds}
+use Rattle.ksi_tlv.specs.Kinds.{kinds_of}
+use Rattle.ksi_tlv.proofs.Steps.{Bounded, file_kinds}
 use Rattle.ksi_journal.specs.declared.version.Version.{Version}
 use Rattle.ksi_journal.specs.declared.version.Version.TheVariants.{One, Two}
 use Rattle.ksi_journal.specs.Journal.{Contents, IsJournal}

@@ -14,13 +14,13 @@ use Rattle.ksi_tlv.specs.Spelling.{Tlv, Spells, AreBytes, canonical, short_form,
 use Rattle.ksi_tlv.specs.Walking.{PlacedTlv, Items, IsReading, elements, joined, laid, items_of, end_at}
 use Rattle.ksi_tlv.specs.Numerals.{number_of, numeral}
 use Rattle.ksi_tlv.specs.Writing.{texts}
-use Rattle.ksi_grammar.specs.declared.fault.ElementFault.{ElementFault}
-use Rattle.ksi_grammar.specs.Contents.{time_in, imprint_or, imprint_in}
-use Rattle.ksi_grammar.specs.Reading.{◌>>=◌}
-use Rattle.ksi_order.specs.declared.fault.OrderFault.{OrderFault}
-use Rattle.ksi_order.specs.Fields.{Inside, next_field, field, none_left, done}
-use Rattle.ksi_order.specs.Values.{or_fault, number_at, time_at, imprint_at}
-use Rattle.ksi_order.proofs.Steps.{test_ok}
+use Rattle.ksi_tlv.specs.declared.grammar.fault.ElementFault.{ElementFault}
+use Rattle.ksi_tlv.specs.Contents.{time_in, imprint_or, imprint_in}
+use Rattle.ksi_tlv.specs.Containing.{◌>>=◌}
+use Rattle.ksi_tlv.specs.declared.order.fault.OrderFault.{OrderFault}
+use Rattle.ksi_tlv.specs.Fields.{Inside, next_field, field, none_left, done}
+use Rattle.ksi_tlv.specs.Values.{or_fault, number_at, time_at, imprint_at}
+use Rattle.ksi_tlv.proofs.Steps.{test_ok}
 
 -- the laws of elements
 pub record Read : Type 0 where

@@ -3,7 +3,7 @@ use Rattle.std.proofs.Common.{◌≡◌, ℕ, List, [], ◌∷◌, ◌++◌, map
 use Rattle.ksi_tlv.specs.Spelling.{canonical, plain}
 use Rattle.ksi_tlv.specs.Writing.{texts}
 use Rattle.ksi_tlv.specs.Numerals.{numeral}
-use Rattle.ksi_order.proofs.Texts.{texts-append, last_told, before}
+use Rattle.ksi_tlv.proofs.Texts.{texts-append, last_told, before}
 use Rattle.ksi_aggtree.specs.declared.second.Second.{Second}
 use Rattle.ksi_synod.specs.declared.core_plan.VotersFrom.{VotersFrom}
 use Rattle.ksi_journal.specs.Journal.{Contents}

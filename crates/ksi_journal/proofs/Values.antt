@@ -7,11 +7,11 @@ use Rattle.ksi_tlv.specs.Spelling.{Tlv, AreBytes, plain}
 use Rattle.ksi_tlv.specs.Walking.{PlacedTlv, Items, items_of}
 use Rattle.ksi_tlv.specs.Numerals.{numeral}
 use Rattle.ksi_tlv.specs.Writing.{texts}
-use Rattle.ksi_order.specs.declared.fault.OrderFault.{OrderFault}
-use Rattle.ksi_order.specs.declared.fault.OrderFault.TheVariants as orders
-use Rattle.ksi_order.specs.Fields.{Inside, inside, field, done}
-use Rattle.ksi_order.specs.Values.{number_at, time_at, imprint_at}
-use Rattle.ksi_order.proofs.Steps.{Bounded, each_of, or_named_ok, ok_is, test_ok}
+use Rattle.ksi_tlv.specs.declared.order.fault.OrderFault.{OrderFault}
+use Rattle.ksi_tlv.specs.declared.order.fault.OrderFault.TheVariants as orders
+use Rattle.ksi_tlv.specs.Fields.{Inside, inside, field, done}
+use Rattle.ksi_tlv.specs.Values.{number_at, time_at, imprint_at}
+use Rattle.ksi_tlv.proofs.Steps.{Bounded, each_of, or_named_ok, ok_is, test_ok}
 use Rattle.ksi_synod.specs.CorePlans.{AreVoters}
 use Rattle.ksi_synod.specs.declared.core_plan.VotersFrom.{VotersFrom}
 use Rattle.ksi_journal.specs.declared.fault.JournalFault.{JournalFault}

@@ -12,10 +12,10 @@ use Rattle.ksi_tlv.specs.Numerals.{numeral}
 use Rattle.ksi_aggtree.specs.declared.item.Item.{Item}
 use Rattle.ksi_aggtree.specs.declared.second.Second.{Second}
 use Rattle.ksi_aggtree.specs.Rounds.{tree_of}
-use Rattle.ksi_order.specs.Order.{may_stand}
-use Rattle.ksi_order.specs.Sequence.{Leads}
-use Rattle.ksi_order.specs.Values.{time_at}
-use Rattle.ksi_order.proofs.Steps.{Bounded, each_of, or_named_ok, ok_is, test_ok, any_kind, all_more, all_less, leads_keep}
+use Rattle.ksi_tlv.specs.Order.{may_stand}
+use Rattle.ksi_tlv.specs.Sequence.{Leads}
+use Rattle.ksi_tlv.specs.Values.{time_at}
+use Rattle.ksi_tlv.proofs.Steps.{Bounded, each_of, or_named_ok, ok_is, test_ok, any_kind, all_more, all_less, leads_keep}
 use Rattle.ksi_synod.specs.declared.core_plan.VotersFrom.{VotersFrom}
 use Rattle.ksi_journal.specs.declared.stage.Stage.{Stage}
 use Rattle.ksi_journal.specs.declared.stage.Stage.TheVariants as stages

@@ -8,12 +8,12 @@ use Rattle.ksi_tlv.specs.Walking.{PlacedTlv}
 use Rattle.ksi_aggtree.specs.declared.item.Item.{Item}
 use Rattle.ksi_aggtree.specs.Rounds.{most_items, highest_item, tree_of, with_name}
 use Rattle.ksi_aggtree.specs.Names.{most_letters, are_name_bytes}
-use Rattle.ksi_order.specs.declared.fault.OrderFault.{OrderFault}
-use Rattle.ksi_order.specs.declared.fault.OrderFault.TheVariants as orders
-use Rattle.ksi_order.specs.Order.{Order, ◌>>=◌}
-use Rattle.ksi_order.specs.Fields.{Inside, inside, field, done}
-use Rattle.ksi_order.specs.Values.{number_at, time_at, imprint_at}
-use Rattle.ksi_order.specs.Format as formats
+use Rattle.ksi_tlv.specs.declared.order.fault.OrderFault.{OrderFault}
+use Rattle.ksi_tlv.specs.declared.order.fault.OrderFault.TheVariants as orders
+use Rattle.ksi_tlv.specs.Order.{Order, ◌>>=◌}
+use Rattle.ksi_tlv.specs.Fields.{Inside, inside, field, done}
+use Rattle.ksi_tlv.specs.Values.{number_at, time_at, imprint_at}
+use Rattle.ksi_tlv.specs.Format as formats
 use Rattle.ksi_aggtree.specs.declared.second.Second.{Second}
 use Rattle.ksi_journal.specs.declared.stage.Stage.{Stage}
 use Rattle.ksi_journal.specs.declared.stage.Stage.TheVariants.{Start, Voters, Seconds, Items, Issued, Publications, End}

@@ -1,8 +1,8 @@
 -- What loading keeps, for its own proof.
 use Rattle.std.specs.Borrow.{Bor}
 use Rattle.std.specs.Prelude.{◌≡◌, ℕ, zero, suc, ◌==◌, if◌then◌else◌, ◌∷◌, Option, Some, None, ◌+◌, ◌^◌, ◌<◌, ◌≤◌, List, [], length, Result, Ok, Err}
-use Rattle.ksi_order.specs.Fields.{Inside}
-use Rattle.ksi_order.specs.declared.fault.OrderFault.{OrderFault}
+use Rattle.ksi_tlv.specs.Fields.{Inside}
+use Rattle.ksi_tlv.specs.declared.order.fault.OrderFault.{OrderFault}
 use Rattle.ksi_aggtree.specs.declared.item.Item.{Item}
 use Rattle.ksi_aggtree.specs.declared.second.Second.{Second}
 use Rattle.ksi_aggtree.specs.Rounds.{most_items, highest_item, leaf_level, item_at}

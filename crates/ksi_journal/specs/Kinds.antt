@@ -1,7 +1,7 @@
 -- The kinds of a journal's elements, in their order.
 use Rattle.std.specs.Prelude.{ℕ, List, [], ◌∷◌, ◌++◌, map, if◌then◌else◌}
 use Rattle.std.specs.Option.{is_some}
-use Rattle.ksi_order.specs.Kinds.{HasKinds}
+use Rattle.ksi_tlv.specs.Kinds.{HasKinds}
 use Rattle.ksi_aggtree.specs.declared.item.Item.{Item}
 use Rattle.ksi_aggtree.specs.declared.second.Second.{Second}
 use Rattle.ksi_journal.specs.declared.version.Version.{Version}

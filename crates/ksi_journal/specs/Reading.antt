@@ -1,7 +1,7 @@
 -- The journal that bytes are, or their first fault. The law `journal_is_read` says that these are those of `File`.
 use Rattle.std.specs.Prelude.{ℕ, List, take, Result, if◌then◌else◌}
 use Rattle.std.specs.Str.{bytes_eq}
-use Rattle.ksi_order.specs.Reading.{file_at}
+use Rattle.ksi_tlv.specs.Reading.{file_at}
 use Rattle.ksi_journal.specs.declared.fault.JournalFault.{JournalFault}
 use Rattle.ksi_journal.specs.declared.version.Version.TheVariants.{One, Two}
 use Rattle.ksi_journal.specs.Journal.{Contents}

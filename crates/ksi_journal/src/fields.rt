@@ -1,13 +1,13 @@
 //! What single elements say, by the elements inside them.
 ghost use Rattle.std.specs.Prelude.{◌≡◌, ◌<◌, ◌≤◌, ◌^◌, IfOk, Ok, Err, Result, ℕ};
 ghost use Rattle.ksi_tlv.specs.Views.{view_placed};
-ghost use Rattle.ksi_order.specs.Left.{left};
+ghost use Rattle.ksi_tlv.specs.Left.{left};
 ghost use Rattle.ksi_journal.specs.Elements.{said_at, signature_at, published_at, rises};
 ghost use Rattle.ksi_journal.specs.Kept.{IsRising, IsDated, IsNumbered, view_signature};
 
 use ksi_imprint::Imprint;
-use ksi_order::{Fields, OrderFault, imprint, number, time};
 use ksi_tlv::Placed;
+use ksi_tlv::order::{Fields, OrderFault, imprint, number, time};
 
 /// The longest signature.
 const LONGEST: usize = 60_000;

@@ -9,9 +9,9 @@ ghost use Rattle.ksi_journal.specs.Written.{item_element};
 use crate::fault::JournalFault;
 use crate::loading::named;
 use ksi_aggtree::{HIGHEST_ITEM, Item, Name};
-use ksi_grammar::put_short;
 use ksi_imprint::{Imprint, NoMemory};
-use ksi_order::OrderFault;
+use ksi_tlv::grammar::put_short;
+use ksi_tlv::order::OrderFault;
 use ksi_tlv::{Placed, Writer};
 
 /// The kind of an item without a name.

@@ -17,9 +17,9 @@ use crate::journal::Journal;
 use crate::loading::Loading;
 use ksi_calendar::laws::one_covered;
 use ksi_imprint::Sha;
-use ksi_order::laws::{file_is_read, values_are_bounded};
 use ksi_synod::laws::voters_are_cores;
 use ksi_tlv::laws::{numeral_is_read, reading_is_elements, written_is_read};
+use ksi_tlv::order::laws::{file_is_read, values_are_bounded};
 
 /// The seconds of a journal's calendar are those that are covered, and it is the calendar of these by the roots that the
 /// journal keeps: so to each covered second it has their root, and their chains.

@@ -10,8 +10,8 @@ use crate::version::Version;
 use crate::voters::read_voters;
 use ksi_aggtree::Item;
 use ksi_imprint::{Compress, Imprint, Refused};
-use ksi_order::{OrderFault, Ordered, time};
 use ksi_tlv::Placed;
+use ksi_tlv::order::{OrderFault, Ordered, time};
 use std::alloc::Global;
 use std::marker::{Model, PhantomData};
 
@@ -72,7 +72,7 @@ impl<C: Compress> Model for Loading<C> {
 impl<C: Compress> Loading<C> {
     ghost use Rattle.std.specs.Prelude.{◌≡◌, ◌≢◌, Err, IsOk};
     ghost use Rattle.ksi_tlv.specs.Views.{view_placed};
-    ghost use Rattle.ksi_order.specs.Order.{Steps};
+    ghost use Rattle.ksi_tlv.specs.Order.{Steps};
     ghost use Rattle.ksi_imprint.specs.declared.refused.Refused.TheVariants as refused;
     ghost use Rattle.ksi_journal.specs.Elements.{nothing_yet, start_at, voters_at, end_at};
     ghost use Rattle.ksi_journal.specs.Journal.{contents};

@@ -9,7 +9,7 @@ use ksi_tlv::Placed;
 impl<C: Compress> Loading<C> {
     ghost use Rattle.std.specs.Prelude.{◌≡◌, Err, IsOk};
     ghost use Rattle.ksi_tlv.specs.Views.{view_placed};
-    ghost use Rattle.ksi_order.specs.Order.{Steps};
+    ghost use Rattle.ksi_tlv.specs.Order.{Steps};
     ghost use Rattle.ksi_imprint.specs.declared.refused.Refused.TheVariants as refused;
     ghost use Rattle.ksi_journal.specs.Elements.{issued_at, publication_at};
 

@@ -17,7 +17,7 @@ use std::mem;
 impl<C: Compress> Loading<C> {
     ghost use Rattle.std.specs.Prelude.{◌≡◌, ◌+◌, ◌<◌, ◌≤◌, ◌^◌, Ok, Err, IsOk};
     ghost use Rattle.ksi_tlv.specs.Views.{view_placed};
-    ghost use Rattle.ksi_order.specs.Order.{Steps};
+    ghost use Rattle.ksi_tlv.specs.Order.{Steps};
     ghost use Rattle.ksi_imprint.specs.declared.refused.Refused.TheVariants as refused;
     ghost use Rattle.ksi_journal.specs.Elements.{read_second, counted, closed, finished, with_item, item_at};
 

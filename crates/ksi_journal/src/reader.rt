@@ -11,8 +11,8 @@ use crate::laws::{are_bytes, file_is_journal};
 use crate::loading::Loading;
 use crate::version::Version;
 use ksi_imprint::{Compress, Refused};
-use ksi_order::walk;
 use ksi_tlv::after_magic;
+use ksi_tlv::order::walk;
 use std::alloc::Global;
 
 /// Loads a journal of either version, whose trees it computes.

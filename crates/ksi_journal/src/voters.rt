@@ -2,7 +2,7 @@
 ghost use Rattle.std.specs.Prelude.{◌≡◌, ◌<◌, ◌^◌, IfOk};
 ghost use Rattle.ksi_synod.specs.CorePlans.{AreVoters};
 ghost use Rattle.ksi_tlv.specs.Views.{view_placed};
-ghost use Rattle.ksi_order.specs.Left.{left};
+ghost use Rattle.ksi_tlv.specs.Left.{left};
 ghost use Rattle.ksi_journal.specs.Elements.{voters_in, voters_from};
 ghost use Rattle.ksi_journal.specs.Kept.{IsVoting};
 ghost use Rattle.ksi_journal.specs.Voters.{bits_of, cores_in};
@@ -10,10 +10,10 @@ ghost use Rattle.ksi_journal.specs.Voters.{bits_of, cores_in};
 use crate::fault::JournalFault;
 use crate::fields::rising;
 use crate::loading::named;
-use ksi_order::{Fields, OrderFault, number};
 use ksi_synod::laws::voters_are_cores;
 use ksi_synod::{Voters, VotersFrom};
 use ksi_tlv::Placed;
+use ksi_tlv::order::{Fields, OrderFault, number};
 
 /// The bits of all cores from 0 to 8.
 const ALL_BITS: u64 = 511;

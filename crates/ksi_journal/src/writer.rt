@@ -16,10 +16,10 @@ use crate::loading::{END, ISSUED, PUBLICATION, SECOND, START, VOTERS};
 use crate::version::Version;
 use crate::voters::bits_of;
 use ksi_aggtree::{Item, Second};
-use ksi_grammar::put_short;
 use ksi_imprint::{Bytes, Compress, Imprint, NoMemory, Refused};
 use ksi_synod::VotersFrom;
 use ksi_tlv::Writer;
+use ksi_tlv::grammar::put_short;
 use ksi_tlv::laws::numeral_is_read;
 use std::alloc::Global;
 

@@ -2,8 +2,8 @@
 use Rattle.std.specs.Prelude.{ℕ, List, [], ◌∷◌, codes}
 use Rattle.std.specs.Fmt.{decimal}
 use Rattle.ksi_schedule.specs.Printed.{hex_of}
-use Rattle.ksi_aggchain.specs.declared.climbing.LevelFault.{LevelFault}
-use Rattle.ksi_aggchain.specs.declared.climbing.LevelFault.TheVariants.{Over}
+use Rattle.ksi_aggtree.specs.declared.chains.climbing.LevelFault.{LevelFault}
+use Rattle.ksi_aggtree.specs.declared.chains.climbing.LevelFault.TheVariants.{Over}
 use Rattle.ksi_logblock.specs.declared.logs.LogRefusal.{LogRefusal}
 use Rattle.ksi_logblock.specs.declared.logs.LogRefusal.TheVariants as logs
 use Rattle.ksi_logblock.specs.declared.locating.LineRefusal.{LineRefusal}

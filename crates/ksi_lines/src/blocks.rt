@@ -8,7 +8,7 @@ use crate::line::Line;
 use crate::printing::Word::{Digest, Number, Text};
 use crate::printing::print;
 use crate::refusals::refused;
-use ksi_aggchain::LevelFault;
+use ksi_aggtree::chains::LevelFault;
 use ksi_imprint::NoMemory;
 use ksi_logblock::{LineRefusal, Located, LogRefusal};
 use std::alloc::Global;

@@ -9,14 +9,14 @@ use Rattle.ksi_tlv.specs.Spelling.{Tlv, FitsLong, plain, canonical}
 use Rattle.ksi_tlv.specs.Walking.{Items, PlacedTlv, placed_at, elements}
 use Rattle.ksi_tlv.specs.Numerals.{numeral}
 use Rattle.ksi_tlv.specs.Writing.{texts, placed}
-use Rattle.ksi_grammar.specs.Contents.{level_in}
-use Rattle.ksi_order.specs.Order.{may_stand, ◌>>=◌}
-use Rattle.ksi_order.specs.Sequence.{Leads}
-use Rattle.ksi_order.specs.Fields.{Inside, field, done}
-use Rattle.ksi_order.specs.Values.{imprint_at}
-use Rattle.ksi_order.specs.declared.fault.OrderFault.{OrderFault}
-use Rattle.ksi_order.specs.declared.fault.OrderFault.TheVariants as orders
-use Rattle.ksi_order.proofs.Again.{Written, numeral_again, imprint_again, fits_number, fits_imprint, length-canonical, file_again}
+use Rattle.ksi_tlv.specs.Contents.{level_in}
+use Rattle.ksi_tlv.specs.Order.{may_stand, ◌>>=◌}
+use Rattle.ksi_tlv.specs.Sequence.{Leads}
+use Rattle.ksi_tlv.specs.Fields.{Inside, field, done}
+use Rattle.ksi_tlv.specs.Values.{imprint_at}
+use Rattle.ksi_tlv.specs.declared.order.fault.OrderFault.{OrderFault}
+use Rattle.ksi_tlv.specs.declared.order.fault.OrderFault.TheVariants as orders
+use Rattle.ksi_tlv.proofs.Again.{Written, numeral_again, imprint_again, fits_number, fits_imprint, length-canonical, file_again}
 use Rattle.ksi_logblock.specs.declared.line_proof.LineLink.{LineLink}
 use Rattle.ksi_logblock.specs.declared.line_proof.LineProof.{LineProof}
 use Rattle.ksi_logblock.specs.Elements.{Said, correction_at, element_read, link_at, link_in, mask_at, nothing_yet, proof_order, side_of, with_correction, with_sibling}

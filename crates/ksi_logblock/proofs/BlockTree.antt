@@ -7,7 +7,7 @@ use Rattle.ksi_split.specs.Powers.{IsSplit, split_of}
 use Rattle.ksi_split.specs.Parts.{Part, half_of}
 use Rattle.ksi_split.specs.declared.side.Side.{Side}
 use Rattle.ksi_split.specs.declared.side.Side.TheVariants.{Left, Right}
-use Rattle.ksi_aggchain.specs.declared.node.Node.{Node}
+use Rattle.ksi_aggtree.specs.declared.chains.node.Node.{Node}
 use Rattle.ksi_aggtree.specs.declared.item.Item.{Item}
 use Rattle.ksi_aggtree.specs.Rounds.{aggregation_join, item_at, leaf, tree_from}
 use Rattle.ksi_beside.specs.Beside.{Rung, rung_text}

@@ -5,10 +5,10 @@ use Rattle.std.proofs.lemmas.List.{map-append}
 use Rattle.std.proofs.lemmas.List.Sums.{sum_by-cons}
 use Rattle.std.proofs.lemmas.Grind.{reverse_onto}
 use Rattle.ksi_split.specs.declared.side.Side.{Side}
-use Rattle.ksi_aggchain.specs.Links.{PlainLink, level_above}
-use Rattle.ksi_aggchain.specs.Climbing.{above, climbed, level_after}
-use Rattle.ksi_aggchain.specs.declared.node.Node.{Node}
-use Rattle.ksi_aggchain.specs.declared.climbing.LevelFault.{LevelFault}
+use Rattle.ksi_aggtree.specs.Links.{PlainLink, level_above}
+use Rattle.ksi_aggtree.specs.Climbing.{above, climbed, level_after}
+use Rattle.ksi_aggtree.specs.declared.chains.node.Node.{Node}
+use Rattle.ksi_aggtree.specs.declared.chains.climbing.LevelFault.{LevelFault}
 use Rattle.ksi_beside.specs.Beside.{Rung, rung_side, rung_text, rung_from, rungs_from}
 use Rattle.ksi_beside.specs.Standing.{Holds}
 use Rattle.ksi_logblock.specs.declared.line_proof.LineLink.{LineLink}

@@ -3,14 +3,14 @@ use Rattle.std.proofs.Common.{◌≡◌, ℕ, Bool, true, false, cond, ltb, List
 use Rattle.std.proofs.lemmas.List.{map-append}
 use Rattle.ksi_split.specs.declared.side.Side.{Side}
 use Rattle.ksi_tlv.specs.Walking.{PlacedTlv}
-use Rattle.ksi_order.specs.declared.fault.OrderFault.{OrderFault}
-use Rattle.ksi_order.specs.declared.fault.OrderFault.TheVariants as orders
-use Rattle.ksi_order.specs.Order.{may_stand}
-use Rattle.ksi_order.specs.Fields.{Inside, inside, field, done}
-use Rattle.ksi_order.specs.Values.{imprint_at}
-use Rattle.ksi_order.specs.Format.{or_named}
-use Rattle.ksi_order.specs.Kinds.{kinds_of}
-use Rattle.ksi_order.proofs.Steps.{bind_ok, or_named_ok, ok_is, if_ok, any_kind, kinds_more, leads_keep, file_kinds}
+use Rattle.ksi_tlv.specs.declared.order.fault.OrderFault.{OrderFault}
+use Rattle.ksi_tlv.specs.declared.order.fault.OrderFault.TheVariants as orders
+use Rattle.ksi_tlv.specs.Order.{may_stand}
+use Rattle.ksi_tlv.specs.Fields.{Inside, inside, field, done}
+use Rattle.ksi_tlv.specs.Values.{imprint_at}
+use Rattle.ksi_tlv.specs.Format.{or_named}
+use Rattle.ksi_tlv.specs.Kinds.{kinds_of}
+use Rattle.ksi_tlv.proofs.Steps.{bind_ok, or_named_ok, ok_is, if_ok, any_kind, kinds_more, leads_keep, file_kinds}
 use Rattle.ksi_logblock.specs.declared.line_proof.LineLink.{LineLink}
 use Rattle.ksi_logblock.specs.declared.line_proof.LineProof.{LineProof}
 use Rattle.ksi_logblock.specs.declared.proof_fault.ProofFault.{ProofFault}

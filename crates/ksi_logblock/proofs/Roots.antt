@@ -2,7 +2,7 @@
 use Rattle.std.proofs.Common.{◌≡◌, ℕ, zero, suc, ◌^◌, ◌<◌, ◌≤◌, List, [], ◌++◌, length, get_or, map, Some, refl, ap, ◌∙◌, sym, arith}
 use Rattle.std.proofs.lemmas.List.{get_or-map, length-map}
 use Rattle.ksi_split.specs.Trees.{tree, tree_within, path_of, path_within}
-use Rattle.ksi_aggchain.specs.declared.node.Node.{Node}
+use Rattle.ksi_aggtree.specs.declared.chains.node.Node.{Node}
 use Rattle.ksi_aggtree.specs.declared.item.Item.{Item}
 use Rattle.ksi_aggtree.specs.Paths.{links_from, name_links, chain_of}
 use Rattle.ksi_aggtree.specs.Rounds.{aggregation_join, leaf, leaf_of_place, item_at, no_item, root_from, root_of, tree_of, tree_path}

@@ -9,7 +9,7 @@ use Rattle.ksi_split.specs.Ways.{IsWay, NamesSecond, way_of}
 use Rattle.ksi_split.specs.declared.side.Side.{Side}
 use Rattle.ksi_split.specs.declared.side.Side.TheVariants.{Left}
 use Rattle.ksi_split.specs.declared.fault.ShapeFault.{ShapeFault}
-use Rattle.ksi_aggchain.specs.declared.climbing.LevelFault.{LevelFault}
+use Rattle.ksi_aggtree.specs.declared.chains.climbing.LevelFault.{LevelFault}
 use Rattle.ksi_aggtree.specs.Rounds.{tree_from}
 use Rattle.ksi_beside.specs.Beside.{Pair, Rung, rungs_from, pairs_below, differing}
 use Rattle.ksi_beside.specs.Standing.{Holds, IsTree}

@@ -4,11 +4,11 @@ use Rattle.std.proofs.lemmas.Bool.Decides.{leb_tells}
 use Rattle.ksi_split.specs.declared.side.Side.TheVariants.{Left, Right}
 use Rattle.ksi_split.specs.declared.tree_link.TreeLink.{TreeLink}
 use Rattle.ksi_split.specs.Trees.{tree, tree_within, path_within}
-use Rattle.ksi_aggchain.specs.declared.node.Node.{Node}
+use Rattle.ksi_aggtree.specs.declared.chains.node.Node.{Node}
 use Rattle.std.proofs.lemmas.List.{get_or-map, map-append}
 use Rattle.ksi_imprint.specs.Imprints.{join_text}
-use Rattle.ksi_aggchain.specs.Links.{PlainLink}
-use Rattle.ksi_aggchain.specs.Owned.{plain_link, plain_links}
+use Rattle.ksi_aggtree.specs.Links.{PlainLink}
+use Rattle.ksi_aggtree.specs.Owned.{plain_link, plain_links}
 use Rattle.ksi_aggtree.specs.Paths.{link_beside, links_from}
 use Rattle.ksi_aggtree.specs.Rounds.{aggregation_join, leaf, leaf_of_place, no_item}
 use Rattle.ksi_logblock.specs.Blocks.{leaf_item}

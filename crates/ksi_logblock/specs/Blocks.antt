@@ -1,7 +1,7 @@
 -- A block of log lines: its masks and leaves, and the items of its tree.
 use Rattle.std.specs.Prelude.{ℕ, List, [], ◌∷◌, ◌++◌, map, slice_index_or, Option, None}
 use Rattle.ksi_imprint.specs.Imprints.{join_text, zero_imprint}
-use Rattle.ksi_aggchain.specs.declared.node.Node.{Node}
+use Rattle.ksi_aggtree.specs.declared.chains.node.Node.{Node}
 use Rattle.ksi_aggtree.specs.declared.item.Item.{Item}
 use Rattle.ksi_aggtree.specs.Rounds.{root_of}
 

@@ -4,13 +4,13 @@ use Rattle.ksi_imprint.specs.Imprints.{zero_imprint}
 use Rattle.ksi_split.specs.declared.side.Side.{Side}
 use Rattle.ksi_split.specs.declared.side.Side.TheVariants.{Left, Right}
 use Rattle.ksi_tlv.specs.Walking.{PlacedTlv}
-use Rattle.ksi_grammar.specs.Contents.{level_in}
-use Rattle.ksi_order.specs.Order.{Order, ◌>>=◌}
-use Rattle.ksi_order.specs.Fields.{Inside, inside, field, done}
-use Rattle.ksi_order.specs.Values.{or_fault, imprint_at}
-use Rattle.ksi_order.specs.declared.fault.OrderFault.{OrderFault}
-use Rattle.ksi_order.specs.declared.fault.OrderFault.TheVariants as orders
-use Rattle.ksi_order.specs.Format.{or_named}
+use Rattle.ksi_tlv.specs.Contents.{level_in}
+use Rattle.ksi_tlv.specs.Order.{Order, ◌>>=◌}
+use Rattle.ksi_tlv.specs.Fields.{Inside, inside, field, done}
+use Rattle.ksi_tlv.specs.Values.{or_fault, imprint_at}
+use Rattle.ksi_tlv.specs.declared.order.fault.OrderFault.{OrderFault}
+use Rattle.ksi_tlv.specs.declared.order.fault.OrderFault.TheVariants as orders
+use Rattle.ksi_tlv.specs.Format.{or_named}
 use Rattle.ksi_logblock.specs.declared.line_proof.LineLink.{LineLink}
 use Rattle.ksi_logblock.specs.declared.proof_fault.ProofFault.{ProofFault}
 use Rattle.ksi_logblock.specs.declared.proof_fault.ProofFault.TheVariants as faults

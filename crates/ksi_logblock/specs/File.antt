@@ -5,7 +5,7 @@ use Rattle.ksi_split.specs.declared.side.Side.TheVariants.{Left, Right}
 use Rattle.ksi_tlv.specs.Spelling.{Tlv, plain}
 use Rattle.ksi_tlv.specs.Numerals.{numeral}
 use Rattle.ksi_tlv.specs.Writing.{texts}
-use Rattle.ksi_order.specs.Format.{Format, IsFile, IsFileFault}
+use Rattle.ksi_tlv.specs.Format.{Format, IsFile, IsFileFault}
 use Rattle.ksi_logblock.specs.declared.line_proof.LineLink.{LineLink}
 use Rattle.ksi_logblock.specs.declared.line_proof.LineProof.{LineProof}
 use Rattle.ksi_logblock.specs.declared.proof_fault.ProofFault.{ProofFault}

@@ -1,6 +1,6 @@
 -- The kinds of the elements of a line's proof, in their order.
 use Rattle.std.specs.Prelude.{ℕ, List, ◌∷◌, map}
-use Rattle.ksi_order.specs.Kinds.{HasKinds}
+use Rattle.ksi_tlv.specs.Kinds.{HasKinds}
 use Rattle.ksi_logblock.specs.declared.line_proof.LineProof.{LineProof}
 use Rattle.ksi_logblock.specs.File.{magic, kind_of}
 

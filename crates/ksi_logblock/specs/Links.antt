@@ -1,7 +1,7 @@
 -- The links of a line's proof as climbing sees them.
 use Rattle.std.specs.Prelude.{ℕ, false, List, map, reverse}
 use Rattle.ksi_split.specs.declared.side.Side.{Side}
-use Rattle.ksi_aggchain.specs.Links.{PlainLink}
+use Rattle.ksi_aggtree.specs.Links.{PlainLink}
 use Rattle.ksi_logblock.specs.declared.line_proof.LineLink.{LineLink}
 
 -- by the type of a proof's links

@@ -6,9 +6,9 @@ use Rattle.ksi_split.specs.Parts.{Part, half_of, second_at}
 use Rattle.ksi_split.specs.declared.side.Side.{Side}
 use Rattle.ksi_split.specs.declared.side.Side.TheVariants.{Left}
 use Rattle.ksi_split.specs.declared.fault.ShapeFault.{ShapeFault}
-use Rattle.ksi_aggchain.specs.Links.{PlainLink}
-use Rattle.ksi_aggchain.specs.declared.climbing.LevelFault.{LevelFault}
-use Rattle.ksi_aggchain.specs.declared.node.Node.{Node}
+use Rattle.ksi_aggtree.specs.Links.{PlainLink}
+use Rattle.ksi_aggtree.specs.declared.chains.climbing.LevelFault.{LevelFault}
+use Rattle.ksi_aggtree.specs.declared.chains.node.Node.{Node}
 use Rattle.ksi_aggtree.specs.Nodes.{parts_text}
 use Rattle.ksi_aggtree.specs.Rounds.{tree_from, tree_of}
 use Rattle.ksi_beside.specs.Beside.{Pair, Rung, rungs_from, pairs_below, differing}

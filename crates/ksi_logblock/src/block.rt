@@ -1,6 +1,6 @@
 ghost use Rattle.std.specs.Prelude.{◌≡◌, ◌<◌, ◌≤◌, ◌+◌, ◌↔◌, ◌&&◌, [], ℕ, length, OnOk, OnErr, IfOk};
 ghost use Rattle.ksi_imprint.specs.declared.refused.Refused.TheVariants as refused;
-ghost use Rattle.ksi_aggchain.specs.Owned.{plain_links};
+ghost use Rattle.ksi_aggtree.specs.Owned.{plain_links};
 ghost use Rattle.ksi_split.specs.Ways.{way_of};
 ghost use Rattle.ksi_aggtree.specs.Nodes.{node_text};
 ghost use Rattle.ksi_logblock.specs.Locating.{kept_root};
@@ -15,7 +15,7 @@ use crate::hashing::{leaf_of, mask_of};
 use crate::laws::own_proofs;
 use crate::line_proof::{LineLinks, LineProof};
 use crate::over::{links_over, tree_over};
-use ksi_aggchain::Node;
+use ksi_aggtree::chains::Node;
 use ksi_aggtree::laws::one_chain;
 use ksi_aggtree::{NodeParts, OtherPart};
 use ksi_imprint::{Compress, Imprint, NoMemory, Refused};

@@ -3,7 +3,7 @@ ghost use Rattle.ksi_logblock.specs.Proofs.{root_by};
 
 use crate::hashing::leaf_of;
 use crate::line_proof::{LineLink, LineProof};
-use ksi_aggchain::{LevelFault, climb};
+use ksi_aggtree::chains::{LevelFault, climb};
 use ksi_imprint::{Compress, Imprint};
 
 /// The imprint of the root that a line and its proof lead to: from the line's leaf, at level 1, along the links.

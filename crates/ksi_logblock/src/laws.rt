@@ -3,11 +3,11 @@ ghost use Rattle.std.specs.Prelude.{◌≡◌, ◌<◌, ◌≤◌, ◌+◌, ◌�
 ghost use Rattle.std.specs.List.{AllByRecursion};
 ghost use Rattle.ksi_imprint.specs.Imprints.{IsImprint, join_text, zero_imprint};
 ghost use Rattle.ksi_split.specs.Ways.{way_of};
-ghost use Rattle.ksi_aggchain.specs.Climbing.{level_after};
-ghost use Rattle.ksi_aggchain.specs.Owned.{plain_links};
+ghost use Rattle.ksi_aggtree.specs.Climbing.{level_after};
+ghost use Rattle.ksi_aggtree.specs.Owned.{plain_links};
 ghost use Rattle.ksi_aggtree.specs.Paths.{chain_of};
 ghost use Rattle.ksi_aggtree.specs.Rounds.{tree_of};
-ghost use Rattle.ksi_aggchain.specs.Links.{highest_level};
+ghost use Rattle.ksi_aggtree.specs.Links.{highest_level};
 ghost use Rattle.ksi_logblock.specs.Blocks.{Masked, block_root, items_of, leaf_at, leaves_of, line_at, mask_at, most_lines};
 ghost use Rattle.ksi_logblock.specs.File.{IsProofFile, IsProofFault, proof_text};
 ghost use Rattle.ksi_logblock.specs.Kept.{IsLineLink};
@@ -27,12 +27,12 @@ ghost use Rattle.ksi_logblock.specs.declared.locating.Located.TheVariants as ans
 use crate::line_proof::LineProof;
 use crate::proof_fault::ProofFault;
 use crate::said::Reading;
-use ksi_aggchain::laws::one_climb;
+use ksi_aggtree::chains::laws::one_climb;
 use ksi_aggtree::laws::{one_chain, one_round};
 use ksi_beside::laws::beside_a_tree;
-use ksi_order::laws as formats;
 use ksi_split::laws::{one_answer, one_split, one_way};
 use ksi_tlv::laws::{numeral_is_read, written_is_read};
+use ksi_tlv::order::laws as formats;
 
 /// The first mask is the hash of the zero imprint and the seed, each later one that of the leaf before and the seed. A leaf is
 /// the join of its line's mask and hash, at level 1.

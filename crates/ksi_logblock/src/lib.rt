@@ -36,7 +36,7 @@ mod writing;
 
 pub use block::{Block, LONGEST_LINE, MOST_LINES, PushRefusal};
 pub use climbing::root_of;
-pub use ksi_aggchain::LevelFault;
+pub use ksi_aggtree::chains::LevelFault;
 pub use ksi_imprint::{Clash, NoMemory, Refused};
 pub use line_proof::{LineLink, LineLinks, LineProof, MOST_LINKS};
 pub use locating::{LineRefusal, Located, locate};

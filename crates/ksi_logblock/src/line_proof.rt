@@ -2,7 +2,7 @@
 ghost use Rattle.std.specs.Prelude.{◌≡◌, ◌≤◌, length, vec_len};
 ghost use Rattle.ksi_logblock.specs.Links.{most_links, plain_line_link};
 
-use ksi_aggchain::ChainLink;
+use ksi_aggtree::chains::ChainLink;
 use ksi_imprint::Imprint;
 use ksi_split::Side;
 use std::marker::Model;

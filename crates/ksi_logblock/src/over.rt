@@ -2,7 +2,7 @@
 ghost use Rattle.std.specs.Prelude.{◌≡◌, ◌<◌, ◌≤◌, ◌+◌, ◌-◌, ◌*◌, ◌^◌, ◌++◌, ◌∷◌, [], map, max, length, IfOk};
 ghost use Rattle.ksi_split.specs.Trees.{tree_within, path_within};
 ghost use Rattle.ksi_split.specs.declared.side.Side.TheVariants as sides;
-ghost use Rattle.ksi_aggchain.specs.Owned.{plain_link, plain_links};
+ghost use Rattle.ksi_aggtree.specs.Owned.{plain_link, plain_links};
 ghost use Rattle.ksi_aggtree.specs.Paths.{link_beside, links_from};
 ghost use Rattle.ksi_aggtree.specs.Rounds.{aggregation_join, leaf_of_place};
 ghost use Rattle.ksi_logblock.specs.Blocks.{leaf_item};
@@ -10,7 +10,7 @@ ghost use Rattle.ksi_logblock.specs.Links.{plain_line_link};
 ghost use Rattle.ksi_logblock.specs.Upward.{level_above};
 
 use crate::line_proof::LineLink;
-use ksi_aggchain::Node;
+use ksi_aggtree::chains::Node;
 use ksi_imprint::{Compress, Imprint, NoMemory};
 use ksi_split::Side;
 use ksi_split::trees::enough_levels;

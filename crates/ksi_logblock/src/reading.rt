@@ -2,7 +2,7 @@
 ghost use Rattle.std.specs.Prelude.{◌≡◌, IfOk};
 ghost use Rattle.ksi_imprint.specs.Refused.{IfRefused};
 ghost use Rattle.ksi_tlv.specs.Views.{view_placed};
-ghost use Rattle.ksi_order.specs.Left.{left};
+ghost use Rattle.ksi_tlv.specs.Left.{left};
 ghost use Rattle.ksi_logblock.specs.Elements.{correction_at, link_in, named, side_of, with_sibling};
 ghost use Rattle.ksi_logblock.specs.File.{IsProofFile, IsProofFault};
 ghost use Rattle.ksi_logblock.specs.Wanting.{IsWantingInside};
@@ -11,8 +11,8 @@ use crate::line_proof::{LineLink, LineProof};
 use crate::proof_fault::ProofFault;
 use crate::said::Reading;
 use ksi_imprint::Refused;
-use ksi_order::{Fields, OrderFault, imprint, walk};
 use ksi_split::Side;
+use ksi_tlv::order::{Fields, OrderFault, imprint, walk};
 use ksi_tlv::{Placed, after_magic};
 use std::alloc::Global;
 
@@ -63,7 +63,7 @@ pub(crate) fn read_link(at: &Placed<'_>) -> Result<LineLink, OrderFault>
 fn read_correction(at: &Placed<'_>) -> Result<u8, OrderFault>
     ensures { result ≡ correction_at (view_placed at.now) }
 {
-    match ksi_grammar::level(at) {
+    match ksi_tlv::grammar::level(at) {
         Ok(correction) => Ok(correction),
         Err(_) => Err(OrderFault::Bound(at.place)),
     }

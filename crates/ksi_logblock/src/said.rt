@@ -2,8 +2,8 @@ use crate::line_proof::{LineLink, LineLinks, LineProof, MOST_LINKS};
 use crate::proof_fault::ProofFault;
 use crate::reading::{named, read_link};
 use ksi_imprint::{Imprint, Refused};
-use ksi_order::{OrderFault, Ordered, imprint};
 use ksi_tlv::Placed;
+use ksi_tlv::order::{OrderFault, Ordered, imprint};
 use std::alloc::Global;
 use std::marker::Model;
 
@@ -31,7 +31,7 @@ impl Reading {
     ghost use Rattle.std.specs.Prelude.{◌≡◌, ◌≢◌, true, Err, IsOk};
     ghost use Rattle.ksi_imprint.specs.declared.refused.Refused.TheVariants as refused;
     ghost use Rattle.ksi_tlv.specs.Views.{view_placed};
-    ghost use Rattle.ksi_order.specs.Order.{Steps};
+    ghost use Rattle.ksi_tlv.specs.Order.{Steps};
     ghost use Rattle.ksi_logblock.specs.Elements.{nothing_yet, mask_at, link_at};
 
     /// Nothing is read yet.

@@ -9,10 +9,10 @@ ghost use Rattle.ksi_logblock.specs.File.{IsProofFile, correction_elements, kind
 use crate::laws::text_is_proof;
 use crate::line_proof::{LineLink, LineProof};
 use crate::reading::MAGIC;
-use ksi_grammar::put_short;
 use ksi_imprint::{Bytes, NoMemory};
 use ksi_split::Side;
 use ksi_tlv::Writer;
+use ksi_tlv::grammar::put_short;
 use ksi_tlv::laws::numeral_is_read;
 use std::alloc::Global;
 

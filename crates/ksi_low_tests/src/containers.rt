@@ -1,11 +1,11 @@
 ghost use Rattle.std.specs.Prelude.{◌≤◌, length};
 
 use crate::same::same;
-use ksi_grammar::{
+use ksi_imprint::{Compress, Imprint, Sha};
+use ksi_tlv::grammar::{
     ElementFault, PublishedContent, RecordContent, algorithm, check, level, put_short, raw,
     recorded, written_published, written_record,
 };
-use ksi_imprint::{Compress, Imprint, Sha};
 use ksi_tlv::{Elements, Placed, Writer};
 use std::alloc::Global;
 use std::process::Abort;

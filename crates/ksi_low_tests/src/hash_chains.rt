@@ -1,5 +1,5 @@
 use crate::same::same;
-use ksi_aggchain::{LevelFault, Link, Node, Sibling, climb, shape};
+use ksi_aggtree::chains::{LevelFault, Link, Node, Sibling, climb, shape};
 use ksi_imprint::{Bytes, Compress, Imprint, NoMemory, Sha, Tiny};
 use ksi_split::Side;
 use ksi_split::Side::{Left, Right};

@@ -1,11 +1,11 @@
 -- Which faults the file of a mirror has: none of a second's tree, and none of voters.
 use Rattle.std.proofs.Common.{◌≡◌, ℕ, ◌+◌, ◌-◌, ◌||◌, Bool, true, false, cond, eqb, leb, List, [], ◌∷◌, length, drop, Result, Ok, Err, refl, sym, subst, inl, inr}
 use Rattle.ksi_tlv.specs.Walking.{PlacedTlv, Cut, Items}
-use Rattle.ksi_order.specs.declared.fault.OrderFault.{OrderFault}
-use Rattle.ksi_order.specs.declared.fault.OrderFault.TheVariants as orders
-use Rattle.ksi_order.specs.Order.{one_more, may_stand, ◌>>=◌}
-use Rattle.ksi_order.specs.Sequence.{StandsAt}
-use Rattle.ksi_order.specs.Values.{time_at}
+use Rattle.ksi_tlv.specs.declared.order.fault.OrderFault.{OrderFault}
+use Rattle.ksi_tlv.specs.declared.order.fault.OrderFault.TheVariants as orders
+use Rattle.ksi_tlv.specs.Order.{one_more, may_stand, ◌>>=◌}
+use Rattle.ksi_tlv.specs.Sequence.{StandsAt}
+use Rattle.ksi_tlv.specs.Values.{time_at}
 use Rattle.ksi_journal.specs.declared.fault.JournalFault.{JournalFault}
 use Rattle.ksi_journal.specs.declared.fault.JournalFault.TheVariants as faults
 use Rattle.ksi_journal.specs.Elements.{named, or_named, highest_named, head_in, plain_in, is_name, called, named_in, item_in}

@@ -5,10 +5,10 @@ use Rattle.std.proofs.lemmas.Bool.{leb-true, and_parts}
 use Rattle.std.proofs.lemmas.List.{map-append}
 use Rattle.ksi_tlv.specs.Walking.{PlacedTlv}
 use Rattle.ksi_aggtree.specs.declared.item.Item.{Item}
-use Rattle.ksi_order.specs.Order.{may_stand}
-use Rattle.ksi_order.specs.Values.{time_at}
-use Rattle.ksi_order.specs.Kinds.{kinds_of}
-use Rattle.ksi_order.proofs.Steps.{Bounded, bind_ok, or_named_ok, ok_is, test_ok, any_kind, all_more, kinds_more, leads_keep, file_kinds}
+use Rattle.ksi_tlv.specs.Order.{may_stand}
+use Rattle.ksi_tlv.specs.Values.{time_at}
+use Rattle.ksi_tlv.specs.Kinds.{kinds_of}
+use Rattle.ksi_tlv.proofs.Steps.{Bounded, bind_ok, or_named_ok, ok_is, test_ok, any_kind, all_more, kinds_more, leads_keep, file_kinds}
 use Rattle.ksi_journal.specs.declared.fault.JournalFault.{JournalFault}
 use Rattle.ksi_journal.specs.declared.fault.JournalFault.TheVariants as faults
 use Rattle.ksi_journal.specs.Journal.{IsItem}

@@ -3,7 +3,7 @@ use Rattle.std.proofs.Common.{◌≡◌, ℕ, List, [], ◌∷◌, ◌++◌, map
 use Rattle.ksi_tlv.specs.Spelling.{canonical, plain}
 use Rattle.ksi_tlv.specs.Writing.{texts}
 use Rattle.ksi_tlv.specs.Numerals.{numeral}
-use Rattle.ksi_order.proofs.Texts.{texts-append, last_told, before}
+use Rattle.ksi_tlv.proofs.Texts.{texts-append, last_told, before}
 use Rattle.ksi_mirror.specs.declared.sealed_list.SealedList.{SealedList}
 use Rattle.ksi_mirror.specs.Mirrors.{MirrorState}
 use Rattle.ksi_mirror.specs.Written.{root_element, list_elements, lists_elements, mirror_elements}

@@ -2,11 +2,11 @@
 use Rattle.std.proofs.Common.{◌≡◌, ℕ, ◌^◌, ◌<◌, ◌≤◌, Bool, true, false, cond, leb, eqb, List, Ok, refl, subst, arith}
 use Rattle.std.proofs.lemmas.Bool.{leb-true, eqb-true, eqb-false}
 use Rattle.ksi_tlv.specs.Walking.{PlacedTlv}
-use Rattle.ksi_order.specs.declared.fault.OrderFault.{OrderFault}
-use Rattle.ksi_order.specs.declared.fault.OrderFault.TheVariants as orders
-use Rattle.ksi_order.specs.Fields.{inside, field, done}
-use Rattle.ksi_order.specs.Values.{number_at, time_at, imprint_at}
-use Rattle.ksi_order.proofs.Steps.{Bounded, each_of, ok_is, test_ok}
+use Rattle.ksi_tlv.specs.declared.order.fault.OrderFault.{OrderFault}
+use Rattle.ksi_tlv.specs.declared.order.fault.OrderFault.TheVariants as orders
+use Rattle.ksi_tlv.specs.Fields.{inside, field, done}
+use Rattle.ksi_tlv.specs.Values.{number_at, time_at, imprint_at}
+use Rattle.ksi_tlv.proofs.Steps.{Bounded, each_of, ok_is, test_ok}
 use Rattle.ksi_journal.specs.Elements.{rises}
 use Rattle.ksi_journal.proofs.Rising.{rises_ok}
 use Rattle.ksi_mirror.specs.Mirrors.{rank_at, IsRoot}

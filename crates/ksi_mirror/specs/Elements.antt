@@ -3,11 +3,11 @@ use Rattle.std.specs.Prelude.{◌<◌, IsOk, ℕ, ◌+◌, ◌-◌, ◌==◌, �
 use Rattle.ksi_tlv.specs.Walking.{PlacedTlv}
 use Rattle.ksi_aggtree.specs.declared.item.Item.{Item}
 use Rattle.ksi_aggtree.specs.Rounds.{most_items}
-use Rattle.ksi_order.specs.declared.fault.OrderFault.{OrderFault}
-use Rattle.ksi_order.specs.declared.fault.OrderFault.TheVariants as orders
-use Rattle.ksi_order.specs.Order.{Order, ◌>>=◌}
-use Rattle.ksi_order.specs.Fields.{inside, field, done}
-use Rattle.ksi_order.specs.Values.{number_at, time_at, imprint_at}
+use Rattle.ksi_tlv.specs.declared.order.fault.OrderFault.{OrderFault}
+use Rattle.ksi_tlv.specs.declared.order.fault.OrderFault.TheVariants as orders
+use Rattle.ksi_tlv.specs.Order.{Order, ◌>>=◌}
+use Rattle.ksi_tlv.specs.Fields.{inside, field, done}
+use Rattle.ksi_tlv.specs.Values.{number_at, time_at, imprint_at}
 use Rattle.ksi_journal.specs.declared.fault.JournalFault.{JournalFault}
 use Rattle.ksi_journal.specs.declared.fault.JournalFault.TheVariants as faults
 use Rattle.ksi_journal.specs.Elements.{named, or_named, rises, item_in}

@@ -1,7 +1,7 @@
 -- Which bytes are which mirror, and the first fault of bytes that are none.
 use Rattle.std.specs.Prelude.{ℕ, List, codes}
-use Rattle.ksi_order.specs.Format as files
-use Rattle.ksi_order.specs.Format.{Format, IsFile, IsFileFault}
+use Rattle.ksi_tlv.specs.Format as files
+use Rattle.ksi_tlv.specs.Format.{Format, IsFile, IsFileFault}
 use Rattle.ksi_journal.specs.declared.fault.JournalFault.{JournalFault}
 use Rattle.ksi_journal.specs.declared.fault.JournalFault.TheVariants as faults
 use Rattle.ksi_mirror.specs.Mirrors.{MirrorState}

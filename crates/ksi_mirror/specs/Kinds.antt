@@ -1,6 +1,6 @@
 -- The kinds of the elements of a mirror's file, in their order.
 use Rattle.std.specs.Prelude.{ℕ, List, [], ◌∷◌, ◌++◌, map}
-use Rattle.ksi_order.specs.Kinds.{HasKinds}
+use Rattle.ksi_tlv.specs.Kinds.{HasKinds}
 use Rattle.ksi_journal.specs.Kinds.{item_kind}
 use Rattle.ksi_mirror.specs.declared.sealed_list.SealedList.{SealedList}
 use Rattle.ksi_mirror.specs.Mirrors.{MirrorState}

@@ -6,8 +6,8 @@ ghost use Rattle.ksi_mirror.specs.Mirrors.{highest_core};
 ghost use Rattle.ksi_mirror.specs.Elements.{root_said, list_said, core_at, core_from};
 
 use ksi_imprint::Imprint;
-use ksi_order::{Fields, OrderFault, imprint, number, time};
 use ksi_tlv::Placed;
+use ksi_tlv::order::{Fields, OrderFault, imprint, number, time};
 
 /// The greatest number of a core.
 const HIGHEST_CORE: u64 = 8;

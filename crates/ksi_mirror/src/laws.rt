@@ -15,8 +15,8 @@ ghost use Rattle.ksi_mirror.specs.Written.{mirror_text};
 use crate::loading::MirrorLoading;
 use crate::mirror::Mirror;
 use ksi_journal::JournalFault;
-use ksi_order::laws::{file_is_read, file_or_fault, values_are_bounded};
 use ksi_tlv::laws::{numeral_is_read, written_is_read};
+use ksi_tlv::order::laws::{file_is_read, file_or_fault, values_are_bounded};
 
 /// The union of two finite maps that agree: of one map with itself it is that map; it is the same in either order; and
 /// three maps have one in the one order exactly where they have it in the other, and then the same. What a map is in a

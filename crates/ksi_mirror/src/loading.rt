@@ -10,8 +10,8 @@ use crate::stage::MirrorStage;
 use ksi_aggtree::{Item, Items, MOST_ITEMS};
 use ksi_imprint::Refused;
 use ksi_journal::{JournalFault, named, read_item};
-use ksi_order::{OrderFault, Ordered, time};
 use ksi_tlv::Placed;
+use ksi_tlv::order::{OrderFault, Ordered, time};
 use std::alloc::Global;
 use std::marker::Model;
 use std::mem;
@@ -66,7 +66,7 @@ impl Model for MirrorLoading {
 impl MirrorLoading {
     ghost use Rattle.std.specs.Prelude.{◌≡◌, ◌≢◌, ◌<◌, ◌≤◌, ◌^◌, Ok, Err, IsOk};
     ghost use Rattle.ksi_tlv.specs.Views.{view_placed};
-    ghost use Rattle.ksi_order.specs.Order.{Steps};
+    ghost use Rattle.ksi_tlv.specs.Order.{Steps};
     ghost use Rattle.ksi_imprint.specs.declared.refused.Refused.TheVariants as refused;
     ghost use Rattle.ksi_mirror.specs.Mirrors.{mirror_of_parts};
     ghost use Rattle.ksi_mirror.specs.Elements.{nothing_yet, start_at, root_at, list_at, counted, item_at, with_item, closed, end_at};

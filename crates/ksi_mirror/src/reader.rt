@@ -9,8 +9,8 @@ use crate::laws::file_is_mirror;
 use crate::loading::MirrorLoading;
 use crate::mirror::Mirror;
 use ksi_imprint::Refused;
-use ksi_order::walk;
 use ksi_tlv::after_magic;
+use ksi_tlv::order::walk;
 use std::alloc::Global;
 
 /// The bytes that a mirror's file begins with.

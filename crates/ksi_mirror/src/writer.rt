@@ -13,9 +13,9 @@ use crate::mirror::Mirror;
 use crate::reader::MAGIC;
 use crate::sealed_list::SealedList;
 use ksi_aggtree::Item;
-use ksi_grammar::put_short;
 use ksi_imprint::{Bytes, Imprint, NoMemory};
 use ksi_tlv::Writer;
+use ksi_tlv::grammar::put_short;
 use ksi_tlv::laws::numeral_is_read;
 use std::alloc::Global;
 

@@ -1,7 +1,7 @@
 //! What nodes answer, send and issue, as words.
 use crate::text::Text;
-use ksi_aggchain::Link;
 use ksi_aggtree::Item;
+use ksi_aggtree::chains::Link;
 use ksi_calendar::{CalendarLink, climb_calendar};
 use ksi_imprint::{Imprint, Sha};
 use ksi_signature::{Above, AboveChain, AggregationChain, Answer, read};

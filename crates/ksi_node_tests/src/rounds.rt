@@ -5,7 +5,7 @@ ghost use Rattle.ksi_aggtree.specs.Rounds.{leaf_level};
 use crate::printed::{put_item, put_links};
 use crate::same::same;
 use crate::text::{Text, meant};
-use ksi_aggchain::{Link, Node, climb, shape};
+use ksi_aggtree::chains::{Link, Node, climb, shape};
 use ksi_aggtree::{AddRefusal, Builder, Item, ItemPath, Name, Steps};
 use ksi_imprint::{Compress, Imprint, NoMemory, Refused, Sha, Tiny};
 use ksi_split::Side;

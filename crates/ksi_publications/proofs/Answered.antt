@@ -3,12 +3,12 @@ use Rattle.std.proofs.Common.{◌≡◌, ℕ, Bool, true, false, cond, eqb, List
 use Rattle.std.specs.Prelude.{◌↔◌}
 use Rattle.std.proofs.lemmas.Bool.{eqb-true, eq-eqb}
 use Rattle.ksi_tlv.specs.Walking.{elements}
-use Rattle.ksi_grammar.specs.declared.fault.ElementFault.{ElementFault}
-use Rattle.ksi_grammar.specs.declared.fault.ElementFault.TheVariants as faults
-use Rattle.ksi_grammar.specs.Table.{Verdict}
-use Rattle.ksi_grammar.specs.Reading.{container_verdict}
-use Rattle.ksi_grammar.specs.Valid.{IsContainer}
-use Rattle.ksi_grammar.specs.Inside.{whole}
+use Rattle.ksi_tlv.specs.declared.grammar.fault.ElementFault.{ElementFault}
+use Rattle.ksi_tlv.specs.declared.grammar.fault.ElementFault.TheVariants as faults
+use Rattle.ksi_tlv.specs.Table.{Verdict}
+use Rattle.ksi_tlv.specs.Containing.{container_verdict}
+use Rattle.ksi_tlv.specs.Valid.{IsContainer}
+use Rattle.ksi_tlv.specs.Inside.{whole}
 use Rattle.ksi_publications.specs.declared.fault.PublicationsFault.{PublicationsFault}
 use Rattle.ksi_publications.specs.Tables.{file_table}
 use Rattle.ksi_publications.specs.File.{magic, pairs_of, IsNamed, IsPublications, IsPublicationsFault}

@@ -4,11 +4,11 @@ use Rattle.std.specs.Prelude.{◌↔◌}
 use Rattle.std.proofs.lemmas.List.{append_cancel_left}
 use Rattle.std.proofs.lemmas.Bool.{cases_eq}
 use Rattle.ksi_tlv.specs.Walking.{PlacedTlv, elements, items_of}
-use Rattle.ksi_grammar.specs.declared.fault.ElementFault.{ElementFault}
-use Rattle.ksi_grammar.specs.Table.{Verdict, Table, is_table}
-use Rattle.ksi_grammar.specs.Reading.{container_verdict}
-use Rattle.ksi_grammar.specs.Valid.{IsContainer, IsWhole, IsFirstFault}
-use Rattle.ksi_grammar.specs.Inside.{whole}
+use Rattle.ksi_tlv.specs.declared.grammar.fault.ElementFault.{ElementFault}
+use Rattle.ksi_tlv.specs.Table.{Verdict, Table, is_table}
+use Rattle.ksi_tlv.specs.Containing.{container_verdict}
+use Rattle.ksi_tlv.specs.Valid.{IsContainer, IsWhole, IsFirstFault}
+use Rattle.ksi_tlv.specs.Inside.{whole}
 use Rattle.ksi_publications.specs.declared.fault.PublicationsFault.{PublicationsFault}
 use Rattle.ksi_publications.specs.declared.fault.PublicationsFault.TheVariants as answers
 use Rattle.ksi_publications.specs.Tables.{file_table}

@@ -4,13 +4,13 @@ use Rattle.ksi_imprint.specs.declared.fault.ImprintFault.{ImprintFault}
 use Rattle.ksi_imprint.specs.Reading.{imprint_at}
 use Rattle.ksi_tlv.specs.Walking.{PlacedTlv}
 use Rattle.ksi_tlv.specs.Numerals.{number_of}
-use Rattle.ksi_grammar.specs.declared.fault.ElementFault.{ElementFault}
-use Rattle.ksi_grammar.specs.declared.fault.ElementFault.TheVariants as faults
-use Rattle.ksi_grammar.specs.Table.{Verdict, Table}
-use Rattle.ksi_grammar.specs.Reading.{◌>>=◌, container_verdict, inner_verdict}
-use Rattle.ksi_grammar.specs.Faults.{PassesFaults}
-use Rattle.ksi_grammar.specs.Contents.{passes, number_in, time_in, imprint_or, imprint_in}
-use Rattle.ksi_grammar.specs.Published.{published_table, record_table}
+use Rattle.ksi_tlv.specs.declared.grammar.fault.ElementFault.{ElementFault}
+use Rattle.ksi_tlv.specs.declared.grammar.fault.ElementFault.TheVariants as faults
+use Rattle.ksi_tlv.specs.Table.{Verdict, Table}
+use Rattle.ksi_tlv.specs.Containing.{◌>>=◌, container_verdict, inner_verdict}
+use Rattle.ksi_tlv.specs.Faults.{PassesFaults}
+use Rattle.ksi_tlv.specs.Contents.{passes, number_in, time_in, imprint_or, imprint_in}
+use Rattle.ksi_tlv.specs.Published.{published_table, record_table}
 use Rattle.ksi_publications.specs.declared.fault.PublicationsFault.{PublicationsFault}
 use Rattle.ksi_publications.specs.declared.fault.PublicationsFault.TheVariants as answers
 use Rattle.ksi_publications.specs.Tables.{header_table, file_table}

@@ -9,13 +9,13 @@ use Rattle.ksi_tlv.specs.Spelling.{Tlv, plain, canonical, short_form, long_form}
 use Rattle.ksi_tlv.specs.Walking.{PlacedTlv, placed_at, elements}
 use Rattle.ksi_tlv.specs.Numerals.{number_of, numeral}
 use Rattle.ksi_tlv.specs.Writing.{texts, placed}
-use Rattle.ksi_grammar.specs.Table.{Table, count, is_table}
-use Rattle.ksi_grammar.specs.Reading.{container_verdict, inner_verdict}
-use Rattle.ksi_grammar.specs.Valid.{IsContainer}
-use Rattle.ksi_grammar.specs.Contents.{time_in}
-use Rattle.ksi_grammar.specs.Inside.{whole}
-use Rattle.ksi_grammar.specs.Written.{MayStandAnywhere, MayBeWritten}
-use Rattle.ksi_grammar.specs.Published.{record_table, recorded_in, record_elements}
+use Rattle.ksi_tlv.specs.Table.{Table, count, is_table}
+use Rattle.ksi_tlv.specs.Containing.{container_verdict, inner_verdict}
+use Rattle.ksi_tlv.specs.Valid.{IsContainer}
+use Rattle.ksi_tlv.specs.Contents.{time_in}
+use Rattle.ksi_tlv.specs.Inside.{whole}
+use Rattle.ksi_tlv.specs.Written.{MayStandAnywhere, MayBeWritten}
+use Rattle.ksi_tlv.specs.Published.{record_table, recorded_in, record_elements}
 use Rattle.ksi_publications.specs.Tables.{header_table, file_table}
 use Rattle.ksi_publications.specs.File.{pairs_of, IsPublications, header_element, record_element, publications_text}
 use Rattle.ksi_publications.proofs.Finds.{all_both}

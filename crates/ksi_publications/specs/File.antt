@@ -4,10 +4,10 @@ use Rattle.ksi_tlv.specs.Spelling.{Tlv, plain}
 use Rattle.ksi_tlv.specs.Numerals.{numeral}
 use Rattle.ksi_tlv.specs.Walking.{PlacedTlv}
 use Rattle.ksi_tlv.specs.Writing.{texts}
-use Rattle.ksi_grammar.specs.declared.fault.ElementFault.{ElementFault}
-use Rattle.ksi_grammar.specs.declared.fault.ElementFault.TheVariants as faults
-use Rattle.ksi_grammar.specs.Valid.{IsContainer, IsFirstFault}
-use Rattle.ksi_grammar.specs.Published.{recorded_in, record_elements}
+use Rattle.ksi_tlv.specs.declared.grammar.fault.ElementFault.{ElementFault}
+use Rattle.ksi_tlv.specs.declared.grammar.fault.ElementFault.TheVariants as faults
+use Rattle.ksi_tlv.specs.Valid.{IsContainer, IsFirstFault}
+use Rattle.ksi_tlv.specs.Published.{recorded_in, record_elements}
 use Rattle.ksi_publications.specs.declared.fault.PublicationsFault.{PublicationsFault}
 use Rattle.ksi_publications.specs.declared.fault.PublicationsFault.TheVariants as answers
 use Rattle.ksi_publications.specs.Tables.{file_table}

@@ -1,7 +1,7 @@
 -- What a lent publications file shows.
 use Rattle.std.specs.Prelude.{ℕ, List}
 use Rattle.ksi_tlv.specs.Walking.{elements}
-use Rattle.ksi_grammar.specs.Inside.{whole}
+use Rattle.ksi_tlv.specs.Inside.{whole}
 use Rattle.ksi_publications.specs.declared.publications_view.PublicationsView.{PublicationsView}
 use Rattle.ksi_publications.specs.File.{pairs_of}
 

@@ -1,6 +1,6 @@
-pub use Rattle.ksi_grammar.specs.Table
-pub use Rattle.ksi_grammar.specs.Valid
-pub use Rattle.ksi_grammar.specs.Published
+pub use Rattle.ksi_tlv.specs.Table
+pub use Rattle.ksi_tlv.specs.Valid
+pub use Rattle.ksi_tlv.specs.Published
 pub mod Tables
 pub mod File
 pub mod Reading

@@ -1,10 +1,10 @@
 -- The tables of a publications file.
 use Rattle.std.specs.Prelude.{◌==◌, [], ◌∷◌, Ok, if◌then◌else◌}
 use Rattle.ksi_tlv.specs.Walking.{PlacedTlv}
-use Rattle.ksi_grammar.specs.Table.{Verdict, Table, exactly_once, at_most_once, any_number}
-use Rattle.ksi_grammar.specs.Reading.{inner_verdict}
-use Rattle.ksi_grammar.specs.Contents.{passes, number_in, time_in}
-use Rattle.ksi_grammar.specs.Published.{record_table}
+use Rattle.ksi_tlv.specs.Table.{Verdict, Table, exactly_once, at_most_once, any_number}
+use Rattle.ksi_tlv.specs.Containing.{inner_verdict}
+use Rattle.ksi_tlv.specs.Contents.{passes, number_in, time_in}
+use Rattle.ksi_tlv.specs.Published.{record_table}
 
 abbrev pub header_content : PlacedTlv → Verdict
 header_content at =

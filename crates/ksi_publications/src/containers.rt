@@ -1,8 +1,10 @@
 ghost use Rattle.std.specs.Prelude.{◌≡◌, refl};
 ghost use Rattle.ksi_publications.specs.Tables.{header_table, file_table};
 
-use ksi_grammar::{ElementFault, Grammar, RecordContent, Rule, Seen, check, missing, number, time};
 use ksi_tlv::Placed;
+use ksi_tlv::grammar::{
+    ElementFault, Grammar, RecordContent, Rule, Seen, check, missing, number, time,
+};
 
 /// The bytes that a file begins with.
 pub(crate) const MAGIC: &[u8; 8] = b"KSIPUBLF";

@@ -7,7 +7,7 @@ ghost use Rattle.ksi_publications.specs.declared.fault.PublicationsFault.{Public
 ghost use Rattle.ksi_publications.specs.File.{IsPublications, IsPublicationsFault, publications_text};
 ghost use Rattle.ksi_publications.specs.Reading.{publications_at};
 
-use ksi_grammar::laws::{
+use ksi_tlv::grammar::laws::{
     faults_by_table, inside_is_whole, record_is_read, whole_or_fault, written_is_whole,
 };
 use ksi_tlv::laws::numeral_is_read;

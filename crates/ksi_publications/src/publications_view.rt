@@ -1,14 +1,14 @@
 ghost use Rattle.std.specs.Prelude.{◌≡◌, ◌+◌, ◌^◌, ◌<◌, length, Ok};
-ghost use Rattle.ksi_grammar.specs.Reading.{container_verdict};
+ghost use Rattle.ksi_tlv.specs.Containing.{container_verdict};
 ghost use Rattle.ksi_publications.specs.Tables.{file_table};
 
 use crate::containers::{MAGIC, RECORD};
 use crate::fault::PublicationsFault;
 use crate::laws::file_or_fault;
 use crate::reader::{behind_magic, pair_of};
-use ksi_grammar::laws::inside_is_whole;
 use ksi_imprint::Imprint;
 use ksi_tlv::Elements;
+use ksi_tlv::grammar::laws::inside_is_whole;
 
 /// A publications file, lent from its bytes.
 #[derive(Clone, Copy)]

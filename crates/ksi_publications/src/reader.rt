@@ -3,11 +3,11 @@ ghost use Rattle.ksi_imprint.specs.Refused.{IfRefused};
 ghost use Rattle.ksi_imprint.specs.declared.refused.Refused.TheVariants.{Fault};
 ghost use Rattle.ksi_tlv.specs.Views.{view_placed};
 ghost use Rattle.ksi_tlv.specs.Walking.{elements};
-ghost use Rattle.ksi_grammar.specs.declared.fault.ElementFault.{ElementFault};
-ghost use Rattle.ksi_grammar.specs.Reading.{container_verdict};
-ghost use Rattle.ksi_grammar.specs.Valid.{MayStand};
-ghost use Rattle.ksi_grammar.specs.Inside.{whole};
-ghost use Rattle.ksi_grammar.specs.Published.{recorded_in};
+ghost use Rattle.ksi_tlv.specs.declared.grammar.fault.ElementFault.{ElementFault};
+ghost use Rattle.ksi_tlv.specs.Containing.{container_verdict};
+ghost use Rattle.ksi_tlv.specs.Valid.{MayStand};
+ghost use Rattle.ksi_tlv.specs.Inside.{whole};
+ghost use Rattle.ksi_tlv.specs.Published.{recorded_in};
 ghost use Rattle.ksi_publications.specs.Tables.{file_table};
 ghost use Rattle.ksi_publications.specs.File.{magic, pairs_of, IsNamed, IsPublications, IsPublicationsFault};
 
@@ -16,9 +16,9 @@ use crate::containers::{FileContent, MAGIC, RECORD};
 use crate::fault::PublicationsFault;
 use crate::laws::file_or_fault;
 use crate::publications::Publications;
-use ksi_grammar::laws::{faults_by_table, inside_is_whole, whole_or_fault};
-use ksi_grammar::{ElementFault, check, recorded};
 use ksi_imprint::{Imprint, Refused};
+use ksi_tlv::grammar::laws::{faults_by_table, inside_is_whole, whole_or_fault};
+use ksi_tlv::grammar::{ElementFault, check, recorded};
 use ksi_tlv::{Elements, Placed, after_magic};
 use std::alloc::Global;
 

@@ -9,9 +9,9 @@ ghost use Rattle.ksi_publications.specs.File.{header_element, record_element, pu
 use crate::NoMemory;
 use crate::containers::{CREATION, HEADER, MAGIC, RECORD, VERSION};
 use crate::laws::written_is_publications;
-use ksi_grammar::{put_short, written_record};
 use ksi_imprint::{Bytes, Imprint};
 use ksi_tlv::Writer;
+use ksi_tlv::grammar::{put_short, written_record};
 use ksi_tlv::laws::numeral_is_read;
 use std::alloc::Global;
 

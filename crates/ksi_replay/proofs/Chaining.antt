@@ -4,10 +4,10 @@ use Rattle.std.specs.Prelude.{◌↔◌, Ok, slice_index}
 use Rattle.std.specs.List.{AllByRecursion}
 use Rattle.std.proofs.Math.Seq.{take-append_seam}
 use Rattle.ksi_split.specs.declared.side.Side.{Side}
-use Rattle.ksi_aggchain.specs.declared.node.Node.{Node}
-use Rattle.ksi_aggchain.specs.declared.link.Link.{Link}
-use Rattle.ksi_aggchain.specs.Owned.{plain_links}
-use Rattle.ksi_aggchain.specs.Shapes.{shape_of}
+use Rattle.ksi_aggtree.specs.declared.chains.node.Node.{Node}
+use Rattle.ksi_aggtree.specs.declared.chains.link.Link.{Link}
+use Rattle.ksi_aggtree.specs.Owned.{plain_links}
+use Rattle.ksi_aggtree.specs.Shapes.{shape_of}
 use Rattle.ksi_signature.specs.declared.above.Above.{Above}
 use Rattle.ksi_signature.specs.declared.above.AboveChain.{AboveChain}
 use Rattle.ksi_signature.specs.declared.signature.Signature.{Signature}
@@ -17,7 +17,7 @@ use Rattle.ksi_signature.specs.Carried.{IsAboveChain, MayBeIssued}
 use Rattle.ksi_signature.specs.Issued.{shape_along, index_of, issued_chains, own_chain, issued}
 use Rattle.ksi_verifier.specs.declared.aggregated.Aggregated.{Aggregated}
 use Rattle.ksi_signature.specs.Heads.{last_part}
-use Rattle.ksi_aggchain.specs.Links.{is_bare}
+use Rattle.ksi_aggtree.specs.Links.{is_bare}
 use Rattle.ksi_verifier.specs.ChainChecks.{aggregated}
 use Rattle.ksi_verifier.specs.Chains.{plain_chains, first_chain, without_last, chain_shape}
 use Rattle.ksi_verifier.specs.Accepted.{AreNested, ChainsLead, IsAggregated}

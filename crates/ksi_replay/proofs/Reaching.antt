@@ -6,8 +6,8 @@ use Rattle.ksi_split.specs.declared.tree_link.TreeLink.{TreeLink}
 use Rattle.ksi_split.specs.Trees.{climb_links}
 use Rattle.ksi_calendar.specs.Climbing.{ClimbsCalendar, calendar_join}
 use Rattle.ksi_tlv.specs.Spelling.{AreBytes}
-use Rattle.ksi_aggchain.specs.declared.node.Node.{Node}
-use Rattle.ksi_aggchain.specs.declared.link.Link.{Link}
+use Rattle.ksi_aggtree.specs.declared.chains.node.Node.{Node}
+use Rattle.ksi_aggtree.specs.declared.chains.link.Link.{Link}
 use Rattle.ksi_calendar.specs.Calendar.{Seconds, calendar_leaf, calendar_path, calendar_root}
 use Rattle.ksi_calendar.specs.Covered.{Roots, IsCovered, covered_seconds, covered_root, second_leaf}
 use Rattle.ksi_signature.specs.declared.above.Above.{Above}

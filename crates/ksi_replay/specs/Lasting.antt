@@ -1,8 +1,8 @@
 -- What becomes of issued signatures.
 use Rattle.std.specs.Prelude.{◌≡◌, ℕ, false, List, Ok, Some}
 use Rattle.std.specs.List.{AllByRecursion}
-use Rattle.ksi_aggchain.specs.Links.{is_bare}
-use Rattle.ksi_aggchain.specs.Owned.{plain_links}
+use Rattle.ksi_aggtree.specs.Links.{is_bare}
+use Rattle.ksi_aggtree.specs.Owned.{plain_links}
 use Rattle.ksi_calendar.specs.Covered.{covered_root}
 use Rattle.ksi_publications.specs.Finding.{find}
 use Rattle.ksi_signature.specs.declared.signature.Signature.{Signature}

@@ -21,8 +21,8 @@ use Rattle.ksi_aggregator.specs.Facts.{StableRound, with_fact, with_what}
 use Rattle.ksi_aggregator.specs.Issuing.{from_request}
 use Rattle.ksi_aggregator.specs.Rounds.{IsNew, fact_of, items_in}
 use Rattle.ksi_aggregator.specs.Rows.{RoundState, request_entry, response_where, round_added, round_close, round_request, round_response, round_still, round_submission, submitted_entry}
-use Rattle.ksi_roundfacts.specs.Lawful.{AreAdded, AreApart, IsAdded, IsFit, IsLawful, MayAnswer, MayClose, closed_items}
-use Rattle.ksi_roundfacts.specs.Restored.{restored}
+use Rattle.ksi_aggregator.specs.Lawful.{AreAdded, AreApart, IsAdded, IsFit, IsLawful, MayAnswer, MayClose, closed_items}
+use Rattle.ksi_aggregator.specs.Restored.{restored}
 use Rattle.ksi_roundstore.specs.Facts.{AreAccepted, IsAccepted, IsMade, is_accepted, is_item_of, round_after, rounds_after}
 use Rattle.ksi_roundstore.specs.Texts.{event_from, event_of}
 use Rattle.ksi_roundstore.specs.Written.{fact_events, what_events}
@@ -186,7 +186,7 @@ module _ (image : List ℕ → List ℕ) where
   pub lawful_accepted : (stored : ℕ → StableRound) (fact : Fact) → IsLawful stored fact → AreAccepted image (λ t. restored (stored t)) (fact_events fact)
   lawful_accepted stored fact is = by fact.what is.what
     where
-      by : (what : RoundFact) → Rattle.ksi_roundfacts.specs.Lawful.MayStore stored fact.second what → AreAccepted image (λ t. restored (stored t)) (what_events fact.second what)
+      by : (what : RoundFact) → Rattle.ksi_aggregator.specs.Lawful.MayStore stored fact.second what → AreAccepted image (λ t. restored (stored t)) (what_events fact.second what)
       by (Closed items) may = closing_accepted image stored fact.second items may
       by (Answered above) may = answer_accepted stored fact.second above may
 

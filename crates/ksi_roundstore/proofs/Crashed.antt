@@ -5,8 +5,8 @@ use Rattle.ksi_aggregator.specs.declared.event.RoundEvent.{RoundEvent}
 use Rattle.ksi_aggregator.specs.declared.fact.Fact.{Fact}
 use Rattle.ksi_aggregator.specs.Events.{MayTake, event_second}
 use Rattle.ksi_aggregator.specs.Rounds.{AggregatorState, rounds_of}
-use Rattle.ksi_roundfacts.specs.Lawful.{with_new}
-use Rattle.ksi_roundfacts.specs.Restored.{HasFacts, IsOfFacts}
+use Rattle.ksi_aggregator.specs.Lawful.{with_new}
+use Rattle.ksi_aggregator.specs.Restored.{HasFacts, IsOfFacts}
 use Rattle.ksi_roundstore.specs.Crashes.{IsRestarted, IsRestartedEither}
 use Rattle.ksi_roundstore.specs.StoreState.{StoreState}
 use Rattle.ksi_roundstore.specs.Stores.{IsFileBeforeOrAfter, IsFileOf, IsStoreOf}

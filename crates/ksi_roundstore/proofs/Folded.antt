@@ -8,7 +8,7 @@ use Rattle.ksi_schedule.specs.Plans.{PlanState}
 use Rattle.ksi_aggregator.specs.declared.fact.Fact.{Fact}
 use Rattle.ksi_aggregator.specs.Rounds.{AggregatorState, rounds_of}
 use Rattle.ksi_aggregator.specs.Rows.{RoundState}
-use Rattle.ksi_roundfacts.specs.Restored.{HasFacts, IsOfFacts}
+use Rattle.ksi_aggregator.specs.Restored.{HasFacts, IsOfFacts}
 use Rattle.ksi_disk.specs.declared.log.GateLog.{GateLog}
 use Rattle.ksi_disk.specs.Logs.{IsSettled}
 use Rattle.ksi_roundstore.specs.Folds.{AreFactsOf, GoesOn, HasNoFact, IsAggregatorOf, IsFault}

@@ -4,7 +4,7 @@ use Rattle.std.proofs.Common.{◌≡◌, ◌≢◌, ℕ, ◌+◌, ◌<◌, ◌^�
 use Rattle.std.proofs.lemmas.Nat.{from_be_bytes-to_be_bytes_4, from_be_bytes-to_be_bytes_8}
 use Rattle.std.proofs.lemmas.List.Elements.{All-nil}
 use Rattle.ksi_schedule.specs.Plans.{IsPlan, PlanState}
-use Rattle.ksi_roundfacts.specs.Lawful.{AreLawful}
+use Rattle.ksi_aggregator.specs.Lawful.{AreLawful}
 use Rattle.ksi_disk.specs.declared.ending.Ending.TheVariants.{Closed}
 use Rattle.ksi_disk.specs.Gates.{Reading, behind, ends, reading_of, records_text}
 use Rattle.ksi_roundstore.specs.Headers.{empty_file, header_at, header_text}

@@ -12,7 +12,7 @@ use Rattle.ksi_aggregator.specs.declared.fact.Fact.{Fact}
 use Rattle.ksi_aggregator.specs.Facts.{StableRound, with_what, with_fact}
 use Rattle.ksi_aggregator.specs.Issuing.{from_request}
 use Rattle.ksi_aggregator.specs.Rounds.{fact_of}
-use Rattle.ksi_roundfacts.specs.Lawful.{stored_by, closed_items, MayStore, IsLawful, AreLawful, AreApart}
+use Rattle.ksi_aggregator.specs.Lawful.{stored_by, closed_items, MayStore, IsLawful, AreLawful, AreApart}
 use Rattle.ksi_roundstore.specs.Left.{what_is_left, left_of_one, left_of}
 use Rattle.ksi_roundstore.proofs.Reasons.{lawful_here}
 

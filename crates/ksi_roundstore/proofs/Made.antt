@@ -19,9 +19,9 @@ use Rattle.ksi_aggregator.specs.Events.{MayTake, event_second, round_row}
 use Rattle.ksi_aggregator.specs.Facts.{stable_round}
 use Rattle.ksi_aggregator.specs.Rounds.{AggregatorState, fact_of, rounds_of}
 use Rattle.ksi_aggregator.specs.Rows.{RoundState, RoundTurn, closed_now, request_entry, response_where, round_added, round_close, round_request, round_response, round_still, round_submission, submitted_entry}
-use Rattle.ksi_roundfacts.specs.Lawful.{AreLawful, with_new}
-use Rattle.ksi_roundfacts.specs.Restored.{HasFacts, IsOfFacts, restored}
-use Rattle.ksi_roundfacts.proofs.Lasting.{facts_last, has_facts}
+use Rattle.ksi_aggregator.specs.Lawful.{AreLawful, with_new}
+use Rattle.ksi_aggregator.specs.Restored.{HasFacts, IsOfFacts, restored}
+use Rattle.ksi_aggregator.proofs.Lasting.{facts_last, has_facts}
 use Rattle.ksi_wire.specs.RoundLines.{FitsRound}
 use Rattle.ksi_roundstore.specs.Facts.{AreAccepted, IsAccepted, IsMade, TakesAll, is_accepted, is_item_of, is_last_behind, round_after, rounds_after}
 use Rattle.ksi_roundstore.specs.Folds.{GoesOn}

@@ -9,7 +9,7 @@ use Rattle.std.proofs.lemmas.List.{append-nil, length-take}
 use Rattle.std.proofs.Math.Seq.{take-append_seam, take-length}
 use Rattle.ksi_schedule.specs.Plans.{PlanState}
 use Rattle.ksi_aggregator.specs.declared.fact.Fact.{Fact}
-use Rattle.ksi_roundfacts.specs.Lawful.{stored_by, AreLawful}
+use Rattle.ksi_aggregator.specs.Lawful.{stored_by, AreLawful}
 use Rattle.ksi_disk.specs.declared.ending.Ending.TheVariants.{Closed}
 use Rattle.ksi_disk.specs.Gates.{Reading, behind, ends, reading_of, records_text}
 use Rattle.ksi_roundstore.specs.declared.heads.Header.{Header}

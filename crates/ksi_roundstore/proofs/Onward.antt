@@ -16,8 +16,8 @@ use Rattle.ksi_aggregator.specs.declared.step.Step.{Step}
 use Rattle.ksi_aggregator.specs.Events.{MayTake, event_second, round_row}
 use Rattle.ksi_aggregator.specs.Rounds.{AggregatorState, IsTurn, fact_of, rounds_of}
 use Rattle.ksi_aggregator.specs.Rows.{RoundState, RoundTurn, closed_now, request_entry, response_where, round_added, round_close, round_request, round_response, round_restarted, round_still, round_submission, submitted_entry}
-use Rattle.ksi_roundfacts.specs.Lawful.{AreLawful, with_new}
-use Rattle.ksi_roundfacts.specs.Restored.{HasFacts, IsOfFacts}
+use Rattle.ksi_aggregator.specs.Lawful.{AreLawful, with_new}
+use Rattle.ksi_aggregator.specs.Restored.{HasFacts, IsOfFacts}
 use Rattle.ksi_roundstore.specs.Crashes.{IsRestartedEither}
 use Rattle.ksi_roundstore.specs.Headers.{header_at}
 use Rattle.ksi_roundstore.specs.StoreState.{StoreState, records_in}

@@ -5,7 +5,7 @@ use Rattle.std.proofs.lemmas.List.{append-nil, take_at}
 use Rattle.std.proofs.lemmas.Option.{none-some}
 use Rattle.ksi_schedule.specs.Plans.{PlanState}
 use Rattle.ksi_aggregator.specs.declared.fact.Fact.{Fact}
-use Rattle.ksi_roundfacts.specs.Lawful.{AreLawful, IsLawful, stored_by}
+use Rattle.ksi_aggregator.specs.Lawful.{AreLawful, IsLawful, stored_by}
 use Rattle.ksi_disk.specs.declared.ending.Ending.TheVariants.{Broken, Closed}
 use Rattle.ksi_disk.specs.Gates.{records_text}
 use Rattle.ksi_roundstore.specs.declared.heads.Header.{Header}

@@ -20,7 +20,7 @@ use Rattle.ksi_wire.specs.declared.fault.WireFault.{WireFault}
 use Rattle.ksi_wire.specs.AskedRounds.{aggregator_line_of}
 use Rattle.ksi_wire.specs.RoundLines.{round_words}
 use Rattle.ksi_roundstore.specs.Texts.{event_from, event_of, lines_of, what_text}
-use Rattle.ksi_roundfacts.specs.Lawful.{AreAdded, AreLawful, IsFit, MayStore, stored_by}
+use Rattle.ksi_aggregator.specs.Lawful.{AreAdded, AreLawful, IsFit, MayStore, stored_by}
 use Rattle.ksi_aggregator.specs.Facts.{StableRound}
 use Rattle.ksi_roundstore.specs.StoreState.{records_in}
 use Rattle.ksi_roundstore.specs.Stores.{IsFileOf}

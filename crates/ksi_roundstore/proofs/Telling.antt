@@ -11,7 +11,7 @@ use Rattle.ksi_aggregator.specs.declared.fact.RoundFact.TheVariants.{Closed, Ans
 use Rattle.ksi_aggregator.specs.declared.fact.Fact.{Fact}
 use Rattle.ksi_aggregator.specs.Facts.{StableRound, with_fact, with_what}
 use Rattle.ksi_aggregator.specs.Rounds.{fact_of}
-use Rattle.ksi_roundfacts.specs.Lawful.{stored_by}
+use Rattle.ksi_aggregator.specs.Lawful.{stored_by}
 use Rattle.ksi_wire.specs.declared.event.AggregatorLine.{AggregatorLine}
 use Rattle.ksi_wire.specs.declared.event.AggregatorLine.TheVariants as lines
 use Rattle.ksi_wire.specs.AskedRounds.{aggregator_line_of}

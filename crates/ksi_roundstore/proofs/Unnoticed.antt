@@ -11,9 +11,9 @@ use Rattle.ksi_aggregator.specs.Events.{event_second, round_row}
 use Rattle.ksi_aggregator.specs.Facts.{StableRound, AnsweredLast}
 use Rattle.ksi_aggregator.specs.Rounds.{AggregatorState, rounds_of}
 use Rattle.ksi_aggregator.specs.Rows.{RoundState, RoundTurn, round_still}
-use Rattle.ksi_roundfacts.specs.Lawful.{stored_by}
-use Rattle.ksi_roundfacts.specs.Restored.{restored, IsOfFacts}
-use Rattle.ksi_roundfacts.specs.Settled.{IsSettled, settled_answer}
+use Rattle.ksi_aggregator.specs.Lawful.{stored_by}
+use Rattle.ksi_aggregator.specs.Restored.{restored, IsOfFacts}
+use Rattle.ksi_aggregator.specs.Settled.{IsSettled, settled_answer}
 use Rattle.ksi_roundstore.specs.Facts.{round_after}
 use Rattle.ksi_roundstore.specs.Left.{is_forgotten, left_before}
 use Rattle.ksi_roundstore.specs.Forgotten.{closed_empty, IsGone, AreForgotten, SayTheSame, SayTheSameOf}

@@ -6,8 +6,8 @@ use Rattle.ksi_aggregator.specs.declared.event.RoundEvent.{RoundEvent}
 use Rattle.ksi_aggregator.specs.declared.fact.Fact.{Fact}
 use Rattle.ksi_aggregator.specs.Rounds.{AggregatorState, rounds_of}
 use Rattle.ksi_aggregator.specs.Rows.{RoundState}
-use Rattle.ksi_roundfacts.specs.Lawful.{stored_by}
-use Rattle.ksi_roundfacts.specs.Restored.{IsOfFacts}
+use Rattle.ksi_aggregator.specs.Lawful.{stored_by}
+use Rattle.ksi_aggregator.specs.Restored.{IsOfFacts}
 use Rattle.ksi_roundstore.specs.Facts.{AreAccepted, IsMade}
 use Rattle.ksi_roundstore.specs.Folds.{HasNoFact}
 use Rattle.ksi_roundstore.specs.Texts.{lines_of}
@@ -30,4 +30,4 @@ module _ (image : List ℕ → List ℕ) (plan : PlanState) (me : ℕ) (facts : 
   pub not_accepted : (old : AggregatorState) (list : List RoundEvent) → content ≡ lines_of list → AllByRecursion (IsWritten plan me) list → IsOfFacts me facts old → (AreAccepted image (rounds_of old) list → ⊥) → HasNoFact plan me facts content
   not_accepted old list text written of none = λ fact is may.
       none (subst (λ (rounds : ℕ → RoundState). AreAccepted image rounds list) (λ i t. sym (of.rounds t) i)
-      (subst (λ (l : List RoundEvent). AreAccepted image (λ t. Rattle.ksi_roundfacts.specs.Restored.restored (stored_by facts t)) l) (sym (same_events list text written fact is)) (lawful_accepted image (stored_by facts) fact may)))
+      (subst (λ (l : List RoundEvent). AreAccepted image (λ t. Rattle.ksi_aggregator.specs.Restored.restored (stored_by facts t)) l) (sym (same_events list text written fact is)) (lawful_accepted image (stored_by facts) fact may)))

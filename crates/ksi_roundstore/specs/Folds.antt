@@ -3,8 +3,8 @@ use Rattle.std.specs.Prelude.{ℕ, List, [], ◌∷◌, ◌++◌, true, false, B
 use Rattle.ksi_schedule.specs.Plans.{PlanState}
 use Rattle.ksi_aggregator.specs.declared.fact.Fact.{Fact}
 use Rattle.ksi_aggregator.specs.Rounds.{AggregatorState}
-use Rattle.ksi_roundfacts.specs.Lawful.{AreLawful, IsLawful, stored_by}
-use Rattle.ksi_roundfacts.specs.Restored.{IsOfFacts}
+use Rattle.ksi_aggregator.specs.Lawful.{AreLawful, IsLawful, stored_by}
+use Rattle.ksi_aggregator.specs.Restored.{IsOfFacts}
 use Rattle.ksi_disk.specs.Gates.{records_text}
 use Rattle.ksi_roundstore.specs.declared.refusal.OpenRefusal.{OpenRefusal}
 use Rattle.ksi_roundstore.specs.declared.refusal.OpenRefusal.TheVariants.{Failed, NotFormatted, Foreign, Malformed, NoMemory}

@@ -3,7 +3,7 @@ use Rattle.std.specs.Prelude.{◌≡◌, ◌⊎◌, ℕ, ◌<◌, List, [], ◌�
 use Rattle.ksi_aggregator.specs.declared.event.RoundEvent.{RoundEvent}
 use Rattle.ksi_aggregator.specs.Events.{event_second, round_row}
 use Rattle.ksi_aggregator.specs.Rows.{RoundState, RoundTurn}
-use Rattle.ksi_roundfacts.specs.Settled.{IsSettled}
+use Rattle.ksi_aggregator.specs.Settled.{IsSettled}
 use Rattle.ksi_roundstore.specs.Facts.{round_after}
 
 -- a round that was closed without items

@@ -5,7 +5,7 @@ use Rattle.ksi_aggregator.specs.declared.fact.RoundFact.TheVariants.{Closed, Ans
 use Rattle.ksi_aggregator.specs.declared.fact.Fact.{Fact}
 use Rattle.ksi_aggregator.specs.Facts.{StableRound}
 use Rattle.ksi_aggregator.specs.Rounds.{fact_of}
-use Rattle.ksi_roundfacts.specs.Lawful.{stored_by}
+use Rattle.ksi_aggregator.specs.Lawful.{stored_by}
 
 -- of a forgotten round it is left that it was closed, without its items; its response goes
 abbrev pub what_is_left : (second : ℕ) → RoundFact → List Fact

@@ -3,7 +3,7 @@ use Rattle.std.specs.Prelude.{◌≡◌, ◌⊎◌, ℕ, ◌+◌, ◌<◌, ◌^�
 use Rattle.ksi_ports.specs.Outside.{Raises}
 use Rattle.ksi_schedule.specs.Plans.{PlanState}
 use Rattle.ksi_aggregator.specs.declared.fact.Fact.{Fact}
-use Rattle.ksi_roundfacts.specs.Restored.{IsOfFacts}
+use Rattle.ksi_aggregator.specs.Restored.{IsOfFacts}
 use Rattle.ksi_disk.specs.declared.ending.Ending.TheVariants as ending
 use Rattle.ksi_disk.specs.Gates.{reading_of}
 use Rattle.ksi_roundstore.specs.declared.refusal.OpenRefusal.{OpenRefusal}

@@ -4,8 +4,8 @@ use Rattle.std.specs.List.{AllByRecursion}
 use Rattle.ksi_schedule.specs.Plans.{PlanState}
 use Rattle.ksi_aggregator.specs.declared.fact.Fact.{Fact}
 use Rattle.ksi_aggregator.specs.Rounds.{rounds_of}
-use Rattle.ksi_roundfacts.specs.Lawful.{AreLawful, with_new}
-use Rattle.ksi_roundfacts.specs.Restored.{HasFacts}
+use Rattle.ksi_aggregator.specs.Lawful.{AreLawful, with_new}
+use Rattle.ksi_aggregator.specs.Restored.{HasFacts}
 use Rattle.ksi_disk.specs.declared.ending.Ending.TheVariants as ending
 use Rattle.ksi_disk.specs.Gates.{reading_of}
 use Rattle.ksi_disk.specs.Logs.{IsSettled}

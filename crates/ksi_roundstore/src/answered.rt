@@ -3,14 +3,14 @@ ghost use Rattle.std.specs.Prelude.{◌≡◌, ◌||◌, ◌&&◌, ℕ, List, If
 ghost use Rattle.std.specs.Ordering.{nat_cmp};
 ghost use Rattle.std.specs.BTreeSet.{contains};
 ghost use Rattle.ksi_aggregator.specs.declared.fact.Fact.{Fact};
-ghost use Rattle.ksi_roundfacts.specs.Lawful.{stored_by};
+ghost use Rattle.ksi_aggregator.specs.Lawful.{stored_by};
 ghost use Rattle.ksi_roundstore.specs.Written.{AreTexts, IsTextOf};
 ghost use Rattle.ksi_roundstore.specs.Kinds.{answers, kind_of};
 
 use crate::kind::Kind;
 use crate::kinds::kind_of;
+use ksi_aggregator::laws::facts_one_by_one;
 use ksi_imprint::{Bytes, NoMemory};
-use ksi_roundfacts::laws::facts_one_by_one;
 use ksi_schedule::Plan;
 use std::alloc::Global;
 use std::collections::BTreeSet;

@@ -15,8 +15,8 @@ ghost use Rattle.ksi_aggregator.specs.Events.{event_second, MayTake, round_row};
 ghost use Rattle.ksi_aggregator.specs.Issuing.{IsIssued, IsIssuedAt};
 ghost use Rattle.ksi_aggregator.specs.Rounds.{AggregatorState, rounds_of, ChangesOnly};
 ghost use Rattle.ksi_aggregator.specs.Rows.{RoundState, round_restarted};
-ghost use Rattle.ksi_roundfacts.specs.Lawful.{AreLawful, with_new};
-ghost use Rattle.ksi_roundfacts.specs.Restored.{HasFacts, IsOfFacts};
+ghost use Rattle.ksi_aggregator.specs.Lawful.{AreLawful, with_new};
+ghost use Rattle.ksi_aggregator.specs.Restored.{HasFacts, IsOfFacts};
 ghost use Rattle.ksi_roundstore.specs.Crashes.{IsRestarted, IsRestartedEither};
 ghost use Rattle.ksi_roundstore.specs.Forgotten.{AreForgotten, SayTheSame, SayTheSameOf};
 ghost use Rattle.ksi_roundstore.specs.Headers.{empty_file};
@@ -28,12 +28,12 @@ ghost use Rattle.ksi_roundstore.specs.Stores.{IsFileBeforeOrAfter, IsFileOf, IsS
 ghost use Rattle.ksi_roundstore.specs.Takes.{fact_added, HasEither, HasStored, TookTurn};
 ghost use Rattle.ksi_roundstore.specs.Written.{IsWritten};
 
+use ksi_aggregator::laws::{
+    facts_one_by_one, one_aggregator_of_facts, settled_rounds_stay, steps_are_lawful,
+};
 use ksi_disk::Disk;
 use ksi_disk::laws::records_are_read_again;
 use ksi_imprint::Compress;
-use ksi_roundfacts::laws::{
-    facts_one_by_one, one_aggregator_of_facts, settled_rounds_stay, steps_are_lawful,
-};
 
 /// A file is of one list of facts.
 pub fn a_file_is_of_one_list_of_facts()

@@ -13,10 +13,10 @@ use crate::found::Found;
 use crate::heading::read_header;
 use crate::heads::HEADER;
 use crate::{OpenRefusal, RoundStore};
+use ksi_aggregator::laws::one_aggregator_of_facts;
 use ksi_disk::laws::{closed_gates_are_in_the_file, records_stand_one_after_the_other};
 use ksi_disk::{Disk, Ending, GateLog, LogRead, read_log, settle};
 use ksi_imprint::Compress;
-use ksi_roundfacts::laws::one_aggregator_of_facts;
 use ksi_schedule::Plan;
 use std::alloc::Global;
 

@@ -7,7 +7,7 @@ use Rattle.ksi_aggregator.specs.declared.step.Step.{Step}
 use Rattle.ksi_aggregator.specs.Events.{MayTake}
 use Rattle.ksi_aggregator.specs.Rounds.{rounds_of}
 use Rattle.ksi_roundstore.specs.StoreState.{StoreState}
-use Rattle.ksi_roundfacts.specs.Lawful.{with_new}
+use Rattle.ksi_aggregator.specs.Lawful.{with_new}
 use Rattle.ksi_aggregator.specs.declared.fact.Fact.{Fact}
 use Rattle.ksi_roundstore.specs.Stores.{IsStoreOf}
 use Rattle.ksi_roundstore.specs.Takes.{HasStored, TookTurn}

@@ -3,7 +3,7 @@ use crate::drawing::{
     Above, HIGH, MIDDLE, behind_field, draw_alone, draw_beside, draw_field, draw_row, fill, space,
 };
 use crate::spans::{Span, span_beside};
-use ksi_aggchain::{LinkView, Node, climb_link};
+use ksi_aggtree::chains::{LinkView, Node, climb_link};
 use ksi_calendar::{CalendarLink, climb_calendar};
 use ksi_imprint::{Imprint, NoMemory, Sha};
 use ksi_signature::{CalendarView, ChainView, SignatureView};

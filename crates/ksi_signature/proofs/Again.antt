@@ -5,20 +5,20 @@ use Rattle.std.proofs.lemmas.Bool.{le-ltb, lt-ltb, eq-eqb, le-leb}
 use Rattle.ksi_imprint.specs.Imprints.{IsImprint}
 use Rattle.ksi_split.specs.declared.side.Side.{Side}
 use Rattle.ksi_split.specs.declared.side.Side.TheVariants.{Left, Right}
-use Rattle.ksi_aggchain.specs.declared.link.Link.{Link}
-use Rattle.ksi_aggchain.specs.declared.link.Sibling.{Sibling}
-use Rattle.ksi_aggchain.specs.declared.link.Sibling.TheVariants as siblings
+use Rattle.ksi_aggtree.specs.declared.chains.link.Link.{Link}
+use Rattle.ksi_aggtree.specs.declared.chains.link.Sibling.{Sibling}
+use Rattle.ksi_aggtree.specs.declared.chains.link.Sibling.TheVariants as siblings
 use Rattle.ksi_tlv.specs.Spelling.{Tlv, plain, canonical, FitsLong, Spells}
 use Rattle.ksi_tlv.specs.Walking.{PlacedTlv, placed_at, elements}
 use Rattle.ksi_tlv.specs.Numerals.{number_of, numeral}
 use Rattle.ksi_tlv.specs.Writing.{texts, placed}
-use Rattle.ksi_grammar.specs.Table.{Table, is_table}
-use Rattle.ksi_grammar.specs.Reading.{container_verdict, inner_verdict}
-use Rattle.ksi_grammar.specs.Valid.{AreWithin, AreEnough, IsContainer}
-use Rattle.ksi_grammar.specs.Contents.{number_in, time_in, level_in, algorithm_in, imprint_in, raw_in}
-use Rattle.ksi_grammar.specs.Inside.{whole, first_of}
-use Rattle.ksi_grammar.specs.Written.{MayStandAnywhere, MayBeWritten}
-use Rattle.ksi_grammar.specs.Published.{published_table, published_in, published_elements, record_elements, number_or_zero}
+use Rattle.ksi_tlv.specs.Table.{Table, is_table}
+use Rattle.ksi_tlv.specs.Containing.{container_verdict, inner_verdict}
+use Rattle.ksi_tlv.specs.Valid.{AreWithin, AreEnough, IsContainer}
+use Rattle.ksi_tlv.specs.Contents.{number_in, time_in, level_in, algorithm_in, imprint_in, raw_in}
+use Rattle.ksi_tlv.specs.Inside.{whole, first_of}
+use Rattle.ksi_tlv.specs.Written.{MayStandAnywhere, MayBeWritten}
+use Rattle.ksi_tlv.specs.Published.{published_table, published_in, published_elements, record_elements, number_or_zero}
 use Rattle.ksi_signature.specs.Tables.{link_table}
 use Rattle.ksi_signature.specs.Values.{HasSize}
 use Rattle.ksi_signature.specs.Kept.{HasImprint, IsLink}

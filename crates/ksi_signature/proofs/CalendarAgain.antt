@@ -10,11 +10,11 @@ use Rattle.ksi_tlv.specs.Spelling.{Tlv, plain, canonical}
 use Rattle.ksi_tlv.specs.Walking.{PlacedTlv, placed_at}
 use Rattle.ksi_tlv.specs.Numerals.{numeral}
 use Rattle.ksi_tlv.specs.Writing.{texts, placed}
-use Rattle.ksi_grammar.specs.Table.{is_among, count}
-use Rattle.ksi_grammar.specs.Reading.{inner_verdict}
-use Rattle.ksi_grammar.specs.Inside.{first_of}
-use Rattle.ksi_grammar.specs.Written.{MayStandAnywhere, MayBeWritten}
-use Rattle.ksi_grammar.specs.Published.{number_or_zero, imprint_or_zero}
+use Rattle.ksi_tlv.specs.Table.{is_among, count}
+use Rattle.ksi_tlv.specs.Containing.{inner_verdict}
+use Rattle.ksi_tlv.specs.Inside.{first_of}
+use Rattle.ksi_tlv.specs.Written.{MayStandAnywhere, MayBeWritten}
+use Rattle.ksi_tlv.specs.Published.{number_or_zero, imprint_or_zero}
 use Rattle.ksi_signature.specs.Tables.{calendar_table}
 use Rattle.ksi_signature.specs.Values.{Calendar}
 use Rattle.ksi_signature.specs.Kept.{IsCalendar}

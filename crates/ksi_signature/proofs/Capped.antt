@@ -4,7 +4,7 @@ use Rattle.std.specs.Prelude.{min, ◌&&◌}
 use Rattle.std.proofs.lemmas.List.{length-append}
 use Rattle.ksi_tlv.specs.Spelling.{Tlv, plain, canonical, short_form, long_form}
 use Rattle.ksi_tlv.specs.Writing.{texts}
-use Rattle.ksi_grammar.specs.Published.{published_elements}
+use Rattle.ksi_tlv.specs.Published.{published_elements}
 use Rattle.ksi_signature.specs.Values.{Publishing}
 use Rattle.ksi_signature.specs.Lengths.{capped, size_of}
 use Rattle.ksi_signature.specs.Written.{publishing_elements}

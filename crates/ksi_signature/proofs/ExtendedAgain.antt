@@ -8,17 +8,17 @@ use Rattle.std.proofs.lemmas.List.Elements.{All-drop}
 use Rattle.ksi_tlv.specs.Spelling.{Tlv, plain, canonical, FitsLong, Spells, AreBytes}
 use Rattle.ksi_tlv.specs.Walking.{PlacedTlv, placed_at, elements, joined, laid, items_of}
 use Rattle.ksi_tlv.specs.Writing.{written, texts}
-use Rattle.ksi_grammar.specs.Table.{Slot, slot_of, count}
-use Rattle.ksi_grammar.specs.Reading.{inner_verdict}
-use Rattle.ksi_grammar.specs.Valid.{MayStandAs, MayStand}
-use Rattle.ksi_grammar.specs.Inside.{first_of}
+use Rattle.ksi_tlv.specs.Table.{Slot, slot_of, count}
+use Rattle.ksi_tlv.specs.Containing.{inner_verdict}
+use Rattle.ksi_tlv.specs.Valid.{MayStandAs, MayStand}
+use Rattle.ksi_tlv.specs.Inside.{first_of}
 use Rattle.ksi_signature.specs.declared.signature.Signature.{Signature}
 use Rattle.ksi_signature.specs.Tables.{chain_table, chains, signature_table, signature_content}
 use Rattle.ksi_signature.specs.Values.{Aggregation, Calendar, Publishing}
 use Rattle.ksi_signature.specs.Kept.{IsCalendar, IsPublishing}
 use Rattle.ksi_signature.specs.Contents.{chain_in, calendar_in, publishing_in, put_chain, chains_behind, signature_of}
 use Rattle.ksi_signature.specs.File.{IsSignature}
-use Rattle.ksi_grammar.specs.Published.{published_elements}
+use Rattle.ksi_tlv.specs.Published.{published_elements}
 use Rattle.ksi_signature.specs.Written.{calendar_element, publishing_elements, publishing_element}
 use Rattle.ksi_signature.specs.Reading.{elements_in}
 use Rattle.ksi_signature.specs.Extended.{is_retained, text_in, retained_texts, content_with, extended_content, extended_text, renewed}

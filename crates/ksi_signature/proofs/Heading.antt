@@ -6,10 +6,10 @@ use Rattle.ksi_tlv.specs.Spelling.{Tlv}
 use Rattle.ksi_tlv.specs.Front.{element_at}
 use Rattle.ksi_tlv.specs.Walking.{PlacedTlv, items_after, items_within, elements}
 use Rattle.ksi_tlv.specs.Numerals.{number_of}
-use Rattle.ksi_grammar.specs.Table.{count}
-use Rattle.ksi_grammar.specs.Reading.{inner_verdict}
-use Rattle.ksi_grammar.specs.Inside.{whole, inner_elements, first_of}
-use Rattle.ksi_grammar.specs.Published.{number_or_zero, imprint_or_zero}
+use Rattle.ksi_tlv.specs.Table.{count}
+use Rattle.ksi_tlv.specs.Containing.{inner_verdict}
+use Rattle.ksi_tlv.specs.Inside.{whole, inner_elements, first_of}
+use Rattle.ksi_tlv.specs.Published.{number_or_zero, imprint_or_zero}
 use Rattle.ksi_signature.specs.Tables.{chain_table, calendar_table}
 use Rattle.ksi_signature.specs.Contents.{bodies_of, number_or, chain_in, calendar_in}
 use Rattle.ksi_signature.specs.Heads.{last_part, Head, head_of, head_with, head_behind, CalendarHead, calendar_with, calendar_behind, time_or, SaysCalendar}

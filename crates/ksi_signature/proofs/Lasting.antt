@@ -3,7 +3,7 @@ use Rattle.std.proofs.Common.{◌≡◌, ℕ, ◌+◌, ◌*◌, ◌≤◌, Bool,
 use Rattle.std.specs.List.{AllByRecursion}
 use Rattle.std.proofs.lemmas.List.{length-append}
 use Rattle.ksi_imprint.specs.Imprints.{IsImprint}
-use Rattle.ksi_aggchain.specs.declared.link.Link.{Link}
+use Rattle.ksi_aggtree.specs.declared.chains.link.Link.{Link}
 use Rattle.ksi_tlv.specs.Spelling.{Tlv, plain, canonical, AreBytes}
 use Rattle.ksi_tlv.specs.Numerals.{numeral}
 use Rattle.ksi_tlv.specs.Walking.{joined}

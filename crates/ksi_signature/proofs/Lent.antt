@@ -6,15 +6,15 @@ use Rattle.std.proofs.lemmas.Bool.{eqb-true}
 use Rattle.ksi_imprint.specs.declared.fault.ImprintFault.{ImprintFault}
 use Rattle.ksi_imprint.specs.Imprints.{IsImprint}
 use Rattle.ksi_imprint.specs.Reading.{imprint_at}
-use Rattle.ksi_aggchain.specs.declared.link.Sibling.TheVariants as siblings
+use Rattle.ksi_aggtree.specs.declared.chains.link.Sibling.TheVariants as siblings
 use Rattle.ksi_tlv.specs.Walking.{PlacedTlv}
 use Rattle.ksi_tlv.specs.Numerals.{number_of}
-use Rattle.ksi_grammar.specs.Table.{slot_of}
-use Rattle.ksi_grammar.specs.Reading.{inner_verdict}
-use Rattle.ksi_grammar.specs.Valid.{MayStandAs, MayStand}
-use Rattle.ksi_grammar.specs.Contents.{time_in, level_in, imprint_or, imprint_in}
-use Rattle.ksi_grammar.specs.Inside.{inner_elements, first_of}
-use Rattle.ksi_grammar.specs.Published.{number_or_zero, imprint_or_zero}
+use Rattle.ksi_tlv.specs.Table.{slot_of}
+use Rattle.ksi_tlv.specs.Containing.{inner_verdict}
+use Rattle.ksi_tlv.specs.Valid.{MayStandAs, MayStand}
+use Rattle.ksi_tlv.specs.Contents.{time_in, level_in, imprint_or, imprint_in}
+use Rattle.ksi_tlv.specs.Inside.{inner_elements, first_of}
+use Rattle.ksi_tlv.specs.Published.{number_or_zero, imprint_or_zero}
 use Rattle.ksi_signature.specs.Tables.{link_table, chain_table}
 use Rattle.ksi_signature.specs.Contents.{sibling_among, link_in, links_among, chain_in}
 use Rattle.ksi_signature.specs.Kept.{HasImprint, IsLink, IsLent}

@@ -7,12 +7,12 @@ use Rattle.ksi_imprint.specs.Imprints.{IsImprint}
 use Rattle.ksi_split.specs.declared.tree_link.TreeLink.{TreeLink}
 use Rattle.ksi_tlv.specs.Walking.{PlacedTlv}
 use Rattle.ksi_tlv.specs.Numerals.{number_of}
-use Rattle.ksi_grammar.specs.Table.{slot_of}
-use Rattle.ksi_grammar.specs.Reading.{inner_verdict}
-use Rattle.ksi_grammar.specs.Valid.{MayStandAs, MayStand}
-use Rattle.ksi_grammar.specs.Contents.{time_in, imprint_in}
-use Rattle.ksi_grammar.specs.Inside.{inner_elements, first_of}
-use Rattle.ksi_grammar.specs.Published.{number_or_zero, imprint_or_zero}
+use Rattle.ksi_tlv.specs.Table.{slot_of}
+use Rattle.ksi_tlv.specs.Containing.{inner_verdict}
+use Rattle.ksi_tlv.specs.Valid.{MayStandAs, MayStand}
+use Rattle.ksi_tlv.specs.Contents.{time_in, imprint_in}
+use Rattle.ksi_tlv.specs.Inside.{inner_elements, first_of}
+use Rattle.ksi_tlv.specs.Published.{number_or_zero, imprint_or_zero}
 use Rattle.ksi_signature.specs.Tables.{calendar_table}
 use Rattle.ksi_signature.specs.Contents.{side_in, number_or, calendar_links_among, calendar_in}
 use Rattle.ksi_signature.specs.Kept.{IsCalendar}

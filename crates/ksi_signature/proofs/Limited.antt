@@ -3,9 +3,9 @@ use Rattle.std.proofs.Common.{◌≡◌, Bool, true, false, cond, eqb, ltb, List
 use Rattle.std.specs.List.{AllByRecursion}
 use Rattle.std.proofs.lemmas.Bool.{eqb-true}
 use Rattle.ksi_tlv.specs.Walking.{PlacedTlv}
-use Rattle.ksi_grammar.specs.Table.{slot_of}
-use Rattle.ksi_grammar.specs.Reading.{inner_verdict}
-use Rattle.ksi_grammar.specs.Valid.{MayStandAs, MayStand}
+use Rattle.ksi_tlv.specs.Table.{slot_of}
+use Rattle.ksi_tlv.specs.Containing.{inner_verdict}
+use Rattle.ksi_tlv.specs.Valid.{MayStandAs, MayStand}
 use Rattle.ksi_signature.specs.declared.signature.Signature.{Signature}
 use Rattle.ksi_signature.specs.Values.{Aggregation}
 use Rattle.ksi_signature.specs.Tables.{chain_table, signature_table}

@@ -5,18 +5,18 @@ use Rattle.std.specs.List.{AllByRecursion}
 use Rattle.std.proofs.lemmas.Bool.{eqb-true, ltb-true, ltb-false, leb-true}
 use Rattle.std.proofs.lemmas.List.{length-map}
 use Rattle.ksi_split.specs.declared.tree_link.TreeLink.{TreeLink}
-use Rattle.ksi_aggchain.specs.declared.link.Link.{Link}
-use Rattle.ksi_aggchain.specs.declared.link.Sibling.TheVariants as siblings
+use Rattle.ksi_aggtree.specs.declared.chains.link.Link.{Link}
+use Rattle.ksi_aggtree.specs.declared.chains.link.Sibling.TheVariants as siblings
 use Rattle.ksi_tlv.specs.Walking.{PlacedTlv, elements}
 use Rattle.ksi_tlv.specs.Numerals.{number_of}
-use Rattle.ksi_grammar.specs.declared.fault.ElementFault.{ElementFault}
-use Rattle.ksi_grammar.specs.declared.fault.ElementFault.TheVariants as faults
-use Rattle.ksi_grammar.specs.Table.{Verdict, Table, slot_of, count, is_table}
-use Rattle.ksi_grammar.specs.Reading.{container_verdict, inner_verdict}
-use Rattle.ksi_grammar.specs.Valid.{MayStandAs, MayStand, IsContainer}
-use Rattle.ksi_grammar.specs.Contents.{time_in, raw_in}
-use Rattle.ksi_grammar.specs.Inside.{whole, inner_elements, first_of}
-use Rattle.ksi_grammar.specs.Published.{published_table, record_table, number_or_zero, published_in, published_or_zero, recorded_in}
+use Rattle.ksi_tlv.specs.declared.grammar.fault.ElementFault.{ElementFault}
+use Rattle.ksi_tlv.specs.declared.grammar.fault.ElementFault.TheVariants as faults
+use Rattle.ksi_tlv.specs.Table.{Verdict, Table, slot_of, count, is_table}
+use Rattle.ksi_tlv.specs.Containing.{container_verdict, inner_verdict}
+use Rattle.ksi_tlv.specs.Valid.{MayStandAs, MayStand, IsContainer}
+use Rattle.ksi_tlv.specs.Contents.{time_in, raw_in}
+use Rattle.ksi_tlv.specs.Inside.{whole, inner_elements, first_of}
+use Rattle.ksi_tlv.specs.Published.{published_table, record_table, number_or_zero, published_in, published_or_zero, recorded_in}
 use Rattle.ksi_signature.specs.Tables.{link_table, chain_table, calendar_table, signature_table}
 use Rattle.ksi_signature.specs.Values.{Aggregation, HasSize, AreLinks, FallFrom, Fall, AreChains}
 use Rattle.ksi_signature.specs.Contents.{bodies_of, sibling_among, link_in, links_among, calendar_links_among, chain_in, put_chain, chains_behind}

@@ -1,13 +1,13 @@
 -- One walk over a link finds what it says.
 use Rattle.std.proofs.Common.{◌≡◌, ℕ, ◌+◌, ◌<◌, ◌≤◌, Bool, true, false, cond, eqb, List, [], ◌∷◌, Ok, refl, ◌∙◌, arith}
 use Rattle.std.specs.Prelude.{◌||◌}
-use Rattle.ksi_aggchain.specs.declared.link.Sibling.{Sibling}
-use Rattle.ksi_aggchain.specs.declared.link.Sibling.TheVariants as siblings
+use Rattle.ksi_aggtree.specs.declared.chains.link.Sibling.{Sibling}
+use Rattle.ksi_aggtree.specs.declared.chains.link.Sibling.TheVariants as siblings
 use Rattle.ksi_tlv.specs.Walking.{PlacedTlv}
-use Rattle.ksi_grammar.specs.Table.{count}
-use Rattle.ksi_grammar.specs.Reading.{inner_verdict}
-use Rattle.ksi_grammar.specs.Inside.{inner_elements, first_of}
-use Rattle.ksi_grammar.specs.Published.{number_or_zero}
+use Rattle.ksi_tlv.specs.Table.{count}
+use Rattle.ksi_tlv.specs.Containing.{inner_verdict}
+use Rattle.ksi_tlv.specs.Inside.{inner_elements, first_of}
+use Rattle.ksi_tlv.specs.Published.{number_or_zero}
 use Rattle.ksi_signature.specs.Tables.{link_table}
 use Rattle.ksi_signature.specs.Contents.{sibling_among, link_in}
 use Rattle.ksi_signature.specs.LinkParts.{Parts, parts_of, sibling_with, parts_with, parts_behind}

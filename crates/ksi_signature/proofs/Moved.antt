@@ -8,20 +8,20 @@ use Rattle.std.proofs.lemmas.List.Elements.{All-drop, All-take}
 use Rattle.ksi_imprint.specs.declared.fault.ImprintFault.{ImprintFault}
 use Rattle.ksi_imprint.specs.Reading.{imprint_at}
 use Rattle.ksi_split.specs.declared.side.Side.{Side}
-use Rattle.ksi_aggchain.specs.declared.link.Link.{Link}
-use Rattle.ksi_aggchain.specs.declared.link.Sibling.{Sibling}
-use Rattle.ksi_aggchain.specs.declared.link.Sibling.TheVariants as siblings
+use Rattle.ksi_aggtree.specs.declared.chains.link.Link.{Link}
+use Rattle.ksi_aggtree.specs.declared.chains.link.Sibling.{Sibling}
+use Rattle.ksi_aggtree.specs.declared.chains.link.Sibling.TheVariants as siblings
 use Rattle.ksi_tlv.specs.Spelling.{Tlv, AreBytes}
 use Rattle.ksi_tlv.specs.Walking.{PlacedTlv, placed_at, elements, joined, laid, items_of}
 use Rattle.ksi_tlv.specs.Numerals.{number_of}
-use Rattle.ksi_grammar.specs.declared.fault.ElementFault.{ElementFault}
-use Rattle.ksi_grammar.specs.declared.fault.ElementFault.TheVariants as faults
-use Rattle.ksi_grammar.specs.Table.{Verdict, Slot, Table, is_among, slot_of, count, is_table}
-use Rattle.ksi_grammar.specs.Reading.{◌>>=◌, container_verdict, inner_verdict}
-use Rattle.ksi_grammar.specs.Valid.{MayStandAs, MayStand, AtMost, AtLeast, AreWithin, AreEnough, IsContainer}
-use Rattle.ksi_grammar.specs.Contents.{passes, number_in, time_in, level_in, algorithm_in, imprint_or, imprint_in, raw_in}
-use Rattle.ksi_grammar.specs.Inside.{whole, inner_elements, first_of}
-use Rattle.ksi_grammar.specs.Published.{number_or_zero, imprint_or_zero}
+use Rattle.ksi_tlv.specs.declared.grammar.fault.ElementFault.{ElementFault}
+use Rattle.ksi_tlv.specs.declared.grammar.fault.ElementFault.TheVariants as faults
+use Rattle.ksi_tlv.specs.Table.{Verdict, Slot, Table, is_among, slot_of, count, is_table}
+use Rattle.ksi_tlv.specs.Containing.{◌>>=◌, container_verdict, inner_verdict}
+use Rattle.ksi_tlv.specs.Valid.{MayStandAs, MayStand, AtMost, AtLeast, AreWithin, AreEnough, IsContainer}
+use Rattle.ksi_tlv.specs.Contents.{passes, number_in, time_in, level_in, algorithm_in, imprint_or, imprint_in, raw_in}
+use Rattle.ksi_tlv.specs.Inside.{whole, inner_elements, first_of}
+use Rattle.ksi_tlv.specs.Published.{number_or_zero, imprint_or_zero}
 use Rattle.ksi_signature.specs.Tables.{link_table, link_content, chain_table, chain_content}
 use Rattle.ksi_signature.specs.Values.{Aggregation}
 use Rattle.ksi_signature.specs.Contents.{bodies_of, sibling_among, link_in, links_among, chain_in}

@@ -5,13 +5,13 @@ use Rattle.std.specs.List.{AllByRecursion}
 use Rattle.std.proofs.lemmas.Bool.{eqb-true, ltb-false, le-leb}
 use Rattle.ksi_tlv.specs.Walking.{PlacedTlv}
 use Rattle.ksi_tlv.specs.Numerals.{number_of}
-use Rattle.ksi_grammar.specs.declared.fault.ElementFault.{ElementFault}
-use Rattle.ksi_grammar.specs.declared.fault.ElementFault.TheVariants as faults
-use Rattle.ksi_grammar.specs.Table.{slot_of}
-use Rattle.ksi_grammar.specs.Reading.{inner_verdict}
-use Rattle.ksi_grammar.specs.Valid.{MayStandAs, MayStand}
-use Rattle.ksi_grammar.specs.Contents.{passes, number_in}
-use Rattle.ksi_grammar.specs.Inside.{inner_elements}
+use Rattle.ksi_tlv.specs.declared.grammar.fault.ElementFault.{ElementFault}
+use Rattle.ksi_tlv.specs.declared.grammar.fault.ElementFault.TheVariants as faults
+use Rattle.ksi_tlv.specs.Table.{slot_of}
+use Rattle.ksi_tlv.specs.Containing.{inner_verdict}
+use Rattle.ksi_tlv.specs.Valid.{MayStandAs, MayStand}
+use Rattle.ksi_tlv.specs.Contents.{passes, number_in}
+use Rattle.ksi_tlv.specs.Inside.{inner_elements}
 use Rattle.ksi_signature.specs.Tables.{chain_table}
 use Rattle.ksi_signature.specs.Heads.{parts_pass}
 use Rattle.ksi_signature.proofs.Limits.{IsHeld}

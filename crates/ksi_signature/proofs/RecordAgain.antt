@@ -8,11 +8,11 @@ use Rattle.ksi_imprint.specs.Imprints.{IsImprint}
 use Rattle.ksi_tlv.specs.Spelling.{Tlv, plain, canonical, short_form, long_form}
 use Rattle.ksi_tlv.specs.Walking.{PlacedTlv, placed_at}
 use Rattle.ksi_tlv.specs.Writing.{texts, placed}
-use Rattle.ksi_grammar.specs.Table.{is_among, count}
-use Rattle.ksi_grammar.specs.Reading.{inner_verdict}
-use Rattle.ksi_grammar.specs.Inside.{inner_elements, first_of}
-use Rattle.ksi_grammar.specs.Written.{MayStandAnywhere, MayBeWritten}
-use Rattle.ksi_grammar.specs.Published.{published_elements, record_table, published_or_zero, recorded_in}
+use Rattle.ksi_tlv.specs.Table.{is_among, count}
+use Rattle.ksi_tlv.specs.Containing.{inner_verdict}
+use Rattle.ksi_tlv.specs.Inside.{inner_elements, first_of}
+use Rattle.ksi_tlv.specs.Written.{MayStandAnywhere, MayBeWritten}
+use Rattle.ksi_tlv.specs.Published.{published_elements, record_table, published_or_zero, recorded_in}
 use Rattle.ksi_signature.specs.Values.{Publishing}
 use Rattle.ksi_signature.specs.Kept.{IsPublishing}
 use Rattle.ksi_signature.specs.Contents.{bodies_of, publishing_in}

@@ -8,7 +8,7 @@ use Rattle.ksi_imprint.specs.declared.refused.Refused.TheVariants.{Fault, NoMemo
 use Rattle.ksi_tlv.specs.Spelling.{plain, canonical}
 use Rattle.ksi_tlv.specs.Walking.{PlacedTlv}
 use Rattle.ksi_tlv.specs.Writing.{texts}
-use Rattle.ksi_grammar.specs.Published.{published_elements}
+use Rattle.ksi_tlv.specs.Published.{published_elements}
 use Rattle.ksi_signature.specs.declared.fault.SignatureFault.{SignatureFault}
 use Rattle.ksi_signature.specs.declared.refusal.WriteRefusal.{WriteRefusal}
 use Rattle.ksi_signature.specs.declared.refusal.WriteRefusal.TheVariants as unwritten

@@ -6,11 +6,11 @@ use Rattle.std.proofs.lemmas.List.{length-append}
 use Rattle.std.proofs.lemmas.List.Elements.{All-cons, All-nil}
 use Rattle.ksi_split.specs.declared.side.Side.{Side}
 use Rattle.ksi_split.specs.declared.side.Side.TheVariants.{Left, Right}
-use Rattle.ksi_aggchain.specs.declared.link.Link.{Link}
-use Rattle.ksi_aggchain.specs.declared.link.Sibling.{Sibling}
-use Rattle.ksi_aggchain.specs.declared.link.Sibling.TheVariants as siblings
-use Rattle.ksi_aggchain.specs.Links.{begins_as_imprint, on_right, is_bare}
-use Rattle.ksi_aggchain.specs.Owned.{is_raw, sibling_bytes, plain_links}
+use Rattle.ksi_aggtree.specs.declared.chains.link.Link.{Link}
+use Rattle.ksi_aggtree.specs.declared.chains.link.Sibling.{Sibling}
+use Rattle.ksi_aggtree.specs.declared.chains.link.Sibling.TheVariants as siblings
+use Rattle.ksi_aggtree.specs.Links.{begins_as_imprint, on_right, is_bare}
+use Rattle.ksi_aggtree.specs.Owned.{is_raw, sibling_bytes, plain_links}
 use Rattle.ksi_tlv.specs.Spelling.{plain, canonical, AreBytes}
 use Rattle.ksi_tlv.specs.Numerals.{number_of, numeral}
 use Rattle.ksi_tlv.specs.Writing.{texts}

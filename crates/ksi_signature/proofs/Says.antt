@@ -6,10 +6,10 @@ use Rattle.ksi_imprint.specs.declared.fault.ImprintFault.TheVariants.{Algorithm,
 use Rattle.ksi_imprint.specs.Reading.{imprint_at}
 use Rattle.ksi_tlv.specs.Walking.{PlacedTlv}
 use Rattle.ksi_tlv.specs.Numerals.{number_of}
-use Rattle.ksi_grammar.specs.declared.fault.ElementFault.{ElementFault}
-use Rattle.ksi_grammar.specs.declared.fault.ElementFault.TheVariants as faults
-use Rattle.ksi_grammar.specs.Reading.{◌>>=◌}
-use Rattle.ksi_grammar.specs.Contents.{passes, time_in, level_in, imprint_or, imprint_in}
+use Rattle.ksi_tlv.specs.declared.grammar.fault.ElementFault.{ElementFault}
+use Rattle.ksi_tlv.specs.declared.grammar.fault.ElementFault.TheVariants as faults
+use Rattle.ksi_tlv.specs.Containing.{◌>>=◌}
+use Rattle.ksi_tlv.specs.Contents.{passes, time_in, level_in, imprint_or, imprint_in}
 
 pub no_fault : {A : Type 0} (r s : Result A ElementFault) (fault : ElementFault) → passes s ≡ Ok tt → r ≡ s → r ≡ Err fault → ⊥
 no_fault r (Ok x) fault ok is err = let no : Ok x ≡ Err fault = sym is ∙ err in absurd cc

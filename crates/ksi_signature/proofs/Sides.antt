@@ -3,11 +3,11 @@ use Rattle.std.proofs.Common.{◌≡◌, ℕ, ◌+◌, ◌^◌, ◌<◌, ◌≤�
 use Rattle.std.specs.Prelude.{◌==◌, ◌||◌}
 use Rattle.std.proofs.lemmas.List.{length-map}
 use Rattle.ksi_split.specs.declared.side.Side.{Side}
-use Rattle.ksi_aggchain.specs.Links.{PlainLink}
-use Rattle.ksi_aggchain.specs.Owned.{plain_link, plain_links}
-use Rattle.ksi_aggchain.specs.Shapes.{left_powers, shape_of}
+use Rattle.ksi_aggtree.specs.Links.{PlainLink}
+use Rattle.ksi_aggtree.specs.Owned.{plain_link, plain_links}
+use Rattle.ksi_aggtree.specs.Shapes.{left_powers, shape_of}
 use Rattle.ksi_tlv.specs.Walking.{PlacedTlv, Items}
-use Rattle.ksi_grammar.specs.Inside.{whole}
+use Rattle.ksi_tlv.specs.Inside.{whole}
 use Rattle.ksi_signature.specs.Contents.{side_in, link_in, links_among}
 
 abbrev pub sides_among : List PlacedTlv → List Side

@@ -7,9 +7,9 @@ use Rattle.std.proofs.lemmas.List.{append-nil}
 use Rattle.ksi_tlv.specs.Spelling.{Tlv, plain, canonical}
 use Rattle.ksi_tlv.specs.Walking.{elements}
 use Rattle.ksi_tlv.specs.Writing.{texts, placed}
-use Rattle.ksi_grammar.specs.Table.{is_among, count}
-use Rattle.ksi_grammar.specs.Inside.{whole, first_of}
-use Rattle.ksi_grammar.specs.Written.{MayStandAnywhere, MayBeWritten}
+use Rattle.ksi_tlv.specs.Table.{is_among, count}
+use Rattle.ksi_tlv.specs.Inside.{whole, first_of}
+use Rattle.ksi_tlv.specs.Written.{MayStandAnywhere, MayBeWritten}
 use Rattle.ksi_signature.specs.declared.signature.Signature.{Signature}
 use Rattle.ksi_signature.specs.Tables.{signature_table}
 use Rattle.ksi_signature.specs.Values.{Aggregation, Calendar, Publishing, FallFrom, Fall}

@@ -6,8 +6,8 @@ use Rattle.std.proofs.lemmas.Bool.{ltb-false}
 use Rattle.ksi_tlv.specs.Spelling.{Tlv, canonical}
 use Rattle.ksi_tlv.specs.Walking.{PlacedTlv, placed_at}
 use Rattle.ksi_tlv.specs.Writing.{placed}
-use Rattle.ksi_grammar.specs.Table.{is_among, count}
-use Rattle.ksi_grammar.specs.Inside.{first_of}
+use Rattle.ksi_tlv.specs.Table.{is_among, count}
+use Rattle.ksi_tlv.specs.Inside.{first_of}
 use Rattle.ksi_signature.specs.Contents.{bodies_of, link_in, links_among, chain_in, put_chain, chains_behind}
 use Rattle.ksi_signature.specs.Values.{Aggregation}
 use Rattle.ksi_signature.specs.Written.{first_long}

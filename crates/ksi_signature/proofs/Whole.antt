@@ -6,11 +6,11 @@ use Rattle.std.proofs.lemmas.List.{take_all, append-nil}
 use Rattle.ksi_tlv.specs.Spelling.{Tlv, Spells, AreBytes, IsFront}
 use Rattle.ksi_tlv.specs.Front.{element_at}
 use Rattle.ksi_tlv.specs.Walking.{PlacedTlv, elements, items_of}
-use Rattle.ksi_grammar.specs.declared.fault.ElementFault.{ElementFault}
-use Rattle.ksi_grammar.specs.Table.{Verdict, Table, is_table}
-use Rattle.ksi_grammar.specs.Reading.{container_verdict}
-use Rattle.ksi_grammar.specs.Valid.{IsContainer, IsWhole, IsFirstFault}
-use Rattle.ksi_grammar.specs.Inside.{whole}
+use Rattle.ksi_tlv.specs.declared.grammar.fault.ElementFault.{ElementFault}
+use Rattle.ksi_tlv.specs.Table.{Verdict, Table, is_table}
+use Rattle.ksi_tlv.specs.Containing.{container_verdict}
+use Rattle.ksi_tlv.specs.Valid.{IsContainer, IsWhole, IsFirstFault}
+use Rattle.ksi_tlv.specs.Inside.{whole}
 use Rattle.ksi_signature.specs.declared.fault.SignatureFault.{SignatureFault}
 use Rattle.ksi_signature.specs.declared.fault.SignatureFault.TheVariants as answers
 use Rattle.ksi_signature.specs.declared.signature.Signature.{Signature}

@@ -1,7 +1,7 @@
 -- What a walk over the references or the repositories of a record still gives.
 use Rattle.std.specs.Prelude.{ℕ, List}
 use Rattle.ksi_tlv.specs.Views.{rest}
-use Rattle.ksi_grammar.specs.Inside.{whole}
+use Rattle.ksi_tlv.specs.Inside.{whole}
 use Rattle.ksi_signature.specs.Contents.{bodies_of}
 use Rattle.ksi_signature.specs.declared.body_views.BodyViews.{BodyViews}
 

@@ -3,9 +3,9 @@ use Rattle.std.specs.Prelude.{◌<◌, ◌≤◌, ◌^◌, ℕ, List, length}
 use Rattle.std.specs.List.{AllByRecursion}
 use Rattle.ksi_imprint.specs.Imprints.{IsImprint}
 use Rattle.ksi_split.specs.declared.tree_link.TreeLink.{TreeLink}
-use Rattle.ksi_aggchain.specs.declared.link.Link.{Link}
-use Rattle.ksi_aggchain.specs.declared.link.Sibling.{Sibling}
-use Rattle.ksi_aggchain.specs.declared.link.Sibling.TheVariants as siblings
+use Rattle.ksi_aggtree.specs.declared.chains.link.Link.{Link}
+use Rattle.ksi_aggtree.specs.declared.chains.link.Sibling.{Sibling}
+use Rattle.ksi_aggtree.specs.declared.chains.link.Sibling.TheVariants as siblings
 use Rattle.ksi_tlv.specs.Spelling.{AreBytes}
 use Rattle.ksi_signature.specs.declared.above.AboveChain.{AboveChain}
 use Rattle.ksi_signature.specs.declared.above.Above.{Above}

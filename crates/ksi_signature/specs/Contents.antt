@@ -4,13 +4,13 @@ use Rattle.ksi_imprint.specs.Imprints.{zero_imprint}
 use Rattle.ksi_split.specs.declared.side.Side.{Side}
 use Rattle.ksi_split.specs.declared.side.Side.TheVariants.{Left, Right}
 use Rattle.ksi_split.specs.declared.tree_link.TreeLink.{TreeLink}
-use Rattle.ksi_aggchain.specs.declared.link.Link.{Link}
-use Rattle.ksi_aggchain.specs.declared.link.Sibling.{Sibling}
-use Rattle.ksi_aggchain.specs.declared.link.Sibling.TheVariants as siblings
+use Rattle.ksi_aggtree.specs.declared.chains.link.Link.{Link}
+use Rattle.ksi_aggtree.specs.declared.chains.link.Sibling.{Sibling}
+use Rattle.ksi_aggtree.specs.declared.chains.link.Sibling.TheVariants as siblings
 use Rattle.ksi_tlv.specs.Walking.{PlacedTlv}
 use Rattle.ksi_tlv.specs.Numerals.{number_of}
-use Rattle.ksi_grammar.specs.Inside.{inner_elements, first_of}
-use Rattle.ksi_grammar.specs.Published.{number_or_zero, imprint_or_zero, recorded_in}
+use Rattle.ksi_tlv.specs.Inside.{inner_elements, first_of}
+use Rattle.ksi_tlv.specs.Published.{number_or_zero, imprint_or_zero, recorded_in}
 use Rattle.ksi_signature.specs.Values.{Aggregation, Calendar, Publishing}
 use Rattle.ksi_signature.specs.declared.signature.Signature.{Signature}
 

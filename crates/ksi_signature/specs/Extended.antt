@@ -3,7 +3,7 @@ use Rattle.std.specs.Prelude.{◌≡◌, ℕ, ◌^◌, ◌<◌, min, ◌+◌, �
 use Rattle.ksi_tlv.specs.Spelling.{Tlv, plain, canonical}
 use Rattle.ksi_tlv.specs.Walking.{PlacedTlv}
 use Rattle.ksi_tlv.specs.Writing.{texts}
-use Rattle.ksi_grammar.specs.Table.{is_known}
+use Rattle.ksi_tlv.specs.Table.{is_known}
 use Rattle.ksi_signature.specs.Values.{Calendar, Publishing}
 use Rattle.ksi_signature.specs.declared.signature.Signature.{Signature}
 use Rattle.ksi_signature.specs.Tables.{signature_table}

@@ -3,11 +3,11 @@ use Rattle.std.specs.Prelude.{◌≡◌, ◌≢◌, ℕ, ◌-◌, ◌<◌, ◌�
 use Rattle.ksi_tlv.specs.Spelling.{Tlv, Spells, IsFront}
 use Rattle.ksi_tlv.specs.Front.{element_at}
 use Rattle.ksi_tlv.specs.Walking.{PlacedTlv}
-use Rattle.ksi_grammar.specs.declared.fault.ElementFault.{ElementFault}
-use Rattle.ksi_grammar.specs.declared.fault.ElementFault.TheVariants as faults
-use Rattle.ksi_grammar.specs.Table.{Verdict}
-use Rattle.ksi_grammar.specs.Reading.{container_verdict}
-use Rattle.ksi_grammar.specs.Valid.{IsContainer, IsWhole, IsFirstFault}
+use Rattle.ksi_tlv.specs.declared.grammar.fault.ElementFault.{ElementFault}
+use Rattle.ksi_tlv.specs.declared.grammar.fault.ElementFault.TheVariants as faults
+use Rattle.ksi_tlv.specs.Table.{Verdict}
+use Rattle.ksi_tlv.specs.Containing.{container_verdict}
+use Rattle.ksi_tlv.specs.Valid.{IsContainer, IsWhole, IsFirstFault}
 use Rattle.ksi_signature.specs.declared.fault.SignatureFault.{SignatureFault}
 use Rattle.ksi_signature.specs.declared.fault.SignatureFault.TheVariants as answers
 use Rattle.ksi_signature.specs.declared.signature.Signature.{Signature}

@@ -1,7 +1,7 @@
 -- The signature that is issued of an item, by a response.
 use Rattle.std.specs.Prelude.{ℕ, List, [], ◌∷◌, ◌++◌, map, Some, None}
-use Rattle.ksi_aggchain.specs.declared.link.Link.{Link}
-use Rattle.ksi_aggchain.specs.Shapes.{shape_of}
+use Rattle.ksi_aggtree.specs.declared.chains.link.Link.{Link}
+use Rattle.ksi_aggtree.specs.Shapes.{shape_of}
 use Rattle.ksi_signature.specs.Values.{Aggregation}
 use Rattle.ksi_signature.specs.declared.signature.Signature.{Signature}
 use Rattle.ksi_signature.specs.declared.above.AboveChain.{AboveChain}

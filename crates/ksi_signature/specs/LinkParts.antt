@@ -1,9 +1,9 @@
 -- What a link of an aggregation chain is beside its side, and what is found of it in one walk over its elements: where a
 -- kind stands twice, the last counts.
 use Rattle.std.specs.Prelude.{ℕ, ◌==◌, List, [], ◌∷◌, if◌then◌else◌}
-use Rattle.ksi_aggchain.specs.declared.link.Link.{Link}
-use Rattle.ksi_aggchain.specs.declared.link.Sibling.{Sibling}
-use Rattle.ksi_aggchain.specs.declared.link.Sibling.TheVariants as siblings
+use Rattle.ksi_aggtree.specs.declared.chains.link.Link.{Link}
+use Rattle.ksi_aggtree.specs.declared.chains.link.Sibling.{Sibling}
+use Rattle.ksi_aggtree.specs.declared.chains.link.Sibling.TheVariants as siblings
 use Rattle.ksi_tlv.specs.Walking.{PlacedTlv}
 use Rattle.ksi_tlv.specs.Numerals.{number_of}
 use Rattle.ksi_signature.specs.declared.link_parts.LinkParts.{LinkParts}

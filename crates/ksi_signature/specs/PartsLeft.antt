@@ -2,7 +2,7 @@
 use Rattle.std.specs.Prelude.{ℕ, List, map}
 use Rattle.ksi_tlv.specs.Views.{rest}
 use Rattle.ksi_tlv.specs.Numerals.{number_of}
-use Rattle.ksi_grammar.specs.Inside.{whole}
+use Rattle.ksi_tlv.specs.Inside.{whole}
 use Rattle.ksi_signature.specs.Contents.{bodies_of}
 use Rattle.ksi_signature.specs.declared.index_parts.IndexParts.{IndexParts}
 

@@ -3,7 +3,7 @@ use Rattle.std.specs.Prelude.{ℕ, ◌-◌, List, [], length, Result, Ok, Err}
 use Rattle.ksi_tlv.specs.Spelling.{Tlv}
 use Rattle.ksi_tlv.specs.Front.{element_at}
 use Rattle.ksi_tlv.specs.Walking.{PlacedTlv, elements}
-use Rattle.ksi_grammar.specs.Inside.{whole}
+use Rattle.ksi_tlv.specs.Inside.{whole}
 use Rattle.ksi_signature.specs.declared.fault.SignatureFault.{SignatureFault}
 use Rattle.ksi_signature.specs.declared.signature.Signature.{Signature}
 use Rattle.ksi_signature.specs.Contents.{signature_of}

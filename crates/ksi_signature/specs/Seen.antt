@@ -1,7 +1,7 @@
 -- What a lent signature shows, and the bytes that it is lent from.
 use Rattle.std.specs.Prelude.{ℕ, List}
 use Rattle.ksi_tlv.specs.Views.{view_placed}
-use Rattle.ksi_grammar.specs.Inside.{inner_elements}
+use Rattle.ksi_tlv.specs.Inside.{inner_elements}
 use Rattle.ksi_signature.specs.Contents.{signature_of}
 use Rattle.ksi_signature.specs.declared.signature_view.SignatureView.{SignatureView}
 use Rattle.ksi_signature.specs.declared.signature.Signature.{Signature}

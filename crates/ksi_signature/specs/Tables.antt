@@ -1,12 +1,12 @@
 -- The tables of the containers of a signature.
 use Rattle.std.specs.Prelude.{◌==◌, ◌||◌, [], ◌∷◌, Some, None, Ok, if◌then◌else◌}
 use Rattle.ksi_tlv.specs.Walking.{PlacedTlv}
-use Rattle.ksi_grammar.specs.declared.fault.ElementFault.TheVariants as faults
-use Rattle.ksi_grammar.specs.declared.rule.Over.TheVariants as overs
-use Rattle.ksi_grammar.specs.Table.{Verdict, Slot, Table, exactly_once, at_most_once, one_or_more}
-use Rattle.ksi_grammar.specs.Reading.{inner_verdict}
-use Rattle.ksi_grammar.specs.Contents.{passes, number_in, time_in, level_in, algorithm_in, imprint_in, raw_in}
-use Rattle.ksi_grammar.specs.Published.{record_table}
+use Rattle.ksi_tlv.specs.declared.grammar.fault.ElementFault.TheVariants as faults
+use Rattle.ksi_tlv.specs.declared.grammar.rule.Over.TheVariants as overs
+use Rattle.ksi_tlv.specs.Table.{Verdict, Slot, Table, exactly_once, at_most_once, one_or_more}
+use Rattle.ksi_tlv.specs.Containing.{inner_verdict}
+use Rattle.ksi_tlv.specs.Contents.{passes, number_in, time_in, level_in, algorithm_in, imprint_in, raw_in}
+use Rattle.ksi_tlv.specs.Published.{record_table}
 
 -- ---- a link of an aggregation chain
 

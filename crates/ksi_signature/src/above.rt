@@ -4,7 +4,7 @@ ghost use Rattle.std.specs.Prelude.{◌≡◌, ◌≤◌, length};
 ghost use Rattle.ksi_signature.specs.Above.{AreRoundLinks};
 
 use crate::lists::CalendarLinks;
-use ksi_aggchain::Link;
+use ksi_aggtree::chains::Link;
 use ksi_imprint::Imprint;
 use std::marker::Model;
 
@@ -37,7 +37,7 @@ pub struct AboveLinks {
 
 impl Model for AboveLinks {
     ghost use Rattle.std.specs.Prelude.{List};
-    ghost use Rattle.ksi_aggchain.specs.declared.link.Link as chain;
+    ghost use Rattle.ksi_aggtree.specs.declared.chains.link.Link as chain;
     ghost use Rattle.ksi_signature.specs.Above.{AreRoundLinks};
 
     ghost Value = { List chain.Link };

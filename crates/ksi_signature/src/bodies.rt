@@ -17,12 +17,12 @@ use crate::kinds::{
 };
 use crate::refusal::WriteRefusal;
 use crate::signature::PublicationRecord;
-use ksi_aggchain::{Link, Sibling};
+use ksi_aggtree::chains::{Link, Sibling};
 use ksi_calendar::CalendarLink;
-use ksi_grammar::{put_short, written_published};
 use ksi_imprint::{Bytes, Imprint, Refused};
 use ksi_split::Side;
 use ksi_tlv::Writer;
+use ksi_tlv::grammar::{put_short, written_published};
 use ksi_tlv::laws::numeral_is_read;
 use std::alloc::Global;
 

@@ -1,7 +1,7 @@
 ghost use Rattle.std.specs.Prelude.{◌≡◌};
 ghost use Rattle.std.specs.Iterator.{YieldsFirstBy};
 ghost use Rattle.ksi_tlv.specs.Views.{rest};
-ghost use Rattle.ksi_grammar.specs.Inside.{whole};
+ghost use Rattle.ksi_tlv.specs.Inside.{whole};
 ghost use Rattle.ksi_signature.specs.Contents.{bodies_of};
 
 use ksi_tlv::{Elements, Placed};
@@ -16,7 +16,7 @@ pub struct BodyViews<'a> {
 impl<'a> BodyViews<'a> {
     ghost use Rattle.std.specs.Prelude.{◌≡◌};
     ghost use Rattle.ksi_tlv.specs.Views.{view_placed};
-    ghost use Rattle.ksi_grammar.specs.Inside.{inner_elements};
+    ghost use Rattle.ksi_tlv.specs.Inside.{inner_elements};
     ghost use Rattle.ksi_signature.specs.Contents.{bodies_of};
     ghost use Rattle.ksi_signature.specs.BodiesLeft.{bodies_left};
 

@@ -6,8 +6,8 @@ ghost use Rattle.ksi_split.specs.Trees.{climb_links};
 ghost use Rattle.ksi_calendar.specs.Climbing.{calendar_element_text, calendar_join};
 ghost use Rattle.ksi_calendar.specs.Sides.{sides_from_top};
 ghost use Rattle.ksi_tlv.specs.Views.{view_placed};
-ghost use Rattle.ksi_grammar.specs.Reading.{inner_verdict};
-ghost use Rattle.ksi_grammar.specs.Inside.{inner_elements};
+ghost use Rattle.ksi_tlv.specs.Containing.{inner_verdict};
+ghost use Rattle.ksi_tlv.specs.Inside.{inner_elements};
 ghost use Rattle.ksi_signature.specs.Tables.{calendar_table};
 ghost use Rattle.ksi_signature.specs.Contents.{calendar_links_among, side_in};
 

@@ -1,6 +1,6 @@
 ghost use Rattle.std.specs.Prelude.{◌≡◌, Ok};
 ghost use Rattle.ksi_tlv.specs.Views.{view_placed};
-ghost use Rattle.ksi_grammar.specs.Reading.{inner_verdict};
+ghost use Rattle.ksi_tlv.specs.Containing.{inner_verdict};
 ghost use Rattle.ksi_signature.specs.Tables.{calendar_table};
 ghost use Rattle.ksi_signature.specs.Contents.{calendar_in};
 
@@ -32,7 +32,7 @@ impl<'a> CalendarView<'a> {
     ghost use Rattle.ksi_calendar.specs.Climbing.{calendar_join};
     ghost use Rattle.ksi_calendar.specs.Sides.{sides_from_top};
     ghost use Rattle.ksi_tlv.specs.Views.{view_placed};
-    ghost use Rattle.ksi_grammar.specs.Reading.{inner_verdict};
+    ghost use Rattle.ksi_tlv.specs.Containing.{inner_verdict};
     ghost use Rattle.ksi_signature.specs.Tables.{calendar_table};
     ghost use Rattle.ksi_signature.specs.Contents.{calendar_in};
     ghost use Rattle.ksi_signature.specs.PartsSeen.{calendar_seen};

@@ -2,9 +2,9 @@
 
 ghost use Rattle.std.specs.Prelude.{◌≡◌, Ok};
 ghost use Rattle.ksi_tlv.specs.Views.{view_placed};
-ghost use Rattle.ksi_grammar.specs.Reading.{inner_verdict};
-ghost use Rattle.ksi_grammar.specs.Valid.{MayStand};
-ghost use Rattle.ksi_grammar.specs.Inside.{inner_elements};
+ghost use Rattle.ksi_tlv.specs.Containing.{inner_verdict};
+ghost use Rattle.ksi_tlv.specs.Valid.{MayStand};
+ghost use Rattle.ksi_tlv.specs.Inside.{inner_elements};
 ghost use Rattle.ksi_signature.specs.Tables.{calendar_table};
 ghost use Rattle.ksi_signature.specs.Contents.{calendar_in, calendar_links_among};
 ghost use Rattle.ksi_signature.specs.Heads.{SaysCalendar, calendar_with};
@@ -16,7 +16,7 @@ use crate::head::CalendarHead;
 use crate::kinds::{AGGREGATION_TIME, INPUT_HASH, PUBLICATION_TIME};
 use crate::within::calendar_is_limited;
 use ksi_calendar::CalendarLink;
-use ksi_grammar::laws::inside_is_whole;
+use ksi_tlv::grammar::laws::inside_is_whole;
 use ksi_tlv::{Elements, Placed};
 
 /// All of an accepted calendar chain but its links.

@@ -8,7 +8,7 @@ ghost use Rattle.ksi_signature.specs.Carried.{IsAboveChain, IsAbove};
 
 use crate::above::{Above, AboveChain};
 use crate::signature::{CalendarChain, PublicationRecord};
-use ksi_aggchain::{Link, Sibling};
+use ksi_aggtree::chains::{Link, Sibling};
 use ksi_calendar::CalendarLink;
 use ksi_imprint::Imprint;
 

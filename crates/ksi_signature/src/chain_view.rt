@@ -1,6 +1,6 @@
 ghost use Rattle.std.specs.Prelude.{◌≡◌, Ok};
 ghost use Rattle.ksi_tlv.specs.Views.{view_placed};
-ghost use Rattle.ksi_grammar.specs.Reading.{inner_verdict};
+ghost use Rattle.ksi_tlv.specs.Containing.{inner_verdict};
 ghost use Rattle.ksi_signature.specs.Tables.{chain_table};
 ghost use Rattle.ksi_signature.specs.Contents.{chain_in};
 ghost use Rattle.ksi_signature.specs.Heads.{head_of};
@@ -13,7 +13,7 @@ use crate::link_views::LinkViews;
 use crate::link_walking::{bare_in, climb_in, links_in, shape_in, sibling_in};
 use crate::walking::head_in;
 use crate::within::{chain_is_limited, imprint_in_chain, parts_are_numbers};
-use ksi_aggchain::{LevelFault, Node};
+use ksi_aggtree::chains::{LevelFault, Node};
 use ksi_imprint::{Compress, Imprint};
 use ksi_tlv::{Elements, Placed};
 
@@ -29,12 +29,12 @@ pub struct ChainView<'a> {
 impl<'a> ChainView<'a> {
     ghost use Rattle.std.specs.Prelude.{◌≡◌, ◌<◌, ◌≤◌, ◌^◌, Ok, length, map, option_map, slice_get};
     ghost use Rattle.std.specs.List.{AllByRecursion};
-    ghost use Rattle.ksi_aggchain.specs.Climbing.{climbed};
-    ghost use Rattle.ksi_aggchain.specs.Links.{first_bare};
-    ghost use Rattle.ksi_aggchain.specs.Shapes.{shape_of};
-    ghost use Rattle.ksi_aggchain.specs.Owned.{plain_links};
+    ghost use Rattle.ksi_aggtree.specs.Climbing.{climbed};
+    ghost use Rattle.ksi_aggtree.specs.Links.{first_bare};
+    ghost use Rattle.ksi_aggtree.specs.Shapes.{shape_of};
+    ghost use Rattle.ksi_aggtree.specs.Owned.{plain_links};
     ghost use Rattle.ksi_tlv.specs.Views.{view_placed};
-    ghost use Rattle.ksi_grammar.specs.Reading.{inner_verdict};
+    ghost use Rattle.ksi_tlv.specs.Containing.{inner_verdict};
     ghost use Rattle.ksi_signature.specs.Tables.{chain_table};
     ghost use Rattle.ksi_signature.specs.Contents.{chain_in};
     ghost use Rattle.ksi_signature.specs.Heads.{last_part};

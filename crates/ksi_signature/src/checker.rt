@@ -1,7 +1,7 @@
 ghost use Rattle.std.specs.Prelude.{◌≡◌, ◌≤◌, ◌-◌, ◌↔◌, length, Ok, Err, IsOk, IfOk, IfErr};
 ghost use Rattle.ksi_tlv.specs.Views.{view};
 ghost use Rattle.ksi_tlv.specs.Front.{element_at};
-ghost use Rattle.ksi_grammar.specs.Reading.{container_verdict};
+ghost use Rattle.ksi_tlv.specs.Containing.{container_verdict};
 ghost use Rattle.ksi_signature.specs.Tables.{signature_table};
 ghost use Rattle.ksi_signature.specs.declared.fault.SignatureFault.{SignatureFault};
 ghost use Rattle.ksi_signature.specs.declared.signature.Signature.{Signature};
@@ -11,7 +11,7 @@ use crate::containers::SignatureContent;
 use crate::fault::SignatureFault;
 use crate::kinds::SIGNATURE;
 use crate::laws::signature_or_fault;
-use ksi_grammar::{ElementFault, check as check_container};
+use ksi_tlv::grammar::{ElementFault, check as check_container};
 use ksi_tlv::{Element, read_one};
 
 /// Whether bytes are a signature, else the first fault in reading order. No memory is taken.

@@ -1,16 +1,16 @@
 ghost use Rattle.std.specs.Prelude.{◌≡◌, Some, refl};
-ghost use Rattle.ksi_grammar.specs.declared.rule.Over.TheVariants.{Links};
+ghost use Rattle.ksi_tlv.specs.declared.grammar.rule.Over.TheVariants.{Links};
 ghost use Rattle.ksi_signature.specs.Tables.{link_table, chain_table, calendar_table, signature_table};
 
 use crate::kinds::{
     AGGREGATION_TIME, ALGORITHM, CALENDAR, CHAIN, CORRECTION, IMPRINT, INDEX_PART, INPUT_DATA,
     INPUT_HASH, LEFT_LINK, LEGACY, METADATA, PUBLICATION, PUBLICATION_TIME, RIGHT_LINK,
 };
-use ksi_grammar::{
+use ksi_tlv::Placed;
+use ksi_tlv::grammar::{
     ElementFault, Grammar, Over, RecordContent, Rule, Seen, algorithm, check, imprint, level,
     missing, number, raw, time,
 };
-use ksi_tlv::Placed;
 
 /// A level correction or none, and one sibling.
 #[derive(Clone, Copy)]

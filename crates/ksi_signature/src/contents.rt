@@ -1,14 +1,14 @@
 ghost use Rattle.std.specs.Prelude.{◌≡◌, ◌==◌, ◌||◌, ◌<◌, ◌^◌, Ok};
 ghost use Rattle.ksi_tlv.specs.Views.{view_placed};
 ghost use Rattle.ksi_tlv.specs.Numerals.{number_of};
-ghost use Rattle.ksi_grammar.specs.Contents.{passes, number_in, time_in, level_in, imprint_in};
+ghost use Rattle.ksi_tlv.specs.Contents.{passes, number_in, time_in, level_in, imprint_in};
 ghost use Rattle.ksi_signature.specs.Contents.{side_in};
 
 use crate::kinds::{LEFT_LINK, RIGHT_LINK};
-use ksi_grammar::{imprint, level, number, time};
 use ksi_imprint::Imprint;
 use ksi_split::Side;
 use ksi_tlv::Placed;
+use ksi_tlv::grammar::{imprint, level, number, time};
 
 /// The number that an accepted element says.
 pub(crate) fn number_of(part: &Placed<'_>) -> u64

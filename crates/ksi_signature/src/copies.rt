@@ -2,7 +2,7 @@
 
 ghost use Rattle.std.specs.Prelude.{◌≡◌, ◌≤◌, IfOk, length, map, option_map};
 ghost use Rattle.ksi_tlv.specs.Views.{view_placed};
-ghost use Rattle.ksi_grammar.specs.Inside.{inner_elements};
+ghost use Rattle.ksi_tlv.specs.Inside.{inner_elements};
 ghost use Rattle.ksi_signature.specs.Values.{AreChains};
 ghost use Rattle.ksi_signature.specs.Contents.{bodies_of};
 ghost use Rattle.ksi_signature.specs.PartsSeen.{chain_seen, calendar_seen, record_seen};

@@ -4,7 +4,7 @@ ghost use Rattle.ksi_imprint.specs.declared.refused.Refused.TheVariants.{Fault};
 ghost use Rattle.ksi_tlv.specs.Views.{view, view_placed};
 ghost use Rattle.ksi_tlv.specs.Spelling.{plain, canonical};
 ghost use Rattle.ksi_tlv.specs.Writing.{texts};
-ghost use Rattle.ksi_grammar.specs.Inside.{inner_elements};
+ghost use Rattle.ksi_tlv.specs.Inside.{inner_elements};
 ghost use Rattle.ksi_signature.specs.declared.fault.SignatureFault.{SignatureFault};
 ghost use Rattle.ksi_signature.specs.declared.extension.WithRefusal.TheVariants as refusals;
 ghost use Rattle.ksi_signature.specs.declared.signature.Signature.{Signature};
@@ -25,8 +25,8 @@ use crate::refusal::WriteRefusal;
 use crate::signature::{CalendarChain, PublicationRecord};
 use crate::signature_view::SignatureView;
 use crate::viewer::view;
-use ksi_grammar::put_short;
 use ksi_imprint::{Bytes, Refused};
+use ksi_tlv::grammar::put_short;
 use ksi_tlv::{Element, Elements, Placed, Writer};
 use std::alloc::Global;
 

@@ -3,9 +3,9 @@
 ghost use Rattle.std.specs.Prelude.{◌≡◌, ◌∷◌, [], Ok};
 ghost use Rattle.std.specs.List.{AllByRecursion};
 ghost use Rattle.ksi_tlv.specs.Views.{view_placed, rest};
-ghost use Rattle.ksi_grammar.specs.Reading.{inner_verdict};
-ghost use Rattle.ksi_grammar.specs.Valid.{MayStand};
-ghost use Rattle.ksi_grammar.specs.Inside.{inner_elements, whole};
+ghost use Rattle.ksi_tlv.specs.Containing.{inner_verdict};
+ghost use Rattle.ksi_tlv.specs.Valid.{MayStand};
+ghost use Rattle.ksi_tlv.specs.Inside.{inner_elements, whole};
 ghost use Rattle.ksi_signature.specs.Tables.{signature_table};
 ghost use Rattle.ksi_signature.specs.Contents.{chains_behind};
 ghost use Rattle.ksi_signature.specs.Gathered.{BeginsChains};
@@ -13,7 +13,7 @@ ghost use Rattle.ksi_signature.specs.Gathered.{BeginsChains};
 use crate::chain_list::ChainList;
 use crate::chain_view::ChainView;
 use crate::kinds::CHAIN;
-use ksi_grammar::laws::inside_is_whole;
+use ksi_tlv::grammar::laws::inside_is_whole;
 use ksi_tlv::{Elements, Placed};
 
 pub(crate) fn chains_in<'a>(at: &Placed<'a>) -> ChainList<'a>

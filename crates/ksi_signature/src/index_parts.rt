@@ -2,7 +2,7 @@ ghost use Rattle.std.specs.Prelude.{◌≡◌, true, length, map};
 ghost use Rattle.std.specs.Iterator.{YieldsFirstBy};
 ghost use Rattle.ksi_tlv.specs.Views.{rest};
 ghost use Rattle.ksi_tlv.specs.Numerals.{number_of};
-ghost use Rattle.ksi_grammar.specs.Inside.{whole};
+ghost use Rattle.ksi_tlv.specs.Inside.{whole};
 ghost use Rattle.ksi_signature.specs.Contents.{bodies_of};
 ghost use Rattle.ksi_signature.specs.Heads.{parts_pass};
 
@@ -23,7 +23,7 @@ impl<'a> IndexParts<'a> {
     ghost use Rattle.std.specs.Prelude.{◌≡◌, true, length, map};
     ghost use Rattle.ksi_tlv.specs.Views.{rest};
     ghost use Rattle.ksi_tlv.specs.Numerals.{number_of};
-    ghost use Rattle.ksi_grammar.specs.Inside.{whole};
+    ghost use Rattle.ksi_tlv.specs.Inside.{whole};
     ghost use Rattle.ksi_signature.specs.Contents.{bodies_of};
     ghost use Rattle.ksi_signature.specs.Heads.{parts_pass};
     ghost use Rattle.ksi_signature.specs.PartsLeft.{parts_left};

@@ -16,10 +16,10 @@ use crate::carried::{above_is_kept, imprint_is_kept, links_are_kept};
 use crate::kinds::{CALENDAR, CHAIN, SIGNATURE};
 use crate::laws::written_is_signature;
 use crate::refusal::WriteRefusal;
-use ksi_aggchain::{Link, shape};
-use ksi_grammar::put_short;
+use ksi_aggtree::chains::{Link, shape};
 use ksi_imprint::{Bytes, Imprint, Refused};
 use ksi_tlv::Writer;
+use ksi_tlv::grammar::put_short;
 use ksi_tlv::laws::numeral_is_read;
 use std::alloc::Global;
 

@@ -3,9 +3,9 @@
 ghost use Rattle.std.specs.Prelude.{◌≡◌, ◌↔◌, ◌⊎◌, ◌≤◌, ◌+◌, ℕ, List, [], length, false, None, Ok, Err};
 ghost use Rattle.std.specs.List.{AllByRecursion};
 ghost use Rattle.ksi_imprint.specs.Imprints.{IsImprint};
-ghost use Rattle.ksi_aggchain.specs.declared.link.Link.{Link};
-ghost use Rattle.ksi_aggchain.specs.Links.{is_bare};
-ghost use Rattle.ksi_aggchain.specs.Owned.{plain_links};
+ghost use Rattle.ksi_aggtree.specs.declared.chains.link.Link.{Link};
+ghost use Rattle.ksi_aggtree.specs.Links.{is_bare};
+ghost use Rattle.ksi_aggtree.specs.Owned.{plain_links};
 ghost use Rattle.ksi_tlv.specs.Spelling.{AreBytes};
 ghost use Rattle.ksi_tlv.specs.Walking.{PlacedTlv};
 ghost use Rattle.ksi_signature.specs.Values.{Calendar, Publishing, Fall};
@@ -26,7 +26,7 @@ ghost use Rattle.ksi_signature.specs.Written.{signature_text, sizes_of, first_lo
 
 use crate::signature_view::SignatureView;
 use crate::within::are_bytes;
-use ksi_grammar::laws::{
+use ksi_tlv::grammar::laws::{
     inside_is_whole, published_is_read, record_is_read, whole_or_fault, written_is_whole,
 };
 use ksi_tlv::laws::{

@@ -6,7 +6,7 @@ ghost use Rattle.ksi_tlv.specs.Numerals.{numeral, without_zeros};
 ghost use Rattle.ksi_tlv.specs.Writing.{texts};
 ghost use Rattle.ksi_signature.specs.Lengths.{capped, size_of};
 ghost use Rattle.ksi_signature.specs.Written.{calendar_link_element, calendar_elements, publishing_elements};
-ghost use Rattle.ksi_grammar.specs.Published.{published_elements};
+ghost use Rattle.ksi_tlv.specs.Published.{published_elements};
 
 use crate::kinds::{
     AGGREGATION_TIME, INPUT_HASH, LEFT_LINK, PUBLICATION_TIME, PUBLISHED, REFERENCE, REPOSITORY,

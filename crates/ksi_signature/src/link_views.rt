@@ -1,8 +1,8 @@
 ghost use Rattle.std.specs.Prelude.{◌≡◌, ◌<◌, ◌≤◌, ◌++◌, ◌∷◌, [], length, map};
-ghost use Rattle.ksi_aggchain.specs.Lent.{lent_link};
+ghost use Rattle.ksi_aggtree.specs.Lent.{lent_link};
 
 use crate::arrays::append_at;
-use ksi_aggchain::LinkView;
+use ksi_aggtree::chains::LinkView;
 use ksi_split::Side;
 use std::marker::Model;
 
@@ -16,8 +16,8 @@ pub struct LinkViews<'a> {
 
 impl<'a> Model for LinkViews<'a> {
     ghost use Rattle.std.specs.Prelude.{◌≤◌, List, map, take};
-    ghost use Rattle.ksi_aggchain.specs.Links.{PlainLink};
-    ghost use Rattle.ksi_aggchain.specs.Lent.{lent_link};
+    ghost use Rattle.ksi_aggtree.specs.Links.{PlainLink};
+    ghost use Rattle.ksi_aggtree.specs.Lent.{lent_link};
 
     ghost Value = { List PlainLink };
 

@@ -1,15 +1,15 @@
 //! Walks over the links of an accepted aggregation chain.
 
 ghost use Rattle.std.specs.Prelude.{◌≡◌, map, option_map, slice_get, Ok};
-ghost use Rattle.ksi_aggchain.specs.Links.{first_bare};
-ghost use Rattle.ksi_aggchain.specs.Owned.{plain_link, plain_links};
-ghost use Rattle.ksi_aggchain.specs.Climbing.{climbed};
-ghost use Rattle.ksi_aggchain.specs.Shapes.{shape_of};
-ghost use Rattle.ksi_aggchain.specs.Lent.{lent_link};
+ghost use Rattle.ksi_aggtree.specs.Links.{first_bare};
+ghost use Rattle.ksi_aggtree.specs.Owned.{plain_link, plain_links};
+ghost use Rattle.ksi_aggtree.specs.Climbing.{climbed};
+ghost use Rattle.ksi_aggtree.specs.Shapes.{shape_of};
+ghost use Rattle.ksi_aggtree.specs.Lent.{lent_link};
 ghost use Rattle.ksi_tlv.specs.Views.{view_placed};
-ghost use Rattle.ksi_grammar.specs.Reading.{inner_verdict};
-ghost use Rattle.ksi_grammar.specs.Valid.{MayStand};
-ghost use Rattle.ksi_grammar.specs.Inside.{inner_elements};
+ghost use Rattle.ksi_tlv.specs.Containing.{inner_verdict};
+ghost use Rattle.ksi_tlv.specs.Valid.{MayStand};
+ghost use Rattle.ksi_tlv.specs.Inside.{inner_elements};
 ghost use Rattle.ksi_signature.specs.Tables.{link_table, chain_table};
 ghost use Rattle.ksi_signature.specs.Contents.{link_in, links_among};
 ghost use Rattle.ksi_signature.specs.LinkParts.{parts_of, parts_with, view_sibling, view_parts};
@@ -19,10 +19,12 @@ use crate::kinds::{CORRECTION, IMPRINT, LEGACY, METADATA};
 use crate::link_parts::{LinkParts, SiblingView};
 use crate::link_views::LinkViews;
 use crate::within::links_are_limited;
-use ksi_aggchain::laws::one_shape;
-use ksi_aggchain::{LevelFault, LinkView, Node, climb_link, is_bare, with_leading_one, with_side};
-use ksi_grammar::laws::inside_is_whole;
+use ksi_aggtree::chains::laws::one_shape;
+use ksi_aggtree::chains::{
+    LevelFault, LinkView, Node, climb_link, is_bare, with_leading_one, with_side,
+};
 use ksi_imprint::Compress;
+use ksi_tlv::grammar::laws::inside_is_whole;
 use ksi_tlv::{Elements, Placed};
 
 /// The links of an accepted chain.
@@ -193,7 +195,7 @@ impl<'a> LinkParts<'a> {
 
 impl<'a> SiblingView<'a> {
     ghost use Rattle.std.specs.Prelude.{◌≡◌};
-    ghost use Rattle.ksi_aggchain.specs.Owned.{sibling_bytes, is_raw};
+    ghost use Rattle.ksi_aggtree.specs.Owned.{sibling_bytes, is_raw};
     ghost use Rattle.ksi_signature.specs.LinkParts.{view_sibling};
 
     /// The bytes that a join has of it.

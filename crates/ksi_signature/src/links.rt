@@ -2,8 +2,8 @@
 
 ghost use Rattle.std.specs.Prelude.{◌≡◌, Ok, IfOk};
 ghost use Rattle.ksi_tlv.specs.Views.{view_placed};
-ghost use Rattle.ksi_grammar.specs.Reading.{inner_verdict};
-ghost use Rattle.ksi_grammar.specs.Inside.{inner_elements};
+ghost use Rattle.ksi_tlv.specs.Containing.{inner_verdict};
+ghost use Rattle.ksi_tlv.specs.Inside.{inner_elements};
 ghost use Rattle.ksi_signature.specs.Tables.{link_table, chain_table};
 ghost use Rattle.ksi_signature.specs.Contents.{link_in, links_among};
 ghost use Rattle.ksi_signature.specs.Kept.{HasImprint};
@@ -15,7 +15,7 @@ use crate::link_parts::SiblingView;
 use crate::link_walking::link_parts_in;
 use crate::lists::Links;
 use crate::within::{link_is_limited, links_are_limited, read_imprint};
-use ksi_aggchain::{Link, Sibling};
+use ksi_aggtree::chains::{Link, Sibling};
 use ksi_imprint::Bytes;
 use ksi_tlv::{Elements, Placed};
 use std::alloc::Global;

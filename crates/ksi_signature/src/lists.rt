@@ -1,10 +1,10 @@
 ghost use Rattle.std.specs.Prelude.{◌≡◌, ◌<◌, ◌≤◌, ℕ, List, length};
 ghost use Rattle.ksi_split.specs.declared.tree_link.TreeLink.{TreeLink};
-ghost use Rattle.ksi_aggchain.specs.declared.link.Link as chain;
+ghost use Rattle.ksi_aggtree.specs.declared.chains.link.Link as chain;
 ghost use Rattle.ksi_signature.specs.Values.{Aggregation, AreLinks, AreChains};
 
 use crate::signature::AggregationChain;
-use ksi_aggchain::Link;
+use ksi_aggtree::chains::Link;
 use ksi_calendar::CalendarLink;
 use ksi_imprint::Bytes;
 use std::marker::Model;

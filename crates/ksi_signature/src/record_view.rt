@@ -1,7 +1,7 @@
 ghost use Rattle.std.specs.Prelude.{◌≡◌, Ok};
 ghost use Rattle.ksi_tlv.specs.Views.{view_placed};
-ghost use Rattle.ksi_grammar.specs.Reading.{inner_verdict};
-ghost use Rattle.ksi_grammar.specs.Published.{record_table};
+ghost use Rattle.ksi_tlv.specs.Containing.{inner_verdict};
+ghost use Rattle.ksi_tlv.specs.Published.{record_table};
 
 use crate::body_views::BodyViews;
 use crate::kinds::{REFERENCE, REPOSITORY};
@@ -19,8 +19,8 @@ pub struct RecordView<'a> {
 impl<'a> RecordView<'a> {
     ghost use Rattle.std.specs.Prelude.{◌≡◌, ◌<◌, ◌^◌, Ok};
     ghost use Rattle.ksi_tlv.specs.Views.{view_placed};
-    ghost use Rattle.ksi_grammar.specs.Reading.{inner_verdict};
-    ghost use Rattle.ksi_grammar.specs.Published.{record_table};
+    ghost use Rattle.ksi_tlv.specs.Containing.{inner_verdict};
+    ghost use Rattle.ksi_tlv.specs.Published.{record_table};
     ghost use Rattle.ksi_signature.specs.Contents.{publishing_in};
     ghost use Rattle.ksi_signature.specs.PartsSeen.{record_seen};
     ghost use Rattle.ksi_signature.specs.BodiesLeft.{bodies_left};

@@ -17,8 +17,8 @@ use crate::refusal::WriteRefusal;
 use crate::signature::{CalendarChain, PublicationRecord};
 use crate::signature_view::SignatureView;
 use crate::within::are_bytes;
-use ksi_grammar::laws::whole_or_fault;
 use ksi_imprint::{Bytes, NoMemory, Refused};
+use ksi_tlv::grammar::laws::whole_or_fault;
 use ksi_tlv::laws::{front_by_spelling, reading_is_elements};
 use std::alloc::Global;
 

@@ -1,7 +1,7 @@
 ghost use Rattle.std.specs.Prelude.{◌≡◌, Ok};
 ghost use Rattle.ksi_tlv.specs.Views.{view_placed};
-ghost use Rattle.ksi_grammar.specs.Reading.{inner_verdict};
-ghost use Rattle.ksi_grammar.specs.Inside.{inner_elements};
+ghost use Rattle.ksi_tlv.specs.Containing.{inner_verdict};
+ghost use Rattle.ksi_tlv.specs.Inside.{inner_elements};
 ghost use Rattle.ksi_signature.specs.Tables.{signature_table};
 ghost use Rattle.ksi_signature.specs.Contents.{signature_of};
 ghost use Rattle.ksi_signature.specs.File.{answer_of};
@@ -15,8 +15,8 @@ use crate::gathering::chains_in;
 use crate::kinds::{CALENDAR, PUBLICATION};
 use crate::record_view::RecordView;
 use crate::within::signature_is_limited;
-use ksi_grammar::first_inside;
 use ksi_tlv::Placed;
+use ksi_tlv::grammar::first_inside;
 
 /// A signature, lent from its bytes.
 #[derive(Drop)]
@@ -33,8 +33,8 @@ pub struct SignatureView<'a> {
 impl<'a> SignatureView<'a> {
     ghost use Rattle.std.specs.Prelude.{◌≡◌, ◌<◌, ◌≤◌, Ok, length, map, option_map};
     ghost use Rattle.ksi_tlv.specs.Views.{view_placed};
-    ghost use Rattle.ksi_grammar.specs.Reading.{inner_verdict};
-    ghost use Rattle.ksi_grammar.specs.Inside.{inner_elements};
+    ghost use Rattle.ksi_tlv.specs.Containing.{inner_verdict};
+    ghost use Rattle.ksi_tlv.specs.Inside.{inner_elements};
     ghost use Rattle.ksi_signature.specs.Tables.{signature_table};
     ghost use Rattle.ksi_signature.specs.Values.{AreChains};
     ghost use Rattle.ksi_signature.specs.Contents.{signature_of};

@@ -8,8 +8,8 @@ use crate::checker::accepted;
 use crate::fault::SignatureFault;
 use crate::laws::signature_or_fault;
 use crate::signature_view::SignatureView;
-use ksi_grammar::laws::whole_or_fault;
 use ksi_tlv::Placed;
+use ksi_tlv::grammar::laws::whole_or_fault;
 use ksi_tlv::laws::front_by_spelling;
 
 /// The signature that bytes are, lent from them, else their first fault in reading order. No memory is taken.

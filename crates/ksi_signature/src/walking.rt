@@ -2,8 +2,8 @@
 
 ghost use Rattle.std.specs.Prelude.{◌≡◌, ◌+◌, ◌<◌, ◌^◌, Ok, length};
 ghost use Rattle.ksi_tlv.specs.Views.{view_placed};
-ghost use Rattle.ksi_grammar.specs.Reading.{inner_verdict};
-ghost use Rattle.ksi_grammar.specs.Valid.{MayStand};
+ghost use Rattle.ksi_tlv.specs.Containing.{inner_verdict};
+ghost use Rattle.ksi_tlv.specs.Valid.{MayStand};
 ghost use Rattle.ksi_signature.specs.Tables.{chain_table};
 ghost use Rattle.ksi_signature.specs.Contents.{chain_in};
 ghost use Rattle.ksi_signature.specs.Heads.{head_of, head_with};
@@ -12,7 +12,7 @@ ghost use Rattle.ksi_signature.specs.HeadViews.{view_head};
 use crate::contents::{number_of, time_of};
 use crate::head::Head;
 use crate::kinds::{AGGREGATION_TIME, INDEX_PART, INPUT_DATA, INPUT_HASH};
-use ksi_grammar::laws::inside_is_whole;
+use ksi_tlv::grammar::laws::inside_is_whole;
 use ksi_tlv::{Elements, Placed};
 
 /// All of an accepted chain but its index and its links.

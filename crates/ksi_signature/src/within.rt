@@ -5,20 +5,20 @@ ghost use Rattle.std.specs.List.{AllByRecursion};
 ghost use Rattle.ksi_imprint.specs.Imprints.{IsImprint};
 ghost use Rattle.ksi_tlv.specs.Spelling.{AreBytes};
 ghost use Rattle.ksi_tlv.specs.Views.{view_placed};
-ghost use Rattle.ksi_grammar.specs.Reading.{inner_verdict};
-ghost use Rattle.ksi_grammar.specs.Valid.{MayStand};
-ghost use Rattle.ksi_grammar.specs.Inside.{inner_elements};
-ghost use Rattle.ksi_grammar.specs.Published.{record_table, recorded_in};
+ghost use Rattle.ksi_tlv.specs.Containing.{inner_verdict};
+ghost use Rattle.ksi_tlv.specs.Valid.{MayStand};
+ghost use Rattle.ksi_tlv.specs.Inside.{inner_elements};
+ghost use Rattle.ksi_tlv.specs.Published.{record_table, recorded_in};
 ghost use Rattle.ksi_signature.specs.Values.{AreLinks, AreChains};
 ghost use Rattle.ksi_signature.specs.Tables.{link_table, chain_table, calendar_table, signature_table};
 ghost use Rattle.ksi_signature.specs.Contents.{link_in, links_among, chain_in, calendar_in, signature_of};
 ghost use Rattle.ksi_signature.specs.Heads.{parts_pass};
 ghost use Rattle.ksi_signature.specs.Kept.{IsLink, IsLent, IsCalendar};
 
-use ksi_grammar::laws::inside_is_whole;
-use ksi_grammar::recorded;
 use ksi_imprint::Imprint;
 use ksi_tlv::Placed;
+use ksi_tlv::grammar::laws::inside_is_whole;
+use ksi_tlv::grammar::recorded;
 
 /// The parts of an accepted chain are within the limits of their types.
 pub(crate) fn chain_is_limited(at: &Placed<'_>)

@@ -13,9 +13,9 @@ use crate::kinds::{CALENDAR, CHAIN, PUBLICATION, SIGNATURE};
 use crate::laws::written_is_signature;
 use crate::refusal::WriteRefusal;
 use crate::signature::{AggregationChain, CalendarChain, PublicationRecord, Signature};
-use ksi_grammar::put_short;
 use ksi_imprint::{Bytes, Refused};
 use ksi_tlv::Writer;
+use ksi_tlv::grammar::put_short;
 use std::alloc::Global;
 
 /// A signature as it is written: the elements of each container in the order of docs/FORMATS.md, without flags and in

@@ -3,10 +3,10 @@ use Rattle.std.proofs.Common.{◌≡◌, ℕ, ◌+◌, List, [], ◌∷◌, ◌+
 use Rattle.std.proofs.lemmas.Bool.Decides.{leb_tells}
 use Rattle.ksi_imprint.specs.Imprints.{imprint_of}
 use Rattle.ksi_schedule.specs.Printed.{line_of, text_of_lines}
-use Rattle.ksi_aggchain.specs.Links.{PlainLink, level_above}
-use Rattle.ksi_aggchain.specs.Climbing.{above, climbed}
-use Rattle.ksi_aggchain.specs.declared.node.Node.{Node}
-use Rattle.ksi_aggchain.specs.declared.climbing.LevelFault.{LevelFault}
+use Rattle.ksi_aggtree.specs.Links.{PlainLink, level_above}
+use Rattle.ksi_aggtree.specs.Climbing.{above, climbed}
+use Rattle.ksi_aggtree.specs.declared.chains.node.Node.{Node}
+use Rattle.ksi_aggtree.specs.declared.chains.climbing.LevelFault.{LevelFault}
 use Rattle.ksi_texts.specs.Chains.{link_row, link_rows, over_row}
 
 pub rows_append : (rows more : List (List (List ℕ))) → text_of_lines (rows ++ more) ≡ text_of_lines rows ++ text_of_lines more

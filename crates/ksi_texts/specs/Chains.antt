@@ -5,10 +5,10 @@ use Rattle.ksi_imprint.specs.Imprints.{imprint_of}
 use Rattle.ksi_split.specs.declared.side.Side.{Side}
 use Rattle.ksi_split.specs.declared.side.Side.TheVariants.{Left, Right}
 use Rattle.ksi_schedule.specs.Printed.{hex_of}
-use Rattle.ksi_aggchain.specs.Links.{PlainLink, highest_level, level_above}
-use Rattle.ksi_aggchain.specs.Climbing.{above, climbed}
-use Rattle.ksi_aggchain.specs.declared.node.Node.{Node}
-use Rattle.ksi_aggchain.specs.declared.climbing.LevelFault.{LevelFault}
+use Rattle.ksi_aggtree.specs.Links.{PlainLink, highest_level, level_above}
+use Rattle.ksi_aggtree.specs.Climbing.{above, climbed}
+use Rattle.ksi_aggtree.specs.declared.chains.node.Node.{Node}
+use Rattle.ksi_aggtree.specs.declared.chains.climbing.LevelFault.{LevelFault}
 use Rattle.ksi_verifier.specs.Chains.{PlainChain}
 use Rattle.ksi_texts.specs.Names.{name_in}
 use Rattle.ksi_texts.specs.Words.{quoted_text, second_text, short_text}

@@ -11,6 +11,9 @@
 //! short form where it can hold the element, and what it wrote is read again as it was put. The readers take no
 //! memory. Files begin with a magic, and their elements stand behind it ([`after_magic`]).
 //!
+//! What elements may stand in bytes is said in two ways: by a table, in whatever order ([`grammar`]), and in a stated order
+//! ([`order`]).
+//!
 //! ```text
 //! let mut writer = Writer::new(alloc);
 //! writer.put(0x01, false, false, b"abc")?;
@@ -22,9 +25,11 @@
 #![tactic(auto)]
 
 mod element;
+pub mod grammar;
 pub mod laws;
 mod magic;
 mod numbers;
+pub mod order;
 mod walk;
 mod write;
 

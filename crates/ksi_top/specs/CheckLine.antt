@@ -2,7 +2,7 @@
 use Rattle.std.specs.Prelude.{◌≡◌, ℕ, List, [], ◌∷◌, codes, Result, Ok, Err}
 use Rattle.std.specs.Fmt.{decimal}
 use Rattle.ksi_imprint.specs.Imprints.{imprint_of}
-use Rattle.ksi_aggchain.specs.declared.climbing.LevelFault.{LevelFault}
+use Rattle.ksi_aggtree.specs.declared.chains.climbing.LevelFault.{LevelFault}
 use Rattle.ksi_signature.specs.declared.signature.Signature.{Signature}
 use Rattle.ksi_signature.specs.File.{IsSignature}
 use Rattle.ksi_publications.specs.File.{IsPublications}

@@ -2,10 +2,10 @@
 use Rattle.std.proofs.Common.{◌≡◌, ℕ, zero, suc, ◌+◌, ◌<◌, ◌≤◌, ◌⊎◌, Bool, true, false, ltb, List, [], ◌∷◌, ◌++◌, length, take, Some, None, Ok, Err, refl, sym, ap, ◌∙◌, subst, arith, inl, inr}
 use Rattle.std.specs.List.{slice_get}
 use Rattle.std.proofs.lemmas.Bool.{ltb-false, ltb-true}
-use Rattle.ksi_aggchain.specs.Links.{PlainLink, level_above, link_text, side_text}
-use Rattle.ksi_aggchain.specs.Climbing.{above, climbed}
-use Rattle.ksi_aggchain.specs.declared.node.Node.{Node}
-use Rattle.ksi_aggchain.specs.declared.climbing.LevelFault.{LevelFault}
+use Rattle.ksi_aggtree.specs.Links.{PlainLink, level_above, link_text, side_text}
+use Rattle.ksi_aggtree.specs.Climbing.{above, climbed}
+use Rattle.ksi_aggtree.specs.declared.chains.node.Node.{Node}
+use Rattle.ksi_aggtree.specs.declared.chains.climbing.LevelFault.{LevelFault}
 use Rattle.ksi_verifier.specs.Steps.{PlainStep, link_step, link_steps, above_top}
 
 lt_cases : (a b : ℕ) → ((ltb a b ≡ true) × (a < b)) ⊎ ((ltb a b ≡ false) × (b ≤ a))

@@ -5,7 +5,7 @@ use Rattle.ksi_split.specs.Trees.{climb_links, link_from}
 use Rattle.ksi_split.specs.declared.side.Side.{Side}
 use Rattle.ksi_split.specs.declared.side.Side.TheVariants.{Left, Right}
 use Rattle.ksi_split.specs.declared.tree_link.TreeLink.{TreeLink}
-use Rattle.ksi_aggchain.specs.Links.{side_text}
+use Rattle.ksi_aggtree.specs.Links.{side_text}
 use Rattle.ksi_calendar.specs.Climbing.{calendar_join, calendar_join_text, calendar_element_text}
 use Rattle.ksi_verifier.specs.Steps.{calendar_step, calendar_steps}
 

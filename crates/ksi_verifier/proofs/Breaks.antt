@@ -5,11 +5,11 @@ use Rattle.std.specs.Str.{bytes_eq}
 use Rattle.std.proofs.lemmas.Slice.Eq.{bytes_eq-Decides}
 use Rattle.std.proofs.lemmas.Bool.Decides.{not_from_Decides}
 use Rattle.ksi_imprint.specs.Imprints.{zero_imprint}
-use Rattle.ksi_aggchain.specs.Links.{PlainLink}
-use Rattle.ksi_aggchain.specs.Climbing.{Climbs, climbed}
-use Rattle.ksi_aggchain.specs.declared.node.Node.{Node}
-use Rattle.ksi_aggchain.specs.declared.climbing.LevelFault.{LevelFault}
-use Rattle.ksi_aggchain.specs.declared.climbing.LevelFault.TheVariants.{Over}
+use Rattle.ksi_aggtree.specs.Links.{PlainLink}
+use Rattle.ksi_aggtree.specs.Climbing.{Climbs, climbed}
+use Rattle.ksi_aggtree.specs.declared.chains.node.Node.{Node}
+use Rattle.ksi_aggtree.specs.declared.chains.climbing.LevelFault.{LevelFault}
+use Rattle.ksi_aggtree.specs.declared.chains.climbing.LevelFault.TheVariants.{Over}
 use Rattle.ksi_verifier.specs.declared.refusal.Refusal.{Refusal}
 use Rattle.ksi_verifier.specs.declared.refusal.Refusal.TheVariants.{ChainBreak}
 use Rattle.ksi_verifier.specs.Checks.{◌>>=◌, ◌>>◌, need}

@@ -4,11 +4,11 @@ use Rattle.std.proofs.lemmas.List.Concat.{flat_map-cons}
 use Rattle.std.proofs.lemmas.List.Sums.{sum_by-append, sum_by-take-le}
 use Rattle.std.proofs.lemmas.Bool.{ltb-false}
 use Rattle.std.specs.Prelude.{nat_lt, if◌then◌else◌}
-use Rattle.ksi_aggchain.specs.Links.{PlainLink, level_above}
-use Rattle.ksi_aggchain.specs.Climbing.{Climbs, PassesLevels, level_after, above, climbed}
-use Rattle.ksi_aggchain.specs.declared.node.Node.{Node}
-use Rattle.ksi_aggchain.specs.declared.climbing.LevelFault.{LevelFault}
-use Rattle.ksi_aggchain.specs.declared.climbing.LevelFault.TheVariants.{Over}
+use Rattle.ksi_aggtree.specs.Links.{PlainLink, level_above}
+use Rattle.ksi_aggtree.specs.Climbing.{Climbs, PassesLevels, level_after, above, climbed}
+use Rattle.ksi_aggtree.specs.declared.chains.node.Node.{Node}
+use Rattle.ksi_aggtree.specs.declared.chains.climbing.LevelFault.{LevelFault}
+use Rattle.ksi_aggtree.specs.declared.chains.climbing.LevelFault.TheVariants.{Over}
 use Rattle.ksi_verifier.specs.declared.refusal.Refusal.{Refusal}
 use Rattle.ksi_verifier.specs.declared.refusal.Refusal.TheVariants.{Level}
 use Rattle.ksi_verifier.specs.Checks.{◌>>=◌}

@@ -6,10 +6,10 @@ use Rattle.std.specs.Prelude.{if◌then◌else◌}
 use Rattle.std.specs.Str.{bytes_eq}
 use Rattle.ksi_imprint.specs.Imprints.{zero_imprint}
 use Rattle.ksi_split.specs.declared.side.Side.{Side}
-use Rattle.ksi_aggchain.specs.Links.{PlainLink}
-use Rattle.ksi_aggchain.specs.Owned.{plain_links}
-use Rattle.ksi_aggchain.specs.declared.node.Node.{Node}
-use Rattle.ksi_aggchain.specs.declared.link.Link.{Link}
+use Rattle.ksi_aggtree.specs.Links.{PlainLink}
+use Rattle.ksi_aggtree.specs.Owned.{plain_links}
+use Rattle.ksi_aggtree.specs.declared.chains.node.Node.{Node}
+use Rattle.ksi_aggtree.specs.declared.chains.link.Link.{Link}
 use Rattle.ksi_verifier.specs.declared.refusal.Refusal.{Refusal}
 use Rattle.ksi_verifier.specs.declared.refusal.Refusal.TheVariants.{ChainBreak}
 use Rattle.ksi_verifier.specs.Checks.{◌>>=◌, ◌>>◌, need}

@@ -2,9 +2,9 @@
 use Rattle.std.proofs.Common.{◌≡◌, ℕ, suc, ◌+◌, ◌<◌, ◌≤◌, List, ◌∷◌, length, drop, get_or, Option, None, Ok, Err, sym, ap, ◌∙◌, arith}
 use Rattle.std.specs.List.{slice_get}
 use Rattle.std.proofs.Math.Seq.{drop-cons}
-use Rattle.ksi_aggchain.specs.Climbing.{climbed}
-use Rattle.ksi_aggchain.specs.declared.node.Node.{Node}
-use Rattle.ksi_aggchain.specs.declared.climbing.LevelFault.{LevelFault}
+use Rattle.ksi_aggtree.specs.Climbing.{climbed}
+use Rattle.ksi_aggtree.specs.declared.chains.node.Node.{Node}
+use Rattle.ksi_aggtree.specs.declared.chains.climbing.LevelFault.{LevelFault}
 use Rattle.ksi_signature.specs.Values.{Calendar}
 use Rattle.ksi_verifier.specs.Chains.{PlainChain}
 use Rattle.ksi_verifier.specs.Steps.{PlainStep, link_steps, input_at, steps_from}

@@ -3,15 +3,15 @@ use Rattle.std.specs.Prelude.{◌≡◌, ◌≢◌, ℕ, ◌<◌, false, List, [
 use Rattle.std.specs.List.{AllByRecursion}
 use Rattle.ksi_imprint.specs.Imprints.{zero_imprint}
 use Rattle.ksi_split.specs.Ways.{NamesSecond}
-use Rattle.ksi_aggchain.specs.Climbing.{Climbs}
-use Rattle.ksi_aggchain.specs.declared.node.Node.{Node}
+use Rattle.ksi_aggtree.specs.Climbing.{Climbs}
+use Rattle.ksi_aggtree.specs.declared.chains.node.Node.{Node}
 use Rattle.ksi_calendar.specs.Climbing.{ClimbsCalendar}
 use Rattle.ksi_calendar.specs.Sides.{sides_from_top}
 use Rattle.ksi_publications.specs.Finding.{find}
 use Rattle.ksi_signature.specs.Values.{Calendar, Publishing}
 use Rattle.ksi_signature.specs.declared.signature.Signature.{Signature}
 use Rattle.ksi_signature.specs.Heads.{last_part}
-use Rattle.ksi_aggchain.specs.Links.{is_bare}
+use Rattle.ksi_aggtree.specs.Links.{is_bare}
 use Rattle.ksi_verifier.specs.Chains.{PlainChain, plain_chains, at_level_zero, without_last, chain_shape}
 
 -- each next chain's index is that of the chain below it without its last part

@@ -1,9 +1,9 @@
 -- Where aggregation chains lead, each by itself; at which link a level passes 255, which chain breaks and which is out of order.
 use Rattle.std.specs.Prelude.{◌≡◌, ◌≢◌, ℕ, ◌+◌, ◌<◌, ◌≤◌, List, [], ◌∷◌, take, slice_get, Option, Some}
 use Rattle.std.specs.List.{flat_map}
-use Rattle.ksi_aggchain.specs.Links.{PlainLink}
-use Rattle.ksi_aggchain.specs.Climbing.{Climbs, PassesLevels, level_after}
-use Rattle.ksi_aggchain.specs.declared.node.Node.{Node}
+use Rattle.ksi_aggtree.specs.Links.{PlainLink}
+use Rattle.ksi_aggtree.specs.Climbing.{Climbs, PassesLevels, level_after}
+use Rattle.ksi_aggtree.specs.declared.chains.node.Node.{Node}
 use Rattle.ksi_verifier.specs.Chains.{PlainChain, without_last}
 
 -- the links of chains, one chain after the other

@@ -3,7 +3,7 @@ ghost use Rattle.ksi_verifier.specs.ChainChecks.{aggregated};
 
 use crate::chains::check_chains;
 use crate::refusal::Refusal;
-use ksi_aggchain::Node;
+use ksi_aggtree::chains::Node;
 use ksi_imprint::Compress;
 use ksi_signature::{AggregationChain, Signature};
 

@@ -1,13 +1,13 @@
 ghost use Rattle.std.specs.Prelude.{◌≡◌};
-ghost use Rattle.ksi_aggchain.specs.Climbing.{climbed};
-ghost use Rattle.ksi_aggchain.specs.Links.{first_bare};
+ghost use Rattle.ksi_aggtree.specs.Climbing.{climbed};
+ghost use Rattle.ksi_aggtree.specs.Links.{first_bare};
 ghost use Rattle.ksi_signature.specs.Heads.{last_part};
 ghost use Rattle.ksi_verifier.specs.Chains.{PlainChain, plain_chain, chain_shape, without_last};
 ghost use Rattle.ksi_verifier.specs.ChainChecks.{same_parts};
 
 use crate::index::compare_parts;
 use crate::refusal::Refusal;
-use ksi_aggchain::{LevelFault, Link, Node, climb, find_bare, shape};
+use ksi_aggtree::chains::{LevelFault, Link, Node, climb, find_bare, shape};
 use ksi_imprint::{Compress, Imprint};
 use ksi_signature::AggregationChain;
 

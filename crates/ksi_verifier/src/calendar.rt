@@ -4,7 +4,7 @@ ghost use Rattle.ksi_verifier.specs.Verdict.{calendar_second, same_second, secon
 
 use crate::any_calendar::AnyCalendar;
 use crate::refusal::Refusal;
-use ksi_aggchain::Node;
+use ksi_aggtree::chains::Node;
 use ksi_imprint::Imprint;
 
 /// V8, V9 and V10: the second that the sides name.

@@ -8,7 +8,7 @@ ghost use Rattle.ksi_verifier.specs.Folding.{or_break};
 use crate::aggregated::Aggregated;
 use crate::any_chain::AnyChain;
 use crate::refusal::Refusal;
-use ksi_aggchain::{LevelFault, Node};
+use ksi_aggtree::chains::{LevelFault, Node};
 use ksi_imprint::{Compress, Imprint};
 
 /// V2 to V6 and V15: the time of the chains and the node that they lead to.

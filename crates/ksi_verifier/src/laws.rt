@@ -2,8 +2,8 @@
 ghost use Rattle.std.specs.Prelude.{◌≡◌, ◌↔◌, ◌<◌, ℕ, List, length, Ok, Err, Option};
 ghost use Rattle.ksi_split.specs.Ways.{NamesSecond, PassesLeaf, EndsAbove};
 ghost use Rattle.ksi_split.specs.declared.fault.ShapeFault.TheVariants.{TooMany, TooFew};
-ghost use Rattle.ksi_aggchain.specs.Climbing.{Climbs};
-ghost use Rattle.ksi_aggchain.specs.declared.node.Node.{Node};
+ghost use Rattle.ksi_aggtree.specs.Climbing.{Climbs};
+ghost use Rattle.ksi_aggtree.specs.declared.chains.node.Node.{Node};
 ghost use Rattle.ksi_calendar.specs.Sides.{sides_from_top};
 ghost use Rattle.ksi_signature.specs.Values.{Calendar};
 ghost use Rattle.ksi_signature.specs.declared.signature.Signature.{Signature};
@@ -22,7 +22,7 @@ pub fn accepted()
     ensures { (image : List ℕ → List ℕ) (signature : Signature) (hash : List ℕ) (publications : List (ℕ × List ℕ)) (t : ℕ) →
         (verdict image signature hash publications ≡ verdicts.Accepted t) ↔ IsAccepted image signature hash publications t }
 {
-    ksi_aggchain::laws::one_climb();
+    ksi_aggtree::chains::laws::one_climb();
     ksi_calendar::laws::one_climb();
     ksi_split::laws::one_answer();
 }
@@ -35,7 +35,7 @@ pub fn aggregation()
         (aggregated image signature ≡ Ok aggregation) ↔
         IsAggregated image (plain_chains signature.chains) (first_chain (plain_chains signature.chains)).input aggregation.time aggregation.item }
 {
-    ksi_aggchain::laws::one_climb();
+    ksi_aggtree::chains::laws::one_climb();
 }
 
 /// V2 holds exactly where each next index is the one below it without its last part, and fails at the first one that is
@@ -55,8 +55,8 @@ pub fn levels()
     ensures over { (image : List ℕ → List ℕ) (chains : List PlainChain) (chain link level : ℕ) →
         (tops image 0 0 chains ≡ Err (Level chain link level)) ↔ PassesIn 0 chains chain link level }
 {
-    ksi_aggchain::laws::one_climb();
-    ksi_aggchain::laws::levels_rise();
+    ksi_aggtree::chains::laws::one_climb();
+    ksi_aggtree::chains::laws::levels_rise();
 }
 
 /// V4 and V5 hold exactly where the chains lead to the item, one after the other; all their links then lead there from the
@@ -71,8 +71,8 @@ pub fn joined()
     ensures links { (image : List ℕ → List ℕ) (chains : List PlainChain) (start item : Node) →
         ChainsLead image start chains item → Climbs image start (all_links chains) item }
 {
-    ksi_aggchain::laws::one_climb();
-    ksi_aggchain::laws::one_after_another();
+    ksi_aggtree::chains::laws::one_climb();
+    ksi_aggtree::chains::laws::one_after_another();
 }
 
 /// V10 holds exactly where the sides are the way to the second, and else says how they pass one or end above one.

@@ -4,7 +4,7 @@ ghost use Rattle.ksi_verifier.specs.Lent.{lent_chain};
 use crate::any_chain::AnyChain;
 use crate::index::compare_lent;
 use crate::refusal::Refusal;
-use ksi_aggchain::{LevelFault, Node};
+use ksi_aggtree::chains::{LevelFault, Node};
 use ksi_imprint::{Compress, Imprint};
 use ksi_signature::ChainView;
 

@@ -1,13 +1,13 @@
 // The steps of a signature, found by their number.
 ghost use Rattle.std.specs.Prelude.{◌≡◌, ◌<◌, ℕ, length, map, option_map, slice_get};
-ghost use Rattle.ksi_aggchain.specs.Lent.{lent_links};
-ghost use Rattle.ksi_aggchain.specs.Links.{side_text};
+ghost use Rattle.ksi_aggtree.specs.Lent.{lent_links};
+ghost use Rattle.ksi_aggtree.specs.Links.{side_text};
 ghost use Rattle.ksi_verifier.specs.Lent.{calendar_of, lent_chain};
 ghost use Rattle.ksi_verifier.specs.Steps.{calendar_steps, link_steps, step_seen, steps_from, steps_of_calendar};
 
 use crate::CalendarPart;
 use crate::step::Step;
-use ksi_aggchain::{ChainLink, HIGHEST_LEVEL, LinkView, Node, climb};
+use ksi_aggtree::chains::{ChainLink, HIGHEST_LEVEL, LinkView, Node, climb};
 use ksi_calendar::{CalendarLink, climb_calendar};
 use ksi_imprint::{Compress, Imprint};
 use ksi_signature::ChainView;

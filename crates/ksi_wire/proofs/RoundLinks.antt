@@ -4,9 +4,9 @@ use Rattle.std.specs.List.{AllByRecursion, list_all}
 use Rattle.std.proofs.lemmas.Bool.{and_parts, le-leb, leb-true, eqb-true}
 use Rattle.ksi_split.specs.declared.side.Side.{Side}
 use Rattle.ksi_split.specs.declared.side.Side.TheVariants.{Left, Right}
-use Rattle.ksi_aggchain.specs.declared.link.Link.{Link}
-use Rattle.ksi_aggchain.specs.declared.link.Sibling.{Sibling}
-use Rattle.ksi_aggchain.specs.declared.link.Sibling.TheVariants as siblings
+use Rattle.ksi_aggtree.specs.declared.chains.link.Link.{Link}
+use Rattle.ksi_aggtree.specs.declared.chains.link.Sibling.{Sibling}
+use Rattle.ksi_aggtree.specs.declared.chains.link.Sibling.TheVariants as siblings
 use Rattle.ksi_signature.specs.Above.{AreRoundLinks, IsNameLink, IsNode, IsShortMetadata}
 use Rattle.ksi_wire.specs.AskedAbove.{are_round_links, is_left, is_name_link, is_node, is_short_metadata}
 

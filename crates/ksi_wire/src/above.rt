@@ -13,7 +13,7 @@ ghost use Rattle.ksi_wire.specs.Responses.{above_text, input_of};
 
 use crate::fault::WireFault;
 use hex::FromHexError;
-use ksi_aggchain::{Link, Sibling};
+use ksi_aggtree::chains::{Link, Sibling};
 use ksi_imprint::{Bytes, Imprint, NoMemory, Refused};
 use ksi_signature::laws::signature_is_read;
 use ksi_signature::{

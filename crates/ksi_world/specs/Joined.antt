@@ -2,10 +2,10 @@
 use Rattle.std.specs.Prelude.{◌≡◌, ◌≢◌, ℕ, List, [], ◌∷◌, slice_get, Some}
 use Rattle.ksi_imprint.specs.Imprints.{zero_imprint}
 use Rattle.ksi_calendar.specs.Covered.{IsCovered, covered_root, covered_path}
-use Rattle.ksi_aggchain.specs.Climbing.{Climbs}
-use Rattle.ksi_aggchain.specs.Owned.{plain_links}
-use Rattle.ksi_aggchain.specs.declared.node.Node.{Node}
-use Rattle.ksi_aggchain.specs.declared.link.Link.{Link}
+use Rattle.ksi_aggtree.specs.Climbing.{Climbs}
+use Rattle.ksi_aggtree.specs.Owned.{plain_links}
+use Rattle.ksi_aggtree.specs.declared.chains.node.Node.{Node}
+use Rattle.ksi_aggtree.specs.declared.chains.link.Link.{Link}
 use Rattle.ksi_signature.specs.declared.above.Above.{Above}
 use Rattle.ksi_signature.specs.declared.above.AboveChain.{AboveChain}
 use Rattle.ksi_signature.specs.Issued.{issued, own_chain}

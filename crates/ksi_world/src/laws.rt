@@ -36,7 +36,7 @@ ghost use Rattle.ksi_aggregator.specs.Issuing.{IsIssued};
 ghost use Rattle.ksi_aggregator.specs.Rows.{round_restarted};
 ghost use Rattle.ksi_world.specs.RoundEvents.{round_asked_of, is_restart_of_aggregator, round_turn};
 
-use ksi_aggchain::laws::levels_rise;
+use ksi_aggtree::chains::laws::levels_rise;
 use ksi_aggtree::laws::{metas_are_even, one_chain, one_round};
 use ksi_calendar::laws::one_chain as calendar_chain;
 use ksi_imprint::Imprint;

@@ -2,7 +2,7 @@
 ghost use Rattle.std.specs.Prelude.{◌≡◌, ◌↔◌, IsTrue};
 
 use crate::message::Content;
-use ksi_aggchain::{Link, Sibling};
+use ksi_aggtree::chains::{Link, Sibling};
 use ksi_aggtree::{Item, Name};
 use ksi_calendar::CalendarLink;
 use ksi_signature::{Above, AboveChain};

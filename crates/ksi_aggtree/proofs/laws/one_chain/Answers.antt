@@ -1,10 +1,10 @@
 use Rattle.std.proofs.Common.{length, reverse, ◌∙◌, ap, arith}
 use Rattle.std.proofs.lemmas.List.{reverse-reverse}
 use Rattle.ksi_split.specs.Ways.{way_of}
-use Rattle.ksi_aggchain.specs.Owned.{plain_links}
+use Rattle.ksi_aggtree.specs.Owned.{plain_links}
 use Rattle.ksi_aggtree.specs.Rounds.{aggregation_join, as_node, item_at, leaf_of_place, tree_of, tree_path}
 use Rattle.ksi_aggtree.specs.Paths.{links_from, chain_of}
-use Rattle.ksi_aggtree.proofs.Chains.{item_climbs, links_sides, chain_sides, chain_count, name_count}
+use Rattle.ksi_aggtree.proofs.ItemChains.{item_climbs, links_sides, chain_sides, chain_count, name_count}
 use Rattle.ksi_aggtree.proofs.laws.one_chain.Goals as goal
 
 pub returns-clause-climbs : goal.returns-clause-climbs

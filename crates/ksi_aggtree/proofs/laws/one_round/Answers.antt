@@ -1,4 +1,4 @@
-use Rattle.ksi_aggtree.proofs.Chains.{tree_rises}
+use Rattle.ksi_aggtree.proofs.ItemChains.{tree_rises}
 use Rattle.ksi_aggtree.proofs.laws.one_round.Goals as goal
 
 pub returns-clause-level : goal.returns-clause-level

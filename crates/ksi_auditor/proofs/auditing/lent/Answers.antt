@@ -1,6 +1,6 @@
 use Rattle.std.proofs.Common.{◌≡◌, ◌<◌, ◌≤◌, ◌^◌, List, Some, map, option_map, sym, subst, ap, ◌∙◌}
-use Rattle.ksi_aggchain.specs.Climbing.{level_after}
-use Rattle.ksi_aggchain.specs.Links.{PlainLink}
+use Rattle.ksi_aggtree.specs.Climbing.{level_after}
+use Rattle.ksi_aggtree.specs.Links.{PlainLink}
 use Rattle.ksi_signature.specs.PartsSeen.{calendar_seen}
 use Rattle.ksi_signature.specs.Seen.{seen}
 use Rattle.ksi_signature.specs.Values.{Calendar}

@@ -1,6 +1,6 @@
 use Rattle.std.proofs.Common.{◌≡◌, ◌≤◌, List, length, map, sym, subst, ap}
-use Rattle.ksi_aggchain.specs.Climbing.{level_after}
-use Rattle.ksi_aggchain.specs.Links.{PlainLink}
+use Rattle.ksi_aggtree.specs.Climbing.{level_after}
+use Rattle.ksi_aggtree.specs.Links.{PlainLink}
 use Rattle.ksi_signature.specs.Values.{Aggregation}
 use Rattle.ksi_verifier.specs.Chains.{plain_chains, plain_chain}
 use Rattle.ksi_verifier.specs.Leading.{all_links}

@@ -1,4 +1,4 @@
-use Rattle.ksi_order.proofs.Refusing.{file_refused}
+use Rattle.ksi_tlv.proofs.Refusing.{file_refused}
 use Rattle.ksi_consistency.specs.File.{front_format}
 use Rattle.ksi_consistency.specs.Wanting.{WantsFor}
 use Rattle.ksi_consistency.proofs.reader.read_front.Goals as goal

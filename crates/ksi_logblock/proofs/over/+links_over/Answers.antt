@@ -3,8 +3,8 @@ use Rattle.std.proofs.lemmas.Result.{IfOk-weaker}
 use Rattle.ksi_split.specs.Trees.{tree, tree_within, path_within}
 use Rattle.ksi_split.specs.declared.side.Side.TheVariants.{Left, Right}
 use Rattle.ksi_split.specs.declared.tree_link.TreeLink.{TreeLink}
-use Rattle.ksi_aggchain.specs.declared.node.Node.{Node}
-use Rattle.ksi_aggchain.specs.Owned.{plain_links}
+use Rattle.ksi_aggtree.specs.declared.chains.node.Node.{Node}
+use Rattle.ksi_aggtree.specs.Owned.{plain_links}
 use Rattle.ksi_aggtree.specs.Paths.{links_from}
 use Rattle.ksi_aggtree.specs.Rounds.{aggregation_join, leaf_of_place}
 use Rattle.ksi_logblock.specs.Blocks.{leaf_item}

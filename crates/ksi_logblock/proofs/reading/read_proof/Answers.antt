@@ -1,4 +1,4 @@
-use Rattle.ksi_order.proofs.Refusing.{file_refused}
+use Rattle.ksi_tlv.proofs.Refusing.{file_refused}
 use Rattle.ksi_logblock.specs.File.{proof_format}
 use Rattle.ksi_logblock.specs.Wanting.{WantsFor}
 use Rattle.ksi_logblock.proofs.reading.read_proof.Goals as goal

@@ -1,7 +1,7 @@
 use Rattle.std.proofs.Common.{refl, sym, subst}
 use Rattle.ksi_tlv.specs.Walking.{elements}
-use Rattle.ksi_order.specs.Sequence.{IsWhole}
-use Rattle.ksi_order.proofs.Refusing.{file_refused}
+use Rattle.ksi_tlv.specs.Sequence.{IsWhole}
+use Rattle.ksi_tlv.proofs.Refusing.{file_refused}
 use Rattle.ksi_mirror.specs.Mirrors.{IsMirror}
 use Rattle.ksi_mirror.specs.Elements.{MirrorSaid, WantsFor, mirror_order}
 use Rattle.ksi_mirror.specs.File.{mirror_format}

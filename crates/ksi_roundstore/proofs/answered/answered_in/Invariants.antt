@@ -3,7 +3,7 @@ use Rattle.std.specs.Prelude.{is_some}
 use Rattle.std.specs.Ordering.{nat_cmp}
 use Rattle.std.specs.BTreeSet.{contains}
 use Rattle.ksi_aggregator.specs.declared.fact.Fact.{Fact}
-use Rattle.ksi_roundfacts.specs.Lawful.{stored_by}
+use Rattle.ksi_aggregator.specs.Lawful.{stored_by}
 use Rattle.ksi_roundstore.specs.Written.{AreTexts}
 use Rattle.ksi_roundstore.proofs.answered.answered_in.Given as goal
 

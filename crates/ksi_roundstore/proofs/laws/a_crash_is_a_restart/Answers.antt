@@ -1,8 +1,8 @@
 use Rattle.std.proofs.Common.{◌≡◌, ◌⊎◌, inl, inr, List, subst}
 use Rattle.ksi_aggregator.specs.declared.fact.Fact.{Fact}
 use Rattle.ksi_aggregator.specs.Rounds.{rounds_of}
-use Rattle.ksi_roundfacts.specs.Lawful.{with_new}
-use Rattle.ksi_roundfacts.specs.Restored.{HasFacts}
+use Rattle.ksi_aggregator.specs.Lawful.{with_new}
+use Rattle.ksi_aggregator.specs.Restored.{HasFacts}
 use Rattle.ksi_roundstore.specs.Takes.{fact_added}
 use Rattle.ksi_roundstore.proofs.Onward.{Laws, restart_either}
 use Rattle.ksi_roundstore.proofs.laws.a_crash_is_a_restart.Goals as goal

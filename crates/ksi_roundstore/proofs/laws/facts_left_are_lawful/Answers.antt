@@ -1,4 +1,4 @@
-use Rattle.ksi_roundfacts.specs.Lawful.{stored_by}
+use Rattle.ksi_aggregator.specs.Lawful.{stored_by}
 use Rattle.ksi_roundstore.specs.Left.{is_forgotten}
 use Rattle.ksi_roundstore.proofs.Leaving.{left_facts}
 use Rattle.ksi_roundstore.proofs.Unnoticed.{rounds_left}

@@ -1,5 +1,5 @@
 use Rattle.std.proofs.Common.{◌∙◌, ℕ, subst, sym}
-use Rattle.ksi_roundfacts.specs.Lawful.{with_new}
+use Rattle.ksi_aggregator.specs.Lawful.{with_new}
 use Rattle.ksi_roundstore.specs.Stores.{IsStoreOf}
 use Rattle.ksi_roundstore.proofs.Made.{early}
 use Rattle.ksi_wire.specs.Steps.{round_step_text}

@@ -3,7 +3,7 @@ use Rattle.std.proofs.lemmas.Result.{err_from_is_err_and}
 use Rattle.ksi_imprint.specs.declared.refused.Refused.{Refused}
 use Rattle.ksi_tlv.specs.Spelling.{plain, canonical}
 use Rattle.ksi_tlv.specs.Writing.{texts}
-use Rattle.ksi_grammar.specs.Published.{published_elements}
+use Rattle.ksi_tlv.specs.Published.{published_elements}
 use Rattle.ksi_signature.specs.declared.refusal.WriteRefusal.{WriteRefusal}
 use Rattle.ksi_signature.proofs.Sizes.{tells_before, tells_behind, long_behind, text_behind, text_first}
 use Rattle.ksi_signature.proofs.bodies.published_parts.Goals as goal

@@ -1,6 +1,6 @@
 use Rattle.std.proofs.Common.{◌≡◌}
 use Rattle.ksi_tlv.specs.Views.{rest}
-use Rattle.ksi_grammar.specs.Inside.{whole}
+use Rattle.ksi_tlv.specs.Inside.{whole}
 use Rattle.ksi_signature.specs.Contents.{bodies_of}
 use Rattle.ksi_signature.proofs.body_views.next_body.Given as goal
 

@@ -2,7 +2,7 @@ use Rattle.std.proofs.Common.{◌≡◌}
 use Rattle.ksi_split.specs.Trees.{climb_links}
 use Rattle.ksi_calendar.specs.Climbing.{calendar_join}
 use Rattle.ksi_tlv.specs.Views.{view_placed, rest}
-use Rattle.ksi_grammar.specs.Inside.{whole, inner_elements}
+use Rattle.ksi_tlv.specs.Inside.{whole, inner_elements}
 use Rattle.ksi_signature.specs.Contents.{calendar_links_among}
 use Rattle.ksi_signature.proofs.calendar_climbing.climb_calendar_in.Given as goal
 

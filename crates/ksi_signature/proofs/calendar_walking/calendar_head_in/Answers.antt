@@ -1,7 +1,7 @@
 use Rattle.std.proofs.Common.{sym, ap, subst, ◌∙◌}
 use Rattle.ksi_tlv.specs.Views.{view_placed}
 use Rattle.ksi_tlv.specs.Walking.{Items}
-use Rattle.ksi_grammar.specs.Inside.{whole}
+use Rattle.ksi_tlv.specs.Inside.{whole}
 use Rattle.ksi_signature.specs.Contents.{calendar_in}
 use Rattle.ksi_signature.specs.Heads.{CalendarHead, SaysCalendar, calendar_behind}
 use Rattle.ksi_signature.specs.HeadViews.{view_calendar_head}

@@ -1,8 +1,8 @@
 use Rattle.std.proofs.Common.{◌≡◌, [], None}
 use Rattle.std.specs.List.{AllByRecursion}
 use Rattle.ksi_tlv.specs.Views.{view_placed, rest}
-use Rattle.ksi_grammar.specs.Valid.{MayStand}
-use Rattle.ksi_grammar.specs.Inside.{whole, inner_elements}
+use Rattle.ksi_tlv.specs.Valid.{MayStand}
+use Rattle.ksi_tlv.specs.Inside.{whole, inner_elements}
 use Rattle.ksi_signature.specs.Tables.{calendar_table}
 use Rattle.ksi_signature.specs.Heads.{calendar_behind}
 use Rattle.ksi_signature.specs.HeadViews.{view_calendar_head}

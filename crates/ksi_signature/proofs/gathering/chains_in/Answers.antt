@@ -1,7 +1,7 @@
 use Rattle.std.proofs.Common.{◌<◌, ◌∷◌, [], List, length, sym, ap, subst, ◌∙◌, arith}
 use Rattle.ksi_tlv.specs.Views.{view_placed, view_item, rest}
 use Rattle.ksi_tlv.specs.Walking.{Items}
-use Rattle.ksi_grammar.specs.Inside.{whole, inner_elements}
+use Rattle.ksi_tlv.specs.Inside.{whole, inner_elements}
 use Rattle.ksi_signature.specs.Values.{Aggregation}
 use Rattle.ksi_signature.specs.Contents.{chains_behind}
 use Rattle.ksi_signature.proofs.Limits.{are_chains, room}

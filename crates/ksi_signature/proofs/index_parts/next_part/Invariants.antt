@@ -1,7 +1,7 @@
 use Rattle.std.proofs.Common.{◌≡◌, true, map}
 use Rattle.ksi_tlv.specs.Views.{rest}
 use Rattle.ksi_tlv.specs.Numerals.{number_of}
-use Rattle.ksi_grammar.specs.Inside.{whole}
+use Rattle.ksi_tlv.specs.Inside.{whole}
 use Rattle.ksi_signature.specs.Contents.{bodies_of}
 use Rattle.ksi_signature.specs.Heads.{parts_pass}
 use Rattle.ksi_signature.proofs.index_parts.next_part.Given as goal

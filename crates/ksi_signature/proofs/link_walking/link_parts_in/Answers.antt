@@ -1,7 +1,7 @@
 use Rattle.std.proofs.Common.{sym, ap, ◌∙◌}
 use Rattle.ksi_tlv.specs.Views.{view_placed}
 use Rattle.ksi_tlv.specs.Walking.{Items}
-use Rattle.ksi_grammar.specs.Inside.{whole}
+use Rattle.ksi_tlv.specs.Inside.{whole}
 use Rattle.ksi_signature.specs.LinkParts.{parts_behind, view_parts}
 use Rattle.ksi_signature.proofs.Linking.{parts_are}
 use Rattle.ksi_signature.proofs.link_walking.link_parts_in.Goals as goal

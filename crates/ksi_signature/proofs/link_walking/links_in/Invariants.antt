@@ -1,9 +1,9 @@
 use Rattle.std.proofs.Common.{◌≡◌, ◌++◌, ◌+◌, ◌≤◌, length}
 use Rattle.std.specs.List.{AllByRecursion}
-use Rattle.ksi_aggchain.specs.Owned.{plain_links}
+use Rattle.ksi_aggtree.specs.Owned.{plain_links}
 use Rattle.ksi_tlv.specs.Views.{view_placed, rest}
-use Rattle.ksi_grammar.specs.Valid.{MayStand}
-use Rattle.ksi_grammar.specs.Inside.{whole, inner_elements}
+use Rattle.ksi_tlv.specs.Valid.{MayStand}
+use Rattle.ksi_tlv.specs.Inside.{whole, inner_elements}
 use Rattle.ksi_signature.specs.Tables.{chain_table}
 use Rattle.ksi_signature.specs.Contents.{links_among}
 use Rattle.ksi_signature.proofs.link_walking.links_in.Given as goal

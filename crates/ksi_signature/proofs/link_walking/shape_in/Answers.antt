@@ -1,9 +1,9 @@
 use Rattle.std.proofs.Common.{◌≡◌, ◌+◌, ◌∷◌, Ok, sym, ap, ◌∙◌, arith, rules}
 use Rattle.ksi_split.specs.declared.side.Side.{Side}
-use Rattle.ksi_aggchain.specs.Shapes.{left_powers}
+use Rattle.ksi_aggtree.specs.Shapes.{left_powers}
 use Rattle.ksi_tlv.specs.Views.{view_placed, rest}
 use Rattle.ksi_tlv.specs.Walking.{Items}
-use Rattle.ksi_grammar.specs.Inside.{whole, inner_elements}
+use Rattle.ksi_tlv.specs.Inside.{whole, inner_elements}
 use Rattle.ksi_signature.proofs.Sides.{sides_among, link_first, few_fit, side_goes, side_fits, all_taken}
 use Rattle.ksi_signature.proofs.link_walking.shape_in.Goals as goal
 

@@ -1,7 +1,7 @@
 use Rattle.std.proofs.Common.{◌≡◌, ◌+◌, ◌≤◌, length}
-use Rattle.ksi_aggchain.specs.Shapes.{left_powers}
+use Rattle.ksi_aggtree.specs.Shapes.{left_powers}
 use Rattle.ksi_tlv.specs.Views.{view_placed, rest}
-use Rattle.ksi_grammar.specs.Inside.{whole, inner_elements}
+use Rattle.ksi_tlv.specs.Inside.{whole, inner_elements}
 use Rattle.ksi_signature.specs.Contents.{links_among}
 use Rattle.ksi_signature.proofs.Sides.{sides_among}
 use Rattle.ksi_signature.proofs.link_walking.shape_in.Given as goal

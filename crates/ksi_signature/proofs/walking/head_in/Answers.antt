@@ -1,7 +1,7 @@
 use Rattle.std.proofs.Common.{refl, sym, ap, ◌∙◌, arith}
 use Rattle.ksi_tlv.specs.Views.{view_placed}
 use Rattle.ksi_tlv.specs.Walking.{Items}
-use Rattle.ksi_grammar.specs.Inside.{whole}
+use Rattle.ksi_tlv.specs.Inside.{whole}
 use Rattle.ksi_signature.specs.Tables.{chain_table}
 use Rattle.ksi_signature.specs.Heads.{head_behind}
 use Rattle.ksi_signature.specs.HeadViews.{view_head}

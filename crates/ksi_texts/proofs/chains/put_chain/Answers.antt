@@ -1,7 +1,7 @@
 use Rattle.std.proofs.Common.{◌≡◌, [], ◌∷◌, ◌++◌, length, codes, sym, ap, ◌∙◌}
 use Rattle.std.proofs.lemmas.List.{length-map}
 use Rattle.ksi_schedule.specs.Printed.{hex_of, text_of_lines}
-use Rattle.ksi_aggchain.specs.Lent.{lent_link, lent_links}
+use Rattle.ksi_aggtree.specs.Lent.{lent_link, lent_links}
 use Rattle.ksi_verifier.specs.Lent.{lent_chain}
 use Rattle.ksi_texts.specs.Chains.{head_row, link_rows}
 use Rattle.ksi_texts.proofs.RowLemmas.{then_rows}

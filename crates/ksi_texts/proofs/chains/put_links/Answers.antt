@@ -3,8 +3,8 @@ use Rattle.std.proofs.Math.Seq.{drop-cons}
 use Rattle.std.proofs.lemmas.Result.{on_ok_weaker}
 use Rattle.ksi_split.specs.declared.side.Side.TheVariants.{Left}
 use Rattle.ksi_schedule.specs.Printed.{text_of_lines}
-use Rattle.ksi_aggchain.specs.Lent.{lent_link, lent_links}
-use Rattle.ksi_aggchain.specs.declared.link_view.LinkView.{LinkView}
+use Rattle.ksi_aggtree.specs.Lent.{lent_link, lent_links}
+use Rattle.ksi_aggtree.specs.declared.chains.link_view.LinkView.{LinkView}
 use Rattle.ksi_texts.specs.Chains.{link_row, link_rows, over_row}
 use Rattle.ksi_texts.proofs.RowLemmas.{goes_on, stops, left_rows}
 use Rattle.ksi_texts.proofs.chains.put_links.Goals as goal

@@ -1,6 +1,6 @@
 use Rattle.std.proofs.Common.{◌≡◌, ◌++◌, drop}
 use Rattle.ksi_schedule.specs.Printed.{text_of_lines}
-use Rattle.ksi_aggchain.specs.Lent.{lent_links}
+use Rattle.ksi_aggtree.specs.Lent.{lent_links}
 use Rattle.ksi_texts.specs.Chains.{link_rows}
 use Rattle.ksi_texts.proofs.chains.put_links.Given as goal
 

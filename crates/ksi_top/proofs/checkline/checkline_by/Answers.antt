@@ -1,6 +1,6 @@
 use Rattle.std.proofs.Common.{◌≡◌, List, ℕ, Result, Ok, Err, refl, arith, rules}
 use Rattle.ksi_imprint.specs.Imprints.{imprint_of}
-use Rattle.ksi_aggchain.specs.declared.climbing.LevelFault.{LevelFault}
+use Rattle.ksi_aggtree.specs.declared.chains.climbing.LevelFault.{LevelFault}
 use Rattle.ksi_signature.specs.declared.signature.Signature.{Signature}
 use Rattle.ksi_publications.specs.Lent.{lent_pairs}
 use Rattle.ksi_signature.specs.Seen.{seen}

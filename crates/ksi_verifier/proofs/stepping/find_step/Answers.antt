@@ -3,8 +3,8 @@ use Rattle.std.specs.Prelude.{option_map}
 use Rattle.std.specs.List.{slice_get}
 use Rattle.std.proofs.Math.ListN.{get_or-map}
 use Rattle.std.proofs.lemmas.List.{length-map}
-use Rattle.ksi_aggchain.specs.Climbing.{climbed}
-use Rattle.ksi_aggchain.specs.Lent.{lent_link, lent_links}
+use Rattle.ksi_aggtree.specs.Climbing.{climbed}
+use Rattle.ksi_aggtree.specs.Lent.{lent_link, lent_links}
 use Rattle.ksi_verifier.specs.Lent.{calendar_of, lent_chain}
 use Rattle.ksi_verifier.specs.Steps.{link_steps}
 use Rattle.ksi_verifier.proofs.Ways.{in_chain, over_chain, above_chain}

@@ -2,9 +2,9 @@ use Rattle.std.proofs.Common.{◌∙◌, get_or, false, [], sym, ap, arith}
 use Rattle.std.specs.Prelude.{option_map}
 use Rattle.std.proofs.lemmas.List.{take-map}
 use Rattle.std.proofs.lemmas.Option.{slice_get-map, slice_get-get_or}
-use Rattle.ksi_aggchain.specs.Climbing.{climbed}
-use Rattle.ksi_aggchain.specs.Lent.{lent_link, lent_links}
-use Rattle.ksi_aggchain.specs.declared.link_view.LinkView.{LinkView}
+use Rattle.ksi_aggtree.specs.Climbing.{climbed}
+use Rattle.ksi_aggtree.specs.Lent.{lent_link, lent_links}
+use Rattle.ksi_aggtree.specs.declared.chains.link_view.LinkView.{LinkView}
 use Rattle.ksi_split.specs.declared.side.Side.TheVariants.{Left}
 use Rattle.ksi_verifier.proofs.Along.{none_below, none_here, step_is}
 use Rattle.ksi_verifier.proofs.stepping.step_along.Goals as goal

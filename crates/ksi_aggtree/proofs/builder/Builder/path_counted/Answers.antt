@@ -2,17 +2,17 @@ use Rattle.std.proofs.Common.{◌≡◌, ℕ, ◌+◌, ◌-◌, ◌++◌, List, 
 use Rattle.std.proofs.lemmas.List.{get_or_read_under}
 use Rattle.std.proofs.lemmas.Result.{IfOk-weaker}
 use Rattle.ksi_split.specs.declared.tree_link.TreeLink.{TreeLink}
-use Rattle.ksi_aggchain.specs.declared.node.Node.{Node}
-use Rattle.ksi_aggchain.specs.declared.link.Link.{Link}
+use Rattle.ksi_aggtree.specs.declared.chains.node.Node.{Node}
+use Rattle.ksi_aggtree.specs.declared.chains.link.Link.{Link}
 use Rattle.ksi_aggtree.specs.declared.item.Item.{Item}
-use Rattle.ksi_aggchain.specs.Climbing.{Climbs}
-use Rattle.ksi_aggchain.specs.Owned.{plain_links}
+use Rattle.ksi_aggtree.specs.Climbing.{Climbs}
+use Rattle.ksi_aggtree.specs.Owned.{plain_links}
 use Rattle.std.specs.Prelude.{IfSome}
 use Rattle.ksi_aggtree.specs.Names.{IsName}
 use Rattle.ksi_aggtree.specs.Rounds.{as_node, item_at, no_item, leaf_level, leaf_of_place, tree_of, tree_path, IsRound}
 use Rattle.ksi_aggtree.specs.Paths.{name_links, links_from, chain_of, sides_from_top}
 use Rattle.ksi_aggtree.proofs.Kept.{leaves_are, leaves_count, round_path}
-use Rattle.ksi_aggtree.proofs.Chains.{chain_count}
+use Rattle.ksi_aggtree.proofs.ItemChains.{chain_count}
 use Rattle.ksi_aggtree.proofs.builder.Builder.path_counted.Goals as goal
 
 pub beside-requires : goal.beside-requires

@@ -2,8 +2,8 @@ use Rattle.std.proofs.Common.{◌≡◌, ◌∙◌, List, length, ap, sym, subst
 use Rattle.std.proofs.lemmas.Result.{IfOk-weaker}
 use Rattle.ksi_aggtree.specs.declared.item.Item.{Item}
 use Rattle.ksi_aggtree.specs.declared.entries.Entry.{Entry}
-use Rattle.ksi_aggchain.specs.Climbing.{Climbs}
-use Rattle.ksi_aggchain.specs.Owned.{plain_links}
+use Rattle.ksi_aggtree.specs.Climbing.{Climbs}
+use Rattle.ksi_aggtree.specs.Owned.{plain_links}
 use Rattle.std.specs.Prelude.{IfSome}
 use Rattle.ksi_aggtree.specs.Names.{IsName}
 use Rattle.ksi_aggtree.specs.Rounds.{as_node, item_at, tree_of}

@@ -1,7 +1,7 @@
 use Rattle.std.proofs.Common.{◌≡◌, ◌≤◌, List, sym, subst, ap, ◌∙◌}
-use Rattle.ksi_aggchain.specs.Climbing.{level_after}
-use Rattle.ksi_aggchain.specs.Owned.{plain_links}
-use Rattle.ksi_aggchain.specs.declared.link.Link.{Link}
+use Rattle.ksi_aggtree.specs.Climbing.{level_after}
+use Rattle.ksi_aggtree.specs.Owned.{plain_links}
+use Rattle.ksi_aggtree.specs.declared.chains.link.Link.{Link}
 use Rattle.ksi_signature.specs.Values.{Aggregation}
 use Rattle.ksi_auditor.specs.Climbed.{climbed_to}
 use Rattle.ksi_auditor.proofs.laid.AggregationChainLaidChain.top.Goals as goal

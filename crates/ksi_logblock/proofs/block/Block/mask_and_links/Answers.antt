@@ -1,6 +1,6 @@
 use Rattle.std.proofs.Common.{◌<◌, ◌++◌, ℕ, List, length, map, ap, sym, ◌∙◌, arith}
 use Rattle.std.proofs.lemmas.List.{length-map}
-use Rattle.ksi_aggchain.specs.Owned.{plain_link, plain_links}
+use Rattle.ksi_aggtree.specs.Owned.{plain_link, plain_links}
 use Rattle.ksi_split.specs.Trees.{path_within}
 use Rattle.ksi_aggtree.specs.Rounds.{aggregation_join, leaf_of_place}
 use Rattle.ksi_aggtree.specs.Paths.{chain_of, links_from}

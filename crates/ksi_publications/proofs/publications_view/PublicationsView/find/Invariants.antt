@@ -2,8 +2,8 @@ use Rattle.std.proofs.Common.{◌≡◌}
 use Rattle.std.specs.List.{AllByRecursion}
 use Rattle.ksi_tlv.specs.Views.{rest}
 use Rattle.ksi_tlv.specs.Walking.{elements}
-use Rattle.ksi_grammar.specs.Valid.{MayStand}
-use Rattle.ksi_grammar.specs.Inside.{whole}
+use Rattle.ksi_tlv.specs.Valid.{MayStand}
+use Rattle.ksi_tlv.specs.Inside.{whole}
 use Rattle.ksi_publications.specs.Tables.{file_table}
 use Rattle.ksi_publications.specs.File.{pairs_of}
 use Rattle.ksi_publications.specs.Finding.{find}

@@ -2,7 +2,7 @@ use Rattle.std.proofs.Common.{◌≤◌, ℕ, List, length, refl, sym, ap, subst
 use Rattle.std.specs.List.{AllByRecursion}
 use Rattle.ksi_tlv.specs.Views.{view_placed}
 use Rattle.ksi_tlv.specs.Spelling.{plain, canonical}
-use Rattle.ksi_grammar.specs.Inside.{inner_elements}
+use Rattle.ksi_tlv.specs.Inside.{inner_elements}
 use Rattle.ksi_signature.specs.Lengths.{capped}
 use Rattle.ksi_signature.specs.File.{IsSignature}
 use Rattle.ksi_signature.specs.Extended.{extended_content, extended_text, renewed, StandsIn}

@@ -1,7 +1,7 @@
 use Rattle.std.proofs.Common.{List, map, ap, ◌∙◌}
-use Rattle.ksi_aggchain.specs.Owned.{plain_links}
-use Rattle.ksi_aggchain.specs.Shapes.{shape_of}
-use Rattle.ksi_aggchain.specs.declared.link.Link.{Link}
+use Rattle.ksi_aggtree.specs.Owned.{plain_links}
+use Rattle.ksi_aggtree.specs.Shapes.{shape_of}
+use Rattle.ksi_aggtree.specs.declared.chains.link.Link.{Link}
 use Rattle.ksi_signature.specs.Values.{Aggregation}
 use Rattle.ksi_verifier.proofs.Loops.{same_sides}
 use Rattle.ksi_verifier.proofs.any_chain.AggregationChainAnyChain.shape.Goals as goal

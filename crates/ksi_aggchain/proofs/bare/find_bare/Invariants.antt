@@ -1,6 +1,0 @@
-use Rattle.std.proofs.Common.{◌≡◌, map, drop}
-use Rattle.ksi_aggchain.specs.Links.{first_bare}
-use Rattle.ksi_aggchain.proofs.bare.find_bare.Given as goal
-
-abbrev pub invariant-loop-place : goal.invariant-loop-place
-invariant-loop-place g l = first_bare l.place (map g.L.ChainLink.plain (drop l.place l.links)) ≡ first_bare 0 (map g.L.ChainLink.plain l.fn.links)

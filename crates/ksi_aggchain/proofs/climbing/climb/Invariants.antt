@@ -1,8 +1,0 @@
-use Rattle.std.proofs.Common.{◌≡◌, map, drop}
-use Rattle.ksi_aggchain.specs.Climbing.{climbed}
-use Rattle.ksi_aggchain.proofs.climbing.climb.Given as goal
-
-abbrev pub invariant-loop-place : goal.invariant-loop-place
-invariant-loop-place g l =
-    climbed g.C.Compress.image l.place (record { imprint = l.item.imprint; level = l.item.level }) (drop l.place (map g.L.ChainLink.plain l.links))
-    ≡ climbed g.C.Compress.image 0 (record { imprint = l.fn.start; level = l.fn.level }) (map g.L.ChainLink.plain l.links)

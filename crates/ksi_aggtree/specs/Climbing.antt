@@ -1,0 +1,48 @@
+-- Climbing along links, the lowest first.
+use Rattle.std.specs.Prelude.{◌≡◌, ℕ, ◌+◌, ◌<◌, ◌≤◌, nat_lt, List, [], ◌∷◌, length, take, slice_get, Some, sum_by, Result, Ok, Err, if◌then◌else◌}
+use Rattle.ksi_aggtree.specs.Links.{PlainLink, link_text, level_above, highest_level}
+use Rattle.ksi_aggtree.specs.declared.chains.node.Node.{Node}
+use Rattle.ksi_aggtree.specs.declared.chains.climbing.LevelFault.{LevelFault}
+use Rattle.ksi_aggtree.specs.declared.chains.climbing.LevelFault.TheVariants.{Over}
+
+-- a link leads from an item to the item that its join makes, at a level that does not pass the highest
+pub record Leads (image : List ℕ → List ℕ) (link : PlainLink) (below above : Node) : Type 0 where
+  pub level : above.level ≡ level_above below.level link
+  pub low : above.level ≤ highest_level
+  pub imprint : above.imprint ≡ image (link_text below.imprint link above.level)
+
+-- links lead from `start` to `top`: there are items, one more than there are links, from `start` to `top`, and each
+-- link leads from one of them to the next
+pub record Climbs (image : List ℕ → List ℕ) (start : Node) (links : List PlainLink) (top : Node) : Type 0 where
+  pub items : List Node
+  pub count : length items ≡ length links + 1
+  pub first : slice_get items 0 ≡ Some start
+  pub last : slice_get items (length links) ≡ Some top
+  pub each : (k : ℕ) (link : PlainLink) (below above : Node) → slice_get links k ≡ Some link →
+      slice_get items k ≡ Some below → slice_get items (k + 1) ≡ Some above → Leads image link below above
+
+-- the level that links lead to from a level
+abbrev pub level_after : ℕ → List PlainLink → ℕ
+level_after level links = level + sum_by (λ link. link.correction + 1) links
+
+-- from the level `start` the link at `place` is the first whose level passes the highest, and that level is `high`
+pub record PassesLevels (start : ℕ) (links : List PlainLink) (place high : ℕ) : Type 0 where
+  pub within : place < length links
+  pub level : high ≡ level_after start (take (place + 1) links)
+  pub over : highest_level < high
+  pub first : (k : ℕ) → k < place → level_after start (take (k + 1) links) ≤ highest_level
+
+-- ---- the same as values
+
+-- the item that a link leads to, whatever its level
+abbrev pub above : (List ℕ → List ℕ) → Node → PlainLink → Node
+above image item link =
+    record { imprint = image (link_text item.imprint link (level_above item.level link)); level = level_above item.level link }
+
+-- the item that links lead to, or the first of them whose level passes the highest; the lowest has the place given
+abbrev pub climbed : (List ℕ → List ℕ) → ℕ → Node → List PlainLink → Result Node LevelFault
+climbed image place item [] = Ok item
+climbed image place item (link ∷ links) =
+    if nat_lt highest_level (level_above item.level link)
+    then Err (Over place (level_above item.level link))
+    else climbed image (place + 1) (above image item link) links

@@ -1,9 +1,0 @@
-pub mod Bools
-pub mod Counting
-pub mod Loop
-pub mod Ways
-pub mod Both
-pub mod Naming
-pub mod Wholes
-pub mod Writes
-pub mod Publishing

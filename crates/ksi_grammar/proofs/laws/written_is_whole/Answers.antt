@@ -1,5 +1,0 @@
-use Rattle.ksi_grammar.proofs.Writes.{write_whole}
-use Rattle.ksi_grammar.proofs.laws.written_is_whole.Goals as goal
-
-pub returns : goal.returns
-returns c = λ t place inside es. write_whole c.written_is_read.ensures.texts t place inside es

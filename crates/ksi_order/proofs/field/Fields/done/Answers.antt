@@ -1,7 +1,0 @@
-use Rattle.std.proofs.Common.{rules}
-use Rattle.ksi_order.specs.Fields.{done}
-use Rattle.ksi_order.proofs.field.Fields.done.Goals as goal
-
-pub returns-in-Some-Ok : goal.returns-in-Some-Ok
-unfolding done
-returns-in-Some-Ok c = search rules

@@ -1,7 +1,0 @@
-use Rattle.std.proofs.Common.{rules}
-use Rattle.ksi_order.specs.Fields.{field}
-use Rattle.ksi_order.proofs.field.Fields.next.Goals as goal
-
-pub returns-then-at-kind : goal.returns-then-at-kind
-unfolding field
-returns-then-at-kind c = search rules

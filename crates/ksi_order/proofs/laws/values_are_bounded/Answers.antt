@@ -1,8 +1,0 @@
-use Rattle.ksi_order.proofs.Bounded.{early, imprint}
-use Rattle.ksi_order.proofs.laws.values_are_bounded.Goals as goal
-
-pub returns-clause-early : goal.returns-clause-early
-returns-clause-early c = early
-
-pub returns-clause-imprint : goal.returns-clause-imprint
-returns-clause-imprint c = imprint

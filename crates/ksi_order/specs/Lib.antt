@@ -1,9 +1,0 @@
-pub use Rattle.ksi_tlv.specs.Walking
-pub mod Order
-pub mod Sequence
-pub mod Fields
-pub mod Values
-pub mod Left
-pub mod Format
-pub mod Reading
-pub mod Kinds

@@ -1,4 +1,0 @@
-pub mod Lawful
-pub mod Restored
-pub mod Renamed
-pub mod Settled

@@ -1,0 +1,44 @@
+-- Elements that stand in a stated order, read from left to right. The law `whole_or_fault` says what this comes to.
+use Rattle.std.specs.Prelude.{◌≡◌, ℕ, ◌==◌, List, [], ◌∷◌, Bool, Result, Ok, Err, if◌then◌else◌}
+use Rattle.std.specs.List.{list_any}
+use Rattle.ksi_tlv.specs.Walking.{PlacedTlv, Cut, Items}
+use Rattle.ksi_tlv.specs.declared.order.fault.OrderFault.{OrderFault}
+use Rattle.ksi_tlv.specs.declared.order.fault.OrderFault.TheVariants as faults
+use Rattle.ksi_imprint.specs.declared.refused.Refused.{Refused}
+use Rattle.ksi_imprint.specs.declared.refused.Refused.TheVariants as refused
+
+-- the next, where nothing is wrong so far
+infixl 10 ◌>>=◌
+abbrev pub ◌>>=◌ : {A B F : Type 0} → Result A F → (A → Result B F) → Result B F
+(Ok x) >>= next = next x
+(Err fault) >>= next = Err fault
+
+-- The order of elements, by a state that says what was read: the kinds that may stand next, what an element of such a
+-- kind adds, whether nothing may follow, whether the sequence may end here, and what the faults of order are called.
+pub record Order (S F : Type 0) : Type 0 where
+  pub next : S → List ℕ
+  pub read : S → PlacedTlv → Result S F
+  pub closed : S → Bool
+  pub whole : S → Bool
+  pub named : OrderFault → F
+
+abbrev pub may_stand : List ℕ → ℕ → Bool
+may_stand kinds kind = list_any (λ k. k == kind) kinds
+
+-- one element more, or its fault
+unfoldable pub one_more : {S F : Type 0} → Order S F → Result PlacedTlv Cut → S → Result S F
+one_more o (Err cut) s = if o.closed s then Err (o.named (faults.Ends cut.place)) else Err (o.named (faults.Tlv cut.place))
+one_more o (Ok at) s =
+    if o.closed s then Err (o.named (faults.Ends at.place))
+    else if may_stand (o.next s) at.element.kind then o.read s at else Err (o.named (faults.Order at.place))
+
+-- the elements up to the end, one after the other: what they say, or the first fault
+unfoldable pub walked : {S F : Type 0} → Order S F → ℕ → Items → S → Result S F
+walked o end [] s = if o.whole s then Ok s else Err (o.named (faults.Ends end))
+walked o end (item ∷ items) s = one_more o item s >>= walked o end items
+
+-- what a call came to, but for want of memory
+abbrev pub Steps : {S F : Type 0} → Result S F → S → Result (Unit {0}) (Refused F) → Type 0
+Steps expected new (Ok u) = expected ≡ Ok new
+Steps expected new (Err (refused.Fault fault)) = expected ≡ Err fault
+Steps expected new (Err refused.NoMemory) = Unit {0}
