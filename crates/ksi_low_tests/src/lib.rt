@@ -1,4 +1,4 @@
-//! Tests of the small crates at the bottom: `ksi_imprint`, `ksi_split`, `ksi_tlv`, `ksi_ports`, `ksi_aggchain`,
+//! Tests of the small crates at the bottom: `ksi_imprint`, `ksi_split`, `ksi_tlv`, `ksi_ports`, `ksi_aggtree`,
 //! `ksi_calendar`, `ksi_publications` and `ksi_words`.
 //!
 //! They stand in a crate of their own, since a crate with tests is proved twice. Nothing is here for the layers above.
