@@ -1,4 +1,5 @@
-//! Tests of files, and of what is computed over them: the readers and writers of `ksi_signature`, `ksi_schedule` and
+//! Tests of the small crates at the bottom, and of files and what is computed over them: `ksi_imprint`, `ksi_split`, `ksi_tlv`,
+//! `ksi_ports`, `ksi_calendar`, `ksi_publications` and `ksi_words`; the readers and writers of `ksi_signature`, `ksi_schedule` and
 //! `ksi_journal`; the fronts of `ksi_consistency`, the mirrors of `ksi_mirror` and the blocks of log lines of `ksi_logblock`; and
 //! `ksi_verifier`, `ksi_texts`, `ksi_extender` and `ksi_auditor`.
 //!
@@ -11,6 +12,16 @@ mod auditing;
 #[cfg(test)]
 mod blocks;
 #[cfg(test)]
+mod calendar_chains;
+#[cfg(test)]
+mod calendars;
+#[cfg(test)]
+mod containers;
+#[cfg(test)]
+mod cut_writers;
+#[cfg(test)]
+mod elements;
+#[cfg(test)]
 mod extended_signatures;
 #[cfg(test)]
 mod extending;
@@ -18,6 +29,10 @@ mod extending;
 mod front_files;
 #[cfg(test)]
 mod fronts;
+#[cfg(test)]
+mod hash_chains;
+#[cfg(test)]
+mod imprint_bytes;
 #[cfg(test)]
 mod imprints;
 #[cfg(test)]
@@ -37,11 +52,15 @@ mod mirrors;
 #[cfg(test)]
 mod named_schedules;
 #[cfg(test)]
+mod outside;
+#[cfg(test)]
 mod over_files;
 #[cfg(test)]
 mod proof_files;
 #[cfg(test)]
 mod publications;
+#[cfg(test)]
+mod publications_files;
 #[cfg(test)]
 mod read_signatures;
 #[cfg(test)]
@@ -59,4 +78,10 @@ mod signatures;
 #[cfg(test)]
 mod text;
 #[cfg(test)]
+mod trees;
+#[cfg(test)]
 mod verifying;
+#[cfg(test)]
+mod ways;
+#[cfg(test)]
+mod words;

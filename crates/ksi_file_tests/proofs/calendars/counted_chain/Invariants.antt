@@ -1,4 +1,4 @@
-use Rattle.ksi_low_tests.proofs.calendars.counted_chain.Given as goal
+use Rattle.ksi_file_tests.proofs.calendars.counted_chain.Given as goal
 
 abbrev pub ghosts-counted : goal.ghosts-counted
 ghosts-counted g a = record { name = a.blank.name; parts = a.blank.parts }

@@ -1,5 +1,5 @@
 use Rattle.std.proofs.Common.{◌≡◌, length}
-use Rattle.ksi_low_tests.proofs.calendars.calendar_of.Given as goal
+use Rattle.ksi_file_tests.proofs.calendars.calendar_of.Given as goal
 
 abbrev pub invariant-loop-first : goal.invariant-loop-first
 invariant-loop-first l = record {
