@@ -126,8 +126,8 @@ pub fn crashed_nodes_have_a_history()
     world_is_seen();
 }
 
-/// An aggregator is a node in general, whose state is its rounds. So the laws of `ksi_disk` hold of it: a crash is a restart
-/// (`crash_is_a_restart`), and any run of one aggregator has a history (`crashes_are_restarts`).
+/// An aggregator is a node in general, whose state is its rounds. So the lemmas of `ksi_disk` (`specs/Restarting`) hold of it:
+/// a crash is a restart (`crash_is_a_restart`), and any run of one aggregator has a history (`crashes_are_restarts`).
 pub fn an_aggregator_is_a_node()
     ensures { (image : List ℕ → List ℕ) (me : ℕ) → IsAggregatorNode image me }
 {

@@ -91,7 +91,8 @@ pub fn no_second_is_stuck()
 }
 
 /// Any core that has rounds left can decide, also one that does not vote. It tries as many ballots more as some majority's
-/// promises are rounds beyond its own tried and promised ones, or more. Its own candidate wins where it held nothing and this majority voted for nothing else.
+/// promises are rounds beyond its own tried and promised ones, or more. Its own candidate wins where it held nothing and this
+/// majority voted for nothing else.
 pub fn any_core_decides()
     ensures decides { (image : List ℕ → List ℕ) (plan : PlanState) (events : List Event) → IsPlan plan → AreEvents plan events →
         (core second n : ℕ) (some : List ℕ) → core < plan.cores → InRange plan second → IsMajority (voters_on plan second) some →

@@ -8,9 +8,9 @@
 //! message of it to or from some majority of the second's voters is delivered once, in order. Each core is told.
 //!
 //! The layer above may rely on this. After every schedule, for any such majority, a core of it can decide by at most 47
-//! events. So all seconds can be held, and `publish` answers. A request that waits can be
-//! issued, or its core comes to hold the zero imprint, where the core holds nothing and a majority cast no vote.
-//! [`laws`] has these statements, [`vote`] those on the vote alone.
+//! events. So all seconds can be held, and `publish` answers. A request that waits can be issued, or its core comes to hold
+//! the zero imprint, where the core holds nothing and a majority cast no vote. [`laws`] has these statements, [`vote`] those
+//! on the vote alone.
 #![tactic(auto)]
 
 pub mod laws;

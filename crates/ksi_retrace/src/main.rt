@@ -7,26 +7,13 @@
 //! whose block is not what the world or the node says at its place, `refused` with what is no entry, or `failed`.
 #![tactic(auto)]
 
-mod blocks;
-mod entry;
 mod failure;
-mod fault;
-mod head;
-mod mark;
-mod node;
-mod printing;
-mod reading;
-mod report;
-mod stream;
-mod sum;
-mod telling;
-mod tracer;
-mod verdict;
+mod log;
 
 use failure::{Failure, fail};
 use ksi_imprint::{Refused, Sha};
+use ksi_records::report;
 use ksi_schedule::{Plan, Schedule, read_schedule};
-use report::report;
 use std::fs::File;
 use std::io::{self, BufRead, BufReader};
 use std::process::ExitCode;
@@ -79,7 +66,7 @@ fn hold_record<S: BufRead>(rt: &HostRuntime, plan: &Plan, record: &mut S) -> io:
 /// Holds the log of a node against its run by the plan in a file.
 fn hold_node(rt: &HostRuntime, plan: &str, node: &str) -> io::Result<u8> {
     match plan_in(rt, plan) {
-        Ok(schedule) => node::hold(rt, schedule.plan(), node.as_bytes()),
+        Ok(schedule) => log::hold(rt, schedule.plan(), node.as_bytes()),
         Err(failure) => fail(rt, failure),
     }
 }

@@ -41,7 +41,7 @@ abbrev pub outside : Held → (saves faults load_faults : ℕ) → List ℕ → 
 outside held saves faults load_faults written puts failed_puts = record { held = held; saves = saves; faults = faults; load_faults = load_faults; written = written; puts = puts; failed_puts = failed_puts }
 
 -- What a fault leaves. Where a load failed: nothing saved and nothing put. Where no load but a save failed: the one name unknown
--- and nothing put. Where no call on the files but a put failed: the file saved and a front of the line put.
+-- and nothing put. Where no call on the files but a put failed: the file saved and a beginning of the line put.
 pub data FaultLeaves (files_tell sink_tells : Bool) (ran : Report) (old new : Outside) : Type 0 where
   at_load : Rose old.faults new.faults → Rose old.load_faults new.load_faults → new.saves ≡ old.saves → (IsTrue files_tell → new.held ≡ old.held) → (IsTrue sink_tells → new.written ≡ old.written) → new.puts ≡ old.puts → FaultLeaves files_tell sink_tells ran old new
   at_save : Rose old.faults new.faults → new.load_faults ≡ old.load_faults → (IsTrue files_tell → NamesStay ran.saved old.held new.held) → (IsTrue sink_tells → new.written ≡ old.written) → new.puts ≡ old.puts → FaultLeaves files_tell sink_tells ran old new

@@ -110,6 +110,6 @@ pub(crate) fn counted(alloc: Global, numbers: u64) -> Option<(u64, bool)> {
 }
 
 #[test]
-fn no_front_is_stuck(rt: HostRuntime) -> Result<(), Fail> {
+fn no_beginning_is_stuck(rt: HostRuntime) -> Result<(), Fail> {
     are_so(&rt, rt.alloc(), "decided 18 = Some((18, true))")
 }

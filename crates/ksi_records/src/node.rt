@@ -1,0 +1,15 @@
+//! The log of one node of a live run, held against the node's own run, without any other node. Memory is that of the node.
+mod entry;
+mod fault;
+mod head;
+mod reading;
+mod report;
+mod runs;
+mod steps;
+mod stream;
+mod verdict;
+
+pub use fault::LogFault;
+pub use report::report;
+pub use stream::retrace;
+pub use verdict::Verdict;
