@@ -3,13 +3,13 @@ mod entry;
 mod fault;
 mod head;
 mod reading;
-mod report;
+mod reporting;
 mod runs;
 mod steps;
 mod stream;
 mod verdict;
 
 pub use fault::LogFault;
-pub use report::report;
+pub use reporting::report;
 pub use stream::retrace;
 pub use verdict::Verdict;

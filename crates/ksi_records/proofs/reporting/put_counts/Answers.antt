@@ -1,7 +1,7 @@
 use Rattle.std.proofs.Common.{codes}
 use Rattle.std.specs.Fmt.{decimal}
 use Rattle.ksi_records.proofs.ReportLemmas.{six}
-use Rattle.ksi_records.proofs.report.put_counts.Goals as goal
+use Rattle.ksi_records.proofs.reporting.put_counts.Goals as goal
 
 pub returns : goal.returns
 returns c =

@@ -1,6 +1,6 @@
 use Rattle.std.proofs.Common.{◌∙◌}
 use Rattle.ksi_records.proofs.ReportLemmas.{reported}
-use Rattle.ksi_records.proofs.report.report.Goals as goal
+use Rattle.ksi_records.proofs.reporting.report.Goals as goal
 
 pub returns : goal.returns
 returns g c =
