@@ -158,8 +158,10 @@ def status(words):
 
 
 def sign(words):
-    """Signs a file by its hash: the file does not leave its owner."""
+    """Signs a file by its hash: the file does not leave its owner. An older signature shows more than a new one, so none is replaced."""
     name = words.out or words.file + ".ksig"
+    if os.path.lexists(name):
+        raise Failed(f"{name} is there already, and is not replaced: -o NAME saves another signature")
     content = ask(words.folder, "/sign", digest_of(words.file).encode())
     files.write(name, content)
     print(f"signed {name}{time_of(content)}")

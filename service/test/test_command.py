@@ -96,6 +96,17 @@ class CommandTest(unittest.TestCase):
         with mock.patch.dict(os.environ, http_proxy="http://127.0.0.1:9", no_proxy=""):
             self.assertIn("signed", self.command("status", self.folder))
 
+    def test_a_signature_that_is_there_is_not_replaced(self):
+        """It may be years older than the one that would take its place."""
+        name = os.path.join(self.room.name, "deed")
+        for path, content in ((name, b"I owe you one."), (f"{name}.ksig", b"older")):
+            files.write(path, content)
+        with mock.patch.object(command, "ask", lambda *_: b"newer"):
+            self.assertIn("deed.ksig is there already", self.command("sign", name, status=1))
+            self.assertIn("signed", self.command("sign", name, "-o", f"{name}.second"))
+            self.assertIn("is there already", self.command("sign", name, "-o", f"{name}.second", status=1))
+        self.assertEqual((files.content_of(f"{name}.ksig"), files.content_of(f"{name}.second")), (b"older", b"newer"))
+
     def test_another_user_may_ask(self):
         self.serve()
         os.chmod(self.room.name, 0o755)
