@@ -175,15 +175,17 @@ class NodeHost:
             storing = [at for at, (_, fields) in enumerate(self.pending) if word(fields["line"]) in MAY_STORE]
             if found != counts[0] + 1 or not storing:
                 raise LostFacts(f"{self.name} acknowledged {known or 0} facts and found {found}")
-            happened, self.pending = self.pending[:storing[0] + 1], self.pending[storing[0] + 1:]
+            gone, rest = self.pending[:storing[0] + 1], self.pending[storing[0] + 1:]
+            # a question changed nothing, and who asked waits: it is asked again
+            questions = [it for it in gone if word(it[1]["line"]) in QUESTIONS]
+            happened, self.pending = [it for it in gone if it not in questions], questions + rest
         self.facts, self.before = found, None
 
         def fill(commit):
             if told is not None:
                 self.answer(commit, *told)
             for number, fields in happened:
-                if word(fields["line"]) not in QUESTIONS:
-                    commit.xadd(self.log, {"id": number, **fields, "unsaid": 1})
+                commit.xadd(self.log, {"id": number, **fields, "unsaid": 1})
                 self.settle(commit, number)
             commit.xadd(self.log, {"ready": found, **({"restart": 1} if known is not None else {})})
         self.commit(fill)

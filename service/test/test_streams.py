@@ -170,5 +170,19 @@ class TransactionTest(unittest.TestCase):
         self.assertEqual(self.committed(changed, lost, changed), (1, 2))
 
 
+class BeginTest(unittest.TestCase):
+    def test_a_question_before_a_line_that_happened_is_asked_again(self):
+        """The head waits for its answer, which the process gave and nobody took."""
+        question, stored = ("1-0", {"line": "sign 7", "ask": "8"}), ("2-0", {"line": "close 5", "ask": "9"})
+        client, commit = mock.Mock(), mock.Mock()
+        client.get.return_value, client.xreadgroup.return_value = "4", [["ksi:to:a0", [question, stored]]]
+        with mock.patch.object(streams, "connect", lambda url: client), mock.patch.object(streams.NodeHost, "commit", lambda _, fill: fill(commit)):
+            host = streams.NodeHost("", "", "a0")
+            host.begin(["ready 5"])
+        self.assertEqual([it.args[1]["id"] for it in commit.xadd.call_args_list[:-1]], ["2-0"])
+        self.assertEqual([it.args[2] for it in commit.xack.call_args_list], ["2-0"])
+        self.assertEqual(host.pending, [question])
+
+
 if __name__ == "__main__":
     unittest.main()
